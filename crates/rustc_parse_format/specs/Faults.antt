@@ -1,0 +1,72 @@
+-- The faults, over any kind of span, and what each says, as the bytes of its texts.
+use Rattle.std.specs.Prelude.{ℕ, Bool, false, ◌++◌, ◌==◌, if◌then◌else◌, nat_lt, List, [], ◌∷◌, Option, Some, None, codes}
+use Rattle.std.specs.Char.Escape.{escape_default}
+use Rattle.std.specs.Str.{encode_utf8_all}
+use Rattle.rustc_parse_format.specs.Characters.{Text}
+
+pub data Fault (Span : Type 0) : Type 0 where
+  -- a closing brace that closes nothing
+  UnmatchedBrace : Span → Fault Span
+  -- no closing brace: the character found instead, if any, and the opening brace
+  MissingBrace : Option ℕ → Span → Span → Fault Span
+  -- the word `_`
+  Underscore : Span → Fault Span
+  -- the digits of a number above 65535
+  TooLarge : Text → Span → Fault Span
+
+-- goes to the front of the list of errors, and not to its back
+abbrev pub is_front : {A : Type 0} → Fault A → Bool
+is_front f = false
+
+abbrev pub map_fault : {A B : Type 0} → (A → B) → Fault A → Fault B
+map_fault f (UnmatchedBrace s) = UnmatchedBrace (f s)
+map_fault f (MissingBrace c s o) = MissingBrace c (f s) (f o)
+map_fault f (Underscore s) = Underscore (f s)
+map_fault f (TooLarge ds s) = TooLarge ds (f s)
+
+-- how a character is written: an ASCII one as Rust escapes it, with `\0` for NUL, and any other as itself
+abbrev pub written : ℕ → Text
+written c = if c == 0 then codes "\\0" else (if nat_lt c 128 then escape_default c else c ∷ [])
+
+pub data Suggestion (Span : Type 0) : Type 0 where
+  Nothing : Suggestion Span
+  UsePositional : Suggestion Span
+  RemoveRawIdent : Span → Suggestion Span
+  ReorderFormatParameter : Span → List ℕ → Suggestion Span
+  AddMissingColon : Span → Suggestion Span
+  UseRustDebugPrintingMacro : Suggestion Span
+
+-- what an error says, each text as its bytes
+pub record Message (Span : Type 0) : Type 0 where
+  pub description : List ℕ
+  pub note : Option (List ℕ)
+  pub label : List ℕ
+  pub span : Span
+  pub second : Option (List ℕ × Span)
+  pub suggestion : Suggestion Span
+
+abbrev pub expected : Option ℕ → List ℕ
+expected None = codes "expected `}` but string was terminated"
+expected (Some c) = codes "expected `}`, found `" ++ encode_utf8_all (written c) ++ codes "`"
+
+unfoldable pub message : {A : Type 0} → Fault A → Message A
+message (UnmatchedBrace s) = record {
+  description = codes "unmatched `}` found";
+  note = Some (codes "if you intended to print `}`, you can escape it using `}}`");
+  label = codes "unmatched `}`"; span = s; second = None; suggestion = Nothing }
+message (MissingBrace c s o) = record {
+  description = expected c;
+  note = Some (codes "if you intended to print `{`, you can escape it using `{{`");
+  label = codes "expected `}`"; span = s; second = Some (codes "because of this opening brace", o); suggestion = Nothing }
+message (Underscore s) = record {
+  description = codes "invalid argument name `_`";
+  note = Some (codes "argument name cannot be a single underscore");
+  label = codes "invalid argument name"; span = s; second = None; suggestion = Nothing }
+message (TooLarge ds s) = record {
+  description = codes "integer `" ++ encode_utf8_all ds ++ codes "` does not fit into the type `u16` whose range is `0..=65535`";
+  note = None; label = codes "integer out of range for `u16`"; span = s; second = None; suggestion = Nothing }
+
+-- the list of errors after these faults, in the order in which they were found
+abbrev pub add_errors : {A : Type 0} → List (Message A) → List (Fault A) → List (Message A)
+add_errors old [] = old
+add_errors old (f ∷ fs) = add_errors (if is_front f then message f ∷ old else old ++ message f ∷ []) fs

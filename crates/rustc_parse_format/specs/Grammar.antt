@@ -1,0 +1,76 @@
+-- The grammar: which pieces a text reads as, without their spans. The public rule is the grammar of format strings in the
+-- documentation of `std::fmt`.
+use Rattle.std.specs.Prelude.{◌≡◌, ◌≢◌, ℕ, ◌≤◌, ◌⊎◌, ◌++◌, IsTrue, IsFalse, List, [], ◌∷◌, codes}
+use Rattle.std.specs.List.{AllByRecursion}
+use Rattle.std.specs.Str.Parse.{digits_value}
+use Rattle.rustc_parse_format.specs.Characters.{Text, is_brace, behind_white}
+use Rattle.rustc_parse_format.specs.Pieces.{Mode, Argument, Piece, Lit, NextArgument, bare_argument}
+use Rattle.rustc_parse_format.specs.Placeholder.{PositionText, Digits, Word, NoPosition, SpecText, Default, Cut, cut}
+use Rattle.rustc_parse_format.specs.Meaning.{argument, next_number}
+
+-- the words and the numbers that a cut has
+abbrev pub words_of_position : PositionText → List Text
+words_of_position (Word w) = w ∷ []
+words_of_position p = []
+
+abbrev pub words_of_spec : SpecText → List Text
+words_of_spec Default = []
+
+abbrev pub numbers_of_position : PositionText → List Text
+numbers_of_position (Digits ds) = ds ∷ []
+numbers_of_position p = []
+
+abbrev pub numbers_of_spec : SpecText → List Text
+numbers_of_spec Default = []
+
+-- nothing in the cut is refused
+pub record IsClean (a : Cut) : Type 0 where
+  pub named : AllByRecursion (λ w. w ≢ codes "_") (words_of_position a.position ++ words_of_spec a.spec)
+  pub fits : AllByRecursion (λ ds. digits_value 10 ds ≤ 65535) (numbers_of_position a.position ++ numbers_of_spec a.spec)
+
+abbrev pub HasNoBrace : Text → Type 0
+HasNoBrace u = AllByRecursion (λ c. IsFalse (is_brace c)) u
+
+-- the end, or a brace
+abbrev pub EndsRun : Text → Type 0
+EndsRun [] = Unit {0}
+EndsRun (c ∷ t) = IsTrue (is_brace c)
+
+-- t is u and then r: a run without braces, as long as it can be
+pub record IsRun (t u r : Text) : Type 0 where
+  pub whole : t ≡ u ++ r
+  pub unbraced : HasNoBrace u
+  pub ends : EndsRun r
+
+-- t begins with a doubled brace and a run, which together stand for l
+pub record IsDoubled (t l r : Text) : Type 0 where
+  pub brace : ℕ
+  pub run : Text
+  pub is_one : IsTrue (is_brace brace)
+  pub twice : t ≡ brace ∷ brace ∷ run ++ r
+  pub literal : l ≡ brace ∷ run
+  pub unbraced : HasNoBrace run
+  pub ends : EndsRun r
+
+-- t begins with a placeholder that a brace closes and in which nothing is refused
+pub record IsPlaceholder (mode : Mode) (c : ℕ) (t : Text) (a : Argument (Unit {0})) (r : Text) (next : ℕ) : Type 0 where
+  pub inside : Text
+  pub opens : t ≡ 123 ∷ inside
+  pub closes : behind_white (cut mode inside).rest ≡ 125 ∷ r
+  pub clean : IsClean (cut mode inside)
+  pub means : a ≡ bare_argument (argument c (cut mode inside))
+  pub numbered : next ≡ next_number c (cut mode inside)
+
+-- the text begins with the piece, and goes on with r and the number next
+abbrev pub Begins : Mode → ℕ → Text → Piece (Unit {0}) → Text → ℕ → Type 0
+Begins mode c t (Lit l) r next = ((IsRun t l r × (l ≢ [])) ⊎ IsDoubled t l r) × (next ≡ c)
+Begins mode c t (NextArgument a) r next = IsPlaceholder mode c t a r next
+
+-- the text reads as these pieces, from the number c on
+abbrev pub Reads : Mode → ℕ → Text → List (Piece (Unit {0})) → Type 0
+Reads mode c t [] = t ≡ []
+Reads mode c t (p ∷ ps) = (r : Text) × (next : ℕ) × Begins mode c t p r next × Reads mode next r ps
+
+-- the text is in the mode's grammar
+abbrev pub IsInGrammar : Mode → Text → Type 0
+IsInGrammar mode t = (ps : List (Piece (Unit {0}))) × Reads mode 0 t ps

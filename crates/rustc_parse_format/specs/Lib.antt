@@ -1,0 +1,12 @@
+pub mod Characters
+pub mod Pieces
+pub mod Marks
+pub mod Placeholder
+pub mod Meaning
+pub mod Grammar
+pub mod Faults
+pub mod PartFaults
+pub mod Step
+pub mod World
+pub mod State
+pub mod Seen

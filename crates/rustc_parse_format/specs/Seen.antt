@@ -1,0 +1,94 @@
+-- What a contract sees of the declared types: texts by their characters, messages by their bytes, ranges as pairs.
+use Rattle.std.specs.Prelude.{ℕ, List, Option, Some, None, option_map, chars, String, string_bytes}
+use Rattle.std.specs.declared.ops.Range.{Range}
+use Rattle.std.specs.declared.alloc.Global.{Global}
+use Rattle.rustc_parse_format.specs.declared.types.ParseMode.{ParseMode as DeclaredMode}
+use Rattle.rustc_parse_format.specs.declared.types.ParseMode.TheVariants.{Format as FormatMode, InlineAsm as InlineAsmMode, Diagnostic as DiagnosticMode}
+use Rattle.rustc_parse_format.specs.declared.types.Piece.{Piece as DeclaredPiece}
+use Rattle.rustc_parse_format.specs.declared.types.Piece.TheVariants.{Lit as LitPiece, NextArgument as ArgumentPiece}
+use Rattle.rustc_parse_format.specs.declared.types.Argument.{Argument as DeclaredArgument}
+use Rattle.rustc_parse_format.specs.declared.types.FormatSpec.{FormatSpec}
+use Rattle.rustc_parse_format.specs.declared.types.Position.{Position as DeclaredPosition}
+use Rattle.rustc_parse_format.specs.declared.types.Position.TheVariants.{ArgumentImplicitlyIs, ArgumentIs, ArgumentNamed}
+use Rattle.rustc_parse_format.specs.declared.types.Alignment.{Alignment as DeclaredAlignment}
+use Rattle.rustc_parse_format.specs.declared.types.Alignment.TheVariants.{AlignLeft, AlignRight, AlignCenter, AlignUnknown}
+use Rattle.rustc_parse_format.specs.declared.types.Sign.{Sign as DeclaredSign}
+use Rattle.rustc_parse_format.specs.declared.types.Sign.TheVariants.{Plus as PlusSign, Minus as MinusSign}
+use Rattle.rustc_parse_format.specs.declared.types.DebugHex.{DebugHex as DeclaredDebugHex}
+use Rattle.rustc_parse_format.specs.declared.types.DebugHex.TheVariants.{Lower as LowerHex, Upper as UpperHex}
+use Rattle.rustc_parse_format.specs.declared.types.Count.{Count as DeclaredCount}
+use Rattle.rustc_parse_format.specs.declared.types.Count.TheVariants.{CountIs, CountIsName, CountIsParam, CountIsStar, CountImplied}
+use Rattle.rustc_parse_format.specs.declared.types.ParseError.{ParseError}
+use Rattle.rustc_parse_format.specs.declared.types.Suggestion.{Suggestion as DeclaredSuggestion}
+use Rattle.rustc_parse_format.specs.declared.types.Suggestion.TheVariants.{None as NoSuggestion, UsePositional as Positional, RemoveRawIdent as RemoveRaw, ReorderFormatParameter as Reorder, AddMissingColon as AddColon, UseRustDebugPrintingMacro as UseDebugMacro}
+use Rattle.rustc_parse_format.specs.Pieces.{Mode, Format, InlineAsm, Diagnostic, Alignment, Left, Right, Center, Unknown, Sign, Plus, Minus, DebugHex, Lower, Upper, Position, Implicit, Index, Named, Count, Is, Name, Param, Star, Implied, Spec, Argument, Piece, Lit, NextArgument}
+use Rattle.rustc_parse_format.specs.Faults.{Message, Suggestion, Nothing, UsePositional, RemoveRawIdent, ReorderFormatParameter, AddMissingColon, UseRustDebugPrintingMacro}
+use Rattle.rustc_parse_format.specs.World.{Place}
+
+abbrev pub pair : Range ℕ → Place
+pair r = (r.start, r.end)
+
+abbrev pub seen_mode : DeclaredMode → Mode
+seen_mode FormatMode = Format
+seen_mode InlineAsmMode = InlineAsm
+seen_mode DiagnosticMode = Diagnostic
+
+abbrev pub seen_alignment : DeclaredAlignment → Alignment
+seen_alignment AlignLeft = Left
+seen_alignment AlignRight = Right
+seen_alignment AlignCenter = Center
+seen_alignment AlignUnknown = Unknown
+
+abbrev pub seen_sign : DeclaredSign → Sign
+seen_sign PlusSign = Plus
+seen_sign MinusSign = Minus
+
+abbrev pub seen_debug_hex : DeclaredDebugHex → DebugHex
+seen_debug_hex LowerHex = Lower
+seen_debug_hex UpperHex = Upper
+
+abbrev pub seen_position : DeclaredPosition → Position
+seen_position (ArgumentImplicitlyIs n) = Implicit n
+seen_position (ArgumentIs n) = Index n
+seen_position (ArgumentNamed w) = Named (chars w.now)
+
+abbrev pub seen_count : DeclaredCount → Count Place
+seen_count (CountIs n) = Is n
+seen_count (CountIsName w r) = Name (chars w.now) (pair r)
+seen_count (CountIsParam n) = Param n
+seen_count (CountIsStar n) = Star n
+seen_count CountImplied = Implied
+
+abbrev pub seen_spec : FormatSpec → Spec Place
+seen_spec s = record {
+  fill = s.fill; fill_span = option_map pair s.fill_span; align = seen_alignment s.align; sign = option_map seen_sign s.sign;
+  alternate = s.alternate; zero_pad = s.zero_pad; debug_hex = option_map seen_debug_hex s.debug_hex;
+  width = seen_count s.width; width_span = option_map pair s.width_span; precision = seen_count s.precision;
+  precision_span = option_map pair s.precision_span; ty = chars s.ty.now; ty_span = option_map pair s.ty_span }
+
+abbrev pub seen_argument : DeclaredArgument → Argument Place
+seen_argument a = record { position = seen_position a.position; position_span = pair a.position_span; format = seen_spec a.format }
+
+abbrev pub seen : DeclaredPiece → Piece Place
+seen (LitPiece t) = Lit (chars t.now)
+seen (ArgumentPiece b) = NextArgument (seen_argument b.value)
+
+abbrev pub seen_suggestion : DeclaredSuggestion → Suggestion Place
+seen_suggestion NoSuggestion = Nothing
+seen_suggestion Positional = UsePositional
+seen_suggestion (RemoveRaw r) = RemoveRawIdent (pair r)
+seen_suggestion (Reorder r s) = ReorderFormatParameter (pair r) (string_bytes s)
+seen_suggestion (AddColon r) = AddMissingColon (pair r)
+seen_suggestion UseDebugMacro = UseRustDebugPrintingMacro
+
+abbrev pub seen_error : ParseError → Message Place
+seen_error e = record {
+  description = string_bytes e.description; note = option_map string_bytes e.note; label = string_bytes e.label;
+  span = pair e.span; second = option_map (λ x. (string_bytes x.0, pair x.1)) e.secondary_label;
+  suggestion = seen_suggestion e.suggestion }
+
+-- the number of the argument, where the position has one
+abbrev pub index_of : DeclaredPosition → Option ℕ
+index_of (ArgumentImplicitlyIs n) = Some n
+index_of (ArgumentIs n) = Some n
+index_of (ArgumentNamed w) = None

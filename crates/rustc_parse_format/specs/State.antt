@@ -1,0 +1,37 @@
+-- What a caller sees of a parser between two calls.
+use Rattle.std.specs.Prelude.{ℕ, List, [], ◌∷◌}
+use Rattle.rustc_parse_format.specs.Characters.{Text}
+use Rattle.rustc_parse_format.specs.Pieces.{Mode}
+use Rattle.rustc_parse_format.specs.Faults.{Message, add_errors}
+use Rattle.rustc_parse_format.specs.World.{World, Place, faults_in}
+use Rattle.rustc_parse_format.specs.Step.{Call, call, walk}
+
+pub record State : Type 0 where
+  pub mode : Mode
+  pub world : World
+  -- what has not been read
+  pub rest : Text
+  -- the number that the next implicit argument takes
+  pub next : ℕ
+  pub errors : List (Message Place)
+
+-- at the start of an input
+abbrev pub fresh : Mode → World → Text → State
+fresh mode w input = record { mode = mode; world = w; rest = input; next = 0; errors = [] }
+
+-- the call that comes next
+abbrev pub next_call : State → Call
+next_call s = call s.mode s.next s.rest
+
+-- after that call
+abbrev pub after : State → Call → State
+after s k = record s { rest = k.rest; next = k.next; errors = add_errors s.errors (faults_in s.world k.faults) }
+
+-- the calls up to the first that gives no piece
+abbrev pub calls : State → List Call
+calls s = walk s.mode s.next s.rest
+
+-- after those calls
+abbrev pub after_all : State → List Call → State
+after_all s [] = s
+after_all s (k ∷ ks) = after_all (after s k) ks

@@ -1,0 +1,91 @@
+-- One call of the parser, with marks for all spans, and the walk up to the first call that gives no piece. Neither the
+-- style of the literal nor the snippet is mentioned.
+use Rattle.std.specs.Prelude.{◌≡◌, ℕ, suc, zero, ◌++◌, ◌==◌, if◌then◌else◌, List, [], ◌∷◌, length, Option, Some, None}
+use Rattle.rustc_parse_format.specs.Characters.{Text, is_brace, is_no_brace, front, behind, behind_white, behind_first, begins_with}
+use Rattle.rustc_parse_format.specs.Pieces.{Mode, Argument, Piece, Lit, NextArgument}
+use Rattle.rustc_parse_format.specs.Marks.{Span, up_to, over_first}
+use Rattle.rustc_parse_format.specs.Placeholder.{Cut, cut}
+use Rattle.rustc_parse_format.specs.Meaning.{argument, next_number}
+use Rattle.rustc_parse_format.specs.Faults.{Fault, UnmatchedBrace, MissingBrace}
+use Rattle.rustc_parse_format.specs.PartFaults.{cut_faults}
+
+pub record Call : Type 0 where
+  pub piece : Option (Piece Span)
+  -- in the order in which they were found
+  pub faults : List (Fault Span)
+  pub rest : Text
+  pub next : ℕ
+
+-- the character found, if any
+abbrev pub found : Text → Option ℕ
+found [] = None
+found (c ∷ t) = Some c
+
+-- r stands where the closing brace of the placeholder at opening should
+abbrev pub missing_brace : Text → Text → Fault Span
+missing_brace opening r = MissingBrace (found r) (up_to r r) (over_first opening)
+
+-- the characters of l, and the longest run without braces at the front of t
+abbrev pub literal : ℕ → Text → Text → Call
+literal c l t = record { piece = Some (Lit (l ++ front is_no_brace t)); faults = []; rest = behind is_no_brace t; next = c }
+
+abbrev pub closed : ℕ → Cut → Text → Call
+closed c a r = record { piece = Some (NextArgument (argument c a)); faults = cut_faults a; rest = r; next = next_number c a }
+
+abbrev pub unclosed : ℕ → Text → Cut → Text → Call
+unclosed c opening a r = record {
+  piece = Some (NextArgument (argument c a)); faults = cut_faults a ++ missing_brace opening r ∷ [];
+  rest = r; next = next_number c a }
+
+-- the placeholder at opening, with t behind its brace
+unfoldable pub placeholder : Mode → ℕ → Text → Text → Call
+placeholder mode c opening t =
+    let a = cut mode t in
+    let r = behind_white a.rest in
+    if begins_with 125 r then closed c a (behind_first r) else unclosed c opening a r
+
+abbrev pub unmatched : ℕ → Text → Text → Call
+unmatched c at t = record { piece = None; faults = UnmatchedBrace (over_first at) ∷ []; rest = t; next = c }
+
+abbrev pub at_end : ℕ → Call
+at_end c = record { piece = None; faults = []; rest = []; next = c }
+
+-- the call on the rest t, where the next number is c
+unfoldable pub call : Mode → ℕ → Text → Call
+call mode c [] = at_end c
+call mode c (b ∷ t) =
+    if is_brace b
+    then (if begins_with b t then literal c (b ∷ []) (behind_first t) else (if b == 123 then placeholder mode c (b ∷ t) t else unmatched c (b ∷ t) t))
+    else literal c [] (b ∷ t)
+
+-- Each call goes on where the one before it stopped, and the first with no piece is the last.
+abbrev pub GoesOn : Option (Piece Span) → List Call → Type 0 → Type 0
+GoesOn None ks later = ks ≡ []
+GoesOn (Some p) ks later = later
+
+abbrev pub IsWalk : Mode → ℕ → Text → List Call → Type 0
+IsWalk mode c t [] = ⊥
+IsWalk mode c t (k ∷ ks) = (k ≡ call mode c t) × GoesOn k.piece ks (IsWalk mode k.next k.rest ks)
+
+-- The same by computing: each call with a piece takes a character, so there is at most one call more than characters.
+abbrev pub walk_for : ℕ → Mode → ℕ → Text → List Call
+walk_for zero mode c t = []
+walk_for (suc n) mode c t =
+    let k = call mode c t in
+    elim k.piece [ None ↦ k ∷ [] | Some p ↦ k ∷ walk_for n mode k.next k.rest ]
+
+unfoldable pub walk : Mode → ℕ → Text → List Call
+walk mode c t = walk_for (suc (length t)) mode c t
+
+abbrev pub with_piece : Option (Piece Span) → List (Piece Span) → List (Piece Span)
+with_piece None ps = []
+with_piece (Some p) ps = p ∷ ps
+
+abbrev pub pieces_of : List Call → List (Piece Span)
+pieces_of [] = []
+pieces_of (k ∷ ks) = with_piece k.piece (pieces_of ks)
+
+-- all faults of the calls, in the order in which they were found
+abbrev pub faults_of : List Call → List (Fault Span)
+faults_of [] = []
+faults_of (k ∷ ks) = k.faults ++ faults_of ks

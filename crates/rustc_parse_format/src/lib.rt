@@ -1,0 +1,9 @@
+//! The parser by which the Rust compiler reads format strings, inline assembly templates and diagnostic texts.
+#![tactic(auto)]
+
+mod types;
+
+pub use types::{
+    Alignment, Argument, Count, DebugHex, FormatSpec, ParseError, ParseMode, Piece, Position, Sign,
+    Suggestion,
+};
