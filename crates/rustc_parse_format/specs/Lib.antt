@@ -9,4 +9,6 @@ pub mod PartFaults
 pub mod Step
 pub mod World
 pub mod State
+pub mod Bytes
+pub mod Classes
 pub mod Seen
