@@ -2,6 +2,7 @@
 #![tactic(auto)]
 
 mod chars;
+mod faults;
 mod types;
 
 pub use types::{
