@@ -1,6 +1,7 @@
 //! A cursor over the input: the only place where bytes and UTF-8 occur.
 
-ghost use Rattle.std.specs.Prelude.{◌≡◌, ℕ, ◌+◌, ◌<◌, ◌^◌, ◌≤◌, ◌++◌, chars, length, List};
+ghost use Rattle.std.specs.Prelude.{◌≡◌, ℕ, ◌+◌, ◌*◌, ◌%◌, ◌<◌, ◌^◌, ◌≤◌, ◌++◌, IsTrue, chars, length, List, nat_lt};
+ghost use Rattle.std.specs.Char.{digit_value, is_ascii_digit};
 ghost use Rattle.rustc_parse_format.specs.Characters.{Text, behind_first, first};
 ghost use Rattle.rustc_parse_format.specs.Bytes.{IsLeft};
 
@@ -60,6 +61,16 @@ pub fn before<'a>(text: &'a str, behind: &str) -> &'a str
     &text[..text.len() - behind.len()]
 }
 
+/// The number with one more digit, modulo 65536, and whether that is above 65535.
+fn with_digit(number: u16, digit: char) -> (u16, bool)
+    requires { IsTrue (is_ascii_digit digit) }
+    ensures value { result.0 ≡ (number * 10 + digit_value digit) % 65536 }
+    ensures over { result.1 ≡ nat_lt 65535 (number * 10 + digit_value digit) }
+{
+    let value = u32::from(number) * 10 + (u32::from(digit) - 48);
+    ((value % 65536) as u16, value > 65535)
+}
+
 /// A place in the input: what is left of it, and where that stands in the source.
 #[derive(Drop)]
 pub struct Cursor<'input> {
@@ -84,7 +95,7 @@ impl<'input> Model for Cursor<'input> {
 
 impl<'input> Cursor<'input> {
     ghost use Rattle.std.specs.Prelude.{◌≡◌, ◌≢◌, ◌-◌, ◌+◌, ◌<◌, ◌^◌, [], chars, length};
-    ghost use Rattle.rustc_parse_format.specs.Characters.{first, behind_first, width, front, behind, word, behind_word};
+    ghost use Rattle.rustc_parse_format.specs.Characters.{first, behind_first, width, front, behind, word, behind_word, digits, behind_digits, number, is_over};
     ghost use Rattle.rustc_parse_format.specs.Classes.{passes};
     ghost use Rattle.rustc_parse_format.specs.Marks.{Start, End};
     ghost use Rattle.rustc_parse_format.specs.World.{plain_world, number_of};
@@ -214,5 +225,26 @@ impl<'input> Cursor<'input> {
         let text = self.rest();
         self.skip_word();
         before(text, self.rest())
+    }
+
+    /// Reads the digits at the front: their number modulo 65536, and whether it is above 65535.
+    #[tactic(auto, unfolding(crate::specs::Characters::digits, crate::specs::Characters::behind_digits))]
+    pub fn number(&mut self) -> (u16, bool)
+        ensures value { result.0 ≡ number (digits self.old.rest) }
+        ensures over { result.1 ≡ is_over (digits self.old.rest) }
+        ensures rest { self.new ≡ record self.old { rest = behind_digits self.old.rest } }
+    {
+        let mut value = 0;
+        let mut over = false;
+        while let Some(c) = self.peek() {
+            if !c.is_ascii_digit() {
+                break;
+            }
+            let more = with_digit(value, c);
+            value = more.0;
+            over = over || more.1;
+            self.advance();
+        }
+        (value, over)
     }
 }
