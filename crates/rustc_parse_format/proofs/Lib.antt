@@ -3,3 +3,13 @@ pub mod Places
 pub mod Fronts
 pub mod Errors
 pub mod Counting
+pub mod Readings
+pub mod CleanWords
+pub mod CleanCuts
+pub mod Shorter
+pub mod Progress
+pub mod Runs
+pub mod Calls
+pub mod Walks
+pub mod BarePieces
+pub mod FaultlessStates
