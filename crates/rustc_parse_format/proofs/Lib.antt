@@ -13,3 +13,5 @@ pub mod Calls
 pub mod Walks
 pub mod BarePieces
 pub mod FaultlessStates
+pub mod Readers
+pub mod TriedParts

@@ -60,10 +60,20 @@ abbrev pub behind_first : Text → Text
 behind_first [] = []
 behind_first (c ∷ t) = t
 
+-- the first character of t, and then u
+abbrev pub with_first : Text → Text → Text
+with_first [] u = u
+with_first (c ∷ t) u = c ∷ u
+
 -- the text begins with the character c
 abbrev pub begins_with : ℕ → Text → Bool
 begins_with c [] = false
 begins_with c (d ∷ t) = d == c
+
+-- the first character is there, and passes
+abbrev pub starts : (ℕ → Bool) → Text → Bool
+starts p [] = false
+starts p (c ∷ t) = p c
 
 -- the number that digits write, modulo 65536
 abbrev pub number : Text → ℕ

@@ -1,5 +1,5 @@
 -- What a cut means where the next number is c: the argument, with marks for its spans, and the number that is next behind it.
-use Rattle.std.specs.Prelude.{ℕ, suc}
+use Rattle.std.specs.Prelude.{ℕ, suc, if◌then◌else◌, Option, Some, None, is_some, unwrap_or}
 use Rattle.rustc_parse_format.specs.Characters.{Text, number}
 use Rattle.rustc_parse_format.specs.Pieces.{Position, Implicit, Index, Named, Spec, Argument, default_spec}
 use Rattle.rustc_parse_format.specs.Marks.{Span, up_to}
@@ -13,15 +13,18 @@ spec_of c t Default r = default_spec
 abbrev pub behind_spec : ℕ → SpecText → ℕ
 behind_spec c Default = c
 
+-- a position that is not implicit
+abbrev pub given_position : PositionText → Option Position
+given_position (Digits ds) = Some (Index (number ds))
+given_position (Word w) = Some (Named w)
+given_position NoPosition = None
+
 -- an implicit position takes the next number
 abbrev pub position_of : ℕ → PositionText → Position
-position_of c (Digits ds) = Index (number ds)
-position_of c (Word w) = Named w
-position_of c NoPosition = Implicit c
+position_of c p = unwrap_or (given_position p) (Implicit c)
 
 abbrev pub behind_position : ℕ → PositionText → ℕ
-behind_position c NoPosition = suc c
-behind_position c p = c
+behind_position c p = if is_some (given_position p) then c else suc c
 
 unfoldable pub argument : ℕ → Cut → Argument Span
 argument c a = record {

@@ -53,6 +53,15 @@ call mode c (b ∷ t) =
     then (if begins_with b t then literal c (b ∷ []) (behind_first t) else (if b == 123 then placeholder mode c (b ∷ t) t else unmatched c (b ∷ t) t))
     else literal c [] (b ∷ t)
 
+-- a call that gives no placeholder and finds no fault
+abbrev pub IsText : Option (Piece Span) → Type 0
+IsText None = Unit {0}
+IsText (Some (Lit t)) = Unit {0}
+IsText (Some (NextArgument a)) = ⊥
+
+abbrev pub TakesNoMemory : Call → Type 0
+TakesNoMemory k = IsText k.piece × (k.faults ≡ [])
+
 -- Each call goes on where the one before it stopped, and the first with no piece is the last.
 abbrev pub GoesOn : Option (Piece Span) → List Call → Type 0 → Type 0
 GoesOn None ks later = ks ≡ []

@@ -1,6 +1,6 @@
 //! Faults as they are found, and the errors that they become.
 
-ghost use Rattle.std.specs.Prelude.{◌≡◌, ◌++◌, IfOk, option_map, OnOk, OnErr, chars, codes, map, string_bytes};
+ghost use Rattle.std.specs.Prelude.{◌≡◌, ◌++◌, ◌∷◌, [], IfOk, IsOk, option_map, OnOk, OnErr, bytes_eq, chars, codes, map, string_bytes, if◌then◌else◌};
 ghost use Rattle.rustc_parse_format.specs.Faults.{MissingBrace, TooLarge, Underscore, UnmatchedBrace, add_errors, expected, message, out_of_range};
 ghost use Rattle.rustc_parse_format.specs.Written.{plainly_written, short_escape, written};
 ghost use Rattle.rustc_parse_format.specs.Seen.{pair, seen_error};
@@ -9,6 +9,7 @@ ghost use Rattle.rustc_parse_format.specs.SeenFaults.{seen_fault};
 use std::alloc::{AllocError, Global};
 use std::ops::Range;
 
+use crate::chars::is_underscore;
 use crate::types::{ParseError, Suggestion};
 
 /// A fault, as plain data.
@@ -22,6 +23,37 @@ pub enum Fault<'input> {
     Underscore(Range<usize>),
     /// The digits of a number above 65535.
     TooLarge(&'input str, Range<usize>),
+}
+
+/// Notes a word that is `_`.
+pub fn note_word<'input>(
+    found: &mut Vec<Fault<'input>>,
+    word: &str,
+    span: Range<usize>,
+) -> Result<(), AllocError>
+    ensures { OnOk result (map seen_fault found.new.items ≡ map seen_fault found.old.items
+        ++ (if bytes_eq (chars word.now) (codes "_") then Underscore (pair span) ∷ [] else [])) }
+{
+    if is_underscore(word) {
+        found.push(Fault::Underscore(span))?;
+    }
+    Ok(())
+}
+
+/// Notes digits whose number is above 65535.
+pub fn note_number<'input>(
+    found: &mut Vec<Fault<'input>>,
+    digits: &'input str,
+    over: bool,
+    span: Range<usize>,
+) -> Result<(), AllocError>
+    ensures { OnOk result (map seen_fault found.new.items ≡ map seen_fault found.old.items
+        ++ (if over then TooLarge (chars digits.entry.now) (pair span) ∷ [] else [])) }
+{
+    if over {
+        found.push(Fault::TooLarge(digits, span))?;
+    }
+    Ok(())
 }
 
 /// The escape of a character that has one of its own.
@@ -186,7 +218,11 @@ pub fn add_errors(
     ensures ok { OnOk result (map seen_error errors.new.items
         ≡ add_errors (map seen_error errors.old.items) (map seen_fault found.entry.items)) }
     ensures err { OnErr result (errors.new.items ≡ errors.old.items) }
+    ensures none { found.entry.items ≡ [] → IsOk result }
 {
+    if found.is_empty() {
+        return Ok(());
+    }
     let mut more = errors_of(alloc, found)?;
     errors.append(&mut more)?;
     Ok(())

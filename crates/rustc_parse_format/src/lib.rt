@@ -1,10 +1,14 @@
 //! The parser by which the Rust compiler reads format strings, inline assembly templates and diagnostic texts.
 #![tactic(auto)]
 
+mod call;
 mod chars;
 mod faults;
+mod parser;
+mod spec;
 mod types;
 
+pub use parser::Parser;
 pub use types::{
     Alignment, Argument, Count, DebugHex, FormatSpec, ParseError, ParseMode, Piece, Position, Sign,
     Suggestion,

@@ -4,7 +4,7 @@ use Rattle.std.specs.Str.Parse.{digits_value, digits_value_after}
 use Rattle.rustc_parse_format.specs.Characters.{front, behind}
 use Rattle.rustc_parse_format.specs.State.{Unread}
 use Rattle.rustc_parse_format.proofs.Counting.{Counted}
-use Rattle.rustc_parse_format.proofs.chars.Cursor.number.Given as goal
+use Rattle.rustc_parse_format.proofs.chars.Cursor.skip_number.Given as goal
 
 abbrev pub invariant-loop-c : goal.invariant-loop-c
 invariant-loop-c l = record {
