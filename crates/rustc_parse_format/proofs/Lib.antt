@@ -1,0 +1,10 @@
+pub mod Readings
+pub mod CleanWords
+pub mod CleanCuts
+pub mod Shorter
+pub mod Progress
+pub mod Runs
+pub mod Calls
+pub mod Walks
+pub mod BarePieces
+pub mod FaultlessStates
