@@ -5,7 +5,9 @@ use Rattle.std.specs.List.{AllByRecursion}
 use Rattle.std.specs.Str.Parse.{digits_value}
 use Rattle.rustc_parse_format.specs.Characters.{Text, is_brace, behind_white}
 use Rattle.rustc_parse_format.specs.Pieces.{Mode, Argument, Piece, Lit, NextArgument, bare_argument}
-use Rattle.rustc_parse_format.specs.Placeholder.{PositionText, Digits, Word, NoPosition, SpecText, Default, Cut, cut}
+use Rattle.rustc_parse_format.specs.Counts.{CountText, NumberCount, IndexCount, NameCount, PrecisionText, DotPrecision}
+use Rattle.rustc_parse_format.specs.Specification.{TypeText, WordType, SpecText, FormatParts, Modifier}
+use Rattle.rustc_parse_format.specs.Placeholder.{PositionText, Digits, Word, Cut, cut}
 use Rattle.rustc_parse_format.specs.Meaning.{argument, next_number}
 
 -- the words and the numbers that a cut has
@@ -13,15 +15,40 @@ abbrev pub words_of_position : PositionText → List Text
 words_of_position (Word w) = w ∷ []
 words_of_position p = []
 
+abbrev pub words_of_count : CountText → List Text
+words_of_count (NameCount w) = w ∷ []
+words_of_count k = []
+
+abbrev pub words_of_precision : PrecisionText → List Text
+words_of_precision (DotPrecision k) = words_of_count k
+words_of_precision p = []
+
+abbrev pub words_of_type : TypeText → List Text
+words_of_type (WordType w) = w ∷ []
+words_of_type y = []
+
+-- the text in a diagnostic is no word
 abbrev pub words_of_spec : SpecText → List Text
-words_of_spec Default = []
+words_of_spec (FormatParts p) = words_of_count p.width.count ++ words_of_precision p.precision ++ words_of_type p.type
+words_of_spec (Modifier w) = w ∷ []
+words_of_spec s = []
 
 abbrev pub numbers_of_position : PositionText → List Text
 numbers_of_position (Digits ds) = ds ∷ []
 numbers_of_position p = []
 
+abbrev pub numbers_of_count : CountText → List Text
+numbers_of_count (NumberCount ds) = ds ∷ []
+numbers_of_count (IndexCount ds) = ds ∷ []
+numbers_of_count k = []
+
+abbrev pub numbers_of_precision : PrecisionText → List Text
+numbers_of_precision (DotPrecision k) = numbers_of_count k
+numbers_of_precision p = []
+
 abbrev pub numbers_of_spec : SpecText → List Text
-numbers_of_spec Default = []
+numbers_of_spec (FormatParts p) = numbers_of_count p.width.count ++ numbers_of_precision p.precision
+numbers_of_spec s = []
 
 -- nothing in the cut is refused
 pub record IsClean (a : Cut) : Type 0 where
