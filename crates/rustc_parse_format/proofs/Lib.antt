@@ -1,7 +1,10 @@
 pub mod Readings
 pub mod CleanWords
+pub mod CleanCounts
+pub mod FaultlessCounts
 pub mod CleanCuts
-pub mod Shorter
+pub mod Rests
+pub mod Numbers
 pub mod Progress
 pub mod Runs
 pub mod Calls
