@@ -11,3 +11,7 @@ pub mod Calls
 pub mod Walks
 pub mod BarePieces
 pub mod FaultlessStates
+pub mod Kept
+pub mod KeptParts
+pub mod Locality
+pub mod FirstFault

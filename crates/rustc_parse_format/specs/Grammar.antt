@@ -1,6 +1,6 @@
 -- The grammar: which pieces a text reads as, without their spans. The public rule is the grammar of format strings in the
 -- documentation of `std::fmt`.
-use Rattle.std.specs.Prelude.{◌≡◌, ◌≢◌, ℕ, ◌≤◌, ◌⊎◌, ◌++◌, IsTrue, IsFalse, List, [], ◌∷◌, codes}
+use Rattle.std.specs.Prelude.{◌≡◌, ◌≢◌, ℕ, ◌≤◌, ◌<◌, ◌⊎◌, ◌++◌, IsTrue, IsFalse, List, [], ◌∷◌, length, take, drop, codes}
 use Rattle.std.specs.List.{AllByRecursion}
 use Rattle.std.specs.Str.Parse.{digits_value}
 use Rattle.rustc_parse_format.specs.Characters.{Text, is_brace, behind_white}
@@ -101,3 +101,11 @@ Reads mode c t (p ∷ ps) = (r : Text) × (next : ℕ) × Begins mode c t p r ne
 -- the text is in the mode's grammar
 abbrev pub IsInGrammar : Mode → Text → Type 0
 IsInGrammar mode t = (ps : List (Piece (Unit {0}))) × Reads mode 0 t ps
+
+-- The first pieces are the reading of the text up to a character, from which on nothing begins it, at any number.
+pub record StopsInside (mode : Mode) (c : ℕ) (t : Text) (ps : List (Piece (Unit {0}))) : Type 0 where
+  pub pieces : ℕ
+  pub characters : ℕ
+  pub inside : characters < length t
+  pub reads : Reads mode c (take characters t) (take pieces ps)
+  pub stops : (n : ℕ) (p : Piece (Unit {0})) (r : Text) (next : ℕ) → ¬ (Begins mode n (drop characters t) p r next)
