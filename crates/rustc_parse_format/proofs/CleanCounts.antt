@@ -1,13 +1,12 @@
 -- A width and a precision have no fault exactly where nothing of them is refused; the word that was tried is looked at too.
-use Rattle.std.proofs.Common.{◌≡◌, ◌++◌, ◌==◌, ℕ, Bool, true, false, cond, List, [], ◌∷◌, refl, ap, codes}
-use Rattle.std.proofs.lemmas.Bool.{cond_both, eqb-true}
+use Rattle.std.proofs.Common.{◌≡◌, ◌==◌, ℕ, Bool, true, false, [], ◌∷◌}
+use Rattle.std.proofs.lemmas.Bool.{cond_both}
 use Rattle.std.specs.Char.{is_ascii_digit}
 use Rattle.rustc_parse_format.specs.Characters.{Text, is_id_start, word, behind_word, digits, behind_digits}
-use Rattle.rustc_parse_format.specs.Counts.{CountText, NumberCount, IndexCount, ZeroIndexCount, NameCount, NoCount, count, behind_number, behind_name, WidthText, width, counted, behind_zero, PrecisionText, StarPrecision, DotPrecision, precision, behind_dot}
-use Rattle.rustc_parse_format.specs.Meaning.{count_at}
+use Rattle.rustc_parse_format.specs.Counts.{count_at, CountText, NumberCount, IndexCount, ZeroIndexCount, NameCount, NoCount, count, behind_number, behind_name, WidthText, width, behind_zero, PrecisionText, precision, behind_dot}
 use Rattle.rustc_parse_format.specs.Grammar.{words_of_count, numbers_of_count, words_of_precision, numbers_of_precision}
 use Rattle.rustc_parse_format.specs.PartFaults.{number_faults, count_faults, width_faults, precision_faults}
-use Rattle.rustc_parse_format.proofs.CleanWords.{none_left, none_right, none_both, IsNamed, IsSmall, AllNamed, AllSmall, named, small, unnamed, unlarge, choose, no_word, no_digits, digit_word, no_word_at_end, no_digits_at_end}
+use Rattle.rustc_parse_format.proofs.CleanWords.{none_left, none_right, IsNamed, IsSmall, AllNamed, AllSmall, named, small, choose}
 
 abbrev pub CleanCount : CountText → Type 0
 CleanCount k = AllNamed (words_of_count k) × AllSmall (numbers_of_count k)
@@ -27,8 +26,8 @@ count_clean (c ∷ t) e =
     choose CleanCount (is_ascii_digit c) _ _
     (λ d. number_clean (digits (c ∷ t)) (behind_digits (c ∷ t)) (small (c ∷ t) (none_left _ _ e)))
     (λ d. choose CleanCount (is_id_start c) _ _
-        (λ i. name_clean (c ∷ t) (word (c ∷ t)) (behind_word (c ∷ t)) (named (c ∷ t) (none_right (number_faults (c ∷ t)) _ e)))
-        (λ i. (tt, tt)))
+    (λ i. name_clean (c ∷ t) (word (c ∷ t)) (behind_word (c ∷ t)) (named (c ∷ t) (none_right (number_faults (c ∷ t)) _ e)))
+    (λ i. (tt, tt)))
 
 -- the width, where its count is read at u
 width_of_count : (z : Bool) (k : CountText) (t : Text) → (count_faults (count_at z t) ≡ [] → CleanCount k) → width_faults t (record { zero_pad = z; count = k }) ≡ [] → CleanCount k

@@ -1,13 +1,12 @@
 -- A cut has no fault exactly where nothing in it is refused, if a brace closes it.
-use Rattle.std.proofs.Common.{◌≡◌, ◌++◌, ◌==◌, ℕ, true, List, [], ◌∷◌, refl, codes}
-use Rattle.std.proofs.lemmas.Bool.{cond_both}
+use Rattle.std.proofs.Common.{◌≡◌, ◌++◌, ◌==◌, ℕ, true, [], ◌∷◌, refl, codes}
 use Rattle.std.specs.Char.{is_ascii_digit}
 use Rattle.rustc_parse_format.specs.Characters.{Text, is_id_start, word, behind_white, begins_with}
 use Rattle.rustc_parse_format.specs.Pieces.{Mode, Format, InlineAsm, Diagnostic, DebugHex, Lower, Upper}
 use Rattle.rustc_parse_format.specs.Counts.{width, precision}
-use Rattle.rustc_parse_format.specs.Specification.{TypeText, type, behind_hex, width_at, precision_at, type_at, format_parts, SpecText, FormatParts, specification, behind_colon}
+use Rattle.rustc_parse_format.specs.Specification.{type, behind_hex, width_at, precision_at, type_at, format_parts, SpecText, FormatParts, specification, behind_colon}
 use Rattle.rustc_parse_format.specs.Placeholder.{PositionText, position, cut}
-use Rattle.rustc_parse_format.specs.Grammar.{IsClean, words_of_position, numbers_of_position, words_of_count, words_of_precision, words_of_type, words_of_spec, numbers_of_count, numbers_of_precision, numbers_of_spec}
+use Rattle.rustc_parse_format.specs.Grammar.{IsClean, words_of_position, numbers_of_position, words_of_count, words_of_precision, words_of_type, words_of_spec, numbers_of_count, numbers_of_spec}
 use Rattle.rustc_parse_format.specs.PartFaults.{number_faults, position_faults, width_faults, precision_faults, type_faults, format_faults, spec_faults, cut_faults}
 use Rattle.rustc_parse_format.proofs.CleanWords.{none_left, none_right, none_both, IsNamed, IsSmall, AllNamed, AllSmall, All-append, All-left, All-right, named, small, unnamed, unlarge, choose, no_word, no_digits, digit_word, word_first, no_word_at_end, no_digits_at_end}
 use Rattle.rustc_parse_format.proofs.CleanCounts.{width_clean, precision_clean}
@@ -48,10 +47,10 @@ type_clean (c ∷ t) e =
     choose {B = Text} (λ y. type_faults (c ∷ t) y ≡ [] → AllNamed (words_of_type y)) (c == 120) _ _
     (λ z h. hex_clean Lower c t)
     (λ z. choose {B = Text} (λ y. type_faults (c ∷ t) y ≡ [] → AllNamed (words_of_type y)) (c == 88) _ _
-        (λ z h. hex_clean Upper c t)
-        (λ z. choose {B = Text} (λ y. type_faults (c ∷ t) y ≡ [] → AllNamed (words_of_type y)) (c == 63) _ _
-            (λ z h. tt)
-            (λ z h. (named (c ∷ t) h, tt))))
+    (λ z h. hex_clean Upper c t)
+    (λ z. choose {B = Text} (λ y. type_faults (c ∷ t) y ≡ [] → AllNamed (words_of_type y)) (c == 63) _ _
+    (λ z h. tt)
+    (λ z h. (named (c ∷ t) h, tt))))
     e
 
 hex_faultless : (h : DebugHex) (c : ℕ) (t u : Text) → type_faults u (behind_hex h c t).0 ≡ []
@@ -64,10 +63,10 @@ type_faultless (c ∷ t) h =
     choose {B = Text} (λ y. AllNamed (words_of_type y) → type_faults (c ∷ t) y ≡ []) (c == 120) _ _
     (λ z h. hex_faultless Lower c t (c ∷ t))
     (λ z. choose {B = Text} (λ y. AllNamed (words_of_type y) → type_faults (c ∷ t) y ≡ []) (c == 88) _ _
-        (λ z h. hex_faultless Upper c t (c ∷ t))
-        (λ z. choose {B = Text} (λ y. AllNamed (words_of_type y) → type_faults (c ∷ t) y ≡ []) (c == 63) _ _
-            (λ z h. refl)
-            (λ z h. unnamed (c ∷ t) h.0)))
+    (λ z h. hex_faultless Upper c t (c ∷ t))
+    (λ z. choose {B = Text} (λ y. AllNamed (words_of_type y) → type_faults (c ∷ t) y ≡ []) (c == 63) _ _
+    (λ z h. refl)
+    (λ z h. unnamed (c ∷ t) h.0)))
     h
 
 abbrev CleanSpec : SpecText → Type 0
@@ -104,12 +103,12 @@ format_faultless t h =
     let words = All-left IsNamed (words_of_count w.0.count ++ words_of_precision p.0) _ h.0 in
     let typed = All-right IsNamed (words_of_count w.0.count ++ words_of_precision p.0) _ h.0 in
     let stays : word (precision_at t) ≡ codes "_" → ⊥ =
-        λ u. (underscore_stays (precision_at t) u).1 (rw (← (underscore_stays (precision_at t) u).0) typed) in
+    λ u. (underscore_stays (precision_at t) u).1 (rw (← (underscore_stays (precision_at t) u).0) typed) in
     none_both _ _
     (none_both _ _
-        (width_faultless (width_at t) (All-left IsNamed _ _ words, All-left IsSmall _ _ h.1) (λ z. stays))
-        (precision_faultless (precision_at t) (All-right IsNamed (words_of_count w.0.count) _ words, All-right IsSmall (numbers_of_count w.0.count) _ h.1)
-            (λ z u. (underscore_stays (type_at t) u).1 typed)))
+    (width_faultless (width_at t) (All-left IsNamed _ _ words, All-left IsSmall _ _ h.1) (λ z. stays))
+    (precision_faultless (precision_at t) (All-right IsNamed (words_of_count w.0.count) _ words, All-right IsSmall (numbers_of_count w.0.count) _ h.1)
+    (λ z u. (underscore_stays (type_at t) u).1 typed)))
     (type_faultless (type_at t) typed)
 
 colon_clean : (mode : Mode) (c : ℕ) (t r : Text) → spec_faults (c ∷ t) (behind_colon mode t).0 r ≡ [] → CleanSpec (behind_colon mode t).0
@@ -148,4 +147,4 @@ cut_faultless mode t h k =
     none_both _ _
     (position_faultless t (record { named = All-left IsNamed _ _ h.named; small = All-left IsSmall _ _ h.fits }))
     (specification_faultless mode (behind_white (position t).1) _
-        (All-right IsNamed (words_of_position (position t).0) _ h.named, All-right IsSmall (numbers_of_position (position t).0) _ h.fits))
+    (All-right IsNamed (words_of_position (position t).0) _ h.named, All-right IsSmall (numbers_of_position (position t).0) _ h.fits))

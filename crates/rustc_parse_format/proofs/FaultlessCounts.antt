@@ -1,10 +1,9 @@
 -- Where nothing of a width or of a precision is refused, and no word `_` was tried for it, it has no fault.
-use Rattle.std.proofs.Common.{◌≡◌, ◌++◌, ◌==◌, ℕ, Bool, true, false, cond, List, [], ◌∷◌, refl, ap, codes}
-use Rattle.std.proofs.lemmas.Bool.{cond_both, eqb-true}
+use Rattle.std.proofs.Common.{◌≡◌, ◌==◌, ℕ, Bool, true, false, [], ◌∷◌, refl, ap}
+use Rattle.std.proofs.lemmas.Bool.{cond_both}
 use Rattle.std.specs.Char.{is_ascii_digit}
 use Rattle.rustc_parse_format.specs.Characters.{Text, is_id_start, word, behind_word, digits, behind_digits}
-use Rattle.rustc_parse_format.specs.Counts.{CountText, NumberCount, IndexCount, ZeroIndexCount, NameCount, NoCount, count, behind_number, behind_name, WidthText, width, counted, behind_zero, PrecisionText, StarPrecision, DotPrecision, precision, behind_dot}
-use Rattle.rustc_parse_format.specs.Meaning.{count_at}
+use Rattle.rustc_parse_format.specs.Counts.{count_at, CountText, NumberCount, IndexCount, ZeroIndexCount, NameCount, NoCount, count, behind_number, behind_name, WidthText, width, behind_zero, PrecisionText, DotPrecision, precision, behind_dot}
 use Rattle.rustc_parse_format.specs.PartFaults.{count_faults, width_faults, precision_faults}
 use Rattle.rustc_parse_format.proofs.CleanWords.{none_both, IsNamed, IsSmall, unnamed, unlarge, choose, no_word, no_digits, digit_word, no_word_at_end, no_digits_at_end}
 use Rattle.rustc_parse_format.proofs.CleanCounts.{CleanCount, CleanPrecision}
@@ -36,8 +35,8 @@ count_faultless (c ∷ t) h f =
     cond_both {A = CountText × Text} (is_ascii_digit c) _ _ (Faultless (c ∷ t))
     (λ d h f. none_both _ _ (unlarge (c ∷ t) (number_small (digits (c ∷ t)) (behind_digits (c ∷ t)) h)) (digit_word c t d))
     (λ d. cond_both {A = CountText × Text} (is_id_start c) _ _ (Faultless (c ∷ t))
-        (λ i h f. none_both _ _ (no_digits c t d) (unnamed (c ∷ t) (name_named (c ∷ t) (behind_word (c ∷ t)) h f)))
-        (λ i h f. none_both _ _ (no_digits c t d) (no_word c t i)))
+    (λ i h f. none_both _ _ (no_digits c t d) (unnamed (c ∷ t) (name_named (c ∷ t) (behind_word (c ∷ t)) h f)))
+    (λ i h f. none_both _ _ (no_digits c t d) (no_word c t i)))
     h f
 
 width_of_count : (z : Bool) (k : CountText) (t : Text) → count_faults (count_at z t) ≡ [] → width_faults t (record { zero_pad = z; count = k }) ≡ []

@@ -1,5 +1,5 @@
 -- What is behind the brace that closes a placeholder: another text there changes no part in front of it.
-use Rattle.std.proofs.Common.{◌≡◌, ℕ, ◌++◌, Bool, true, false, cond, List, [], ◌∷◌, refl, ◌∙◌, ap}
+use Rattle.std.proofs.Common.{◌≡◌, ℕ, ◌++◌, Bool, true, false, cond, [], ◌∷◌, refl, ◌∙◌, ap}
 use Rattle.unicode_ident.proofs.Computing.{unicode_ident}
 use Rattle.std.specs.Char.{is_ascii_digit, is_whitespace}
 use Rattle.rustc_parse_format.specs.Characters.{Text, is_id_start, is_id_continue, front, behind, word, behind_word, digits, behind_digits, behind_white}
@@ -30,8 +30,9 @@ pub run_kept : (p : ℕ → Bool) → p 125 ≡ false → (v r s : Text) → Sam
 run_kept p h [] r s = record { value = []; left = []; far = rw h refl; near = rw h refl }
 run_kept p h (c ∷ v) r s =
     elim (p c) as (λ b. Same r s (cond b (c ∷ front p (closing v r)) [], cond b (behind p (closing v r)) (c ∷ closing v r)) (cond b (c ∷ front p (closing v s)) [], cond b (behind p (closing v s)) (c ∷ closing v s))) [
-      true ↦ mapped (λ u. c ∷ u) (run_kept p h v r s)
-    | false ↦ reads [] (c ∷ v) ]
+      | true ↦ mapped (λ u. c ∷ u) (run_kept p h v r s)
+      | false ↦ reads [] (c ∷ v)
+    ]
 
 pub white_kept : (v r s : Text) → (left : Text) × (behind_white (closing v r) ≡ closing left r) × (behind_white (closing v s) ≡ closing left s)
 unfolding behind_white
@@ -46,8 +47,9 @@ unfolding word behind_word unicode_ident
 word_kept [] r s = reads [] []
 word_kept (c ∷ v) r s =
     elim (is_id_start c) as (λ b. Same r s (cond b (c ∷ front is_id_continue (closing v r)) [], cond b (behind is_id_continue (closing v r)) (c ∷ closing v r)) (cond b (c ∷ front is_id_continue (closing v s)) [], cond b (behind is_id_continue (closing v s)) (c ∷ closing v s))) [
-      true ↦ mapped (λ u. c ∷ u) (run_kept is_id_continue refl v r s)
-    | false ↦ reads [] (c ∷ v) ]
+      | true ↦ mapped (λ u. c ∷ u) (run_kept is_id_continue refl v r s)
+      | false ↦ reads [] (c ∷ v)
+    ]
 
 -- what is read next, of two readings that are kept
 pub behind_both : {A B : Type 0} {r s : Text} (f g : A × Text → B × Text) {x y : A × Text} (k : Same r s x y) →

@@ -5,7 +5,7 @@ use Rattle.unicode_ident.proofs.Computing.{unicode_ident}
 use Rattle.std.specs.Char.{is_ascii_digit}
 use Rattle.rustc_parse_format.specs.Characters.{Text, is_align, is_no_brace, is_id_start, word, behind_word, digits, behind_digits}
 use Rattle.rustc_parse_format.specs.Pieces.{Mode, Format, InlineAsm, Diagnostic, Alignment, Sign, Left, Right, Center, Unknown, Plus, Minus, DebugHex, Lower, Upper}
-use Rattle.rustc_parse_format.specs.Counts.{CountText, NumberCount, IndexCount, ZeroIndexCount, NameCount, NoCount, count, behind_number, behind_name, WidthText, width, counted, behind_zero, PrecisionText, NoPrecision, StarPrecision, DotPrecision, precision, behind_dot}
+use Rattle.rustc_parse_format.specs.Counts.{NumberCount, IndexCount, ZeroIndexCount, NameCount, NoCount, count, behind_number, behind_name, WidthText, width, counted, behind_zero, PrecisionText, NoPrecision, StarPrecision, DotPrecision, precision, behind_dot}
 use Rattle.rustc_parse_format.specs.Specification.{fill, align, sign, alternate, Parts, TypeText, SignType, DebugHexType, WordType, type, behind_hex, align_at, format_parts, SpecText, Default, FormatParts, Modifier, DiagnosticText, behind_colon, specification}
 use Rattle.rustc_parse_format.specs.Placeholder.{Digits, Word, NoPosition, position}
 use Rattle.rustc_parse_format.proofs.Rests.{IsRest-le, format_from_align}
@@ -95,8 +95,9 @@ brace_no_fill (c ∷ r) e = rw e refl
 brace_left : (r : Text) → suc (length r) ≤ length (fill (125 ∷ r)).1 → begins_aligned r ≡ false
 brace_left [] h = refl
 brace_left (c ∷ r) h = elim (is_align c) as (λ b. suc (suc (length r)) ≤ length (cond {A = Option ℕ × Text} b (Some 125, c ∷ r) (None, 125 ∷ c ∷ r)).1 → b ≡ false) [
-    true ↦ λ h. absurd (omega arith)
-  | false ↦ λ h. refl ] h
+  | true ↦ λ h. absurd (omega arith)
+  | false ↦ λ h. refl
+] h
 
 fill_kept : (v r s : Text) → (begins_aligned r ≡ false → begins_aligned s ≡ false) → suc (length r) ≤ length (fill (closing v r)).1 →
     Same r s (fill (closing v r)) (fill (closing v s))
@@ -112,9 +113,11 @@ next {r = r} {s = s} f h k = behind_both (λ x. f x.1) (λ x. f x.1) k (h k.left
 -- what two parts that are kept make together, behind the second
 applied : {A B : Type 0} {r s : Text} {x y : (A → B) × Text} {z w : A × Text} → Same r s x y → Same r s z w → Same r s (x.0 z.0, z.1) (y.0 w.0, w.1)
 applied {x = x} {y = y} {z = z} {w = w} k h = record {
-  value = k.value h.value; left = h.left;
+  value = k.value h.value;
+  left = h.left;
   far = ap (λ i. (i.0 z.0, z.1)) k.far ∙ ap (λ i. (k.value i.0, i.1)) h.far;
-  near = ap (λ i. (i.0 w.0, w.1)) k.near ∙ ap (λ i. (k.value i.0, i.1)) h.near }
+  near = ap (λ i. (i.0 w.0, w.1)) k.near ∙ ap (λ i. (k.value i.0, i.1)) h.near;
+}
 
 format_kept : (v r s : Text) → (begins_aligned r ≡ false → begins_aligned s ≡ false) → suc (length r) ≤ length (align_at (closing v r)) →
     Same r s (format_parts (closing v r)) (format_parts (closing v s))
@@ -143,6 +146,7 @@ pub specification_kept : (mode : Mode) (v r s : Text) → (begins_aligned r ≡ 
 specification_kept mode [] r s b h = reads Default []
 specification_kept mode (c ∷ v) r s b h =
     elim (c == 58) as (λ x. suc (length r) ≤ length (cond {A = SpecText × Text} x (behind_colon mode (closing v r)) (Default, c ∷ closing v r)).1 →
-        Same r s (cond x (behind_colon mode (closing v r)) (Default, c ∷ closing v r)) (cond x (behind_colon mode (closing v s)) (Default, c ∷ closing v s))) [
-      true ↦ λ h. colon_kept mode v r s b h
-    | false ↦ λ h. reads Default (c ∷ v) ] h
+    Same r s (cond x (behind_colon mode (closing v r)) (Default, c ∷ closing v r)) (cond x (behind_colon mode (closing v s)) (Default, c ∷ closing v s))) [
+      | true ↦ λ h. colon_kept mode v r s b h
+      | false ↦ λ h. reads Default (c ∷ v)
+    ] h

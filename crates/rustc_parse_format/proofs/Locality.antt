@@ -1,16 +1,15 @@
 -- A cut that a brace closes reads the same with another text behind the brace, unless an aligning character there makes
 -- the brace a fill.
-use Rattle.std.proofs.Common.{◌≡◌, ℕ, suc, ◌≤◌, ◌++◌, true, false, [], ◌∷◌, length, length-append, refl, sym, ◌∙◌, ap, arith}
+use Rattle.std.proofs.Common.{◌≡◌, ℕ, suc, ◌≤◌, false, [], ◌∷◌, length, length-append, refl, sym, ◌∙◌, ap, arith}
 use Rattle.rustc_parse_format.specs.Characters.{Text, behind_white, behind_first}
-use Rattle.rustc_parse_format.specs.Pieces.{Mode, Count, bare_count, bare_spec, bare_argument}
-use Rattle.rustc_parse_format.specs.Marks.{Span}
-use Rattle.rustc_parse_format.specs.Counts.{CountText, NumberCount, IndexCount, ZeroIndexCount, NameCount, NoCount, PrecisionText, NoPrecision, StarPrecision, DotPrecision}
+use Rattle.rustc_parse_format.specs.Pieces.{Mode, bare_count, bare_spec, bare_argument}
+use Rattle.rustc_parse_format.specs.Counts.{count_at, CountText, NumberCount, IndexCount, ZeroIndexCount, NameCount, NoCount, PrecisionText, NoPrecision, StarPrecision, DotPrecision}
 use Rattle.rustc_parse_format.specs.Specification.{SpecText, Default, FormatParts, Modifier, DiagnosticText, width_at, precision_at, specification}
 use Rattle.rustc_parse_format.specs.Placeholder.{PositionText, position, Cut, cut}
-use Rattle.rustc_parse_format.specs.Meaning.{count_of, count_at, precision_of, format_of, spec_of, behind_spec, position_of, argument, next_number}
+use Rattle.rustc_parse_format.specs.Meaning.{count_of, precision_of, format_of, spec_of, behind_spec, position_of, argument, next_number}
 use Rattle.rustc_parse_format.specs.Grammar.{IsClean}
 use Rattle.rustc_parse_format.proofs.Rests.{IsRest-le, behind_white_rest}
-use Rattle.rustc_parse_format.proofs.Kept.{closing, Same, white_both}
+use Rattle.rustc_parse_format.proofs.Kept.{closing, white_both}
 use Rattle.rustc_parse_format.proofs.KeptParts.{position_kept, begins_aligned, specification_kept}
 
 pub record SameCut (a b : Cut) : Type 0 where
@@ -34,7 +33,7 @@ cut_kept mode v r s b e =
     let near : behind_white (position (closing v s)).1 ≡ closing p.left s = ap (λ x. x.1) p.near in
     let ends : behind_white (specification mode (closing p.left r)).1 ≡ 125 ∷ r = ap (λ x. behind_white (specification mode x).1) (sym far) ∙ e in
     let enough : suc (length r) ≤ length (specification mode (closing p.left r)).1 =
-        omega (arith, ap length ends, IsRest-le (behind_white_rest (specification mode (closing p.left r)).1)) in
+    omega (arith, ap length ends, IsRest-le (behind_white_rest (specification mode (closing p.left r)).1)) in
     let k = specification_kept mode p.left r s b enough in
     let q = white_both k in
     let last : q.left ≡ [] = nothing_more q.left r (sym (ap (λ x. x.1) q.far) ∙ ends) in
@@ -42,7 +41,9 @@ cut_kept mode v r s b e =
       closes = ap (λ x. behind_white (specification mode x).1) near ∙ (ap (λ x. x.1) q.near ∙ ap (λ x. closing x s) last);
       same = record {
         position = ap (λ x. x.0) p.far ∙ sym (ap (λ x. x.0) p.near);
-        spec = (ap (λ x. (specification mode x).0) far ∙ ap (λ x. x.0) k.far) ∙ sym (ap (λ x. (specification mode x).0) near ∙ ap (λ x. x.0) k.near) } }
+        spec = (ap (λ x. (specification mode x).0) far ∙ ap (λ x. x.0) k.far) ∙ sym (ap (λ x. (specification mode x).0) near ∙ ap (λ x. x.0) k.near);
+      };
+    }
 
 -- What is bare of an argument, what is refused and the next number do not depend on where the parts begin.
 count_bare : (t u : Text) (k : CountText) → bare_count (count_of t k) ≡ bare_count (count_of u k)
@@ -62,8 +63,10 @@ unfolding format_of
 spec_bare c t u r s Default = refl
 spec_bare c t u r s (FormatParts p) =
     let z = p.width.zero_pad in
-    rw (count_bare (count_at z (width_at (behind_first t))) (count_at z (width_at (behind_first u))) p.width.count,
-        precision_bare c (precision_at (behind_first t)) (precision_at (behind_first u)) p.precision) refl
+    rw (
+      count_bare (count_at z (width_at (behind_first t))) (count_at z (width_at (behind_first u))) p.width.count,
+      precision_bare c (precision_at (behind_first t)) (precision_at (behind_first u)) p.precision,
+    ) refl
 spec_bare c t u r s (Modifier w) = refl
 spec_bare c t u r s (DiagnosticText w) = refl
 

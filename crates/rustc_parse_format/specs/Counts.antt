@@ -2,7 +2,7 @@
 -- The public rule is the grammar of format strings in the documentation of `std::fmt`.
 use Rattle.std.specs.Prelude.{Bool, true, false, if◌then◌else◌, [], ◌∷◌, ◌==◌}
 use Rattle.std.specs.Char.{is_ascii_digit}
-use Rattle.rustc_parse_format.specs.Characters.{Text, is_id_start, word, behind_word, digits, behind_digits}
+use Rattle.rustc_parse_format.specs.Characters.{Text, is_id_start, word, behind_word, digits, behind_digits, behind_first}
 
 pub data CountText : Type 0 where
   -- `10`
@@ -50,6 +50,10 @@ behind_zero (c ∷ t) = if c == 36 then (record { zero_pad = false; count = Zero
 abbrev pub width : Text → WidthText × Text
 width [] = counted false []
 width (c ∷ t) = if c == 48 then behind_zero t else counted false (c ∷ t)
+
+-- where the count of a width that stands at t begins, which has the flag or not
+abbrev pub count_at : Bool → Text → Text
+count_at zero t = if zero then behind_first t else t
 
 pub data PrecisionText : Type 0 where
   NoPrecision : PrecisionText

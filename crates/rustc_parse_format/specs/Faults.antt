@@ -56,23 +56,43 @@ unfoldable pub message : {A : Type 0} → Fault A → Message A
 message (UnmatchedBrace s) = record {
   description = codes "unmatched `}` found";
   note = Some (codes "if you intended to print `}`, you can escape it using `}}`");
-  label = codes "unmatched `}`"; span = s; second = None; suggestion = Nothing }
+  label = codes "unmatched `}`";
+  span = s;
+  second = None;
+  suggestion = Nothing;
+}
 message (MissingBrace c s o) = record {
   description = expected c;
   note = Some (codes "if you intended to print `{`, you can escape it using `{{`");
-  label = codes "expected `}`"; span = s; second = Some (codes "because of this opening brace", o); suggestion = Nothing }
+  label = codes "expected `}`";
+  span = s;
+  second = Some (codes "because of this opening brace", o);
+  suggestion = Nothing;
+}
 message (FillBrace c s o) = record {
   description = expected c;
   note = Some (codes "the character `}` is interpreted as a fill character because of the `:` that precedes it");
-  label = codes "expected `}`"; span = s;
-  second = Some (codes "this is not interpreted as a formatting closing brace", o); suggestion = Nothing }
+  label = codes "expected `}`";
+  span = s;
+  second = Some (codes "this is not interpreted as a formatting closing brace", o);
+  suggestion = Nothing;
+}
 message (Underscore s) = record {
   description = codes "invalid argument name `_`";
   note = Some (codes "argument name cannot be a single underscore");
-  label = codes "invalid argument name"; span = s; second = None; suggestion = Nothing }
+  label = codes "invalid argument name";
+  span = s;
+  second = None;
+  suggestion = Nothing;
+}
 message (TooLarge ds s) = record {
   description = codes "integer `" ++ encode_utf8_all ds ++ codes "` does not fit into the type `u16` whose range is `0..=65535`";
-  note = None; label = codes "integer out of range for `u16`"; span = s; second = None; suggestion = Nothing }
+  note = None;
+  label = codes "integer out of range for `u16`";
+  span = s;
+  second = None;
+  suggestion = Nothing;
+}
 
 -- the list of errors after these faults, in the order in which they were found
 abbrev pub add_errors : {A : Type 0} → List (Message A) → List (Fault A) → List (Message A)

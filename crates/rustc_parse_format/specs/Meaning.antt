@@ -1,9 +1,9 @@
 -- What a cut means where the next number is c: the argument, with marks for its spans, and the number that is next behind it.
-use Rattle.std.specs.Prelude.{ℕ, suc, Bool, if◌then◌else◌, [], ◌∷◌, Option, Some, None, codes}
+use Rattle.std.specs.Prelude.{ℕ, suc, [], ◌∷◌, Option, Some, None, codes}
 use Rattle.rustc_parse_format.specs.Characters.{Text, behind_word, behind_first, number}
 use Rattle.rustc_parse_format.specs.Pieces.{DebugHex, Position, Implicit, Index, Named, Count, Is, Name, Param, Star, Implied, Spec, Argument, default_spec}
 use Rattle.rustc_parse_format.specs.Marks.{Span, up_to, through, over_first}
-use Rattle.rustc_parse_format.specs.Counts.{CountText, NumberCount, IndexCount, ZeroIndexCount, NameCount, NoCount, WidthText, PrecisionText, NoPrecision, StarPrecision, DotPrecision}
+use Rattle.rustc_parse_format.specs.Counts.{CountText, NumberCount, IndexCount, ZeroIndexCount, NameCount, NoCount, count_at, PrecisionText, NoPrecision, StarPrecision, DotPrecision}
 use Rattle.rustc_parse_format.specs.Specification.{TypeText, DebugHexType, SignType, WordType, Parts, SpecText, Default, FormatParts, Modifier, DiagnosticText, width_at, precision_at, type_at}
 use Rattle.rustc_parse_format.specs.Placeholder.{PositionText, Digits, Word, NoPosition, Cut}
 
@@ -14,10 +14,6 @@ count_of t (IndexCount ds) = Param (number ds)
 count_of t ZeroIndexCount = Param 0
 count_of t (NameCount w) = Name w (up_to t (behind_word t))
 count_of t NoCount = Implied
-
--- where the count of a width that stands at t begins
-abbrev pub count_at : Bool → Text → Text
-count_at zero t = if zero then behind_first t else t
 
 -- from t to r, where there is a count
 abbrev pub count_span : Text → CountText → Text → Option Span
@@ -61,13 +57,20 @@ fill_span t (Some c) = Some (over_first t)
 -- the format specification that stands at t, behind its colon, with r behind it
 unfoldable pub format_of : ℕ → Text → Parts → Text → Spec Span
 format_of c t p r = record {
-  fill = p.fill; fill_span = fill_span t p.fill; align = p.align; sign = p.sign; alternate = p.alternate;
-  zero_pad = p.width.zero_pad; debug_hex = debug_hex_of p.type;
+  fill = p.fill;
+  fill_span = fill_span t p.fill;
+  align = p.align;
+  sign = p.sign;
+  alternate = p.alternate;
+  zero_pad = p.width.zero_pad;
+  debug_hex = debug_hex_of p.type;
   width = count_of (count_at p.width.zero_pad (width_at t)) p.width.count;
   width_span = count_span (count_at p.width.zero_pad (width_at t)) p.width.count (precision_at t);
   precision = precision_of c (precision_at t) p.precision;
   precision_span = precision_span (precision_at t) p.precision (type_at t);
-  ty = type_of p.type; ty_span = type_span (type_at t) p.type r }
+  ty = type_of p.type;
+  ty_span = type_span (type_at t) p.type r;
+}
 
 -- the specification that stands at t, with r behind it
 abbrev pub spec_of : ℕ → Text → SpecText → Text → Spec Span
@@ -100,7 +103,8 @@ unfoldable pub argument : ℕ → Cut → Argument Span
 argument c a = record {
   position = position_of (behind_spec c a.spec) a.position;
   position_span = up_to a.position_at a.spec_at;
-  format = spec_of c a.spec_at a.spec a.rest }
+  format = spec_of c a.spec_at a.spec a.rest;
+}
 
 unfoldable pub next_number : ℕ → Cut → ℕ
 next_number c a = behind_position (behind_spec c a.spec) a.position

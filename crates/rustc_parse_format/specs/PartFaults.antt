@@ -1,11 +1,10 @@
 -- The faults of the parts of a placeholder, in the order in which they are found.
-use Rattle.std.specs.Prelude.{ℕ, ◌++◌, if◌then◌else◌, List, [], ◌∷◌, codes, bytes_eq}
+use Rattle.std.specs.Prelude.{◌++◌, if◌then◌else◌, List, [], ◌∷◌, codes, bytes_eq}
 use Rattle.rustc_parse_format.specs.Characters.{Text, word, behind_word, digits, behind_digits, behind_first, is_over}
 use Rattle.rustc_parse_format.specs.Marks.{Span, up_to, through}
-use Rattle.rustc_parse_format.specs.Counts.{CountText, ZeroIndexCount, WidthText, PrecisionText, DotPrecision}
+use Rattle.rustc_parse_format.specs.Counts.{CountText, ZeroIndexCount, WidthText, count_at, PrecisionText, DotPrecision}
 use Rattle.rustc_parse_format.specs.Specification.{TypeText, WordType, Parts, SpecText, Default, FormatParts, Modifier, DiagnosticText, width_at, precision_at, type_at}
 use Rattle.rustc_parse_format.specs.Placeholder.{Cut}
-use Rattle.rustc_parse_format.specs.Meaning.{count_at}
 use Rattle.rustc_parse_format.specs.Faults.{Fault, Underscore, TooLarge}
 
 -- a word `_` at the front of t
@@ -24,12 +23,13 @@ position_faults t = number_faults t ++ word_faults t
 unfoldable pub count_faults : Text → List (Fault Span)
 count_faults t = number_faults t ++ word_faults t
 
+-- the count of a width that begins at t
+abbrev pub width_count_faults : Text → CountText → List (Fault Span)
+width_count_faults t ZeroIndexCount = []
+width_count_faults t k = count_faults t
+
 abbrev pub width_faults : Text → WidthText → List (Fault Span)
-width_faults t w = of_count w.count
-  where
-    of_count : CountText → List (Fault Span)
-    of_count ZeroIndexCount = []
-    of_count k = count_faults (count_at w.zero_pad t)
+width_faults t w = width_count_faults (count_at w.zero_pad t) w.count
 
 abbrev pub precision_faults : Text → PrecisionText → List (Fault Span)
 precision_faults t (DotPrecision k) = count_faults (behind_first t)

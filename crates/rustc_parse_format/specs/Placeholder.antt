@@ -1,6 +1,6 @@
 -- What stands in a placeholder, behind its opening brace: each part as written, with the text from it on.
 -- The public rule is the grammar of format strings in the documentation of `std::fmt`.
-use Rattle.std.specs.Prelude.{ℕ, if◌then◌else◌, [], ◌∷◌}
+use Rattle.std.specs.Prelude.{if◌then◌else◌, [], ◌∷◌}
 use Rattle.std.specs.Char.{is_ascii_digit}
 use Rattle.rustc_parse_format.specs.Characters.{Text, is_id_start, word, behind_word, digits, behind_digits, behind_white}
 use Rattle.rustc_parse_format.specs.Pieces.{Mode}

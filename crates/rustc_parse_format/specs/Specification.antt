@@ -74,11 +74,18 @@ pub record Parts : Type 0 where
 
 -- the format specification at the front, and the rest behind it
 unfoldable pub format_parts : Text → Parts × Text
-format_parts t =
-    (record {
-        fill = (fill t).0; align = (align (align_at t)).0; sign = (sign (sign_at t)).0; alternate = (alternate (alternate_at t)).0;
-        width = (width (width_at t)).0; precision = (precision (precision_at t)).0; type = (type (type_at t)).0 },
-     (type (type_at t)).1)
+format_parts t = (
+  record {
+    fill = (fill t).0;
+    align = (align (align_at t)).0;
+    sign = (sign (sign_at t)).0;
+    alternate = (alternate (alternate_at t)).0;
+    width = (width (width_at t)).0;
+    precision = (precision (precision_at t)).0;
+    type = (type (type_at t)).0;
+  },
+  (type (type_at t)).1,
+)
 
 -- what stands in the place of a specification
 pub data SpecText : Type 0 where

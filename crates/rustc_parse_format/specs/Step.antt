@@ -43,8 +43,11 @@ closed c a r = record { piece = Some (NextArgument (argument c a)); faults = cut
 
 abbrev pub unclosed : ℕ → Text → Cut → Text → Call
 unclosed c opening a r = record {
-  piece = Some (NextArgument (argument c a)); faults = cut_faults a ++ missing_brace opening (argument c a).format r ∷ [];
-  rest = r; next = next_number c a }
+  piece = Some (NextArgument (argument c a));
+  faults = cut_faults a ++ missing_brace opening (argument c a).format r ∷ [];
+  rest = r;
+  next = next_number c a;
+}
 
 -- the placeholder at opening, with t behind its brace
 unfoldable pub placeholder : Mode → ℕ → Text → Text → Call
