@@ -15,3 +15,4 @@ pub mod Kept
 pub mod KeptParts
 pub mod Locality
 pub mod FirstFault
+pub mod StateWalks

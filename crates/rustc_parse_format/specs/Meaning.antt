@@ -27,6 +27,7 @@ precision_of c t NoPrecision = Implied
 precision_of c t StarPrecision = Star c
 precision_of c t (DotPrecision k) = count_of (behind_first t) k
 
+-- from t to r, where there is a precision
 abbrev pub precision_span : Text → PrecisionText → Text → Option Span
 precision_span t NoPrecision r = None
 precision_span t p r = Some (up_to t r)
@@ -50,6 +51,7 @@ abbrev pub type_span : Text → TypeText → Text → Option Span
 type_span t (WordType w) r = word_span t w r
 type_span t y r = None
 
+-- the fill that stands at t
 abbrev pub fill_span : Text → Option ℕ → Option Span
 fill_span t None = None
 fill_span t (Some c) = Some (over_first t)
@@ -99,6 +101,7 @@ abbrev pub behind_position : ℕ → PositionText → ℕ
 behind_position c NoPosition = suc c
 behind_position c p = c
 
+-- the argument that a cut means
 unfoldable pub argument : ℕ → Cut → Argument Span
 argument c a = record {
   position = position_of (behind_spec c a.spec) a.position;
@@ -106,5 +109,6 @@ argument c a = record {
   format = spec_of c a.spec_at a.spec a.rest;
 }
 
+-- the next number behind it
 unfoldable pub next_number : ℕ → Cut → ℕ
 next_number c a = behind_position (behind_spec c a.spec) a.position

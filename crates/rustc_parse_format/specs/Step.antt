@@ -26,6 +26,7 @@ abbrev pub brace_fill : Option ℕ → Option Span → Option Span
 brace_fill None s = None
 brace_fill (Some c) s = if c == 125 then s else None
 
+-- with the span of a fill that is a closing brace, if there is one
 abbrev pub missing : Option Span → Text → Text → Fault Span
 missing None opening r = MissingBrace (found r) (up_to r r) (over_first opening)
 missing (Some s) opening r = FillBrace (found r) (up_to r r) s
