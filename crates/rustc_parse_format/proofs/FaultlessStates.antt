@@ -1,15 +1,16 @@
 -- A parser has no error exactly where no call had a fault, and so where the text is in the grammar.
-use Rattle.std.proofs.Common.{◌≡◌, suc, ◌+◌, ◌++◌, List, [], ◌∷◌, map, length, length-append, refl, ◌∙◌, ap, arith}
+use Rattle.std.proofs.Common.{◌≡◌, ◌≢◌, suc, ◌+◌, ◌++◌, List, [], ◌∷◌, map, length, length-append, refl, ◌∙◌, ap, arith}
 use Rattle.std.proofs.lemmas.Bool.{cond_both}
 use Rattle.rustc_parse_format.specs.Characters.{Text}
 use Rattle.rustc_parse_format.specs.Marks.{Span}
 use Rattle.rustc_parse_format.specs.Pieces.{Mode, Piece, bare}
-use Rattle.rustc_parse_format.specs.Grammar.{Reads}
+use Rattle.rustc_parse_format.specs.Grammar.{Reads, StopsInside}
 use Rattle.rustc_parse_format.specs.Faults.{Fault, Message, message, is_front, add_errors}
 use Rattle.rustc_parse_format.specs.Step.{Call, pieces_of}
 use Rattle.rustc_parse_format.specs.World.{World, faults_in}
 use Rattle.rustc_parse_format.specs.State.{State, fresh, after, calls, after_all}
 use Rattle.rustc_parse_format.proofs.Progress.{walk-IsWalk}
+use Rattle.rustc_parse_format.proofs.FirstFault.{faulty-stops}
 use Rattle.rustc_parse_format.proofs.Walks.{Faultless, faultless-reads, reads-faultless}
 
 -- Each fault is one error more.
@@ -68,3 +69,9 @@ pub reads_walk : (mode : Mode) (w : World) (t : Text) (ps : List (Piece (Unit {0
 reads_walk mode w t ps r =
     let both = reads-faultless mode 0 t (calls (fresh mode w t)) ps (walk-IsWalk mode 0 t) r in
     (no_errors-after_all (fresh mode w t) (calls (fresh mode w t)) refl both.0, both.1)
+
+-- Where there is an error, its first pieces are the reading of the text up to a character from which on nothing begins it.
+pub errors_stop : (mode : Mode) (w : World) (t : Text) → (after_all (fresh mode w t) (calls (fresh mode w t))).errors ≢ [] →
+    StopsInside mode 0 t (map bare (pieces_of (calls (fresh mode w t))))
+errors_stop mode w t e =
+    faulty-stops mode 0 t (calls (fresh mode w t)) (walk-IsWalk mode 0 t) (λ f. e (no_errors-after_all (fresh mode w t) (calls (fresh mode w t)) refl f))

@@ -6,7 +6,10 @@ pub mod Counting
 pub mod Readings
 pub mod CleanWords
 pub mod CleanCuts
-pub mod Shorter
+pub mod CleanCounts
+pub mod FaultlessCounts
+pub mod Rests
+pub mod Numbers
 pub mod Progress
 pub mod Runs
 pub mod Calls
@@ -15,3 +18,8 @@ pub mod BarePieces
 pub mod FaultlessStates
 pub mod Readers
 pub mod TriedParts
+pub mod Kept
+pub mod KeptParts
+pub mod Locality
+pub mod FirstFault
+pub mod StateWalks

@@ -1,12 +1,13 @@
 -- A call before the end leaves less, and takes no more numbers than characters. There is one walk.
-use Rattle.std.proofs.Common.{◌≡◌, ◌≢◌, ℕ, suc, zero, ◌+◌, ◌≤◌, ◌<◌, ◌==◌, false, List, [], ◌∷◌, length, refl, sym, ◌∙◌, arith, Option, Some, None}
+use Rattle.std.proofs.Common.{◌≡◌, ◌≢◌, ℕ, suc, zero, ◌+◌, ◌≤◌, ◌<◌, ◌==◌, false, List, [], ◌∷◌, length, refl, sym, ◌∙◌, ap, arith, Option, Some, None}
 use Rattle.std.proofs.lemmas.Bool.{cond_both}
 use Rattle.rustc_parse_format.specs.Characters.{Text, is_brace, is_no_brace, behind_white, behind_first, begins_with}
 use Rattle.rustc_parse_format.specs.Marks.{Span}
 use Rattle.rustc_parse_format.specs.Pieces.{Mode, Piece}
 use Rattle.rustc_parse_format.specs.Placeholder.{cut}
 use Rattle.rustc_parse_format.specs.Step.{Call, call, placeholder, literal, walk, walk_for, IsWalk, GoesOn}
-use Rattle.rustc_parse_format.proofs.Shorter.{Shorter, behind-le, behind_first-le, behind_white-le, cut-le, next_number-le}
+use Rattle.rustc_parse_format.proofs.Rests.{IsRest-le, behind_rest, behind_first_rest, behind_white_rest, cut_rest}
+use Rattle.rustc_parse_format.proofs.Numbers.{next_number-le}
 
 abbrev Advances : ℕ → Text → Call → Type 0
 Advances c t k = (length k.rest < length t) × (k.next + length k.rest ≤ c + length t)
@@ -15,17 +16,17 @@ placeholder_advances : (mode : Mode) (c b : ℕ) (t : Text) → Advances c (b �
 unfolding placeholder
 placeholder_advances mode c b t =
     let r = behind_white (cut mode t).rest in
-    let fewer : Shorter (cut mode t).rest r = behind_white-le (cut mode t).rest in
+    let fewer : length r ≤ length (cut mode t).rest = IsRest-le (behind_white_rest (cut mode t).rest) in
     cond_both {A = Call} (begins_with 125 r) _ _ (Advances c (b ∷ t))
-    (λ e. (omega (arith, behind_first-le r, fewer, cut-le mode t), omega (arith, behind_first-le r, fewer, next_number-le mode c t)))
-    (λ e. (omega (arith, fewer, cut-le mode t), omega (arith, fewer, next_number-le mode c t)))
+    (λ e. (omega (arith, IsRest-le (behind_first_rest r), fewer, IsRest-le (cut_rest mode t)), omega (arith, IsRest-le (behind_first_rest r), fewer, next_number-le mode c t)))
+    (λ e. (omega (arith, fewer, IsRest-le (cut_rest mode t)), omega (arith, fewer, next_number-le mode c t)))
 
 literal_advances : (c b : ℕ) (l t : Text) → Advances c (b ∷ t) (literal c l (behind_first t))
 literal_advances c b l t =
-    (omega (arith, behind_first-le t, behind-le is_no_brace (behind_first t)), omega (arith, behind_first-le t, behind-le is_no_brace (behind_first t)))
+    (omega (arith, IsRest-le (behind_first_rest t), IsRest-le (behind_rest is_no_brace (behind_first t))), omega (arith, IsRest-le (behind_first_rest t), IsRest-le (behind_rest is_no_brace (behind_first t))))
 
 run_advances : (c b : ℕ) (t : Text) → is_brace b ≡ false → Advances c (b ∷ t) (literal c [] (b ∷ t))
-run_advances c b t e = rw e (omega (arith, behind-le is_no_brace t), omega (arith, behind-le is_no_brace t))
+run_advances c b t e = rw e (omega (arith, IsRest-le (behind_rest is_no_brace t)), omega (arith, IsRest-le (behind_rest is_no_brace t)))
 
 call_advances : (mode : Mode) (c b : ℕ) (t : Text) → Advances c (b ∷ t) (call mode c (b ∷ t))
 unfolding call
@@ -97,3 +98,21 @@ pub walk-some : (mode : Mode) (c : ℕ) (t : Text) (p : Piece Span) → (call mo
     walk mode c t ≡ call mode c t ∷ walk mode (call mode c t).next (call mode c t).rest
 walk-some mode c t p e =
     IsWalk-unique mode c t _ _ (walk-IsWalk mode c t) (refl, rw e (walk-IsWalk mode (call mode c t).next (call mode c t).rest))
+
+ends_at_once : (mode : Mode) (c : ℕ) (p : Piece Span) → (call mode c []).piece ≡ Some p → ⊥
+unfolding call
+ends_at_once mode c p e = cc e
+
+-- There is at most one call more than characters.
+pub IsWalk-length : (mode : Mode) (c : ℕ) (t : Text) (ks : List Call) → IsWalk mode c t ks → length ks ≤ length t + 1
+IsWalk-length mode c t [] w = absurd w
+IsWalk-length mode c t (k ∷ ks) w = at_piece k.piece refl w.1 (λ v. IsWalk-length mode k.next k.rest ks v)
+  where
+    more : (t : Text) (p : Piece Span) → k ≡ call mode c t → k.piece ≡ Some p → length ks ≤ length k.rest + 1 → length (k ∷ ks) ≤ length t + 1
+    more [] p e g h = absurd (ends_at_once mode c p (sym (ap (λ x. x.piece) e) ∙ g))
+    more (b ∷ t) p e g h = omega (arith, h, ap (λ x. length x.rest) e, (call_advances mode c b t).0)
+
+    at_piece : (o : Option (Piece Span)) → k.piece ≡ o → GoesOn o ks (IsWalk mode k.next k.rest ks) →
+        (IsWalk mode k.next k.rest ks → length ks ≤ length k.rest + 1) → length (k ∷ ks) ≤ length t + 1
+    at_piece None e g f = rw g (omega arith)
+    at_piece (Some p) e g f = more t p w.0 e (f g)

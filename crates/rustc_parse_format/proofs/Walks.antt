@@ -29,7 +29,7 @@ nothing_read : (mode : Mode) (c : ℕ) (ps : List (Piece Span)) → Reads mode c
 unfolding call
 nothing_read mode c ps = refl
 
-ended : (mode : Mode) (c : ℕ) (t : Text) (k : Call) (ks : List Call) → IsWalk mode c t (k ∷ ks) → t ≡ [] → Faultless (k ∷ ks) × (bare_pieces (k ∷ ks) ≡ [])
+pub ended : (mode : Mode) (c : ℕ) (t : Text) (k : Call) (ks : List Call) → IsWalk mode c t (k ∷ ks) → t ≡ [] → Faultless (k ∷ ks) × (bare_pieces (k ∷ ks) ≡ [])
 unfolding call
 ended mode c t k ks w e =
     let last : k ≡ at_end c = rw e at w.0 in

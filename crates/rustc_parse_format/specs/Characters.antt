@@ -22,6 +22,10 @@ is_brace c = (c == 123) || (c == 125)
 abbrev pub is_no_brace : ℕ → Bool
 is_no_brace c = not (is_brace c)
 
+-- `<`, `>` or `^`
+abbrev pub is_align : ℕ → Bool
+is_align c = (c == 60) || (c == 62) || (c == 94)
+
 -- the longest front whose characters all pass
 abbrev pub front : (ℕ → Bool) → Text → Text
 front p [] = []

@@ -2,11 +2,11 @@
 -- style of the literal nor the snippet is mentioned.
 use Rattle.std.specs.Prelude.{◌≡◌, ℕ, suc, zero, ◌++◌, ◌==◌, if◌then◌else◌, List, [], ◌∷◌, length, Option, Some, None}
 use Rattle.rustc_parse_format.specs.Characters.{Text, is_brace, is_no_brace, front, behind, behind_white, first, behind_first, begins_with}
-use Rattle.rustc_parse_format.specs.Pieces.{Mode, Argument, Piece, Lit, NextArgument}
+use Rattle.rustc_parse_format.specs.Pieces.{Mode, Spec, Piece, Lit, NextArgument}
 use Rattle.rustc_parse_format.specs.Marks.{Span, up_to, over_first}
 use Rattle.rustc_parse_format.specs.Placeholder.{Cut, cut}
 use Rattle.rustc_parse_format.specs.Meaning.{argument, next_number}
-use Rattle.rustc_parse_format.specs.Faults.{Fault, UnmatchedBrace, MissingBrace}
+use Rattle.rustc_parse_format.specs.Faults.{Fault, UnmatchedBrace, MissingBrace, FillBrace}
 use Rattle.rustc_parse_format.specs.PartFaults.{cut_faults}
 
 pub record Call : Type 0 where
@@ -16,9 +16,19 @@ pub record Call : Type 0 where
   pub rest : Text
   pub next : ℕ
 
--- r stands where the closing brace of the placeholder at opening should
-abbrev pub missing_brace : Text → Text → Fault Span
-missing_brace opening r = MissingBrace (first r) (up_to r r) (over_first opening)
+-- the span of the fill, where the fill is a closing brace
+abbrev pub brace_fill : Option ℕ → Option Span → Option Span
+brace_fill None s = None
+brace_fill (Some c) s = if c == 125 then s else None
+
+-- with the span of a fill that is a closing brace, if there is one
+abbrev pub missing : Option Span → Text → Text → Fault Span
+missing None opening r = MissingBrace (first r) (up_to r r) (over_first opening)
+missing (Some s) opening r = FillBrace (first r) (up_to r r) s
+
+-- r stands where the closing brace of the placeholder at opening, with the specification f, should
+abbrev pub missing_brace : Text → Spec Span → Text → Fault Span
+missing_brace opening f r = missing (brace_fill f.fill f.fill_span) opening r
 
 -- the characters of l, and the longest run without braces at the front of t
 abbrev pub literal : ℕ → Text → Text → Call
@@ -29,8 +39,11 @@ closed c a r = record { piece = Some (NextArgument (argument c a)); faults = cut
 
 abbrev pub unclosed : ℕ → Text → Cut → Text → Call
 unclosed c opening a r = record {
-  piece = Some (NextArgument (argument c a)); faults = cut_faults a ++ missing_brace opening r ∷ [];
-  rest = r; next = next_number c a }
+  piece = Some (NextArgument (argument c a));
+  faults = cut_faults a ++ missing_brace opening (argument c a).format r ∷ [];
+  rest = r;
+  next = next_number c a;
+}
 
 -- the placeholder at opening, with t behind its brace
 unfoldable pub placeholder : Mode → ℕ → Text → Text → Call
