@@ -32,7 +32,7 @@ colon_number Format c t = omega (arith, format_number c t)
 colon_number InlineAsm c t = omega (arith, IsRest-le (specification_rest InlineAsm (58 ∷ t)))
 colon_number Diagnostic c t = omega (arith, IsRest-le (specification_rest Diagnostic (58 ∷ t)))
 
-specification_number : (mode : Mode) (c : ℕ) (t : Text) → behind_spec c (specification mode t).0 + length (specification mode t).1 ≤ c + length t
+pub specification_number : (mode : Mode) (c : ℕ) (t : Text) → behind_spec c (specification mode t).0 + length (specification mode t).1 ≤ c + length t
 specification_number mode c [] = omega arith
 specification_number mode c (d ∷ t) =
     cond_both {A = SpecText × Text} (d == 58) _ _ (λ s. behind_spec c s.0 + length s.1 ≤ c + length (d ∷ t))

@@ -79,6 +79,10 @@ abbrev pub starts : (ℕ → Bool) → Text → Bool
 starts p [] = false
 starts p (c ∷ t) = p c
 
+-- what is behind a closing brace, if the text begins with one
+abbrev pub behind_brace : Text → Text
+behind_brace t = if begins_with 125 t then behind_first t else t
+
 -- the number that digits write, modulo 65536
 abbrev pub number : Text → ℕ
 number ds = digits_value 10 ds % 65536

@@ -15,6 +15,16 @@ pub data Fault (Span : Type 0) : Type 0 where
   -- the digits of a number above 65535
   TooLarge : Text → Span → Fault Span
 
+-- the span of a fill, where the fill is a closing brace
+abbrev pub brace_fill : {A : Type 0} → Option ℕ → Option A → Option A
+brace_fill None s = None
+brace_fill (Some c) s = if c == 125 then s else None
+
+-- no closing brace, with the span of such a fill, if there is one
+abbrev pub no_brace : {A : Type 0} → Option A → Option ℕ → A → A → Fault A
+no_brace None found s opening = MissingBrace found s opening
+no_brace (Some fill) found s opening = FillBrace found s fill
+
 -- goes to the front of the list of errors, and not to its back
 abbrev pub is_front : {A : Type 0} → Fault A → Bool
 is_front f = false

@@ -6,7 +6,7 @@ use Rattle.rustc_parse_format.specs.Pieces.{Mode, Spec, Piece, Lit, NextArgument
 use Rattle.rustc_parse_format.specs.Marks.{Span, up_to, over_first}
 use Rattle.rustc_parse_format.specs.Placeholder.{Cut, cut}
 use Rattle.rustc_parse_format.specs.Meaning.{argument, next_number}
-use Rattle.rustc_parse_format.specs.Faults.{Fault, UnmatchedBrace, MissingBrace, FillBrace}
+use Rattle.rustc_parse_format.specs.Faults.{Fault, UnmatchedBrace, no_brace, brace_fill}
 use Rattle.rustc_parse_format.specs.PartFaults.{cut_faults}
 
 pub record Call : Type 0 where
@@ -16,19 +16,9 @@ pub record Call : Type 0 where
   pub rest : Text
   pub next : ℕ
 
--- the span of the fill, where the fill is a closing brace
-abbrev pub brace_fill : Option ℕ → Option Span → Option Span
-brace_fill None s = None
-brace_fill (Some c) s = if c == 125 then s else None
-
--- with the span of a fill that is a closing brace, if there is one
-abbrev pub missing : Option Span → Text → Text → Fault Span
-missing None opening r = MissingBrace (first r) (up_to r r) (over_first opening)
-missing (Some s) opening r = FillBrace (first r) (up_to r r) s
-
 -- r stands where the closing brace of the placeholder at opening, with the specification f, should
 abbrev pub missing_brace : Text → Spec Span → Text → Fault Span
-missing_brace opening f r = missing (brace_fill f.fill f.fill_span) opening r
+missing_brace opening f r = no_brace (brace_fill f.fill f.fill_span) (first r) (up_to r r) (over_first opening)
 
 -- the characters of l, and the longest run without braces at the front of t
 abbrev pub literal : ℕ → Text → Text → Call

@@ -109,7 +109,7 @@ impl<'input> Model for Cursor<'input> {
 
 impl<'input> Cursor<'input> {
     ghost use Rattle.std.specs.Prelude.{◌≡◌, ◌≢◌, ◌-◌, ◌+◌, ◌<◌, ◌^◌, [], chars, length};
-    ghost use Rattle.rustc_parse_format.specs.Characters.{first, behind_first, with_first, width, front, behind, word, behind_word, digits, behind_digits, number, is_id_start, is_over, starts};
+    ghost use Rattle.rustc_parse_format.specs.Characters.{first, behind_first, with_first, width, front, behind, behind_white, word, behind_word, digits, behind_digits, number, is_id_start, is_over, starts};
     ghost use Rattle.std.specs.Char.{is_ascii_digit};
     ghost use Rattle.rustc_parse_format.specs.Classes.{passes};
     ghost use Rattle.rustc_parse_format.specs.Marks.{Start, End};
@@ -221,6 +221,14 @@ impl<'input> Cursor<'input> {
             }
             self.advance();
         }
+    }
+
+    /// Moves behind the white space at the front.
+    #[tactic(auto, unfolding(crate::specs::Characters::behind_white))]
+    pub fn skip_white(&mut self)
+        ensures { self.new ≡ record self.old { rest = behind_white self.old.rest } }
+    {
+        self.skip(Class::White);
     }
 
     /// Reads the longest front of the class.

@@ -1,7 +1,7 @@
 //! Faults as they are found, and the errors that they become.
 
 ghost use Rattle.std.specs.Prelude.{◌≡◌, ◌++◌, ◌∷◌, [], IfOk, IsOk, option_map, OnOk, OnErr, bytes_eq, chars, codes, map, string_bytes, if◌then◌else◌};
-ghost use Rattle.rustc_parse_format.specs.Faults.{MissingBrace, TooLarge, Underscore, UnmatchedBrace, add_errors, expected, message, out_of_range};
+ghost use Rattle.rustc_parse_format.specs.Faults.{FillBrace, MissingBrace, TooLarge, Underscore, UnmatchedBrace, add_errors, expected, message, out_of_range};
 ghost use Rattle.rustc_parse_format.specs.Written.{plainly_written, short_escape, written};
 ghost use Rattle.rustc_parse_format.specs.Seen.{pair, seen_error};
 ghost use Rattle.rustc_parse_format.specs.SeenFaults.{seen_fault};
@@ -19,6 +19,8 @@ pub enum Fault<'input> {
     UnmatchedBrace(Range<usize>),
     /// The character found in place of a closing brace, if any, where that is, and the opening brace.
     MissingBrace(Option<char>, Range<usize>, Range<usize>),
+    /// The same where the fill is a closing brace, with the fill in place of the opening brace.
+    FillBrace(Option<char>, Range<usize>, Range<usize>),
     /// The word `_`.
     Underscore(Range<usize>),
     /// The digits of a number above 65535.
@@ -148,6 +150,31 @@ fn missing_brace(
 }
 
 #[tactic(auto, unfolding(crate::specs::Faults::message))]
+fn fill_brace(
+    alloc: Global,
+    found: Option<char>,
+    span: Range<usize>,
+    fill: Range<usize>,
+) -> Result<ParseError, AllocError>
+    ensures { IfOk result (λ e. seen_error e ≡ message (FillBrace found (pair span) (pair fill))) }
+{
+    Ok(ParseError {
+        description: expected_brace(alloc, found)?,
+        note: Some(String::from_str(
+            alloc,
+            "the character `}` is interpreted as a fill character because of the `:` that precedes it",
+        )?),
+        label: String::from_str(alloc, "expected `}`")?,
+        span,
+        secondary_label: Some((
+            String::from_str(alloc, "this is not interpreted as a formatting closing brace")?,
+            fill,
+        )),
+        suggestion: Suggestion::None,
+    })
+}
+
+#[tactic(auto, unfolding(crate::specs::Faults::message))]
 fn underscore(alloc: Global, span: Range<usize>) -> Result<ParseError, AllocError>
     ensures { IfOk result (λ e. seen_error e ≡ message (Underscore (pair span))) }
 {
@@ -192,6 +219,7 @@ fn error_of(alloc: Global, fault: Fault<'_>) -> Result<ParseError, AllocError>
     match fault {
         Fault::UnmatchedBrace(span) => unmatched_brace(alloc, span),
         Fault::MissingBrace(found, span, opening) => missing_brace(alloc, found, span, opening),
+        Fault::FillBrace(found, span, fill) => fill_brace(alloc, found, span, fill),
         Fault::Underscore(span) => underscore(alloc, span),
         Fault::TooLarge(digits, span) => too_large(alloc, digits, span),
     }
