@@ -24,3 +24,6 @@ pub mod Locality
 pub mod FirstFault
 pub mod StateWalks
 pub mod Arguments
+pub mod Placeholders
+pub mod Nexts
+pub mod ReadPieces

@@ -1,7 +1,7 @@
 -- What a caller sees of a parser between two calls.
-use Rattle.std.specs.Prelude.{ℕ, ◌-◌, List, [], ◌∷◌, length, Option, Some, None}
+use Rattle.std.specs.Prelude.{◌≡◌, ℕ, ◌-◌, List, [], ◌∷◌, length, Option, Some, None, option_map}
 use Rattle.rustc_parse_format.specs.Characters.{Text, width}
-use Rattle.rustc_parse_format.specs.Pieces.{Mode}
+use Rattle.rustc_parse_format.specs.Pieces.{Mode, Piece, bare}
 use Rattle.rustc_parse_format.specs.Faults.{Message, add_errors}
 use Rattle.rustc_parse_format.specs.World.{World, Place, place_at, faults_in}
 use Rattle.rustc_parse_format.specs.Step.{Call, call, walk}
@@ -38,6 +38,13 @@ next_call s = call s.mode s.next s.rest
 -- after that call
 abbrev pub after : State → Call → State
 after s k = record s { rest = k.rest; next = k.next; errors = add_errors s.errors (faults_in s.world k.faults) }
+
+-- a call gave the piece q up to the rest r, with the next number n and no fault
+pub record GivesPiece (given : Option (Piece Place)) (q : Piece (Unit {0})) (r : Text) (n : ℕ) (old new : State) : Type 0 where
+  pub piece : option_map bare given ≡ Some q
+  pub rest : new.rest ≡ r
+  pub next : new.next ≡ n
+  pub errors : new.errors ≡ old.errors
 
 -- the calls up to the first that gives no piece
 abbrev pub calls : State → List Call

@@ -16,7 +16,7 @@ ghost use Rattle.rustc_parse_format.specs.World.{faults_in, piece_in, place_of};
 use std::alloc::{AllocError, Global};
 use std::ops::Range;
 
-use crate::chars::Cursor;
+use crate::chars::{Class, Cursor};
 use crate::faults::Fault;
 use crate::format_spec::specification;
 use crate::spec;
@@ -118,4 +118,70 @@ fn close<'input>(
         found.push(fault)?;
     }
     Ok(())
+}
+
+/// Reads the placeholder at the front.
+fn read_placeholder<'input>(
+    alloc: Global,
+    mode: ParseMode,
+    cursor: &mut Cursor<'input>,
+    curarg: &mut usize,
+    found: &mut Vec<Fault<'input>>,
+) -> Result<Piece<'input>, AllocError>
+    requires here { cursor.old.rest ≢ [] }
+    requires numbers { curarg.old + length cursor.old.rest < 2 ^ 64 }
+    ensures piece { IfOk result (λ p. Some (seen p) ≡ option_map (piece_in cursor.old.world)
+        (placeholder (seen_mode mode) curarg.old cursor.old.rest (behind_first cursor.old.rest)).piece) }
+    ensures rest { OnOk result (cursor.new ≡ record cursor.old {
+        rest = (placeholder (seen_mode mode) curarg.old cursor.old.rest (behind_first cursor.old.rest)).rest }) }
+    ensures next { OnOk result (curarg.new
+        ≡ (placeholder (seen_mode mode) curarg.old cursor.old.rest (behind_first cursor.old.rest)).next) }
+    ensures found { OnOk result (map seen_fault found.new.items ≡ map seen_fault found.old.items
+        ++ faults_in cursor.old.world (placeholder (seen_mode mode) curarg.old cursor.old.rest (behind_first cursor.old.rest)).faults) }
+{
+    let opening = cursor.start()..cursor.stop();
+    cursor.advance();
+    let argument = read_argument(mode, cursor, curarg, found)?;
+    cursor.skip_white();
+    let fill = brace_fill(&argument.format);
+    close(cursor, found, fill, opening)?;
+    Ok(Piece::NextArgument(Box::new(alloc, argument)?))
+}
+
+/// Reads the next piece, or None at the end and over a closing brace that closes nothing.
+#[tactic(auto, unfolding(crate::specs::Step::call))]
+pub fn read_piece<'input>(
+    alloc: Global,
+    mode: ParseMode,
+    cursor: &mut Cursor<'input>,
+    curarg: &mut usize,
+    found: &mut Vec<Fault<'input>>,
+) -> Result<Option<Piece<'input>>, AllocError>
+    requires { curarg.old + length cursor.old.rest < 2 ^ 64 }
+    ensures piece { IfOk result (λ p. option_map seen p ≡ option_map (piece_in cursor.old.world)
+        (call (seen_mode mode) curarg.old cursor.old.rest).piece) }
+    ensures rest { OnOk result (cursor.new ≡ record cursor.old { rest = (call (seen_mode mode) curarg.old cursor.old.rest).rest }) }
+    ensures next { OnOk result (curarg.new ≡ (call (seen_mode mode) curarg.old cursor.old.rest).next) }
+    ensures found { OnOk result (map seen_fault found.new.items ≡ map seen_fault found.old.items
+        ++ faults_in cursor.old.world (call (seen_mode mode) curarg.old cursor.old.rest).faults) }
+    ensures spare { TakesNoMemory (call (seen_mode mode) curarg.old cursor.old.rest) → IsOk result }
+{
+    let Some(c) = cursor.peek() else {
+        return Ok(None);
+    };
+    if c != '{' && c != '}' {
+        return Ok(Some(Piece::Lit(cursor.take(Class::Text))));
+    }
+    if cursor.goes_on_with(c) {
+        cursor.advance();
+        return Ok(Some(Piece::Lit(cursor.take_behind_first(Class::Text))));
+    }
+    if c == '{' {
+        let piece = read_placeholder(alloc, mode, cursor, curarg, found)?;
+        return Ok(Some(piece));
+    }
+    let span = cursor.start()..cursor.stop();
+    cursor.advance();
+    found.push(Fault::UnmatchedBrace(span))?;
+    Ok(None)
 }

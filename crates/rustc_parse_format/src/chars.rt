@@ -6,6 +6,7 @@ ghost use Rattle.rustc_parse_format.specs.Characters.{Text, behind_first, first,
 ghost use Rattle.rustc_parse_format.specs.Bytes.{IsLeft};
 
 use std::marker::Model;
+use std::ops::Range;
 
 /// A class of characters whose longest front is read.
 #[derive(Clone, Copy)]
@@ -108,11 +109,13 @@ impl<'input> Model for Cursor<'input> {
 }
 
 impl<'input> Cursor<'input> {
-    ghost use Rattle.std.specs.Prelude.{◌≡◌, ◌≢◌, ◌-◌, ◌+◌, ◌<◌, ◌^◌, [], chars, length};
-    ghost use Rattle.rustc_parse_format.specs.Characters.{first, behind_first, with_first, width, front, behind, behind_white, word, behind_word, digits, behind_digits, number, is_id_start, is_over, starts};
+    ghost use Rattle.std.specs.Prelude.{◌≡◌, ◌-◌, ◌+◌, ◌<◌, ◌^◌, chars, length, option_map};
+    ghost use Rattle.rustc_parse_format.specs.Characters.{begins_with, first, behind_first, with_first, width, front, behind, behind_white, word, behind_word, digits, behind_digits, number, is_id_start, is_over, starts};
     ghost use Rattle.std.specs.Char.{is_ascii_digit};
     ghost use Rattle.rustc_parse_format.specs.Classes.{passes};
     ghost use Rattle.rustc_parse_format.specs.Marks.{Start, End};
+    ghost use Rattle.rustc_parse_format.specs.Seen.{pair};
+    ghost use Rattle.rustc_parse_format.specs.State.{first_of};
     ghost use Rattle.rustc_parse_format.specs.World.{plain_world, number_of};
 
     /// At the start of an input that starts and ends at these bytes of the source.
@@ -195,6 +198,30 @@ impl<'input> Cursor<'input> {
         } else {
             self.offset + (self.input.len() - behind_first(self.rest).len())
         }
+    }
+
+    /// The snippet is the source literal of the input.
+    pub fn is_source_literal(&self) -> bool
+        ensures { result ≡ self.now.world.is_literal }
+    {
+        let _ = &self.input;
+        false
+    }
+
+    /// The place of the next character, its byte position in the input, and itself, or None at the end.
+    pub fn next_place(&self) -> Option<(Range<usize>, usize, char)>
+        ensures { option_map (λ x. (pair x.0, x.1, x.2)) result
+            ≡ first_of self.now.world self.now.input self.now.rest }
+    {
+        let c = self.peek()?;
+        Some((self.start()..self.stop(), self.position(), c))
+    }
+
+    /// The character behind the next one is c.
+    pub fn goes_on_with(&self, c: char) -> bool
+        ensures { result ≡ begins_with c (behind_first self.now.rest) }
+    {
+        self.peek_ahead() == Some(c)
     }
 
     /// The next character is a digit.

@@ -6,10 +6,13 @@ mod chars;
 mod faults;
 mod format_spec;
 mod parser;
+mod reading;
 mod spec;
 mod types;
+mod world;
 
 pub use parser::Parser;
+pub use reading::read_all;
 pub use types::{
     Alignment, Argument, Count, DebugHex, FormatSpec, ParseError, ParseMode, Piece, Position, Sign,
     Suggestion,

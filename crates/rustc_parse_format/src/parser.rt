@@ -4,8 +4,11 @@ use std::alloc::{AllocError, Global};
 use std::marker::Model;
 use std::ops::Range;
 
+use crate::call::read_piece;
 use crate::chars::Cursor;
-use crate::types::{ParseError, ParseMode};
+use crate::faults::add_errors;
+use crate::types::{ParseError, ParseMode, Piece};
+use crate::world::{quote_offset, text_end};
 
 /// A parser over an input.
 #[derive(Drop)]
@@ -31,17 +34,112 @@ impl<'input> Model for Parser<'input> {
 }
 
 impl<'input> Parser<'input> {
-    ghost use Rattle.std.specs.Prelude.{◌≡◌, ◌+◌, ◌<◌, ◌^◌, IfOk, OnErr, OnOk, chars, length, map, option_map, string_bytes};
-    ghost use Rattle.rustc_parse_format.specs.Characters.{behind_first};
+    ghost use Rattle.std.specs.Prelude.{◌≡◌, ◌≢◌, ◌+◌, ◌<◌, ◌≤◌, ◌^◌, [], ℕ, IfOk, IsNone, IsOk, OnErr, OnOk, Some, bytes_eq, chars, length, map, option_map, string_bytes};
+    ghost use Rattle.rustc_parse_format.specs.Characters.{Text, behind_first};
+    ghost use Rattle.rustc_parse_format.specs.Grammar.{Begins};
+    ghost use Rattle.rustc_parse_format.specs.Pieces.{Piece as BarePiece, bare};
     ghost use Rattle.rustc_parse_format.specs.Seen.{pair, seen, seen_error, seen_mode};
-    ghost use Rattle.rustc_parse_format.specs.State.{after, first_of, fresh, next_call};
+    ghost use Rattle.rustc_parse_format.specs.State.{GivesPiece, after, first_of, fresh, next_call};
+    ghost use Rattle.rustc_parse_format.specs.Step.{TakesNoMemory};
     ghost use Rattle.rustc_parse_format.specs.World.{hashes, piece_in, world};
 
-    /// The errors so far.
+    /// A parser at the start of an input, which stands in a literal of this style. The snippet is the source that the
+    /// input is said to come from. Takes no memory and always succeeds.
+    pub fn new(
+        alloc: Global,
+        input: &'input str,
+        style: Option<usize>,
+        snippet: Option<String>,
+        appended_newline: bool,
+        mode: ParseMode,
+    ) -> Result<Parser<'input>, AllocError>
+        requires { hashes style + length input.now + 2 < 2 ^ 64 }
+        ensures ok { IsOk result }
+        ensures start { IfOk result (λ p. p ≡ fresh (seen_mode mode)
+            (world (chars input.now) style (option_map (λ s. chars (string_bytes s)) snippet) appended_newline) (chars input.now)) }
+    {
+        let end = text_end(input, &snippet, appended_newline);
+        Ok(Parser {
+            alloc,
+            mode,
+            cursor: Cursor::new(input, quote_offset(style), end),
+            curarg: 0,
+            errors: Vec::new(alloc),
+        })
+    }
+
+    /// One call.
+    fn step(&mut self) -> Result<Option<Piece<'input>>, AllocError>
+        ensures piece { IfOk result (λ p. option_map seen p ≡ option_map (piece_in self.old.world) (next_call self.old).piece) }
+        ensures state { OnOk result (self.new ≡ after self.old (next_call self.old)) }
+        ensures err { OnErr result (self.new ≡ self.old) }
+        ensures spare { TakesNoMemory (next_call self.old) → IsOk result }
+        ensures progress { OnOk result (self.old.rest ≢ [] → length self.new.rest < length self.old.rest) }
+        ensures numbers { OnOk result (self.new.next + length self.new.rest ≤ self.old.next + length self.old.rest) }
+    {
+        let mut cursor = self.cursor.duplicate();
+        let mut curarg = self.curarg;
+        let mut found = Vec::new(self.alloc);
+        let piece = read_piece(self.alloc, self.mode, &mut cursor, &mut curarg, &mut found)?;
+        add_errors(self.alloc, &mut self.errors, found)?;
+        self.cursor = cursor;
+        self.curarg = curarg;
+        Ok(piece)
+    }
+
+    /// The next piece, or None at the end and over a closing brace that closes nothing, behind which a later call goes
+    /// on: a parser is not fused. An error leaves the parser as it was.
+    pub fn next(&mut self) -> Result<Option<Piece<'input>>, AllocError>
+        // The piece and the new state are the definition's call, put through the parser's world.
+        ensures piece { IfOk result (λ p. option_map seen p ≡ option_map (piece_in self.old.world) (next_call self.old).piece) }
+        ensures state { OnOk result (self.new ≡ after self.old (next_call self.old)) }
+        ensures err { OnErr result (self.new ≡ self.old) }
+        ensures spare { TakesNoMemory (next_call self.old) → IsOk result }
+
+        // A piece that begins the rest is the one that is given, and then nothing is a fault.
+        ensures reads { IfOk result (λ p. (q : BarePiece (Unit {0})) (r : Text) (n : ℕ)
+            → Begins self.old.mode self.old.next self.old.rest q r n → GivesPiece (option_map seen p) q r n self.old self.new) }
+        ensures faulty { OnOk result (self.old.rest ≢ []
+            → ((q : BarePiece (Unit {0})) (r : Text) (n : ℕ) → ¬ (Begins self.old.mode self.old.next self.old.rest q r n))
+            → length self.old.errors < length self.new.errors) }
+        ensures end { IfOk result (λ p. self.old.rest ≡ [] → IsNone p × (self.new ≡ self.old)) }
+
+        // It moves on, and takes no more numbers than characters.
+        ensures progress { OnOk result (self.old.rest ≢ [] → length self.new.rest < length self.old.rest) }
+        ensures numbers { OnOk result (self.new.next + length self.new.rest ≤ self.old.next + length self.old.rest) }
+    {
+        self.step()
+    }
+
+    /// The place of the next character, its byte position in the input, and itself, or None at the end.
+    pub fn peek(&self) -> Option<(Range<usize>, usize, char)>
+        ensures { option_map (λ x. (pair x.0, x.1, x.2)) result ≡ first_of self.now.world self.now.input self.now.rest }
+    {
+        self.cursor.next_place()
+    }
+
+    /// The same of the character behind the next one.
+    pub fn peek_ahead(&self) -> Option<(Range<usize>, usize, char)>
+        ensures { option_map (λ x. (pair x.0, x.1, x.2)) result
+            ≡ first_of self.now.world self.now.input (behind_first self.now.rest) }
+    {
+        let mut ahead = self.cursor.duplicate();
+        ahead.advance();
+        ahead.next_place()
+    }
+
+    /// The errors so far, in their order.
     pub fn errors(&self) -> &[ParseError]
         ensures { map seen_error result.now ≡ self.now.errors }
     {
         self.errors.as_slice()
+    }
+
+    /// The snippet is the source literal of the input.
+    pub fn is_source_literal(&self) -> bool
+        ensures { result ≡ self.now.world.is_literal }
+    {
+        self.cursor.is_source_literal()
     }
 
     /// The number that the next implicit argument takes.

@@ -1,0 +1,52 @@
+-- What a call says of the grammar: the piece that begins the rest, a fault where nothing does, and the end.
+use Rattle.std.proofs.Common.{◌≡◌, ◌≢◌, ◌<◌, ℕ, List, [], ◌∷◌, length, Option, Some, None, IsNone, refl, sym, ap, ◌∙◌}
+use Rattle.std.specs.Prelude.{Result, Ok, Err, IfOk, OnOk, option_map}
+use Rattle.rustc_parse_format.specs.Characters.{Text}
+use Rattle.rustc_parse_format.specs.Grammar.{Begins}
+use Rattle.rustc_parse_format.specs.Pieces.{Mode, Piece, bare}
+use Rattle.rustc_parse_format.specs.Faults.{Message}
+use Rattle.rustc_parse_format.specs.Step.{call}
+use Rattle.rustc_parse_format.specs.State.{State, GivesPiece, after, next_call}
+use Rattle.rustc_parse_format.specs.World.{World, Place, piece_in}
+use Rattle.rustc_parse_format.proofs.BarePieces.{bare-piece_in}
+use Rattle.rustc_parse_format.proofs.Calls.{begins_call, call_faults}
+use Rattle.rustc_parse_format.proofs.StateWalks.{after-same, after-more}
+
+-- what holds of a result where two facts do
+pub if_ok : {A E : Type 0} {P Q : A → Type 0} {X : Type 0} (r : Result A E) → IfOk r P → OnOk r X → ((a : A) → P a → X → Q a) → IfOk r Q
+if_ok (Ok a) p x f = f a p x
+if_ok (Err e) p x f = tt
+
+pub on_ok : {A E X Y : Type 0} (r : Result A E) → OnOk r X → (X → Y) → OnOk r Y
+on_ok (Ok a) x f = f x
+on_ok (Err e) x f = tt
+
+pub next_reads : (s new : State) (o : Option (Piece Place)) (q : Piece (Unit {0})) (r : Text) (n : ℕ) → o ≡ option_map (piece_in s.world) (next_call s).piece →
+    new ≡ after s (next_call s) → Begins s.mode s.next s.rest q r n → GivesPiece o q r n s new
+next_reads s new o q r n e f b =
+    let g = begins_call s.mode s.next s.rest q r n b in
+    record {
+      piece = ap (option_map bare) (e ∙ ap (option_map (piece_in s.world)) g.given) ∙ ap Some (bare-piece_in s.world g.piece ∙ g.same);
+      rest = ap (λ (x : State). x.rest) f ∙ g.rest;
+      next = ap (λ (x : State). x.next) f ∙ g.next;
+      errors = ap (λ (x : State). x.errors) f ∙ after-same s (next_call s) g.faultless }
+
+pub next_faulty : (s new : State) → new ≡ after s (next_call s) → s.rest ≢ [] →
+    ((q : Piece (Unit {0})) (r : Text) (n : ℕ) → ¬ (Begins s.mode s.next s.rest q r n)) → length s.errors < length new.errors
+next_faulty s new f some none = rw f (after-more s (next_call s) (call_faults s.mode s.next s.rest some none))
+
+at_end_same : (mode : Mode) (w : World) (input t : Text) (n : ℕ) (es : List (Message Place)) → t ≡ [] →
+    let s : State = record { mode = mode; world = w; input = input; rest = t; next = n; errors = es } in
+    ((next_call s).piece ≡ None) × (after s (next_call s) ≡ s)
+unfolding call
+at_end_same mode w input t n es e = rw e (refl, refl)
+
+none_given : {A B : Type 0} (f : A → B) (o : Option A) → option_map f o ≡ None → IsNone o
+none_given f None e = refl
+none_given f (Some a) e = cc e
+
+pub next_ends : {A : Type 0} (f : A → Piece Place) (s new : State) (o : Option A) → option_map f o ≡ option_map (piece_in s.world) (next_call s).piece →
+    new ≡ after s (next_call s) → s.rest ≡ [] → IsNone o × (new ≡ s)
+next_ends f s new o e h end =
+    let both = at_end_same s.mode s.world s.input s.rest s.next s.errors end in
+    (none_given f o (e ∙ ap (option_map (piece_in s.world)) both.0), h ∙ both.1)

@@ -1,0 +1,90 @@
+-- A placeholder, part by part.
+use Rattle.std.proofs.Common.{◌≡◌, ◌++◌, ◌==◌, ℕ, Bool, true, false, cond, List, [], ◌∷◌, Option, Some, None, map, refl, sym, ap, ◌∙◌, append_assoc}
+use Rattle.std.specs.Prelude.{if◌then◌else◌, option_map}
+use Rattle.std.proofs.lemmas.Bool.{cond_both}
+use Rattle.std.proofs.lemmas.List.{append-nil, map-append}
+use Rattle.rustc_parse_format.specs.Characters.{Text, behind_white, behind_brace, behind_first, begins_with, first}
+use Rattle.rustc_parse_format.specs.Marks.{Span, up_to, over_first}
+use Rattle.rustc_parse_format.specs.Pieces.{Mode, Spec, Piece, NextArgument, map_spec}
+use Rattle.rustc_parse_format.specs.Placeholder.{cut}
+use Rattle.rustc_parse_format.specs.Meaning.{argument, next_number}
+use Rattle.rustc_parse_format.specs.Faults.{Fault, map_fault, brace_fill, no_brace}
+use Rattle.rustc_parse_format.specs.PartFaults.{cut_faults}
+use Rattle.rustc_parse_format.specs.Step.{Call, IsText, TakesNoMemory, call, placeholder, missing_brace}
+use Rattle.rustc_parse_format.specs.World.{World, Place, place_of, faults_in}
+
+-- what stands where the closing brace should
+abbrev pub ending : Mode → Text → Text
+ending mode t = behind_white (cut mode t).rest
+
+pub placeholder-piece : (mode : Mode) (c : ℕ) (o t : Text) → (placeholder mode c o t).piece ≡ Some (NextArgument (argument c (cut mode t)))
+unfolding placeholder
+placeholder-piece mode c o t = cond_both {A = Call} (begins_with 125 (ending mode t)) _ _ (λ k. k.piece ≡ Some (NextArgument (argument c (cut mode t)))) (λ e. refl) (λ e. refl)
+
+pub placeholder-next : (mode : Mode) (c : ℕ) (o t : Text) → (placeholder mode c o t).next ≡ next_number c (cut mode t)
+unfolding placeholder
+placeholder-next mode c o t = cond_both {A = Call} (begins_with 125 (ending mode t)) _ _ (λ k. k.next ≡ next_number c (cut mode t)) (λ e. refl) (λ e. refl)
+
+same_rest : (b : Bool) (x y : Call) → (cond b x y).rest ≡ cond b x.rest y.rest
+same_rest true x y = refl
+same_rest false x y = refl
+
+pub placeholder-rest : (mode : Mode) (c : ℕ) (o t : Text) → (placeholder mode c o t).rest ≡ behind_brace (ending mode t)
+unfolding placeholder
+placeholder-rest mode c o t = same_rest (begins_with 125 (ending mode t)) _ _
+
+same_faults : (b : Bool) (x y : Call) (fs : List (Fault Span)) (f : Fault Span) → x.faults ≡ fs → y.faults ≡ fs ++ f ∷ [] → (cond b x y).faults ≡ fs ++ (if b then [] else f ∷ [])
+same_faults true x y fs f e h = e ∙ sym (append-nil fs)
+same_faults false x y fs f e h = h
+
+pub placeholder-faults : (mode : Mode) (c : ℕ) (o t : Text) → (placeholder mode c o t).faults
+    ≡ cut_faults (cut mode t) ++ (if begins_with 125 (ending mode t) then [] else missing_brace o (argument c (cut mode t)).format (ending mode t) ∷ [])
+unfolding placeholder
+placeholder-faults mode c o t = same_faults (begins_with 125 (ending mode t)) _ _ (cut_faults (cut mode t)) _ refl refl
+
+map-if : {A B : Type 0} (g : A → B) (b : Bool) (s : Option A) → option_map g (if b then s else None) ≡ (if b then option_map g s else None)
+map-if g true s = refl
+map-if g false s = refl
+
+brace_fill-map : {A B : Type 0} (g : A → B) (c : Option ℕ) (s : Option A) → option_map g (brace_fill c s) ≡ brace_fill c (option_map g s)
+brace_fill-map g None s = refl
+brace_fill-map g (Some c) s = map-if g (c == 125) s
+
+no_brace-map : {A B : Type 0} (g : A → B) (s : Option A) (found : Option ℕ) (a o : A) → map_fault g (no_brace s found a o) ≡ no_brace (option_map g s) found (g a) (g o)
+no_brace-map g None found a o = refl
+no_brace-map g (Some s) found a o = refl
+
+-- the missing brace put through a world
+pub missing_brace_in : (w : World) (o : Text) (f : Spec Span) (r : Text) (seen : Spec Place) → seen ≡ map_spec (place_of w) f →
+    map_fault (place_of w) (missing_brace o f r) ≡ no_brace (brace_fill seen.fill seen.fill_span) (first r) (place_of w (up_to r r)) (place_of w (over_first o))
+missing_brace_in w o f r seen e =
+    rw e (no_brace-map (place_of w) (brace_fill f.fill f.fill_span) (first r) (up_to r r) (over_first o) ∙
+        ap (λ s. no_brace s (first r) (place_of w (up_to r r)) (place_of w (over_first o))) (brace_fill-map (place_of w) f.fill f.fill_span))
+
+map-else : {A B : Type 0} (g : A → B) (b : Bool) (x : A) → map g (if b then [] else x ∷ []) ≡ (if b then [] else g x ∷ [])
+map-else g true x = refl
+map-else g false x = refl
+
+-- all faults of a placeholder put through a world
+pub placeholder_faults_in : (w : World) (mode : Mode) (c : ℕ) (o t : Text) (old middle new : List (Fault Place)) (f : Fault Place) →
+    middle ≡ old ++ faults_in w (cut_faults (cut mode t)) →
+    f ≡ map_fault (place_of w) (missing_brace o (argument c (cut mode t)).format (ending mode t)) →
+    new ≡ middle ++ (if begins_with 125 (ending mode t) then [] else f ∷ []) →
+    new ≡ old ++ faults_in w (placeholder mode c o t).faults
+placeholder_faults_in w mode c o t old middle new f a b d =
+    let m = missing_brace o (argument c (cut mode t)).format (ending mode t) in
+    let cs = cut_faults (cut mode t) in
+    rw (d, a, b, placeholder-faults mode c o t)
+    (append_assoc old (faults_in w cs) _ ∙ ap (λ fs. old ++ fs) (sym (map-append (map_fault (place_of w)) cs _ ∙ ap (λ fs. faults_in w cs ++ fs) (map-else (map_fault (place_of w)) (begins_with 125 (ending mode t)) m))))
+
+placeholder_boxed : (mode : Mode) (c : ℕ) (o t : Text) → IsText (placeholder mode c o t).piece → ⊥
+placeholder_boxed mode c o t k = rw (placeholder-piece mode c o t) at k
+
+opened : (mode : Mode) (c b : ℕ) (t : Text) → b ≡ 123 → begins_with 123 t ≡ false → IsText (call mode c (b ∷ t)).piece → ⊥
+unfolding call
+opened mode c b t e h k = placeholder_boxed mode c (123 ∷ t) t (rw (e, h) at k)
+
+-- a call at an opening brace that is not doubled takes memory
+pub placeholder_takes : (mode : Mode) (c : ℕ) (t : Text) → first t ≡ Some 123 → begins_with 123 (behind_first t) ≡ false → TakesNoMemory (call mode c t) → ⊥
+placeholder_takes mode c [] e h k = cc e
+placeholder_takes mode c (b ∷ t) e h k = opened mode c b t (cc) h k.0

@@ -1,0 +1,70 @@
+-- The loop over the calls, and what its pieces and errors say of the grammar.
+use Rattle.std.proofs.Common.{◌≡◌, ◌≢◌, ◌++◌, ℕ, List, [], ◌∷◌, map, Option, Some, None, refl, sym, ap, ◌∙◌, append_assoc}
+use Rattle.std.specs.Prelude.{option_map}
+use Rattle.std.proofs.lemmas.List.{append-nil}
+use Rattle.rustc_parse_format.specs.Characters.{Text}
+use Rattle.rustc_parse_format.specs.Grammar.{IsInGrammar, Reads, StopsInside}
+use Rattle.rustc_parse_format.specs.Marks.{Span}
+use Rattle.rustc_parse_format.specs.Pieces.{Mode, Piece, bare}
+use Rattle.rustc_parse_format.specs.Step.{pieces_of}
+use Rattle.rustc_parse_format.specs.State.{State, fresh, after, after_all, calls, next_call}
+use Rattle.rustc_parse_format.specs.World.{World, Place, piece_in, pieces_in}
+use Rattle.rustc_parse_format.proofs.BarePieces.{bare-pieces_in}
+use Rattle.rustc_parse_format.proofs.FaultlessStates.{walk_reads, reads_walk, errors_stop}
+use Rattle.rustc_parse_format.proofs.StateWalks.{after_all-none, after_all-some, pieces_of-none, pieces_of-some}
+
+-- the piece that was given
+record Given (w : World) (o : Option (Piece Span)) (x : Piece Place) : Type 0 where
+  piece : Piece Span
+  is_some : o ≡ Some piece
+  same : x ≡ piece_in w piece
+
+given : (w : World) (o : Option (Piece Span)) (x : Piece Place) → Some x ≡ option_map (piece_in w) o → Given w o x
+given w None x e = cc e
+given w (Some p) x e = record { piece = p; is_some = refl; same = cc }
+
+pub none_given : (w : World) (o : Option (Piece Span)) → None ≡ option_map (piece_in w) o → o ≡ None
+none_given w None e = refl
+none_given w (Some p) e = cc e
+
+pub pieces_more : (s new : State) (w : World) (x : Piece Place) (done all : List (Piece Place)) → s.world ≡ w →
+    Some x ≡ option_map (piece_in s.world) (next_call s).piece → new ≡ after s (next_call s) →
+    done ++ pieces_in w (pieces_of (calls s)) ≡ all → (done ++ x ∷ []) ++ pieces_in w (pieces_of (calls new)) ≡ all
+pieces_more s new w x done all h e f d =
+    let g = given s.world (next_call s).piece x e in
+    let this : x ≡ piece_in w g.piece = g.same ∙ ap (λ v. piece_in v g.piece) h in
+    rw (append_assoc done (x ∷ []) (pieces_in w (pieces_of (calls new))), f, this)
+    (ap (λ ps. done ++ pieces_in w ps) (sym (pieces_of-some s g.piece g.is_some)) ∙ d)
+
+pub state_more : (s new : State) (x : Piece Place) → Some x ≡ option_map (piece_in s.world) (next_call s).piece → new ≡ after s (next_call s) →
+    after_all new (calls new) ≡ after_all s (calls s)
+state_more s new x e f =
+    let g = given s.world (next_call s).piece x e in
+    rw f (sym (after_all-some s g.piece g.is_some))
+
+pub pieces_end : (s : State) (w : World) (done all : List (Piece Place)) → None ≡ option_map (piece_in s.world) (next_call s).piece →
+    done ++ pieces_in w (pieces_of (calls s)) ≡ all → done ≡ all
+pieces_end s w done all e d = sym (append-nil done) ∙ (ap (λ ps. done ++ pieces_in w ps) (sym (pieces_of-none s (none_given s.world (next_call s).piece e))) ∙ d)
+
+pub state_end : (s new last : State) → None ≡ option_map (piece_in s.world) (next_call s).piece → new ≡ after s (next_call s) →
+    after_all s (calls s) ≡ last → new ≡ last
+state_end s new last e f d = f ∙ (sym (after_all-none s (none_given s.world (next_call s).piece e)) ∙ d)
+
+-- A fresh parser p, and the parser new behind its last call.
+pub clean_in : (mode : Mode) (w : World) (t : Text) (p new : State) → p ≡ fresh mode w t → new ≡ after_all p (calls p) → new.errors ≡ [] → IsInGrammar mode t
+clean_in mode w t p new e f h = (_, walk_reads mode w t (sym (ap (λ (s : State). s.errors) (rw e at f)) ∙ h))
+
+pub in_clean : (mode : Mode) (w : World) (t : Text) (p new : State) → p ≡ fresh mode w t → new ≡ after_all p (calls p) → IsInGrammar mode t → new.errors ≡ []
+in_clean mode w t p new e f r = ap (λ (s : State). s.errors) (rw e at f) ∙ (reads_walk mode w t r.0 r.1).0
+
+pub reading_of : (mode : Mode) (w : World) (t : Text) (p new : State) (ps : List (Piece Place)) → p ≡ fresh mode w t → new ≡ after_all p (calls p) →
+    ps ≡ pieces_in p.world (pieces_of (calls p)) → new.errors ≡ [] → Reads mode 0 t (map bare ps)
+reading_of mode w t p new ps e f g h =
+    let r = walk_reads mode w t (sym (ap (λ (s : State). s.errors) (rw e at f)) ∙ h) in
+    rw (g, bare-pieces_in p.world (pieces_of (calls p)), e) r
+
+pub stops_of : (mode : Mode) (w : World) (t : Text) (p new : State) (ps : List (Piece Place)) → p ≡ fresh mode w t → new ≡ after_all p (calls p) →
+    ps ≡ pieces_in p.world (pieces_of (calls p)) → new.errors ≢ [] → StopsInside mode 0 t (map bare ps)
+stops_of mode w t p new ps e f g h =
+    let r = errors_stop mode w t (λ k. h (ap (λ (s : State). s.errors) (rw e at f) ∙ k)) in
+    rw (g, bare-pieces_in p.world (pieces_of (calls p)), e) r

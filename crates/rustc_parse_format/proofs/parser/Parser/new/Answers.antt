@@ -1,0 +1,14 @@
+use Rattle.std.proofs.Common.{◌≡◌, ◌≤◌, ◌∙◌, ap, sym, length, chars, arith, refl}
+use Rattle.std.proofs.lemmas.Str.{length-le-encodes, encodes-chars}
+use Rattle.rustc_parse_format.specs.State.{Unread}
+use Rattle.rustc_parse_format.specs.World.{world}
+use Rattle.rustc_parse_format.proofs.parser.Parser.new.Goals as goal
+
+pub invariant_of-result : goal.invariant_of-result
+invariant_of-result c =
+    let e : length (chars c.args.input.now) ≤ length c.args.input.now = rw (encodes-chars c.args.input.now c.utf8.input) at (length-le-encodes (chars c.args.input.now)) in
+    rw (ap (λ (u : Unread). length u.rest) c.new.ensures) (omega arith)
+
+pub returns-clause-start : goal.returns-clause-start
+unfolding world
+returns-clause-start c = rw (c.new.ensures, c.quote_offset.ensures, c.text_end-end.ensures, c.new-2.ensures.items) refl

@@ -1,0 +1,32 @@
+use Rattle.std.proofs.Common.{◌≡◌, ◌∙◌, chars, string_bytes, String, Global}
+use Rattle.std.specs.Prelude.{option_map}
+use Rattle.rustc_parse_format.specs.Seen.{seen_mode}
+use Rattle.rustc_parse_format.specs.State.{State, fresh}
+use Rattle.rustc_parse_format.specs.World.{world}
+use Rattle.rustc_parse_format.proofs.Readings.{Reads-unique}
+use Rattle.rustc_parse_format.proofs.ReadPieces.{clean_in, in_clean, reading_of, stops_of}
+use Rattle.rustc_parse_format.proofs.reading.read_all.Goals as goal
+
+pub returns-in_err-pieces-clause-one_reading : goal.returns-in_err-pieces-clause-one_reading
+returns-in_err-pieces-clause-one_reading c = Reads-unique
+
+pub returns-clause-one_reading : goal.returns-clause-one_reading
+returns-clause-one_reading c = Reads-unique
+
+pub returns-clause-clean : goal.returns-clause-clean
+returns-clause-clean c =
+    let s = fresh (seen_mode c.args.mode) (world (chars c.args.input.now) c.args.style (option_map (λ (t : String Global). chars (string_bytes t)) c.args.snippet) c.args.appended_newline) (chars c.args.input.now) in
+    let e : ◌≡◌ {A = State} c.in_ok-parser.parser s = c.in_ok-parser.ensures.start in
+    (clean_in (seen_mode c.args.mode) s.world (chars c.args.input.now) _ _ e c.in_ok-pieces.ensures.state, in_clean (seen_mode c.args.mode) s.world (chars c.args.input.now) _ _ e c.in_ok-pieces.ensures.state)
+
+pub returns-clause-reading : goal.returns-clause-reading
+returns-clause-reading c =
+    let s = fresh (seen_mode c.args.mode) (world (chars c.args.input.now) c.args.style (option_map (λ (t : String Global). chars (string_bytes t)) c.args.snippet) c.args.appended_newline) (chars c.args.input.now) in
+    let e : ◌≡◌ {A = State} c.in_ok-parser.parser s = c.in_ok-parser.ensures.start in
+    reading_of (seen_mode c.args.mode) s.world (chars c.args.input.now) _ _ _ e c.in_ok-pieces.ensures.state c.in_ok-pieces.ensures.pieces
+
+pub returns-clause-first_fault : goal.returns-clause-first_fault
+returns-clause-first_fault c =
+    let s = fresh (seen_mode c.args.mode) (world (chars c.args.input.now) c.args.style (option_map (λ (t : String Global). chars (string_bytes t)) c.args.snippet) c.args.appended_newline) (chars c.args.input.now) in
+    let e : ◌≡◌ {A = State} c.in_ok-parser.parser s = c.in_ok-parser.ensures.start in
+    stops_of (seen_mode c.args.mode) s.world (chars c.args.input.now) _ _ _ e c.in_ok-pieces.ensures.state c.in_ok-pieces.ensures.pieces

@@ -1,0 +1,62 @@
+//! A whole input at once.
+
+ghost use Rattle.std.specs.Prelude.{◌≡◌, ◌≢◌, ◌+◌, ◌<◌, ◌^◌, ◌↔◌, ℕ, [], List, IfOk, chars, length, map, option_map, string_bytes};
+ghost use Rattle.rustc_parse_format.specs.Characters.{Text};
+ghost use Rattle.rustc_parse_format.specs.Grammar.{IsInGrammar, Reads, StopsInside};
+ghost use Rattle.rustc_parse_format.specs.Pieces.{Mode, Piece as BarePiece, bare};
+ghost use Rattle.rustc_parse_format.specs.Seen.{seen, seen_mode};
+ghost use Rattle.rustc_parse_format.specs.State.{after_all, calls, fresh};
+ghost use Rattle.rustc_parse_format.specs.Step.{pieces_of};
+ghost use Rattle.rustc_parse_format.specs.World.{hashes, pieces_in, world};
+
+use std::alloc::{AllocError, Global};
+
+use crate::parser::Parser;
+use crate::types::{ParseMode, Piece};
+
+/// The pieces of a parser up to the first call that gives none.
+fn read_pieces<'input>(
+    alloc: Global,
+    parser: &mut Parser<'input>,
+) -> Result<Vec<Piece<'input>>, AllocError>
+    ensures pieces { IfOk result (λ ps. map seen ps.items ≡ pieces_in parser.old.world (pieces_of (calls parser.old))) }
+    ensures state { IfOk result (λ ps. parser.new ≡ after_all parser.old (calls parser.old)) }
+{
+    let mut pieces = Vec::new(alloc);
+    while let Some(piece) = parser.next()? {
+        pieces.push(piece)?;
+    }
+    Ok(pieces)
+}
+
+/// The pieces of an input, up to the first call that gives none, and the parser behind them. The arguments are those of
+/// [`Parser::new`]. Out of memory, nothing stands.
+pub fn read_all<'input>(
+    alloc: Global,
+    input: &'input str,
+    style: Option<usize>,
+    snippet: Option<String>,
+    appended_newline: bool,
+    mode: ParseMode,
+) -> Result<(Vec<Piece<'input>>, Parser<'input>), AllocError>
+    requires { hashes style + length input.now + 2 < 2 ^ 64 }
+
+    // It is the walk of a fresh parser, put through its world.
+    ensures walk { IfOk result (λ x.
+        let s = fresh (seen_mode mode) (world (chars input.now) style (option_map (λ t. chars (string_bytes t)) snippet) appended_newline) (chars input.now) in
+        (map seen x.0.items ≡ pieces_in s.world (pieces_of (calls s))) × (x.1 ≡ after_all s (calls s))) }
+
+    // No error is left exactly where the input is in the grammar, and then the pieces are its one reading.
+    ensures clean { IfOk result (λ x. (x.1.errors ≡ []) ↔ IsInGrammar (seen_mode mode) (chars input.now)) }
+    ensures reading { IfOk result (λ x. x.1.errors ≡ [] → Reads (seen_mode mode) 0 (chars input.now) (map bare (map seen x.0.items))) }
+    ensures one_reading { (m : Mode) (c : ℕ) (t : Text) (ps qs : List (BarePiece (Unit {0})))
+        → Reads m c t ps → Reads m c t qs → ps ≡ qs }
+
+    // With an error, the first pieces read the input up to a character from which on nothing begins it.
+    ensures first_fault { IfOk result (λ x. x.1.errors ≢ []
+        → StopsInside (seen_mode mode) 0 (chars input.now) (map bare (map seen x.0.items))) }
+{
+    let mut parser = Parser::new(alloc, input, style, snippet, appended_newline, mode)?;
+    let pieces = read_pieces(alloc, &mut parser)?;
+    Ok((pieces, parser))
+}

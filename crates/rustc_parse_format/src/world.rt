@@ -1,0 +1,27 @@
+//! Where the input stands in the source.
+
+ghost use Rattle.std.specs.Prelude.{◌≡◌, ◌+◌, ◌<◌, ◌^◌, chars, option_map, string_bytes};
+ghost use Rattle.rustc_parse_format.specs.World.{hashes, quote_offset, text_end};
+
+/// What stands in front of the text, in bytes: a quote, or `r`, the hashes and a quote.
+pub fn quote_offset(style: Option<usize>) -> usize
+    requires { hashes style + 2 < 2 ^ 64 }
+    ensures { result ≡ quote_offset style }
+{
+    match style {
+        None => 1,
+        Some(hashes) => hashes + 2,
+    }
+}
+
+/// Where the text ends: with the snippet, or else with the input, without its appended newline.
+pub fn text_end(input: &str, snippet: &Option<String>, appended_newline: bool) -> usize
+    ensures { result
+        ≡ text_end (chars input.now) (option_map (λ s. chars (string_bytes s)) snippet.now) appended_newline }
+{
+    match snippet {
+        Some(text) => text.as_str().len(),
+        None if appended_newline => input.len().saturating_sub(1),
+        None => input.len(),
+    }
+}
