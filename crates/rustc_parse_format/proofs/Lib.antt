@@ -23,3 +23,4 @@ pub mod KeptParts
 pub mod Locality
 pub mod FirstFault
 pub mod StateWalks
+pub mod SpecParts

@@ -4,6 +4,7 @@
 mod call;
 mod chars;
 mod faults;
+mod format_spec;
 mod parser;
 mod spec;
 mod types;
