@@ -24,3 +24,4 @@ pub mod Locality
 pub mod FirstFault
 pub mod StateWalks
 pub mod SpecParts
+pub mod FormatParts

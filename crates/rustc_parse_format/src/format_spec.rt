@@ -9,7 +9,7 @@ ghost use Rattle.rustc_parse_format.specs.PartFaults.{count_faults, format_fault
 ghost use Rattle.rustc_parse_format.specs.Pieces.{default_spec, map_count, map_spec};
 ghost use Rattle.rustc_parse_format.specs.Seen.{pair, seen_alignment, seen_count, seen_debug_hex, seen_mode, seen_sign, seen_spec};
 ghost use Rattle.rustc_parse_format.specs.SeenFaults.{seen_fault};
-ghost use Rattle.rustc_parse_format.specs.Specification.{align, fill, format_parts, sign, specification, type};
+ghost use Rattle.rustc_parse_format.specs.Specification.{align, alternate, fill, format_parts, sign, specification, type};
 ghost use Rattle.rustc_parse_format.specs.World.{Place, faults_in, place_of};
 
 use std::alloc::AllocError;
@@ -85,6 +85,14 @@ fn sign(cursor: &mut Cursor<'_>) -> Option<Sign>
     };
     cursor.advance();
     Some(sign)
+}
+
+/// Reads the flag `#` at the front.
+fn alternate(cursor: &mut Cursor<'_>) -> bool
+    ensures value { result ≡ (alternate cursor.old.rest).0 }
+    ensures rest { cursor.new ≡ record cursor.old { rest = (alternate cursor.old.rest).1 } }
+{
+    spec::take_char(cursor, '#')
 }
 
 /// Reads the count at the front, and where it stands.
@@ -315,7 +323,7 @@ fn format_parts<'input>(
     let (fill, fill_span) = fill(cursor);
     let align = alignment(cursor);
     let sign = sign(cursor);
-    let alternate = spec::take_char(cursor, '#');
+    let alternate = alternate(cursor);
     let width = width(cursor, found)?;
     let (precision, precision_span) = precision(cursor, curarg, found)?;
     let type_part = type_part(cursor, found)?;
