@@ -27,3 +27,5 @@ pub mod Arguments
 pub mod Placeholders
 pub mod Nexts
 pub mod ReadPieces
+pub mod SpecParts
+pub mod FormatParts

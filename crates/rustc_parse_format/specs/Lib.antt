@@ -15,4 +15,5 @@ pub mod State
 pub mod Bytes
 pub mod Classes
 pub mod SeenFaults
+pub mod Identifiers
 pub mod Seen

@@ -1,22 +1,27 @@
-//! stub
+//! What a colon brings: a format specification, the modifier of inline assembly, or the text of a diagnostic.
 
-ghost use Rattle.std.specs.Prelude.{◌≡◌, ◌++◌, ◌+◌, ◌<◌, ◌^◌, IfOk, OnOk, length, map};
-ghost use Rattle.rustc_parse_format.specs.Meaning.{behind_spec, spec_of};
-ghost use Rattle.rustc_parse_format.specs.PartFaults.{spec_faults};
-ghost use Rattle.rustc_parse_format.specs.Pieces.{default_spec, map_spec};
-ghost use Rattle.rustc_parse_format.specs.Seen.{seen_mode, seen_spec};
+ghost use Rattle.std.specs.Prelude.{◌≡◌, ◌++◌, ◌+◌, ◌<◌, ◌^◌, None, Some, IfOk, OnOk, chars, codes, if◌then◌else◌, length, map, option_map};
+ghost use Rattle.rustc_parse_format.specs.Characters.{begins_with, behind, behind_first, behind_word, front, is_no_brace, word};
+ghost use Rattle.rustc_parse_format.specs.Counts.{count, count_at, precision, width};
+ghost use Rattle.rustc_parse_format.specs.Marks.{up_to};
+ghost use Rattle.rustc_parse_format.specs.Meaning.{behind_precision, behind_spec, count_of, count_span, debug_hex_of, fill_span, format_of, precision_of, precision_span, spec_of, type_of, type_span, word_span};
+ghost use Rattle.rustc_parse_format.specs.PartFaults.{count_faults, format_faults, precision_faults, spec_faults, type_faults, width_count_faults, width_faults, word_faults};
+ghost use Rattle.rustc_parse_format.specs.Pieces.{default_spec, map_count, map_spec};
+ghost use Rattle.rustc_parse_format.specs.Seen.{pair, seen_alignment, seen_count, seen_debug_hex, seen_mode, seen_sign, seen_spec};
 ghost use Rattle.rustc_parse_format.specs.SeenFaults.{seen_fault};
-ghost use Rattle.rustc_parse_format.specs.Specification.{specification};
-ghost use Rattle.rustc_parse_format.specs.World.{faults_in, place_of};
+ghost use Rattle.rustc_parse_format.specs.Specification.{align, alternate, fill, format_parts, sign, specification, type};
+ghost use Rattle.rustc_parse_format.specs.World.{Place, faults_in, place_of};
 
 use std::alloc::AllocError;
+use std::ops::Range;
 
-use crate::chars::Cursor;
+use crate::chars::{Class, Cursor, first};
 use crate::faults::Fault;
-use crate::types::{Alignment, Count, FormatSpec, ParseMode};
+use crate::spec;
+use crate::types::{Alignment, Count, DebugHex, FormatSpec, ParseMode, Sign};
 
 /// A specification where nothing is asked for.
-fn default_spec<'input>() -> FormatSpec<'input>
+pub fn default_spec<'input>() -> FormatSpec<'input>
     ensures { seen_spec result ≡ default_spec }
 {
     FormatSpec {
@@ -36,7 +41,347 @@ fn default_spec<'input>() -> FormatSpec<'input>
     }
 }
 
+/// Reads the fill at the front: a character with an alignment behind it.
+fn fill(cursor: &mut Cursor<'_>) -> (Option<char>, Option<Range<usize>>)
+    ensures value { result.0 ≡ (fill cursor.old.rest).0 }
+    ensures span { option_map pair result.1
+        ≡ option_map (place_of cursor.old.world) (fill_span cursor.old.rest (fill cursor.old.rest).0) }
+    ensures rest { cursor.new ≡ record cursor.old { rest = (fill cursor.old.rest).1 } }
+{
+    match (cursor.peek(), cursor.peek_ahead()) {
+        (Some(c), Some('<' | '>' | '^')) => {
+            let span = cursor.start()..cursor.stop();
+            cursor.advance();
+            (Some(c), Some(span))
+        }
+        _ => (None, None),
+    }
+}
 
+/// Reads the alignment at the front.
+fn alignment(cursor: &mut Cursor<'_>) -> Alignment
+    ensures value { seen_alignment result ≡ (align cursor.old.rest).0 }
+    ensures rest { cursor.new ≡ record cursor.old { rest = (align cursor.old.rest).1 } }
+{
+    let alignment = match cursor.peek() {
+        Some('<') => Alignment::AlignLeft,
+        Some('>') => Alignment::AlignRight,
+        Some('^') => Alignment::AlignCenter,
+        _ => return Alignment::AlignUnknown,
+    };
+    cursor.advance();
+    alignment
+}
+
+/// Reads the sign flag at the front.
+fn sign(cursor: &mut Cursor<'_>) -> Option<Sign>
+    ensures value { option_map seen_sign result ≡ (sign cursor.old.rest).0 }
+    ensures rest { cursor.new ≡ record cursor.old { rest = (sign cursor.old.rest).1 } }
+{
+    let sign = match cursor.peek() {
+        Some('+') => Sign::Plus,
+        Some('-') => Sign::Minus,
+        _ => return None,
+    };
+    cursor.advance();
+    Some(sign)
+}
+
+/// Reads the flag `#` at the front.
+fn alternate(cursor: &mut Cursor<'_>) -> bool
+    ensures value { result ≡ (alternate cursor.old.rest).0 }
+    ensures rest { cursor.new ≡ record cursor.old { rest = (alternate cursor.old.rest).1 } }
+{
+    spec::take_char(cursor, '#')
+}
+
+/// Reads the count at the front, and where it stands.
+fn spanned_count<'input>(
+    cursor: &mut Cursor<'input>,
+    found: &mut Vec<Fault<'input>>,
+) -> Result<(Count<'input>, Option<Range<usize>>), AllocError>
+    ensures value { IfOk result (λ k. seen_count k.0
+        ≡ map_count (place_of cursor.old.world) (count_of cursor.old.rest (count cursor.old.rest).0)) }
+    ensures span { IfOk result (λ k. option_map pair k.1 ≡ option_map (place_of cursor.old.world)
+        (count_span cursor.old.rest (count cursor.old.rest).0 (count cursor.old.rest).1)) }
+    ensures rest { OnOk result (cursor.new ≡ record cursor.old { rest = (count cursor.old.rest).1 }) }
+    ensures found { OnOk result (map seen_fault found.new.items
+        ≡ map seen_fault found.old.items ++ faults_in cursor.old.world (count_faults cursor.old.rest)) }
+{
+    let start = cursor.start();
+    let count = spec::count(cursor, found)?;
+    let span = match count {
+        Count::CountImplied => None,
+        _ => Some(start..cursor.start()),
+    };
+    Ok((count, span))
+}
+
+/// A width: whether the flag `0` stands in front of its count, and where the count stands.
+#[derive(Drop)]
+struct WidthPart<'input> {
+    zero_pad: bool,
+    count: Count<'input>,
+    span: Option<Range<usize>>,
+}
+
+/// Reads the count of a width, which has the flag `0` or not.
+fn counted<'input>(
+    zero_pad: bool,
+    cursor: &mut Cursor<'input>,
+    found: &mut Vec<Fault<'input>>,
+) -> Result<WidthPart<'input>, AllocError>
+    ensures zero_pad { IfOk result (λ w. w.zero_pad ≡ zero_pad) }
+    ensures count { IfOk result (λ w. seen_count w.count
+        ≡ map_count (place_of cursor.old.world) (count_of cursor.old.rest (count cursor.old.rest).0)) }
+    ensures span { IfOk result (λ w. option_map pair w.span ≡ option_map (place_of cursor.old.world)
+        (count_span cursor.old.rest (count cursor.old.rest).0 (count cursor.old.rest).1)) }
+    ensures rest { OnOk result (cursor.new ≡ record cursor.old { rest = (count cursor.old.rest).1 }) }
+    ensures found { OnOk result (map seen_fault found.new.items
+        ≡ map seen_fault found.old.items ++ faults_in cursor.old.world (width_count_faults cursor.old.rest (count cursor.old.rest).0)) }
+{
+    let (count, span) = spanned_count(cursor, found)?;
+    Ok(WidthPart {
+        zero_pad,
+        count,
+        span,
+    })
+}
+
+/// Reads the width at the front. A `0` in front of it is a flag, unless a `$` makes it an index.
+fn width<'input>(
+    cursor: &mut Cursor<'input>,
+    found: &mut Vec<Fault<'input>>,
+) -> Result<WidthPart<'input>, AllocError>
+    ensures zero_pad { IfOk result (λ w. w.zero_pad ≡ (width cursor.old.rest).0.zero_pad) }
+    ensures count { IfOk result (λ w. seen_count w.count ≡ map_count (place_of cursor.old.world)
+        (count_of (count_at (width cursor.old.rest).0.zero_pad cursor.old.rest) (width cursor.old.rest).0.count)) }
+    ensures span { IfOk result (λ w. option_map pair w.span ≡ option_map (place_of cursor.old.world)
+        (count_span (count_at (width cursor.old.rest).0.zero_pad cursor.old.rest) (width cursor.old.rest).0.count (width cursor.old.rest).1)) }
+    ensures rest { OnOk result (cursor.new ≡ record cursor.old { rest = (width cursor.old.rest).1 }) }
+    ensures found { OnOk result (map seen_fault found.new.items
+        ≡ map seen_fault found.old.items ++ faults_in cursor.old.world (width_faults cursor.old.rest (width cursor.old.rest).0)) }
+{
+    if !spec::is_next(cursor, '0') {
+        return counted(false, cursor, found);
+    }
+    let start = cursor.start();
+    cursor.advance();
+    if !spec::is_next(cursor, '$') {
+        return counted(true, cursor, found);
+    }
+    let span = start..cursor.stop();
+    cursor.advance();
+    Ok(WidthPart {
+        zero_pad: false,
+        count: Count::CountIsParam(0),
+        span: Some(span),
+    })
+}
+
+/// Reads the precision at the front, and where it stands. A star takes the next number.
+fn precision<'input>(
+    cursor: &mut Cursor<'input>,
+    curarg: &mut usize,
+    found: &mut Vec<Fault<'input>>,
+) -> Result<(Count<'input>, Option<Range<usize>>), AllocError>
+    requires { curarg.old + 1 < 2 ^ 64 }
+    ensures value { IfOk result (λ k. seen_count k.0 ≡ map_count (place_of cursor.old.world)
+        (precision_of curarg.old cursor.old.rest (precision cursor.old.rest).0)) }
+    ensures span { IfOk result (λ k. option_map pair k.1 ≡ option_map (place_of cursor.old.world)
+        (precision_span cursor.old.rest (precision cursor.old.rest).0 (precision cursor.old.rest).1)) }
+    ensures rest { OnOk result (cursor.new ≡ record cursor.old { rest = (precision cursor.old.rest).1 }) }
+    ensures next { OnOk result (curarg.new ≡ behind_precision curarg.old (precision cursor.old.rest).0) }
+    ensures found { OnOk result (map seen_fault found.new.items
+        ≡ map seen_fault found.old.items ++ faults_in cursor.old.world (precision_faults cursor.old.rest (precision cursor.old.rest).0)) }
+{
+    if cursor.peek() != Some('.') {
+        return Ok((Count::CountImplied, None));
+    }
+    let start = cursor.start();
+    cursor.advance();
+    if cursor.peek() == Some('*') {
+        let number = *curarg;
+        *curarg = number + 1;
+        cursor.advance();
+        return Ok((Count::CountIsStar(number), Some(start..cursor.start())));
+    }
+    let count = spec::count(cursor, found)?;
+    Ok((count, Some(start..cursor.start())))
+}
+
+/// Reads the word at the front, and where it stands if it is not empty.
+fn spanned_word<'input>(
+    cursor: &mut Cursor<'input>,
+    found: &mut Vec<Fault<'input>>,
+) -> Result<(&'input str, Option<Range<usize>>), AllocError>
+    ensures value { IfOk result (λ w. chars w.0.now ≡ word cursor.old.rest) }
+    ensures span { IfOk result (λ w. option_map pair w.1 ≡ option_map (place_of cursor.old.world)
+        (word_span cursor.old.rest (word cursor.old.rest) (behind_word cursor.old.rest))) }
+    ensures rest { OnOk result (cursor.new ≡ record cursor.old { rest = behind_word cursor.old.rest }) }
+    ensures found { OnOk result (map seen_fault found.new.items
+        ≡ map seen_fault found.old.items ++ faults_in cursor.old.world (word_faults cursor.old.rest)) }
+{
+    let start = cursor.start();
+    let word = spec::word(cursor, found)?;
+    if first(word).is_none() {
+        return Ok((word, None));
+    }
+    Ok((word, Some(start..cursor.start())))
+}
+
+/// A type, the case of its hexadecimal digits, and where it stands if it is a word.
+#[derive(Drop)]
+struct TypePart<'input> {
+    ty: &'input str,
+    debug_hex: Option<DebugHex>,
+    span: Option<Range<usize>>,
+}
+
+/// A type that is a sign.
+fn sign_type<'input>(ty: &'input str) -> TypePart<'input>
+    ensures ty { result.ty.now ≡ ty.entry.now }
+    ensures debug_hex { result.debug_hex ≡ None }
+    ensures span { result.span ≡ None }
+{
+    TypePart {
+        ty,
+        debug_hex: None,
+        span: None,
+    }
+}
+
+/// Reads the letter `x` or `X`. With a `?` behind it the letter is a case of the type `?`, else it is the type.
+fn hex_type<'input>(
+    cursor: &mut Cursor<'input>,
+    case: DebugHex,
+    letter: &'input str,
+) -> TypePart<'input>
+    ensures ty { result.ty.now ≡ (if begins_with 63 (behind_first cursor.old.rest) then codes "?" else letter.entry.now) }
+    ensures debug_hex { result.debug_hex ≡ (if begins_with 63 (behind_first cursor.old.rest) then Some case else None) }
+    ensures span { result.span ≡ None }
+    ensures rest { cursor.new ≡ record cursor.old {
+        rest = if begins_with 63 (behind_first cursor.old.rest) then behind_first (behind_first cursor.old.rest) else behind_first cursor.old.rest } }
+{
+    cursor.advance();
+    if spec::take_char(cursor, '?') {
+        return TypePart {
+            ty: "?",
+            debug_hex: Some(case),
+            span: None,
+        };
+    }
+    sign_type(letter)
+}
+
+/// Reads the type at the front.
+fn type_part<'input>(
+    cursor: &mut Cursor<'input>,
+    found: &mut Vec<Fault<'input>>,
+) -> Result<TypePart<'input>, AllocError>
+    ensures ty { IfOk result (λ y. chars y.ty.now ≡ type_of (type cursor.old.rest).0) }
+    ensures debug_hex { IfOk result (λ y. option_map seen_debug_hex y.debug_hex ≡ debug_hex_of (type cursor.old.rest).0) }
+    ensures span { IfOk result (λ y. option_map pair y.span ≡ option_map (place_of cursor.old.world)
+        (type_span cursor.old.rest (type cursor.old.rest).0 (type cursor.old.rest).1)) }
+    ensures rest { OnOk result (cursor.new ≡ record cursor.old { rest = (type cursor.old.rest).1 }) }
+    ensures found { OnOk result (map seen_fault found.new.items
+        ≡ map seen_fault found.old.items ++ faults_in cursor.old.world (type_faults cursor.old.rest (type cursor.old.rest).0)) }
+{
+    if spec::is_next(cursor, 'x') {
+        return Ok(hex_type(cursor, DebugHex::Lower, "x"));
+    }
+    if spec::is_next(cursor, 'X') {
+        return Ok(hex_type(cursor, DebugHex::Upper, "X"));
+    }
+    if spec::is_next(cursor, '?') {
+        cursor.advance();
+        return Ok(sign_type("?"));
+    }
+    let (ty, span) = spanned_word(cursor, found)?;
+    Ok(TypePart {
+        ty,
+        debug_hex: None,
+        span,
+    })
+}
+
+/// Reads the format specification at the front.
+#[tactic(auto, unfolding(crate::specs::Specification::format_parts, crate::specs::Meaning::format_of, crate::specs::PartFaults::format_faults))]
+fn format_parts<'input>(
+    cursor: &mut Cursor<'input>,
+    curarg: &mut usize,
+    found: &mut Vec<Fault<'input>>,
+) -> Result<FormatSpec<'input>, AllocError>
+    requires { curarg.old + 1 < 2 ^ 64 }
+    ensures value { IfOk result (λ f. seen_spec f ≡ map_spec (place_of cursor.old.world)
+        (format_of curarg.old cursor.old.rest (format_parts cursor.old.rest).0 (format_parts cursor.old.rest).1)) }
+    ensures rest { OnOk result (cursor.new ≡ record cursor.old { rest = (format_parts cursor.old.rest).1 }) }
+    ensures next { OnOk result (curarg.new ≡ behind_precision curarg.old (format_parts cursor.old.rest).0.precision) }
+    ensures found { OnOk result (map seen_fault found.new.items
+        ≡ map seen_fault found.old.items ++ faults_in cursor.old.world (format_faults cursor.old.rest (format_parts cursor.old.rest).0)) }
+{
+    let (fill, fill_span) = fill(cursor);
+    let align = alignment(cursor);
+    let sign = sign(cursor);
+    let alternate = alternate(cursor);
+    let width = width(cursor, found)?;
+    let (precision, precision_span) = precision(cursor, curarg, found)?;
+    let type_part = type_part(cursor, found)?;
+    Ok(FormatSpec {
+        fill,
+        fill_span,
+        align,
+        sign,
+        alternate,
+        zero_pad: width.zero_pad,
+        debug_hex: type_part.debug_hex,
+        precision,
+        precision_span,
+        width: width.count,
+        width_span: width.span,
+        ty: type_part.ty,
+        ty_span: type_part.span,
+    })
+}
+
+/// Reads the modifier of inline assembly at the front.
+fn modifier<'input>(
+    cursor: &mut Cursor<'input>,
+    found: &mut Vec<Fault<'input>>,
+) -> Result<FormatSpec<'input>, AllocError>
+    ensures value { IfOk result (λ f. seen_spec f ≡ record (default_spec {A = Place}) {
+        ty = word cursor.old.rest;
+        ty_span = option_map (place_of cursor.old.world) (word_span cursor.old.rest (word cursor.old.rest) (behind_word cursor.old.rest)) }) }
+    ensures rest { OnOk result (cursor.new ≡ record cursor.old { rest = behind_word cursor.old.rest }) }
+    ensures found { OnOk result (map seen_fault found.new.items
+        ≡ map seen_fault found.old.items ++ faults_in cursor.old.world (word_faults cursor.old.rest)) }
+{
+    let (ty, ty_span) = spanned_word(cursor, found)?;
+    Ok(FormatSpec {
+        ty,
+        ty_span,
+        ..default_spec()
+    })
+}
+
+/// Reads a colon and the text of a diagnostic, whose span takes in the colon.
+fn diagnostic_text<'input>(cursor: &mut Cursor<'input>) -> FormatSpec<'input>
+    ensures value { seen_spec result ≡ record (default_spec {A = Place}) {
+        ty = front is_no_brace (behind_first cursor.old.rest);
+        ty_span = Some (place_of cursor.old.world (up_to cursor.old.rest (behind is_no_brace (behind_first cursor.old.rest)))) } }
+    ensures rest { cursor.new ≡ record cursor.old { rest = behind is_no_brace (behind_first cursor.old.rest) } }
+{
+    let start = cursor.start();
+    cursor.advance();
+    let ty = cursor.take(Class::Text);
+    FormatSpec {
+        ty,
+        ty_span: Some(start..cursor.start()),
+        ..default_spec()
+    }
+}
+
+/// Reads the specification at the front: a colon and what the mode has behind it, or nothing.
 pub fn specification<'input>(
     mode: ParseMode,
     cursor: &mut Cursor<'input>,
@@ -44,12 +389,26 @@ pub fn specification<'input>(
     found: &mut Vec<Fault<'input>>,
 ) -> Result<FormatSpec<'input>, AllocError>
     requires { curarg.old + length cursor.old.rest < 2 ^ 64 }
-    ensures value { IfOk result (λ f. seen_spec f ≡ map_spec (place_of cursor.old.world)
-        (spec_of curarg.old cursor.old.rest (specification (seen_mode mode) cursor.old.rest).0 (specification (seen_mode mode) cursor.old.rest).1)) }
+    ensures value { IfOk result (λ f. seen_spec f ≡ map_spec (place_of cursor.old.world) (spec_of curarg.old cursor.old.rest
+        (specification (seen_mode mode) cursor.old.rest).0 (specification (seen_mode mode) cursor.old.rest).1)) }
     ensures rest { OnOk result (cursor.new ≡ record cursor.old { rest = (specification (seen_mode mode) cursor.old.rest).1 }) }
     ensures next { OnOk result (curarg.new ≡ behind_spec curarg.old (specification (seen_mode mode) cursor.old.rest).0) }
     ensures found { OnOk result (map seen_fault found.new.items ≡ map seen_fault found.old.items
-        ++ faults_in cursor.old.world (spec_faults cursor.old.rest (specification (seen_mode mode) cursor.old.rest).0 (specification (seen_mode mode) cursor.old.rest).1)) }
+        ++ faults_in cursor.old.world (spec_faults cursor.old.rest
+            (specification (seen_mode mode) cursor.old.rest).0 (specification (seen_mode mode) cursor.old.rest).1)) }
 {
-    Ok(default_spec())
+    if !spec::is_next(cursor, ':') {
+        return Ok(default_spec());
+    }
+    match mode {
+        ParseMode::Format => {
+            cursor.advance();
+            format_parts(cursor, curarg, found)
+        }
+        ParseMode::InlineAsm => {
+            cursor.advance();
+            modifier(cursor, found)
+        }
+        ParseMode::Diagnostic => Ok(diagnostic_text(cursor)),
+    }
 }

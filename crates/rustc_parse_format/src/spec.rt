@@ -1,19 +1,21 @@
 //! The parts of a placeholder, each read from the front of what is left.
 
-ghost use Rattle.std.specs.Prelude.{◌≡◌, ◌++◌, IfOk, OnOk, chars, map, option_map};
-ghost use Rattle.rustc_parse_format.specs.Characters.{behind_digits, behind_word, digits, number, word};
-ghost use Rattle.rustc_parse_format.specs.PartFaults.{number_faults, position_faults, word_faults};
+ghost use Rattle.std.specs.Prelude.{◌≡◌, ◌++◌, IfOk, OnOk, chars, if◌then◌else◌, map, option_map};
+ghost use Rattle.rustc_parse_format.specs.Characters.{begins_with, behind_digits, behind_first, behind_word, digits, number, word};
+ghost use Rattle.rustc_parse_format.specs.PartFaults.{count_faults, number_faults, position_faults, word_faults};
 ghost use Rattle.rustc_parse_format.specs.Placeholder.{position};
-ghost use Rattle.rustc_parse_format.specs.Meaning.{given_position};
-ghost use Rattle.rustc_parse_format.specs.Seen.{seen_position};
+ghost use Rattle.rustc_parse_format.specs.Counts.{behind_name, count};
+ghost use Rattle.rustc_parse_format.specs.Meaning.{count_of, given_position};
+ghost use Rattle.rustc_parse_format.specs.Pieces.{map_count};
+ghost use Rattle.rustc_parse_format.specs.Seen.{seen_count, seen_position};
 ghost use Rattle.rustc_parse_format.specs.SeenFaults.{seen_fault};
-ghost use Rattle.rustc_parse_format.specs.World.{faults_in};
+ghost use Rattle.rustc_parse_format.specs.World.{faults_in, place_of};
 
 use std::alloc::AllocError;
 
 use crate::chars::Cursor;
 use crate::faults::{Fault, note_number, note_word};
-use crate::types::Position;
+use crate::types::{Count, Position};
 
 /// Reads the integer at the front, where there is one: its number modulo 65536. One above 65535 is a fault.
 pub fn integer<'input>(
@@ -66,4 +68,71 @@ pub fn position<'input>(
         return Ok(Some(Position::ArgumentNamed(name)));
     }
     Ok(None)
+}
+
+/// The next character is this one.
+pub fn is_next(cursor: &Cursor<'_>, c: char) -> bool
+    ensures { result ≡ begins_with c cursor.now.rest }
+{
+    cursor.peek() == Some(c)
+}
+
+/// Moves over the character, and answers whether it is there.
+pub fn take_char(cursor: &mut Cursor<'_>, c: char) -> bool
+    ensures value { result ≡ begins_with c cursor.old.rest }
+    ensures rest { cursor.new ≡ record cursor.old {
+        rest = if begins_with c cursor.old.rest then behind_first cursor.old.rest else cursor.old.rest } }
+{
+    let is_there = is_next(cursor, c);
+    if is_there {
+        cursor.advance();
+    }
+    is_there
+}
+
+/// Reads the name at the front, with its `$`. Without a `$` the word is left, and looked at all the same.
+fn name_count<'input>(
+    cursor: &mut Cursor<'input>,
+    found: &mut Vec<Fault<'input>>,
+) -> Result<Count<'input>, AllocError>
+    ensures value { IfOk result (λ k. seen_count k ≡ map_count (place_of cursor.old.world)
+        (count_of cursor.old.rest (behind_name cursor.old.rest (word cursor.old.rest) (behind_word cursor.old.rest)).0)) }
+    ensures rest { OnOk result (cursor.new ≡ record cursor.old {
+        rest = (behind_name cursor.old.rest (word cursor.old.rest) (behind_word cursor.old.rest)).1 }) }
+    ensures found { OnOk result (map seen_fault found.new.items
+        ≡ map seen_fault found.old.items ++ faults_in cursor.old.world (word_faults cursor.old.rest)) }
+{
+    let front = cursor.duplicate();
+    let start = cursor.start();
+    let name = word(cursor, found)?;
+    let span = start..cursor.start();
+    if take_char(cursor, '$') {
+        return Ok(Count::CountIsName(name, span));
+    }
+    *cursor = front;
+    Ok(Count::CountImplied)
+}
+
+/// Reads the count at the front: a number, a number of an argument, a name of one, or none.
+pub fn count<'input>(
+    cursor: &mut Cursor<'input>,
+    found: &mut Vec<Fault<'input>>,
+) -> Result<Count<'input>, AllocError>
+    ensures value { IfOk result (λ k. seen_count k
+        ≡ map_count (place_of cursor.old.world) (count_of cursor.old.rest (count cursor.old.rest).0)) }
+    ensures rest { OnOk result (cursor.new ≡ record cursor.old { rest = (count cursor.old.rest).1 }) }
+    ensures found { OnOk result (map seen_fault found.new.items
+        ≡ map seen_fault found.old.items ++ faults_in cursor.old.world (count_faults cursor.old.rest)) }
+{
+    if cursor.starts_digit() {
+        let number = integer(cursor, found)?;
+        if take_char(cursor, '$') {
+            return Ok(Count::CountIsParam(usize::from(number)));
+        }
+        return Ok(Count::CountIs(number));
+    }
+    if cursor.starts_word() {
+        return name_count(cursor, found);
+    }
+    Ok(Count::CountImplied)
 }

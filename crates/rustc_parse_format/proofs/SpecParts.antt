@@ -1,0 +1,47 @@
+-- The parts of a specification by what a text begins with.
+use Rattle.std.proofs.Common.{◌≡◌, ℕ, Bool, true, false, cond, rules, List, [], ◌∷◌, Option, Some, None, chars, refl, sym, ap, ◌∙◌}
+use Rattle.std.specs.Prelude.{◌==◌, if◌then◌else◌, codes, is_none, is_some}
+use Rattle.std.proofs.lemmas.Bool.{eqb-true}
+use Rattle.std.proofs.lemmas.Str.{chars-IsAscii}
+use Rattle.rustc_parse_format.specs.Characters.{Text, begins_with, behind_first, first, word, behind_word}
+use Rattle.rustc_parse_format.specs.Pieces.{DebugHex, Lower, Upper}
+use Rattle.rustc_parse_format.specs.Marks.{Span, up_to}
+use Rattle.rustc_parse_format.specs.Counts.{WidthText, ZeroIndexCount, counted, width}
+use Rattle.rustc_parse_format.specs.Meaning.{word_span, type_of}
+use Rattle.rustc_parse_format.specs.Specification.{TypeText, DebugHexType, SignType, WordType, behind_hex, type}
+
+pub type_lower : (t : Text) → begins_with 120 t ≡ true → type t ≡ behind_hex Lower 120 (behind_first t)
+type_lower [] h = cc h
+type_lower (c ∷ t) h = rw (eqb-true c 120 h) refl
+
+pub type_upper : (t : Text) → begins_with 88 t ≡ true → type t ≡ behind_hex Upper 88 (behind_first t)
+type_upper [] h = cc h
+type_upper (c ∷ t) h = rw (eqb-true c 88 h) refl
+
+pub type_question : (t : Text) → begins_with 63 t ≡ true → type t ≡ (SignType 63, behind_first t)
+type_question [] h = cc h
+type_question (c ∷ t) h = rw (eqb-true c 63 h) refl
+
+pub type_word : (t : Text) → begins_with 120 t ≡ false → begins_with 88 t ≡ false → begins_with 63 t ≡ false → type t ≡ (WordType (word t), behind_word t)
+unfolding word behind_word
+type_word [] h k l = refl
+type_word (c ∷ t) h k l = rw (h, k, l) refl
+
+-- the text of a type that begins with a sign c
+hex_text : (h : DebugHex) (c : ℕ) (t w : Text) → chars (codes "?") ≡ codes "?" → chars (c ∷ []) ≡ c ∷ [] →
+    w ≡ (if begins_with 63 t then codes "?" else c ∷ []) → chars w ≡ type_of (behind_hex h c t).0
+hex_text h c [] w q k e = ap chars e ∙ k
+hex_text h c (d ∷ t) w q k e = at (d == 63) e
+  where
+    at : (b : Bool) → w ≡ (if b then codes "?" else c ∷ []) → chars w ≡ type_of (cond {A = TypeText × Text} b (DebugHexType h, t) (SignType c, d ∷ t)).0
+    at true e = ap chars e ∙ q
+    at false e = ap chars e ∙ k
+
+pub lower_text : (t w : Text) → begins_with 120 t ≡ true → w ≡ (if begins_with 63 (behind_first t) then codes "?" else codes "x") → chars w ≡ type_of (type t).0
+lower_text t w h e = rw (type_lower t h) (hex_text Lower 120 (behind_first t) w (chars-IsAscii (codes "?") (search rules)) (chars-IsAscii (codes "x") (search rules)) e)
+
+pub upper_text : (t w : Text) → begins_with 88 t ≡ true → w ≡ (if begins_with 63 (behind_first t) then codes "?" else codes "X") → chars w ≡ type_of (type t).0
+upper_text t w h e = rw (type_upper t h) (hex_text Upper 88 (behind_first t) w (chars-IsAscii (codes "?") (search rules)) (chars-IsAscii (codes "X") (search rules)) e)
+
+pub question_text : (t w : Text) → begins_with 63 t ≡ true → w ≡ codes "?" → chars w ≡ type_of (type t).0
+question_text t w h e = rw (type_question t h) (ap chars e ∙ chars-IsAscii (codes "?") (search rules))
