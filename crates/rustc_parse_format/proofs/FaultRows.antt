@@ -1,5 +1,6 @@
 -- Worked rows of faulty inputs, each by computing: which pieces come, which faults are found where, and what they say.
-use Rattle.std.proofs.Common.{◌≡◌, ◌++◌, [], ◌∷◌, refl, Some, None, codes}
+use Rattle.std.proofs.Common.{◌≡◌, ◌++◌, [], ◌∷◌, refl, ap, false, arith, Some, None, codes}
+use Rattle.std.proofs.lemmas.Fmt.{hex_two_digits}
 use Rattle.rustc_parse_format.specs.Pieces.{Implicit, Index, Named, Lit}
 use Rattle.rustc_parse_format.specs.Faults.{UnmatchedBrace, MissingBrace, TooLarge, message, Nothing}
 use Rattle.rustc_parse_format.specs.World.{Place}
@@ -98,9 +99,9 @@ wide_character-is_written_as_itself : (message {A = Place} (MissingBrace (Some 8
 unfolding computing
 wide_character-is_written_as_itself = refl
 
-control_character-is_escaped : (message {A = Place} (MissingBrace (Some 1) (3, 3) (1, 2))).description ≡ codes "expected `}`, found `\\u{1}`"
+control_character-is_escaped : (message {A = Place} (MissingBrace (Some 27) (3, 3) (1, 2))).description ≡ codes "expected `}`, found `\\u{1b}`"
 unfolding computing
-control_character-is_escaped = refl
+control_character-is_escaped = ap (λ h. codes "expected `}`, found `" ++ (codes "\\u{" ++ h ++ codes "}") ++ codes "`") (hex_two_digits false 27 (omega arith) (omega arith))
 
 control_character-has_one_place : faults (codes "{a" ++ 1 ∷ codes "}") ≡ MissingBrace (Some 1) (3, 3) (1, 2) ∷ UnmatchedBrace (4, 5) ∷ []
 unfolding computing

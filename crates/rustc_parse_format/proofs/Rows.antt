@@ -6,6 +6,7 @@ use Rattle.rustc_parse_format.specs.Pieces.{Format, Position, Implicit, Index, N
 use Rattle.rustc_parse_format.specs.Placeholder.{cut}
 use Rattle.rustc_parse_format.specs.Meaning.{argument, next_number}
 use Rattle.rustc_parse_format.specs.Grammar.{Reads}
+use Rattle.rustc_parse_format.specs.Written.{written}
 use Rattle.rustc_parse_format.specs.Faults.{Fault, message}
 use Rattle.rustc_parse_format.specs.PartFaults.{position_faults, cut_faults}
 use Rattle.rustc_parse_format.specs.Step.{call, placeholder, walk, pieces_of, faults_of}
@@ -14,7 +15,7 @@ use Rattle.rustc_parse_format.specs.State.{State, fresh, calls, after_all}
 
 -- each definition that the rows compute
 unfoldable pub computing : Unit {0}
-unfolding unicode_ident word behind_word digits behind_digits behind_white cut argument next_number position_faults cut_faults call placeholder walk message world place_at lib.Utf8.encode
+unfolding unicode_ident word behind_word digits behind_digits behind_white cut argument next_number position_faults cut_faults call placeholder walk written message world place_at lib.Utf8.encode
 computing = tt
 
 -- an input with no snippet

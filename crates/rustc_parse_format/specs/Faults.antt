@@ -1,8 +1,7 @@
 -- The faults, over any kind of span, and what each says, as the bytes of its texts.
-use Rattle.std.specs.Prelude.{ℕ, Bool, false, ◌++◌, ◌==◌, if◌then◌else◌, nat_lt, List, [], ◌∷◌, Option, Some, None, codes}
-use Rattle.std.specs.Char.Escape.{escape_default}
-use Rattle.std.specs.Str.{encode_utf8_all}
+use Rattle.std.specs.Prelude.{ℕ, Bool, false, ◌++◌, ◌==◌, if◌then◌else◌, List, [], ◌∷◌, Option, Some, None, codes, encode_utf8_all}
 use Rattle.rustc_parse_format.specs.Characters.{Text}
+use Rattle.rustc_parse_format.specs.Written.{written}
 
 pub data Fault (Span : Type 0) : Type 0 where
   -- a closing brace that closes nothing
@@ -24,10 +23,6 @@ map_fault f (MissingBrace c s o) = MissingBrace c (f s) (f o)
 map_fault f (Underscore s) = Underscore (f s)
 map_fault f (TooLarge ds s) = TooLarge ds (f s)
 
--- how a character is written: an ASCII one as Rust escapes it, with `\0` for NUL, and any other as itself
-abbrev pub written : ℕ → Text
-written c = if c == 0 then codes "\\0" else (if nat_lt c 128 then escape_default c else c ∷ [])
-
 pub data Suggestion (Span : Type 0) : Type 0 where
   Nothing : Suggestion Span
   UsePositional : Suggestion Span
@@ -47,7 +42,10 @@ pub record Message (Span : Type 0) : Type 0 where
 
 abbrev pub expected : Option ℕ → List ℕ
 expected None = codes "expected `}` but string was terminated"
-expected (Some c) = codes "expected `}`, found `" ++ encode_utf8_all (written c) ++ codes "`"
+expected (Some c) = codes "expected `}`, found `" ++ written c ++ codes "`"
+
+abbrev pub out_of_range : Text → List ℕ
+out_of_range ds = codes "integer `" ++ encode_utf8_all ds ++ codes "` does not fit into the type `u16` whose range is `0..=65535`"
 
 unfoldable pub message : {A : Type 0} → Fault A → Message A
 message (UnmatchedBrace s) = record {
@@ -63,7 +61,7 @@ message (Underscore s) = record {
   note = Some (codes "argument name cannot be a single underscore");
   label = codes "invalid argument name"; span = s; second = None; suggestion = Nothing }
 message (TooLarge ds s) = record {
-  description = codes "integer `" ++ encode_utf8_all ds ++ codes "` does not fit into the type `u16` whose range is `0..=65535`";
+  description = out_of_range ds;
   note = None; label = codes "integer out of range for `u16`"; span = s; second = None; suggestion = Nothing }
 
 -- the list of errors after these faults, in the order in which they were found

@@ -4,9 +4,13 @@ pub mod Marks
 pub mod Placeholder
 pub mod Meaning
 pub mod Grammar
+pub mod Written
 pub mod Faults
 pub mod PartFaults
 pub mod Step
 pub mod World
 pub mod State
+pub mod Bytes
+pub mod Classes
+pub mod SeenFaults
 pub mod Seen

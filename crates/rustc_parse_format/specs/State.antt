@@ -1,14 +1,26 @@
 -- What a caller sees of a parser between two calls.
-use Rattle.std.specs.Prelude.{ℕ, List, [], ◌∷◌}
-use Rattle.rustc_parse_format.specs.Characters.{Text}
+use Rattle.std.specs.Prelude.{ℕ, ◌-◌, List, [], ◌∷◌, length, Option, Some, None}
+use Rattle.rustc_parse_format.specs.Characters.{Text, width}
 use Rattle.rustc_parse_format.specs.Pieces.{Mode}
 use Rattle.rustc_parse_format.specs.Faults.{Message, add_errors}
-use Rattle.rustc_parse_format.specs.World.{World, Place, faults_in}
+use Rattle.rustc_parse_format.specs.World.{World, Place, place_at, faults_in}
 use Rattle.rustc_parse_format.specs.Step.{Call, call, walk}
+
+-- What a cursor stands at: the rest of an input, in its world.
+pub record Unread : Type 0 where
+  pub world : World
+  pub input : Text
+  pub rest : Text
+
+-- the first character of t with its place and its byte position in the input, if there is one
+abbrev pub first_of : World → Text → Text → Option (Place × ℕ × ℕ)
+first_of w input [] = None
+first_of w input (c ∷ t) = Some (place_at w (length (c ∷ t)), width input - width (c ∷ t), c)
 
 pub record State : Type 0 where
   pub mode : Mode
   pub world : World
+  pub input : Text
   -- what has not been read
   pub rest : Text
   -- the number that the next implicit argument takes
@@ -17,7 +29,7 @@ pub record State : Type 0 where
 
 -- at the start of an input
 abbrev pub fresh : Mode → World → Text → State
-fresh mode w input = record { mode = mode; world = w; rest = input; next = 0; errors = [] }
+fresh mode w input = record { mode = mode; world = w; input = input; rest = input; next = 0; errors = [] }
 
 -- the call that comes next
 abbrev pub next_call : State → Call

@@ -1,7 +1,7 @@
 -- One call of the parser, with marks for all spans, and the walk up to the first call that gives no piece. Neither the
 -- style of the literal nor the snippet is mentioned.
 use Rattle.std.specs.Prelude.{◌≡◌, ℕ, suc, zero, ◌++◌, ◌==◌, if◌then◌else◌, List, [], ◌∷◌, length, Option, Some, None}
-use Rattle.rustc_parse_format.specs.Characters.{Text, is_brace, is_no_brace, front, behind, behind_white, behind_first, begins_with}
+use Rattle.rustc_parse_format.specs.Characters.{Text, is_brace, is_no_brace, front, behind, behind_white, first, behind_first, begins_with}
 use Rattle.rustc_parse_format.specs.Pieces.{Mode, Argument, Piece, Lit, NextArgument}
 use Rattle.rustc_parse_format.specs.Marks.{Span, up_to, over_first}
 use Rattle.rustc_parse_format.specs.Placeholder.{Cut, cut}
@@ -16,14 +16,9 @@ pub record Call : Type 0 where
   pub rest : Text
   pub next : ℕ
 
--- the character found, if any
-abbrev pub found : Text → Option ℕ
-found [] = None
-found (c ∷ t) = Some c
-
 -- r stands where the closing brace of the placeholder at opening should
 abbrev pub missing_brace : Text → Text → Fault Span
-missing_brace opening r = MissingBrace (found r) (up_to r r) (over_first opening)
+missing_brace opening r = MissingBrace (first r) (up_to r r) (over_first opening)
 
 -- the characters of l, and the longest run without braces at the front of t
 abbrev pub literal : ℕ → Text → Text → Call

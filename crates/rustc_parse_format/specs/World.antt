@@ -38,9 +38,12 @@ abbrev pub text_end : Text → Option Text → Bool → ℕ
 text_end input (Some snippet) newline = width snippet
 text_end input None newline = width input - (if newline then 1 else 0)
 
+-- a text that starts at a byte and ends at another
+abbrev pub plain_world : ℕ → Text → ℕ → World
+plain_world at input end = record { is_literal = false; places = plain_places at input; end = end }
+
 unfoldable pub world : Text → Option ℕ → Option Text → Bool → World
-world input style snippet newline = record {
-  is_literal = false; places = plain_places (quote_offset style) input; end = text_end input snippet newline }
+world input style snippet newline = plain_world (quote_offset style) input (text_end input snippet newline)
 
 -- the place of the character from which k are left, or of the end of the text
 unfoldable pub place_at : World → ℕ → Place

@@ -1,6 +1,8 @@
 //! The parser by which the Rust compiler reads format strings, inline assembly templates and diagnostic texts.
 #![tactic(auto)]
 
+mod chars;
+mod faults;
 mod types;
 
 pub use types::{

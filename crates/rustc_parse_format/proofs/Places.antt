@@ -1,0 +1,115 @@
+-- The places of the characters of a text that is no source literal, from the bytes of what is left of it.
+use Rattle.std.proofs.Common.{◌≡◌, ◌++◌, ◌+◌, ◌-◌, List, ℕ, suc, [], ◌∷◌, length, chars, IsUtf8, take, drop, get_or, refl, ap, sym, subst, ◌∙◌, arith, length-append}
+use Rattle.std.specs.Prelude.{encode_utf8}
+use Rattle.std.specs.Char.{len_utf8}
+use Rattle.std.proofs.lemmas.Str.{IsUtf8-from_is_utf8, length-encode, encodes-chars, IsUtf8-take, IsCharBoundary-from_drop, chars-append, chars-nil}
+use Rattle.std.proofs.lemmas.List.{take-append-drop, nil_from_length}
+use Rattle.std.proofs.lemmas.List.Sums.{sum_by-cons}
+use Rattle.std.proofs.Math.Utf8.{encodes}
+use Rattle.rustc_parse_format.specs.Characters.{Text, behind_first, width}
+use Rattle.rustc_parse_format.specs.World.{World, Place, place_at, plain_places, plain_world}
+use Rattle.rustc_parse_format.specs.Bytes.{IsLeft}
+
+width_encodes : (t : Text) → length (encodes t) ≡ width t
+width_encodes [] = refl
+width_encodes (c ∷ t) = length-append (encode_utf8 c) (encodes t) ∙ (ap (λ k. k + length (encodes t)) (length-encode c) ∙ (ap (λ k. len_utf8 c + k) (width_encodes t) ∙ sym (sum_by-cons len_utf8 c t)))
+
+pub width_chars : (s : List ℕ) → IsUtf8 s → width (chars s) ≡ length s
+width_chars s u = sym (width_encodes (chars s)) ∙ ap length (encodes-chars s u)
+
+length-plain_places : (q : ℕ) (t : Text) → length (plain_places q t) ≡ length t
+length-plain_places q [] = refl
+length-plain_places q (c ∷ t) = ap suc (length-plain_places (q + len_utf8 c) t)
+
+get_plain : (q : ℕ) (pre t : Text) (c : ℕ) (d : Place) → get_or (plain_places q (pre ++ c ∷ t)) (length pre) d ≡ (q + width pre, (q + width pre) + len_utf8 c)
+get_plain q [] t c d = let e : q + 0 ≡ q = omega arith in rw e refl
+get_plain q (b ∷ pre) t c d =
+    let e : (q + len_utf8 b) + width pre ≡ q + width (b ∷ pre) = omega (arith, sum_by-cons len_utf8 b pre) in
+    subst (λ k. get_or (plain_places (q + len_utf8 b) (pre ++ c ∷ t)) (length pre) d ≡ (k, k + len_utf8 c)) e (get_plain (q + len_utf8 b) pre t c d)
+
+pub place_inside : (q e : ℕ) (pre t : Text) (c : ℕ) → place_at (plain_world q (pre ++ c ∷ t) e) (length (c ∷ t)) ≡ (q + width pre, (q + width pre) + len_utf8 c)
+unfolding place_at
+place_inside q e pre t c =
+    let n : length (plain_places q (pre ++ c ∷ t)) - length (c ∷ t) ≡ length pre = omega (arith, length-plain_places q (pre ++ c ∷ t), length-append pre (c ∷ t)) in
+    ap (λ k. get_or (plain_places q (pre ++ c ∷ t)) k (e, e)) n ∙ get_plain q pre t c (e, e)
+
+get_past : {A : Type 0} (l : List A) (d : A) → get_or l (length l) d ≡ d
+get_past [] d = refl
+get_past (x ∷ l) d = get_past l d
+
+pub place_end : (w : World) → place_at w 0 ≡ (w.end, w.end)
+unfolding place_at
+place_end w = let n : length w.places - 0 ≡ length w.places = omega arith in ap (λ k. get_or w.places k (w.end, w.end)) n ∙ get_past w.places (w.end, w.end)
+
+-- what is left, as characters, and the width of what is in front of it
+pub record Left (input rest : List ℕ) : Type 0 where
+  pub pre : Text
+  pub whole : chars input ≡ pre ++ chars rest
+  pub bytes : width pre ≡ length input - length rest
+
+pub left : (input rest : List ℕ) → IsLeft input rest → Left input rest
+left input rest l =
+    let i = length input - length rest in
+    let u = IsUtf8-from_is_utf8 input l.valid in
+    let v : IsUtf8 (drop i input) = rw l.tail (IsUtf8-from_is_utf8 rest l.valid_rest) in
+    let b = IsCharBoundary-from_drop input i (omega arith) v in
+    let front = IsUtf8-take input i u b in
+    let split : input ≡ take i input ++ rest = sym (take-append-drop i input) ∙ ap (λ t. take i input ++ t) l.tail in
+    let within = l.within in
+    let size : length (take i input) ≡ length input - length rest = omega (arith, ap length split, length-append (take i input) rest) in
+    record {
+      pre = chars (take i input);
+      whole = ap chars split ∙ chars-append (take i input) rest front;
+      bytes = width_chars (take i input) front ∙ size;
+    }
+
+pub position_left : (input rest : List ℕ) → IsLeft input rest → length input - length rest ≡ width (chars input) - width (chars rest)
+position_left input rest l = rw (width_chars input (IsUtf8-from_is_utf8 input l.valid), width_chars rest (IsUtf8-from_is_utf8 rest l.valid_rest)) refl
+
+pub place_left : (q e : ℕ) (input rest : List ℕ) → IsLeft input rest → (c : ℕ) (t : Text) → chars rest ≡ c ∷ t →
+    place_at (plain_world q (chars input) e) (length (chars rest)) ≡ (q + (length input - length rest), (q + (length input - length rest)) + len_utf8 c)
+place_left q e input rest l c t h =
+    let k = left input rest l in
+    let whole : chars input ≡ k.pre ++ c ∷ t = k.whole ∙ ap (λ u. k.pre ++ u) h in
+    rw (whole, h, ← k.bytes) (place_inside q e k.pre t c)
+
+-- what is behind the first character of a text starts where that character ends
+pub behind_width : (rest behind : List ℕ) (c : ℕ) (t : Text) → IsUtf8 rest → IsUtf8 behind → chars rest ≡ c ∷ t → chars behind ≡ behind_first (chars rest) → length rest ≡ len_utf8 c + length behind
+behind_width rest behind c t u v h e =
+    let b : chars behind ≡ t = e ∙ ap behind_first h in
+    sym (width_chars rest u) ∙ (ap width h ∙ (sum_by-cons len_utf8 c t ∙ ap (λ k. len_utf8 c + k) (ap width (sym b) ∙ width_chars behind v)))
+
+-- a text with bytes has a first character
+pub record Begun (s : List ℕ) : Type 0 where
+  pub head : ℕ
+  pub tail : Text
+  pub chars_are : chars s ≡ head ∷ tail
+
+pub begun : (s : List ℕ) → IsUtf8 s → (length s ≡ 0 → ⊥) → Begun s
+begun s u h = at (chars s) refl
+  where
+    at : (t : Text) → chars s ≡ t → Begun s
+    at [] e = absurd (h (sym (width_chars s u) ∙ ap width e))
+    at (c ∷ t) e = record { head = c; tail = t; chars_are = e }
+
+-- at the end of the text
+pub place_over : (q e : ℕ) (input rest : List ℕ) → length rest ≡ 0 → place_at (plain_world q (chars input) e) (length (chars rest)) ≡ (e, e)
+place_over q e input rest h = let n = nil_from_length rest h in rw (n, chars-nil) (place_end (plain_world q (chars input) e))
+
+-- where there is something left, with its first character
+pub place_begun : (q e : ℕ) (input rest : List ℕ) (l : IsLeft input rest) (f : Begun rest) →
+    place_at (plain_world q (chars input) e) (length (chars rest)) ≡ (q + (length input - length rest), (q + (length input - length rest)) + len_utf8 f.head)
+place_begun q e input rest l f = place_left q e input rest l f.head f.tail f.chars_are
+
+pub start_left : (q e : ℕ) (input rest : List ℕ) → IsLeft input rest → (length rest ≡ 0 → ⊥) →
+    (place_at (plain_world q (chars input) e) (length (chars rest))).0 ≡ q + (length input - length rest)
+start_left q e input rest l h = ap (λ (p : Place). p.0) (place_begun q e input rest l (begun rest (IsUtf8-from_is_utf8 rest l.valid_rest) h))
+
+pub stop_left : (q e : ℕ) (input rest behind : List ℕ) → IsLeft input rest → IsUtf8 behind → (length rest ≡ 0 → ⊥) → chars behind ≡ behind_first (chars rest) →
+    (place_at (plain_world q (chars input) e) (length (chars rest))).1 ≡ q + (length input - length behind)
+stop_left q e input rest behind l v h b =
+    let u = IsUtf8-from_is_utf8 rest l.valid_rest in
+    let f = begun rest u h in
+    let n = behind_width rest behind f.head f.tail u v f.chars_are b in
+    let within = l.within in
+    ap (λ (p : Place). p.1) (place_begun q e input rest l f) ∙ omega arith

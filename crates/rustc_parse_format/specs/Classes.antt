@@ -1,0 +1,12 @@
+-- The classes whose longest fronts the code reads, each as its test.
+use Rattle.std.specs.Prelude.{ℕ, Bool}
+use Rattle.std.specs.Char.{is_whitespace, is_ascii_digit}
+use Rattle.rustc_parse_format.specs.declared.chars.Class.{Class}
+use Rattle.rustc_parse_format.specs.declared.chars.Class.TheVariants.{Continue, Digit, White, Text}
+use Rattle.rustc_parse_format.specs.Characters.{is_id_continue, is_no_brace}
+
+abbrev pub passes : Class → ℕ → Bool
+passes Continue c = is_id_continue c
+passes Digit c = is_ascii_digit c
+passes White c = is_whitespace c
+passes Text c = is_no_brace c

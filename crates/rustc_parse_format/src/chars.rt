@@ -1,0 +1,218 @@
+//! A cursor over the input: the only place where bytes and UTF-8 occur.
+
+ghost use Rattle.std.specs.Prelude.{◌≡◌, ℕ, ◌+◌, ◌<◌, ◌^◌, ◌≤◌, ◌++◌, chars, length, List};
+ghost use Rattle.rustc_parse_format.specs.Characters.{Text, behind_first, first};
+ghost use Rattle.rustc_parse_format.specs.Bytes.{IsLeft};
+
+use std::marker::Model;
+
+/// A class of characters whose longest front is read.
+#[derive(Clone, Copy)]
+pub enum Class {
+    /// What may go on with a word.
+    Continue,
+    /// `0` to `9`.
+    Digit,
+    /// White space.
+    White,
+    /// All but braces.
+    Text,
+}
+
+impl Class {
+    ghost use Rattle.rustc_parse_format.specs.Classes.{passes};
+
+    /// The character is of the class.
+    pub fn passes(self, c: char) -> bool
+        ensures { result ≡ passes self c }
+    {
+        match self {
+            Class::Continue => unicode_ident::is_xid_continue(c),
+            Class::Digit => c.is_ascii_digit(),
+            Class::White => c.is_whitespace(),
+            Class::Text => c != '{' && c != '}',
+        }
+    }
+}
+
+/// The first character.
+pub fn first(text: &str) -> Option<char>
+    ensures { result ≡ first (chars text.now) }
+{
+    text.chars().next()
+}
+
+/// What is behind the first character.
+pub fn behind_first(text: &str) -> &str
+    ensures rest { chars result.now ≡ behind_first (chars text.now) }
+    ensures left { (input : List ℕ) → IsLeft input text.now → IsLeft input result.now }
+{
+    let mut rest = text.chars();
+    rest.next();
+    rest.as_str()
+}
+
+/// The text in front of `behind`, with which the text ends.
+pub fn before<'a>(text: &'a str, behind: &str) -> &'a str
+    requires { (u : Text) × (chars text.now ≡ u ++ chars behind.now) }
+    ensures { (u : Text) → chars text.now ≡ u ++ chars behind.now → chars result.now ≡ u }
+{
+    &text[..text.len() - behind.len()]
+}
+
+/// A place in the input: what is left of it, and where that stands in the source.
+#[derive(Drop)]
+pub struct Cursor<'input> {
+    input: &'input str,
+    rest: &'input str,
+    /// Where the input starts in the source.
+    offset: usize,
+    /// Where it ends there.
+    end: usize,
+}
+
+impl<'input> Model for Cursor<'input> {
+    ghost use Rattle.std.specs.Prelude.{◌+◌, ◌<◌, ◌^◌, chars, length};
+    ghost use Rattle.rustc_parse_format.specs.State.{Unread};
+    ghost use Rattle.rustc_parse_format.specs.World.{plain_world};
+    ghost use Rattle.rustc_parse_format.specs.Bytes.{IsLeft};
+
+    ghost Value = { Unread };
+    ghost view = { λ c. record { world = plain_world c.offset (chars c.input.now) c.end; input = chars c.input.now; rest = chars c.rest.now } };
+    ghost invariant = { λ c. IsLeft c.input.now c.rest.now × (c.offset + length c.input.now < 2 ^ 64) };
+}
+
+impl<'input> Cursor<'input> {
+    ghost use Rattle.std.specs.Prelude.{◌≡◌, ◌≢◌, ◌-◌, ◌+◌, ◌<◌, ◌^◌, [], chars, length};
+    ghost use Rattle.rustc_parse_format.specs.Characters.{first, behind_first, width, front, behind, word, behind_word};
+    ghost use Rattle.rustc_parse_format.specs.Classes.{passes};
+    ghost use Rattle.rustc_parse_format.specs.Marks.{Start, End};
+    ghost use Rattle.rustc_parse_format.specs.World.{plain_world, number_of};
+
+    /// At the start of an input that starts and ends at these bytes of the source.
+    pub fn new(input: &'input str, offset: usize, end: usize) -> Cursor<'input>
+        requires { offset + length input.now < 2 ^ 64 }
+        ensures { result ≡ record { world = plain_world offset (chars input.now) end; input = chars input.now; rest = chars input.now } }
+    {
+        Cursor {
+            input,
+            rest: input,
+            offset,
+            end,
+        }
+    }
+
+    /// Another cursor at the same place.
+    pub fn duplicate(&self) -> Cursor<'input>
+        ensures { result ≡ self.now }
+    {
+        Cursor {
+            input: self.input,
+            rest: self.rest,
+            offset: self.offset,
+            end: self.end,
+        }
+    }
+
+    /// What is left.
+    pub fn rest(&self) -> &'input str
+        ensures { chars result.now ≡ self.now.rest }
+    {
+        self.rest
+    }
+
+    /// The next character, or None at the end.
+    pub fn peek(&self) -> Option<char>
+        ensures { result ≡ first self.now.rest }
+    {
+        first(self.rest)
+    }
+
+    /// The character behind the next one.
+    pub fn peek_ahead(&self) -> Option<char>
+        ensures { result ≡ first (behind_first self.now.rest) }
+    {
+        first(behind_first(self.rest))
+    }
+
+    /// Moves over the next character, if there is one.
+    pub fn advance(&mut self)
+        ensures { self.new ≡ record self.old { rest = behind_first self.old.rest } }
+    {
+        self.rest = behind_first(self.rest);
+    }
+
+    /// The byte position of the next character in the input, or of its end.
+    pub fn position(&self) -> usize
+        ensures { result ≡ width self.now.input - width self.now.rest }
+    {
+        self.input.len() - self.rest.len()
+    }
+
+    /// Where the next character starts in the source, or where the text ends.
+    pub fn start(&self) -> usize
+        ensures { result ≡ number_of self.now.world (Start (length self.now.rest)) }
+    {
+        if self.rest.is_empty() {
+            self.end
+        } else {
+            self.offset + (self.input.len() - self.rest.len())
+        }
+    }
+
+    /// Where the next character ends in the source, or where the text ends.
+    pub fn stop(&self) -> usize
+        ensures { result ≡ number_of self.now.world (End (length self.now.rest)) }
+    {
+        if self.rest.is_empty() {
+            self.end
+        } else {
+            self.offset + (self.input.len() - behind_first(self.rest).len())
+        }
+    }
+
+    /// Moves behind the longest front of the class.
+    pub fn skip(&mut self, class: Class)
+        ensures { self.new ≡ record self.old { rest = behind (passes class) self.old.rest } }
+    {
+        while let Some(c) = self.peek() {
+            if !class.passes(c) {
+                break;
+            }
+            self.advance();
+        }
+    }
+
+    /// Reads the longest front of the class.
+    pub fn take(&mut self, class: Class) -> &'input str
+        ensures value { chars result.now ≡ front (passes class) self.old.rest }
+        ensures rest { self.new ≡ record self.old { rest = behind (passes class) self.old.rest } }
+    {
+        let text = self.rest();
+        self.skip(class);
+        before(text, self.rest())
+    }
+
+    /// Moves behind the word at the front.
+    #[tactic(auto, unfolding(crate::specs::Characters::behind_word))]
+    fn skip_word(&mut self)
+        ensures { self.new ≡ record self.old { rest = behind_word self.old.rest } }
+    {
+        if let Some(c) = self.peek()
+            && (c == '_' || unicode_ident::is_xid_start(c))
+        {
+            self.advance();
+            self.skip(Class::Continue);
+        }
+    }
+
+    /// Reads the word at the front, which may be empty.
+    pub fn word(&mut self) -> &'input str
+        ensures value { chars result.now ≡ word self.old.rest }
+        ensures rest { self.new ≡ record self.old { rest = behind_word self.old.rest } }
+    {
+        let text = self.rest();
+        self.skip_word();
+        before(text, self.rest())
+    }
+}

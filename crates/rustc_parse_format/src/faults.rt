@@ -1,0 +1,193 @@
+//! Faults as they are found, and the errors that they become.
+
+ghost use Rattle.std.specs.Prelude.{◌≡◌, ◌++◌, IfOk, option_map, OnOk, OnErr, chars, codes, map, string_bytes};
+ghost use Rattle.rustc_parse_format.specs.Faults.{MissingBrace, TooLarge, Underscore, UnmatchedBrace, add_errors, expected, message, out_of_range};
+ghost use Rattle.rustc_parse_format.specs.Written.{plainly_written, short_escape, written};
+ghost use Rattle.rustc_parse_format.specs.Seen.{pair, seen_error};
+ghost use Rattle.rustc_parse_format.specs.SeenFaults.{seen_fault};
+
+use std::alloc::{AllocError, Global};
+use std::ops::Range;
+
+use crate::types::{ParseError, Suggestion};
+
+/// A fault, as plain data.
+#[derive(Drop)]
+pub enum Fault<'input> {
+    /// A closing brace that closes nothing.
+    UnmatchedBrace(Range<usize>),
+    /// The character found in place of a closing brace, if any, where that is, and the opening brace.
+    MissingBrace(Option<char>, Range<usize>, Range<usize>),
+    /// The word `_`.
+    Underscore(Range<usize>),
+    /// The digits of a number above 65535.
+    TooLarge(&'input str, Range<usize>),
+}
+
+/// The escape of a character that has one of its own.
+fn short_escape(c: char) -> Option<&'static str>
+    ensures { option_map (λ s. s.now) result ≡ short_escape c }
+{
+    match c {
+        '\0' => Some("\\0"),
+        '\t' => Some("\\t"),
+        '\r' => Some("\\r"),
+        '\n' => Some("\\n"),
+        '\'' => Some("\\'"),
+        '"' => Some("\\\""),
+        '\\' => Some("\\\\"),
+        _ => None,
+    }
+}
+
+/// How a character without an escape of its own is written.
+fn plainly_written(alloc: Global, c: char) -> Result<String, AllocError>
+    ensures { IfOk result (λ s. string_bytes s ≡ plainly_written c) }
+{
+    let code = u32::from(c);
+    if code < 32 || code == 127 {
+        return format!(in alloc; "\\u{{{code:x}}}");
+    }
+    format!(in alloc; "{c}")
+}
+
+/// How a character is written in a message.
+#[tactic(auto, unfolding(crate::specs::Written::written))]
+fn written(alloc: Global, c: char) -> Result<String, AllocError>
+    ensures { IfOk result (λ s. string_bytes s ≡ written c) }
+{
+    match short_escape(c) {
+        Some(escape) => String::from_str(alloc, escape),
+        None => plainly_written(alloc, c),
+    }
+}
+
+/// What a missing brace is described by.
+fn expected_brace(alloc: Global, found: Option<char>) -> Result<String, AllocError>
+    ensures { IfOk result (λ s. string_bytes s ≡ expected found) }
+{
+    let Some(c) = found else {
+        return String::from_str(alloc, "expected `}` but string was terminated");
+    };
+    let shown = written(alloc, c)?;
+    format!(in alloc; "expected `}}`, found `{shown}`")
+}
+
+#[tactic(auto, unfolding(crate::specs::Faults::message))]
+fn unmatched_brace(alloc: Global, span: Range<usize>) -> Result<ParseError, AllocError>
+    ensures { IfOk result (λ e. seen_error e ≡ message (UnmatchedBrace (pair span))) }
+{
+    Ok(ParseError {
+        description: String::from_str(alloc, "unmatched `}` found")?,
+        note: Some(String::from_str(
+            alloc,
+            "if you intended to print `}`, you can escape it using `}}`",
+        )?),
+        label: String::from_str(alloc, "unmatched `}`")?,
+        span,
+        secondary_label: None,
+        suggestion: Suggestion::None,
+    })
+}
+
+#[tactic(auto, unfolding(crate::specs::Faults::message))]
+fn missing_brace(
+    alloc: Global,
+    found: Option<char>,
+    span: Range<usize>,
+    opening: Range<usize>,
+) -> Result<ParseError, AllocError>
+    ensures { IfOk result (λ e. seen_error e ≡ message (MissingBrace found (pair span) (pair opening))) }
+{
+    Ok(ParseError {
+        description: expected_brace(alloc, found)?,
+        note: Some(String::from_str(
+            alloc,
+            "if you intended to print `{`, you can escape it using `{{`",
+        )?),
+        label: String::from_str(alloc, "expected `}`")?,
+        span,
+        secondary_label: Some((
+            String::from_str(alloc, "because of this opening brace")?,
+            opening,
+        )),
+        suggestion: Suggestion::None,
+    })
+}
+
+#[tactic(auto, unfolding(crate::specs::Faults::message))]
+fn underscore(alloc: Global, span: Range<usize>) -> Result<ParseError, AllocError>
+    ensures { IfOk result (λ e. seen_error e ≡ message (Underscore (pair span))) }
+{
+    Ok(ParseError {
+        description: String::from_str(alloc, "invalid argument name `_`")?,
+        note: Some(String::from_str(
+            alloc,
+            "argument name cannot be a single underscore",
+        )?),
+        label: String::from_str(alloc, "invalid argument name")?,
+        span,
+        secondary_label: None,
+        suggestion: Suggestion::None,
+    })
+}
+
+/// What a number above 65535 is described by.
+fn out_of_range(alloc: Global, digits: &str) -> Result<String, AllocError>
+    ensures { IfOk result (λ s. string_bytes s ≡ out_of_range (chars digits.now)) }
+{
+    format!(in alloc; "integer `{digits}` does not fit into the type `u16` whose range is `0..=65535`")
+}
+
+#[tactic(auto, unfolding(crate::specs::Faults::message))]
+fn too_large(alloc: Global, digits: &str, span: Range<usize>) -> Result<ParseError, AllocError>
+    ensures { IfOk result (λ e. seen_error e ≡ message (TooLarge (chars digits.now) (pair span))) }
+{
+    Ok(ParseError {
+        description: out_of_range(alloc, digits)?,
+        note: None,
+        label: String::from_str(alloc, "integer out of range for `u16`")?,
+        span,
+        secondary_label: None,
+        suggestion: Suggestion::None,
+    })
+}
+
+/// The error that a fault becomes.
+fn error_of(alloc: Global, fault: Fault<'_>) -> Result<ParseError, AllocError>
+    ensures { IfOk result (λ e. seen_error e ≡ message (seen_fault fault.entry)) }
+{
+    match fault {
+        Fault::UnmatchedBrace(span) => unmatched_brace(alloc, span),
+        Fault::MissingBrace(found, span, opening) => missing_brace(alloc, found, span, opening),
+        Fault::Underscore(span) => underscore(alloc, span),
+        Fault::TooLarge(digits, span) => too_large(alloc, digits, span),
+    }
+}
+
+/// The errors that faults become, in the same order.
+fn errors_of(alloc: Global, found: Vec<Fault<'_>>) -> Result<Vec<ParseError>, AllocError>
+    ensures { IfOk result
+        (λ es. map seen_error es.items ≡ map message (map seen_fault found.entry.items)) }
+{
+    let mut errors = Vec::new(alloc);
+    for fault in found {
+        errors.push(error_of(alloc, fault)?)?;
+    }
+    Ok(errors)
+}
+
+/// Adds the faults to the errors.
+pub fn add_errors(
+    alloc: Global,
+    errors: &mut Vec<ParseError>,
+    found: Vec<Fault<'_>>,
+) -> Result<(), AllocError>
+    ensures ok { OnOk result (map seen_error errors.new.items
+        ≡ add_errors (map seen_error errors.old.items) (map seen_fault found.entry.items)) }
+    ensures err { OnErr result (errors.new.items ≡ errors.old.items) }
+{
+    let mut more = errors_of(alloc, found)?;
+    errors.append(&mut more)?;
+    Ok(())
+}
