@@ -54,7 +54,7 @@ def without_spans(line):
 def needs_later_faults(lines):
     """A fault stands here that goes to the front, or behind which something is taken."""
     return any(
-        b"raw identifiers are not supported" in line or re.search(rb"expected `}`, found `[?<^>,=+.]`", line)
+        re.search(rb"raw identifiers are not supported|python's f-string debug|expected `}`, found `[?<^>,+.]`", line)
         for line in lines
     )
 
@@ -86,6 +86,11 @@ def at_stage(stage, case, is_word_list):
     return None if wanted is None else (name, words, given, refusal, wanted, status)
 
 
+def name_of(name, count):
+    """A name of its own for a worked row that has nothing but a number."""
+    return re.sub(r"^(rows-)?[A-Z]?[\d.]+$", f"worked-{count:03}", name).replace("lib-", "mixed-")
+
+
 def main():
     if len(sys.argv) != 3 or sys.argv[2] not in STAGES:
         sys.exit(__doc__)
@@ -100,7 +105,9 @@ def main():
     total = 0
     for file in files:
         name = os.path.basename(file)
-        kept = [at_stage(stage, case, name == "words.tsv") for case in cases.read(file)[1]]
+        read = cases.read(file)[1]
+        read = [(name_of(case[0], count), *case[1:]) for count, case in enumerate(read, 1)]
+        kept = [at_stage(stage, case, name == "words.tsv") for case in read]
         kept = [case for case in kept if case]
         if kept:
             cases.write(os.path.join(out, name), stage, kept)
