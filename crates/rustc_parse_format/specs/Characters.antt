@@ -22,6 +22,10 @@ is_brace c = (c == 123) || (c == 125)
 abbrev pub is_no_brace : ℕ → Bool
 is_no_brace c = not (is_brace c)
 
+-- `<`, `>` or `^`
+abbrev pub is_align : ℕ → Bool
+is_align c = (c == 60) || (c == 62) || (c == 94)
+
 -- the longest front whose characters all pass
 abbrev pub front : (ℕ → Bool) → Text → Text
 front p [] = []
@@ -60,10 +64,24 @@ abbrev pub behind_first : Text → Text
 behind_first [] = []
 behind_first (c ∷ t) = t
 
+-- the first character of t, and then u
+abbrev pub with_first : Text → Text → Text
+with_first [] u = u
+with_first (c ∷ t) u = c ∷ u
+
 -- the text begins with the character c
 abbrev pub begins_with : ℕ → Text → Bool
 begins_with c [] = false
 begins_with c (d ∷ t) = d == c
+
+-- the first character is there, and passes
+abbrev pub starts : (ℕ → Bool) → Text → Bool
+starts p [] = false
+starts p (c ∷ t) = p c
+
+-- what is behind a closing brace, if the text begins with one
+abbrev pub behind_brace : Text → Text
+behind_brace t = if begins_with 125 t then behind_first t else t
 
 -- the number that digits write, modulo 65536
 abbrev pub number : Text → ℕ

@@ -8,10 +8,22 @@ pub data Fault (Span : Type 0) : Type 0 where
   UnmatchedBrace : Span → Fault Span
   -- no closing brace: the character found instead, if any, and the opening brace
   MissingBrace : Option ℕ → Span → Span → Fault Span
+  -- the same where the fill is a closing brace: the fill in place of the opening brace
+  FillBrace : Option ℕ → Span → Span → Fault Span
   -- the word `_`
   Underscore : Span → Fault Span
   -- the digits of a number above 65535
   TooLarge : Text → Span → Fault Span
+
+-- the span of a fill, where the fill is a closing brace
+abbrev pub brace_fill : {A : Type 0} → Option ℕ → Option A → Option A
+brace_fill None s = None
+brace_fill (Some c) s = if c == 125 then s else None
+
+-- no closing brace, with the span of such a fill, if there is one
+abbrev pub no_brace : {A : Type 0} → Option A → Option ℕ → A → A → Fault A
+no_brace None found s opening = MissingBrace found s opening
+no_brace (Some fill) found s opening = FillBrace found s fill
 
 -- goes to the front of the list of errors, and not to its back
 abbrev pub is_front : {A : Type 0} → Fault A → Bool
@@ -20,6 +32,7 @@ is_front f = false
 abbrev pub map_fault : {A B : Type 0} → (A → B) → Fault A → Fault B
 map_fault f (UnmatchedBrace s) = UnmatchedBrace (f s)
 map_fault f (MissingBrace c s o) = MissingBrace c (f s) (f o)
+map_fault f (FillBrace c s o) = FillBrace c (f s) (f o)
 map_fault f (Underscore s) = Underscore (f s)
 map_fault f (TooLarge ds s) = TooLarge ds (f s)
 
@@ -51,18 +64,43 @@ unfoldable pub message : {A : Type 0} → Fault A → Message A
 message (UnmatchedBrace s) = record {
   description = codes "unmatched `}` found";
   note = Some (codes "if you intended to print `}`, you can escape it using `}}`");
-  label = codes "unmatched `}`"; span = s; second = None; suggestion = Nothing }
+  label = codes "unmatched `}`";
+  span = s;
+  second = None;
+  suggestion = Nothing;
+}
 message (MissingBrace c s o) = record {
   description = expected c;
   note = Some (codes "if you intended to print `{`, you can escape it using `{{`");
-  label = codes "expected `}`"; span = s; second = Some (codes "because of this opening brace", o); suggestion = Nothing }
+  label = codes "expected `}`";
+  span = s;
+  second = Some (codes "because of this opening brace", o);
+  suggestion = Nothing;
+}
+message (FillBrace c s o) = record {
+  description = expected c;
+  note = Some (codes "the character `}` is interpreted as a fill character because of the `:` that precedes it");
+  label = codes "expected `}`";
+  span = s;
+  second = Some (codes "this is not interpreted as a formatting closing brace", o);
+  suggestion = Nothing;
+}
 message (Underscore s) = record {
   description = codes "invalid argument name `_`";
   note = Some (codes "argument name cannot be a single underscore");
-  label = codes "invalid argument name"; span = s; second = None; suggestion = Nothing }
+  label = codes "invalid argument name";
+  span = s;
+  second = None;
+  suggestion = Nothing;
+}
 message (TooLarge ds s) = record {
   description = out_of_range ds;
-  note = None; label = codes "integer out of range for `u16`"; span = s; second = None; suggestion = Nothing }
+  note = None;
+  label = codes "integer out of range for `u16`";
+  span = s;
+  second = None;
+  suggestion = Nothing;
+}
 
 -- the list of errors after these faults, in the order in which they were found
 abbrev pub add_errors : {A : Type 0} → List (Message A) → List (Fault A) → List (Message A)

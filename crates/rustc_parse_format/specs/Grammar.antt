@@ -1,11 +1,13 @@
 -- The grammar: which pieces a text reads as, without their spans. The public rule is the grammar of format strings in the
 -- documentation of `std::fmt`.
-use Rattle.std.specs.Prelude.{◌≡◌, ◌≢◌, ℕ, ◌≤◌, ◌⊎◌, ◌++◌, IsTrue, IsFalse, List, [], ◌∷◌, codes}
+use Rattle.std.specs.Prelude.{◌≡◌, ◌≢◌, ℕ, ◌≤◌, ◌<◌, ◌⊎◌, ◌++◌, IsTrue, IsFalse, List, [], ◌∷◌, length, take, drop, codes}
 use Rattle.std.specs.List.{AllByRecursion}
 use Rattle.std.specs.Str.Parse.{digits_value}
 use Rattle.rustc_parse_format.specs.Characters.{Text, is_brace, behind_white}
 use Rattle.rustc_parse_format.specs.Pieces.{Mode, Argument, Piece, Lit, NextArgument, bare_argument}
-use Rattle.rustc_parse_format.specs.Placeholder.{PositionText, Digits, Word, NoPosition, SpecText, Default, Cut, cut}
+use Rattle.rustc_parse_format.specs.Counts.{CountText, NumberCount, IndexCount, NameCount, PrecisionText, DotPrecision}
+use Rattle.rustc_parse_format.specs.Specification.{TypeText, WordType, SpecText, FormatParts, Modifier}
+use Rattle.rustc_parse_format.specs.Placeholder.{PositionText, Digits, Word, Cut, cut}
 use Rattle.rustc_parse_format.specs.Meaning.{argument, next_number}
 
 -- the words and the numbers that a cut has
@@ -13,15 +15,40 @@ abbrev pub words_of_position : PositionText → List Text
 words_of_position (Word w) = w ∷ []
 words_of_position p = []
 
+abbrev pub words_of_count : CountText → List Text
+words_of_count (NameCount w) = w ∷ []
+words_of_count k = []
+
+abbrev pub words_of_precision : PrecisionText → List Text
+words_of_precision (DotPrecision k) = words_of_count k
+words_of_precision p = []
+
+abbrev pub words_of_type : TypeText → List Text
+words_of_type (WordType w) = w ∷ []
+words_of_type y = []
+
+-- the text in a diagnostic is no word
 abbrev pub words_of_spec : SpecText → List Text
-words_of_spec Default = []
+words_of_spec (FormatParts p) = words_of_count p.width.count ++ words_of_precision p.precision ++ words_of_type p.type
+words_of_spec (Modifier w) = w ∷ []
+words_of_spec s = []
 
 abbrev pub numbers_of_position : PositionText → List Text
 numbers_of_position (Digits ds) = ds ∷ []
 numbers_of_position p = []
 
+abbrev pub numbers_of_count : CountText → List Text
+numbers_of_count (NumberCount ds) = ds ∷ []
+numbers_of_count (IndexCount ds) = ds ∷ []
+numbers_of_count k = []
+
+abbrev pub numbers_of_precision : PrecisionText → List Text
+numbers_of_precision (DotPrecision k) = numbers_of_count k
+numbers_of_precision p = []
+
 abbrev pub numbers_of_spec : SpecText → List Text
-numbers_of_spec Default = []
+numbers_of_spec (FormatParts p) = numbers_of_count p.width.count ++ numbers_of_precision p.precision
+numbers_of_spec s = []
 
 -- nothing in the cut is refused
 pub record IsClean (a : Cut) : Type 0 where
@@ -74,3 +101,11 @@ Reads mode c t (p ∷ ps) = (r : Text) × (next : ℕ) × Begins mode c t p r ne
 -- the text is in the mode's grammar
 abbrev pub IsInGrammar : Mode → Text → Type 0
 IsInGrammar mode t = (ps : List (Piece (Unit {0}))) × Reads mode 0 t ps
+
+-- The first pieces are the reading of the text up to a character, from which on nothing begins it, at any number.
+pub record StopsInside (mode : Mode) (c : ℕ) (t : Text) (ps : List (Piece (Unit {0}))) : Type 0 where
+  pub pieces : ℕ
+  pub characters : ℕ
+  pub inside : characters < length t
+  pub reads : Reads mode c (take characters t) (take pieces ps)
+  pub stops : (n : ℕ) (p : Piece (Unit {0})) (r : Text) (next : ℕ) → ¬ (Begins mode n (drop characters t) p r next)

@@ -1,6 +1,8 @@
 pub mod Characters
 pub mod Pieces
 pub mod Marks
+pub mod Counts
+pub mod Specification
 pub mod Placeholder
 pub mod Meaning
 pub mod Grammar

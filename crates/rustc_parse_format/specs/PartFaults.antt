@@ -1,8 +1,10 @@
 -- The faults of the parts of a placeholder, in the order in which they are found.
-use Rattle.std.specs.Prelude.{ℕ, ◌++◌, if◌then◌else◌, List, [], ◌∷◌, codes, bytes_eq}
-use Rattle.rustc_parse_format.specs.Characters.{Text, word, behind_word, digits, behind_digits, is_over}
+use Rattle.std.specs.Prelude.{◌++◌, if◌then◌else◌, List, [], ◌∷◌, codes, bytes_eq}
+use Rattle.rustc_parse_format.specs.Characters.{Text, word, behind_word, digits, behind_digits, behind_first, is_over}
 use Rattle.rustc_parse_format.specs.Marks.{Span, up_to, through}
-use Rattle.rustc_parse_format.specs.Placeholder.{SpecText, Default, Cut}
+use Rattle.rustc_parse_format.specs.Counts.{CountText, ZeroIndexCount, WidthText, count_at, PrecisionText, DotPrecision}
+use Rattle.rustc_parse_format.specs.Specification.{TypeText, WordType, Parts, SpecText, Default, FormatParts, Modifier, DiagnosticText, width_at, precision_at, type_at}
+use Rattle.rustc_parse_format.specs.Placeholder.{Cut}
 use Rattle.rustc_parse_format.specs.Faults.{Fault, Underscore, TooLarge}
 
 -- a word `_` at the front of t
@@ -17,8 +19,36 @@ number_faults t = if is_over (digits t) then TooLarge (digits t) (through t (beh
 unfoldable pub position_faults : Text → List (Fault Span)
 position_faults t = number_faults t ++ word_faults t
 
+-- A count is an integer or a word. A word is tried, and so looked at, even where no `$` makes it a count.
+unfoldable pub count_faults : Text → List (Fault Span)
+count_faults t = number_faults t ++ word_faults t
+
+-- the count of a width that begins at t
+abbrev pub width_count_faults : Text → CountText → List (Fault Span)
+width_count_faults t ZeroIndexCount = []
+width_count_faults t k = count_faults t
+
+abbrev pub width_faults : Text → WidthText → List (Fault Span)
+width_faults t w = width_count_faults (count_at w.zero_pad t) w.count
+
+abbrev pub precision_faults : Text → PrecisionText → List (Fault Span)
+precision_faults t (DotPrecision k) = count_faults (behind_first t)
+precision_faults t p = []
+
+abbrev pub type_faults : Text → TypeText → List (Fault Span)
+type_faults t (WordType w) = word_faults t
+type_faults t y = []
+
+-- the format specification that stands at t
+unfoldable pub format_faults : Text → Parts → List (Fault Span)
+format_faults t p = width_faults (width_at t) p.width ++ precision_faults (precision_at t) p.precision ++ type_faults (type_at t) p.type
+
+-- the specification that stands at t, with r behind it
 abbrev pub spec_faults : Text → SpecText → Text → List (Fault Span)
 spec_faults t Default r = []
+spec_faults t (FormatParts p) r = format_faults (behind_first t) p
+spec_faults t (Modifier w) r = word_faults (behind_first t)
+spec_faults t (DiagnosticText u) r = []
 
 unfoldable pub cut_faults : Cut → List (Fault Span)
 cut_faults a = position_faults a.position_at ++ spec_faults a.spec_at a.spec a.rest

@@ -2,11 +2,11 @@
 -- style of the literal nor the snippet is mentioned.
 use Rattle.std.specs.Prelude.{◌≡◌, ℕ, suc, zero, ◌++◌, ◌==◌, if◌then◌else◌, List, [], ◌∷◌, length, Option, Some, None}
 use Rattle.rustc_parse_format.specs.Characters.{Text, is_brace, is_no_brace, front, behind, behind_white, first, behind_first, begins_with}
-use Rattle.rustc_parse_format.specs.Pieces.{Mode, Argument, Piece, Lit, NextArgument}
+use Rattle.rustc_parse_format.specs.Pieces.{Mode, Spec, Piece, Lit, NextArgument}
 use Rattle.rustc_parse_format.specs.Marks.{Span, up_to, over_first}
 use Rattle.rustc_parse_format.specs.Placeholder.{Cut, cut}
 use Rattle.rustc_parse_format.specs.Meaning.{argument, next_number}
-use Rattle.rustc_parse_format.specs.Faults.{Fault, UnmatchedBrace, MissingBrace}
+use Rattle.rustc_parse_format.specs.Faults.{Fault, UnmatchedBrace, no_brace, brace_fill}
 use Rattle.rustc_parse_format.specs.PartFaults.{cut_faults}
 
 pub record Call : Type 0 where
@@ -16,9 +16,9 @@ pub record Call : Type 0 where
   pub rest : Text
   pub next : ℕ
 
--- r stands where the closing brace of the placeholder at opening should
-abbrev pub missing_brace : Text → Text → Fault Span
-missing_brace opening r = MissingBrace (first r) (up_to r r) (over_first opening)
+-- r stands where the closing brace of the placeholder at opening, with the specification f, should
+abbrev pub missing_brace : Text → Spec Span → Text → Fault Span
+missing_brace opening f r = no_brace (brace_fill f.fill f.fill_span) (first r) (up_to r r) (over_first opening)
 
 -- the characters of l, and the longest run without braces at the front of t
 abbrev pub literal : ℕ → Text → Text → Call
@@ -29,8 +29,11 @@ closed c a r = record { piece = Some (NextArgument (argument c a)); faults = cut
 
 abbrev pub unclosed : ℕ → Text → Cut → Text → Call
 unclosed c opening a r = record {
-  piece = Some (NextArgument (argument c a)); faults = cut_faults a ++ missing_brace opening r ∷ [];
-  rest = r; next = next_number c a }
+  piece = Some (NextArgument (argument c a));
+  faults = cut_faults a ++ missing_brace opening (argument c a).format r ∷ [];
+  rest = r;
+  next = next_number c a;
+}
 
 -- the placeholder at opening, with t behind its brace
 unfoldable pub placeholder : Mode → ℕ → Text → Text → Call
@@ -52,6 +55,15 @@ call mode c (b ∷ t) =
     if is_brace b
     then (if begins_with b t then literal c (b ∷ []) (behind_first t) else (if b == 123 then placeholder mode c (b ∷ t) t else unmatched c (b ∷ t) t))
     else literal c [] (b ∷ t)
+
+-- a call that gives no placeholder and finds no fault
+abbrev pub IsText : Option (Piece Span) → Type 0
+IsText None = Unit {0}
+IsText (Some (Lit t)) = Unit {0}
+IsText (Some (NextArgument a)) = ⊥
+
+abbrev pub TakesNoMemory : Call → Type 0
+TakesNoMemory k = IsText k.piece × (k.faults ≡ [])
 
 -- Each call goes on where the one before it stopped, and the first with no piece is the last.
 abbrev pub GoesOn : Option (Piece Span) → List Call → Type 0 → Type 0

@@ -1,7 +1,8 @@
 //! A cursor over the input: the only place where bytes and UTF-8 occur.
 
-ghost use Rattle.std.specs.Prelude.{◌≡◌, ℕ, ◌+◌, ◌<◌, ◌^◌, ◌≤◌, ◌++◌, chars, length, List};
-ghost use Rattle.rustc_parse_format.specs.Characters.{Text, behind_first, first};
+ghost use Rattle.std.specs.Prelude.{◌≡◌, ℕ, ◌+◌, ◌*◌, ◌%◌, ◌<◌, ◌^◌, ◌≤◌, ◌++◌, IsTrue, bytes_eq, chars, codes, length, List, nat_lt};
+ghost use Rattle.std.specs.Char.{digit_value, is_ascii_digit};
+ghost use Rattle.rustc_parse_format.specs.Characters.{Text, behind_first, first, is_id_start};
 ghost use Rattle.rustc_parse_format.specs.Bytes.{IsLeft};
 
 use std::marker::Model;
@@ -60,6 +61,30 @@ pub fn before<'a>(text: &'a str, behind: &str) -> &'a str
     &text[..text.len() - behind.len()]
 }
 
+/// The character may begin a word.
+pub fn is_id_start(c: char) -> bool
+    ensures { result ≡ is_id_start c }
+{
+    c == '_' || unicode_ident::is_xid_start(c)
+}
+
+/// The text is the word `_`.
+pub fn is_underscore(text: &str) -> bool
+    ensures { result ≡ bytes_eq (chars text.now) (codes "_") }
+{
+    first(text) == Some('_') && first(behind_first(text)).is_none()
+}
+
+/// The number with one more digit, modulo 65536, and whether that is above 65535.
+fn with_digit(number: u16, digit: char) -> (u16, bool)
+    requires { IsTrue (is_ascii_digit digit) }
+    ensures value { result.0 ≡ (number * 10 + digit_value digit) % 65536 }
+    ensures over { result.1 ≡ nat_lt 65535 (number * 10 + digit_value digit) }
+{
+    let value = u32::from(number) * 10 + (u32::from(digit) - 48);
+    ((value % 65536) as u16, value > 65535)
+}
+
 /// A place in the input: what is left of it, and where that stands in the source.
 #[derive(Drop)]
 pub struct Cursor<'input> {
@@ -84,7 +109,8 @@ impl<'input> Model for Cursor<'input> {
 
 impl<'input> Cursor<'input> {
     ghost use Rattle.std.specs.Prelude.{◌≡◌, ◌≢◌, ◌-◌, ◌+◌, ◌<◌, ◌^◌, [], chars, length};
-    ghost use Rattle.rustc_parse_format.specs.Characters.{first, behind_first, width, front, behind, word, behind_word};
+    ghost use Rattle.rustc_parse_format.specs.Characters.{first, behind_first, with_first, width, front, behind, behind_white, word, behind_word, digits, behind_digits, number, is_id_start, is_over, starts};
+    ghost use Rattle.std.specs.Char.{is_ascii_digit};
     ghost use Rattle.rustc_parse_format.specs.Classes.{passes};
     ghost use Rattle.rustc_parse_format.specs.Marks.{Start, End};
     ghost use Rattle.rustc_parse_format.specs.World.{plain_world, number_of};
@@ -171,6 +197,20 @@ impl<'input> Cursor<'input> {
         }
     }
 
+    /// The next character is a digit.
+    pub fn starts_digit(&self) -> bool
+        ensures { result ≡ starts is_ascii_digit self.now.rest }
+    {
+        self.peek().is_some_and(|c| c.is_ascii_digit())
+    }
+
+    /// The next character may begin a word.
+    pub fn starts_word(&self) -> bool
+        ensures { result ≡ starts is_id_start self.now.rest }
+    {
+        self.peek().is_some_and(is_id_start)
+    }
+
     /// Moves behind the longest front of the class.
     pub fn skip(&mut self, class: Class)
         ensures { self.new ≡ record self.old { rest = behind (passes class) self.old.rest } }
@@ -183,6 +223,14 @@ impl<'input> Cursor<'input> {
         }
     }
 
+    /// Moves behind the white space at the front.
+    #[tactic(auto, unfolding(crate::specs::Characters::behind_white))]
+    pub fn skip_white(&mut self)
+        ensures { self.new ≡ record self.old { rest = behind_white self.old.rest } }
+    {
+        self.skip(Class::White);
+    }
+
     /// Reads the longest front of the class.
     pub fn take(&mut self, class: Class) -> &'input str
         ensures value { chars result.now ≡ front (passes class) self.old.rest }
@@ -193,14 +241,23 @@ impl<'input> Cursor<'input> {
         before(text, self.rest())
     }
 
+    /// Reads the next character, and the longest front of the class behind it.
+    pub fn take_behind_first(&mut self, class: Class) -> &'input str
+        ensures value { chars result.now ≡ with_first self.old.rest (front (passes class) (behind_first self.old.rest)) }
+        ensures rest { self.new ≡ record self.old { rest = behind (passes class) (behind_first self.old.rest) } }
+    {
+        let text = self.rest();
+        self.advance();
+        self.skip(class);
+        before(text, self.rest())
+    }
+
     /// Moves behind the word at the front.
     #[tactic(auto, unfolding(crate::specs::Characters::behind_word))]
     fn skip_word(&mut self)
         ensures { self.new ≡ record self.old { rest = behind_word self.old.rest } }
     {
-        if let Some(c) = self.peek()
-            && (c == '_' || unicode_ident::is_xid_start(c))
-        {
+        if self.starts_word() {
             self.advance();
             self.skip(Class::Continue);
         }
@@ -214,5 +271,38 @@ impl<'input> Cursor<'input> {
         let text = self.rest();
         self.skip_word();
         before(text, self.rest())
+    }
+
+    /// Moves behind the digits at the front: their number modulo 65536, and whether it is above 65535.
+    #[tactic(auto, unfolding(crate::specs::Characters::digits, crate::specs::Characters::behind_digits))]
+    fn skip_number(&mut self) -> (u16, bool)
+        ensures value { result.0 ≡ number (digits self.old.rest) }
+        ensures over { result.1 ≡ is_over (digits self.old.rest) }
+        ensures rest { self.new ≡ record self.old { rest = behind_digits self.old.rest } }
+    {
+        let mut value = 0;
+        let mut over = false;
+        while let Some(c) = self.peek() {
+            if !c.is_ascii_digit() {
+                break;
+            }
+            let more = with_digit(value, c);
+            value = more.0;
+            over = over || more.1;
+            self.advance();
+        }
+        (value, over)
+    }
+
+    /// Reads the digits at the front: their number modulo 65536, and whether it is above 65535.
+    pub fn number(&mut self) -> (&'input str, u16, bool)
+        ensures text { chars result.0.now ≡ digits self.old.rest }
+        ensures value { result.1 ≡ number (digits self.old.rest) }
+        ensures over { result.2 ≡ is_over (digits self.old.rest) }
+        ensures rest { self.new ≡ record self.old { rest = behind_digits self.old.rest } }
+    {
+        let text = self.rest();
+        let (value, over) = self.skip_number();
+        (before(text, self.rest()), value, over)
     }
 }

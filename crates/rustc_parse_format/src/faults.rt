@@ -1,7 +1,7 @@
 //! Faults as they are found, and the errors that they become.
 
-ghost use Rattle.std.specs.Prelude.{◌≡◌, ◌++◌, IfOk, option_map, OnOk, OnErr, chars, codes, map, string_bytes};
-ghost use Rattle.rustc_parse_format.specs.Faults.{MissingBrace, TooLarge, Underscore, UnmatchedBrace, add_errors, expected, message, out_of_range};
+ghost use Rattle.std.specs.Prelude.{◌≡◌, ◌++◌, ◌∷◌, [], IfOk, IsOk, option_map, OnOk, OnErr, bytes_eq, chars, codes, map, string_bytes, if◌then◌else◌};
+ghost use Rattle.rustc_parse_format.specs.Faults.{FillBrace, MissingBrace, TooLarge, Underscore, UnmatchedBrace, add_errors, expected, message, out_of_range};
 ghost use Rattle.rustc_parse_format.specs.Written.{plainly_written, short_escape, written};
 ghost use Rattle.rustc_parse_format.specs.Seen.{pair, seen_error};
 ghost use Rattle.rustc_parse_format.specs.SeenFaults.{seen_fault};
@@ -9,6 +9,7 @@ ghost use Rattle.rustc_parse_format.specs.SeenFaults.{seen_fault};
 use std::alloc::{AllocError, Global};
 use std::ops::Range;
 
+use crate::chars::is_underscore;
 use crate::types::{ParseError, Suggestion};
 
 /// A fault, as plain data.
@@ -18,10 +19,43 @@ pub enum Fault<'input> {
     UnmatchedBrace(Range<usize>),
     /// The character found in place of a closing brace, if any, where that is, and the opening brace.
     MissingBrace(Option<char>, Range<usize>, Range<usize>),
+    /// The same where the fill is a closing brace, with the fill in place of the opening brace.
+    FillBrace(Option<char>, Range<usize>, Range<usize>),
     /// The word `_`.
     Underscore(Range<usize>),
     /// The digits of a number above 65535.
     TooLarge(&'input str, Range<usize>),
+}
+
+/// Notes a word that is `_`.
+pub fn note_word<'input>(
+    found: &mut Vec<Fault<'input>>,
+    word: &str,
+    span: Range<usize>,
+) -> Result<(), AllocError>
+    ensures { OnOk result (map seen_fault found.new.items ≡ map seen_fault found.old.items
+        ++ (if bytes_eq (chars word.now) (codes "_") then Underscore (pair span) ∷ [] else [])) }
+{
+    if is_underscore(word) {
+        found.push(Fault::Underscore(span))?;
+    }
+    Ok(())
+}
+
+/// Notes digits whose number is above 65535.
+pub fn note_number<'input>(
+    found: &mut Vec<Fault<'input>>,
+    digits: &'input str,
+    over: bool,
+    span: Range<usize>,
+) -> Result<(), AllocError>
+    ensures { OnOk result (map seen_fault found.new.items ≡ map seen_fault found.old.items
+        ++ (if over then TooLarge (chars digits.entry.now) (pair span) ∷ [] else [])) }
+{
+    if over {
+        found.push(Fault::TooLarge(digits, span))?;
+    }
+    Ok(())
 }
 
 /// The escape of a character that has one of its own.
@@ -116,6 +150,31 @@ fn missing_brace(
 }
 
 #[tactic(auto, unfolding(crate::specs::Faults::message))]
+fn fill_brace(
+    alloc: Global,
+    found: Option<char>,
+    span: Range<usize>,
+    fill: Range<usize>,
+) -> Result<ParseError, AllocError>
+    ensures { IfOk result (λ e. seen_error e ≡ message (FillBrace found (pair span) (pair fill))) }
+{
+    Ok(ParseError {
+        description: expected_brace(alloc, found)?,
+        note: Some(String::from_str(
+            alloc,
+            "the character `}` is interpreted as a fill character because of the `:` that precedes it",
+        )?),
+        label: String::from_str(alloc, "expected `}`")?,
+        span,
+        secondary_label: Some((
+            String::from_str(alloc, "this is not interpreted as a formatting closing brace")?,
+            fill,
+        )),
+        suggestion: Suggestion::None,
+    })
+}
+
+#[tactic(auto, unfolding(crate::specs::Faults::message))]
 fn underscore(alloc: Global, span: Range<usize>) -> Result<ParseError, AllocError>
     ensures { IfOk result (λ e. seen_error e ≡ message (Underscore (pair span))) }
 {
@@ -160,6 +219,7 @@ fn error_of(alloc: Global, fault: Fault<'_>) -> Result<ParseError, AllocError>
     match fault {
         Fault::UnmatchedBrace(span) => unmatched_brace(alloc, span),
         Fault::MissingBrace(found, span, opening) => missing_brace(alloc, found, span, opening),
+        Fault::FillBrace(found, span, fill) => fill_brace(alloc, found, span, fill),
         Fault::Underscore(span) => underscore(alloc, span),
         Fault::TooLarge(digits, span) => too_large(alloc, digits, span),
     }
@@ -186,7 +246,11 @@ pub fn add_errors(
     ensures ok { OnOk result (map seen_error errors.new.items
         ≡ add_errors (map seen_error errors.old.items) (map seen_fault found.entry.items)) }
     ensures err { OnErr result (errors.new.items ≡ errors.old.items) }
+    ensures none { found.entry.items ≡ [] → IsOk result }
 {
+    if found.is_empty() {
+        return Ok(());
+    }
     let mut more = errors_of(alloc, found)?;
     errors.append(&mut more)?;
     Ok(())

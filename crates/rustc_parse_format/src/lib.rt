@@ -1,10 +1,15 @@
 //! The parser by which the Rust compiler reads format strings, inline assembly templates and diagnostic texts.
 #![tactic(auto)]
 
+mod call;
 mod chars;
 mod faults;
+mod format_spec;
+mod parser;
+mod spec;
 mod types;
 
+pub use parser::Parser;
 pub use types::{
     Alignment, Argument, Count, DebugHex, FormatSpec, ParseError, ParseMode, Piece, Position, Sign,
     Suggestion,

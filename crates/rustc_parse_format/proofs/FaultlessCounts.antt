@@ -1,0 +1,76 @@
+-- Where nothing of a width or of a precision is refused, and no word `_` was tried for it, it has no fault.
+use Rattle.std.proofs.Common.{◌≡◌, ◌==◌, ℕ, Bool, true, false, [], ◌∷◌, refl, ap}
+use Rattle.std.proofs.lemmas.Bool.{cond_both}
+use Rattle.std.specs.Char.{is_ascii_digit}
+use Rattle.rustc_parse_format.specs.Characters.{Text, is_id_start, word, behind_word, digits, behind_digits}
+use Rattle.rustc_parse_format.specs.Counts.{count_at, CountText, NumberCount, IndexCount, ZeroIndexCount, NameCount, NoCount, count, behind_number, behind_name, WidthText, width, behind_zero, PrecisionText, DotPrecision, precision, behind_dot}
+use Rattle.rustc_parse_format.specs.PartFaults.{count_faults, width_faults, precision_faults}
+use Rattle.rustc_parse_format.proofs.CleanWords.{none_both, IsNamed, IsSmall, unnamed, unlarge, choose, no_word, no_digits, digit_word, no_word_at_end, no_digits_at_end}
+use Rattle.rustc_parse_format.proofs.CleanCounts.{CleanCount, CleanPrecision}
+
+-- where there is no count, the word that was tried is not `_`
+abbrev pub IsTriedNamed : CountText → Text → Type 0
+IsTriedNamed k r = k ≡ NoCount → IsNamed (word r)
+
+number_small : (ds r : Text) → CleanCount (behind_number ds r).0 → IsSmall ds
+number_small ds [] h = h.1.0
+number_small ds (c ∷ r) h = choose {B = Text} (λ k. CleanCount k → IsSmall ds) (c == 36) _ _ (λ z h. h.1.0) (λ z h. h.1.0) h
+
+abbrev Faultless : Text → CountText × Text → Type 0
+Faultless t k = CleanCount k.0 → IsTriedNamed k.0 k.1 → count_faults t ≡ []
+
+name_named : (t r : Text) → CleanCount (behind_name t (word t) r).0 → IsTriedNamed (behind_name t (word t) r).0 (behind_name t (word t) r).1 → IsNamed (word t)
+name_named t [] h f = f refl
+name_named t (c ∷ r) h f =
+    cond_both {A = CountText × Text} (c == 36) _ _ (λ k. CleanCount k.0 → IsTriedNamed k.0 k.1 → IsNamed (word t)) (λ z h f. h.0.0) (λ z h f. f refl) h f
+
+no_count_at_end : count_faults [] ≡ []
+unfolding count_faults
+no_count_at_end = none_both _ _ no_digits_at_end no_word_at_end
+
+count_faultless : (t : Text) → Faultless t (count t)
+unfolding count_faults
+count_faultless [] h f = no_count_at_end
+count_faultless (c ∷ t) h f =
+    cond_both {A = CountText × Text} (is_ascii_digit c) _ _ (Faultless (c ∷ t))
+    (λ d h f. none_both _ _ (unlarge (c ∷ t) (number_small (digits (c ∷ t)) (behind_digits (c ∷ t)) h)) (digit_word c t d))
+    (λ d. cond_both {A = CountText × Text} (is_id_start c) _ _ (Faultless (c ∷ t))
+    (λ i h f. none_both _ _ (no_digits c t d) (unnamed (c ∷ t) (name_named (c ∷ t) (behind_word (c ∷ t)) h f)))
+    (λ i h f. none_both _ _ (no_digits c t d) (no_word c t i)))
+    h f
+
+width_of_count : (z : Bool) (k : CountText) (t : Text) → count_faults (count_at z t) ≡ [] → width_faults t (record { zero_pad = z; count = k }) ≡ []
+width_of_count z ZeroIndexCount t e = refl
+width_of_count z (NumberCount ds) t e = e
+width_of_count z (IndexCount ds) t e = e
+width_of_count z (NameCount w) t e = e
+width_of_count z NoCount t e = e
+
+abbrev FaultlessWidth : Text → WidthText × Text → Type 0
+FaultlessWidth t w = CleanCount w.0.count → IsTriedNamed w.0.count w.1 → width_faults t w.0 ≡ []
+
+zero_faultless : (c : ℕ) (t : Text) → FaultlessWidth (c ∷ t) (behind_zero t)
+zero_faultless c [] = λ h f. no_count_at_end
+zero_faultless c (d ∷ t) =
+    cond_both {A = WidthText × Text} (d == 36) _ _ (FaultlessWidth (c ∷ d ∷ t))
+    (λ z h f. refl) (λ z h f. width_of_count true (count (d ∷ t)).0 (c ∷ d ∷ t) (count_faultless (d ∷ t) h f))
+
+pub width_faultless : (t : Text) → FaultlessWidth t (width t)
+width_faultless [] = λ h f. no_count_at_end
+width_faultless (c ∷ t) =
+    cond_both {A = WidthText × Text} (c == 48) _ _ (FaultlessWidth (c ∷ t))
+    (λ z. zero_faultless c t) (λ z h f. width_of_count false (count (c ∷ t)).0 (c ∷ t) (count_faultless (c ∷ t) h f))
+
+abbrev FaultlessPrecision : Text → PrecisionText × Text → Type 0
+FaultlessPrecision t p = CleanPrecision p.0 → (p.0 ≡ DotPrecision NoCount → IsNamed (word p.1)) → precision_faults t p.0 ≡ []
+
+dot_faultless : (d : ℕ) (t : Text) → FaultlessPrecision (d ∷ t) (behind_dot t)
+dot_faultless d [] = λ h f. no_count_at_end
+dot_faultless d (c ∷ t) =
+    cond_both {A = PrecisionText × Text} (c == 42) _ _ (FaultlessPrecision (d ∷ c ∷ t))
+    (λ z h f. refl) (λ z h f. count_faultless (c ∷ t) h (λ e. f (ap DotPrecision e)))
+
+pub precision_faultless : (t : Text) → FaultlessPrecision t (precision t)
+precision_faultless [] = λ h f. refl
+precision_faultless (c ∷ t) =
+    cond_both {A = PrecisionText × Text} (c == 46) _ _ (FaultlessPrecision (c ∷ t)) (λ z. dot_faultless c t) (λ z h f. refl)

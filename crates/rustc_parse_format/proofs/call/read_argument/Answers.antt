@@ -1,0 +1,64 @@
+use Rattle.std.proofs.Common.{◌≡◌, ◌++◌, ◌+◌, ◌<◌, ◌^◌, ◌∙◌, ap, sym, arith, length, map, if◌then◌else◌, suc}
+use Rattle.std.specs.Prelude.{is_some, unwrap_or}
+use Rattle.rustc_parse_format.specs.Characters.{behind_white}
+use Rattle.rustc_parse_format.specs.State.{Unread}
+use Rattle.rustc_parse_format.specs.Marks.{Start}
+use Rattle.rustc_parse_format.specs.World.{Place, number_of, place_of, faults_in}
+use Rattle.rustc_parse_format.specs.Pieces.{Mode, Position, Implicit, map_spec}
+use Rattle.rustc_parse_format.specs.Placeholder.{Cut, cut, position}
+use Rattle.rustc_parse_format.specs.Meaning.{given_position, next_number, spec_of, behind_spec}
+use Rattle.rustc_parse_format.specs.PartFaults.{spec_faults}
+use Rattle.rustc_parse_format.specs.Seen.{seen_mode, seen_spec}
+use Rattle.rustc_parse_format.specs.SeenFaults.{seen_fault}
+use Rattle.rustc_parse_format.proofs.Arguments.{argument_parts, faults_parts, spec_at-le, behind_spec-le, pair_same}
+use Rattle.rustc_parse_format.proofs.call.read_argument.Goals as goal
+
+pub specification-requires : goal.specification-requires
+unfolding cut
+specification-requires c =
+    let m = seen_mode c.args.mode in
+    let t = c.args.cursor.now.rest in
+    let at : ◌≡◌ {A = Unread} c.skip_white.new.self (record c.args.cursor.now { rest = (cut m t).spec_at }) = c.skip_white.ensures ∙ ap (λ (u : Unread). record u { rest = behind_white u.rest }) c.in_ok-given.ensures.rest in
+    let size = spec_at-le m t in
+    rw at (omega arith)
+
+pub position_of-requires : goal.position_of-requires
+unfolding cut
+position_of-requires c =
+    let m = seen_mode c.args.mode in
+    let t = c.args.cursor.now.rest in
+    let at : ◌≡◌ {A = Unread} c.skip_white.new.self (record c.args.cursor.now { rest = (cut m t).spec_at }) = c.skip_white.ensures ∙ ap (λ (u : Unread). record u { rest = behind_white u.rest }) c.in_ok-given.ensures.rest in
+    let next = rw at at c.in_ok-format.ensures.next in
+    let most = behind_spec-le m c.args.curarg.now t in
+    rw next (omega arith)
+
+pub returns-clause-value : goal.returns-clause-value
+unfolding cut
+returns-clause-value c =
+    let m = seen_mode c.args.mode in
+    let t = c.args.cursor.now.rest in
+    let n = c.args.curarg.now in
+    let at : ◌≡◌ {A = Unread} c.skip_white.new.self (record c.args.cursor.now { rest = (cut m t).spec_at }) = c.skip_white.ensures ∙ ap (λ (u : Unread). record u { rest = behind_white u.rest }) c.in_ok-given.ensures.rest in
+    let format = rw at at c.in_ok-format.ensures.value in
+    let next = rw at at c.in_ok-format.ensures.next in
+    argument_parts c.args.cursor.now.world m n t _ _ _
+    (c.position_of.ensures.value ∙ (ap (λ o. unwrap_or o (Implicit c.specification.new.curarg)) c.in_ok-given.ensures.value ∙ ap (λ k. unwrap_or (given_position (cut m t).position) (Implicit k)) next))
+    (pair_same c.start-start.ensures (c.start.ensures ∙ ap (λ (u : Unread). number_of u.world (Start (length u.rest))) at))
+    format
+
+pub returns-clause-next : goal.returns-clause-next
+unfolding cut next_number
+returns-clause-next c =
+    let m = seen_mode c.args.mode in
+    let t = c.args.cursor.now.rest in
+    let at : ◌≡◌ {A = Unread} c.skip_white.new.self (record c.args.cursor.now { rest = (cut m t).spec_at }) = c.skip_white.ensures ∙ ap (λ (u : Unread). record u { rest = behind_white u.rest }) c.in_ok-given.ensures.rest in
+    let next = rw at at c.in_ok-format.ensures.next in
+    c.position_of.ensures.next ∙ (ap (λ o. if is_some o then c.specification.new.curarg else suc c.specification.new.curarg) c.in_ok-given.ensures.value ∙ ap (λ k. if is_some (given_position (cut m t).position) then k else suc k) next)
+
+pub returns-clause-found : goal.returns-clause-found
+unfolding cut
+returns-clause-found c =
+    let m = seen_mode c.args.mode in
+    let t = c.args.cursor.now.rest in
+    let at : ◌≡◌ {A = Unread} c.skip_white.new.self (record c.args.cursor.now { rest = (cut m t).spec_at }) = c.skip_white.ensures ∙ ap (λ (u : Unread). record u { rest = behind_white u.rest }) c.in_ok-given.ensures.rest in
+    faults_parts c.args.cursor.now.world m t _ _ _ c.in_ok-given.ensures.found (rw at at c.in_ok-format.ensures.found)

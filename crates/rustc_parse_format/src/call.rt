@@ -1,0 +1,121 @@
+//! One call of the parser, on a cursor of its own: the piece, and the faults as they are found.
+
+ghost use Rattle.std.specs.Prelude.{◌≡◌, ◌≢◌, ◌++◌, ◌+◌, ◌<◌, ◌^◌, ◌∷◌, [], Some, IfOk, IsOk, OnOk, chars, if◌then◌else◌, is_some, length, map, option_map, suc, unwrap_or};
+ghost use Rattle.rustc_parse_format.specs.Characters.{behind_brace, behind_first, begins_with, first};
+ghost use Rattle.rustc_parse_format.specs.Faults.{brace_fill, no_brace};
+ghost use Rattle.rustc_parse_format.specs.Marks.{up_to};
+ghost use Rattle.rustc_parse_format.specs.Meaning.{argument, next_number};
+ghost use Rattle.rustc_parse_format.specs.PartFaults.{cut_faults};
+ghost use Rattle.rustc_parse_format.specs.Pieces.{Implicit, map_argument};
+ghost use Rattle.rustc_parse_format.specs.Placeholder.{cut};
+ghost use Rattle.rustc_parse_format.specs.Seen.{pair, seen, seen_argument, seen_mode, seen_position};
+ghost use Rattle.rustc_parse_format.specs.SeenFaults.{seen_fault};
+ghost use Rattle.rustc_parse_format.specs.Step.{TakesNoMemory, call, placeholder};
+ghost use Rattle.rustc_parse_format.specs.World.{faults_in, piece_in, place_of};
+
+use std::alloc::{AllocError, Global};
+use std::ops::Range;
+
+use crate::chars::Cursor;
+use crate::faults::Fault;
+use crate::format_spec::specification;
+use crate::spec;
+use crate::types::{Argument, FormatSpec, ParseMode, Piece, Position};
+
+/// The number of the next implicit argument, which is then one more.
+fn take_number(curarg: &mut usize) -> usize
+    requires { curarg.old + 1 < 2 ^ 64 }
+    ensures value { result ≡ curarg.old }
+    ensures next { curarg.new ≡ curarg.old + 1 }
+{
+    let number = *curarg;
+    *curarg = number + 1;
+    number
+}
+
+/// The position: the given one, or else the next argument.
+fn position_of<'input>(given: Option<Position<'input>>, curarg: &mut usize) -> Position<'input>
+    requires { curarg.old + 1 < 2 ^ 64 }
+    ensures value { seen_position result ≡ unwrap_or (option_map seen_position given.entry) (Implicit curarg.old) }
+    ensures next { curarg.new ≡ (if is_some (option_map seen_position given.entry) then curarg.old else suc curarg.old) }
+{
+    match given {
+        Some(position) => position,
+        None => Position::ArgumentImplicitlyIs(take_number(curarg)),
+    }
+}
+
+/// Reads a position, white space and a specification.
+#[tactic(auto, unfolding(crate::specs::Placeholder::cut, crate::specs::Meaning::argument, crate::specs::Meaning::next_number, crate::specs::PartFaults::cut_faults))]
+fn read_argument<'input>(
+    mode: ParseMode,
+    cursor: &mut Cursor<'input>,
+    curarg: &mut usize,
+    found: &mut Vec<Fault<'input>>,
+) -> Result<Argument<'input>, AllocError>
+    requires { curarg.old + 1 + length cursor.old.rest < 2 ^ 64 }
+    ensures value { IfOk result (λ a. seen_argument a
+        ≡ map_argument (place_of cursor.old.world) (argument curarg.old (cut (seen_mode mode) cursor.old.rest))) }
+    ensures rest { OnOk result (cursor.new ≡ record cursor.old { rest = (cut (seen_mode mode) cursor.old.rest).rest }) }
+    ensures next { OnOk result (curarg.new ≡ next_number curarg.old (cut (seen_mode mode) cursor.old.rest)) }
+    ensures found { OnOk result (map seen_fault found.new.items ≡ map seen_fault found.old.items
+        ++ faults_in cursor.old.world (cut_faults (cut (seen_mode mode) cursor.old.rest))) }
+{
+    let start = cursor.start();
+    let given = spec::position(cursor, found)?;
+    cursor.skip_white();
+    let position_span = start..cursor.start();
+    let format = specification(mode, cursor, curarg, found)?;
+    Ok(Argument {
+        position: position_of(given, curarg),
+        position_span,
+        format,
+    })
+}
+
+/// The span of the fill, where the fill is a closing brace.
+fn brace_fill(format: &FormatSpec<'_>) -> Option<Range<usize>>
+    ensures { option_map pair result ≡ brace_fill format.now.fill (option_map pair format.now.fill_span) }
+{
+    match (&format.fill, &format.fill_span) {
+        (Some('}'), Some(span)) => Some(span.start..span.end),
+        _ => None,
+    }
+}
+
+/// The fault where no brace closes.
+fn no_brace<'input>(
+    fill: Option<Range<usize>>,
+    next: Option<char>,
+    at: usize,
+    opening: Range<usize>,
+) -> Fault<'input>
+    ensures { seen_fault result ≡ no_brace (option_map pair fill) next (at, at) (pair opening) }
+{
+    match fill {
+        Some(fill) => Fault::FillBrace(next, at..at, fill),
+        None => Fault::MissingBrace(next, at..at, opening),
+    }
+}
+
+/// Moves over the closing brace, or finds that it is missing. The placeholder opens at `opening`.
+fn close<'input>(
+    cursor: &mut Cursor<'input>,
+    found: &mut Vec<Fault<'input>>,
+    fill: Option<Range<usize>>,
+    opening: Range<usize>,
+) -> Result<(), AllocError>
+    ensures rest { OnOk result (cursor.new ≡ record cursor.old { rest = behind_brace cursor.old.rest }) }
+    ensures found { OnOk result (map seen_fault found.new.items ≡ map seen_fault found.old.items
+        ++ (if begins_with 125 cursor.old.rest then []
+            else no_brace (option_map pair fill) (first cursor.old.rest) (place_of cursor.old.world (up_to cursor.old.rest cursor.old.rest)) (pair opening) ∷ [])) }
+{
+    let next = cursor.peek();
+    if next == Some('}') {
+        cursor.advance();
+    } else {
+        let fault = no_brace(fill, next, cursor.start(), opening);
+        found.push(fault)?;
+    }
+    Ok(())
+}
