@@ -1,13 +1,18 @@
-// A library with one function.
+//! Tests of the parser through its public calls.
+//!
+//! `named_rows` and `mixed_rows` are tables of inputs with all that reading them gives. What they expect comes from
+//! outside (`replay/README.md` tells from where), and never from the parser itself. `calls` has what no table shows.
 #![tactic(auto)]
 
-ghost use Rattle.std.specs.Prelude.{◌≡◌};
-ghost use Rattle.format_rows.specs.Echo.{echo_of};
-
-// The `ensures` clause is the contract: what `echo` returns is `echo_of` of its argument, a definition
-// in `specs/Echo.antt`, which a caller's clause can cite too.
-pub fn echo(x: usize) -> usize
-    ensures { result ≡ echo_of x }
-{
-    x
-}
+#[cfg(test)]
+mod calls;
+#[cfg(test)]
+mod listing;
+#[cfg(test)]
+mod mixed_rows;
+#[cfg(test)]
+mod named_rows;
+#[cfg(test)]
+mod row;
+#[cfg(test)]
+mod tables;
