@@ -1,8 +1,8 @@
 -- An argument as it is read, part by part.
-use Rattle.std.proofs.Common.{◌≡◌, ◌++◌, ◌≤◌, ◌+◌, ℕ, List, length, map, refl, sym, ap, ◌∙◌, append_assoc, arith}
+use Rattle.std.proofs.Common.{◌≡◌, ◌++◌, ◌≤◌, ◌+◌, ℕ, List, length, refl, sym, ap, ◌∙◌, append_assoc, arith}
 use Rattle.std.proofs.lemmas.List.{map-append}
 use Rattle.rustc_parse_format.specs.Characters.{Text, behind_white}
-use Rattle.rustc_parse_format.specs.Marks.{Span, up_to}
+use Rattle.rustc_parse_format.specs.Marks.{up_to}
 use Rattle.rustc_parse_format.specs.Pieces.{Mode, Position, Spec, Argument, map_spec, map_argument}
 use Rattle.rustc_parse_format.specs.Placeholder.{position, cut}
 use Rattle.rustc_parse_format.specs.Meaning.{position_of, behind_spec, spec_of, argument}
@@ -10,7 +10,7 @@ use Rattle.rustc_parse_format.specs.Faults.{Fault, map_fault}
 use Rattle.rustc_parse_format.specs.PartFaults.{position_faults, spec_faults, cut_faults}
 use Rattle.rustc_parse_format.specs.World.{World, Place, place_of, faults_in}
 use Rattle.rustc_parse_format.proofs.Numbers.{specification_number}
-use Rattle.rustc_parse_format.proofs.Rests.{IsRest, IsRest-le, IsRest-trans, position_rest, behind_white_rest}
+use Rattle.rustc_parse_format.proofs.Rests.{IsRest-le, IsRest-trans, position_rest, behind_white_rest}
 
 pub argument_parts : (w : World) (mode : Mode) (c : ℕ) (t : Text) (p : Position) (s : Place) (f : Spec Place) →
     p ≡ position_of (behind_spec c (cut mode t).spec) (cut mode t).position →

@@ -1,10 +1,10 @@
 -- A number that is read digit by digit, modulo 65536.
-use Rattle.std.proofs.Common.{◌≡◌, ◌+◌, ◌*◌, ◌%◌, ◌/◌, ◌<◌, ◌≤◌, ℕ, Bool, true, false, List, [], ◌∷◌, nat_lt, refl, sym, ap, ◌∙◌, arith}
+use Rattle.std.proofs.Common.{◌≡◌, ◌+◌, ◌*◌, ◌%◌, ◌/◌, ◌<◌, ◌≤◌, ℕ, Bool, true, false, [], ◌∷◌, nat_lt, refl, sym, ap, ◌∙◌, arith}
 use Rattle.std.specs.Prelude.{◌||◌}
 use Rattle.std.specs.Char.{digit_value}
 use Rattle.std.specs.Str.Parse.{digits_value, digits_value_after}
 use Rattle.std.proofs.Math.Nat.{mod-add-div', add-mul-mod_self_right}
-use Rattle.std.proofs.lemmas.Bool.{ltb-true, ltb-false, lt-ltb, le-ltb}
+use Rattle.std.proofs.lemmas.Bool.{ltb-true, ltb-false, lt-ltb}
 use Rattle.rustc_parse_format.specs.Characters.{Text, number, is_over}
 
 -- The digits read so far write the number whole, and those left follow them.
@@ -38,7 +38,8 @@ counted-digit value d over left all k = record {
   whole = k.whole * 10 + digit_value d;
   low = ap (λ n. (n * 10 + digit_value d) % 65536) k.low ∙ low_more k.whole (digit_value d);
   high = rw (k.low, k.high) (high_more k.whole (digit_value d));
-  more = k.more }
+  more = k.more;
+}
 
 pub counted-value : (value : ℕ) (over : Bool) (all : Text) → Counted value over [] all → value ≡ number all
 counted-value value over all k = k.low ∙ ap (λ n. n % 65536) k.more

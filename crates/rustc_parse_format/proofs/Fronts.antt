@@ -8,8 +8,9 @@ unfolding word behind_word
 word-behind [] = refl
 word-behind (c ∷ t) =
     elim (is_id_start c) as (λ b. c ∷ t ≡ cond b (c ∷ front is_id_continue t) [] ++ cond b (behind is_id_continue t) (c ∷ t)) [
-      true ↦ ap (λ u. c ∷ u) (front-behind is_id_continue t)
-    | false ↦ refl ]
+      | true ↦ ap (λ u. c ∷ u) (front-behind is_id_continue t)
+      | false ↦ refl
+    ]
 
 pub first-behind : (p : ℕ → Bool) (t : Text) → t ≡ with_first t (front p (behind_first t)) ++ behind p (behind_first t)
 first-behind p [] = refl

@@ -1,5 +1,5 @@
 -- What a call says of the grammar: the piece that begins the rest, a fault where nothing does, and the end.
-use Rattle.std.proofs.Common.{◌≡◌, ◌≢◌, ◌<◌, ℕ, List, [], ◌∷◌, length, Option, Some, None, IsNone, refl, sym, ap, ◌∙◌}
+use Rattle.std.proofs.Common.{◌≡◌, ◌≢◌, ◌<◌, ℕ, List, [], length, Option, Some, None, IsNone, refl, ap, ◌∙◌}
 use Rattle.std.specs.Prelude.{Result, Ok, Err, IfOk, OnOk, option_map}
 use Rattle.rustc_parse_format.specs.Characters.{Text}
 use Rattle.rustc_parse_format.specs.Grammar.{Begins}
@@ -29,7 +29,8 @@ next_reads s new o q r n e f b =
       piece = ap (option_map bare) (e ∙ ap (option_map (piece_in s.world)) g.given) ∙ ap Some (bare-piece_in s.world g.piece ∙ g.same);
       rest = ap (λ (x : State). x.rest) f ∙ g.rest;
       next = ap (λ (x : State). x.next) f ∙ g.next;
-      errors = ap (λ (x : State). x.errors) f ∙ after-same s (next_call s) g.faultless }
+      errors = ap (λ (x : State). x.errors) f ∙ after-same s (next_call s) g.faultless;
+    }
 
 pub next_faulty : (s new : State) → new ≡ after s (next_call s) → s.rest ≢ [] →
     ((q : Piece (Unit {0})) (r : Text) (n : ℕ) → ¬ (Begins s.mode s.next s.rest q r n)) → length s.errors < length new.errors

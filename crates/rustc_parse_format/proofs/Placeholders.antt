@@ -5,7 +5,7 @@ use Rattle.std.proofs.lemmas.Bool.{cond_both}
 use Rattle.std.proofs.lemmas.List.{append-nil, map-append}
 use Rattle.rustc_parse_format.specs.Characters.{Text, behind_white, behind_brace, behind_first, begins_with, first}
 use Rattle.rustc_parse_format.specs.Marks.{Span, up_to, over_first}
-use Rattle.rustc_parse_format.specs.Pieces.{Mode, Spec, Piece, NextArgument, map_spec}
+use Rattle.rustc_parse_format.specs.Pieces.{Mode, Spec, NextArgument, map_spec}
 use Rattle.rustc_parse_format.specs.Placeholder.{cut}
 use Rattle.rustc_parse_format.specs.Meaning.{argument, next_number}
 use Rattle.rustc_parse_format.specs.Faults.{Fault, map_fault, brace_fill, no_brace}
@@ -59,7 +59,7 @@ pub missing_brace_in : (w : World) (o : Text) (f : Spec Span) (r : Text) (seen :
     map_fault (place_of w) (missing_brace o f r) ≡ no_brace (brace_fill seen.fill seen.fill_span) (first r) (place_of w (up_to r r)) (place_of w (over_first o))
 missing_brace_in w o f r seen e =
     rw e (no_brace-map (place_of w) (brace_fill f.fill f.fill_span) (first r) (up_to r r) (over_first o) ∙
-        ap (λ s. no_brace s (first r) (place_of w (up_to r r)) (place_of w (over_first o))) (brace_fill-map (place_of w) f.fill f.fill_span))
+    ap (λ s. no_brace s (first r) (place_of w (up_to r r)) (place_of w (over_first o))) (brace_fill-map (place_of w) f.fill f.fill_span))
 
 map-else : {A B : Type 0} (g : A → B) (b : Bool) (x : A) → map g (if b then [] else x ∷ []) ≡ (if b then [] else g x ∷ [])
 map-else g true x = refl

@@ -1,8 +1,8 @@
 -- The places of the characters of a text that is no source literal, from the bytes of what is left of it.
-use Rattle.std.proofs.Common.{◌≡◌, ◌≢◌, ◌++◌, ◌≤◌, ◌+◌, ◌-◌, List, ℕ, suc, zero, true, false, [], ◌∷◌, length, chars, Option, Some, None, IsUtf8, take, drop, get_or, refl, ap, sym, subst, ◌∙◌, arith, length-append, append_assoc}
-use Rattle.std.specs.Prelude.{encode_utf8, sum_by}
+use Rattle.std.proofs.Common.{◌≡◌, ◌++◌, ◌+◌, ◌-◌, List, ℕ, suc, [], ◌∷◌, length, chars, IsUtf8, take, drop, get_or, refl, ap, sym, subst, ◌∙◌, arith, length-append}
+use Rattle.std.specs.Prelude.{encode_utf8}
 use Rattle.std.specs.Char.{len_utf8}
-use Rattle.std.proofs.lemmas.Str.{IsUtf8-from_is_utf8, is_utf8-from_IsUtf8, length-encode, encodes-chars, IsUtf8-take, IsCharBoundary-from_drop, chars-append, chars-nil}
+use Rattle.std.proofs.lemmas.Str.{IsUtf8-from_is_utf8, length-encode, encodes-chars, IsUtf8-take, IsCharBoundary-from_drop, chars-append, chars-nil}
 use Rattle.std.proofs.lemmas.List.{take-append-drop, nil_from_length}
 use Rattle.std.proofs.lemmas.List.Sums.{sum_by-cons}
 use Rattle.std.proofs.Math.Utf8.{encodes}
@@ -60,7 +60,8 @@ left input rest l =
     record {
       pre = chars (take i input);
       whole = ap chars split ∙ chars-append (take i input) rest front;
-      bytes = width_chars (take i input) front ∙ size }
+      bytes = width_chars (take i input) front ∙ size;
+    }
 
 pub position_left : (input rest : List ℕ) → IsLeft input rest → length input - length rest ≡ width (chars input) - width (chars rest)
 position_left input rest l = rw (width_chars input (IsUtf8-from_is_utf8 input l.valid), width_chars rest (IsUtf8-from_is_utf8 rest l.valid_rest)) refl

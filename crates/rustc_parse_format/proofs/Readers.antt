@@ -2,7 +2,7 @@
 use Rattle.std.proofs.Common.{◌≡◌, ◌++◌, ℕ, Bool, true, false, cond, List, [], ◌∷◌, map, length, refl, sym, ap, ◌∙◌}
 use Rattle.std.specs.Prelude.{if◌then◌else◌, bytes_eq, codes}
 use Rattle.rustc_parse_format.specs.Characters.{Text, word, behind_word, digits, behind_digits, is_over}
-use Rattle.rustc_parse_format.specs.Marks.{Start, End, Span}
+use Rattle.rustc_parse_format.specs.Marks.{Start, End}
 use Rattle.rustc_parse_format.specs.Faults.{Fault, Underscore, TooLarge, map_fault}
 use Rattle.rustc_parse_format.specs.PartFaults.{word_faults, number_faults}
 use Rattle.rustc_parse_format.specs.World.{World, Place, number_of, place_of, faults_in}

@@ -1,13 +1,12 @@
 -- Texts as bytes: behind a first character, in front of a rest, and the place of a rest.
-use Rattle.std.proofs.Common.{◌≡◌, ◌++◌, ◌≤◌, ◌+◌, ◌-◌, List, ℕ, Bool, true, false, [], ◌∷◌, length, chars, Some, None, Option, MatchOption, IsUtf8, take, drop, refl, ap, sym, subst, ◌∙◌, arith, length-append, IsCharBoundary}
-use Rattle.std.specs.Prelude.{encode_utf8, sum_by, ◌&&◌, slice_range}
+use Rattle.std.proofs.Common.{◌≡◌, ◌++◌, ◌≤◌, ◌+◌, ◌-◌, List, ℕ, Bool, true, false, [], ◌∷◌, length, chars, Some, None, Option, MatchOption, IsUtf8, take, drop, refl, ap, sym, ◌∙◌, arith, length-append, IsCharBoundary}
+use Rattle.std.specs.Prelude.{encode_utf8, ◌&&◌, slice_range}
 use Rattle.std.specs.Char.{len_utf8}
-use Rattle.std.specs.Str.{is_utf8}
 use Rattle.std.proofs.lemmas.Str.{chars_past_char, chars-nil, IsUtf8-from_is_utf8, is_utf8-from_IsUtf8, IsUtf8-past_char, drop_past_char, length-encode, encodes-chars, encodes-append, chars-encodes, scalars-chars, IsCharBoundary-at_seam}
 use Rattle.std.proofs.lemmas.List.{nil_from_length}
 use Rattle.std.proofs.Math.Utf8.{scalars, scalar, encodes}
 use Rattle.std.proofs.Math.Seq.{take-append_seam}
-use Rattle.rustc_parse_format.specs.Characters.{Text, behind_first, width}
+use Rattle.rustc_parse_format.specs.Characters.{Text, behind_first}
 use Rattle.rustc_parse_format.specs.Bytes.{IsLeft}
 
 -- what `next` of `chars` leaves
@@ -27,7 +26,8 @@ left_past input s r c l e =
       valid = l.valid;
       valid_rest = is_utf8-from_IsUtf8 r (IsUtf8-past_char s r c (IsUtf8-from_is_utf8 s l.valid_rest) e);
       within = omega arith;
-      tail = ap (λ k. drop k input) (sym at) ∙ drop_past_char input r (length input - length s) c (l.tail ∙ e) }
+      tail = ap (λ k. drop k input) (sym at) ∙ drop_past_char input r (length input - length s) c (l.tail ∙ e);
+    }
 
 pub left_behind_first : (input s r : List ℕ) (o : Option ℕ) (X : Type 0) → (X → r ≡ s) → Steps s r o X → IsLeft input s → IsLeft input r
 left_behind_first input s r None X f h l = rw (f h.1) l
@@ -49,7 +49,8 @@ pub record Parts (text behind : List ℕ) (u : Text) : Type 0 where
 pub parts : (text behind : List ℕ) (u : Text) → IsUtf8 text → IsUtf8 behind → chars text ≡ u ++ chars behind → Parts text behind u
 parts text behind u v w e = record {
   bytes = sym (encodes-chars text v) ∙ (ap encodes e ∙ (encodes-append u (chars behind) ∙ ap (λ t. encodes u ++ t) (encodes-chars behind w)));
-  front = chars-encodes u (scalars-left u (chars behind) (ap scalars (sym e) ∙ scalars-chars text v)) }
+  front = chars-encodes u (scalars-left u (chars behind) (ap scalars (sym e) ∙ scalars-chars text v));
+}
 
 pub behind-le : (text behind : List ℕ) (u : Text) → Parts text behind u → length behind ≤ length text
 behind-le text behind u p = omega (arith, ap length p.bytes, length-append (encodes u) behind)

@@ -1,5 +1,5 @@
 -- The pieces of a format string, over any kind of span: a pair of marks, a range of bytes, or nothing.
-use Rattle.std.specs.Prelude.{ℕ, Bool, false, List, [], Option, None, option_map}
+use Rattle.std.specs.Prelude.{ℕ, Bool, false, [], Option, None, option_map}
 use Rattle.rustc_parse_format.specs.Characters.{Text}
 
 pub data Mode : Type 0 where
@@ -60,8 +60,20 @@ pub data Piece (Span : Type 0) : Type 0 where
 -- the specification where nothing is asked for
 abbrev pub default_spec : {A : Type 0} → Spec A
 default_spec = record {
-  fill = None; fill_span = None; align = Unknown; sign = None; alternate = false; zero_pad = false; debug_hex = None;
-  width = Implied; width_span = None; precision = Implied; precision_span = None; ty = []; ty_span = None }
+  fill = None;
+  fill_span = None;
+  align = Unknown;
+  sign = None;
+  alternate = false;
+  zero_pad = false;
+  debug_hex = None;
+  width = Implied;
+  width_span = None;
+  precision = Implied;
+  precision_span = None;
+  ty = [];
+  ty_span = None;
+}
 
 -- Each span changed by a function.
 abbrev pub map_count : {A B : Type 0} → (A → B) → Count A → Count B
@@ -73,9 +85,20 @@ map_count f Implied = Implied
 
 abbrev pub map_spec : {A B : Type 0} → (A → B) → Spec A → Spec B
 map_spec f s = record {
-  fill = s.fill; fill_span = option_map f s.fill_span; align = s.align; sign = s.sign; alternate = s.alternate;
-  zero_pad = s.zero_pad; debug_hex = s.debug_hex; width = map_count f s.width; width_span = option_map f s.width_span;
-  precision = map_count f s.precision; precision_span = option_map f s.precision_span; ty = s.ty; ty_span = option_map f s.ty_span }
+  fill = s.fill;
+  fill_span = option_map f s.fill_span;
+  align = s.align;
+  sign = s.sign;
+  alternate = s.alternate;
+  zero_pad = s.zero_pad;
+  debug_hex = s.debug_hex;
+  width = map_count f s.width;
+  width_span = option_map f s.width_span;
+  precision = map_count f s.precision;
+  precision_span = option_map f s.precision_span;
+  ty = s.ty;
+  ty_span = option_map f s.ty_span;
+}
 
 abbrev pub map_argument : {A B : Type 0} → (A → B) → Argument A → Argument B
 map_argument f a = record { position = a.position; position_span = f a.position_span; format = map_spec f a.format }
@@ -90,9 +113,20 @@ bare_count k = map_count (λ s. tt) k
 
 abbrev pub bare_spec : {A : Type 0} → Spec A → Spec (Unit {0})
 bare_spec s = record {
-  fill = s.fill; fill_span = None; align = s.align; sign = s.sign; alternate = s.alternate; zero_pad = s.zero_pad;
-  debug_hex = s.debug_hex; width = bare_count s.width; width_span = None; precision = bare_count s.precision;
-  precision_span = None; ty = s.ty; ty_span = None }
+  fill = s.fill;
+  fill_span = None;
+  align = s.align;
+  sign = s.sign;
+  alternate = s.alternate;
+  zero_pad = s.zero_pad;
+  debug_hex = s.debug_hex;
+  width = bare_count s.width;
+  width_span = None;
+  precision = bare_count s.precision;
+  precision_span = None;
+  ty = s.ty;
+  ty_span = None;
+}
 
 abbrev pub bare_argument : {A : Type 0} → Argument A → Argument (Unit {0})
 bare_argument a = record { position = a.position; position_span = tt; format = bare_spec a.format }

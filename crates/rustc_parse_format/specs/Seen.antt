@@ -1,7 +1,6 @@
 -- What a contract sees of the declared types: texts by their characters, messages by their bytes, ranges as pairs.
-use Rattle.std.specs.Prelude.{ℕ, List, Option, Some, None, option_map, chars, String, string_bytes}
+use Rattle.std.specs.Prelude.{ℕ, Option, Some, None, option_map, chars, string_bytes}
 use Rattle.std.specs.declared.ops.Range.{Range}
-use Rattle.std.specs.declared.alloc.Global.{Global}
 use Rattle.rustc_parse_format.specs.declared.types.ParseMode.{ParseMode as DeclaredMode}
 use Rattle.rustc_parse_format.specs.declared.types.ParseMode.TheVariants.{Format as FormatMode, InlineAsm as InlineAsmMode, Diagnostic as DiagnosticMode}
 use Rattle.rustc_parse_format.specs.declared.types.Piece.{Piece as DeclaredPiece}
@@ -61,10 +60,20 @@ seen_count CountImplied = Implied
 
 abbrev pub seen_spec : FormatSpec → Spec Place
 seen_spec s = record {
-  fill = s.fill; fill_span = option_map pair s.fill_span; align = seen_alignment s.align; sign = option_map seen_sign s.sign;
-  alternate = s.alternate; zero_pad = s.zero_pad; debug_hex = option_map seen_debug_hex s.debug_hex;
-  width = seen_count s.width; width_span = option_map pair s.width_span; precision = seen_count s.precision;
-  precision_span = option_map pair s.precision_span; ty = chars s.ty.now; ty_span = option_map pair s.ty_span }
+  fill = s.fill;
+  fill_span = option_map pair s.fill_span;
+  align = seen_alignment s.align;
+  sign = option_map seen_sign s.sign;
+  alternate = s.alternate;
+  zero_pad = s.zero_pad;
+  debug_hex = option_map seen_debug_hex s.debug_hex;
+  width = seen_count s.width;
+  width_span = option_map pair s.width_span;
+  precision = seen_count s.precision;
+  precision_span = option_map pair s.precision_span;
+  ty = chars s.ty.now;
+  ty_span = option_map pair s.ty_span;
+}
 
 abbrev pub seen_argument : DeclaredArgument → Argument Place
 seen_argument a = record { position = seen_position a.position; position_span = pair a.position_span; format = seen_spec a.format }
@@ -83,9 +92,13 @@ seen_suggestion UseDebugMacro = UseRustDebugPrintingMacro
 
 abbrev pub seen_error : ParseError → Message Place
 seen_error e = record {
-  description = string_bytes e.description; note = option_map string_bytes e.note; label = string_bytes e.label;
-  span = pair e.span; second = option_map (λ x. (string_bytes x.0, pair x.1)) e.secondary_label;
-  suggestion = seen_suggestion e.suggestion }
+  description = string_bytes e.description;
+  note = option_map string_bytes e.note;
+  label = string_bytes e.label;
+  span = pair e.span;
+  second = option_map (λ x. (string_bytes x.0, pair x.1)) e.secondary_label;
+  suggestion = seen_suggestion e.suggestion;
+}
 
 -- the number of the argument, where the position has one
 abbrev pub index_of : DeclaredPosition → Option ℕ

@@ -13,14 +13,13 @@ ghost use Rattle.rustc_parse_format.specs.SeenFaults.{seen_fault};
 ghost use Rattle.rustc_parse_format.specs.Step.{TakesNoMemory, call, placeholder};
 ghost use Rattle.rustc_parse_format.specs.World.{faults_in, piece_in, place_of};
 
-use std::alloc::{AllocError, Global};
-use std::ops::Range;
-
 use crate::chars::{Class, Cursor};
 use crate::faults::Fault;
 use crate::format_spec::specification;
 use crate::spec;
 use crate::types::{Argument, FormatSpec, ParseMode, Piece, Position};
+use std::alloc::{AllocError, Global};
+use std::ops::Range;
 
 /// The number of the next implicit argument, which is then one more.
 fn take_number(curarg: &mut usize) -> usize
@@ -108,7 +107,7 @@ fn close<'input>(
     ensures rest { OnOk result (cursor.new ≡ record cursor.old { rest = behind_brace cursor.old.rest }) }
     ensures found { OnOk result (map seen_fault found.new.items ≡ map seen_fault found.old.items
         ++ (if begins_with 125 cursor.old.rest then []
-            else no_brace (option_map pair fill) (first cursor.old.rest) (place_of cursor.old.world (up_to cursor.old.rest cursor.old.rest)) (pair opening) ∷ [])) }
+        else no_brace (option_map pair fill) (first cursor.old.rest) (place_of cursor.old.world (up_to cursor.old.rest cursor.old.rest)) (pair opening) ∷ [])) }
 {
     let next = cursor.peek();
     if next == Some('}') {
@@ -133,7 +132,8 @@ fn read_placeholder<'input>(
     ensures piece { IfOk result (λ p. Some (seen p) ≡ option_map (piece_in cursor.old.world)
         (placeholder (seen_mode mode) curarg.old cursor.old.rest (behind_first cursor.old.rest)).piece) }
     ensures rest { OnOk result (cursor.new ≡ record cursor.old {
-        rest = (placeholder (seen_mode mode) curarg.old cursor.old.rest (behind_first cursor.old.rest)).rest }) }
+      rest = (placeholder (seen_mode mode) curarg.old cursor.old.rest (behind_first cursor.old.rest)).rest;
+    }) }
     ensures next { OnOk result (curarg.new
         ≡ (placeholder (seen_mode mode) curarg.old cursor.old.rest (behind_first cursor.old.rest)).next) }
     ensures found { OnOk result (map seen_fault found.new.items ≡ map seen_fault found.old.items

@@ -104,7 +104,9 @@ impl<'input> Model for Cursor<'input> {
     ghost use Rattle.rustc_parse_format.specs.Bytes.{IsLeft};
 
     ghost Value = { Unread };
+
     ghost view = { λ c. record { world = plain_world c.offset (chars c.input.now) c.end; input = chars c.input.now; rest = chars c.rest.now } };
+
     ghost invariant = { λ c. IsLeft c.input.now c.rest.now × (c.offset + length c.input.now < 2 ^ 64) };
 }
 

@@ -6,11 +6,10 @@ ghost use Rattle.rustc_parse_format.specs.Written.{plainly_written, short_escape
 ghost use Rattle.rustc_parse_format.specs.Seen.{pair, seen_error};
 ghost use Rattle.rustc_parse_format.specs.SeenFaults.{seen_fault};
 
-use std::alloc::{AllocError, Global};
-use std::ops::Range;
-
 use crate::chars::is_underscore;
 use crate::types::{ParseError, Suggestion};
+use std::alloc::{AllocError, Global};
+use std::ops::Range;
 
 /// A fault, as plain data.
 #[derive(Drop)]
@@ -167,7 +166,10 @@ fn fill_brace(
         label: String::from_str(alloc, "expected `}`")?,
         span,
         secondary_label: Some((
-            String::from_str(alloc, "this is not interpreted as a formatting closing brace")?,
+            String::from_str(
+                alloc,
+                "this is not interpreted as a formatting closing brace",
+            )?,
             fill,
         )),
         suggestion: Suggestion::None,
@@ -180,10 +182,7 @@ fn underscore(alloc: Global, span: Range<usize>) -> Result<ParseError, AllocErro
 {
     Ok(ParseError {
         description: String::from_str(alloc, "invalid argument name `_`")?,
-        note: Some(String::from_str(
-            alloc,
-            "argument name cannot be a single underscore",
-        )?),
+        note: Some(String::from_str(alloc, "argument name cannot be a single underscore")?),
         label: String::from_str(alloc, "invalid argument name")?,
         span,
         secondary_label: None,
@@ -195,7 +194,9 @@ fn underscore(alloc: Global, span: Range<usize>) -> Result<ParseError, AllocErro
 fn out_of_range(alloc: Global, digits: &str) -> Result<String, AllocError>
     ensures { IfOk result (λ s. string_bytes s ≡ out_of_range (chars digits.now)) }
 {
-    format!(in alloc; "integer `{digits}` does not fit into the type `u16` whose range is `0..=65535`")
+    format!(in alloc;
+        "integer `{digits}` does not fit into the type `u16` whose range is `0..=65535`"
+    )
 }
 
 #[tactic(auto, unfolding(crate::specs::Faults::message))]

@@ -1,14 +1,13 @@
 //! The parser: one call after another, up to the end of the input.
 
-use std::alloc::{AllocError, Global};
-use std::marker::Model;
-use std::ops::Range;
-
 use crate::call::read_piece;
 use crate::chars::Cursor;
 use crate::faults::add_errors;
 use crate::types::{ParseError, ParseMode, Piece};
 use crate::world::{quote_offset, text_end};
+use std::alloc::{AllocError, Global};
+use std::marker::Model;
+use std::ops::Range;
 
 /// A parser over an input.
 #[derive(Drop)]
@@ -27,9 +26,16 @@ impl<'input> Model for Parser<'input> {
     ghost use Rattle.rustc_parse_format.specs.Seen.{seen_error, seen_mode};
 
     ghost Value = { State };
+
     ghost view = { λ p. record {
-        mode = seen_mode p.mode; world = p.cursor.world; input = p.cursor.input; rest = p.cursor.rest; next = p.curarg;
-        errors = map seen_error p.errors.items } };
+      mode = seen_mode p.mode;
+      world = p.cursor.world;
+      input = p.cursor.input;
+      rest = p.cursor.rest;
+      next = p.curarg;
+      errors = map seen_error p.errors.items;
+    } };
+
     ghost invariant = { λ p. p.curarg + length p.cursor.rest < 2 ^ 64 };
 }
 

@@ -9,10 +9,9 @@ ghost use Rattle.rustc_parse_format.specs.State.{after_all, calls, fresh};
 ghost use Rattle.rustc_parse_format.specs.Step.{pieces_of};
 ghost use Rattle.rustc_parse_format.specs.World.{hashes, pieces_in, world};
 
-use std::alloc::{AllocError, Global};
-
 use crate::parser::Parser;
 use crate::types::{ParseMode, Piece};
+use std::alloc::{AllocError, Global};
 
 /// The pieces of a parser up to the first call that gives none.
 fn read_pieces<'input>(

@@ -1,15 +1,13 @@
-use Rattle.std.proofs.Common.{◌≡◌, ◌++◌, ◌+◌, ◌<◌, ◌^◌, ◌∙◌, ap, sym, arith, length, map, if◌then◌else◌, suc}
+use Rattle.std.proofs.Common.{◌≡◌, ◌∙◌, ap, arith, length, if◌then◌else◌, suc}
 use Rattle.std.specs.Prelude.{is_some, unwrap_or}
 use Rattle.rustc_parse_format.specs.Characters.{behind_white}
 use Rattle.rustc_parse_format.specs.State.{Unread}
 use Rattle.rustc_parse_format.specs.Marks.{Start}
-use Rattle.rustc_parse_format.specs.World.{Place, number_of, place_of, faults_in}
-use Rattle.rustc_parse_format.specs.Pieces.{Mode, Position, Implicit, map_spec}
-use Rattle.rustc_parse_format.specs.Placeholder.{Cut, cut, position}
-use Rattle.rustc_parse_format.specs.Meaning.{given_position, next_number, spec_of, behind_spec}
-use Rattle.rustc_parse_format.specs.PartFaults.{spec_faults}
-use Rattle.rustc_parse_format.specs.Seen.{seen_mode, seen_spec}
-use Rattle.rustc_parse_format.specs.SeenFaults.{seen_fault}
+use Rattle.rustc_parse_format.specs.World.{number_of}
+use Rattle.rustc_parse_format.specs.Pieces.{Implicit}
+use Rattle.rustc_parse_format.specs.Placeholder.{cut}
+use Rattle.rustc_parse_format.specs.Meaning.{given_position, next_number}
+use Rattle.rustc_parse_format.specs.Seen.{seen_mode}
 use Rattle.rustc_parse_format.proofs.Arguments.{argument_parts, faults_parts, spec_at-le, behind_spec-le, pair_same}
 use Rattle.rustc_parse_format.proofs.call.read_argument.Goals as goal
 

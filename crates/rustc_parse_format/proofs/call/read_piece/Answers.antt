@@ -1,4 +1,4 @@
-use Rattle.std.proofs.Common.{◌≡◌, ◌∙◌, ap, sym, Some, Option, ℕ}
+use Rattle.std.proofs.Common.{◌∙◌, ap, sym, Some, ℕ}
 use Rattle.rustc_parse_format.specs.Characters.{begins_with, behind_first}
 use Rattle.rustc_parse_format.specs.Seen.{seen_mode}
 use Rattle.rustc_parse_format.proofs.Placeholders.{placeholder_takes}
@@ -7,5 +7,5 @@ use Rattle.rustc_parse_format.proofs.call.read_piece.Goals as goal
 pub returns-in_err-piece-clause-spare : goal.returns-in_err-piece-clause-spare
 returns-in_err-piece-clause-spare c k =
     absurd (placeholder_takes (seen_mode c.args.mode) c.args.curarg.now c.args.cursor.now.rest
-        (sym c.peek.ensures ∙ (c.in-Some.is ∙ ap (λ (x : ℕ). Some x) c.if-c-eq123.true))
-        (ap (λ x. begins_with x (behind_first c.args.cursor.now.rest)) (sym c.if-c-eq123.true) ∙ (sym c.if-goes_on_with.ensures)) k)
+    (sym c.peek.ensures ∙ (c.in-Some.is ∙ ap (λ (x : ℕ). Some x) c.if-c-eq123.true))
+    (ap (λ x. begins_with x (behind_first c.args.cursor.now.rest)) (sym c.if-c-eq123.true) ∙ (sym c.if-goes_on_with.ensures)) k)

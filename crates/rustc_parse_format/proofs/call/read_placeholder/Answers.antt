@@ -1,14 +1,13 @@
-use Rattle.std.proofs.Common.{◌≡◌, ◌∙◌, ap, sym, length, Option, Some}
-use Rattle.std.specs.Prelude.{option_map}
+use Rattle.std.proofs.Common.{◌≡◌, ◌∙◌, ap, sym, Option, Some}
 use Rattle.rustc_parse_format.specs.Characters.{behind_white, behind_brace, behind_first, first}
 use Rattle.rustc_parse_format.specs.Marks.{up_to}
 use Rattle.rustc_parse_format.specs.Faults.{brace_fill, no_brace}
 use Rattle.rustc_parse_format.specs.Meaning.{argument}
-use Rattle.rustc_parse_format.specs.Pieces.{Argument, Piece, Spec, NextArgument}
+use Rattle.rustc_parse_format.specs.Pieces.{Argument, NextArgument}
 use Rattle.rustc_parse_format.specs.Placeholder.{cut}
-use Rattle.rustc_parse_format.specs.Seen.{pair, seen_argument, seen_mode, seen_spec}
+use Rattle.rustc_parse_format.specs.Seen.{seen_argument, seen_mode, seen_spec}
 use Rattle.rustc_parse_format.specs.State.{Unread}
-use Rattle.rustc_parse_format.specs.World.{Place, number_of, piece_in, place_of}
+use Rattle.rustc_parse_format.specs.World.{Place, place_of}
 use Rattle.rustc_parse_format.proofs.Arguments.{pair_same}
 use Rattle.rustc_parse_format.proofs.Placeholders.{ending, placeholder-piece, placeholder-rest, placeholder-next, placeholder_faults_in, missing_brace_in}
 use Rattle.rustc_parse_format.proofs.call.read_placeholder.Goals as goal
@@ -51,7 +50,7 @@ returns-clause-found c =
     let r = ending m (behind_first t) in
     let here = place_of w (up_to r r) in
     let missing =
-        ap (λ (s : Option Place). no_brace s (first r) here (c.start.result, c.stop.result)) c.brace_fill-fill.ensures ∙
-        (ap (λ (o : Place). no_brace (brace_fill seen.fill seen.fill_span) (first r) here o) (pair_same c.start.ensures c.stop.ensures) ∙
-        sym (missing_brace_in w t format r seen (ap (λ (a : Argument Place). a.format) value))) in
+    ap (λ (s : Option Place). no_brace s (first r) here (c.start.result, c.stop.result)) c.brace_fill-fill.ensures ∙
+    (ap (λ (o : Place). no_brace (brace_fill seen.fill seen.fill_span) (first r) here o) (pair_same c.start.ensures c.stop.ensures) ∙
+    sym (missing_brace_in w t format r seen (ap (λ (a : Argument Place). a.format) value))) in
     placeholder_faults_in w m c.args.curarg.now t (behind_first t) _ _ _ _ found missing more

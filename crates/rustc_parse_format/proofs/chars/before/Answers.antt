@@ -1,6 +1,4 @@
-use Rattle.std.proofs.Common.{◌≡◌, ◌++◌, chars, ◌∙◌, ap}
-use Rattle.rustc_parse_format.specs.Characters.{Text}
-use Rattle.rustc_parse_format.proofs.Texts.{parts, behind-le, cut_boundary, chars_front, Parts}
+use Rattle.rustc_parse_format.proofs.Texts.{parts, behind-le, cut_boundary, chars_front}
 use Rattle.rustc_parse_format.proofs.chars.before.Goals as goal
 
 pub overflow_sub-text : goal.overflow_sub-text

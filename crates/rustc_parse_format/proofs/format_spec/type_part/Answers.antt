@@ -1,4 +1,4 @@
-use Rattle.std.proofs.Common.{◌≡◌, sym}
+use Rattle.std.proofs.Common.{sym}
 use Rattle.rustc_parse_format.proofs.SpecParts.{lower_text, upper_text, question_text, type_word}
 use Rattle.rustc_parse_format.proofs.format_spec.type_part.Goals as goal
 

@@ -1,4 +1,4 @@
-use Rattle.std.proofs.Common.{◌≡◌, ◌∙◌, chars, string_bytes, String, Global}
+use Rattle.std.proofs.Common.{◌≡◌, chars, string_bytes, String, Global}
 use Rattle.std.specs.Prelude.{option_map}
 use Rattle.rustc_parse_format.specs.Seen.{seen_mode}
 use Rattle.rustc_parse_format.specs.State.{State, fresh}

@@ -15,7 +15,8 @@ loop-pieces-preserved c =
     record {
       world = ap (λ (s : State). s.world) c.in_ok-piece.ensures.state ∙ c.loop-pieces.invariant.world;
       pieces = rw pushed (pieces_more c.loop-pieces.parser c.next.new.self c.args.parser.now.world (seen c.in-Some.piece) _ _ c.loop-pieces.invariant.world given c.in_ok-piece.ensures.state c.loop-pieces.invariant.pieces);
-      state = state_more c.loop-pieces.parser c.next.new.self (seen c.in-Some.piece) given c.in_ok-piece.ensures.state ∙ c.loop-pieces.invariant.state }
+      state = state_more c.loop-pieces.parser c.next.new.self (seen c.in-Some.piece) given c.in_ok-piece.ensures.state ∙ c.loop-pieces.invariant.state;
+    }
 
 pub returns-clause-pieces : goal.returns-clause-pieces
 returns-clause-pieces c =

@@ -9,7 +9,8 @@ abbrev pub invariant-loop-pieces : goal.invariant-loop-pieces
 invariant-loop-pieces l = record {
   world : l.parser.world ≡ l.fn.parser.world;
   pieces : map seen l.pieces.items ++ pieces_in l.fn.parser.world (pieces_of (calls l.parser)) ≡ pieces_in l.fn.parser.world (pieces_of (calls l.fn.parser));
-  state : after_all l.parser (calls l.parser) ≡ after_all l.fn.parser (calls l.fn.parser) }
+  state : after_all l.parser (calls l.parser) ≡ after_all l.fn.parser (calls l.fn.parser);
+}
 
 abbrev pub decreases-loop-pieces : goal.decreases-loop-pieces
 decreases-loop-pieces l = length l.parser.rest

@@ -1,4 +1,4 @@
-use Rattle.std.proofs.Common.{◌≡◌, length, ap, ◌∙◌}
+use Rattle.std.proofs.Common.{length, ap, ◌∙◌}
 use Rattle.rustc_parse_format.specs.Marks.{End}
 use Rattle.rustc_parse_format.specs.State.{Unread}
 use Rattle.rustc_parse_format.specs.World.{number_of}

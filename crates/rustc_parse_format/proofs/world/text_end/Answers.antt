@@ -1,4 +1,4 @@
-use Rattle.std.proofs.Common.{◌≡◌, ◌-◌, ◌∙◌, ap, sym, string_bytes, length, arith}
+use Rattle.std.proofs.Common.{◌∙◌, ap, sym, string_bytes, length, arith}
 use Rattle.std.proofs.lemmas.Str.{IsUtf8-string_bytes}
 use Rattle.rustc_parse_format.proofs.Places.{width_chars}
 use Rattle.rustc_parse_format.proofs.world.text_end.Goals as goal

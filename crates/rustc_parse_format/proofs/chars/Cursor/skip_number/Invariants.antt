@@ -1,6 +1,5 @@
-use Rattle.std.proofs.Common.{◌≡◌, ℕ, ◌%◌, length, nat_lt}
+use Rattle.std.proofs.Common.{◌≡◌, length}
 use Rattle.std.specs.Char.{is_ascii_digit}
-use Rattle.std.specs.Str.Parse.{digits_value, digits_value_after}
 use Rattle.rustc_parse_format.specs.Characters.{front, behind}
 use Rattle.rustc_parse_format.specs.State.{Unread}
 use Rattle.rustc_parse_format.proofs.Counting.{Counted}
@@ -9,7 +8,8 @@ use Rattle.rustc_parse_format.proofs.chars.Cursor.skip_number.Given as goal
 abbrev pub invariant-loop-c : goal.invariant-loop-c
 invariant-loop-c l = record {
   counted : Counted l.value l.over (front is_ascii_digit l.self.rest) (front is_ascii_digit l.fn.self.rest);
-  rest : ◌≡◌ {A = Unread} (record l.self { rest = behind is_ascii_digit l.self.rest }) (record l.fn.self { rest = behind is_ascii_digit l.fn.self.rest }) }
+  rest : ◌≡◌ {A = Unread} (record l.self { rest = behind is_ascii_digit l.self.rest }) (record l.fn.self { rest = behind is_ascii_digit l.fn.self.rest });
+}
 
 abbrev pub decreases-loop-c : goal.decreases-loop-c
 decreases-loop-c l = length l.self.rest

@@ -1,5 +1,5 @@
-use Rattle.std.proofs.Common.{length, ◌≡◌, arith, ap, sym, ◌∙◌, rules}
-use Rattle.rustc_parse_format.specs.World.{Place, place_at}
+use Rattle.std.proofs.Common.{length, ◌≡◌, ap, sym, rules}
+use Rattle.rustc_parse_format.specs.World.{Place}
 use Rattle.rustc_parse_format.proofs.Places.{place_over, start_left}
 use Rattle.rustc_parse_format.proofs.chars.Cursor.start.Goals as goal
 

@@ -1,6 +1,6 @@
-use Rattle.std.proofs.Common.{◌≡◌, ◌++◌, chars, ◌∙◌, ap, sym}
+use Rattle.std.proofs.Common.{◌++◌, ◌∙◌, ap, sym}
 use Rattle.rustc_parse_format.specs.State.{Unread}
-use Rattle.rustc_parse_format.specs.Characters.{Text, word}
+use Rattle.rustc_parse_format.specs.Characters.{word}
 use Rattle.rustc_parse_format.proofs.Fronts.{word-behind}
 use Rattle.rustc_parse_format.proofs.chars.Cursor.word.Goals as goal
 

@@ -1,6 +1,6 @@
-use Rattle.std.proofs.Common.{◌≡◌, ◌≤◌, ◌<◌, ◌∙◌, ap, sym, length, arith}
+use Rattle.std.proofs.Common.{ap, arith}
 use Rattle.rustc_parse_format.specs.Seen.{seen_mode}
-use Rattle.rustc_parse_format.specs.State.{Unread, State}
+use Rattle.rustc_parse_format.specs.State.{Unread}
 use Rattle.rustc_parse_format.proofs.Progress.{call-lt, call_next-le}
 use Rattle.rustc_parse_format.proofs.parser.Parser.step.Goals as goal
 

@@ -1,0 +1,39 @@
+-- Laws of written texts.
+use Rattle.std.proofs.Common.{◌≡◌, ℕ, ◌++◌, ◌==◌, [], ◌∷◌, List, Option, Some, None, option_map, is_some, true, false, sym, ap, ◌∙◌, append_assoc, append-nil, encode_utf8_all, flat_map, chars, codes, length, refl, arith}
+use Rattle.std.specs.declared.ops.Range.{Range}
+use Rattle.std.specs.Str.{IsUtf8}
+use Rattle.std.proofs.lemmas.Bool.Decides.{nat_tests}
+use Rattle.std.proofs.lemmas.Grind.{flat_map-append}
+use Rattle.std.proofs.lemmas.Str.{encodes-append, encodes-chars, chars-nil}
+use Rattle.rustc_parse_format.specs.Characters.{Text}
+use Rattle.rustc_parse_format.specs.Faults.{written}
+use Rattle.rustc_parse_format.specs.Seen.{pair}
+use Rattle.formatread.specs.Listing.{quoted, type_part}
+
+-- one character more is written
+pub written-push : (out : List ℕ) (t : Text) (c : ℕ) → (out ++ encode_utf8_all (flat_map written t)) ++ encode_utf8_all (written c) ≡ out ++ encode_utf8_all (flat_map written (t ++ c ∷ []))
+written-push out t c =
+    append_assoc out _ _
+    ∙ ap (λ x. out ++ (encode_utf8_all (flat_map written t) ++ encode_utf8_all x)) (sym (append-nil (written c)))
+    ∙ ap (λ x. out ++ x) (sym (encodes-append (flat_map written t) (written c ++ [])))
+    ∙ ap (λ x. out ++ encode_utf8_all x) (sym (flat_map-append written t (c ∷ [])))
+
+-- a type that was not written leaves nothing
+pub type_part-absent : (out : List ℕ) (s : Option (Range ℕ)) (bs : List ℕ) → is_some s ≡ false → true ≡ (length bs == 0) → out ≡ out ++ type_part (option_map pair s) (chars bs)
+type_part-absent out None [] e h = sym (ap (λ t. out ++ type_part None t) chars-nil ∙ append-nil out)
+type_part-absent out None (b ∷ bs) e h = grind (arith, nat_tests)
+type_part-absent out (Some r) bs e h = cc
+
+-- one with a span is shown
+pub type_part-given : (s : Option (Range ℕ)) (t : Text) → is_some s ≡ true → type_part (option_map pair s) t ≡ codes " ty=" ++ quoted t
+type_part-given None t e = cc
+type_part-given (Some r) t e = refl
+
+-- one that is not empty is shown
+type_part-cons : (s : Option (Range ℕ)) (bs : List ℕ) (t : Text) → encode_utf8_all t ≡ bs → is_some s ≡ false → false ≡ (length bs == 0) → type_part (option_map pair s) t ≡ codes " ty=" ++ quoted t
+type_part-cons None bs [] w e h = absurd (elim bs as (λ x. [] ≡ x → false ≡ (length x == 0) → ⊥) [ [] ↦ λ p q. grind (arith, nat_tests) | b ∷ bs ↦ λ p q. cc ] w h)
+type_part-cons None bs (c ∷ t) w e h = refl
+type_part-cons (Some r) bs t w e h = cc
+
+pub type_part-chars : (s : Option (Range ℕ)) (bs : List ℕ) → IsUtf8 bs → is_some s ≡ false → false ≡ (length bs == 0) → type_part (option_map pair s) (chars bs) ≡ codes " ty=" ++ quoted (chars bs)
+type_part-chars s bs u e h = type_part-cons s bs (chars bs) (encodes-chars bs u) e h

@@ -1,0 +1,137 @@
+ghost use Rattle.std.specs.Prelude.{◌≡◌, ◌≢◌, ◌<◌, ◌≤◌, ◌↔◌, ℕ, List, None, Ok, Err, IfOk, IfErr, IfSome, IsErrOf, OnOk, length, map, nat_lt, chars, option_map, string_bytes};
+ghost use Rattle.std.specs.Io.KnownBytes.{Appends};
+ghost use Rattle.rustc_parse_format.specs.Seen.{seen_mode};
+ghost use Rattle.formatread.specs.declared.verdict.RunFault.TheVariants.{Words, TooLong, NotText, Write as WriteFault};
+ghost use Rattle.formatread.specs.Program.{is_faulty, limit, mode_asked, mode_named, owed, pieces};
+ghost use Rattle.formatread.specs.Listing.{listing};
+
+use super::listing::listing;
+use super::verdict::RunFault;
+use rustc_parse_format::{ParseMode, Parser, read_all};
+use std::alloc::{AllocError, Global};
+use std::io::{Read, Write};
+
+/// How many bytes an input may have.
+const LIMIT: usize = 1_048_576;
+
+/// How many bytes are asked for at once.
+const CHUNK: usize = 4096;
+
+/// Lists the pieces of all that the reader holds, as the words ask, and answers whether a fault
+/// was found.
+///
+/// A read or a write that fails is not tried again.
+pub fn run<R: Read, W: Write>(
+    alloc: Global,
+    reader: &mut R,
+    writer: &mut W,
+    words: &[String],
+) -> Result<bool, RunFault>
+    // The listing is what is owed, and so is the answer.
+    ensures listing { IfOk result (λ faulty. IfSome (R.remaining reader.old) (λ input. (text : List ℕ)
+        × (owed (map string_bytes words.now) input ≡ Ok (text, faulty))
+        × Appends (W.contents writer.old) (W.contents writer.new) text)) }
+    ensures words { IsErrOf result Words ↔ (mode_asked (map string_bytes words.now) ≡ None) }
+    // Bad words are told before anything is read.
+    ensures unread { IsErrOf result Words → reader.new ≡ reader.old }
+    ensures too_long { IsErrOf result TooLong → IfSome (R.remaining reader.old) (λ input.
+        owed (map string_bytes words.now) input ≡ Err TooLong) }
+    ensures not_text { IsErrOf result NotText → IfSome (R.remaining reader.old) (λ input.
+        owed (map string_bytes words.now) input ≡ Err NotText) }
+    // Nothing is written before all is ready.
+    ensures unwritten { IfErr result (λ fault. fault ≢ WriteFault → writer.new ≡ writer.old) }
+{
+    let mode = match mode_asked(words) {
+        Some(mode) => mode,
+        None => return Err(RunFault::Words),
+    };
+    let input = read_input(alloc, reader)?;
+    let Ok(text) = str::from_utf8(input.as_slice()) else {
+        return Err(RunFault::NotText);
+    };
+    let (lines, faulty) = list_text(alloc, text, mode)?;
+    write_whole(writer, lines.as_bytes())?;
+    Ok(faulty)
+}
+
+/// The mode that the words ask for.
+fn mode_asked(words: &[String]) -> Option<ParseMode>
+    ensures { option_map seen_mode result ≡ mode_asked (map string_bytes words.now) }
+{
+    match words {
+        [word] => mode_named(word.as_str()),
+        _ => None,
+    }
+}
+
+/// The mode that a word names.
+fn mode_named(word: &str) -> Option<ParseMode>
+    ensures { option_map seen_mode result ≡ mode_named word.now }
+{
+    if word == "format" {
+        Some(ParseMode::Format)
+    } else {
+        None
+    }
+}
+
+/// All bytes that the reader holds up to its end.
+fn read_input<R: Read>(alloc: Global, reader: &mut R) -> Result<Vec<u8>, RunFault>
+    ensures bytes { IfOk result (λ bytes. IfSome (R.remaining reader.old) (λ input. bytes.items ≡ input)) }
+    ensures short { IfOk result (λ bytes. length bytes.items ≤ limit) }
+    ensures too_long { IsErrOf result TooLong → IfSome (R.remaining reader.old) (λ input.
+        limit < length input) }
+    ensures not_words { IfErr result (λ fault. fault ≢ Words) }
+    ensures is_text { IfErr result (λ fault. fault ≢ NotText) }
+{
+    let mut bytes = Vec::new(alloc);
+    let mut chunk = [0u8; CHUNK];
+    for _ in 0..LIMIT + 1 {
+        let count = match reader.read(&mut chunk) {
+            Ok(count) => count,
+            Err(_) => return Err(RunFault::Read),
+        };
+        if count == 0 {
+            return Ok(bytes);
+        }
+        if count > LIMIT - bytes.len() {
+            return Err(RunFault::TooLong);
+        }
+        bytes.extend_from_slice(&chunk[..count])?;
+    }
+    Err(RunFault::TooLong)
+}
+
+/// The listing of a text, and whether it has a fault.
+#[tactic(auto, unfolding(crate::specs::Program::pieces, crate::specs::Program::is_faulty))]
+fn list_text(alloc: Global, text: &str, mode: ParseMode) -> Result<(String, bool), AllocError>
+    requires { length text.now ≤ limit }
+    ensures lines { IfOk result (λ x. string_bytes x.0 ≡ listing (pieces (seen_mode mode) (chars text.now))) }
+    ensures faulty { IfOk result (λ x. x.1 ≡ is_faulty (seen_mode mode) (chars text.now)) }
+{
+    let (pieces, parser) = read_all(alloc, text, None, None, false, mode)?;
+    let lines = listing(alloc, pieces.as_slice())?;
+    Ok((lines, has_errors(&parser)))
+}
+
+/// Whether the parser found a fault.
+fn has_errors(parser: &Parser<'_>) -> bool
+    ensures { result ≡ nat_lt 0 (length parser.now.errors) }
+{
+    parser.errors().len() > 0
+}
+
+/// Writes all of the bytes. A write that takes none has failed.
+fn write_whole<W: Write>(writer: &mut W, bytes: &[u8]) -> Result<(), RunFault>
+    ensures ok { OnOk result (Appends (W.contents writer.old) (W.contents writer.new) bytes.now) }
+    ensures err { IfErr result (λ fault. fault ≡ WriteFault) }
+{
+    let mut rest = bytes;
+    while !rest.is_empty() {
+        match writer.write(rest) {
+            Ok(0) | Err(_) => return Err(RunFault::Write),
+            Ok(count) => rest = &rest[count..],
+        }
+    }
+    Ok(())
+}
