@@ -30,16 +30,35 @@ behind_parts u a s h w p y r e1 e2 e3 e4 e5 e6 e7 =
     let r4 : w ≡ record u { rest = width_at u.rest } = e4 ∙ ap (λ (x : Unread). record x { rest = (alternate x.rest).1 }) r3 in
     let r5 : p ≡ record u { rest = precision_at u.rest } = e5 ∙ ap (λ (x : Unread). record x { rest = (width x.rest).1 }) r4 in
     let r6 : y ≡ record u { rest = type_at u.rest } = e6 ∙ ap (λ (x : Unread). record x { rest = (precision x.rest).1 }) r5 in
-    record { fill = e1; align = r2; sign = r3; alternate = r4; width = r5; precision = r6;
-      type = e7 ∙ ap (λ (x : Unread). record x { rest = (type x.rest).1 }) r6 }
+    record {
+      fill = e1;
+      align = r2;
+      sign = r3;
+      alternate = r4;
+      width = r5;
+      precision = r6;
+      type = e7 ∙ ap (λ (x : Unread). record x { rest = (type x.rest).1 }) r6;
+    }
 
 pub same_spec : {x : Spec Place} {fill : Option ℕ} {fill_span : Option Place} {align : Alignment} {sign : Option Sign} {alternate zero_pad : Bool}
     {debug_hex : Option DebugHex} {width : Count Place} {width_span : Option Place} {precision : Count Place} {precision_span : Option Place}
     {ty : Text} {ty_span : Option Place} → fill ≡ x.fill → fill_span ≡ x.fill_span → align ≡ x.align → sign ≡ x.sign →
     alternate ≡ x.alternate → zero_pad ≡ x.zero_pad → debug_hex ≡ x.debug_hex → width ≡ x.width → width_span ≡ x.width_span →
     precision ≡ x.precision → precision_span ≡ x.precision_span → ty ≡ x.ty → ty_span ≡ x.ty_span → ◌≡◌ {A = Spec Place} (record {
-      fill = fill; fill_span = fill_span; align = align; sign = sign; alternate = alternate; zero_pad = zero_pad; debug_hex = debug_hex;
-      width = width; width_span = width_span; precision = precision; precision_span = precision_span; ty = ty; ty_span = ty_span }) x
+      fill = fill;
+      fill_span = fill_span;
+      align = align;
+      sign = sign;
+      alternate = alternate;
+      zero_pad = zero_pad;
+      debug_hex = debug_hex;
+      width = width;
+      width_span = width_span;
+      precision = precision;
+      precision_span = precision_span;
+      ty = ty;
+      ty_span = ty_span;
+    }) x
 same_spec h1 h2 h3 h4 h5 h6 h7 h8 h9 h10 h11 h12 h13 = rw (h1, h2, h3, h4, h5, h6, h7, h8, h9, h10, h11, h12, h13) refl
 
 pub found_in_three : (w : World) (old f g new : List (Fault Place)) (a b d : List (Fault Span)) → f ≡ old ++ faults_in w a →

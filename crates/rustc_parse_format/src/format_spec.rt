@@ -12,13 +12,12 @@ ghost use Rattle.rustc_parse_format.specs.SeenFaults.{seen_fault};
 ghost use Rattle.rustc_parse_format.specs.Specification.{align, alternate, fill, format_parts, sign, specification, type};
 ghost use Rattle.rustc_parse_format.specs.World.{Place, faults_in, place_of};
 
-use std::alloc::AllocError;
-use std::ops::Range;
-
 use crate::chars::{Class, Cursor, first};
 use crate::faults::Fault;
 use crate::spec;
 use crate::types::{Alignment, Count, DebugHex, FormatSpec, ParseMode, Sign};
+use std::alloc::AllocError;
+use std::ops::Range;
 
 /// A specification where nothing is asked for.
 pub fn default_spec<'input>() -> FormatSpec<'input>
@@ -261,7 +260,8 @@ fn hex_type<'input>(
     ensures debug_hex { result.debug_hex ≡ (if begins_with 63 (behind_first cursor.old.rest) then Some case else None) }
     ensures span { result.span ≡ None }
     ensures rest { cursor.new ≡ record cursor.old {
-        rest = if begins_with 63 (behind_first cursor.old.rest) then behind_first (behind_first cursor.old.rest) else behind_first cursor.old.rest } }
+      rest = if begins_with 63 (behind_first cursor.old.rest) then behind_first (behind_first cursor.old.rest) else behind_first cursor.old.rest;
+    } }
 {
     cursor.advance();
     if spec::take_char(cursor, '?') {
@@ -275,6 +275,7 @@ fn hex_type<'input>(
 }
 
 /// Reads the type at the front.
+#[tactic(auto, using(crate::proofs::SpecParts::types_at_front))]
 fn type_part<'input>(
     cursor: &mut Cursor<'input>,
     found: &mut Vec<Fault<'input>>,
@@ -350,8 +351,9 @@ fn modifier<'input>(
     found: &mut Vec<Fault<'input>>,
 ) -> Result<FormatSpec<'input>, AllocError>
     ensures value { IfOk result (λ f. seen_spec f ≡ record (default_spec {A = Place}) {
-        ty = word cursor.old.rest;
-        ty_span = option_map (place_of cursor.old.world) (word_span cursor.old.rest (word cursor.old.rest) (behind_word cursor.old.rest)) }) }
+      ty = word cursor.old.rest;
+      ty_span = option_map (place_of cursor.old.world) (word_span cursor.old.rest (word cursor.old.rest) (behind_word cursor.old.rest));
+    }) }
     ensures rest { OnOk result (cursor.new ≡ record cursor.old { rest = behind_word cursor.old.rest }) }
     ensures found { OnOk result (map seen_fault found.new.items
         ≡ map seen_fault found.old.items ++ faults_in cursor.old.world (word_faults cursor.old.rest)) }
@@ -367,8 +369,9 @@ fn modifier<'input>(
 /// Reads a colon and the text of a diagnostic, whose span takes in the colon.
 fn diagnostic_text<'input>(cursor: &mut Cursor<'input>) -> FormatSpec<'input>
     ensures value { seen_spec result ≡ record (default_spec {A = Place}) {
-        ty = front is_no_brace (behind_first cursor.old.rest);
-        ty_span = Some (place_of cursor.old.world (up_to cursor.old.rest (behind is_no_brace (behind_first cursor.old.rest)))) } }
+      ty = front is_no_brace (behind_first cursor.old.rest);
+      ty_span = Some (place_of cursor.old.world (up_to cursor.old.rest (behind is_no_brace (behind_first cursor.old.rest))));
+    } }
     ensures rest { cursor.new ≡ record cursor.old { rest = behind is_no_brace (behind_first cursor.old.rest) } }
 {
     let start = cursor.start();
@@ -395,7 +398,7 @@ pub fn specification<'input>(
     ensures next { OnOk result (curarg.new ≡ behind_spec curarg.old (specification (seen_mode mode) cursor.old.rest).0) }
     ensures found { OnOk result (map seen_fault found.new.items ≡ map seen_fault found.old.items
         ++ faults_in cursor.old.world (spec_faults cursor.old.rest
-            (specification (seen_mode mode) cursor.old.rest).0 (specification (seen_mode mode) cursor.old.rest).1)) }
+        (specification (seen_mode mode) cursor.old.rest).0 (specification (seen_mode mode) cursor.old.rest).1)) }
 {
     if !spec::is_next(cursor, ':') {
         return Ok(default_spec());

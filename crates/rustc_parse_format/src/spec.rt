@@ -11,11 +11,10 @@ ghost use Rattle.rustc_parse_format.specs.Seen.{seen_count, seen_position};
 ghost use Rattle.rustc_parse_format.specs.SeenFaults.{seen_fault};
 ghost use Rattle.rustc_parse_format.specs.World.{faults_in, place_of};
 
-use std::alloc::AllocError;
-
 use crate::chars::Cursor;
 use crate::faults::{Fault, note_number, note_word};
 use crate::types::{Count, Position};
+use std::alloc::AllocError;
 
 /// Reads the integer at the front, where there is one: its number modulo 65536. One above 65535 is a fault.
 pub fn integer<'input>(
@@ -81,7 +80,8 @@ pub fn is_next(cursor: &Cursor<'_>, c: char) -> bool
 pub fn take_char(cursor: &mut Cursor<'_>, c: char) -> bool
     ensures value { result ≡ begins_with c cursor.old.rest }
     ensures rest { cursor.new ≡ record cursor.old {
-        rest = if begins_with c cursor.old.rest then behind_first cursor.old.rest else cursor.old.rest } }
+      rest = if begins_with c cursor.old.rest then behind_first cursor.old.rest else cursor.old.rest;
+    } }
 {
     let is_there = is_next(cursor, c);
     if is_there {
@@ -98,7 +98,8 @@ fn name_count<'input>(
     ensures value { IfOk result (λ k. seen_count k ≡ map_count (place_of cursor.old.world)
         (count_of cursor.old.rest (behind_name cursor.old.rest (word cursor.old.rest) (behind_word cursor.old.rest)).0)) }
     ensures rest { OnOk result (cursor.new ≡ record cursor.old {
-        rest = (behind_name cursor.old.rest (word cursor.old.rest) (behind_word cursor.old.rest)).1 }) }
+      rest = (behind_name cursor.old.rest (word cursor.old.rest) (behind_word cursor.old.rest)).1;
+    }) }
     ensures found { OnOk result (map seen_fault found.new.items
         ≡ map seen_fault found.old.items ++ faults_in cursor.old.world (word_faults cursor.old.rest)) }
 {

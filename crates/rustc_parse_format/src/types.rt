@@ -1,9 +1,8 @@
 ghost use Rattle.std.specs.Prelude.{◌≡◌};
 ghost use Rattle.rustc_parse_format.specs.Seen.{index_of};
 
-use std::ops::Range;
-
 use crate::chars::first;
+use std::ops::Range;
 
 /// What kind of text is parsed.
 #[derive(Copy, Clone, Debug, Eq, PartialEq)]

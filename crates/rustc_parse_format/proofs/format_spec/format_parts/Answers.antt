@@ -1,4 +1,4 @@
-use Rattle.std.proofs.Common.{◌≡◌, ◌++◌, ap, map, ◌∙◌}
+use Rattle.std.proofs.Common.{◌++◌, ap, map, ◌∙◌}
 use Rattle.std.specs.Prelude.{option_map}
 use Rattle.rustc_parse_format.specs.Counts.{count_at, precision, width}
 use Rattle.rustc_parse_format.specs.Meaning.{behind_precision, count_of, count_span, debug_hex_of, format_of, precision_of, precision_span, type_of, type_span}
@@ -15,46 +15,46 @@ pub returns-clause-value : goal.returns-clause-value
 unfolding format_parts format_of
 returns-clause-value c =
     let at = behind_parts c.args.cursor.now c.fill-fill.new.cursor c.alignment-align.new.cursor c.sign-sign.new.cursor c.alternate-alternate.new.cursor
-      c.width.new.cursor c.precision.new.cursor c.type_part.new.cursor c.fill-fill.ensures.rest c.alignment-align.ensures.rest c.sign-sign.ensures.rest c.alternate-alternate.ensures.rest
-      c.in_ok-width.ensures.rest c.in_ok-precision.ensures.rest c.in_ok-type_part.ensures.rest in
+    c.width.new.cursor c.precision.new.cursor c.type_part.new.cursor c.fill-fill.ensures.rest c.alignment-align.ensures.rest c.sign-sign.ensures.rest c.alternate-alternate.ensures.rest
+    c.in_ok-width.ensures.rest c.in_ok-precision.ensures.rest c.in_ok-type_part.ensures.rest in
     same_spec
-      c.fill-fill.ensures.value
-      c.fill-fill.ensures.span
-      (c.alignment-align.ensures.value ∙ ap (λ (u : Unread). (align u.rest).0) at.fill)
-      (c.sign-sign.ensures.value ∙ ap (λ (u : Unread). (sign u.rest).0) at.align)
-      (c.alternate-alternate.ensures.value ∙ ap (λ (u : Unread). (alternate u.rest).0) at.sign)
-      (c.in_ok-width.ensures.zero_pad ∙ ap (λ (u : Unread). (width u.rest).0.zero_pad) at.alternate)
-      (c.in_ok-type_part.ensures.debug_hex ∙ ap (λ (u : Unread). debug_hex_of (type u.rest).0) at.precision)
-      (c.in_ok-width.ensures.count ∙ ap (λ (u : Unread). map_count (place_of u.world) (count_of (count_at (width u.rest).0.zero_pad u.rest) (width u.rest).0.count)) at.alternate)
-      (c.in_ok-width.ensures.span ∙ ap (λ (u : Unread). option_map (place_of u.world) (count_span (count_at (width u.rest).0.zero_pad u.rest) (width u.rest).0.count (width u.rest).1)) at.alternate)
-      (c.in_ok-precision.ensures.value ∙ ap (λ (u : Unread). map_count (place_of u.world) (precision_of c.args.curarg.now u.rest (precision u.rest).0)) at.width)
-      (c.in_ok-precision.ensures.span ∙ ap (λ (u : Unread). option_map (place_of u.world) (precision_span u.rest (precision u.rest).0 (precision u.rest).1)) at.width)
-      (c.in_ok-type_part.ensures.ty ∙ ap (λ (u : Unread). type_of (type u.rest).0) at.precision)
-      (c.in_ok-type_part.ensures.span ∙ ap (λ (u : Unread). option_map (place_of u.world) (type_span u.rest (type u.rest).0 (type u.rest).1)) at.precision)
+    c.fill-fill.ensures.value
+    c.fill-fill.ensures.span
+    (c.alignment-align.ensures.value ∙ ap (λ (u : Unread). (align u.rest).0) at.fill)
+    (c.sign-sign.ensures.value ∙ ap (λ (u : Unread). (sign u.rest).0) at.align)
+    (c.alternate-alternate.ensures.value ∙ ap (λ (u : Unread). (alternate u.rest).0) at.sign)
+    (c.in_ok-width.ensures.zero_pad ∙ ap (λ (u : Unread). (width u.rest).0.zero_pad) at.alternate)
+    (c.in_ok-type_part.ensures.debug_hex ∙ ap (λ (u : Unread). debug_hex_of (type u.rest).0) at.precision)
+    (c.in_ok-width.ensures.count ∙ ap (λ (u : Unread). map_count (place_of u.world) (count_of (count_at (width u.rest).0.zero_pad u.rest) (width u.rest).0.count)) at.alternate)
+    (c.in_ok-width.ensures.span ∙ ap (λ (u : Unread). option_map (place_of u.world) (count_span (count_at (width u.rest).0.zero_pad u.rest) (width u.rest).0.count (width u.rest).1)) at.alternate)
+    (c.in_ok-precision.ensures.value ∙ ap (λ (u : Unread). map_count (place_of u.world) (precision_of c.args.curarg.now u.rest (precision u.rest).0)) at.width)
+    (c.in_ok-precision.ensures.span ∙ ap (λ (u : Unread). option_map (place_of u.world) (precision_span u.rest (precision u.rest).0 (precision u.rest).1)) at.width)
+    (c.in_ok-type_part.ensures.ty ∙ ap (λ (u : Unread). type_of (type u.rest).0) at.precision)
+    (c.in_ok-type_part.ensures.span ∙ ap (λ (u : Unread). option_map (place_of u.world) (type_span u.rest (type u.rest).0 (type u.rest).1)) at.precision)
 
 pub returns-clause-rest : goal.returns-clause-rest
 unfolding format_parts
 returns-clause-rest c =
     let at = behind_parts c.args.cursor.now c.fill-fill.new.cursor c.alignment-align.new.cursor c.sign-sign.new.cursor c.alternate-alternate.new.cursor
-      c.width.new.cursor c.precision.new.cursor c.type_part.new.cursor c.fill-fill.ensures.rest c.alignment-align.ensures.rest c.sign-sign.ensures.rest c.alternate-alternate.ensures.rest
-      c.in_ok-width.ensures.rest c.in_ok-precision.ensures.rest c.in_ok-type_part.ensures.rest in
+    c.width.new.cursor c.precision.new.cursor c.type_part.new.cursor c.fill-fill.ensures.rest c.alignment-align.ensures.rest c.sign-sign.ensures.rest c.alternate-alternate.ensures.rest
+    c.in_ok-width.ensures.rest c.in_ok-precision.ensures.rest c.in_ok-type_part.ensures.rest in
     at.type
 
 pub returns-clause-next : goal.returns-clause-next
 unfolding format_parts
 returns-clause-next c =
     let at = behind_parts c.args.cursor.now c.fill-fill.new.cursor c.alignment-align.new.cursor c.sign-sign.new.cursor c.alternate-alternate.new.cursor
-      c.width.new.cursor c.precision.new.cursor c.type_part.new.cursor c.fill-fill.ensures.rest c.alignment-align.ensures.rest c.sign-sign.ensures.rest c.alternate-alternate.ensures.rest
-      c.in_ok-width.ensures.rest c.in_ok-precision.ensures.rest c.in_ok-type_part.ensures.rest in
+    c.width.new.cursor c.precision.new.cursor c.type_part.new.cursor c.fill-fill.ensures.rest c.alignment-align.ensures.rest c.sign-sign.ensures.rest c.alternate-alternate.ensures.rest
+    c.in_ok-width.ensures.rest c.in_ok-precision.ensures.rest c.in_ok-type_part.ensures.rest in
     c.in_ok-precision.ensures.next ∙ ap (λ (u : Unread). behind_precision c.args.curarg.now (precision u.rest).0) at.width
 
 pub returns-clause-found : goal.returns-clause-found
 unfolding format_parts format_faults
 returns-clause-found c =
     let at = behind_parts c.args.cursor.now c.fill-fill.new.cursor c.alignment-align.new.cursor c.sign-sign.new.cursor c.alternate-alternate.new.cursor
-      c.width.new.cursor c.precision.new.cursor c.type_part.new.cursor c.fill-fill.ensures.rest c.alignment-align.ensures.rest c.sign-sign.ensures.rest c.alternate-alternate.ensures.rest
-      c.in_ok-width.ensures.rest c.in_ok-precision.ensures.rest c.in_ok-type_part.ensures.rest in
+    c.width.new.cursor c.precision.new.cursor c.type_part.new.cursor c.fill-fill.ensures.rest c.alignment-align.ensures.rest c.sign-sign.ensures.rest c.alternate-alternate.ensures.rest
+    c.in_ok-width.ensures.rest c.in_ok-precision.ensures.rest c.in_ok-type_part.ensures.rest in
     found_in_three c.args.cursor.now.world _ _ _ _ _ _ _
-      (c.in_ok-width.ensures.found ∙ ap (λ (u : Unread). map seen_fault c.args.found.now.items ++ faults_in u.world (width_faults u.rest (width u.rest).0)) at.alternate)
-      (c.in_ok-precision.ensures.found ∙ ap (λ (u : Unread). map seen_fault c.width.new.found.items ++ faults_in u.world (precision_faults u.rest (precision u.rest).0)) at.width)
-      (c.in_ok-type_part.ensures.found ∙ ap (λ (u : Unread). map seen_fault c.precision.new.found.items ++ faults_in u.world (type_faults u.rest (type u.rest).0)) at.precision)
+    (c.in_ok-width.ensures.found ∙ ap (λ (u : Unread). map seen_fault c.args.found.now.items ++ faults_in u.world (width_faults u.rest (width u.rest).0)) at.alternate)
+    (c.in_ok-precision.ensures.found ∙ ap (λ (u : Unread). map seen_fault c.width.new.found.items ++ faults_in u.world (precision_faults u.rest (precision u.rest).0)) at.width)
+    (c.in_ok-type_part.ensures.found ∙ ap (λ (u : Unread). map seen_fault c.precision.new.found.items ++ faults_in u.world (type_faults u.rest (type u.rest).0)) at.precision)
