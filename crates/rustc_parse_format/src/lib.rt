@@ -6,6 +6,7 @@ mod chars;
 mod faults;
 mod format_spec;
 mod parser;
+mod sizes;
 mod spec;
 mod types;
 
