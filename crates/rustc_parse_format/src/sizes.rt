@@ -9,13 +9,12 @@ ghost use Rattle.rustc_parse_format.specs.Seen.{pair, seen_count};
 ghost use Rattle.rustc_parse_format.specs.SeenFaults.{seen_fault};
 ghost use Rattle.rustc_parse_format.specs.World.{faults_in, place_of};
 
-use std::alloc::AllocError;
-use std::ops::Range;
-
 use crate::chars::Cursor;
 use crate::faults::Fault;
 use crate::spec;
 use crate::types::Count;
+use std::alloc::AllocError;
+use std::ops::Range;
 
 /// Reads the count at the front, and where it stands.
 fn spanned_count<'input>(
