@@ -43,3 +43,5 @@ upper_text t w h e = rw (type_upper t h) (hex_text Upper 88 (behind_first t) w (
 
 pub question_text : (t w : Text) → begins_with 63 t ≡ true → w ≡ codes "?" → chars w ≡ type_of (type t).0
 question_text t w h e = rw (type_question t h) (ap chars e ∙ chars-IsAscii (codes "?") (search rules))
+
+pub ruleset types_at_front = (lower_text, upper_text, question_text, type_word)

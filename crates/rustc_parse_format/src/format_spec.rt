@@ -2,18 +2,18 @@
 
 ghost use Rattle.std.specs.Prelude.{◌≡◌, ◌++◌, ◌+◌, ◌<◌, ◌^◌, None, Some, IfOk, OnOk, chars, codes, if◌then◌else◌, length, map, option_map};
 ghost use Rattle.rustc_parse_format.specs.Characters.{begins_with, behind, behind_first, behind_word, front, is_no_brace, word};
-ghost use Rattle.rustc_parse_format.specs.Counts.{count, count_at, precision, width};
 ghost use Rattle.rustc_parse_format.specs.Marks.{up_to};
-ghost use Rattle.rustc_parse_format.specs.Meaning.{behind_precision, behind_spec, count_of, count_span, debug_hex_of, fill_span, format_of, precision_of, precision_span, spec_of, type_of, type_span, word_span};
-ghost use Rattle.rustc_parse_format.specs.PartFaults.{count_faults, format_faults, precision_faults, spec_faults, type_faults, width_count_faults, width_faults, word_faults};
-ghost use Rattle.rustc_parse_format.specs.Pieces.{default_spec, map_count, map_spec};
-ghost use Rattle.rustc_parse_format.specs.Seen.{pair, seen_alignment, seen_count, seen_debug_hex, seen_mode, seen_sign, seen_spec};
+ghost use Rattle.rustc_parse_format.specs.Meaning.{behind_precision, behind_spec, debug_hex_of, fill_span, format_of, spec_of, type_of, type_span, word_span};
+ghost use Rattle.rustc_parse_format.specs.PartFaults.{format_faults, spec_faults, type_faults, word_faults};
+ghost use Rattle.rustc_parse_format.specs.Pieces.{default_spec, map_spec};
+ghost use Rattle.rustc_parse_format.specs.Seen.{pair, seen_alignment, seen_debug_hex, seen_mode, seen_sign, seen_spec};
 ghost use Rattle.rustc_parse_format.specs.SeenFaults.{seen_fault};
 ghost use Rattle.rustc_parse_format.specs.Specification.{align, alternate, fill, format_parts, sign, specification, type};
 ghost use Rattle.rustc_parse_format.specs.World.{Place, faults_in, place_of};
 
 use crate::chars::{Class, Cursor, first};
 use crate::faults::Fault;
+use crate::sizes::{precision, width};
 use crate::spec;
 use crate::types::{Alignment, Count, DebugHex, FormatSpec, ParseMode, Sign};
 use std::alloc::AllocError;
@@ -94,121 +94,6 @@ fn alternate(cursor: &mut Cursor<'_>) -> bool
     spec::take_char(cursor, '#')
 }
 
-/// Reads the count at the front, and where it stands.
-fn spanned_count<'input>(
-    cursor: &mut Cursor<'input>,
-    found: &mut Vec<Fault<'input>>,
-) -> Result<(Count<'input>, Option<Range<usize>>), AllocError>
-    ensures value { IfOk result (λ k. seen_count k.0
-        ≡ map_count (place_of cursor.old.world) (count_of cursor.old.rest (count cursor.old.rest).0)) }
-    ensures span { IfOk result (λ k. option_map pair k.1 ≡ option_map (place_of cursor.old.world)
-        (count_span cursor.old.rest (count cursor.old.rest).0 (count cursor.old.rest).1)) }
-    ensures rest { OnOk result (cursor.new ≡ record cursor.old { rest = (count cursor.old.rest).1 }) }
-    ensures found { OnOk result (map seen_fault found.new.items
-        ≡ map seen_fault found.old.items ++ faults_in cursor.old.world (count_faults cursor.old.rest)) }
-{
-    let start = cursor.start();
-    let count = spec::count(cursor, found)?;
-    let span = match count {
-        Count::CountImplied => None,
-        _ => Some(start..cursor.start()),
-    };
-    Ok((count, span))
-}
-
-/// A width: whether the flag `0` stands in front of its count, and where the count stands.
-#[derive(Drop)]
-struct WidthPart<'input> {
-    zero_pad: bool,
-    count: Count<'input>,
-    span: Option<Range<usize>>,
-}
-
-/// Reads the count of a width, which has the flag `0` or not.
-fn counted<'input>(
-    zero_pad: bool,
-    cursor: &mut Cursor<'input>,
-    found: &mut Vec<Fault<'input>>,
-) -> Result<WidthPart<'input>, AllocError>
-    ensures zero_pad { IfOk result (λ w. w.zero_pad ≡ zero_pad) }
-    ensures count { IfOk result (λ w. seen_count w.count
-        ≡ map_count (place_of cursor.old.world) (count_of cursor.old.rest (count cursor.old.rest).0)) }
-    ensures span { IfOk result (λ w. option_map pair w.span ≡ option_map (place_of cursor.old.world)
-        (count_span cursor.old.rest (count cursor.old.rest).0 (count cursor.old.rest).1)) }
-    ensures rest { OnOk result (cursor.new ≡ record cursor.old { rest = (count cursor.old.rest).1 }) }
-    ensures found { OnOk result (map seen_fault found.new.items
-        ≡ map seen_fault found.old.items ++ faults_in cursor.old.world (width_count_faults cursor.old.rest (count cursor.old.rest).0)) }
-{
-    let (count, span) = spanned_count(cursor, found)?;
-    Ok(WidthPart {
-        zero_pad,
-        count,
-        span,
-    })
-}
-
-/// Reads the width at the front. A `0` in front of it is a flag, unless a `$` makes it an index.
-fn width<'input>(
-    cursor: &mut Cursor<'input>,
-    found: &mut Vec<Fault<'input>>,
-) -> Result<WidthPart<'input>, AllocError>
-    ensures zero_pad { IfOk result (λ w. w.zero_pad ≡ (width cursor.old.rest).0.zero_pad) }
-    ensures count { IfOk result (λ w. seen_count w.count ≡ map_count (place_of cursor.old.world)
-        (count_of (count_at (width cursor.old.rest).0.zero_pad cursor.old.rest) (width cursor.old.rest).0.count)) }
-    ensures span { IfOk result (λ w. option_map pair w.span ≡ option_map (place_of cursor.old.world)
-        (count_span (count_at (width cursor.old.rest).0.zero_pad cursor.old.rest) (width cursor.old.rest).0.count (width cursor.old.rest).1)) }
-    ensures rest { OnOk result (cursor.new ≡ record cursor.old { rest = (width cursor.old.rest).1 }) }
-    ensures found { OnOk result (map seen_fault found.new.items
-        ≡ map seen_fault found.old.items ++ faults_in cursor.old.world (width_faults cursor.old.rest (width cursor.old.rest).0)) }
-{
-    if !spec::is_next(cursor, '0') {
-        return counted(false, cursor, found);
-    }
-    let start = cursor.start();
-    cursor.advance();
-    if !spec::is_next(cursor, '$') {
-        return counted(true, cursor, found);
-    }
-    let span = start..cursor.stop();
-    cursor.advance();
-    Ok(WidthPart {
-        zero_pad: false,
-        count: Count::CountIsParam(0),
-        span: Some(span),
-    })
-}
-
-/// Reads the precision at the front, and where it stands. A star takes the next number.
-fn precision<'input>(
-    cursor: &mut Cursor<'input>,
-    curarg: &mut usize,
-    found: &mut Vec<Fault<'input>>,
-) -> Result<(Count<'input>, Option<Range<usize>>), AllocError>
-    requires { curarg.old + 1 < 2 ^ 64 }
-    ensures value { IfOk result (λ k. seen_count k.0 ≡ map_count (place_of cursor.old.world)
-        (precision_of curarg.old cursor.old.rest (precision cursor.old.rest).0)) }
-    ensures span { IfOk result (λ k. option_map pair k.1 ≡ option_map (place_of cursor.old.world)
-        (precision_span cursor.old.rest (precision cursor.old.rest).0 (precision cursor.old.rest).1)) }
-    ensures rest { OnOk result (cursor.new ≡ record cursor.old { rest = (precision cursor.old.rest).1 }) }
-    ensures next { OnOk result (curarg.new ≡ behind_precision curarg.old (precision cursor.old.rest).0) }
-    ensures found { OnOk result (map seen_fault found.new.items
-        ≡ map seen_fault found.old.items ++ faults_in cursor.old.world (precision_faults cursor.old.rest (precision cursor.old.rest).0)) }
-{
-    if cursor.peek() != Some('.') {
-        return Ok((Count::CountImplied, None));
-    }
-    let start = cursor.start();
-    cursor.advance();
-    if cursor.peek() == Some('*') {
-        let number = *curarg;
-        *curarg = number + 1;
-        cursor.advance();
-        return Ok((Count::CountIsStar(number), Some(start..cursor.start())));
-    }
-    let count = spec::count(cursor, found)?;
-    Ok((count, Some(start..cursor.start())))
-}
-
 /// Reads the word at the front, and where it stands if it is not empty.
 fn spanned_word<'input>(
     cursor: &mut Cursor<'input>,
@@ -275,6 +160,7 @@ fn hex_type<'input>(
 }
 
 /// Reads the type at the front.
+#[tactic(auto, using(crate::proofs::SpecParts::types_at_front))]
 fn type_part<'input>(
     cursor: &mut Cursor<'input>,
     found: &mut Vec<Fault<'input>>,

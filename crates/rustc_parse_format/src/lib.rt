@@ -7,6 +7,7 @@ mod faults;
 mod format_spec;
 mod parser;
 mod reading;
+mod sizes;
 mod spec;
 mod types;
 mod world;
