@@ -10,3 +10,6 @@ pub mod Step
 pub mod World
 pub mod State
 pub mod Seen
+pub mod LiteralUnits
+pub mod Literal
+pub mod LiteralReading
