@@ -1,11 +1,10 @@
 -- String literals as they are written in a program: the content of an ordinary literal, what it stands for and where,
 -- raw literals, and which snippet is the source literal of an input. The public rule is the Rust Reference, string
--- literals and raw string literals. Two differences: the text of a raw literal may hold anything, its closing sequence
--- or a CR too; and a CR outside a continuation is refused in an ordinary content, as it is in a token.
+-- literals and raw string literals. It differs in that the text of a raw literal may hold anything, its closing sequence
+-- or a CR too. In an ordinary content a CR stands in continuations alone.
 use Rattle.std.specs.Prelude.{◌≡◌, ℕ, suc, zero, ◌+◌, ◌++◌, Bool, if◌then◌else◌, List, [], ◌∷◌, length, map, Option, Some, None, IsTrue, replicate, flat_map}
 use Rattle.std.specs.List.{zip}
 use Rattle.rustc_parse_format.specs.Characters.{Text, width}
-use Rattle.rustc_parse_format.specs.World.{Place}
 use Rattle.rustc_parse_format.specs.LiteralUnits.{LiteralUnit, spelling, value, is_unit, may_precede, unit_at}
 
 -- the text is a content, of these units
@@ -13,7 +12,7 @@ abbrev pub IsContent : Text → List LiteralUnit → Type 0
 IsContent t [] = t ≡ []
 IsContent t (u ∷ us) = (r : Text) × IsTrue (is_unit u) × IsTrue (may_precede u r) × (t ≡ spelling u ++ r) × IsContent r us
 
--- The same by computing: the units of a text, where it is a content.
+-- The same by computing.
 abbrev pub more : LiteralUnit → Option (List LiteralUnit) → Option (List LiteralUnit)
 more u None = None
 more u (Some us) = Some (u ∷ us)
@@ -23,12 +22,13 @@ abbrev pub first_and_rest : (Text → Option (List LiteralUnit)) → Option (Lit
 first_and_rest rest None = None
 first_and_rest rest (Some x) = more x.0 (rest x.1)
 
--- the first argument is at least the length
+-- the units of a text of at most n characters
 abbrev pub units_within : ℕ → Text → Option (List LiteralUnit)
 units_within n [] = Some []
 units_within zero (c ∷ t) = None
 units_within (suc n) (c ∷ t) = first_and_rest (λ r. units_within n r) (unit_at (c ∷ t))
 
+-- the units of a text, where it is a content
 unfoldable pub units : Text → Option (List LiteralUnit)
 units t = units_within (length t) t
 
@@ -36,13 +36,14 @@ units t = units_within (length t) t
 abbrev pub content_value : List LiteralUnit → Text
 content_value us = flat_map value us
 
--- where each of them comes from: the bytes of its unit, in a content that starts at a byte
-abbrev pub unit_places : ℕ → List LiteralUnit → List Place
+-- where each of them comes from: the bytes of its unit, from the first to behind the last, in a content that starts at
+-- a byte
+abbrev pub unit_places : ℕ → List LiteralUnit → List (ℕ × ℕ)
 unit_places at [] = []
 unit_places at (u ∷ us) = map (λ c. (at, at + width (spelling u))) (value u) ++ unit_places (at + width (spelling u)) us
 
 -- the characters, each with its place
-abbrev pub placed_characters : ℕ → List LiteralUnit → List (Place × ℕ)
+abbrev pub placed_characters : ℕ → List LiteralUnit → List ((ℕ × ℕ) × ℕ)
 placed_characters at us = zip (unit_places at us) (content_value us)
 
 -- the text is the content of these units, and of no others
@@ -51,7 +52,7 @@ pub record IsOnlyContent (t : Text) (us : List LiteralUnit) : Type 0 where
   pub is_only : (vs : List LiteralUnit) → IsContent t vs → vs ≡ us
 
 -- the text is a content, of one row of units alone, and these are its characters with their places
-abbrev pub IsReadAs : Text → List (Place × ℕ) → Type 0
+abbrev pub IsReadAs : Text → List ((ℕ × ℕ) × ℕ) → Type 0
 IsReadAs t ps = (us : List LiteralUnit) × IsOnlyContent t us × (ps ≡ placed_characters 0 us)
 
 abbrev pub IsNoContent : Text → Type 0

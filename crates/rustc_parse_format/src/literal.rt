@@ -1,7 +1,7 @@
 //! String literals as they are written in a program: the characters of a content with their places, and which snippet
 //! is the source literal of an input.
 
-ghost use Rattle.std.specs.Prelude.{◌≡◌, ◌↔◌, ◌++◌, ℕ, List, IsTrue, IfOk, IfSome, IfNone, MatchOption, chars, option_map, replicate};
+ghost use Rattle.std.specs.Prelude.{◌≡◌, ◌↔◌, ◌++◌, ℕ, List, IsTrue, IfOk, IfSome, IfNone, MatchOption, chars, option_map, true, replicate};
 ghost use Rattle.rustc_parse_format.specs.Literal.{IsNoContent, IsOrdinaryLiteral, IsReadAs, IsSource, newline, quoted, raw_closing, raw_frame, raw_opening};
 ghost use Rattle.rustc_parse_format.specs.LiteralReading.{IsTaken, placed, seen_characters, spells};
 
@@ -65,10 +65,19 @@ fn without_newline(input: &str, appended: bool) -> Option<&str>
         (λ t. chars t.now ++ newline appended ≡ chars input.now) }
 {
     if appended {
-        input.strip_suffix('\n')
+        before_newline(input)
     } else {
         Some(input)
     }
+}
+
+/// What stands in front of the newline at the end, or `None` if the text does not end with one.
+fn before_newline(text: &str) -> Option<&str>
+    ensures { MatchOption result
+        ((t : List ℕ) → t ++ newline true ≡ chars text.now → ⊥)
+        (λ t. chars t.now ++ newline true ≡ chars text.now) }
+{
+    text.strip_suffix('\n')
 }
 
 /// Whether the snippet is an ordinary literal that stands for the text.
@@ -114,7 +123,6 @@ fn stands_for(content: &str, text: &str) -> bool
 }
 
 /// Whether the snippet is a raw literal with so many hashes that stands for the text.
-#[tactic(auto, using(crate::proofs::LiteralPrefixes::prefix_steps))]
 fn is_raw_literal(snippet: &str, hashes: usize, text: &str) -> bool
     ensures { IsTrue result ↔ (chars snippet.now ≡ raw_frame hashes (chars text.now)) }
 {
