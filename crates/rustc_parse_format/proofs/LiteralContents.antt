@@ -26,7 +26,8 @@ units_within-enough zero n (c ∷ t) a b = absurd (omega arith)
 units_within-enough (suc m) zero (c ∷ t) a b = absurd (omega arith)
 units_within-enough (suc m) (suc n) (c ∷ t) a b = by_unit (unit_at (c ∷ t)) refl (λ r h k. units_within-enough m n r h k)
   where
-    by_unit : (o : Option (LiteralUnit × Text)) → unit_at (c ∷ t) ≡ o → ((r : Text) → length r ≤ m → length r ≤ n → units_within m r ≡ units_within n r) →
+    by_unit : (o : Option (LiteralUnit × Text)) → unit_at (c ∷ t) ≡ o →
+        ((r : Text) → length r ≤ m → length r ≤ n → units_within m r ≡ units_within n r) →
         first_and_rest (λ r. units_within m r) o ≡ first_and_rest (λ r. units_within n r) o
     by_unit None e ih = refl
     by_unit (Some (u, r)) e ih =
@@ -43,7 +44,8 @@ unfolding units
 units-some [] u r e = absurd (none-some (u, r) (sym unit_at-nil ∙ e))
 units-some (c ∷ t) u r e =
     let shorter : length r < suc (length t) = unit_at-shorter (c ∷ t) u r e in
-    ap (first_and_rest (λ s. units_within (length t) s)) e ∙ ap (more u) (units_within-enough (length t) (length r) r (omega arith) (omega arith))
+    ap (first_and_rest (λ s. units_within (length t) s)) e
+    ∙ ap (more u) (units_within-enough (length t) (length r) r (omega arith) (omega arith))
 
 pub units-none : (c : ℕ) (t : Text) → unit_at (c ∷ t) ≡ None → units (c ∷ t) ≡ None
 unfolding units
@@ -55,13 +57,16 @@ units_within-content n [] us e = subst (IsContent []) (same_Some [] us e) refl
 units_within-content zero (c ∷ t) us e = absurd (none-some us e)
 units_within-content (suc n) (c ∷ t) us e = by_unit (unit_at (c ∷ t)) refl e (λ r vs h. units_within-content n r vs h)
   where
-    by_rest : (u : LiteralUnit) (r : Text) (o : Option (List LiteralUnit)) → unit_at (c ∷ t) ≡ Some (u, r) → more u o ≡ Some us → ((vs : List LiteralUnit) → o ≡ Some vs → IsContent r vs) → IsContent (c ∷ t) us
+    by_rest : (u : LiteralUnit) (r : Text) (o : Option (List LiteralUnit)) → unit_at (c ∷ t) ≡ Some (u, r) → more u o ≡ Some us →
+        ((vs : List LiteralUnit) → o ≡ Some vs → IsContent r vs) → IsContent (c ∷ t) us
     by_rest u r None f e ih = absurd (none-some us e)
     by_rest u r (Some vs) f e ih =
         let at_front : IsAtFront (c ∷ t) u r = unit_at-front (c ∷ t) u r f in
-        subst (IsContent (c ∷ t)) (same_Some (u ∷ vs) us e) (r, at_front.well_formed, at_front.takes_all, at_front.split, ih vs refl)
+        subst (IsContent (c ∷ t)) (same_Some (u ∷ vs) us e)
+        (r, at_front.well_formed, at_front.takes_all, at_front.split, ih vs refl)
 
-    by_unit : (o : Option (LiteralUnit × Text)) → unit_at (c ∷ t) ≡ o → first_and_rest (λ r. units_within n r) o ≡ Some us → ((r : Text) (vs : List LiteralUnit) → units_within n r ≡ Some vs → IsContent r vs) → IsContent (c ∷ t) us
+    by_unit : (o : Option (LiteralUnit × Text)) → unit_at (c ∷ t) ≡ o → first_and_rest (λ r. units_within n r) o ≡ Some us →
+        ((r : Text) (vs : List LiteralUnit) → units_within n r ≡ Some vs → IsContent r vs) → IsContent (c ∷ t) us
     by_unit None f e ih = absurd (none-some us e)
     by_unit (Some (u, r)) f e ih = by_rest u r (units_within n r) f e (λ vs h. ih r vs h)
 

@@ -22,9 +22,11 @@ front-IsUtf8 c bs front u h e =
 pub chars-last : (c : ℕ) (bs : List ℕ) (r : Option (Bor (List ℕ))) → IsUtf8 bs → c < 128 →
     MatchOption r ((front : List ℕ) → bs ≢ front ++ c ∷ []) (λ x. bs ≡ x.now ++ c ∷ []) →
     MatchOption r ((t : Text) → t ++ c ∷ [] ≡ chars bs → ⊥) (λ x. chars x.now ++ c ∷ [] ≡ chars bs)
-chars-last c bs None u h f = λ t e. f (encode_utf8_all t) (sym (encodes-chars bs u) ∙ (ap encode_utf8_all (sym e) ∙ (encodes-append t (c ∷ []) ∙ ap (λ s. encode_utf8_all t ++ s) (encodes-one c h))))
+chars-last c bs None u h f = λ t e. f (encode_utf8_all t) (sym (encodes-chars bs u)
+    ∙ (ap encode_utf8_all (sym e) ∙ (encodes-append t (c ∷ []) ∙ ap (λ s. encode_utf8_all t ++ s) (encodes-one c h))))
 chars-last c bs (Some x) u h f =
-    sym (ap chars f ∙ (chars-append x.now (c ∷ []) (front-IsUtf8 c bs x.now u h f) ∙ ap (λ s. chars x.now ++ s) (chars-IsAscii (c ∷ []) (one_ascii c h))))
+    sym (ap chars f ∙ (chars-append x.now (c ∷ []) (front-IsUtf8 c bs x.now u h f)
+    ∙ ap (λ s. chars x.now ++ s) (chars-IsAscii (c ∷ []) (one_ascii c h))))
 
 in_bytes : (c : ℕ) (rest : List ℕ) → c < 128 → c ∷ rest ≡ encode_utf8 c ++ rest
 in_bytes c rest h = ap (λ s. s ++ rest) (sym (encode_ascii c h))
@@ -35,5 +37,6 @@ first-IsUtf8 c bs rest u h e = IsUtf8-past_char bs rest c u (e ∙ in_bytes c re
 pub chars-first : (c : ℕ) (bs : List ℕ) (r : Option (Bor (List ℕ))) → IsUtf8 bs → c < 128 →
     MatchOption r ((rest : List ℕ) → bs ≢ c ∷ rest) (λ x. bs ≡ c ∷ x.now) →
     MatchOption r ((t : Text) → chars bs ≡ c ∷ t → ⊥) (λ x. chars bs ≡ c ∷ chars x.now)
-chars-first c bs None u h f = λ t e. f (encode_utf8_all t) (sym (encodes-chars bs u) ∙ (ap encode_utf8_all e ∙ ap (λ s. s ++ encode_utf8_all t) (encode_ascii c h)))
+chars-first c bs None u h f = λ t e. f (encode_utf8_all t) (sym (encodes-chars bs u)
+    ∙ (ap encode_utf8_all e ∙ ap (λ s. s ++ encode_utf8_all t) (encode_ascii c h)))
 chars-first c bs (Some x) u h f = chars_past_char bs x.now c u (f ∙ in_bytes c x.now h)

@@ -16,11 +16,13 @@ front-behind p (c ∷ t) = by_test (p c) (front-behind p t)
 
 pub list_all-front : (p : ℕ → Bool) (t : Text) → list_all p (front p t) ≡ true
 list_all-front p [] = refl
-list_all-front p (c ∷ t) = cond_both (p c) (c ∷ front p t) [] (λ s. list_all p s ≡ true) (λ yes. and_from _ _ yes (list_all-front p t)) (λ no. refl)
+list_all-front p (c ∷ t) = cond_both (p c) (c ∷ front p t) [] (λ s. list_all p s ≡ true)
+    (λ yes. and_from _ _ yes (list_all-front p t)) (λ no. refl)
 
 pub begins_passing-behind : (p : ℕ → Bool) (t : Text) → begins_passing p (behind p t) ≡ false
 begins_passing-behind p [] = refl
-begins_passing-behind p (c ∷ t) = cond_both (p c) (behind p t) (c ∷ t) (λ s. begins_passing p s ≡ false) (λ yes. begins_passing-behind p t) (λ no. no)
+begins_passing-behind p (c ∷ t) = cond_both (p c) (behind p t) (c ∷ t) (λ s. begins_passing p s ≡ false)
+    (λ yes. begins_passing-behind p t) (λ no. no)
 
 pub front-append : (p : ℕ → Bool) (w r : Text) → list_all p w ≡ true → begins_passing p r ≡ false → front p (w ++ r) ≡ w
 front-append p [] [] a b = refl

@@ -49,8 +49,11 @@ pub ruleset prefix_steps = (after_prefix-append, after_prefix-append_none, after
 
 -- Whether a text is p, by what is behind p.
 none_behind : (p s : Text) → after_prefix p s ≡ None → IsTrue false ↔ (s ≡ p)
-none_behind p s e =
-    (λ f. absurd (false≢true f), λ f. let whole : after_prefix p s ≡ Some [] = ap (after_prefix p) f ∙ after_prefix-same p in absurd (none-some [] (sym e ∙ whole)))
+none_behind p s e = (
+  λ f. absurd (false≢true f),
+  λ f. let whole : after_prefix p s ≡ Some [] = ap (after_prefix p) f ∙ after_prefix-same p in
+      absurd (none-some [] (sym e ∙ whole)),
+)
 
 some_behind : (p s r : Text) → after_prefix p s ≡ Some r → (s ≡ p → r ≡ []) × (r ≡ [] → s ≡ p)
 some_behind p s r e = (
@@ -67,33 +70,43 @@ not_taken p s r b e f = e ∙ ap (λ x. if x then Some r else None) f
 -- The literal with n hashes that stands for t, by its three parts.
 pub not_opened : (n : ℕ) (t s r : Text) (b : Bool) → IsTaken (raw_opening n) s b r → b ≡ false → IsTrue false ↔ (s ≡ raw_frame n t)
 not_opened n t s r b e f =
-    none_behind (raw_frame n t) s (after_prefix-append_none (raw_opening n ++ t) (raw_closing n) s (after_prefix-append_none (raw_opening n) t s (not_taken (raw_opening n) s r b e f)))
+    none_behind (raw_frame n t) s (after_prefix-append_none (raw_opening n ++ t) (raw_closing n) s
+    (after_prefix-append_none (raw_opening n) t s (not_taken (raw_opening n) s r b e f)))
 
-pub no_text : (n : ℕ) (t s r q : Text) (b d : Bool) → IsTaken (raw_opening n) s b r → b ≡ true → IsTaken t r d q → d ≡ false → IsTrue false ↔ (s ≡ raw_frame n t)
+pub no_text : (n : ℕ) (t s r q : Text) (b d : Bool) → IsTaken (raw_opening n) s b r → b ≡ true → IsTaken t r d q → d ≡ false →
+    IsTrue false ↔ (s ≡ raw_frame n t)
 no_text n t s r q b d e f g h =
     none_behind (raw_frame n t) s (after_prefix-append_none (raw_opening n ++ t) (raw_closing n) s
     (after_prefix-append (raw_opening n) t s r (taken (raw_opening n) s r b e f) ∙ not_taken t r q d g h))
 
-to_closing : (n : ℕ) (t s r q : Text) → after_prefix (raw_opening n) s ≡ Some r → after_prefix t r ≡ Some q → after_prefix (raw_frame n t) s ≡ after_prefix (raw_closing n) q
-to_closing n t s r q e f = after_prefix-append (raw_opening n ++ t) (raw_closing n) s q (after_prefix-append (raw_opening n) t s r e ∙ f)
+to_closing : (n : ℕ) (t s r q : Text) → after_prefix (raw_opening n) s ≡ Some r → after_prefix t r ≡ Some q →
+    after_prefix (raw_frame n t) s ≡ after_prefix (raw_closing n) q
+to_closing n t s r q e f = after_prefix-append (raw_opening n ++ t) (raw_closing n) s q
+    (after_prefix-append (raw_opening n) t s r e ∙ f)
 
-pub not_closed : (n : ℕ) (t s r q x : Text) (b d k : Bool) → IsTaken (raw_opening n) s b r → b ≡ true → IsTaken t r d q → d ≡ true → IsTaken (raw_closing n) q k x → k ≡ false →
+pub not_closed : (n : ℕ) (t s r q x : Text) (b d k : Bool) → IsTaken (raw_opening n) s b r → b ≡ true → IsTaken t r d q →
+    d ≡ true → IsTaken (raw_closing n) q k x → k ≡ false →
     IsTrue k ↔ (s ≡ raw_frame n t)
 not_closed n t s r q x b d k e f g h i j =
-    rw j (none_behind (raw_frame n t) s (to_closing n t s r q (taken (raw_opening n) s r b e f) (taken t r q d g h) ∙ not_taken (raw_closing n) q x k i j))
+    rw j (none_behind (raw_frame n t) s (to_closing n t s r q (taken (raw_opening n) s r b e f) (taken t r q d g h)
+    ∙ not_taken (raw_closing n) q x k i j))
 
-pub closed : (n : ℕ) (t s r q x : Text) (b d k y : Bool) → IsTaken (raw_opening n) s b r → b ≡ true → IsTaken t r d q → d ≡ true → IsTaken (raw_closing n) q k x → k ≡ true →
+pub closed : (n : ℕ) (t s r q x : Text) (b d k y : Bool) → IsTaken (raw_opening n) s b r → b ≡ true → IsTaken t r d q → d ≡ true →
+    IsTaken (raw_closing n) q k x → k ≡ true →
     (IsTrue y ↔ (x ≡ [])) → IsTrue y ↔ (s ≡ raw_frame n t)
 closed n t s r q x b d k y e f g h i j whole =
     let both : (s ≡ raw_frame n t → x ≡ []) × (x ≡ [] → s ≡ raw_frame n t) =
-    some_behind (raw_frame n t) s x (to_closing n t s r q (taken (raw_opening n) s r b e f) (taken t r q d g h) ∙ taken (raw_closing n) q x k i j) in
+    some_behind (raw_frame n t) s x (to_closing n t s r q (taken (raw_opening n) s r b e f) (taken t r q d g h)
+    ∙ taken (raw_closing n) q x k i j) in
     (λ z. both.1 (whole.0 z), λ z. whole.1 (both.0 z))
 
 -- The last step of an opening.
-pub opened : (n : ℕ) (s r q : Text) (k b : Bool) → begins_with 114 s ≡ true → IsTaken (replicate n 35) (behind_first s) k r → k ≡ true → b ≡ begins_with 34 r → q ≡ behind_first r →
+pub opened : (n : ℕ) (s r q : Text) (k b : Bool) → begins_with 114 s ≡ true → IsTaken (replicate n 35) (behind_first s) k r →
+    k ≡ true → b ≡ begins_with 34 r → q ≡ behind_first r →
     IsTaken (raw_opening n) s b q
 opened n s r q k b e f g h i =
-    after_prefix-cons 114 (replicate n 35 ++ 34 ∷ []) s e ∙ (after_prefix-append (replicate n 35) (34 ∷ []) (behind_first s) r (taken (replicate n 35) (behind_first s) r k f g)
+    after_prefix-cons 114 (replicate n 35 ++ 34 ∷ []) s e
+    ∙ (after_prefix-append (replicate n 35) (34 ∷ []) (behind_first s) r (taken (replicate n 35) (behind_first s) r k f g)
     ∙ rw (h, i) (by_text r))
   where
     by_text : (r : Text) → after_prefix (34 ∷ []) r ≡ (if begins_with 34 r then Some (behind_first r) else None)

@@ -1,20 +1,14 @@
 -- Whether a content spells a text, by the unit at its front; quotes round one that does are an ordinary literal.
-use Rattle.std.proofs.Common.{◌≡◌, ℕ, ◌++◌, Bool, true, false, ◌&&◌, ◌↔◌, List, [], ◌∷◌, refl, sym, ap, ◌∙◌, subst, Option, Some, None}
+use Rattle.std.proofs.Common.{◌≡◌, ℕ, ◌++◌, Bool, true, false, ◌&&◌, ◌↔◌, List, [], ◌∷◌, refl, sym, ap, ◌∙◌, subst, Option, Some, None, ◌≢◌}
 use Rattle.std.specs.Prelude.{◌==◌, IsTrue}
-use Rattle.std.proofs.lemmas.Bool.{and_parts, and_from, eqb-true, eq-eqb, false≢true}
+use Rattle.std.proofs.lemmas.Bool.{and_parts, and_from, eqb-true, eq-eqb, false≢true, and_right}
 use Rattle.std.proofs.lemmas.List.{append_cancel_right}
-use Rattle.rustc_parse_format.specs.Characters.{Text}
-use Rattle.rustc_parse_format.specs.LiteralUnits.{LiteralUnit}
-use Rattle.rustc_parse_format.specs.Literal.{IsContent, IsOrdinaryLiteral, content_value, units, quoted}
-use Rattle.rustc_parse_format.specs.LiteralReading.{is_same, are_spelling, spells}
-use Rattle.rustc_parse_format.proofs.LiteralContents.{units-content, units-complete}
-use Rattle.rustc_parse_format.proofs.LiteralMeanings.{Means, meaning-none, meaning-some, meaning-shorter, meaning-narrower}
-use Rattle.std.proofs.Common.{◌≢◌, ℕ}
-use Rattle.std.proofs.lemmas.Bool.{and_right}
-use Rattle.rustc_parse_format.specs.Characters.{behind_first, begins_with}
+use Rattle.rustc_parse_format.specs.Characters.{Text, behind_first, begins_with}
 use Rattle.rustc_parse_format.specs.LiteralUnits.{LiteralUnit, value, meaning, unit_at, at_most_one}
-use Rattle.rustc_parse_format.specs.Literal.{more}
-use Rattle.rustc_parse_format.proofs.LiteralContents.{units-nil, units-some, units-none}
+use Rattle.rustc_parse_format.specs.Literal.{IsContent, IsOrdinaryLiteral, content_value, units, quoted, more}
+use Rattle.rustc_parse_format.specs.LiteralReading.{is_same, are_spelling, spells}
+use Rattle.rustc_parse_format.proofs.LiteralContents.{units-content, units-complete, units-nil, units-some, units-none}
+use Rattle.rustc_parse_format.proofs.LiteralMeanings.{meaning-none, meaning-some, meaning-shorter}
 
 pub spells-none : (t w : Text) → t ≢ [] → meaning (unit_at t) ≡ None → spells t w ≡ false
 unfolding spells
@@ -31,22 +25,26 @@ spells-nothing t r w e =
     by_rest u v None = refl
     by_rest u v (Some us) = rw v refl
 
-pub spells-character : (t r w : Text) (c : ℕ) → meaning (unit_at t) ≡ Some (c ∷ [], r) → spells t w ≡ (begins_with c w && spells r (behind_first w))
+pub spells-character : (t r w : Text) (c : ℕ) → meaning (unit_at t) ≡ Some (c ∷ [], r) →
+    spells t w ≡ (begins_with c w && spells r (behind_first w))
 unfolding spells
 spells-character t r w c e =
     let m = meaning-some (unit_at t) (c ∷ []) r e in
     ap (λ o. are_spelling o w) (units-some t m.unit r m.is_it) ∙ by_rest m.unit m.has_value (units r) w
   where
-    by_rest : (u : LiteralUnit) → value u ≡ c ∷ [] → (o : Option (List LiteralUnit)) (w : Text) → are_spelling (more u o) w ≡ (begins_with c w && are_spelling o (behind_first w))
+    by_rest : (u : LiteralUnit) → value u ≡ c ∷ [] → (o : Option (List LiteralUnit)) (w : Text) →
+        are_spelling (more u o) w ≡ (begins_with c w && are_spelling o (behind_first w))
     by_rest u v None w = sym (and_right (begins_with c w) false refl)
     by_rest u v (Some us) [] = rw v refl
     by_rest u v (Some us) (d ∷ w) = rw v refl
 
 -- the same where the value is told as at most one character
-pub spells-value : (t r w : Text) (v : Option ℕ) (c : ℕ) → meaning (unit_at t) ≡ Some (at_most_one v, r) → v ≡ Some c → spells t w ≡ (begins_with c w && spells r (behind_first w))
+pub spells-value : (t r w : Text) (v : Option ℕ) (c : ℕ) → meaning (unit_at t) ≡ Some (at_most_one v, r) → v ≡ Some c →
+    spells t w ≡ (begins_with c w && spells r (behind_first w))
 spells-value t r w v c e f = spells-character t r w c (e ∙ ap (λ x. Some (at_most_one x, r)) f)
 
-pub spells-no_value : (t r w : Text) (v : Option ℕ) → meaning (unit_at t) ≡ Some (at_most_one v, r) → v ≡ None → spells t w ≡ spells r w
+pub spells-no_value : (t r w : Text) (v : Option ℕ) → meaning (unit_at t) ≡ Some (at_most_one v, r) → v ≡ None →
+    spells t w ≡ spells r w
 spells-no_value t r w v e f = spells-nothing t r w (e ∙ ap (λ x. Some (at_most_one x, r)) f)
 
 pub spells-end : (w : Text) (b : Bool) → (IsTrue b ↔ (w ≡ [])) → b ≡ spells [] w
@@ -78,7 +76,8 @@ spells-parts : (q t : Text) → spells q t ≡ true → (us : List LiteralUnit) 
 unfolding spells
 spells-parts q t e = by_units (units q) refl e
   where
-    by_units : (o : Option (List LiteralUnit)) → units q ≡ o → are_spelling o t ≡ true → (us : List LiteralUnit) × IsContent q us × (content_value us ≡ t)
+    by_units : (o : Option (List LiteralUnit)) → units q ≡ o → are_spelling o t ≡ true →
+        (us : List LiteralUnit) × IsContent q us × (content_value us ≡ t)
     by_units None f e = absurd (false≢true e)
     by_units (Some us) f e = (us, units-content q us f, is_same-true (content_value us) t e)
 

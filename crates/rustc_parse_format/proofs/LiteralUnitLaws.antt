@@ -31,14 +31,16 @@ at_brace-fits : (t w b : Text) → t ≡ w ++ b → begins_passing is_inside b �
 at_brace-fits t w [] e n = tt
 at_brace-fits t w (c ∷ r) e n =
     let brace : c ≡ 125 = eqb-true c 125 (not-false _ n) in
-    with_rest-fits _ (UnicodeEscape w) r refl (ap (λ s. 92 ∷ 117 ∷ 123 ∷ s) (e ∙ ap (λ d. w ++ d ∷ r) brace ∙ sym (append_assoc w (125 ∷ []) r)))
+    with_rest-fits _ (UnicodeEscape w) r refl (ap (λ s. 92 ∷ 117 ∷ 123 ∷ s) (e ∙ ap (λ d. w ++ d ∷ r) brace
+    ∙ sym (append_assoc w (125 ∷ []) r)))
 
 unicode_at-fits : (t : Text) → Fits (92 ∷ 117 ∷ t) (unicode_at t)
 unfolding unicode_at
 unicode_at-fits [] = tt
 unicode_at-fits (c ∷ t) =
     cond_both (c == 123) (at_brace (front is_inside t) (behind is_inside t)) None (Fits (92 ∷ 117 ∷ c ∷ t))
-    (λ yes. rw (eqb-true c 123 yes) (at_brace-fits t (front is_inside t) (behind is_inside t) (sym (front-behind is_inside t)) (begins_passing-behind is_inside t)))
+    (λ yes. rw (eqb-true c 123 yes) (at_brace-fits t (front is_inside t) (behind is_inside t) (sym (front-behind is_inside t))
+    (begins_passing-behind is_inside t)))
     (λ no. tt)
 
 escape_at-fits : (t : Text) → Fits (92 ∷ t) (escape_at t)
@@ -82,16 +84,19 @@ simple_at-complete l r w =
     other n none e = let some : is_some (escaped n) ≡ true = subst (λ k. is_some (escaped k) ≡ true) e w in both_ways _ none some
 
 inside_from_hex : (c : ℕ) → (is_hex c || is_underscore c) ≡ true → is_inside c ≡ true
-inside_from_hex c h = not_from_false _ (ne_eqb c 125 (λ e. let k : (is_hex 125 || is_underscore 125) ≡ true = subst (λ d. (is_hex d || is_underscore d) ≡ true) e h in false≢true k))
+inside_from_hex c h = not_from_false _ (ne_eqb c 125
+    (λ e. let k : (is_hex 125 || is_underscore 125) ≡ true = subst (λ d. (is_hex d || is_underscore d) ≡ true) e h in false≢true k))
 
 unicode_at-complete : (w r : Text) → IsTrue (is_unicode w) → unicode_at (123 ∷ w ++ 125 ∷ r) ≡ Some (UnicodeEscape w, r)
 unfolding unicode_at
 unicode_at-complete w r h =
     let all : list_all (λ c. is_hex c || is_underscore c) w ≡ true = (and_parts _ _ (and_parts _ _ h).1).0 in
     let inside : list_all is_inside w ≡ true = list_all-weaker _ is_inside w inside_from_hex all in
-    rw (front-append is_inside w (125 ∷ r) inside refl, behind-append is_inside w (125 ∷ r) inside refl) (cond-true (is_unicode w) _ _ h)
+    rw (front-append is_inside w (125 ∷ r) inside refl, behind-append is_inside w (125 ∷ r) inside refl)
+    (cond-true (is_unicode w) _ _ h)
 
-pub unit_at-complete : (u : LiteralUnit) (r : Text) → IsTrue (is_unit u) → IsTrue (may_precede u r) → unit_at (spelling u ++ r) ≡ Some (u, r)
+pub unit_at-complete : (u : LiteralUnit) (r : Text) → IsTrue (is_unit u) → IsTrue (may_precede u r) →
+    unit_at (spelling u ++ r) ≡ Some (u, r)
 unfolding unit_at escape_at byte_at
 unit_at-complete (Plain c) r w m =
     let plain : ((c == 34 || c == 92) || c == 13) ≡ false = not-true _ w in

@@ -14,7 +14,14 @@ width-append s t = sum_by-append len_utf8 s t
 
 length-encodes : (t : Text) → length (encode_utf8_all t) ≡ width t
 length-encodes [] = refl
-length-encodes (c ∷ t) = omega (arith, width-cons c t, length-encode c, length-encodes t, length-append (encode_utf8 c) (encode_utf8_all t))
+length-encodes (c ∷ t) = omega (
+  arith,
+  width-cons c t,
+  length-encode c,
+  length-encodes t,
+  length-append (encode_utf8 c)
+      (encode_utf8_all t),
+)
 
 -- the bytes of a text are as many as its characters take
 pub width-chars : (bs : List ℕ) → IsUtf8 bs → width (chars bs) ≡ length bs

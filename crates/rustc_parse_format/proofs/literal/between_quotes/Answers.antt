@@ -16,12 +16,15 @@ pub returns-in-Some : goal.returns-in-Some
 returns-in-Some c =
     let ascii : 34 < 128 = omega arith in
     let first = strip_prefix_char 34 c.args.snippet.now (Some c.in-Some.behind) c.in-Some.ensures.cases ascii in
-    last_quote c.args.snippet.now c.in-Some.behind.now c.strip_suffix.result (chars-first 34 c.args.snippet.now (Some c.in-Some.behind) c.utf8.snippet ascii first)
-    (chars-last 34 c.in-Some.behind.now c.strip_suffix.result (first-IsUtf8 34 c.args.snippet.now c.in-Some.behind.now c.utf8.snippet ascii first) ascii
+    last_quote c.args.snippet.now c.in-Some.behind.now c.strip_suffix.result
+    (chars-first 34 c.args.snippet.now (Some c.in-Some.behind) c.utf8.snippet ascii first)
+    (chars-last 34 c.in-Some.behind.now c.strip_suffix.result
+    (first-IsUtf8 34 c.args.snippet.now c.in-Some.behind.now c.utf8.snippet ascii first) ascii
     (strip_suffix_char 34 c.in-Some.behind.now c.strip_suffix.result c.strip_suffix.ensures.cases ascii))
 
 pub returns-in-None : goal.returns-in-None
 returns-in-None c =
     let ascii : 34 < 128 = omega arith in
-    let missing = chars-first 34 c.args.snippet.now None c.utf8.snippet ascii (strip_prefix_char 34 c.args.snippet.now None c.in-None.ensures.cases ascii) in
+    let missing = chars-first 34 c.args.snippet.now None c.utf8.snippet ascii
+    (strip_prefix_char 34 c.args.snippet.now None c.in-None.ensures.cases ascii) in
     λ t e. missing (t ++ 34 ∷ []) e

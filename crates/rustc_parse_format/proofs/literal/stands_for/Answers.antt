@@ -15,8 +15,10 @@ loop-rest-preserved-else-not-takes c =
     let step = spells-value c.loop-rest.rest c.read_unit.new.rest c.loop-rest.wanted c.in-Some.value c.in-Some-value.c c.in-Some.ensures c.in-Some-value.is in
     let agrees : begins_with c.in-Some-value.c c.loop-rest.wanted ≡ true = sym c.takes.ensures.value ∙ c.if-not-takes.false in
     ap (spells c.read_unit.new.rest) c.takes.ensures.rest
-    ∙ (ap (λ b. b && spells c.read_unit.new.rest (behind_first c.loop-rest.wanted)) (sym agrees) ∙ (sym step ∙ c.loop-rest.invariant))
+    ∙ (ap (λ b. b && spells c.read_unit.new.rest (behind_first c.loop-rest.wanted)) (sym agrees)
+    ∙ (sym step ∙ c.loop-rest.invariant))
 
 pub returns : goal.returns
 returns c =
-    spells-end c.loop-rest.wanted c.is_empty-2.result c.is_empty-2.ensures ∙ (ap (λ r. spells r c.loop-rest.wanted) (sym (c.is_empty.ensures.0 c.loop-rest-test.false)) ∙ c.loop-rest.invariant)
+    spells-end c.loop-rest.wanted c.is_empty-2.result c.is_empty-2.ensures
+    ∙ (ap (λ r. spells r c.loop-rest.wanted) (sym (c.is_empty.ensures.0 c.loop-rest-test.false)) ∙ c.loop-rest.invariant)
