@@ -1,5 +1,5 @@
 -- The places of the characters of a text that is no source literal, from the bytes of what is left of it.
-use Rattle.std.proofs.Common.{◌≡◌, ◌++◌, ◌+◌, ◌-◌, List, ℕ, suc, [], ◌∷◌, length, chars, IsUtf8, take, drop, get_or, refl, ap, sym, subst, ◌∙◌, arith, length-append}
+use Rattle.std.proofs.Common.{◌≡◌, ◌++◌, ◌+◌, ◌-◌, List, ℕ, suc, Bool, [], ◌∷◌, length, chars, IsUtf8, take, drop, get_or, refl, ap, sym, subst, ◌∙◌, arith, length-append}
 use Rattle.std.specs.Prelude.{encode_utf8}
 use Rattle.std.specs.Char.{len_utf8}
 use Rattle.std.proofs.lemmas.Str.{IsUtf8-from_is_utf8, length-encode, encodes-chars, IsUtf8-take, IsCharBoundary-from_drop, chars-append, chars-nil}
@@ -27,9 +27,9 @@ get_plain q (b ∷ pre) t c d =
     let e : (q + len_utf8 b) + width pre ≡ q + width (b ∷ pre) = omega (arith, sum_by-cons len_utf8 b pre) in
     subst (λ k. get_or (plain_places (q + len_utf8 b) (pre ++ c ∷ t)) (length pre) d ≡ (k, k + len_utf8 c)) e (get_plain (q + len_utf8 b) pre t c d)
 
-pub place_inside : (q e : ℕ) (pre t : Text) (c : ℕ) → place_at (plain_world q (pre ++ c ∷ t) e) (length (c ∷ t)) ≡ (q + width pre, (q + width pre) + len_utf8 c)
+pub place_inside : (b : Bool) (q e : ℕ) (pre t : Text) (c : ℕ) → place_at (plain_world b q (pre ++ c ∷ t) e) (length (c ∷ t)) ≡ (q + width pre, (q + width pre) + len_utf8 c)
 unfolding place_at
-place_inside q e pre t c =
+place_inside b q e pre t c =
     let n : length (plain_places q (pre ++ c ∷ t)) - length (c ∷ t) ≡ length pre = omega (arith, length-plain_places q (pre ++ c ∷ t), length-append pre (c ∷ t)) in
     ap (λ k. get_or (plain_places q (pre ++ c ∷ t)) k (e, e)) n ∙ get_plain q pre t c (e, e)
 
@@ -66,12 +66,12 @@ left input rest l =
 pub position_left : (input rest : List ℕ) → IsLeft input rest → length input - length rest ≡ width (chars input) - width (chars rest)
 position_left input rest l = rw (width_chars input (IsUtf8-from_is_utf8 input l.valid), width_chars rest (IsUtf8-from_is_utf8 rest l.valid_rest)) refl
 
-pub place_left : (q e : ℕ) (input rest : List ℕ) → IsLeft input rest → (c : ℕ) (t : Text) → chars rest ≡ c ∷ t →
-    place_at (plain_world q (chars input) e) (length (chars rest)) ≡ (q + (length input - length rest), (q + (length input - length rest)) + len_utf8 c)
-place_left q e input rest l c t h =
+pub place_left : (b : Bool) (q e : ℕ) (input rest : List ℕ) → IsLeft input rest → (c : ℕ) (t : Text) → chars rest ≡ c ∷ t →
+    place_at (plain_world b q (chars input) e) (length (chars rest)) ≡ (q + (length input - length rest), (q + (length input - length rest)) + len_utf8 c)
+place_left b q e input rest l c t h =
     let k = left input rest l in
     let whole : chars input ≡ k.pre ++ c ∷ t = k.whole ∙ ap (λ u. k.pre ++ u) h in
-    rw (whole, h, ← k.bytes) (place_inside q e k.pre t c)
+    rw (whole, h, ← k.bytes) (place_inside b q e k.pre t c)
 
 -- what is behind the first character of a text starts where that character ends
 pub behind_width : (rest behind : List ℕ) (c : ℕ) (t : Text) → IsUtf8 rest → IsUtf8 behind → chars rest ≡ c ∷ t → chars behind ≡ behind_first (chars rest) → length rest ≡ len_utf8 c + length behind
@@ -93,23 +93,23 @@ begun s u h = at (chars s) refl
     at (c ∷ t) e = record { head = c; tail = t; chars_are = e }
 
 -- at the end of the text
-pub place_over : (q e : ℕ) (input rest : List ℕ) → length rest ≡ 0 → place_at (plain_world q (chars input) e) (length (chars rest)) ≡ (e, e)
-place_over q e input rest h = let n = nil_from_length rest h in rw (n, chars-nil) (place_end (plain_world q (chars input) e))
+pub place_over : (b : Bool) (q e : ℕ) (input rest : List ℕ) → length rest ≡ 0 → place_at (plain_world b q (chars input) e) (length (chars rest)) ≡ (e, e)
+place_over b q e input rest h = let n = nil_from_length rest h in rw (n, chars-nil) (place_end (plain_world b q (chars input) e))
 
 -- where there is something left, with its first character
-pub place_begun : (q e : ℕ) (input rest : List ℕ) (l : IsLeft input rest) (f : Begun rest) →
-    place_at (plain_world q (chars input) e) (length (chars rest)) ≡ (q + (length input - length rest), (q + (length input - length rest)) + len_utf8 f.head)
-place_begun q e input rest l f = place_left q e input rest l f.head f.tail f.chars_are
+pub place_begun : (b : Bool) (q e : ℕ) (input rest : List ℕ) (l : IsLeft input rest) (f : Begun rest) →
+    place_at (plain_world b q (chars input) e) (length (chars rest)) ≡ (q + (length input - length rest), (q + (length input - length rest)) + len_utf8 f.head)
+place_begun b q e input rest l f = place_left b q e input rest l f.head f.tail f.chars_are
 
-pub start_left : (q e : ℕ) (input rest : List ℕ) → IsLeft input rest → (length rest ≡ 0 → ⊥) →
-    (place_at (plain_world q (chars input) e) (length (chars rest))).0 ≡ q + (length input - length rest)
-start_left q e input rest l h = ap (λ (p : Place). p.0) (place_begun q e input rest l (begun rest (IsUtf8-from_is_utf8 rest l.valid_rest) h))
+pub start_left : (b : Bool) (q e : ℕ) (input rest : List ℕ) → IsLeft input rest → (length rest ≡ 0 → ⊥) →
+    (place_at (plain_world b q (chars input) e) (length (chars rest))).0 ≡ q + (length input - length rest)
+start_left b q e input rest l h = ap (λ (p : Place). p.0) (place_begun b q e input rest l (begun rest (IsUtf8-from_is_utf8 rest l.valid_rest) h))
 
-pub stop_left : (q e : ℕ) (input rest behind : List ℕ) → IsLeft input rest → IsUtf8 behind → (length rest ≡ 0 → ⊥) → chars behind ≡ behind_first (chars rest) →
-    (place_at (plain_world q (chars input) e) (length (chars rest))).1 ≡ q + (length input - length behind)
-stop_left q e input rest behind l v h b =
+pub stop_left : (b : Bool) (q e : ℕ) (input rest behind : List ℕ) → IsLeft input rest → IsUtf8 behind → (length rest ≡ 0 → ⊥) → chars behind ≡ behind_first (chars rest) →
+    (place_at (plain_world b q (chars input) e) (length (chars rest))).1 ≡ q + (length input - length behind)
+stop_left b q e input rest behind l v h k =
     let u = IsUtf8-from_is_utf8 rest l.valid_rest in
     let f = begun rest u h in
-    let n = behind_width rest behind f.head f.tail u v f.chars_are b in
+    let n = behind_width rest behind f.head f.tail u v f.chars_are k in
     let within = l.within in
-    ap (λ (p : Place). p.1) (place_begun q e input rest l f) ∙ omega arith
+    ap (λ (p : Place). p.1) (place_begun b q e input rest l f) ∙ omega arith

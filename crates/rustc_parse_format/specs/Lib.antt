@@ -10,10 +10,14 @@ pub mod Written
 pub mod Faults
 pub mod PartFaults
 pub mod Step
-pub mod World
 pub mod State
 pub mod Bytes
 pub mod Classes
 pub mod SeenFaults
 pub mod Identifiers
 pub mod Seen
+pub mod LiteralUnits
+pub mod Literal
+pub mod Source
+pub mod World
+pub mod LiteralReading

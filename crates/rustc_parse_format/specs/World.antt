@@ -1,8 +1,9 @@
 -- A world gives each character of the input its place, a range of bytes, and so each mark its number.
-use Rattle.std.specs.Prelude.{ℕ, ◌+◌, ◌-◌, Bool, false, if◌then◌else◌, List, [], ◌∷◌, length, map, Option, Some, None, slice_index_or}
+use Rattle.std.specs.Prelude.{ℕ, ◌+◌, ◌-◌, Bool, if◌then◌else◌, List, [], ◌∷◌, length, map, Option, Some, None, slice_index_or}
 use Rattle.std.specs.Char.{len_utf8}
 use Rattle.rustc_parse_format.specs.Characters.{Text, width}
 use Rattle.rustc_parse_format.specs.Pieces.{Piece, map_piece}
+use Rattle.rustc_parse_format.specs.Source.{is_source}
 use Rattle.rustc_parse_format.specs.Marks.{Mark, Start, End, Span}
 use Rattle.rustc_parse_format.specs.Faults.{Fault, map_fault}
 
@@ -38,12 +39,12 @@ abbrev pub text_end : Text → Option Text → Bool → ℕ
 text_end input (Some snippet) newline = width snippet
 text_end input None newline = width input - (if newline then 1 else 0)
 
--- a text that starts at a byte and ends at another
-abbrev pub plain_world : ℕ → Text → ℕ → World
-plain_world at input end = record { is_literal = false; places = plain_places at input; end = end }
+-- a text that starts at a byte and ends at another, and whether it has a source literal
+abbrev pub plain_world : Bool → ℕ → Text → ℕ → World
+plain_world literal at input end = record { is_literal = literal; places = plain_places at input; end = end }
 
 unfoldable pub world : Text → Option ℕ → Option Text → Bool → World
-world input style snippet newline = plain_world (quote_offset style) input (text_end input snippet newline)
+world input style snippet newline = plain_world (is_source input style snippet newline) (quote_offset style) input (text_end input snippet newline)
 
 -- the place of the character from which k are left, or of the end of the text
 unfoldable pub place_at : World → ℕ → Place

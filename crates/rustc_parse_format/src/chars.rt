@@ -95,6 +95,8 @@ pub struct Cursor<'input> {
     offset: usize,
     /// Where it ends there.
     end: usize,
+    /// The snippet is the source literal of the input.
+    is_source_literal: bool,
 }
 
 impl<'input> Model for Cursor<'input> {
@@ -105,7 +107,7 @@ impl<'input> Model for Cursor<'input> {
 
     ghost Value = { Unread };
 
-    ghost view = { λ c. record { world = plain_world c.offset (chars c.input.now) c.end; input = chars c.input.now; rest = chars c.rest.now } };
+    ghost view = { λ c. record { world = plain_world c.is_source_literal c.offset (chars c.input.now) c.end; input = chars c.input.now; rest = chars c.rest.now } };
 
     ghost invariant = { λ c. IsLeft c.input.now c.rest.now × (c.offset + length c.input.now < 2 ^ 64) };
 }
@@ -121,15 +123,21 @@ impl<'input> Cursor<'input> {
     ghost use Rattle.rustc_parse_format.specs.World.{plain_world, number_of};
 
     /// At the start of an input that starts and ends at these bytes of the source.
-    pub fn new(input: &'input str, offset: usize, end: usize) -> Cursor<'input>
+    pub fn new(
+        input: &'input str,
+        is_source_literal: bool,
+        offset: usize,
+        end: usize,
+    ) -> Cursor<'input>
         requires { offset + length input.now < 2 ^ 64 }
-        ensures { result ≡ record { world = plain_world offset (chars input.now) end; input = chars input.now; rest = chars input.now } }
+        ensures { result ≡ record { world = plain_world is_source_literal offset (chars input.now) end; input = chars input.now; rest = chars input.now } }
     {
         Cursor {
             input,
             rest: input,
             offset,
             end,
+            is_source_literal,
         }
     }
 
@@ -142,6 +150,7 @@ impl<'input> Cursor<'input> {
             rest: self.rest,
             offset: self.offset,
             end: self.end,
+            is_source_literal: self.is_source_literal,
         }
     }
 
@@ -206,8 +215,7 @@ impl<'input> Cursor<'input> {
     pub fn is_source_literal(&self) -> bool
         ensures { result ≡ self.now.world.is_literal }
     {
-        let _ = &self.input;
-        false
+        self.is_source_literal
     }
 
     /// The place of the next character, its byte position in the input, and itself, or None at the end.

@@ -9,6 +9,7 @@ mod parser;
 mod reading;
 mod sizes;
 mod spec;
+pub mod literal;
 mod types;
 mod world;
 

@@ -4,7 +4,7 @@ use crate::call::read_piece;
 use crate::chars::Cursor;
 use crate::faults::add_errors;
 use crate::types::{ParseError, ParseMode, Piece};
-use crate::world::{quote_offset, text_end};
+use crate::world::{has_source, quote_offset, text_end};
 use std::alloc::{AllocError, Global};
 use std::marker::Model;
 use std::ops::Range;
@@ -64,11 +64,12 @@ impl<'input> Parser<'input> {
         ensures start { IfOk result (λ p. p ≡ fresh (seen_mode mode)
             (world (chars input.now) style (option_map (λ s. chars (string_bytes s)) snippet) appended_newline) (chars input.now)) }
     {
+        let is_literal = has_source(input, style, &snippet, appended_newline);
         let end = text_end(input, &snippet, appended_newline);
         Ok(Parser {
             alloc,
             mode,
-            cursor: Cursor::new(input, quote_offset(style), end),
+            cursor: Cursor::new(input, is_literal, quote_offset(style), end),
             curarg: 0,
             errors: Vec::new(alloc),
         })

@@ -11,4 +11,4 @@ invariant_of-result c =
 
 pub returns-clause-start : goal.returns-clause-start
 unfolding world
-returns-clause-start c = rw (c.new.ensures, c.quote_offset.ensures, c.text_end-end.ensures, c.new-2.ensures.items) refl
+returns-clause-start c = rw (c.new.ensures, c.quote_offset.ensures, c.text_end-end.ensures, c.has_source-is_literal.ensures, c.new-2.ensures.items) refl

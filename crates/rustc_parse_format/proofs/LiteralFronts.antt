@@ -1,0 +1,45 @@
+-- The longest front of a text whose characters pass.
+use Rattle.std.proofs.Common.{◌≡◌, ℕ, ◌++◌, Bool, true, false, cond, [], ◌∷◌, refl, ap, ◌∙◌}
+use Rattle.std.specs.List.{list_all}
+use Rattle.std.proofs.lemmas.Bool.{cond_both, cond-true, cond-false, and_parts, and_from}
+use Rattle.rustc_parse_format.specs.Characters.{Text, front, behind}
+use Rattle.rustc_parse_format.specs.LiteralUnits.{begins_passing}
+
+-- the front and what is behind it are the text
+pub front-behind : (p : ℕ → Bool) (t : Text) → front p t ++ behind p t ≡ t
+front-behind p [] = refl
+front-behind p (c ∷ t) = by_test (p c) (front-behind p t)
+  where
+    by_test : (b : Bool) → front p t ++ behind p t ≡ t → cond b (c ∷ front p t) [] ++ cond b (behind p t) (c ∷ t) ≡ c ∷ t
+    by_test true e = ap (λ s. c ∷ s) e
+    by_test false e = refl
+
+pub list_all-front : (p : ℕ → Bool) (t : Text) → list_all p (front p t) ≡ true
+list_all-front p [] = refl
+list_all-front p (c ∷ t) = cond_both (p c) (c ∷ front p t) [] (λ s. list_all p s ≡ true)
+    (λ yes. and_from _ _ yes (list_all-front p t)) (λ no. refl)
+
+pub begins_passing-behind : (p : ℕ → Bool) (t : Text) → begins_passing p (behind p t) ≡ false
+begins_passing-behind p [] = refl
+begins_passing-behind p (c ∷ t) = cond_both (p c) (behind p t) (c ∷ t) (λ s. begins_passing p s ≡ false)
+    (λ yes. begins_passing-behind p t) (λ no. no)
+
+pub front-append : (p : ℕ → Bool) (w r : Text) → list_all p w ≡ true → begins_passing p r ≡ false → front p (w ++ r) ≡ w
+front-append p [] [] a b = refl
+front-append p [] (c ∷ r) a b = cond-false (p c) _ _ b
+front-append p (c ∷ w) r a b =
+    let h : (p c ≡ true) × (list_all p w ≡ true) = and_parts (p c) _ a in
+    cond-true (p c) _ _ h.0 ∙ ap (λ s. c ∷ s) (front-append p w r h.1 b)
+
+pub behind-append : (p : ℕ → Bool) (w r : Text) → list_all p w ≡ true → begins_passing p r ≡ false → behind p (w ++ r) ≡ r
+behind-append p [] [] a b = refl
+behind-append p [] (c ∷ r) a b = cond-false (p c) _ _ b
+behind-append p (c ∷ w) r a b =
+    let h : (p c ≡ true) × (list_all p w ≡ true) = and_parts (p c) _ a in
+    cond-true (p c) _ _ h.0 ∙ behind-append p w r h.1 b
+
+pub list_all-weaker : (p q : ℕ → Bool) (w : Text) → ((c : ℕ) → p c ≡ true → q c ≡ true) → list_all p w ≡ true → list_all q w ≡ true
+list_all-weaker p q [] f a = refl
+list_all-weaker p q (c ∷ w) f a =
+    let h : (p c ≡ true) × (list_all p w ≡ true) = and_parts (p c) _ a in
+    and_from _ _ (f c h.0) (list_all-weaker p q w f h.1)

@@ -1,0 +1,95 @@
+-- The test of a source literal decides what one is.
+use Rattle.std.proofs.Common.{◌≡◌, ◌++◌, ◌-◌, ◌+◌, ◌&&◌, ℕ, Bool, true, false, cond, List, [], ◌∷◌, length, take, drop, Option, Some, None, IsTrue, refl, sym, ap, subst, ◌∙◌, arith, length-append, ◌↔◌}
+use Rattle.std.specs.Prelude.{bytes_eq, if◌then◌else◌}
+use Rattle.std.proofs.lemmas.Slice.Eq.{bytes_eq-Decides}
+use Rattle.std.proofs.Math.Seq.{take-append_seam}
+use Rattle.std.proofs.lemmas.List.{append-nil}
+use Rattle.rustc_parse_format.specs.Characters.{Text}
+use Rattle.rustc_parse_format.specs.LiteralUnits.{LiteralUnit}
+use Rattle.rustc_parse_format.specs.Literal.{IsContent, IsLiteral, IsSource, units, content_value, quoted, raw_frame, newline}
+use Rattle.rustc_parse_format.specs.Source.{unappended, between, stand_for, is_literal_of, is_source, HasSource}
+use Rattle.rustc_parse_format.proofs.LiteralContents.{units-content, units-complete}
+
+both : (a b : Bool) → IsTrue (a && b) → IsTrue a × IsTrue b
+both true b h = (refl, h)
+both false b h = cc h
+
+join : (a b : Bool) → IsTrue a → IsTrue b → IsTrue (a && b)
+join true b h k = k
+join false b h k = cc h
+
+same : (s t : Text) → IsTrue (bytes_eq s t) → s ≡ t
+same s t h = (bytes_eq-Decides s t).0 h
+
+test : (s t : Text) → s ≡ t → IsTrue (bytes_eq s t)
+test s t e = (bytes_eq-Decides s t).1 e
+
+-- a text in front of its newline
+unappended-append : (b : Bool) (t : Text) → unappended b (t ++ newline b) ≡ t
+unappended-append true t =
+    let n : length (t ++ 10 ∷ []) - 1 ≡ length t = omega (arith, length-append t (10 ∷ [])) in
+    ap (λ k. take k (t ++ 10 ∷ [])) n ∙ take-append_seam t (10 ∷ [])
+unappended-append false t = append-nil t
+
+between-quoted : (t : Text) → between (quoted t) ≡ t
+between-quoted t =
+    let n : length (34 ∷ t ++ 34 ∷ []) - 2 ≡ length t = omega (arith, length-append t (34 ∷ [])) in
+    ap (λ k. take k (t ++ 34 ∷ [])) n ∙ take-append_seam t (34 ∷ [])
+
+-- units that stand for a text
+record StandFor (content t : Text) : Type 0 where
+  us : List LiteralUnit
+  are : units content ≡ Some us
+  value : content_value us ≡ t
+
+stood : (content t : Text) (o : Option (List LiteralUnit)) → units content ≡ o → IsTrue (stand_for o t) → StandFor content t
+stood content t None e h = cc h
+stood content t (Some us) e h = record { us = us; are = e; value = same (content_value us) t h }
+
+literal_of : (style : Option ℕ) (snippet t : Text) → IsTrue (is_literal_of style snippet t) → IsLiteral style snippet t
+literal_of None snippet t h =
+    let k = both (bytes_eq (quoted (between snippet)) snippet) (stand_for (units (between snippet)) t) h in
+    let s = stood (between snippet) t (units (between snippet)) refl k.1 in
+    (between snippet, s.us, sym (same (quoted (between snippet)) snippet k.0), units-content (between snippet) s.us s.are, s.value)
+literal_of (Some n) snippet t h = sym (same (raw_frame n t) snippet h)
+
+of_literal : (style : Option ℕ) (snippet t : Text) → IsLiteral style snippet t → IsTrue (is_literal_of style snippet t)
+of_literal None snippet t (content, us, e, h, v) =
+    let b : between snippet ≡ content = ap between e ∙ between-quoted content in
+    join (bytes_eq (quoted (between snippet)) snippet) (stand_for (units (between snippet)) t)
+    (test (quoted (between snippet)) snippet (ap quoted b ∙ sym e))
+    (rw (b, units-complete content us h) (test (content_value us) t v))
+of_literal (Some n) snippet t e = test (raw_frame n t) snippet (sym e)
+
+pub source-found : (input : Text) (style : Option ℕ) (snippet : Text) (b : Bool) → IsTrue (is_source input style (Some snippet) b) → IsSource input style snippet b
+unfolding is_source
+source-found input style snippet b h =
+    let k = both (bytes_eq (unappended b input ++ newline b) input) (is_literal_of style snippet (unappended b input)) h in
+    (unappended b input, literal_of style snippet (unappended b input) k.1, same (unappended b input ++ newline b) input k.0)
+
+pub found-source : (input : Text) (style : Option ℕ) (snippet : Text) (b : Bool) → IsSource input style snippet b → IsTrue (is_source input style (Some snippet) b)
+unfolding is_source
+found-source input style snippet b (t, l, e) =
+    let u : unappended b input ≡ t = ap (unappended b) (sym e) ∙ unappended-append b t in
+    join (bytes_eq (unappended b input ++ newline b) input) (is_literal_of style snippet (unappended b input))
+    (test (unappended b input ++ newline b) input (ap (λ s. s ++ newline b) u ∙ e))
+    (rw u (of_literal style snippet t l))
+
+-- whether or not a snippet was given
+pub has_source : (input : Text) (style : Option ℕ) (snippet : Option Text) (b : Bool) → IsTrue (is_source input style snippet b) ↔ HasSource input style snippet b
+unfolding is_source
+has_source input style None b = ((λ h. cc h), (λ h. absurd h))
+has_source input style (Some snippet) b = (source-found input style snippet b, found-source input style snippet b)
+
+-- two tests of one fact are one
+same_test : (a b : Bool) (P : Type 0) → IsTrue a ↔ P → IsTrue b ↔ P → a ≡ b
+same_test true true P f g = refl
+same_test true false P f g = let h : IsTrue false = g.1 (f.0 refl) in cc h
+same_test false true P f g = let h : IsTrue false = f.1 (g.0 refl) in cc h
+same_test false false P f g = refl
+
+-- a test of the relation is the test
+pub source_test : (b : Bool) (input : Text) (style : Option ℕ) (snippet : Text) (appended : Bool) →
+    IsTrue b ↔ IsSource input style snippet appended → b ≡ is_source input style (Some snippet) appended
+source_test b input style snippet appended h =
+    same_test b (is_source input style (Some snippet) appended) (IsSource input style snippet appended) h (has_source input style (Some snippet) appended)

@@ -1,0 +1,13 @@
+use Rattle.std.proofs.Common.{◌≡◌, ◌+◌, length, chars}
+use Rattle.rustc_parse_format.specs.Characters.{width}
+use Rattle.rustc_parse_format.proofs.LiteralPlaces.{IsSoFar}
+use Rattle.rustc_parse_format.proofs.literal.read_content.Given as goal
+
+abbrev pub invariant-loop-rest : goal.invariant-loop-rest
+invariant-loop-rest l = record {
+  so_far : IsSoFar l.found.items l.at l.rest (chars l.fn.content);
+  position : l.at + width l.rest ≡ l.total;
+}
+
+abbrev pub decreases-loop-rest : goal.decreases-loop-rest
+decreases-loop-rest l = length l.rest

@@ -1,0 +1,142 @@
+-- The units of an ordinary string literal: how each is written, which characters it stands for, and the unit at the
+-- front of a text. The public rule is the Rust Reference, string literals, of what stands between the quotes. It differs
+-- here in what a continuation takes: it goes on over any number of lines, and takes CR as it does HT, LF and space.
+use Rattle.std.specs.Prelude.{ℕ, Bool, true, false, not, ◌&&◌, ◌||◌, ◌==◌, ◌++◌, if◌then◌else◌, nat_lt, nat_le, [], ◌∷◌, length, Option, Some, None, is_some}
+use Rattle.std.specs.List.{list_all, filter}
+use Rattle.std.specs.Char.{digit_value}
+use Rattle.std.specs.Str.Parse.{digits_value}
+use Rattle.rustc_parse_format.specs.Characters.{Text, front, behind}
+
+pub data LiteralUnit : Type 0 where
+  -- a character that stands for itself
+  Plain : ℕ → LiteralUnit
+  -- a backslash and a letter
+  SimpleEscape : ℕ → LiteralUnit
+  -- `\x` and two digits
+  ByteEscape : ℕ → ℕ → LiteralUnit
+  -- `\u{..}`, by what its braces hold
+  UnicodeEscape : Text → LiteralUnit
+  -- a backslash and an LF, by the white space behind them
+  Continuation : Text → LiteralUnit
+
+-- as it is written
+abbrev pub spelling : LiteralUnit → Text
+spelling (Plain c) = c ∷ []
+spelling (SimpleEscape l) = 92 ∷ l ∷ []
+spelling (ByteEscape h l) = 92 ∷ 120 ∷ h ∷ l ∷ []
+spelling (UnicodeEscape w) = 92 ∷ 117 ∷ 123 ∷ w ++ 125 ∷ []
+spelling (Continuation w) = 92 ∷ 10 ∷ w
+
+-- `\n`, `\r`, `\t` and `\0`, or the quotes and the backslash themselves
+abbrev pub escaped : ℕ → Option ℕ
+escaped l =
+    if l == 110 then Some 10 else (if l == 114 then Some 13 else (if l == 116 then Some 9 else (if l == 48 then Some 0
+    else (if (l == 39 || l == 34) || l == 92 then Some l else None))))
+
+abbrev pub is_underscore : ℕ → Bool
+is_underscore c = c == 95
+
+abbrev pub is_hex : ℕ → Bool
+is_hex c = nat_lt (digit_value c) 16
+
+abbrev pub is_octal : ℕ → Bool
+is_octal c = nat_lt (digit_value c) 8
+
+-- the digits of a Unicode escape, without the `_` between them
+abbrev pub hex_digits : Text → Text
+hex_digits w = filter (λ c. not (is_underscore c)) w
+
+abbrev pub unicode_value : Text → ℕ
+unicode_value w = digits_value 16 (hex_digits w)
+
+abbrev pub byte_value : ℕ → ℕ → ℕ
+byte_value h l = digits_value 16 (h ∷ l ∷ [])
+
+-- one character, or none
+abbrev pub at_most_one : Option ℕ → Text
+at_most_one None = []
+at_most_one (Some c) = c ∷ []
+
+-- the characters that it stands for: one, or none of a continuation
+abbrev pub value : LiteralUnit → Text
+value (Plain c) = c ∷ []
+value (SimpleEscape l) = at_most_one (escaped l)
+value (ByteEscape h l) = byte_value h l ∷ []
+value (UnicodeEscape w) = unicode_value w ∷ []
+value (Continuation w) = []
+
+-- no quote, no backslash and no CR
+abbrev pub is_plain : ℕ → Bool
+is_plain c = not ((c == 34 || c == 92) || c == 13)
+
+-- HT, LF, CR or space, which a continuation takes
+abbrev pub is_skipped : ℕ → Bool
+is_skipped c = ((c == 9 || c == 10) || c == 13) || c == 32
+
+-- no surrogate, and no more than 10FFFF
+abbrev pub is_scalar : ℕ → Bool
+is_scalar c = nat_lt c 0xD800 || (nat_lt 0xDFFF c && nat_lt c 0x11_0000)
+
+-- the text begins with a character that passes
+abbrev pub begins_passing : (ℕ → Bool) → Text → Bool
+begins_passing p [] = false
+begins_passing p (c ∷ t) = p c
+
+-- One to six hexadecimal digits, the first in front and each with any number of `_` behind it, that write the code of a
+-- character.
+abbrev pub is_unicode : Text → Bool
+is_unicode w =
+    begins_passing is_hex w && (list_all (λ c. is_hex c || is_underscore c) w
+    && (nat_le (length (hex_digits w)) 6 && is_scalar (unicode_value w)))
+
+-- it is well formed
+abbrev pub is_unit : LiteralUnit → Bool
+is_unit (Plain c) = is_plain c
+is_unit (SimpleEscape l) = is_some (escaped l)
+is_unit (ByteEscape h l) = is_octal h && is_hex l
+is_unit (UnicodeEscape w) = is_unicode w
+is_unit (Continuation w) = list_all is_skipped w
+
+-- it may stand in front of that text: a continuation takes all the white space
+abbrev pub may_precede : LiteralUnit → Text → Bool
+may_precede (Continuation w) r = not (begins_passing is_skipped r)
+may_precede u r = true
+
+-- The unit at the front of a text, by computing, and the rest.
+abbrev pub with_rest : Text → LiteralUnit → Option (LiteralUnit × Text)
+with_rest r u = if is_unit u then Some (u, r) else None
+
+-- not the closing brace
+abbrev pub is_inside : ℕ → Bool
+is_inside c = not (c == 125)
+
+abbrev pub at_brace : Text → Text → Option (LiteralUnit × Text)
+at_brace w [] = None
+at_brace w (c ∷ r) = with_rest r (UnicodeEscape w)
+
+-- behind `\u`
+unfoldable pub unicode_at : Text → Option (LiteralUnit × Text)
+unicode_at [] = None
+unicode_at (c ∷ t) = if c == 123 then at_brace (front is_inside t) (behind is_inside t) else None
+
+-- behind `\x`
+unfoldable pub byte_at : Text → Option (LiteralUnit × Text)
+byte_at [] = None
+byte_at (h ∷ []) = None
+byte_at (h ∷ l ∷ r) = with_rest r (ByteEscape h l)
+
+-- behind a backslash
+unfoldable pub escape_at : Text → Option (LiteralUnit × Text)
+escape_at [] = None
+escape_at (l ∷ t) =
+    if l == 10 then Some (Continuation (front is_skipped t), behind is_skipped t)
+    else (if l == 120 then byte_at t else (if l == 117 then unicode_at t else with_rest t (SimpleEscape l)))
+
+unfoldable pub unit_at : Text → Option (LiteralUnit × Text)
+unit_at [] = None
+unit_at (c ∷ t) = if c == 92 then escape_at t else with_rest t (Plain c)
+
+-- what the unit at the front stands for, and the rest
+abbrev pub meaning : Option (LiteralUnit × Text) → Option (Text × Text)
+meaning None = None
+meaning (Some x) = Some (value x.0, x.1)

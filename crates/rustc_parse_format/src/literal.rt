@@ -1,0 +1,189 @@
+//! String literals as they are written in a program: the characters of a content with their places, and which snippet
+//! is the source literal of an input.
+
+ghost use Rattle.std.specs.Prelude.{◌≡◌, ◌↔◌, ◌++◌, ℕ, List, IsTrue, IfOk, IfSome, IfNone, MatchOption, chars, option_map, true, replicate};
+ghost use Rattle.rustc_parse_format.specs.Literal.{IsNoContent, IsOrdinaryLiteral, IsReadAs, IsSource, newline, quoted, raw_closing, raw_frame, raw_opening};
+ghost use Rattle.rustc_parse_format.specs.LiteralReading.{IsTaken, placed, seen_characters, spells};
+
+mod rest;
+mod unit;
+
+use rest::Rest;
+use std::alloc::{AllocError, Global};
+use std::ops::Range;
+use unit::read_unit;
+
+/// The characters that the content of an ordinary string literal stands for, each with the bytes of the content that it
+/// comes from, or `None` if the text is no content.
+pub fn read_content(
+    alloc: Global,
+    content: &str,
+) -> Result<Option<Vec<(Range<usize>, char)>>, AllocError>
+    ensures found { IfOk result (λ o. IfSome o (λ v. IsReadAs (chars content.now) (seen_characters v.items))) }
+    ensures none { IfOk result (λ o. IfNone o (IsNoContent (chars content.now))) }
+    ensures computed { IfOk result (λ o. option_map (λ v. seen_characters v.items) o ≡ placed 0 (chars content.now)) }
+{
+    let mut found = Vec::new(alloc);
+    let mut rest = Rest::new(content);
+    let total = rest.len();
+    let mut at = 0;
+    while !rest.is_empty() {
+        let Some(value) = read_unit(&mut rest) else {
+            return Ok(None);
+        };
+        let end = total - rest.len();
+        if let Some(c) = value {
+            found.push((at..end, c))?;
+        }
+        at = end;
+    }
+    Ok(Some(found))
+}
+
+/// Whether the snippet is the source literal of the input. A raw literal is named by the number of its hashes.
+pub fn is_source_literal(
+    input: &str,
+    style: Option<usize>,
+    snippet: &str,
+    appended_newline: bool,
+) -> bool
+    ensures { IsTrue result ↔ IsSource (chars input.now) style (chars snippet.now) appended_newline }
+{
+    let Some(text) = without_newline(input, appended_newline) else {
+        return false;
+    };
+    match style {
+        None => is_ordinary_literal(snippet, text),
+        Some(hashes) => is_raw_literal(snippet, hashes, text),
+    }
+}
+
+/// The input without the newline that a macro has appended to it, or `None` if there is no such newline.
+fn without_newline(input: &str, appended: bool) -> Option<&str>
+    ensures { MatchOption result
+        ((t : List ℕ) → t ++ newline appended ≡ chars input.now → ⊥)
+        (λ t. chars t.now ++ newline appended ≡ chars input.now) }
+{
+    if appended {
+        before_newline(input)
+    } else {
+        Some(input)
+    }
+}
+
+/// What stands in front of the newline at the end, or `None` if the text does not end with one.
+fn before_newline(text: &str) -> Option<&str>
+    ensures { MatchOption result
+        ((t : List ℕ) → t ++ newline true ≡ chars text.now → ⊥)
+        (λ t. chars t.now ++ newline true ≡ chars text.now) }
+{
+    text.strip_suffix('\n')
+}
+
+/// Whether the snippet is an ordinary literal that stands for the text.
+fn is_ordinary_literal(snippet: &str, text: &str) -> bool
+    ensures { IsTrue result ↔ IsOrdinaryLiteral (chars snippet.now) (chars text.now) }
+{
+    match between_quotes(snippet) {
+        Some(content) => stands_for(content, text),
+        None => false,
+    }
+}
+
+/// What stands between the first and the last character, where both are quotes.
+fn between_quotes(snippet: &str) -> Option<&str>
+    ensures { MatchOption result
+        ((t : List ℕ) → chars snippet.now ≡ quoted t → ⊥)
+        (λ t. chars snippet.now ≡ quoted (chars t.now)) }
+{
+    match snippet.strip_prefix('"') {
+        Some(behind) => behind.strip_suffix('"'),
+        None => None,
+    }
+}
+
+/// Whether the text is what the content stands for.
+#[tactic(auto, using(crate::proofs::LiteralSpelling::spelling_steps))]
+fn stands_for(content: &str, text: &str) -> bool
+    ensures { result ≡ spells (chars content.now) (chars text.now) }
+{
+    let mut rest = Rest::new(content);
+    let mut wanted = Rest::new(text);
+    while !rest.is_empty() {
+        let Some(value) = read_unit(&mut rest) else {
+            return false;
+        };
+        if let Some(c) = value {
+            if !wanted.takes(c) {
+                return false;
+            }
+        }
+    }
+    wanted.is_empty()
+}
+
+/// Whether the snippet is a raw literal with so many hashes that stands for the text.
+fn is_raw_literal(snippet: &str, hashes: usize, text: &str) -> bool
+    ensures { IsTrue result ↔ (chars snippet.now ≡ raw_frame hashes (chars text.now)) }
+{
+    let mut rest = Rest::new(snippet);
+    if !takes_opening(&mut rest, hashes) {
+        return false;
+    }
+    if !takes_text(&mut rest, text) {
+        return false;
+    }
+    takes_closing(&mut rest, hashes) && rest.is_empty()
+}
+
+/// Takes what stands in front of the text of a raw literal, and says whether it was there.
+#[tactic(auto, using(crate::proofs::LiteralPrefixes::prefix_steps))]
+fn takes_opening(rest: &mut Rest<'_>, hashes: usize) -> bool
+    ensures { IsTaken (raw_opening hashes) rest.old result rest.new }
+{
+    if !rest.takes('r') {
+        return false;
+    }
+    if !takes_hashes(rest, hashes) {
+        return false;
+    }
+    rest.takes('"')
+}
+
+/// Takes what stands behind the text of a raw literal, and says whether it was there.
+#[tactic(auto, using(crate::proofs::LiteralPrefixes::prefix_steps))]
+fn takes_closing(rest: &mut Rest<'_>, hashes: usize) -> bool
+    ensures { IsTaken (raw_closing hashes) rest.old result rest.new }
+{
+    rest.takes('"') && takes_hashes(rest, hashes)
+}
+
+/// Takes so many hashes, and says whether they were there.
+fn takes_hashes(rest: &mut Rest<'_>, hashes: usize) -> bool
+    ensures { IsTaken (replicate hashes 35) rest.old result rest.new }
+{
+    let mut left = hashes;
+    while left > 0 {
+        if !rest.takes('#') {
+            return false;
+        }
+        left -= 1;
+    }
+    true
+}
+
+/// Takes a text, and says whether it was there.
+fn takes_text(rest: &mut Rest<'_>, text: &str) -> bool
+    ensures { IsTaken (chars text.now) rest.old result rest.new }
+{
+    let mut wanted = Rest::new(text);
+    while let Some(c) = wanted.next() {
+        if !rest.takes(c) {
+            return false;
+        }
+    }
+    true
+}
+
+#[cfg(test)]
+mod tests;

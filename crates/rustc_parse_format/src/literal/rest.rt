@@ -1,0 +1,93 @@
+//! What is left of a text, from which characters are taken one at a time.
+
+ghost use Rattle.std.specs.Prelude.{◌≡◌, ◌↔◌, List, ℕ, [], chars, IsTrue};
+ghost use Rattle.rustc_parse_format.specs.Characters.{width, behind, behind_first, begins_with};
+ghost use Rattle.rustc_parse_format.specs.Characters.{first};
+ghost use Rattle.rustc_parse_format.specs.LiteralUnits.{is_skipped};
+
+use std::marker::Model;
+
+/// What is left of a text.
+#[derive(Drop)]
+pub struct Rest<'a> {
+    text: &'a str,
+}
+
+impl<'a> Model for Rest<'a> {
+    ghost Value = { List ℕ };
+
+    ghost view = { λ r. chars r.text.now };
+}
+
+impl<'a> Rest<'a> {
+    /// The whole of a text.
+    pub fn new(text: &'a str) -> Rest<'a>
+        ensures { result ≡ chars text.now }
+    {
+        Rest { text }
+    }
+
+    /// How many bytes are left.
+    pub fn len(&self) -> usize
+        ensures { result ≡ width self.now }
+    {
+        byte_count(self.text)
+    }
+
+    /// Whether nothing is left.
+    pub fn is_empty(&self) -> bool
+        ensures { IsTrue result ↔ (self.now ≡ []) }
+    {
+        self.peek().is_none()
+    }
+
+    /// The next character, which stays.
+    pub fn peek(&self) -> Option<char>
+        ensures { result ≡ first self.now }
+    {
+        self.text.chars().next()
+    }
+
+    /// Takes the next character.
+    pub fn next(&mut self) -> Option<char>
+        ensures value { result ≡ first self.old }
+        ensures rest { self.new ≡ behind_first self.old }
+    {
+        let first = self.peek();
+        self.text = past_first(self.text);
+        first
+    }
+
+    /// Takes the next character, and says whether it is this one.
+    pub fn takes(&mut self, c: char) -> bool
+        ensures value { result ≡ begins_with c self.old }
+        ensures rest { self.new ≡ behind_first self.old }
+    {
+        self.next() == Some(c)
+    }
+
+    /// Takes the white space that belongs to a continuation.
+    pub fn skip_white(&mut self)
+        ensures { self.new ≡ behind is_skipped self.old }
+    {
+        while let Some('\t' | '\n' | '\r' | ' ') = self.peek() {
+            self.text = past_first(self.text);
+        }
+    }
+}
+
+/// What is behind the first character.
+fn past_first(text: &str) -> &str
+    ensures { chars result.now ≡ behind_first (chars text.now) }
+{
+    let mut rest = text.chars();
+    rest.next();
+    rest.as_str()
+}
+
+/// How many bytes a text takes.
+fn byte_count(text: &str) -> usize
+    ensures { result ≡ width (chars text.now) }
+{
+    text.len()
+}

@@ -1,0 +1,83 @@
+//! The unit at the front of the content of an ordinary string literal.
+
+ghost use Rattle.std.specs.Prelude.{◌≡◌, ◌∷◌, [], option_map};
+ghost use Rattle.rustc_parse_format.specs.LiteralUnits.{at_most_one, byte_at, escape_at, escaped, meaning, unicode_at, unit_at};
+
+use super::rest::Rest;
+
+/// Takes the unit at the front, and gives what it stands for, which may be nothing. It gives `None` if no unit stands
+/// there.
+#[tactic(auto, unfolding(crate::specs::LiteralUnits::unit_at))]
+pub fn read_unit(rest: &mut Rest<'_>) -> Option<Option<char>>
+    ensures { meaning (unit_at rest.old) ≡ option_map (λ v. (at_most_one v, rest.new)) result }
+{
+    match rest.next()? {
+        '\\' => read_escape(rest),
+        '"' | '\r' => None,
+        c => Some(Some(c)),
+    }
+}
+
+/// Takes what is behind a backslash.
+#[tactic(auto, unfolding(crate::specs::LiteralUnits::escape_at))]
+fn read_escape(rest: &mut Rest<'_>) -> Option<Option<char>>
+    ensures { meaning (escape_at rest.old) ≡ option_map (λ v. (at_most_one v, rest.new)) result }
+{
+    match rest.next()? {
+        '\n' => {
+            rest.skip_white();
+            Some(None)
+        }
+        'x' => Some(Some(read_byte(rest)?)),
+        'u' => Some(Some(read_unicode(rest)?)),
+        letter => Some(Some(escaped(letter)?)),
+    }
+}
+
+/// What a backslash and this letter stand for.
+fn escaped(letter: char) -> Option<char>
+    ensures { result ≡ escaped letter }
+{
+    match letter {
+        'n' => Some('\n'),
+        'r' => Some('\r'),
+        't' => Some('\t'),
+        '0' => Some('\0'),
+        '\'' | '"' | '\\' => Some(letter),
+        _ => None,
+    }
+}
+
+/// Takes what is behind `\x`.
+#[tactic(auto, unfolding(crate::specs::LiteralUnits::byte_at))]
+fn read_byte(rest: &mut Rest<'_>) -> Option<char>
+    ensures { meaning (byte_at rest.old) ≡ option_map (λ c. (c ∷ [], rest.new)) result }
+{
+    let high = rest.next()?.to_digit(8)?;
+    let low = rest.next()?.to_digit(16)?;
+    Some((high * 16 + low) as u8 as char)
+}
+
+/// Takes what is behind `\u`.
+#[tactic(auto, using(crate::proofs::LiteralUnicode::unicode_steps))]
+fn read_unicode(rest: &mut Rest<'_>) -> Option<char>
+    ensures { meaning (unicode_at rest.old) ≡ option_map (λ c. (c ∷ [], rest.new)) result }
+{
+    if !rest.takes('{') {
+        return None;
+    }
+    let mut digits: u32 = 0;
+    let mut code: u32 = 0;
+    while let Some(c) = rest.next() {
+        match c {
+            '}' if digits > 0 => return char::from_u32(code),
+            '_' if digits > 0 => {}
+            _ if digits < 6 => {
+                code = code * 16 + c.to_digit(16)?;
+                digits += 1;
+            }
+            _ => return None,
+        }
+    }
+    None
+}
