@@ -39,3 +39,8 @@ some_length (x ∷ xs) h = omega arith
 -- and one with a fault leaves more.
 pub after-more : (s : State) (k : Call) → k.faults ≢ [] → length s.errors < length (after s k).errors
 after-more s k h = omega (arith, after-length s k, some_length k.faults h)
+
+-- No call leaves the parser's world.
+pub after_all-world : (s : State) (ks : List Call) → (after_all s ks).world ≡ s.world
+after_all-world s [] = refl
+after_all-world s (k ∷ ks) = after_all-world (after s k) ks

@@ -40,11 +40,12 @@ impl<'input> Model for Parser<'input> {
 }
 
 impl<'input> Parser<'input> {
-    ghost use Rattle.std.specs.Prelude.{◌≡◌, ◌≢◌, ◌+◌, ◌<◌, ◌≤◌, ◌^◌, [], ℕ, IfOk, IsNone, IsOk, OnErr, OnOk, Some, bytes_eq, chars, length, map, option_map, string_bytes};
+    ghost use Rattle.std.specs.Prelude.{◌≡◌, ◌≢◌, ◌+◌, ◌<◌, ◌≤◌, ◌^◌, ◌↔◌, [], ℕ, IfOk, IsNone, IsOk, IsTrue, OnErr, OnOk, Some, bytes_eq, chars, length, map, option_map, string_bytes};
     ghost use Rattle.rustc_parse_format.specs.Characters.{Text, behind_first};
     ghost use Rattle.rustc_parse_format.specs.Grammar.{Begins};
     ghost use Rattle.rustc_parse_format.specs.Pieces.{Piece as BarePiece, bare};
     ghost use Rattle.rustc_parse_format.specs.Seen.{pair, seen, seen_error, seen_mode};
+    ghost use Rattle.rustc_parse_format.specs.Source.{HasSource};
     ghost use Rattle.rustc_parse_format.specs.State.{GivesPiece, after, first_of, fresh, next_call};
     ghost use Rattle.rustc_parse_format.specs.Step.{TakesNoMemory};
     ghost use Rattle.rustc_parse_format.specs.World.{hashes, piece_in, world};
@@ -63,6 +64,8 @@ impl<'input> Parser<'input> {
         ensures ok { IsOk result }
         ensures start { IfOk result (λ p. p ≡ fresh (seen_mode mode)
             (world (chars input.now) style (option_map (λ s. chars (string_bytes s)) snippet) appended_newline) (chars input.now)) }
+        ensures source { IfOk result (λ p. IsTrue p.world.is_literal
+            ↔ HasSource (chars input.now) style (option_map (λ s. chars (string_bytes s)) snippet) appended_newline) }
     {
         let is_literal = has_source(input, style, &snippet, appended_newline);
         let end = text_end(input, &snippet, appended_newline);

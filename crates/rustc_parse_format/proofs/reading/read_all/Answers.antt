@@ -1,9 +1,10 @@
-use Rattle.std.proofs.Common.{◌≡◌, chars, string_bytes, String, Global}
+use Rattle.std.proofs.Common.{◌≡◌, ap, chars, string_bytes, String, Global}
 use Rattle.std.specs.Prelude.{option_map}
 use Rattle.rustc_parse_format.specs.Seen.{seen_mode}
-use Rattle.rustc_parse_format.specs.State.{State, fresh}
+use Rattle.rustc_parse_format.specs.State.{State, fresh, calls}
 use Rattle.rustc_parse_format.specs.World.{world}
 use Rattle.rustc_parse_format.proofs.Readings.{Reads-unique}
+use Rattle.rustc_parse_format.proofs.StateWalks.{after_all-world}
 use Rattle.rustc_parse_format.proofs.ReadPieces.{clean_in, in_clean, reading_of, stops_of}
 use Rattle.rustc_parse_format.proofs.reading.read_all.Goals as goal
 
@@ -30,3 +31,7 @@ returns-clause-first_fault c =
     let s = fresh (seen_mode c.args.mode) (world (chars c.args.input.now) c.args.style (option_map (λ (t : String Global). chars (string_bytes t)) c.args.snippet) c.args.appended_newline) (chars c.args.input.now) in
     let e : ◌≡◌ {A = State} c.in_ok-parser.parser s = c.in_ok-parser.ensures.start in
     stops_of (seen_mode c.args.mode) s.world (chars c.args.input.now) _ _ _ e c.in_ok-pieces.ensures.state c.in_ok-pieces.ensures.pieces
+
+pub returns-clause-source : goal.returns-clause-source
+returns-clause-source c =
+    rw (ap (λ (s : State). s.world.is_literal) c.in_ok-pieces.ensures.state, after_all-world c.in_ok-parser.parser (calls c.in_ok-parser.parser)) c.in_ok-parser.ensures.source

@@ -1,7 +1,9 @@
-use Rattle.std.proofs.Common.{◌≤◌, ap, length, chars, arith, refl}
+use Rattle.std.proofs.Common.{◌≤◌, ap, length, chars, arith, refl, String, Global, string_bytes}
+use Rattle.std.specs.Prelude.{option_map}
 use Rattle.std.proofs.lemmas.Str.{length-le-encodes, encodes-chars}
 use Rattle.rustc_parse_format.specs.State.{Unread}
 use Rattle.rustc_parse_format.specs.World.{world}
+use Rattle.rustc_parse_format.proofs.Sources.{has_source}
 use Rattle.rustc_parse_format.proofs.parser.Parser.new.Goals as goal
 
 pub invariant_of-result : goal.invariant_of-result
@@ -12,3 +14,8 @@ invariant_of-result c =
 pub returns-clause-start : goal.returns-clause-start
 unfolding world
 returns-clause-start c = rw (c.new.ensures, c.quote_offset.ensures, c.text_end-end.ensures, c.has_source-is_literal.ensures, c.new-2.ensures.items) refl
+
+pub returns-clause-source : goal.returns-clause-source
+returns-clause-source c =
+    rw (ap (λ (u : Unread). u.world.is_literal) c.new.ensures, c.has_source-is_literal.ensures)
+    (has_source (chars c.args.input.now) c.args.style (option_map (λ (t : String Global). chars (string_bytes t)) c.args.snippet) c.args.appended_newline)
