@@ -1,13 +1,12 @@
 -- The parts of a specification by what a text begins with.
-use Rattle.std.proofs.Common.{◌≡◌, ℕ, Bool, true, false, cond, rules, List, [], ◌∷◌, Option, Some, None, chars, refl, sym, ap, ◌∙◌}
-use Rattle.std.specs.Prelude.{◌==◌, if◌then◌else◌, codes, is_none, is_some}
+use Rattle.std.proofs.Common.{◌≡◌, ℕ, Bool, true, false, cond, rules, List, [], ◌∷◌, chars, refl, sym, ap, ◌∙◌}
+use Rattle.std.specs.Prelude.{◌==◌, if◌then◌else◌, codes}
 use Rattle.std.proofs.lemmas.Bool.{eqb-true}
 use Rattle.std.proofs.lemmas.Str.{chars-IsAscii}
-use Rattle.rustc_parse_format.specs.Characters.{Text, begins_with, behind_first, first, word, behind_word}
+use Rattle.rustc_parse_format.specs.Characters.{Text, begins_with, behind_first, word, behind_word}
 use Rattle.rustc_parse_format.specs.Pieces.{DebugHex, Lower, Upper}
-use Rattle.rustc_parse_format.specs.Marks.{Span, up_to}
-use Rattle.rustc_parse_format.specs.Counts.{NoPrecision, StarPrecision, DotPrecision, CountText, WidthText, PrecisionText, count, counted, width, precision}
-use Rattle.rustc_parse_format.specs.Meaning.{word_span, type_of}
+use Rattle.rustc_parse_format.specs.Counts.{NoPrecision, StarPrecision, DotPrecision, count, counted, width, precision}
+use Rattle.rustc_parse_format.specs.Meaning.{type_of}
 use Rattle.rustc_parse_format.specs.Specification.{TypeText, DebugHexType, SignType, WordType, behind_hex, type}
 
 pub type_lower : (t : Text) → begins_with 120 t ≡ true → type t ≡ behind_hex Lower 120 (behind_first t)
