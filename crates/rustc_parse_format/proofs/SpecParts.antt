@@ -1,5 +1,5 @@
 -- The parts of a specification by what a text begins with.
-use Rattle.std.proofs.Common.{◌≡◌, ℕ, Bool, true, false, cond, rules, List, [], ◌∷◌, chars, refl, sym, ap, ◌∙◌}
+use Rattle.std.proofs.Common.{◌≡◌, ℕ, Bool, true, false, cond, rules, [], ◌∷◌, chars, refl, ap, ◌∙◌}
 use Rattle.std.specs.Prelude.{◌==◌, if◌then◌else◌, codes}
 use Rattle.std.proofs.lemmas.Bool.{eqb-true}
 use Rattle.std.proofs.lemmas.Str.{chars-IsAscii}
