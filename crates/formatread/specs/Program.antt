@@ -2,7 +2,7 @@
 use Rattle.std.specs.Prelude.{ℕ, Bool, true, false, if◌then◌else◌, nat_lt, List, [], ◌∷◌, length, Option, Some, None, Result, Ok, Err, bytes_eq, chars, codes}
 use Rattle.std.specs.Str.{is_utf8}
 use Rattle.rustc_parse_format.specs.Characters.{Text}
-use Rattle.rustc_parse_format.specs.Pieces.{Mode, Format, Piece}
+use Rattle.rustc_parse_format.specs.Pieces.{Mode, Format, InlineAsm, Diagnostic, Piece}
 use Rattle.rustc_parse_format.specs.World.{Place, world, pieces_in}
 use Rattle.rustc_parse_format.specs.Step.{pieces_of}
 use Rattle.rustc_parse_format.specs.State.{State, fresh, calls, after_all}
@@ -16,7 +16,10 @@ limit = 1048576
 
 -- the mode that a word names
 abbrev pub mode_named : List ℕ → Option Mode
-mode_named w = if bytes_eq w (codes "format") then Some Format else None
+mode_named w =
+    if bytes_eq w (codes "format") then Some Format
+    else (if bytes_eq w (codes "asm") then Some InlineAsm
+    else (if bytes_eq w (codes "diagnostic") then Some Diagnostic else None))
 
 -- the mode that the words ask for: none but a single name of a mode is accepted
 abbrev pub mode_asked : List (List ℕ) → Option Mode

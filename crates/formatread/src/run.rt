@@ -70,6 +70,10 @@ fn mode_named(word: &str) -> Option<ParseMode>
 {
     if word == "format" {
         Some(ParseMode::Format)
+    } else if word == "asm" {
+        Some(ParseMode::InlineAsm)
+    } else if word == "diagnostic" {
+        Some(ParseMode::Diagnostic)
     } else {
         None
     }

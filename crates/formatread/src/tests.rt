@@ -33,9 +33,14 @@ fn repeated(alloc: Global, byte: u8, count: usize) -> Result<Vec<u8>, AllocError
 #[test]
 fn lists_short_inputs(rt: HostRuntime) -> Result<(), Fail> {
     let words = words(rt.alloc(), &["format"])?;
-    let rows: [(&[u8], &[u8], bool); 4] = [
+    let rows: [(&[u8], &[u8], bool); 5] = [
         (HI, HI_LINES, false),
         (b"", b"", false),
+        (
+            b"{:*>8.w$x?}",
+            b"arg implicit 0 fill=\"*\" align=right width=is:8 precision=name:w hex=lower ty=\"?\"\n",
+            false,
+        ),
         (b"{", b"arg implicit 0\n", true),
         (
             b"a\n\"}}\x7F",
@@ -50,6 +55,30 @@ fn lists_short_inputs(rt: HostRuntime) -> Result<(), Fail> {
         assert_eq!(rt; answer, Ok(faulty));
         assert_eq!(rt; written.as_slice(), lines);
         assert!(rt; reader.is_empty());
+    }
+    Ok(())
+}
+
+#[test]
+fn lists_in_each_mode(rt: HostRuntime) -> Result<(), Fail> {
+    let rows: [(&str, &[u8], &[u8]); 5] = [
+        ("format", b"{0:e}", b"arg index 0 ty=\"e\"\n"),
+        ("asm", b"", b""),
+        ("asm", b"{0:e}", b"arg index 0 ty=\"e\"\n"),
+        ("diagnostic", b"", b""),
+        (
+            "diagnostic",
+            b"{}{0}{a:}",
+            b"arg implicit 0\narg index 0\narg name a ty=\"\"\n",
+        ),
+    ];
+    for (mode, input, lines) in rows {
+        let words = words(rt.alloc(), &[mode])?;
+        let mut reader = input;
+        let mut written = Vec::new(rt.alloc());
+        let answer = run(rt.alloc(), &mut reader, &mut written, words.as_slice());
+        assert_eq!(rt; answer, Ok(false));
+        assert_eq!(rt; written.as_slice(), lines);
     }
     Ok(())
 }
@@ -92,7 +121,7 @@ fn refuses_other_words_unread(rt: HostRuntime) -> Result<(), Fail> {
     let rows: [&[&str]; 5] = [
         &[],
         &["format", "format"],
-        &["asm"],
+        &["asm", "diagnostic"],
         &["Format"],
         &["formats"],
     ];
