@@ -11,8 +11,12 @@ mod listing;
 #[cfg(test)]
 mod mixed_rows;
 #[cfg(test)]
+mod more_snippets;
+#[cfg(test)]
 mod named_rows;
 #[cfg(test)]
 mod row;
+#[cfg(test)]
+mod snippets;
 #[cfg(test)]
 mod tables;
