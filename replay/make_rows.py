@@ -7,7 +7,7 @@ The stages are those of make_lists.py. A line of FILE has, with tabs between the
 a newline was appended, the snippet, the input and the answer, as crates/format_rows/src/row.rt says; but bytes are
 written as in cases.py, and the answer has a line `end N`, which no public call tells and which is dropped. Answers that
 the stage gives otherwise are left out. A table of walks has the rows in which no piece comes behind a None, a table of
-calls the others."""
+calls the others. The tables of snippets have every row, with nothing but whether its snippet is the source literal."""
 
 import os
 import re
