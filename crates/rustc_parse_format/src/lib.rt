@@ -5,11 +5,11 @@ mod call;
 mod chars;
 mod faults;
 mod format_spec;
+pub mod literal;
 mod parser;
 mod reading;
 mod sizes;
 mod spec;
-pub mod literal;
 mod types;
 mod world;
 
