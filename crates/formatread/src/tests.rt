@@ -84,6 +84,57 @@ fn lists_in_each_mode(rt: HostRuntime) -> Result<(), Fail> {
 }
 
 #[test]
+fn lists_what_a_literal_stands_for(rt: HostRuntime) -> Result<(), Fail> {
+    let words = words(rt.alloc(), &["format", "--literal"])?;
+    let rows: [(&[u8], &[u8], bool); 5] = [
+        (b"\"a\"\n", b"lit \"a\"\n", false),
+        (
+            b"\"a\\n{0:?#}\"",
+            b"lit \"a\\n\"\narg index 0 ty=\"?\"\nlit \"#\"\n",
+            true,
+        ),
+        (b"\"\"", b"", false),
+        (
+            b"r#\"{a}\"\\n\"#\n",
+            b"arg name a\nlit \"\\\"\\\\n\"\n",
+            false,
+        ),
+        (b"r\"\n\"", b"lit \"\\n\"\n", false),
+    ];
+    for (input, lines, faulty) in rows {
+        let mut reader = input;
+        let mut written = Vec::new(rt.alloc());
+        let answer = run(rt.alloc(), &mut reader, &mut written, words.as_slice());
+        assert_eq!(rt; answer, Ok(faulty));
+        assert_eq!(rt; written.as_slice(), lines);
+    }
+    Ok(())
+}
+
+#[test]
+fn refuses_what_is_no_literal(rt: HostRuntime) -> Result<(), Fail> {
+    let words = words(rt.alloc(), &["format", "--literal"])?;
+    let rows: [(&[u8], RunFault); 8] = [
+        (b"\"a", RunFault::NotLiteral),
+        (b"\"a\"\n\n", RunFault::NotLiteral),
+        (b"\"a\"\r\n", RunFault::NotLiteral),
+        (b"", RunFault::NotLiteral),
+        (b"\"\\q\"", RunFault::NotLiteral),
+        (b"r#\"a\"", RunFault::NotLiteral),
+        (b"b\"a\"", RunFault::NotLiteral),
+        (b"\xFF", RunFault::NotText),
+    ];
+    for (input, fault) in rows {
+        let mut reader = input;
+        let mut written = Vec::new(rt.alloc());
+        let answer = run(rt.alloc(), &mut reader, &mut written, words.as_slice());
+        assert_eq!(rt; answer, Err(fault));
+        assert!(rt; written.is_empty());
+    }
+    Ok(())
+}
+
+#[test]
 fn lists_the_longest_input(rt: HostRuntime) -> Result<(), Fail> {
     let words = words(rt.alloc(), &["format"])?;
     let input = repeated(rt.alloc(), b'a', LIMIT)?;
@@ -118,9 +169,12 @@ fn refuses_what_is_too_long_or_no_text(rt: HostRuntime) -> Result<(), Fail> {
 
 #[test]
 fn refuses_other_words_unread(rt: HostRuntime) -> Result<(), Fail> {
-    let rows: [&[&str]; 5] = [
+    let rows: [&[&str]; 8] = [
         &[],
         &["format", "format"],
+        &["--literal"],
+        &["--literal", "format"],
+        &["format", "--literal", "--literal"],
         &["asm", "diagnostic"],
         &["Format"],
         &["formats"],
@@ -229,6 +283,11 @@ fn tells_each_answer(rt: HostRuntime) {
         (Ok(false), "", 0),
         (Ok(true), "", 1),
         (Err(RunFault::Words), usage, 2),
+        (
+            Err(RunFault::NotLiteral),
+            "formatread: input is not a string literal",
+            2,
+        ),
         (Err(RunFault::Read), "formatread: reading failed", 3),
         (
             Err(RunFault::TooLong),
