@@ -148,7 +148,11 @@ pub fn source_by_literal(alloc: Global, row: &Row) -> Result<String, Fail> {
         ),
         None => false,
     };
-    let answer = if is_source { "source yes\n" } else { "source no\n" };
+    let answer = if is_source {
+        "source yes\n"
+    } else {
+        "source no\n"
+    };
     Ok(String::from_str(alloc, answer)?)
 }
 

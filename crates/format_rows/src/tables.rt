@@ -37,9 +37,17 @@ fn check_sources(rt: &impl Abort, alloc: Global, table: &str) -> Result<(), Fail
         let row = row_of(alloc, line)?;
         let name = row.name.as_str();
         let parsed = source_by_parser(rt, alloc, &row)?;
-        assert_eq!(rt; parsed.as_str(), row.wanted.as_str(), "row {name} by its parser");
+        assert_eq!(rt;
+            parsed.as_str(),
+            row.wanted.as_str(),
+            "row {name} by its parser"
+        );
         let asked = source_by_literal(alloc, &row)?;
-        assert_eq!(rt; asked.as_str(), row.wanted.as_str(), "row {name} by the test of literals");
+        assert_eq!(rt;
+            asked.as_str(),
+            row.wanted.as_str(),
+            "row {name} by the test of literals"
+        );
     }
     Ok(())
 }
