@@ -5,11 +5,12 @@ mod call;
 mod chars;
 mod faults;
 mod format_spec;
+mod laws;
+pub mod literal;
 mod parser;
 mod reading;
 mod sizes;
 mod spec;
-pub mod literal;
 mod types;
 mod world;
 
