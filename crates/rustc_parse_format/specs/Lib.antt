@@ -21,3 +21,4 @@ pub mod Literal
 pub mod Source
 pub mod World
 pub mod LiteralReading
+pub mod KnownTexts

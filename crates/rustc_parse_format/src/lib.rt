@@ -5,6 +5,7 @@ mod call;
 mod chars;
 mod faults;
 mod format_spec;
+mod laws;
 pub mod literal;
 mod parser;
 mod reading;

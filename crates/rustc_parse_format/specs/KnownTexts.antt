@@ -1,0 +1,40 @@
+-- The texts in a value of the declared types are UTF-8, as each `str` is.
+use Rattle.std.specs.Prelude.{IsUtf8, ⊤}
+use Rattle.rustc_parse_format.specs.declared.types.Piece.{Piece}
+use Rattle.rustc_parse_format.specs.declared.types.Piece.TheVariants.{Lit, NextArgument}
+use Rattle.rustc_parse_format.specs.declared.types.Argument.{Argument}
+use Rattle.rustc_parse_format.specs.declared.types.FormatSpec.{FormatSpec}
+use Rattle.rustc_parse_format.specs.declared.types.Position.{Position}
+use Rattle.rustc_parse_format.specs.declared.types.Position.TheVariants.{ArgumentImplicitlyIs, ArgumentIs, ArgumentNamed}
+use Rattle.rustc_parse_format.specs.declared.types.Count.{Count}
+use Rattle.rustc_parse_format.specs.declared.types.Count.TheVariants.{CountIs, CountIsName, CountIsParam, CountIsStar, CountImplied}
+
+-- the name, where a position has one
+abbrev pub IsTextInPosition : Position → Type 0
+IsTextInPosition (ArgumentImplicitlyIs n) = ⊤
+IsTextInPosition (ArgumentIs n) = ⊤
+IsTextInPosition (ArgumentNamed w) = IsUtf8 w.now
+
+-- the name, where a count has one
+abbrev pub IsTextInCount : Count → Type 0
+IsTextInCount (CountIs n) = ⊤
+IsTextInCount (CountIsName w r) = IsUtf8 w.now
+IsTextInCount (CountIsParam n) = ⊤
+IsTextInCount (CountIsStar n) = ⊤
+IsTextInCount CountImplied = ⊤
+
+-- the names in the counts of a specification, and its type
+pub record IsTextInSpec (s : FormatSpec) : Type 0 where
+  pub precision : IsTextInCount s.precision
+  pub width : IsTextInCount s.width
+  pub ty : IsUtf8 s.ty.now
+
+-- the texts of a placeholder
+pub record IsTextInArgument (a : Argument) : Type 0 where
+  pub position : IsTextInPosition a.position
+  pub format : IsTextInSpec a.format
+
+-- the texts of a piece
+abbrev pub IsTextInPiece : Piece → Type 0
+IsTextInPiece (Lit t) = IsUtf8 t.now
+IsTextInPiece (NextArgument b) = IsTextInArgument b.value

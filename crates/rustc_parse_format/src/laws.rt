@@ -1,0 +1,219 @@
+//! What the derives of the public types promise, each as the contract of a small function: a clone is always made
+//! and is its source; `==` is true exactly where the contracts see the same, in every field and every span, so it is
+//! reflexive, symmetric and transitive; the defaults ask for nothing.
+//!
+//! Two texts of the same characters have the same bytes because each is UTF-8. A contract knows that of a `&str` that
+//! is passed, so the functions named `know_` pass each text of a value on.
+
+ghost use Rattle.std.specs.Prelude.{◌≡◌, ◌↔◌, IsOkAnd, IsTrue, IsUtf8};
+ghost use Rattle.rustc_parse_format.specs.KnownTexts.{IsTextInArgument, IsTextInCount, IsTextInPiece, IsTextInPosition, IsTextInSpec};
+ghost use Rattle.rustc_parse_format.specs.Pieces.{Implied, Unknown, default_spec};
+ghost use Rattle.rustc_parse_format.specs.Seen.{seen, seen_alignment, seen_argument, seen_count, seen_debug_hex, seen_mode, seen_position, seen_sign, seen_spec};
+
+use crate::types::{
+    Alignment, Argument, Count, DebugHex, FormatSpec, ParseMode, Piece, Position, Sign,
+};
+use std::alloc::AllocError;
+
+/// A clone of a mode is made, and is its source.
+fn clone_of_mode(mode: &ParseMode) -> Result<ParseMode, AllocError>
+    ensures { IsOkAnd result (λ m. m ≡ mode.now) }
+{
+    mode.clone()
+}
+
+/// `==` of two modes says whether they are seen the same.
+fn modes_are_equal(a: &ParseMode, b: &ParseMode) -> bool
+    ensures { IsTrue result ↔ (seen_mode a.now ≡ seen_mode b.now) }
+{
+    a == b
+}
+
+/// A clone of an alignment is made, and is its source.
+fn clone_of_alignment(alignment: &Alignment) -> Result<Alignment, AllocError>
+    ensures { IsOkAnd result (λ a. a ≡ alignment.now) }
+{
+    alignment.clone()
+}
+
+/// `==` of two alignments says whether they are seen the same.
+fn alignments_are_equal(a: &Alignment, b: &Alignment) -> bool
+    ensures { IsTrue result ↔ (seen_alignment a.now ≡ seen_alignment b.now) }
+{
+    a == b
+}
+
+/// By default no alignment is given.
+fn default_of_alignment() -> Alignment
+    ensures { seen_alignment result ≡ Unknown }
+{
+    Alignment::default()
+}
+
+/// A clone of a sign is made, and is its source.
+fn clone_of_sign(sign: &Sign) -> Result<Sign, AllocError>
+    ensures { IsOkAnd result (λ s. s ≡ sign.now) }
+{
+    sign.clone()
+}
+
+/// `==` of two signs says whether they are seen the same.
+fn signs_are_equal(a: &Sign, b: &Sign) -> bool
+    ensures { IsTrue result ↔ (seen_sign a.now ≡ seen_sign b.now) }
+{
+    a == b
+}
+
+/// A clone of a case of hexadecimal digits is made, and is its source.
+fn clone_of_debug_hex(hex: &DebugHex) -> Result<DebugHex, AllocError>
+    ensures { IsOkAnd result (λ h. h ≡ hex.now) }
+{
+    hex.clone()
+}
+
+/// `==` of two cases of hexadecimal digits says whether they are seen the same.
+fn debug_hexes_are_equal(a: &DebugHex, b: &DebugHex) -> bool
+    ensures { IsTrue result ↔ (seen_debug_hex a.now ≡ seen_debug_hex b.now) }
+{
+    a == b
+}
+
+/// A clone of a position is made, and is its source.
+fn clone_of_position<'input>(position: &Position<'input>) -> Result<Position<'input>, AllocError>
+    ensures { IsOkAnd result (λ p. p ≡ position.now) }
+{
+    position.clone()
+}
+
+/// A text is UTF-8.
+fn know_text(_text: &str)
+    ensures { IsUtf8 _text.now }
+{}
+
+/// The name in a position is UTF-8.
+fn know_position(position: &Position<'_>)
+    ensures { IsTextInPosition position.now }
+{
+    if let Position::ArgumentNamed(name) = position {
+        know_text(name);
+    }
+}
+
+/// `==` of two positions says whether they are seen the same.
+fn positions_are_equal(a: &Position<'_>, b: &Position<'_>) -> bool
+    ensures { IsTrue result ↔ (seen_position a.now ≡ seen_position b.now) }
+{
+    know_position(a);
+    know_position(b);
+    a == b
+}
+
+/// A clone of a count is made, and is its source.
+fn clone_of_count<'input>(count: &Count<'input>) -> Result<Count<'input>, AllocError>
+    ensures { IsOkAnd result (λ n. n ≡ count.now) }
+{
+    count.clone()
+}
+
+/// The name in a count is UTF-8.
+fn know_count(count: &Count<'_>)
+    ensures { IsTextInCount count.now }
+{
+    if let Count::CountIsName(name, _) = count {
+        know_text(name);
+    }
+}
+
+/// `==` of two counts says whether they are seen the same.
+fn counts_are_equal(a: &Count<'_>, b: &Count<'_>) -> bool
+    ensures { IsTrue result ↔ (seen_count a.now ≡ seen_count b.now) }
+{
+    know_count(a);
+    know_count(b);
+    a == b
+}
+
+/// By default no count is given.
+fn default_of_count<'input>() -> Count<'input>
+    ensures { seen_count result ≡ Implied }
+{
+    Count::default()
+}
+
+/// A clone of a specification is made, and is its source.
+fn clone_of_spec<'input>(spec: &FormatSpec<'input>) -> Result<FormatSpec<'input>, AllocError>
+    ensures { IsOkAnd result (λ s. s ≡ spec.now) }
+{
+    spec.clone()
+}
+
+/// The texts of a specification are UTF-8.
+fn know_spec(spec: &FormatSpec<'_>)
+    ensures { IsTextInSpec spec.now }
+{
+    know_count(&spec.precision);
+    know_count(&spec.width);
+    know_text(spec.ty);
+}
+
+/// `==` of two specifications says whether they are seen the same.
+fn specs_are_equal(a: &FormatSpec<'_>, b: &FormatSpec<'_>) -> bool
+    ensures { IsTrue result ↔ (seen_spec a.now ≡ seen_spec b.now) }
+{
+    know_spec(a);
+    know_spec(b);
+    a == b
+}
+
+/// By default each part of a specification is absent.
+fn default_of_spec<'input>() -> FormatSpec<'input>
+    ensures { seen_spec result ≡ default_spec }
+{
+    FormatSpec::default()
+}
+
+/// A clone of a placeholder is made, and is its source.
+fn clone_of_argument<'input>(argument: &Argument<'input>) -> Result<Argument<'input>, AllocError>
+    ensures { IsOkAnd result (λ a. a ≡ argument.now) }
+{
+    argument.clone()
+}
+
+/// The texts of a placeholder are UTF-8.
+fn know_argument(argument: &Argument<'_>)
+    ensures { IsTextInArgument argument.now }
+{
+    know_position(&argument.position);
+    know_spec(&argument.format);
+}
+
+/// `==` of two placeholders says whether they are seen the same.
+fn arguments_are_equal(a: &Argument<'_>, b: &Argument<'_>) -> bool
+    ensures { IsTrue result ↔ (seen_argument a.now ≡ seen_argument b.now) }
+{
+    know_argument(a);
+    know_argument(b);
+    a == b
+}
+
+/// The texts of a piece are UTF-8.
+fn know_piece(piece: &Piece<'_>)
+    ensures { IsTextInPiece piece.now }
+{
+    match piece {
+        Piece::Lit(text) => know_text(text),
+        Piece::NextArgument(argument) => know_argument(argument),
+    }
+}
+
+/// `==` of two pieces says whether they are seen the same.
+fn pieces_are_equal<'input>(a: &Piece<'input>, b: &Piece<'input>) -> bool
+    ensures { IsTrue result ↔ (seen a.now ≡ seen b.now) }
+{
+    know_piece(a);
+    know_piece(b);
+    a == b
+}
+
+#[cfg(test)]
+mod tests;
