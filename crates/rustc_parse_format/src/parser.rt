@@ -161,3 +161,17 @@ impl<'input> Parser<'input> {
         self.curarg
     }
 }
+
+#[cfg(test)]
+mod tests {
+    use super::*;
+    use std::test::Fail;
+
+    #[test]
+    fn an_empty_input_behind_an_appended_newline_ends_at_0(rt: HostRuntime) -> Result<(), Fail> {
+        let parser = Parser::new(rt.alloc(), "", None, None, true, ParseMode::Format)?;
+        assert_eq!(rt; parser.cursor.start(), 0);
+        assert_eq!(rt; parser.cursor.stop(), 0);
+        Ok(())
+    }
+}
