@@ -7,7 +7,7 @@ The stages are those of make_lists.py. A line of FILE has, with tabs between the
 a newline was appended, the snippet, the input and the answer, as crates/format_rows/src/row.rt says; but bytes are
 written as in cases.py, and the answer has a line `end N`, which no public call tells and which is dropped. Answers that
 the stage gives otherwise are left out. A table of walks has the rows in which no piece comes behind a None, a table of
-calls the others."""
+calls the others. The tables of snippets have every row, with nothing but whether its snippet is the source literal."""
 
 import os
 import re
@@ -67,17 +67,28 @@ def write(file, about, rows):
     print(f"{file}: {len(walks)} walks, {len(behind)} calls")
 
 
+def write_sources(file, about, rows):
+    with open(os.path.join(SOURCES, file), "w", encoding="utf-8", newline="\n") as out:
+        out.write(f"//! {about} Made by `replay/make_rows.py`.\n\n")
+        out.write(table("SOURCES", "Whether the snippet is the source literal of the input.", rows))
+    print(f"{file}: {len(rows)} snippets")
+
+
 def main():
     if len(sys.argv) != 3 or sys.argv[2] not in make_lists.STAGES:
         sys.exit(__doc__)
     stages = make_lists.STAGES
     at = lambda other: stages.index(sys.argv[2]) >= stages.index(other)
-    named, mixed = [], []
+    named, mixed, sources = [], [], []
     with open(sys.argv[1], encoding="utf-8", newline="\n") as lines:
         for count, line in enumerate(lines):
             if line.startswith("# "):
                 continue
             name, mode, style, newline, snippet, text, answer = line.rstrip("\n").split("\t")
+            if at("literal"):
+                source = re.match(r"source (yes|no)\\n", answer).group(0)
+                name_here = make_lists.name_of(name, count)
+                sources.append("│".join([name_here, "format", style, newline, escaped(snippet), escaped(text), escaped(source)]))
             answer = re.sub(r"(?<=\\n)end \d+\\n", "", answer, count=1)
             if is_at(at, mode, cases.bytes_of(text), cases.bytes_of(answer).decode()):
                 name = make_lists.name_of(name, count)
@@ -85,6 +96,10 @@ def main():
                 (mixed if name.startswith("mixed-") else named).append(row)
     write("named_rows.rt", "Worked rows: each shows one thing.", named[:MOST])
     write("mixed_rows.rt", "Inputs that were made at random.", mixed[:MOST])
+    if sources:
+        half = (len(sources) + 1) // 2
+        write_sources("snippets.rt", "Snippets and inputs.", sources[:half])
+        write_sources("more_snippets.rt", "More snippets and inputs.", sources[half:])
 
 
 if __name__ == "__main__":

@@ -1,8 +1,8 @@
 //! Each public call once where it succeeds, and what no table of rows shows.
 
 use rustc_parse_format::{
-    Alignment, Argument, Count, DebugHex, FormatSpec, ParseMode, Parser, Piece, Position, Sign,
-    read_all,
+    AlignCenter, Alignment, Argument, ArgumentIs, Count, CountIs, DebugHex, FormatSpec, ParseMode,
+    Parser, Piece, Position, Sign, read_all,
 };
 use std::alloc::{AllocError, Global};
 use std::test::Fail;
@@ -16,6 +16,14 @@ fn positions_have_their_index(rt: HostRuntime) {
     assert_eq!(rt; Position::ArgumentImplicitlyIs(3).index(), Some(3));
     assert_eq!(rt; Position::ArgumentIs(65535).index(), Some(65535));
     assert_eq!(rt; Position::ArgumentNamed("3").index(), None);
+}
+
+#[test]
+fn variants_are_exported_by_name(rt: HostRuntime) {
+    assert_eq!(rt; AlignCenter, Alignment::AlignCenter);
+    assert_eq!(rt; CountIs(3), Count::CountIs(3));
+    assert_eq!(rt; ArgumentIs(3), Position::ArgumentIs(3));
+    assert!(rt; matches!(Position::ArgumentIs(4), ArgumentIs(4)));
 }
 
 #[test]

@@ -1,7 +1,8 @@
 //! Tests of the parser through its public calls.
 //!
 //! `named_rows` and `mixed_rows` are tables of inputs with all that reading them gives. What they expect comes from
-//! outside (`replay/README.md` tells from where), and never from the parser itself. `calls` has what no table shows.
+//! outside (`replay/README.md` tells from where), and never from the parser itself. `snippets` and `more_snippets` are
+//! tables of snippets that are source literals of their inputs, or not. `calls` has what no table shows.
 #![tactic(auto)]
 
 #[cfg(test)]
@@ -11,8 +12,12 @@ mod listing;
 #[cfg(test)]
 mod mixed_rows;
 #[cfg(test)]
+mod more_snippets;
+#[cfg(test)]
 mod named_rows;
 #[cfg(test)]
 mod row;
+#[cfg(test)]
+mod snippets;
 #[cfg(test)]
 mod tables;

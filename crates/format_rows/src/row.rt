@@ -5,6 +5,7 @@
 //! before `n`, `t` and `r` for LF, HT and CR, before `u` and a code in braces, and before itself.
 
 use crate::listing::{put_end, put_piece, put_source};
+use rustc_parse_format::literal::is_source_literal;
 use rustc_parse_format::{ParseMode, Parser, read_all};
 use std::alloc::{AllocError, Global};
 use std::process::Abort;
@@ -126,6 +127,33 @@ fn start<'row>(rt: &impl Abort, alloc: Global, row: &'row Row) -> Result<Parser<
         row.mode,
     )?;
     Ok(parser)
+}
+
+/// What a new parser says of the row's snippet.
+pub fn source_by_parser(rt: &impl Abort, alloc: Global, row: &Row) -> Result<String, Fail> {
+    let parser = start(rt, alloc, row)?;
+    let mut out = String::new(alloc);
+    put_source(&mut out, &parser)?;
+    Ok(out)
+}
+
+/// What the test of literals says of it. Without a snippet there is no source literal.
+pub fn source_by_literal(alloc: Global, row: &Row) -> Result<String, Fail> {
+    let is_source = match &row.snippet {
+        Some(snippet) => is_source_literal(
+            row.input.as_str(),
+            row.style,
+            snippet.as_str(),
+            row.appended_newline,
+        ),
+        None => false,
+    };
+    let answer = if is_source {
+        "source yes\n"
+    } else {
+        "source no\n"
+    };
+    Ok(String::from_str(alloc, answer)?)
 }
 
 /// What the calls of `next` give up to the first one at the end of the input.

@@ -1,7 +1,7 @@
 //! The rows of the tables, by `next` and by `read_all`.
 
-use crate::row::{by_next, by_read_all, row_of};
-use crate::{mixed_rows, named_rows};
+use crate::row::{by_next, by_read_all, row_of, source_by_literal, source_by_parser};
+use crate::{mixed_rows, more_snippets, named_rows, snippets};
 use std::alloc::Global;
 use std::process::Abort;
 use std::test::Fail;
@@ -31,6 +31,27 @@ fn check_calls(rt: &impl Abort, alloc: Global, table: &str) -> Result<(), Fail> 
     Ok(())
 }
 
+/// Asks of each row of a table whether its snippet is the source literal of its input.
+fn check_sources(rt: &impl Abort, alloc: Global, table: &str) -> Result<(), Fail> {
+    for line in table.split('\n').filter(|line| !line.is_empty()) {
+        let row = row_of(alloc, line)?;
+        let name = row.name.as_str();
+        let parsed = source_by_parser(rt, alloc, &row)?;
+        assert_eq!(rt;
+            parsed.as_str(),
+            row.wanted.as_str(),
+            "row {name} by its parser"
+        );
+        let asked = source_by_literal(alloc, &row)?;
+        assert_eq!(rt;
+            asked.as_str(),
+            row.wanted.as_str(),
+            "row {name} by the test of literals"
+        );
+    }
+    Ok(())
+}
+
 /// A listing without the lines of calls that gave no piece.
 fn without_nones(alloc: Global, listing: &str) -> Result<String, Fail> {
     let mut out = String::new(alloc);
@@ -53,4 +74,10 @@ fn walks(rt: HostRuntime) -> Result<(), Fail> {
 fn calls(rt: HostRuntime) -> Result<(), Fail> {
     check_calls(&rt, rt.alloc(), named_rows::CALLS)?;
     check_calls(&rt, rt.alloc(), mixed_rows::CALLS)
+}
+
+#[test]
+fn sources(rt: HostRuntime) -> Result<(), Fail> {
+    check_sources(&rt, rt.alloc(), snippets::SOURCES)?;
+    check_sources(&rt, rt.alloc(), more_snippets::SOURCES)
 }

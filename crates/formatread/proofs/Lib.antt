@@ -1,2 +1,3 @@
 mod Texts
-mod Owed
+mod Literals
+mod Contents

@@ -4,19 +4,18 @@ use Rattle.std.specs.declared.ops.Range.{Range}
 use Rattle.std.specs.Str.{IsUtf8}
 use Rattle.std.proofs.lemmas.Bool.Decides.{nat_tests}
 use Rattle.std.proofs.lemmas.Grind.{flat_map-append}
-use Rattle.std.proofs.lemmas.Str.{encodes-append, encodes-chars, chars-nil}
+use Rattle.std.proofs.lemmas.Str.{encodes-chars, chars-nil}
 use Rattle.rustc_parse_format.specs.Characters.{Text}
-use Rattle.rustc_parse_format.specs.Faults.{written}
+use Rattle.rustc_parse_format.specs.Written.{written}
 use Rattle.rustc_parse_format.specs.Seen.{pair}
 use Rattle.formatread.specs.Listing.{quoted, type_part}
 
 -- one character more is written
-pub written-push : (out : List ℕ) (t : Text) (c : ℕ) → (out ++ encode_utf8_all (flat_map written t)) ++ encode_utf8_all (written c) ≡ out ++ encode_utf8_all (flat_map written (t ++ c ∷ []))
+pub written-push : (out : List ℕ) (t : Text) (c : ℕ) → (out ++ flat_map written t) ++ written c ≡ out ++ flat_map written (t ++ c ∷ [])
 written-push out t c =
     append_assoc out _ _
-    ∙ ap (λ x. out ++ (encode_utf8_all (flat_map written t) ++ encode_utf8_all x)) (sym (append-nil (written c)))
-    ∙ ap (λ x. out ++ x) (sym (encodes-append (flat_map written t) (written c ++ [])))
-    ∙ ap (λ x. out ++ encode_utf8_all x) (sym (flat_map-append written t (c ∷ [])))
+    ∙ ap (λ x. out ++ (flat_map written t ++ x)) (sym (append-nil (written c)))
+    ∙ ap (λ x. out ++ x) (sym (flat_map-append written t (c ∷ [])))
 
 -- a type that was not written leaves nothing
 pub type_part-absent : (out : List ℕ) (s : Option (Range ℕ)) (bs : List ℕ) → is_some s ≡ false → true ≡ (length bs == 0) → out ≡ out ++ type_part (option_map pair s) (chars bs)

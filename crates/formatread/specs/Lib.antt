@@ -1,2 +1,4 @@
 pub mod Listing
+pub mod Source
 pub mod Program
+pub mod SeenTask

@@ -2,13 +2,13 @@
 use Rattle.std.specs.Prelude.{ℕ, Bool, true, false, List, [], ◌∷◌, ◌++◌, Option, Some, None, flat_map, codes, decimal}
 use Rattle.std.specs.Str.{encode_utf8_all}
 use Rattle.rustc_parse_format.specs.Characters.{Text}
-use Rattle.rustc_parse_format.specs.Faults.{written}
+use Rattle.rustc_parse_format.specs.Written.{written}
 use Rattle.rustc_parse_format.specs.Pieces.{Alignment, Left, Right, Center, Unknown, Sign, Plus, Minus, DebugHex, Lower, Upper, Position, Implicit, Index, Named, Count, Is, Name, Param, Star, Implied, Spec, Piece, Lit, NextArgument}
 use Rattle.rustc_parse_format.specs.World.{Place}
 
 -- a text between quotes, each character as it is written
 abbrev pub quoted : Text → List ℕ
-quoted t = codes "\"" ++ (encode_utf8_all (flat_map written t) ++ codes "\"")
+quoted t = codes "\"" ++ (flat_map written t ++ codes "\"")
 
 abbrev pub position_text : Position → List ℕ
 position_text (Implicit n) = codes "implicit " ++ decimal n

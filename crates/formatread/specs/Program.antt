@@ -1,60 +1,84 @@
 -- What the program owes for its words and for all bytes of its input.
-use Rattle.std.specs.Prelude.{ℕ, Bool, true, false, if◌then◌else◌, nat_lt, List, [], ◌∷◌, length, Option, Some, None, Result, Ok, Err, bytes_eq, chars, codes}
-use Rattle.std.specs.Str.{is_utf8}
-use Rattle.rustc_parse_format.specs.Characters.{Text}
-use Rattle.rustc_parse_format.specs.Pieces.{Mode, Format, Piece}
+use Rattle.std.specs.Prelude.{◌≡◌, ◌≤◌, ◌<◌, ℕ, Bool, true, false, if◌then◌else◌, nat_lt, List, [], ◌∷◌, length, Option, Some, None, Result, Ok, Err, bytes_eq, chars, codes}
+use Rattle.std.specs.Str.{IsUtf8}
+use Rattle.rustc_parse_format.specs.Pieces.{Mode, Format, InlineAsm, Diagnostic, Piece}
 use Rattle.rustc_parse_format.specs.World.{Place, world, pieces_in}
 use Rattle.rustc_parse_format.specs.Step.{pieces_of}
 use Rattle.rustc_parse_format.specs.State.{State, fresh, calls, after_all}
 use Rattle.formatread.specs.declared.verdict.RunFault.{RunFault}
-use Rattle.formatread.specs.declared.verdict.RunFault.TheVariants.{Words, Read, TooLong, NotText, Memory, Write}
+use Rattle.formatread.specs.declared.verdict.RunFault.TheVariants.{Words, Read, TooLong, NotText, NotLiteral, Memory, Write}
 use Rattle.formatread.specs.Listing.{listing}
+use Rattle.formatread.specs.Source.{Source, IsSourceOf}
 
 -- how many bytes an input may have
 abbrev pub limit : ℕ
 limit = 1048576
 
+-- What the words ask for.
+pub record Task : Type 0 where
+  pub mode : Mode
+  -- the input is a string literal
+  pub is_literal : Bool
+
 -- the mode that a word names
 abbrev pub mode_named : List ℕ → Option Mode
-mode_named w = if bytes_eq w (codes "format") then Some Format else None
+mode_named w =
+    if bytes_eq w (codes "format") then Some Format
+    else (if bytes_eq w (codes "asm") then Some InlineAsm
+    else (if bytes_eq w (codes "diagnostic") then Some Diagnostic else None))
 
--- the mode that the words ask for: none but a single name of a mode is accepted
-abbrev pub mode_asked : List (List ℕ) → Option Mode
-mode_asked [] = None
-mode_asked (w ∷ []) = mode_named w
-mode_asked (w ∷ v ∷ ws) = None
+abbrev pub task : Bool → Option Mode → Option Task
+task literal None = None
+task literal (Some mode) = Some (record { mode = mode; is_literal = literal })
 
--- a parser at the start of a text that is no literal
-abbrev pub start : Mode → Text → State
-start mode t = fresh mode (world t None None false) t
+-- what the words ask for: a name of a mode, and perhaps `--literal` behind it, are accepted, and nothing else
+abbrev pub asked : List (List ℕ) → Option Task
+asked [] = None
+asked (w ∷ []) = task false (mode_named w)
+asked (w ∷ v ∷ []) = if bytes_eq v (codes "--literal") then task true (mode_named w) else None
+asked (w ∷ v ∷ u ∷ ws) = None
 
--- the pieces of a text
-unfoldable pub pieces : Mode → Text → List (Piece Place)
-pieces mode t = pieces_in (start mode t).world (pieces_of (calls (start mode t)))
+-- a parser at the start of what it is given
+abbrev pub start : Mode → Source → State
+start mode s = fresh mode (world s.text s.style s.snippet false) s.text
 
--- whether the parser finds a fault in a text
-unfoldable pub is_faulty : Mode → Text → Bool
-is_faulty mode t = nat_lt 0 (length (after_all (start mode t) (calls (start mode t))).errors)
+-- the pieces of what the parser is given
+unfoldable pub pieces : Mode → Source → List (Piece Place)
+pieces mode s = pieces_in (start mode s).world (pieces_of (calls (start mode s)))
 
--- the listing of a text, and whether it has a fault
-abbrev pub listed : Mode → Text → List ℕ × Bool
-listed mode t = (listing (pieces mode t), is_faulty mode t)
+-- whether the parser finds a fault in it
+unfoldable pub is_faulty : Mode → Source → Bool
+is_faulty mode s = nat_lt 0 (length (after_all (start mode s) (calls (start mode s))).errors)
 
--- what is owed for an input, once the mode is known
-abbrev pub owed_for : Mode → List ℕ → Result (List ℕ × Bool) RunFault
-owed_for mode input =
-    if nat_lt limit (length input) then Err TooLong
-    else (if is_utf8 input then Ok (listed mode (chars input)) else Err NotText)
+-- its listing, and whether it has a fault
+abbrev pub listed : Mode → Source → List ℕ × Bool
+listed mode s = (listing (pieces mode s), is_faulty mode s)
 
--- what is owed for words and an input: what is written, and whether it tells of a fault; or a refusal
-abbrev pub owed : List (List ℕ) → List ℕ → Result (List ℕ × Bool) RunFault
-owed words input = elim (mode_asked words) [ None ↦ Err Words | Some mode ↦ owed_for mode input ]
+-- the input is short enough
+abbrev pub IsShort : List ℕ → Type 0
+IsShort input = length input ≤ limit
+
+-- What is owed for an input: what is written, and whether it tells of a fault; or a refusal.
+abbrev pub IsOwedFor : Task → List ℕ → Result (List ℕ × Bool) RunFault → Type 0
+IsOwedFor a input (Ok x) = IsShort input × IsUtf8 input × ((s : Source) × IsSourceOf a.is_literal (chars input) s × (x ≡ listed a.mode s))
+IsOwedFor a input (Err TooLong) = limit < length input
+IsOwedFor a input (Err NotText) = IsShort input × (IsUtf8 input → ⊥)
+IsOwedFor a input (Err NotLiteral) = IsShort input × IsUtf8 input × ((s : Source) → IsSourceOf a.is_literal (chars input) s → ⊥)
+IsOwedFor a input (Err Words) = ⊥
+IsOwedFor a input (Err Read) = ⊥
+IsOwedFor a input (Err Memory) = ⊥
+IsOwedFor a input (Err Write) = ⊥
+
+-- the same for words that ask for something
+abbrev pub IsOwed : List (List ℕ) → List ℕ → Result (List ℕ × Bool) RunFault → Type 0
+IsOwed words input answer = (a : Task) × (asked words ≡ Some a) × IsOwedFor a input answer
 
 -- the text that is told, and the status
 abbrev pub verdict : Result Bool RunFault → List ℕ × ℕ
 verdict (Ok false) = ([], 0)
 verdict (Ok true) = ([], 1)
 verdict (Err Words) = (codes "usage: formatread format|asm|diagnostic [--literal]", 2)
+verdict (Err NotLiteral) = (codes "formatread: input is not a string literal", 2)
 verdict (Err Read) = (codes "formatread: reading failed", 3)
 verdict (Err TooLong) = (codes "formatread: input is longer than 1048576 bytes", 3)
 verdict (Err NotText) = (codes "formatread: input is not UTF-8", 3)

@@ -1,5 +1,5 @@
 ghost use Rattle.std.specs.Prelude.{◌≡◌, ◌++◌, IfOk, OnOk, map, chars, codes, encode_utf8_all, flat_map, option_map, string_bytes};
-ghost use Rattle.rustc_parse_format.specs.Faults.{written};
+ghost use Rattle.rustc_parse_format.specs.Written.{plainly_written, short_escape, written};
 ghost use Rattle.rustc_parse_format.specs.Seen.{pair, seen, seen_alignment, seen_count, seen_debug_hex, seen_position, seen_sign, seen_spec};
 ghost use Rattle.formatread.specs.Listing.{align_part, count_text, fill_part, flag_part, flag_parts, hex_part, line, listing, position_text, precision_part, quoted, sign_part, type_part, value_parts, width_part};
 
@@ -240,7 +240,7 @@ fn put_quoted(out: &mut String, text: &str) -> Result<(), AllocError>
 /// Adds each character of a text as it is written.
 fn put_characters(out: &mut String, text: &str) -> Result<(), AllocError>
     ensures { OnOk result (string_bytes out.new ≡ string_bytes out.old ++
-        encode_utf8_all (flat_map written (chars text.now))) }
+        flat_map written (chars text.now)) }
 {
     for c in text.chars() {
         put_character(out, c)?;
@@ -249,16 +249,40 @@ fn put_characters(out: &mut String, text: &str) -> Result<(), AllocError>
 }
 
 /// Adds a character as it is written.
+#[tactic(auto, unfolding(rustc_parse_format::specs::Written::written))]
 fn put_character(out: &mut String, c: char) -> Result<(), AllocError>
-    ensures { OnOk result (string_bytes out.new ≡ string_bytes out.old ++
-        encode_utf8_all (written c)) }
+    ensures { OnOk result (string_bytes out.new ≡ string_bytes out.old ++ written c) }
 {
-    if c == '\0' {
-        out.push_str("\\0")?;
-    } else if c.is_ascii() {
-        for escaped in c.escape_default() {
-            out.push(escaped)?;
-        }
+    match short_escape(c) {
+        Some(escape) => out.push_str(escape)?,
+        None => put_plain(out, c)?,
+    }
+    Ok(())
+}
+
+/// The escape of a character that has one of its own.
+fn short_escape(c: char) -> Option<&'static str>
+    ensures { option_map (λ s. s.now) result ≡ short_escape c }
+{
+    match c {
+        '\0' => Some("\\0"),
+        '\t' => Some("\\t"),
+        '\r' => Some("\\r"),
+        '\n' => Some("\\n"),
+        '\'' => Some("\\'"),
+        '"' => Some("\\\""),
+        '\\' => Some("\\\\"),
+        _ => None,
+    }
+}
+
+/// Adds a character without an escape of its own.
+fn put_plain(out: &mut String, c: char) -> Result<(), AllocError>
+    ensures { OnOk result (string_bytes out.new ≡ string_bytes out.old ++ plainly_written c) }
+{
+    let code = u32::from(c);
+    if code < 32 || code == 127 {
+        write!(out, "\\u{{{code:x}}}")?;
     } else {
         out.push(c)?;
     }

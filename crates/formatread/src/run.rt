@@ -1,14 +1,14 @@
 ghost use Rattle.std.specs.Prelude.{◌≡◌, ◌≢◌, ◌<◌, ◌≤◌, ◌↔◌, ℕ, List, None, Ok, Err, IfOk, IfErr, IfSome, IsErrOf, OnOk, length, map, nat_lt, chars, option_map, string_bytes};
 ghost use Rattle.std.specs.Io.KnownBytes.{Appends};
 ghost use Rattle.rustc_parse_format.specs.Seen.{seen_mode};
-ghost use Rattle.formatread.specs.declared.verdict.RunFault.TheVariants.{Words, TooLong, NotText, Write as WriteFault};
-ghost use Rattle.formatread.specs.Program.{is_faulty, limit, mode_asked, mode_named, owed, pieces};
-ghost use Rattle.formatread.specs.Listing.{listing};
+ghost use Rattle.formatread.specs.declared.verdict.RunFault.TheVariants.{Words, TooLong, NotText, NotLiteral, Write as WriteFault};
+ghost use Rattle.formatread.specs.Program.{IsOwed, asked, limit, mode_named};
+ghost use Rattle.formatread.specs.SeenTask.{seen_task};
 
-use super::listing::listing;
+use super::input::list_input;
 use super::verdict::RunFault;
-use rustc_parse_format::{ParseMode, Parser, read_all};
-use std::alloc::{AllocError, Global};
+use rustc_parse_format::ParseMode;
+use std::alloc::Global;
 use std::io::{Read, Write};
 
 /// How many bytes an input may have.
@@ -29,39 +29,52 @@ pub fn run<R: Read, W: Write>(
 ) -> Result<bool, RunFault>
     // The listing is what is owed, and so is the answer.
     ensures listing { IfOk result (λ faulty. IfSome (R.remaining reader.old) (λ input. (text : List ℕ)
-        × (owed (map string_bytes words.now) input ≡ Ok (text, faulty))
+        × IsOwed (map string_bytes words.now) input (Ok (text, faulty))
         × Appends (W.contents writer.old) (W.contents writer.new) text)) }
-    ensures words { IsErrOf result Words ↔ (mode_asked (map string_bytes words.now) ≡ None) }
+    ensures words { IsErrOf result Words ↔ (asked (map string_bytes words.now) ≡ None) }
     // Bad words are told before anything is read.
     ensures unread { IsErrOf result Words → reader.new ≡ reader.old }
-    ensures too_long { IsErrOf result TooLong → IfSome (R.remaining reader.old) (λ input.
-        owed (map string_bytes words.now) input ≡ Err TooLong) }
-    ensures not_text { IsErrOf result NotText → IfSome (R.remaining reader.old) (λ input.
-        owed (map string_bytes words.now) input ≡ Err NotText) }
+    ensures too_long { IsErrOf result TooLong → IfSome (R.remaining reader.old)
+        (λ input. IsOwed (map string_bytes words.now) input (Err TooLong)) }
+    ensures not_text { IsErrOf result NotText → IfSome (R.remaining reader.old)
+        (λ input. IsOwed (map string_bytes words.now) input (Err NotText)) }
+    ensures not_literal { IsErrOf result NotLiteral → IfSome (R.remaining reader.old)
+        (λ input. IsOwed (map string_bytes words.now) input (Err NotLiteral)) }
     // Nothing is written before all is ready.
     ensures unwritten { IfErr result (λ fault. fault ≢ WriteFault → writer.new ≡ writer.old) }
 {
-    let mode = match mode_asked(words) {
-        Some(mode) => mode,
+    let task = match asked(words) {
+        Some(task) => task,
         None => return Err(RunFault::Words),
     };
     let input = read_input(alloc, reader)?;
     let Ok(text) = str::from_utf8(input.as_slice()) else {
         return Err(RunFault::NotText);
     };
-    let (lines, faulty) = list_text(alloc, text, mode)?;
+    let (lines, faulty) = list_input(alloc, text, task.mode, task.is_literal)?;
     write_whole(writer, lines.as_bytes())?;
     Ok(faulty)
 }
 
-/// The mode that the words ask for.
-fn mode_asked(words: &[String]) -> Option<ParseMode>
-    ensures { option_map seen_mode result ≡ mode_asked (map string_bytes words.now) }
+/// What the words ask for.
+#[derive(Copy, Clone, Debug, Eq, PartialEq)]
+struct Task {
+    mode: ParseMode,
+    /// The input is a string literal.
+    is_literal: bool,
+}
+
+/// What the words ask for.
+fn asked(words: &[String]) -> Option<Task>
+    ensures { option_map seen_task result ≡ asked (map string_bytes words.now) }
 {
-    match words {
-        [word] => mode_named(word.as_str()),
-        _ => None,
-    }
+    let (word, is_literal) = match words {
+        [word] => (word.as_str(), false),
+        [word, option] if option.as_str() == "--literal" => (word.as_str(), true),
+        _ => return None,
+    };
+    let mode = mode_named(word)?;
+    Some(Task { mode, is_literal })
 }
 
 /// The mode that a word names.
@@ -70,6 +83,10 @@ fn mode_named(word: &str) -> Option<ParseMode>
 {
     if word == "format" {
         Some(ParseMode::Format)
+    } else if word == "asm" {
+        Some(ParseMode::InlineAsm)
+    } else if word == "diagnostic" {
+        Some(ParseMode::Diagnostic)
     } else {
         None
     }
@@ -83,6 +100,7 @@ fn read_input<R: Read>(alloc: Global, reader: &mut R) -> Result<Vec<u8>, RunFaul
         limit < length input) }
     ensures not_words { IfErr result (λ fault. fault ≢ Words) }
     ensures is_text { IfErr result (λ fault. fault ≢ NotText) }
+    ensures is_literal { IfErr result (λ fault. fault ≢ NotLiteral) }
 {
     let mut bytes = Vec::new(alloc);
     let mut chunk = [0u8; CHUNK];
@@ -100,25 +118,6 @@ fn read_input<R: Read>(alloc: Global, reader: &mut R) -> Result<Vec<u8>, RunFaul
         bytes.extend_from_slice(&chunk[..count])?;
     }
     Err(RunFault::TooLong)
-}
-
-/// The listing of a text, and whether it has a fault.
-#[tactic(auto, unfolding(crate::specs::Program::pieces, crate::specs::Program::is_faulty))]
-fn list_text(alloc: Global, text: &str, mode: ParseMode) -> Result<(String, bool), AllocError>
-    requires { length text.now ≤ limit }
-    ensures lines { IfOk result (λ x. string_bytes x.0 ≡ listing (pieces (seen_mode mode) (chars text.now))) }
-    ensures faulty { IfOk result (λ x. x.1 ≡ is_faulty (seen_mode mode) (chars text.now)) }
-{
-    let (pieces, parser) = read_all(alloc, text, None, None, false, mode)?;
-    let lines = listing(alloc, pieces.as_slice())?;
-    Ok((lines, has_errors(&parser)))
-}
-
-/// Whether the parser found a fault.
-fn has_errors(parser: &Parser<'_>) -> bool
-    ensures { result ≡ nat_lt 0 (length parser.now.errors) }
-{
-    parser.errors().len() > 0
 }
 
 /// Writes all of the bytes. A write that takes none has failed.

@@ -33,9 +33,14 @@ fn repeated(alloc: Global, byte: u8, count: usize) -> Result<Vec<u8>, AllocError
 #[test]
 fn lists_short_inputs(rt: HostRuntime) -> Result<(), Fail> {
     let words = words(rt.alloc(), &["format"])?;
-    let rows: [(&[u8], &[u8], bool); 4] = [
+    let rows: [(&[u8], &[u8], bool); 5] = [
         (HI, HI_LINES, false),
         (b"", b"", false),
+        (
+            b"{:*>8.w$x?}",
+            b"arg implicit 0 fill=\"*\" align=right width=is:8 precision=name:w hex=lower ty=\"?\"\n",
+            false,
+        ),
         (b"{", b"arg implicit 0\n", true),
         (
             b"a\n\"}}\x7F",
@@ -50,6 +55,81 @@ fn lists_short_inputs(rt: HostRuntime) -> Result<(), Fail> {
         assert_eq!(rt; answer, Ok(faulty));
         assert_eq!(rt; written.as_slice(), lines);
         assert!(rt; reader.is_empty());
+    }
+    Ok(())
+}
+
+#[test]
+fn lists_in_each_mode(rt: HostRuntime) -> Result<(), Fail> {
+    let rows: [(&str, &[u8], &[u8]); 5] = [
+        ("format", b"{0:e}", b"arg index 0 ty=\"e\"\n"),
+        ("asm", b"", b""),
+        ("asm", b"{0:e}", b"arg index 0 ty=\"e\"\n"),
+        ("diagnostic", b"", b""),
+        (
+            "diagnostic",
+            b"{}{0}{a:}",
+            b"arg implicit 0\narg index 0\narg name a ty=\"\"\n",
+        ),
+    ];
+    for (mode, input, lines) in rows {
+        let words = words(rt.alloc(), &[mode])?;
+        let mut reader = input;
+        let mut written = Vec::new(rt.alloc());
+        let answer = run(rt.alloc(), &mut reader, &mut written, words.as_slice());
+        assert_eq!(rt; answer, Ok(false));
+        assert_eq!(rt; written.as_slice(), lines);
+    }
+    Ok(())
+}
+
+#[test]
+fn lists_what_a_literal_stands_for(rt: HostRuntime) -> Result<(), Fail> {
+    let words = words(rt.alloc(), &["format", "--literal"])?;
+    let rows: [(&[u8], &[u8], bool); 5] = [
+        (b"\"a\"\n", b"lit \"a\"\n", false),
+        (
+            b"\"a\\n{0:?#}\"",
+            b"lit \"a\\n\"\narg index 0 ty=\"?\"\nlit \"#\"\n",
+            true,
+        ),
+        (b"\"\"", b"", false),
+        (
+            b"r#\"{a}\"\\n\"#\n",
+            b"arg name a\nlit \"\\\"\\\\n\"\n",
+            false,
+        ),
+        (b"r\"\n\"", b"lit \"\\n\"\n", false),
+    ];
+    for (input, lines, faulty) in rows {
+        let mut reader = input;
+        let mut written = Vec::new(rt.alloc());
+        let answer = run(rt.alloc(), &mut reader, &mut written, words.as_slice());
+        assert_eq!(rt; answer, Ok(faulty));
+        assert_eq!(rt; written.as_slice(), lines);
+    }
+    Ok(())
+}
+
+#[test]
+fn refuses_what_is_no_literal(rt: HostRuntime) -> Result<(), Fail> {
+    let words = words(rt.alloc(), &["format", "--literal"])?;
+    let rows: [(&[u8], RunFault); 8] = [
+        (b"\"a", RunFault::NotLiteral),
+        (b"\"a\"\n\n", RunFault::NotLiteral),
+        (b"\"a\"\r\n", RunFault::NotLiteral),
+        (b"", RunFault::NotLiteral),
+        (b"\"\\q\"", RunFault::NotLiteral),
+        (b"r#\"a\"", RunFault::NotLiteral),
+        (b"b\"a\"", RunFault::NotLiteral),
+        (b"\xFF", RunFault::NotText),
+    ];
+    for (input, fault) in rows {
+        let mut reader = input;
+        let mut written = Vec::new(rt.alloc());
+        let answer = run(rt.alloc(), &mut reader, &mut written, words.as_slice());
+        assert_eq!(rt; answer, Err(fault));
+        assert!(rt; written.is_empty());
     }
     Ok(())
 }
@@ -89,10 +169,13 @@ fn refuses_what_is_too_long_or_no_text(rt: HostRuntime) -> Result<(), Fail> {
 
 #[test]
 fn refuses_other_words_unread(rt: HostRuntime) -> Result<(), Fail> {
-    let rows: [&[&str]; 5] = [
+    let rows: [&[&str]; 8] = [
         &[],
         &["format", "format"],
-        &["asm"],
+        &["--literal"],
+        &["--literal", "format"],
+        &["format", "--literal", "--literal"],
+        &["asm", "diagnostic"],
         &["Format"],
         &["formats"],
     ];
@@ -200,6 +283,11 @@ fn tells_each_answer(rt: HostRuntime) {
         (Ok(false), "", 0),
         (Ok(true), "", 1),
         (Err(RunFault::Words), usage, 2),
+        (
+            Err(RunFault::NotLiteral),
+            "formatread: input is not a string literal",
+            2,
+        ),
         (Err(RunFault::Read), "formatread: reading failed", 3),
         (
             Err(RunFault::TooLong),

@@ -15,6 +15,8 @@ pub enum RunFault {
     TooLong,
     /// The input is not UTF-8.
     NotText,
+    /// The input is no string literal.
+    NotLiteral,
     /// A growth was refused.
     Memory,
     /// A write failed, or took no byte.
@@ -37,6 +39,7 @@ pub fn verdict(answer: &Result<bool, RunFault>) -> (&'static str, u8)
         Ok(false) => ("", 0),
         Ok(true) => ("", 1),
         Err(RunFault::Words) => ("usage: formatread format|asm|diagnostic [--literal]", 2),
+        Err(RunFault::NotLiteral) => ("formatread: input is not a string literal", 2),
         Err(RunFault::Read) => ("formatread: reading failed", 3),
         Err(RunFault::TooLong) => ("formatread: input is longer than 1048576 bytes", 3),
         Err(RunFault::NotText) => ("formatread: input is not UTF-8", 3),

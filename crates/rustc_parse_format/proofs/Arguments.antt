@@ -8,9 +8,16 @@ use Rattle.rustc_parse_format.specs.Placeholder.{position, cut}
 use Rattle.rustc_parse_format.specs.Meaning.{position_of, behind_spec, spec_of, argument}
 use Rattle.rustc_parse_format.specs.Faults.{Fault, map_fault}
 use Rattle.rustc_parse_format.specs.PartFaults.{position_faults, spec_faults, cut_faults}
+use Rattle.rustc_parse_format.specs.State.{Unread}
 use Rattle.rustc_parse_format.specs.World.{World, Place, place_of, faults_in}
 use Rattle.rustc_parse_format.proofs.Numbers.{specification_number}
 use Rattle.rustc_parse_format.proofs.Rests.{IsRest-le, IsRest-trans, position_rest, behind_white_rest}
+
+-- a cursor behind a position and white space
+pub at_spec : (mode : Mode) (start given skipped : Unread) → given ≡ record start { rest = (position start.rest).1 } → skipped ≡ record given { rest = behind_white given.rest } →
+    skipped ≡ record start { rest = (cut mode start.rest).spec_at }
+unfolding cut
+at_spec mode start given skipped e f = f ∙ ap (λ (u : Unread). record u { rest = behind_white u.rest }) e
 
 pub argument_parts : (w : World) (mode : Mode) (c : ℕ) (t : Text) (p : Position) (s : Place) (f : Spec Place) →
     p ≡ position_of (behind_spec c (cut mode t).spec) (cut mode t).position →

@@ -5,6 +5,7 @@ use Rattle.std.proofs.lemmas.Bool.{eqb-true}
 use Rattle.std.proofs.lemmas.Str.{chars-IsAscii}
 use Rattle.rustc_parse_format.specs.Characters.{Text, begins_with, behind_first, word, behind_word}
 use Rattle.rustc_parse_format.specs.Pieces.{DebugHex, Lower, Upper}
+use Rattle.rustc_parse_format.specs.Counts.{NoPrecision, StarPrecision, DotPrecision, count, counted, width, precision}
 use Rattle.rustc_parse_format.specs.Meaning.{type_of}
 use Rattle.rustc_parse_format.specs.Specification.{TypeText, DebugHexType, SignType, WordType, behind_hex, type}
 
@@ -45,3 +46,30 @@ pub question_text : (t w : Text) → begins_with 63 t ≡ true → w ≡ codes "
 question_text t w h e = rw (type_question t h) (ap chars e ∙ chars-IsAscii (codes "?") (search rules))
 
 pub ruleset types_at_front = (lower_text, upper_text, question_text, type_word)
+
+pub width_elsewhere : (t : Text) → begins_with 48 t ≡ false → width t ≡ counted false t
+width_elsewhere [] h = refl
+width_elsewhere (c ∷ t) h = rw h refl
+
+pub width_zero : (t : Text) → begins_with 48 t ≡ true → begins_with 36 (behind_first t) ≡ false → width t ≡ counted true (behind_first t)
+width_zero [] h k = cc h
+width_zero (c ∷ []) h k = rw h refl
+width_zero (c ∷ d ∷ t) h k = rw (h, k) refl
+
+pub no_precision : (t : Text) → begins_with 46 t ≡ false → precision t ≡ (NoPrecision, t)
+no_precision [] h = refl
+no_precision (c ∷ t) h = rw h refl
+
+pub star_precision : (t : Text) → begins_with 46 t ≡ true → begins_with 42 (behind_first t) ≡ true →
+    precision t ≡ (StarPrecision, behind_first (behind_first t))
+star_precision [] h k = cc h
+star_precision (c ∷ []) h k = cc k
+star_precision (c ∷ d ∷ t) h k = rw (h, k) refl
+
+pub dot_precision : (t : Text) → begins_with 46 t ≡ true → begins_with 42 (behind_first t) ≡ false →
+    precision t ≡ (DotPrecision (count (behind_first t)).0, (count (behind_first t)).1)
+dot_precision [] h k = cc h
+dot_precision (c ∷ []) h k = rw h refl
+dot_precision (c ∷ d ∷ t) h k = rw (h, k) refl
+
+pub ruleset precisions_at_front = (no_precision, star_precision, dot_precision)

@@ -16,12 +16,14 @@ seen_characters cs = map (λ x. (pair x.0, x.1)) cs
 unfoldable pub placed : ℕ → Text → Option (List (Place × ℕ))
 placed at t = option_map (placed_characters at) (units t)
 
+-- the same characters, one by one
 abbrev pub is_same : Text → Text → Bool
 is_same [] [] = true
 is_same [] (d ∷ t) = false
 is_same (c ∷ s) [] = false
 is_same (c ∷ s) (d ∷ t) = (d == c) && is_same s t
 
+-- units, if they are there, stand for the text
 abbrev pub are_spelling : Option (List LiteralUnit) → Text → Bool
 are_spelling None t = false
 are_spelling (Some us) t = is_same (content_value us) t

@@ -1,6 +1,6 @@
 -- The units of an ordinary string literal: how each is written, which characters it stands for, and the unit at the
--- front of a text. The public rule is the Rust Reference, string literals, of what stands between the quotes. It differs
--- here in what a continuation takes: it goes on over any number of lines, and takes CR as it does HT, LF and space.
+-- front of a text. The public rule is the Rust Reference, string literals, of what stands between the quotes. A continuation
+-- takes all HT, LF, CR and space that follow it, over any number of lines.
 use Rattle.std.specs.Prelude.{ℕ, Bool, true, false, not, ◌&&◌, ◌||◌, ◌==◌, ◌++◌, if◌then◌else◌, nat_lt, nat_le, [], ◌∷◌, length, Option, Some, None, is_some}
 use Rattle.std.specs.List.{list_all, filter}
 use Rattle.std.specs.Char.{digit_value}

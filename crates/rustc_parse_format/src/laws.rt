@@ -29,7 +29,7 @@ fn modes_are_equal(a: &ParseMode, b: &ParseMode) -> bool
     a == b
 }
 
-/// A clone of a alignment is made, and is its source.
+/// A clone of an alignment is made, and is its source.
 fn clone_of_alignment(alignment: &Alignment) -> Result<Alignment, AllocError>
     ensures { IsOkAnd result (λ a. a ≡ alignment.now) }
 {

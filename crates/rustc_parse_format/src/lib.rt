@@ -16,6 +16,9 @@ mod world;
 
 pub use parser::Parser;
 pub use reading::read_all;
+pub use types::Alignment::{AlignCenter, AlignLeft, AlignRight, AlignUnknown};
+pub use types::Count::{CountImplied, CountIs, CountIsName, CountIsParam, CountIsStar};
+pub use types::Position::{ArgumentImplicitlyIs, ArgumentIs, ArgumentNamed};
 pub use types::{
     Alignment, Argument, Count, DebugHex, FormatSpec, ParseError, ParseMode, Piece, Position, Sign,
     Suggestion,

@@ -40,7 +40,7 @@ impl<'input> Model for Parser<'input> {
 }
 
 impl<'input> Parser<'input> {
-    ghost use Rattle.std.specs.Prelude.{◌≡◌, ◌≢◌, ◌+◌, ◌<◌, ◌≤◌, ◌^◌, ◌↔◌, [], ℕ, IfOk, IsNone, IsOk, IsTrue, OnErr, OnOk, Some, bytes_eq, chars, length, map, option_map, string_bytes};
+    ghost use Rattle.std.specs.Prelude.{◌≡◌, ◌≢◌, ◌+◌, ◌<◌, ◌≤◌, ◌^◌, ◌↔◌, [], ℕ, IfOk, IsNone, IsOk, IsTrue, OnErr, OnOk, chars, length, map, option_map, string_bytes};
     ghost use Rattle.rustc_parse_format.specs.Characters.{Text, behind_first};
     ghost use Rattle.rustc_parse_format.specs.Grammar.{Begins};
     ghost use Rattle.rustc_parse_format.specs.Pieces.{Piece as BarePiece, bare};
@@ -50,8 +50,9 @@ impl<'input> Parser<'input> {
     ghost use Rattle.rustc_parse_format.specs.Step.{TakesNoMemory};
     ghost use Rattle.rustc_parse_format.specs.World.{hashes, piece_in, world};
 
-    /// A parser at the start of an input, which stands in a literal of this style. The snippet is the source that the
-    /// input is said to come from. Takes no memory and always succeeds.
+    /// A parser at the start of an input, which stands in a literal of this style: None for an ordinary literal, or the
+    /// number of the hashes of a raw one. The snippet is the source that the input is said to come from. The hashes, the
+    /// bytes of the input and 2 together must fit `usize`. Takes no memory and always succeeds.
     pub fn new(
         alloc: Global,
         input: &'input str,
@@ -121,7 +122,8 @@ impl<'input> Parser<'input> {
         self.step()
     }
 
-    /// The place of the next character, its byte position in the input, and itself, or None at the end.
+    /// The place of the next character in the source, its byte position in the input, and itself, or None at the end.
+    /// All positions are bytes. Nothing is moved.
     pub fn peek(&self) -> Option<(Range<usize>, usize, char)>
         ensures { option_map (λ x. (pair x.0, x.1, x.2)) result ≡ first_of self.now.world self.now.input self.now.rest }
     {
@@ -138,7 +140,7 @@ impl<'input> Parser<'input> {
         ahead.next_place()
     }
 
-    /// The errors so far, in their order.
+    /// The errors of all calls so far, in their order.
     pub fn errors(&self) -> &[ParseError]
         ensures { map seen_error result.now ≡ self.now.errors }
     {

@@ -101,6 +101,7 @@ pub fn width<'input>(
 }
 
 /// Reads the precision at the front, and where it stands. A star takes the next number.
+#[tactic(auto, using(crate::proofs::SpecParts::precisions_at_front))]
 pub fn precision<'input>(
     cursor: &mut Cursor<'input>,
     curarg: &mut usize,
@@ -116,12 +117,12 @@ pub fn precision<'input>(
     ensures found { OnOk result (map seen_fault found.new.items
         ≡ map seen_fault found.old.items ++ faults_in cursor.old.world (precision_faults cursor.old.rest (precision cursor.old.rest).0)) }
 {
-    if cursor.peek() != Some('.') {
+    if !spec::is_next(cursor, '.') {
         return Ok((Count::CountImplied, None));
     }
     let start = cursor.start();
     cursor.advance();
-    if cursor.peek() == Some('*') {
+    if spec::is_next(cursor, '*') {
         let number = *curarg;
         *curarg = number + 1;
         cursor.advance();

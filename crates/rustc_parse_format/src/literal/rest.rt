@@ -1,8 +1,7 @@
 //! What is left of a text, from which characters are taken one at a time.
 
 ghost use Rattle.std.specs.Prelude.{◌≡◌, ◌↔◌, List, ℕ, [], chars, IsTrue};
-ghost use Rattle.rustc_parse_format.specs.Characters.{width, behind, behind_first, begins_with};
-ghost use Rattle.rustc_parse_format.specs.Characters.{first};
+ghost use Rattle.rustc_parse_format.specs.Characters.{begins_with, behind, behind_first, first, width};
 ghost use Rattle.rustc_parse_format.specs.LiteralUnits.{is_skipped};
 
 use std::marker::Model;

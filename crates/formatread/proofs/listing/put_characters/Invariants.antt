@@ -1,7 +1,7 @@
-use Rattle.std.proofs.Common.{◌≡◌, ◌++◌, encode_utf8_all, flat_map, string_bytes}
-use Rattle.rustc_parse_format.specs.Faults.{written}
+use Rattle.std.proofs.Common.{◌≡◌, ◌++◌, flat_map, string_bytes}
+use Rattle.rustc_parse_format.specs.Written.{written}
 use Rattle.formatread.proofs.listing.put_characters.Given as goal
 
 -- the characters so far are written
 abbrev pub invariant-loop-c : goal.invariant-loop-c
-invariant-loop-c l = string_bytes l.out ≡ string_bytes l.fn.out ++ encode_utf8_all (flat_map written l.yielded)
+invariant-loop-c l = string_bytes l.out ≡ string_bytes l.fn.out ++ flat_map written l.yielded

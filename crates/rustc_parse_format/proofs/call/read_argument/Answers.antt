@@ -8,7 +8,7 @@ use Rattle.rustc_parse_format.specs.Pieces.{Implicit}
 use Rattle.rustc_parse_format.specs.Placeholder.{cut}
 use Rattle.rustc_parse_format.specs.Meaning.{given_position, next_number}
 use Rattle.rustc_parse_format.specs.Seen.{seen_mode}
-use Rattle.rustc_parse_format.proofs.Arguments.{argument_parts, faults_parts, spec_at-le, behind_spec-le, pair_same}
+use Rattle.rustc_parse_format.proofs.Arguments.{at_spec, argument_parts, faults_parts, spec_at-le, behind_spec-le, pair_same}
 use Rattle.rustc_parse_format.proofs.call.read_argument.Goals as goal
 
 pub specification-requires : goal.specification-requires
@@ -16,7 +16,7 @@ unfolding cut
 specification-requires c =
     let m = seen_mode c.args.mode in
     let t = c.args.cursor.now.rest in
-    let at : ◌≡◌ {A = Unread} c.skip_white.new.self (record c.args.cursor.now { rest = (cut m t).spec_at }) = c.skip_white.ensures ∙ ap (λ (u : Unread). record u { rest = behind_white u.rest }) c.in_ok-given.ensures.rest in
+    let at = at_spec m c.args.cursor.now _ _ c.in_ok-given.ensures.rest c.skip_white.ensures in
     let size = spec_at-le m t in
     rw at (omega arith)
 
@@ -25,7 +25,7 @@ unfolding cut
 position_of-requires c =
     let m = seen_mode c.args.mode in
     let t = c.args.cursor.now.rest in
-    let at : ◌≡◌ {A = Unread} c.skip_white.new.self (record c.args.cursor.now { rest = (cut m t).spec_at }) = c.skip_white.ensures ∙ ap (λ (u : Unread). record u { rest = behind_white u.rest }) c.in_ok-given.ensures.rest in
+    let at = at_spec m c.args.cursor.now _ _ c.in_ok-given.ensures.rest c.skip_white.ensures in
     let next = rw at at c.in_ok-format.ensures.next in
     let most = behind_spec-le m c.args.curarg.now t in
     rw next (omega arith)
@@ -36,7 +36,7 @@ returns-clause-value c =
     let m = seen_mode c.args.mode in
     let t = c.args.cursor.now.rest in
     let n = c.args.curarg.now in
-    let at : ◌≡◌ {A = Unread} c.skip_white.new.self (record c.args.cursor.now { rest = (cut m t).spec_at }) = c.skip_white.ensures ∙ ap (λ (u : Unread). record u { rest = behind_white u.rest }) c.in_ok-given.ensures.rest in
+    let at = at_spec m c.args.cursor.now _ _ c.in_ok-given.ensures.rest c.skip_white.ensures in
     let format = rw at at c.in_ok-format.ensures.value in
     let next = rw at at c.in_ok-format.ensures.next in
     argument_parts c.args.cursor.now.world m n t _ _ _
@@ -49,7 +49,7 @@ unfolding cut next_number
 returns-clause-next c =
     let m = seen_mode c.args.mode in
     let t = c.args.cursor.now.rest in
-    let at : ◌≡◌ {A = Unread} c.skip_white.new.self (record c.args.cursor.now { rest = (cut m t).spec_at }) = c.skip_white.ensures ∙ ap (λ (u : Unread). record u { rest = behind_white u.rest }) c.in_ok-given.ensures.rest in
+    let at = at_spec m c.args.cursor.now _ _ c.in_ok-given.ensures.rest c.skip_white.ensures in
     let next = rw at at c.in_ok-format.ensures.next in
     c.position_of.ensures.next ∙ (ap (λ o. if is_some o then c.specification.new.curarg else suc c.specification.new.curarg) c.in_ok-given.ensures.value ∙ ap (λ k. if is_some (given_position (cut m t).position) then k else suc k) next)
 
@@ -58,5 +58,5 @@ unfolding cut
 returns-clause-found c =
     let m = seen_mode c.args.mode in
     let t = c.args.cursor.now.rest in
-    let at : ◌≡◌ {A = Unread} c.skip_white.new.self (record c.args.cursor.now { rest = (cut m t).spec_at }) = c.skip_white.ensures ∙ ap (λ (u : Unread). record u { rest = behind_white u.rest }) c.in_ok-given.ensures.rest in
+    let at = at_spec m c.args.cursor.now _ _ c.in_ok-given.ensures.rest c.skip_white.ensures in
     faults_parts c.args.cursor.now.world m t _ _ _ c.in_ok-given.ensures.found (rw at at c.in_ok-format.ensures.found)

@@ -1,0 +1,14 @@
+use Rattle.std.proofs.Common.{chars, map, ap, sym, ◌∙◌}
+use Rattle.formatread.proofs.Contents.{read-value}
+use Rattle.formatread.proofs.literal.ordinary_text.Goals as goal
+
+pub returns-in_ok-joined-in-Some-2 : goal.returns-in_ok-joined-in-Some-2
+returns-in_ok-joined-in-Some-2 c =
+    let read = rw c.in-Some-2.is at c.in_ok-characters.ensures.found in (
+      chars c.in-Some.content.now,
+      read.0,
+      c.in-Some.ensures,
+      read.1.is_content,
+      read-value c.in-Some-2.characters.items read.0 read.2
+          ∙ sym (c.in_ok-joined-in-Some-2.ensures ∙ ap (map (λ x. x.1)) c.as_slice.ensures.value),
+    )

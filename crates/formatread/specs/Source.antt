@@ -1,0 +1,31 @@
+-- What is given to the parser, of an input that is a text.
+use Rattle.std.specs.Prelude.{◌≡◌, ℕ, ◌++◌, Bool, true, false, Option, Some, None}
+use Rattle.rustc_parse_format.specs.Characters.{Text}
+use Rattle.rustc_parse_format.specs.Literal.{IsLiteral, newline}
+
+-- a text, with the style and the snippet of the literal that it stands in
+pub record Source : Type 0 where
+  pub text : Text
+  pub style : Option ℕ
+  pub snippet : Option Text
+
+-- a text that stands in no literal
+abbrev pub bare_source : Text → Source
+bare_source t = record { text = t; style = None; snippet = None }
+
+-- what a literal of that style stands for, with the literal as its snippet
+abbrev pub literal_source : Option ℕ → Text → Text → Source
+literal_source style literal t = record { text = t; style = style; snippet = Some literal }
+
+-- the input is a literal, with at most one newline behind it
+pub record IsInLiteral (input : Text) (s : Source) : Type 0 where
+  pub literal : Text
+  pub appended : Bool
+  pub is_whole : literal ++ newline appended ≡ input
+  pub is_literal : IsLiteral s.style literal s.text
+  pub is_snippet : s.snippet ≡ Some literal
+
+-- what an input gives, as a literal or as it is
+abbrev pub IsSourceOf : Bool → Text → Source → Type 0
+IsSourceOf true input s = IsInLiteral input s
+IsSourceOf false input s = s ≡ bare_source input

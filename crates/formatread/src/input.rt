@@ -1,0 +1,80 @@
+//! The listing of an input that is a text.
+
+ghost use Rattle.std.specs.Prelude.{◌≡◌, ◌≢◌, ◌≤◌, IfOk, IfErr, IsErrOf, length, nat_lt, chars, option_map, string_bytes};
+ghost use Rattle.rustc_parse_format.specs.Seen.{seen_mode};
+ghost use Rattle.rustc_parse_format.specs.World.{hashes};
+ghost use Rattle.formatread.specs.declared.verdict.RunFault.TheVariants.{Words, TooLong, NotText, NotLiteral};
+ghost use Rattle.formatread.specs.Source.{IsInLiteral, IsSourceOf, Source, bare_source};
+ghost use Rattle.formatread.specs.Program.{IsShort, is_faulty, limit, listed, pieces};
+ghost use Rattle.formatread.specs.Listing.{listing};
+
+use super::listing::listing;
+use super::literal::{literal_text, without_newline};
+use super::verdict::RunFault;
+use rustc_parse_format::{ParseMode, Parser, read_all};
+use std::alloc::{AllocError, Global};
+
+/// The listing of an input, which may have to be a literal, and whether it has a fault.
+pub fn list_input(
+    alloc: Global,
+    input: &str,
+    mode: ParseMode,
+    is_literal: bool,
+) -> Result<(String, bool), RunFault>
+    requires { IsShort input.now }
+    ensures lines { IfOk result (λ x. (s : Source) × IsSourceOf is_literal (chars input.now) s
+        × ((string_bytes x.0, x.1) ≡ listed (seen_mode mode) s)) }
+    ensures not_literal { IsErrOf result NotLiteral → (s : Source) → IsSourceOf is_literal (chars input.now) s → ⊥ }
+    ensures not_words { IfErr result (λ fault. fault ≢ Words) }
+    ensures not_long { IfErr result (λ fault. fault ≢ TooLong) }
+    ensures is_text { IfErr result (λ fault. fault ≢ NotText) }
+{
+    if is_literal {
+        list_literal(alloc, input, mode)
+    } else {
+        Ok(list_source(alloc, input, None, None, mode)?)
+    }
+}
+
+/// The listing of what the input stands for as a literal, and whether it has a fault.
+fn list_literal(alloc: Global, input: &str, mode: ParseMode) -> Result<(String, bool), RunFault>
+    requires { IsShort input.now }
+    ensures lines { IfOk result (λ x. (s : Source) × IsInLiteral (chars input.now) s
+        × ((string_bytes x.0, x.1) ≡ listed (seen_mode mode) s)) }
+    ensures not_literal { IsErrOf result NotLiteral → (s : Source) → IsInLiteral (chars input.now) s → ⊥ }
+    ensures not_words { IfErr result (λ fault. fault ≢ Words) }
+    ensures not_long { IfErr result (λ fault. fault ≢ TooLong) }
+    ensures is_text { IfErr result (λ fault. fault ≢ NotText) }
+{
+    let literal = without_newline(input);
+    let Some((text, style)) = literal_text(alloc, literal)? else {
+        return Err(RunFault::NotLiteral);
+    };
+    let snippet = String::from_str(alloc, literal)?;
+    Ok(list_source(alloc, text.as_str(), style, Some(snippet), mode)?)
+}
+
+/// The listing of what the parser is given, and whether it has a fault.
+#[tactic(auto, unfolding(crate::specs::Program::pieces, crate::specs::Program::is_faulty))]
+fn list_source(
+    alloc: Global,
+    text: &str,
+    style: Option<usize>,
+    snippet: Option<String>,
+    mode: ParseMode,
+) -> Result<(String, bool), AllocError>
+    requires { hashes style ≤ limit }
+    ensures { IfOk result (λ x. (string_bytes x.0, x.1) ≡ listed (seen_mode mode)
+        (record { text = chars text.now; style = style; snippet = option_map (λ s. chars (string_bytes s)) snippet })) }
+{
+    let (pieces, parser) = read_all(alloc, text, style, snippet, false, mode)?;
+    let lines = listing(alloc, pieces.as_slice())?;
+    Ok((lines, has_errors(&parser)))
+}
+
+/// Whether the parser found a fault.
+fn has_errors(parser: &Parser<'_>) -> bool
+    ensures { result ≡ nat_lt 0 (length parser.now.errors) }
+{
+    parser.errors().len() > 0
+}

@@ -1,0 +1,152 @@
+//! A standard input that is a string literal.
+
+ghost use Rattle.std.specs.Prelude.{◌≡◌, ◌++◌, ◌+◌, ◌<◌, ◌≤◌, ℕ, [], ◌∷◌, Option, IfOk, IfSome, MatchOption, OnOk, chars, length, map, replicate, string_bytes, true, Bool};
+ghost use Rattle.rustc_parse_format.specs.Characters.{Text};
+ghost use Rattle.rustc_parse_format.specs.Literal.{IsLiteral, IsOrdinaryLiteral, newline, quoted, raw_closing, raw_frame, raw_opening};
+ghost use Rattle.rustc_parse_format.specs.World.{hashes};
+
+use rustc_parse_format::literal::read_content;
+use std::alloc::{AllocError, Global};
+use std::ops::Range;
+
+/// A text without the newline at its end, if it has one there.
+pub fn without_newline(text: &str) -> &str
+    ensures cut { (b : Bool) × (chars result.now ++ newline b ≡ chars text.now) }
+    // What is in front of at most one newline, and has none at its own end, is this.
+    ensures only { (l : Text) (b : Bool) → l ++ newline b ≡ chars text.now
+        → ((t : Text) → t ++ newline true ≡ l → ⊥) → l ≡ chars result.now }
+    ensures short { length result.now ≤ length text.now }
+{
+    match in_front_of(text, '\n') {
+        Some(line) => line,
+        None => text,
+    }
+}
+
+/// What a literal stands for, and its style, or `None` if the text is no literal.
+pub fn literal_text(
+    alloc: Global,
+    literal: &str,
+) -> Result<Option<(String, Option<usize>)>, AllocError>
+    ensures found { IfOk result (λ o. MatchOption o
+        ((style : Option ℕ) (t : Text) → IsLiteral style (chars literal.now) t → ⊥)
+        (λ x. IsLiteral x.1 (chars literal.now) (chars (string_bytes x.0)))) }
+    ensures few { IfOk result (λ o. IfSome o (λ x. hashes x.1 ≤ length literal.now)) }
+{
+    if let Some((hashes, text)) = raw_text(literal) {
+        return Ok(Some((String::from_str(alloc, text)?, Some(hashes))));
+    }
+    match ordinary_text(alloc, literal)? {
+        Some(text) => Ok(Some((text, None))),
+        None => Ok(None),
+    }
+}
+
+/// What an ordinary literal stands for, or `None` if the text is none.
+fn ordinary_text(alloc: Global, literal: &str) -> Result<Option<String>, AllocError>
+    ensures { IfOk result (λ o. MatchOption o
+        ((t : Text) → IsOrdinaryLiteral (chars literal.now) t → ⊥)
+        (λ s. IsOrdinaryLiteral (chars literal.now) (chars (string_bytes s)))) }
+{
+    let Some(content) = between_quotes(literal) else {
+        return Ok(None);
+    };
+    match read_content(alloc, content)? {
+        Some(characters) => Ok(Some(joined(alloc, characters.as_slice())?)),
+        None => Ok(None),
+    }
+}
+
+/// The text of characters with places.
+fn joined(alloc: Global, characters: &[(Range<usize>, char)]) -> Result<String, AllocError>
+    ensures { IfOk result (λ s. chars (string_bytes s) ≡ map (λ x. x.1) characters.now) }
+{
+    let mut text = String::new(alloc);
+    for (_, c) in characters {
+        put(&mut text, *c)?;
+    }
+    Ok(text)
+}
+
+/// Adds a character.
+fn put(text: &mut String, c: char) -> Result<(), AllocError>
+    ensures { OnOk result (chars (string_bytes text.new) ≡ chars (string_bytes text.old) ++ c ∷ []) }
+{
+    text.push(c)?;
+    Ok(())
+}
+
+/// What stands between quotes, or `None` where they are not there.
+fn between_quotes(literal: &str) -> Option<&str>
+    ensures { MatchOption result
+        ((t : Text) → chars literal.now ≡ quoted t → ⊥)
+        (λ t. chars literal.now ≡ quoted (chars t.now)) }
+{
+    in_front_of(behind(literal, '"')?, '"')
+}
+
+/// The hashes of a raw literal and its text, or `None` if it is none.
+fn raw_text(literal: &str) -> Option<(usize, &str)>
+    ensures text { MatchOption result
+        ((n : ℕ) (t : Text) → chars literal.now ≡ raw_frame n t → ⊥)
+        (λ x. chars literal.now ≡ raw_frame x.0 (chars x.1.now)) }
+    ensures few { IfSome result (λ x. x.0 ≤ length literal.now) }
+{
+    let (hashes, rest) = behind_hashes(behind(literal, 'r')?);
+    let rest = behind(rest, '"')?;
+    let text = in_front_of(in_front_of_hashes(rest, hashes)?, '"')?;
+    Some((hashes, text))
+}
+
+/// How many hashes a text begins with, and what is behind them.
+fn behind_hashes(text: &str) -> (usize, &str)
+    ensures all { chars text.now ≡ replicate result.0 35 ++ chars result.1.now }
+    ensures no_more { (t : Text) → chars result.1.now ≡ 35 ∷ t → ⊥ }
+    ensures few { result.0 + length result.1.now ≡ length text.now }
+{
+    let mut count = 0;
+    let mut rest = text;
+    while let Some(more) = behind(rest, '#') {
+        rest = more;
+        count += 1;
+    }
+    (count, rest)
+}
+
+/// What is in front of so many hashes at the end of a text, or `None` where they are not there.
+fn in_front_of_hashes(text: &str, count: usize) -> Option<&str>
+    ensures { MatchOption result
+        ((t : Text) → t ++ replicate count 35 ≡ chars text.now → ⊥)
+        (λ t. chars t.now ++ replicate count 35 ≡ chars text.now) }
+{
+    let mut rest = text;
+    for _ in 0..count {
+        match in_front_of(rest, '#') {
+            Some(front) => rest = front,
+            None => return None,
+        }
+    }
+    Some(rest)
+}
+
+/// What is behind this character at the front of a text, or `None` where it is not there.
+fn behind(text: &str, c: char) -> Option<&str>
+    requires { c < 128 }
+    ensures rest { MatchOption result
+        ((t : Text) → chars text.now ≡ c ∷ t → ⊥)
+        (λ t. chars text.now ≡ c ∷ chars t.now) }
+    ensures shorter { IfSome result (λ t. length t.now + 1 ≡ length text.now) }
+{
+    text.strip_prefix(c)
+}
+
+/// What is in front of this character at the end of a text, or `None` where it is not there.
+fn in_front_of(text: &str, c: char) -> Option<&str>
+    requires { c < 128 }
+    ensures front { MatchOption result
+        ((t : Text) → t ++ c ∷ [] ≡ chars text.now → ⊥)
+        (λ t. chars t.now ++ c ∷ [] ≡ chars text.now) }
+    ensures shorter { IfSome result (λ t. length t.now + 1 ≡ length text.now) }
+{
+    text.strip_suffix(c)
+}
