@@ -1,5 +1,6 @@
 -- What the derived `clone` promises: a clone is its source, and it is always made.
 use Rattle.std.proofs.Common.{◌≡◌, rules}
+use Rattle.rustc_parse_format.proofs.Equality.{both}
 use Rattle.std.specs.Prelude.{IsOkAnd, MatchResult, Result, Ok, Err}
 use Rattle.rustc_parse_format.specs.declared.types.Argument.{Argument}
 use Rattle.rustc_parse_format.specs.declared.types.FormatSpec.{FormatSpec}
@@ -70,7 +71,11 @@ spec_clone_is a b h = λ i. record {
 }
 
 pub spec_clone_made : (a : FormatSpec) → spec_clone.ghosts.is_infallible a
-spec_clone_made a = (search rules, (search rules, (search rules, (search rules, (search rules, (search rules, (search rules, (search rules, (search rules, (search rules, (search rules, (search rules, (search rules)))))))))))))
+spec_clone_made a =
+    both (search rules) (both (search rules) (both (search rules) (both (search rules)
+    (both (search rules) (both (search rules) (both (search rules) (both (search rules)
+    (both (search rules) (both (search rules) (both (search rules) (both (search rules)
+    (search rules))))))))))))
 
 -- A placeholder.
 clone_position : (a b : Argument) → argument_clone.ghosts.is_clone a b → b.position ≡ a.position

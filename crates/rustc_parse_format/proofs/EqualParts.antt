@@ -19,7 +19,6 @@ use Rattle.rustc_parse_format.specs.contracts.types.CountPartialEq.TheImpl as co
 use Rattle.rustc_parse_format.specs.World.{Place}
 use Rattle.rustc_parse_format.proofs.Equality.{both_same, differ, number_same, range_same, same_along, text_same}
 
--- The enums.
 pub alignment_same : (a b : DeclaredAlignment) → IsTrue (alignment_eq.ghosts.eq a b) ↔ seen_alignment a ≡ seen_alignment b
 alignment_same a b = search rules
 
@@ -31,21 +30,27 @@ debug_hex_same a b = search rules
 
 pub position_same : (a b : DeclaredPosition) → IsTextInPosition a → IsTextInPosition b
     → IsTrue (position_eq.ghosts.eq a b) ↔ seen_position a ≡ seen_position b
-position_same (ArgumentImplicitlyIs n) (ArgumentImplicitlyIs m) u v = same_along (ap (λ z. Implicit z)) (λ (h : Implicit n ≡ Implicit m). cc) (number_same n m)
+position_same (ArgumentImplicitlyIs n) (ArgumentImplicitlyIs m) u v =
+    same_along (ap (λ z. Implicit z)) (λ (h : Implicit n ≡ Implicit m). cc) (number_same n m)
 position_same (ArgumentImplicitlyIs n) (ArgumentIs m) u v = differ (λ h. cc)
 position_same (ArgumentImplicitlyIs n) (ArgumentNamed x) u v = differ (λ h. cc)
-position_same (ArgumentIs n) (ArgumentIs m) u v = same_along (ap (λ z. Index z)) (λ (h : Index n ≡ Index m). cc) (number_same n m)
+position_same (ArgumentIs n) (ArgumentIs m) u v =
+    same_along (ap (λ z. Index z)) (λ (h : Index n ≡ Index m). cc) (number_same n m)
 position_same (ArgumentIs n) (ArgumentImplicitlyIs m) u v = differ (λ h. cc)
 position_same (ArgumentIs n) (ArgumentNamed x) u v = differ (λ h. cc)
-position_same (ArgumentNamed w) (ArgumentNamed x) u v = same_along (ap (λ z. Named z)) (λ (h : Named (chars w.now) ≡ Named (chars x.now)). cc) (text_same w.now x.now u v)
+position_same (ArgumentNamed w) (ArgumentNamed x) u v =
+    same_along (ap (λ z. Named z)) (λ (h : Named (chars w.now) ≡ Named (chars x.now)). cc) (text_same w.now x.now u v)
 position_same (ArgumentNamed w) (ArgumentIs m) u v = differ (λ h. cc)
 position_same (ArgumentNamed w) (ArgumentImplicitlyIs m) u v = differ (λ h. cc)
 
 pub count_same : (a b : DeclaredCount) → IsTextInCount a → IsTextInCount b
     → IsTrue (count_eq.ghosts.eq a b) ↔ seen_count a ≡ seen_count b
-count_same (CountIs n) (CountIs m) u v = same_along (ap (λ z. Is z)) (λ (h : Is n ≡ Is m). cc) (number_same n m)
-count_same (CountIsParam n) (CountIsParam m) u v = same_along (ap (λ z. Param z)) (λ (h : Param n ≡ Param m). cc) (number_same n m)
-count_same (CountIsStar n) (CountIsStar m) u v = same_along (ap (λ z. Star z)) (λ (h : Star n ≡ Star m). cc) (number_same n m)
+count_same (CountIs n) (CountIs m) u v =
+    same_along (ap (λ z. Is z)) (λ (h : Is n ≡ Is m). cc) (number_same n m)
+count_same (CountIsParam n) (CountIsParam m) u v =
+    same_along (ap (λ z. Param z)) (λ (h : Param n ≡ Param m). cc) (number_same n m)
+count_same (CountIsStar n) (CountIsStar m) u v =
+    same_along (ap (λ z. Star z)) (λ (h : Star n ≡ Star m). cc) (number_same n m)
 count_same CountImplied CountImplied u v = (λ _. refl, λ _. refl)
 count_same (CountIsName w p) (CountIsName x q) u v =
     same_along (λ e. λ i. Name (e.0 i) (e.1 i)) (λ (h : ◌≡◌ {A = Count Place} (Name (chars w.now) (pair p)) (Name (chars x.now) (pair q))). (cc, cc))

@@ -12,10 +12,10 @@ use Rattle.rustc_parse_format.specs.declared.types.Piece.TheVariants.{Lit as Lit
 use Rattle.rustc_parse_format.specs.contracts.types.ArgumentPartialEq.TheImpl as argument_eq
 use Rattle.rustc_parse_format.specs.contracts.types.FormatSpecPartialEq.TheImpl as spec_eq
 use Rattle.rustc_parse_format.specs.contracts.types.PiecePartialEq.TheImpl as piece_eq
-use Rattle.rustc_parse_format.proofs.Equality.{both_same, differ, flag_same, number_same, option_same, plain_option_same, range_same, same_along, text_same}
+use Rattle.rustc_parse_format.proofs.Equality.{both, both_same, differ, flag_same, number_same, option_same, plain_option_same, range_same, same_along, text_same}
 use Rattle.rustc_parse_format.proofs.EqualParts.{alignment_same, count_same, debug_hex_same, position_same, sign_same}
 
--- one fact about each field, in the order in which `==` compares them
+-- from a fact about each field, in the order in which `==` compares them
 spec_of_fields : (a b : FormatSpec)
     → (a.fill ≡ b.fill) × ((option_map pair a.fill_span ≡ option_map pair b.fill_span)
     × ((seen_alignment a.align ≡ seen_alignment b.align) × ((option_map seen_sign a.sign ≡ option_map seen_sign b.sign)
@@ -43,40 +43,14 @@ spec_of_fields a b e = λ i. record {
 
 pub spec_same : (a b : FormatSpec) → IsTextInSpec a → IsTextInSpec b
     → IsTrue (spec_eq.ghosts.eq a b) ↔ seen_spec a ≡ seen_spec b
-spec_same a b u v = same_along (spec_of_fields a b) (λ (h : seen_spec a ≡ seen_spec b). (
-  ap (λ (s : Spec Place). s.fill) h,
-  (
-    ap (λ (s : Spec Place). s.fill_span) h,
-    (
-      ap (λ (s : Spec Place). s.align) h,
-      (
-        ap (λ (s : Spec Place). s.sign) h,
-        (
-          ap (λ (s : Spec Place). s.alternate) h,
-          (
-            ap (λ (s : Spec Place). s.zero_pad) h,
-            (
-              ap (λ (s : Spec Place). s.debug_hex) h,
-              (
-                ap (λ (s : Spec Place). s.precision) h,
-                (
-                  ap (λ (s : Spec Place). s.precision_span) h,
-                  (
-                    ap (λ (s : Spec Place). s.width) h,
-                    (
-                      ap (λ (s : Spec Place). s.width_span) h,
-                      (ap (λ (s : Spec Place). s.ty) h, ap (λ (s : Spec Place). s.ty_span) h),
-                    ),
-                  ),
-                ),
-              ),
-            ),
-          ),
-        ),
-      ),
-    ),
-  ),
-))
+spec_same a b u v = same_along (spec_of_fields a b) (λ (h : seen_spec a ≡ seen_spec b).
+    both (ap (λ (s : Spec Place). s.fill) h) (both (ap (λ (s : Spec Place). s.fill_span) h)
+    (both (ap (λ (s : Spec Place). s.align) h) (both (ap (λ (s : Spec Place). s.sign) h)
+    (both (ap (λ (s : Spec Place). s.alternate) h) (both (ap (λ (s : Spec Place). s.zero_pad) h)
+    (both (ap (λ (s : Spec Place). s.debug_hex) h)
+    (both (ap (λ (s : Spec Place). s.precision) h) (both (ap (λ (s : Spec Place). s.precision_span) h)
+    (both (ap (λ (s : Spec Place). s.width) h) (both (ap (λ (s : Spec Place). s.width_span) h)
+    (both (ap (λ (s : Spec Place). s.ty) h) (ap (λ (s : Spec Place). s.ty_span) h)))))))))))))
     (both_same _ _ (plain_option_same _ number_same a.fill b.fill)
     (both_same _ _ (option_same _ pair range_same a.fill_span b.fill_span)
     (both_same _ _ (alignment_same a.align b.align)
@@ -94,17 +68,17 @@ spec_same a b u v = same_along (spec_of_fields a b) (λ (h : seen_spec a ≡ see
 pub argument_same : (a b : DeclaredArgument) → IsTextInArgument a → IsTextInArgument b
     → IsTrue (argument_eq.ghosts.eq a b) ↔ seen_argument a ≡ seen_argument b
 argument_same a b u v = same_along (λ e. λ i. record { position = e.0 i; position_span = e.1.0 i; format = e.1.1 i })
-    (λ (h : seen_argument a ≡ seen_argument b). (
-      ap (λ (s : Argument Place). s.position) h,
-      (ap (λ (s : Argument Place). s.position_span) h, ap (λ (s : Argument Place). s.format) h),
-    ))
+    (λ (h : seen_argument a ≡ seen_argument b). both (ap (λ (s : Argument Place). s.position) h)
+    (both (ap (λ (s : Argument Place). s.position_span) h) (ap (λ (s : Argument Place). s.format) h)))
     (both_same _ _ (position_same a.position b.position u.position v.position)
     (both_same _ _ (range_same a.position_span b.position_span)
     (spec_same a.format b.format u.format v.format)))
 
 pub piece_same : (a b : DeclaredPiece) → IsTextInPiece a → IsTextInPiece b
     → IsTrue (piece_eq.ghosts.eq a b) ↔ seen a ≡ seen b
-piece_same (LitPiece s) (LitPiece t) u v = same_along (ap (λ z. Lit z)) (λ (h : ◌≡◌ {A = Piece Place} (Lit (chars s.now)) (Lit (chars t.now))). cc) (text_same s.now t.now u v)
+piece_same (LitPiece s) (LitPiece t) u v =
+    same_along (ap (λ z. Lit z)) (λ (h : ◌≡◌ {A = Piece Place} (Lit (chars s.now)) (Lit (chars t.now))). cc)
+    (text_same s.now t.now u v)
 piece_same (ArgumentPiece s) (ArgumentPiece t) u v =
     same_along (ap (λ z. NextArgument z)) (λ (h : ◌≡◌ {A = Piece Place} (NextArgument (seen_argument s.value)) (NextArgument (seen_argument t.value))). cc)
     (argument_same s.value t.value u v)

@@ -11,9 +11,14 @@ use Rattle.std.specs.declared.ops.Range.{Range}
 use Rattle.rustc_parse_format.specs.Seen.{pair}
 use Rattle.rustc_parse_format.specs.World.{Place}
 
-pub differ : {P : Type 0} → (P → ⊥) → IsTrue false ↔ P
-differ f = (λ h. absurd (cc), λ p. absurd (f p))
+pub both : {P Q : Type 0} → P → Q → P × Q
+both p q = (p, q)
 
+-- a test that fails, of a fact that does not hold
+pub differ : {P : Type 0} → (P → ⊥) → IsTrue false ↔ P
+differ f = (λ h. absurd cc, λ p. absurd (f p))
+
+-- from one fact to another that is as true
 pub same_along : {P Q : Type 0} {b : Bool} → (P → Q) → (Q → P) → IsTrue b ↔ P → IsTrue b ↔ Q
 same_along f g e = (λ h. f (e.0 h), λ q. e.1 (g q))
 
@@ -28,11 +33,13 @@ and_first false y h = h
 
 and_second : (x y : Bool) → IsTrue (x && y) → IsTrue y
 and_second true y h = h
-and_second false y h = absurd (cc)
+and_second false y h = absurd cc
 
+-- a test of two facts, one after the other
 pub both_same : {P Q : Type 0} (x y : Bool) → IsTrue x ↔ P → IsTrue y ↔ Q → IsTrue (x && y) ↔ P × Q
 both_same x y e f = (λ h. (e.0 (and_first x y h), f.0 (and_second x y h)), λ p. and_true x y (e.1 p.0) (f.1 p.1))
 
+-- what a call answered that computes the test
 pub told : {P : Type 0} {b r : Bool} → r ≡ b → IsTrue b ↔ P → IsTrue r ↔ P
 told h e = (λ k. e.0 (sym h ∙ k), λ p. h ∙ e.1 p)
 
@@ -46,6 +53,7 @@ flag_same false true = differ (λ h. cc)
 pub number_same : (n m : ℕ) → IsTrue (nat_eq n m) ↔ n ≡ m
 number_same n m = (eqb-true n m, eq-eqb n m)
 
+-- texts of the same characters have the same bytes
 chars_one : (a b : List ℕ) → IsUtf8 a → IsUtf8 b → chars a ≡ chars b → a ≡ b
 chars_one a b u v h = sym (encodes-chars a u) ∙ (ap encodes h ∙ encodes-chars b v)
 
