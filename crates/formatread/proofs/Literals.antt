@@ -1,21 +1,8 @@
 -- The parts of literals, by their characters.
-use Rattle.std.proofs.Common.{◌≡◌, ◌≢◌, ◌<◌, ◌+◌, ◌-◌, ℕ, suc, zero, ◌++◌, [], ◌∷◌, Option, Some, None, true, false, Bool, refl, sym, ap, ◌∙◌, append_assoc, append-nil, arith, replicate, get_or}
-use Rattle.std.proofs.lemmas.List.{append_cancel_right, same_from_push, replicate_more, replicate-append-replicate}
+use Rattle.std.proofs.Common.{◌≡◌, ◌<◌, ◌+◌, ◌-◌, ℕ, suc, zero, ◌++◌, [], ◌∷◌, Option, Some, None, refl, sym, ap, ◌∙◌, append_assoc, arith, replicate, get_or}
+use Rattle.std.proofs.lemmas.List.{append_cancel_right, replicate_more, replicate-append-replicate}
 use Rattle.rustc_parse_format.specs.Characters.{Text}
-use Rattle.rustc_parse_format.specs.Literal.{IsLiteral, IsOrdinaryLiteral, newline, quoted, raw_frame, raw_opening}
-
--- one hash more in front
-pub replicate-cons : (n : ℕ) (r s t : Text) → r ≡ 35 ∷ t → s ≡ replicate n 35 ++ r → s ≡ replicate (n + 1) 35 ++ t
-replicate-cons n r s t e f =
-    f ∙ ap (λ x. replicate n 35 ++ x) e ∙ sym (append_assoc (replicate n 35) (35 ∷ []) t)
-    ∙ ap (λ x. x ++ t) (replicate_more n 35)
-
--- one hash more behind
-pub replicate-push : (n : ℕ) (r s t : Text) → t ++ 35 ∷ [] ≡ r → r ++ replicate n 35 ≡ s → t ++ replicate (n + 1) 35 ≡ s
-replicate-push n r s t e f =
-    let more : 1 + n ≡ n + 1 = omega arith in
-    ap (λ x. t ++ x) (ap (λ k. replicate k 35) (sym more) ∙ sym (replicate-append-replicate 1 n 35))
-    ∙ sym (append_assoc t (35 ∷ []) (replicate n 35)) ∙ ap (λ x. x ++ replicate n 35) e ∙ f
+use Rattle.rustc_parse_format.specs.Literal.{IsLiteral, IsOrdinaryLiteral, raw_frame}
 
 -- where more hashes are wanted, one stands at the end of what is in front of some
 pub replicate-last : (m n : ℕ) (r s t : Text) → m < n → r ++ replicate m 35 ≡ s → t ++ replicate n 35 ≡ s → (t ++ replicate (n - m - 1) 35) ++ 35 ∷ [] ≡ r
@@ -61,40 +48,6 @@ pub raw_frame-text : (n m : ℕ) (l r s o k t : Text) → l ≡ raw_frame n t �
     → k ++ replicate m 35 ≡ o → t ++ 34 ∷ [] ≡ k
 raw_frame-text n m l r s o k t e f g h i j =
     append_cancel_right (t ++ 34 ∷ []) k (replicate m 35) (raw_frame-rest n m l r s o t e f g h i ∙ sym j)
-
-pub raw_frame-closed : (m : ℕ) (l r s o k t : Text) → l ≡ 114 ∷ r → r ≡ replicate m 35 ++ s → s ≡ 34 ∷ o → k ++ replicate m 35 ≡ o → t ++ 34 ∷ [] ≡ k → l ≡ raw_frame m t
-raw_frame-closed m l r s o k t e f g h i =
-    e ∙ ap (λ x. 114 ∷ x) (f ∙ ap (λ x. replicate m 35 ++ x) (g ∙ ap (λ x. 34 ∷ x) (sym h ∙ ap (λ x. x ++ replicate m 35) (sym i))))
-    ∙ sym (raw_frame-parts m t)
-
--- the content between quotes is one alone
-pub quoted-same : (s t : Text) → quoted s ≡ quoted t → s ≡ t
-quoted-same s t e = append_cancel_right s t (34 ∷ []) (let rest : s ++ 34 ∷ [] ≡ t ++ 34 ∷ [] = cc in rest)
-
--- no literal ends with a newline
-no_newline : (x u : Text) (c : ℕ) → c ≢ 10 → u ++ 10 ∷ [] ≡ x ++ c ∷ [] → ⊥
-no_newline x u c n e = n (sym (same_from_push u x 10 c e).1)
-
-closing : (n : ℕ) (x u : Text) → u ++ 10 ∷ [] ≡ x ++ 34 ∷ replicate n 35 → ⊥
-closing zero x u e = no_newline x u 34 (λ h. omega arith) e
-closing (suc n) x u e =
-    let more : suc n ≡ n + 1 = omega arith in
-    no_newline (x ++ 34 ∷ replicate n 35) u 35 (λ h. omega arith)
-    (e ∙ ap (λ y. x ++ 34 ∷ y) (ap (λ k. replicate k 35) more ∙ sym (replicate_more n 35))
-    ∙ sym (append_assoc x (34 ∷ replicate n 35) (35 ∷ [])))
-
-pub literal-no_newline : (style : Option ℕ) (l t u : Text) → IsLiteral style l t → u ++ newline true ≡ l → ⊥
-literal-no_newline None l t u h e = no_newline (34 ∷ h.0) u 34 (λ k. omega arith) (e ∙ h.2)
-literal-no_newline (Some n) l t u h e = closing n (raw_opening n ++ t) u (e ∙ h)
-
--- what stands in front of at most one newline, and ends with none itself
-pub without_newline-some : (s l r : Text) (b : Bool) → r ++ 10 ∷ [] ≡ s → l ++ newline b ≡ s → ((t : Text) → t ++ newline true ≡ l → ⊥) → l ≡ r
-without_newline-some s l r true e f h = append_cancel_right l r (10 ∷ []) (f ∙ sym e)
-without_newline-some s l r false e f h = absurd (h r (e ∙ sym f ∙ append-nil l))
-
-pub without_newline-none : (s l : Text) (b : Bool) → ((t : Text) → t ++ 10 ∷ [] ≡ s → ⊥) → l ++ newline b ≡ s → l ≡ s
-without_newline-none s l true h f = absurd (h l f)
-without_newline-none s l false h f = sym (append-nil l) ∙ f
 
 -- what is neither raw nor ordinary is no literal
 pub no_literal : (l : Text) → ((n : ℕ) (t : Text) → l ≡ raw_frame n t → ⊥) → ((t : Text) → IsOrdinaryLiteral l t → ⊥)
