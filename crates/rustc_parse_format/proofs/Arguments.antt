@@ -5,7 +5,8 @@ use Rattle.rustc_parse_format.specs.Characters.{Text, behind_white}
 use Rattle.rustc_parse_format.specs.Marks.{up_to}
 use Rattle.rustc_parse_format.specs.Pieces.{Mode, Position, Spec, Argument, map_spec, map_argument}
 use Rattle.rustc_parse_format.specs.Placeholder.{position, cut}
-use Rattle.rustc_parse_format.specs.Meaning.{position_of, behind_spec, spec_of, argument}
+use Rattle.rustc_parse_format.specs.Values.{position_of, behind_spec}
+use Rattle.rustc_parse_format.specs.Meaning.{spec_of, argument}
 use Rattle.rustc_parse_format.specs.Faults.{Fault, map_fault}
 use Rattle.rustc_parse_format.specs.PartFaults.{position_faults, spec_faults, cut_faults}
 use Rattle.rustc_parse_format.specs.State.{Unread}
@@ -20,27 +21,27 @@ unfolding cut
 at_spec mode start given skipped e f = f ∙ ap (λ (u : Unread). record u { rest = behind_white u.rest }) e
 
 pub argument_parts : (w : World) (mode : Mode) (c : ℕ) (t : Text) (p : Position) (s : Place) (f : Spec Place) →
-    p ≡ position_of (behind_spec c (cut mode t).spec) (cut mode t).position →
+    p ≡ position_of (behind_spec c (cut mode t).field.spec) (cut mode t).field.position →
     s ≡ place_of w (up_to t (cut mode t).spec_at) →
-    f ≡ map_spec (place_of w) (spec_of c (cut mode t).spec_at (cut mode t).spec (cut mode t).rest) →
+    f ≡ map_spec (place_of w) (spec_of c (cut mode t).spec_at (cut mode t).field.spec (cut mode t).rest) →
     ◌≡◌ {A = Argument Place} (record { position = p; position_span = s; format = f }) (map_argument (place_of w) (argument c (cut mode t)))
 unfolding argument cut
 argument_parts w mode c t p s f a b d = rw (a, b, d) refl
 
 pub faults_parts : (w : World) (mode : Mode) (t : Text) (old middle new : List (Fault Place)) →
     middle ≡ old ++ faults_in w (position_faults t) →
-    new ≡ middle ++ faults_in w (spec_faults (cut mode t).spec_at (cut mode t).spec (cut mode t).rest) →
+    new ≡ middle ++ faults_in w (spec_faults (cut mode t).spec_at (cut mode t).field.spec (cut mode t).rest) →
     new ≡ old ++ faults_in w (cut_faults (cut mode t))
 unfolding cut_faults cut
 faults_parts w mode t old middle new a b =
-    let rest = spec_faults (cut mode t).spec_at (cut mode t).spec (cut mode t).rest in
+    let rest = spec_faults (cut mode t).spec_at (cut mode t).field.spec (cut mode t).rest in
     rw (b, a) (append_assoc old (faults_in w (position_faults t)) (faults_in w rest) ∙ ap (λ fs. old ++ fs) (sym (map-append (map_fault (place_of w)) (position_faults t) rest)))
 
 pub spec_at-le : (mode : Mode) (t : Text) → length (cut mode t).spec_at ≤ length t
 unfolding cut
 spec_at-le mode t = IsRest-le (IsRest-trans (position_rest t) (behind_white_rest (position t).1))
 
-pub behind_spec-le : (mode : Mode) (c : ℕ) (t : Text) → behind_spec c (cut mode t).spec ≤ c + length t
+pub behind_spec-le : (mode : Mode) (c : ℕ) (t : Text) → behind_spec c (cut mode t).field.spec ≤ c + length t
 unfolding cut
 behind_spec-le mode c t = omega (arith, specification_number mode c (behind_white (position t).1), spec_at-le mode t)
 

@@ -3,9 +3,10 @@ use Rattle.std.proofs.Common.{◌≡◌, ◌≢◌, ℕ, ◌++◌, ◌==◌, Boo
 use Rattle.std.proofs.lemmas.Bool.{cond_both, eqb-true, eq-eqb}
 use Rattle.rustc_parse_format.specs.Characters.{Text, is_brace, is_no_brace, front, behind_white, behind_first, begins_with}
 use Rattle.rustc_parse_format.specs.Marks.{Span}
-use Rattle.rustc_parse_format.specs.Pieces.{Mode, Piece, Lit, NextArgument, bare, bare_argument}
+use Rattle.rustc_parse_format.specs.Pieces.{Mode, Argument, Piece, Lit, NextArgument, bare}
 use Rattle.rustc_parse_format.specs.Placeholder.{cut}
-use Rattle.rustc_parse_format.specs.Meaning.{argument, next_number}
+use Rattle.rustc_parse_format.specs.Values.{argument_value, next_number}
+use Rattle.rustc_parse_format.specs.Meaning.{argument}
 use Rattle.rustc_parse_format.specs.Grammar.{IsClean, HasNoBrace, EndsRun, Begins}
 use Rattle.rustc_parse_format.specs.Faults.{Fault}
 use Rattle.rustc_parse_format.specs.PartFaults.{cut_faults}
@@ -13,6 +14,8 @@ use Rattle.rustc_parse_format.specs.Step.{Call, call, placeholder, literal}
 use Rattle.rustc_parse_format.proofs.CleanWords.{none_right}
 use Rattle.rustc_parse_format.proofs.CleanCuts.{cut_clean, cut_faultless}
 use Rattle.rustc_parse_format.proofs.Readings.{brace_stays, differ}
+use Rattle.rustc_parse_format.proofs.BareValues.{argument-bare}
+use Rattle.rustc_parse_format.proofs.PlaceholderCuts.{ClosesCut, from_cut, by_cut}
 use Rattle.rustc_parse_format.proofs.Runs.{front_unbraced, behind_ends, front-behind, front_all}
 
 -- the call gives a piece, which begins the text
@@ -64,7 +67,7 @@ placeholder_steps mode c b t e =
     (λ h f. record {
       piece = NextArgument (argument c (cut mode t));
       given = refl;
-      begins = record { inside = t; opens = ap (λ x. x ∷ t) e; closes = closes_with _ h; clean = cut_clean mode t f; means = refl; numbered = refl };
+      begins = from_cut (record { inside = t; opens = ap (λ x. x ∷ t) e; closes = closes_with _ h; clean = cut_clean mode t f; means = argument-bare c (cut mode t); numbered = refl });
     })
     (λ h f. absurd (told (cut_faults (cut mode t)) _ f))
   where
@@ -122,16 +125,19 @@ opens_one mode (d ∷ t) r e = cond_free (d == 123) (λ h. again d t (eqb-true d
     again : (d : ℕ) (t : Text) → d ≡ 123 → behind_white (cut mode (d ∷ t)).rest ≡ 125 ∷ r → ⊥
     again d t h e = differ r t (sym e ∙ rw h (brace_stays mode t))
 
-call_closed : (mode : Mode) (c : ℕ) (t r : Text) → behind_white (cut mode t).rest ≡ 125 ∷ r → IsClean (cut mode t) →
-    Gives (NextArgument (bare_argument (argument c (cut mode t)))) r (next_number c (cut mode t)) (call mode c (123 ∷ t))
+call_closed : (mode : Mode) (c : ℕ) (t r : Text) → behind_white (cut mode t).rest ≡ 125 ∷ r → IsClean (cut mode t).field →
+    Gives (NextArgument (argument_value c (cut mode t).field)) r (next_number c (cut mode t).field) (call mode c (123 ∷ t))
 unfolding call placeholder
 call_closed mode c t r e h =
     let one = opens_one mode t r e in
     let none = cut_faultless mode t h (ap (begins_with 125) e) in
-    rw (one, e) (record { piece = NextArgument (argument c (cut mode t)); given = refl; same = refl; faultless = none; rest = refl; next = refl })
+    rw (one, e) (record { piece = NextArgument (argument c (cut mode t)); given = refl; same = ap NextArgument (argument-bare c (cut mode t)); faultless = none; rest = refl; next = refl })
 
 moved : (mode : Mode) (c : ℕ) (t u : Text) (p : Piece (Unit {0})) (r : Text) (n : ℕ) → t ≡ u → Gives p r n (call mode c u) → Gives p r n (call mode c t)
 moved mode c t u p r n e g = rw e g
+
+cut_call : (mode : Mode) (c : ℕ) (t : Text) (a : Argument (Unit {0})) (r : Text) (n : ℕ) → ClosesCut mode c t a r n → Gives (NextArgument a) r n (call mode c t)
+cut_call mode c t a r n k = rw (k.means, k.numbered) (moved mode c t (123 ∷ k.inside) _ r _ k.opens (call_closed mode c k.inside r k.closes k.clean))
 
 -- A call gives the piece that begins the text, with no fault.
 pub begins_call : (mode : Mode) (c : ℕ) (t : Text) (p : Piece (Unit {0})) (r : Text) (n : ℕ) → Begins mode c t p r n → Gives p r n (call mode c t)
@@ -139,5 +145,4 @@ begins_call mode c t (Lit []) r n (inl a, e) = absurd (a.1 refl)
 begins_call mode c t (Lit (b ∷ l)) r n (inl a, e) = rw e (moved mode c t (b ∷ l ++ r) (Lit (b ∷ l)) r c a.0.whole (call_text mode c b l r a.0.unbraced.0 a.0.unbraced.1 a.0.ends))
 begins_call mode c t (Lit l) r n (inr a, e) =
     rw (e, a.literal) (moved mode c t (a.brace ∷ a.brace ∷ a.run ++ r) (Lit (a.brace ∷ a.run)) r c a.twice (call_doubled mode c a.brace a.run r a.is_one a.unbraced a.ends))
-begins_call mode c t (NextArgument a) r n b =
-    rw (b.means, b.numbered) (moved mode c t (123 ∷ b.inside) _ r _ b.opens (call_closed mode c b.inside r b.closes b.clean))
+begins_call mode c t (NextArgument a) r n b = cut_call mode c t a r n (by_cut b)

@@ -1,10 +1,11 @@
 -- A width and a precision have no fault exactly where nothing of them is refused; the word that was tried is looked at too.
-use Rattle.std.proofs.Common.{◌≡◌, ◌==◌, ℕ, Bool, true, false, [], ◌∷◌}
+use Rattle.std.proofs.Common.{◌≡◌, ◌==◌, ℕ, [], ◌∷◌}
 use Rattle.std.proofs.lemmas.Bool.{cond_both}
 use Rattle.std.specs.Char.{is_ascii_digit}
 use Rattle.rustc_parse_format.specs.Characters.{Text, is_id_start, word, behind_word, digits, behind_digits}
-use Rattle.rustc_parse_format.specs.Counts.{count_at, CountText, NumberCount, IndexCount, ZeroIndexCount, NameCount, NoCount, count, behind_number, behind_name, WidthText, width, behind_zero, PrecisionText, precision, behind_dot}
-use Rattle.rustc_parse_format.specs.Grammar.{words_of_count, numbers_of_count, words_of_precision, numbers_of_precision}
+use Rattle.rustc_parse_format.specs.Syntax.{CountText, NumberCount, IndexCount, NameCount, NoCount, WidthText, PrecisionText}
+use Rattle.rustc_parse_format.specs.Counts.{count, behind_number, behind_name, width, behind_zero, precision, behind_dot}
+use Rattle.rustc_parse_format.specs.Grammar.{words_of_count, numbers_of_count, words_of_width, numbers_of_width, words_of_precision, numbers_of_precision}
 use Rattle.rustc_parse_format.specs.PartFaults.{number_faults, count_faults, width_faults, precision_faults}
 use Rattle.rustc_parse_format.proofs.CleanWords.{none_left, none_right, IsNamed, IsSmall, AllNamed, AllSmall, named, small, choose}
 
@@ -29,28 +30,23 @@ count_clean (c ∷ t) e =
     (λ i. name_clean (c ∷ t) (word (c ∷ t)) (behind_word (c ∷ t)) (named (c ∷ t) (none_right (number_faults (c ∷ t)) _ e)))
     (λ i. (tt, tt)))
 
--- the width, where its count is read at u
-width_of_count : (z : Bool) (k : CountText) (t : Text) → (count_faults (count_at z t) ≡ [] → CleanCount k) → width_faults t (record { zero_pad = z; count = k }) ≡ [] → CleanCount k
-width_of_count z ZeroIndexCount t f e = (tt, tt)
-width_of_count z (NumberCount ds) t f e = f e
-width_of_count z (IndexCount ds) t f e = f e
-width_of_count z (NameCount w) t f e = f e
-width_of_count z NoCount t f e = (tt, tt)
+abbrev pub CleanWidth : WidthText → Type 0
+CleanWidth w = AllNamed (words_of_width w) × AllSmall (numbers_of_width w)
 
 abbrev WidthClean : Text → WidthText × Text → Type 0
-WidthClean t w = width_faults t w.0 ≡ [] → CleanCount w.0.count
+WidthClean t w = width_faults t w.0 ≡ [] → CleanWidth w.0
 
 zero_clean : (c : ℕ) (t : Text) → WidthClean (c ∷ t) (behind_zero t)
 zero_clean c [] e = (tt, tt)
 zero_clean c (d ∷ t) e =
     cond_both {A = WidthText × Text} (d == 36) _ _ (WidthClean (c ∷ d ∷ t))
-    (λ z h. (tt, tt)) (λ z h. width_of_count true (count (d ∷ t)).0 (c ∷ d ∷ t) (count_clean (d ∷ t)) h) e
+    (λ z h. (tt, tt)) (λ z h. count_clean (d ∷ t) h) e
 
-pub width_clean : (t : Text) → width_faults t (width t).0 ≡ [] → CleanCount (width t).0.count
+pub width_clean : (t : Text) → width_faults t (width t).0 ≡ [] → CleanWidth (width t).0
 width_clean [] e = (tt, tt)
 width_clean (c ∷ t) e =
     cond_both {A = WidthText × Text} (c == 48) _ _ (WidthClean (c ∷ t))
-    (λ z. zero_clean c t) (λ z h. width_of_count false (count (c ∷ t)).0 (c ∷ t) (count_clean (c ∷ t)) h) e
+    (λ z. zero_clean c t) (λ z h. count_clean (c ∷ t) h) e
 
 abbrev pub CleanPrecision : PrecisionText → Type 0
 CleanPrecision p = AllNamed (words_of_precision p) × AllSmall (numbers_of_precision p)

@@ -4,13 +4,14 @@ use Rattle.std.specs.Char.{is_ascii_digit}
 use Rattle.rustc_parse_format.specs.Characters.{Text, is_id_start, word, behind_white, begins_with}
 use Rattle.rustc_parse_format.specs.Pieces.{Mode, Format, InlineAsm, Diagnostic, DebugHex, Lower, Upper}
 use Rattle.rustc_parse_format.specs.Counts.{width, precision}
-use Rattle.rustc_parse_format.specs.Specification.{type, behind_hex, width_at, precision_at, type_at, format_parts, SpecText, FormatParts, specification, behind_colon}
-use Rattle.rustc_parse_format.specs.Placeholder.{PositionText, position, cut}
-use Rattle.rustc_parse_format.specs.Grammar.{IsClean, words_of_position, numbers_of_position, words_of_count, words_of_precision, words_of_type, words_of_spec, numbers_of_count, numbers_of_spec}
+use Rattle.rustc_parse_format.specs.Syntax.{SpecText, FormatParts, PositionText}
+use Rattle.rustc_parse_format.specs.Specification.{type, behind_hex, width_at, precision_at, type_at, format_parts, specification, behind_colon}
+use Rattle.rustc_parse_format.specs.Placeholder.{position, cut}
+use Rattle.rustc_parse_format.specs.Grammar.{IsClean, words_of_position, numbers_of_position, words_of_width, words_of_precision, words_of_type, words_of_spec, numbers_of_width, numbers_of_spec}
 use Rattle.rustc_parse_format.specs.PartFaults.{number_faults, position_faults, width_faults, precision_faults, type_faults, format_faults, spec_faults, cut_faults}
 use Rattle.rustc_parse_format.proofs.CleanWords.{none_left, none_right, none_both, IsNamed, IsSmall, AllNamed, AllSmall, All-append, All-left, All-right, named, small, unnamed, unlarge, choose, no_word, no_digits, digit_word, word_first, no_word_at_end, no_digits_at_end}
 use Rattle.rustc_parse_format.proofs.CleanCounts.{width_clean, precision_clean}
-use Rattle.rustc_parse_format.proofs.FaultlessCounts.{width_faultless, precision_faultless}
+use Rattle.rustc_parse_format.proofs.FaultlessCounts.{tried_named, width_faultless, precision_faultless}
 
 pub record CleanPosition (p : PositionText) : Type 0 where
   pub named : AllNamed (words_of_position p)
@@ -100,14 +101,14 @@ unfolding format_parts format_faults
 format_faultless t h =
     let w = width (width_at t) in
     let p = precision (precision_at t) in
-    let words = All-left IsNamed (words_of_count w.0.count ++ words_of_precision p.0) _ h.0 in
-    let typed = All-right IsNamed (words_of_count w.0.count ++ words_of_precision p.0) _ h.0 in
+    let words = All-left IsNamed (words_of_width w.0 ++ words_of_precision p.0) _ h.0 in
+    let typed = All-right IsNamed (words_of_width w.0 ++ words_of_precision p.0) _ h.0 in
     let stays : word (precision_at t) ≡ codes "_" → ⊥ =
     λ u. (underscore_stays (precision_at t) u).1 (rw (← (underscore_stays (precision_at t) u).0) typed) in
     none_both _ _
     (none_both _ _
-    (width_faultless (width_at t) (All-left IsNamed _ _ words, All-left IsSmall _ _ h.1) (λ z. stays))
-    (precision_faultless (precision_at t) (All-right IsNamed (words_of_count w.0.count) _ words, All-right IsSmall (numbers_of_count w.0.count) _ h.1)
+    (width_faultless (width_at t) (All-left IsNamed _ _ words, All-left IsSmall _ _ h.1) (tried_named w.0 (precision_at t) stays))
+    (precision_faultless (precision_at t) (All-right IsNamed (words_of_width w.0) _ words, All-right IsSmall (numbers_of_width w.0) _ h.1)
     (λ z u. (underscore_stays (type_at t) u).1 typed)))
     (type_faultless (type_at t) typed)
 
@@ -132,7 +133,7 @@ specification_faultless mode (c ∷ t) r h =
     choose {B = Text} (λ s. CleanSpec s → spec_faults (c ∷ t) s r ≡ []) (c == 58) _ _ (λ z. colon_faultless mode c t r) (λ z h. refl) h
 
 -- In a cut without a fault nothing is refused.
-pub cut_clean : (mode : Mode) (t : Text) → cut_faults (cut mode t) ≡ [] → IsClean (cut mode t)
+pub cut_clean : (mode : Mode) (t : Text) → cut_faults (cut mode t) ≡ [] → IsClean (cut mode t).field
 unfolding cut cut_faults
 cut_clean mode t e =
     let p = position_clean t (none_left _ _ e) in
@@ -140,7 +141,7 @@ cut_clean mode t e =
     record { named = All-append IsNamed _ _ p.named s.0; fits = All-append IsSmall _ _ p.small s.1 }
 
 -- A cut in which nothing is refused, and which a brace closes, has no fault.
-pub cut_faultless : (mode : Mode) (t : Text) → IsClean (cut mode t) → begins_with 125 (behind_white (cut mode t).rest) ≡ true →
+pub cut_faultless : (mode : Mode) (t : Text) → IsClean (cut mode t).field → begins_with 125 (behind_white (cut mode t).rest) ≡ true →
     cut_faults (cut mode t) ≡ []
 unfolding cut cut_faults
 cut_faultless mode t h k =

@@ -1,12 +1,13 @@
 -- Where nothing of a width or of a precision is refused, and no word `_` was tried for it, it has no fault.
-use Rattle.std.proofs.Common.{◌≡◌, ◌==◌, ℕ, Bool, true, false, [], ◌∷◌, refl, ap}
+use Rattle.std.proofs.Common.{◌≡◌, ◌==◌, ℕ, [], ◌∷◌, refl, ap}
 use Rattle.std.proofs.lemmas.Bool.{cond_both}
 use Rattle.std.specs.Char.{is_ascii_digit}
 use Rattle.rustc_parse_format.specs.Characters.{Text, is_id_start, word, behind_word, digits, behind_digits}
-use Rattle.rustc_parse_format.specs.Counts.{count_at, CountText, NumberCount, IndexCount, ZeroIndexCount, NameCount, NoCount, count, behind_number, behind_name, WidthText, width, behind_zero, PrecisionText, DotPrecision, precision, behind_dot}
+use Rattle.rustc_parse_format.specs.Syntax.{CountText, NoCount, WidthText, PaddedWidth, ZeroIndexWidth, PlainWidth, PrecisionText, DotPrecision}
+use Rattle.rustc_parse_format.specs.Counts.{count, behind_number, behind_name, width, behind_zero, precision, behind_dot}
 use Rattle.rustc_parse_format.specs.PartFaults.{count_faults, width_faults, precision_faults}
 use Rattle.rustc_parse_format.proofs.CleanWords.{none_both, IsNamed, IsSmall, unnamed, unlarge, choose, no_word, no_digits, digit_word, no_word_at_end, no_digits_at_end}
-use Rattle.rustc_parse_format.proofs.CleanCounts.{CleanCount, CleanPrecision}
+use Rattle.rustc_parse_format.proofs.CleanCounts.{CleanCount, CleanWidth, CleanPrecision}
 
 -- where there is no count, the word that was tried is not `_`
 abbrev pub IsTriedNamed : CountText → Text → Type 0
@@ -39,27 +40,31 @@ count_faultless (c ∷ t) h f =
     (λ i h f. none_both _ _ (no_digits c t d) (no_word c t i)))
     h f
 
-width_of_count : (z : Bool) (k : CountText) (t : Text) → count_faults (count_at z t) ≡ [] → width_faults t (record { zero_pad = z; count = k }) ≡ []
-width_of_count z ZeroIndexCount t e = refl
-width_of_count z (NumberCount ds) t e = e
-width_of_count z (IndexCount ds) t e = e
-width_of_count z (NameCount w) t e = e
-width_of_count z NoCount t e = e
+-- where a width has no count, the word that was tried is not `_`
+abbrev pub IsWidthTriedNamed : WidthText → Text → Type 0
+IsWidthTriedNamed (PaddedWidth k) r = IsTriedNamed k r
+IsWidthTriedNamed ZeroIndexWidth r = Unit {0}
+IsWidthTriedNamed (PlainWidth k) r = IsTriedNamed k r
+
+pub tried_named : (w : WidthText) (r : Text) → IsNamed (word r) → IsWidthTriedNamed w r
+tried_named (PaddedWidth k) r h = λ e. h
+tried_named ZeroIndexWidth r h = tt
+tried_named (PlainWidth k) r h = λ e. h
 
 abbrev FaultlessWidth : Text → WidthText × Text → Type 0
-FaultlessWidth t w = CleanCount w.0.count → IsTriedNamed w.0.count w.1 → width_faults t w.0 ≡ []
+FaultlessWidth t w = CleanWidth w.0 → IsWidthTriedNamed w.0 w.1 → width_faults t w.0 ≡ []
 
 zero_faultless : (c : ℕ) (t : Text) → FaultlessWidth (c ∷ t) (behind_zero t)
 zero_faultless c [] = λ h f. no_count_at_end
 zero_faultless c (d ∷ t) =
     cond_both {A = WidthText × Text} (d == 36) _ _ (FaultlessWidth (c ∷ d ∷ t))
-    (λ z h f. refl) (λ z h f. width_of_count true (count (d ∷ t)).0 (c ∷ d ∷ t) (count_faultless (d ∷ t) h f))
+    (λ z h f. refl) (λ z h f. count_faultless (d ∷ t) h f)
 
 pub width_faultless : (t : Text) → FaultlessWidth t (width t)
 width_faultless [] = λ h f. no_count_at_end
 width_faultless (c ∷ t) =
     cond_both {A = WidthText × Text} (c == 48) _ _ (FaultlessWidth (c ∷ t))
-    (λ z. zero_faultless c t) (λ z h f. width_of_count false (count (c ∷ t)).0 (c ∷ t) (count_faultless (c ∷ t) h f))
+    (λ z. zero_faultless c t) (λ z h f. count_faultless (c ∷ t) h f)
 
 abbrev FaultlessPrecision : Text → PrecisionText × Text → Type 0
 FaultlessPrecision t p = CleanPrecision p.0 → (p.0 ≡ DotPrecision NoCount → IsNamed (word p.1)) → precision_faults t p.0 ≡ []

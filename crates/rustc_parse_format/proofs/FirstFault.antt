@@ -1,16 +1,13 @@
 -- A walk with a fault reads its text up to a character from which on nothing begins it.
-use Rattle.std.proofs.Common.{◌≡◌, ◌≢◌, ℕ, suc, ◌<◌, ◌++◌, ◌⊎◌, false, List, [], ◌∷◌, take, drop, length, length-append, append_assoc, refl, sym, inl, inr, ◌∙◌, ap, arith, Some}
-use Rattle.rustc_parse_format.specs.Characters.{Text, behind_white}
+use Rattle.std.proofs.Common.{◌≡◌, ◌≢◌, ℕ, suc, ◌<◌, ◌++◌, ◌⊎◌, List, [], ◌∷◌, take, drop, length, length-append, append_assoc, refl, sym, inl, inr, ◌∙◌, ap, arith, Some}
+use Rattle.rustc_parse_format.specs.Characters.{Text}
 use Rattle.rustc_parse_format.specs.Marks.{Span}
-use Rattle.rustc_parse_format.specs.Pieces.{Mode, Argument, Piece, Lit, NextArgument, bare, bare_argument}
-use Rattle.rustc_parse_format.specs.Placeholder.{cut}
-use Rattle.rustc_parse_format.specs.Meaning.{argument, next_number}
-use Rattle.rustc_parse_format.specs.Grammar.{EndsRun, IsPlaceholder, Begins, Reads, StopsInside}
+use Rattle.rustc_parse_format.specs.Pieces.{Mode, Piece, Lit, NextArgument, bare}
+use Rattle.rustc_parse_format.specs.Syntax.{placeholder_part}
+use Rattle.rustc_parse_format.specs.Values.{argument_value, next_number}
+use Rattle.rustc_parse_format.specs.Grammar.{EndsRun, Begins, Reads, StopsInside}
 use Rattle.rustc_parse_format.specs.Step.{Call, call, IsWalk}
-use Rattle.rustc_parse_format.proofs.Rests.{IsRest-trans, cut_rest, behind_white_rest}
-use Rattle.rustc_parse_format.proofs.Kept.{closing}
-use Rattle.rustc_parse_format.proofs.KeptParts.{begins_aligned}
-use Rattle.rustc_parse_format.proofs.Locality.{cut_kept, SameCut-argument, SameCut-next_number, SameCut-IsClean}
+use Rattle.rustc_parse_format.proofs.Locality.{placeholder-local}
 use Rattle.rustc_parse_format.proofs.Calls.{begins_call}
 use Rattle.rustc_parse_format.proofs.Walks.{Faultless, bare_pieces, goes_on, call_same, ended}
 use Rattle.std.proofs.Math.Seq.{take-append_seam, drop-append_seam}
@@ -25,30 +22,6 @@ ends_front : (q z : Text) → EndsRun (q ++ z) → EndsRun q
 ends_front [] z e = tt
 ends_front (c ∷ q) z e = e
 
-as_aligned : (q z : Text) → begins_aligned (q ++ z) ≡ false → begins_aligned q ≡ false
-as_aligned [] z e = refl
-as_aligned (c ∷ q) z e = e
-
-placeholder_front : (mode : Mode) (c : ℕ) (t v q z : Text) (a : Argument (Unit {0})) (n : ℕ) (b : IsPlaceholder mode c t a (q ++ z) n) →
-    b.inside ≡ closing v (q ++ z) → BeginsFront mode c t (NextArgument a) q z n
-placeholder_front mode c t v q z a n b e =
-    let closes : behind_white (cut mode (closing v (q ++ z))).rest ≡ 125 ∷ q ++ z = ap (λ u. behind_white (cut mode u).rest) (sym e) ∙ b.closes in
-    let k = cut_kept mode v (q ++ z) q (as_aligned q z) closes in
-    let far = cut mode (closing v (q ++ z)) in
-    let near = cut mode (closing v q) in
-    record {
-      text = 123 ∷ closing v q;
-      whole = b.opens ∙ ap (λ u. 123 ∷ u) (e ∙ sym (append_assoc v (125 ∷ q) z));
-      begins = record {
-        inside = closing v q;
-        opens = refl;
-        closes = k.closes;
-        clean = SameCut-IsClean far near k.same (rw (← e) b.clean);
-        means = b.means ∙ (ap (λ u. bare_argument (argument c (cut mode u))) e ∙ SameCut-argument c far near k.same);
-        numbered = b.numbered ∙ (ap (λ u. next_number c (cut mode u)) e ∙ SameCut-next_number c far near k.same);
-      };
-    }
-
 begins_front : (mode : Mode) (c : ℕ) (t : Text) (p : Piece (Unit {0})) (q z : Text) (n : ℕ) → Begins mode c t p (q ++ z) n → BeginsFront mode c t p q z n
 begins_front mode c t (Lit l) q z n (inl a, e) = record {
   text = l ++ q;
@@ -61,8 +34,19 @@ begins_front mode c t (Lit l) q z n (inr a, e) = record {
   begins = (inr (record { brace = a.brace; run = a.run; is_one = a.is_one; twice = refl; literal = a.literal; unbraced = a.unbraced; ends = ends_front q z a.ends }), e);
 }
 begins_front mode c t (NextArgument a) q z n b =
-    let w = IsRest-trans (cut_rest mode b.inside) (behind_white_rest (cut mode b.inside).rest) in
-    placeholder_front mode c t w.front q z a n b (w.whole ∙ ap (λ u. w.front ++ u) b.closes)
+    let p = placeholder_part mode b.field b.space in
+    record {
+      text = p.spelling ++ q;
+      whole = b.written.whole ∙ sym (append_assoc p.spelling q z);
+      begins = record {
+        field = b.field;
+        space = b.space;
+        written = placeholder-local mode b.field b.space t q z b.written;
+        clean = b.clean;
+        means = b.means;
+        numbered = b.numbered;
+      };
+    }
 
 -- what begins the text at a number begins it at each, with another argument
 record BeginsAt (mode : Mode) (c : ℕ) (t : Text) : Type 0 where
@@ -74,10 +58,10 @@ record BeginsAt (mode : Mode) (c : ℕ) (t : Text) : Type 0 where
 begins_at : (mode : Mode) (c d : ℕ) (t : Text) (p : Piece (Unit {0})) (r : Text) (n : ℕ) → Begins mode c t p r n → BeginsAt mode d t
 begins_at mode c d t (Lit l) r n (a, e) = record { piece = Lit l; rest = r; next = d; begins = (a, refl) }
 begins_at mode c d t (NextArgument a) r n b = record {
-  piece = NextArgument (bare_argument (argument d (cut mode b.inside)));
+  piece = NextArgument (argument_value d b.field);
   rest = r;
-  next = next_number d (cut mode b.inside);
-  begins = record { inside = b.inside; opens = b.opens; closes = b.closes; clean = b.clean; means = refl; numbered = refl };
+  next = next_number d b.field;
+  begins = record { field = b.field; space = b.space; written = b.written; clean = b.clean; means = refl; numbered = refl };
 }
 
 -- The first pieces are the reading of a front of the text, and nothing begins the rest, which is not empty.

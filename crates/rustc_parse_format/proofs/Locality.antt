@@ -1,89 +1,179 @@
--- A cut that a brace closes reads the same with another text behind the brace, unless an aligning character there makes
--- the brace a fill.
-use Rattle.std.proofs.Common.{◌≡◌, ℕ, suc, ◌≤◌, false, [], ◌∷◌, length, length-append, refl, sym, ◌∙◌, ap, arith}
-use Rattle.rustc_parse_format.specs.Characters.{Text, behind_white, behind_first}
-use Rattle.rustc_parse_format.specs.Pieces.{Mode, bare_count, bare_spec, bare_argument}
-use Rattle.rustc_parse_format.specs.Counts.{count_at, CountText, NumberCount, IndexCount, ZeroIndexCount, NameCount, NoCount, PrecisionText, NoPrecision, StarPrecision, DotPrecision}
-use Rattle.rustc_parse_format.specs.Specification.{SpecText, Default, FormatParts, Modifier, DiagnosticText, width_at, precision_at, specification}
-use Rattle.rustc_parse_format.specs.Placeholder.{PositionText, position, Cut, cut}
-use Rattle.rustc_parse_format.specs.Meaning.{count_of, precision_of, format_of, spec_of, behind_spec, position_of, argument, next_number}
-use Rattle.rustc_parse_format.specs.Grammar.{IsClean}
-use Rattle.rustc_parse_format.proofs.Rests.{IsRest-le, behind_white_rest}
-use Rattle.rustc_parse_format.proofs.Kept.{closing, white_both}
-use Rattle.rustc_parse_format.proofs.KeptParts.{position_kept, begins_aligned, specification_kept}
+-- A placeholder is written the same where less stands behind its closing brace: no part looks past the brace, save a fill,
+-- which is taken no more often then.
+use Prim.Native.Char.{code}
+use Rattle.std.proofs.Common.{◌≡◌, ◌++◌, ℕ, Bool, true, false, not, [], ◌∷◌, List, refl, sym, ◌∙◌, ap, append_assoc, Option, Some, None, cond, codes}
+use Rattle.std.specs.Prelude.{◌==◌, ◌||◌, ◌&&◌}
+use Rattle.std.proofs.lemmas.Bool.{and_parts, and_from}
+use Rattle.unicode_ident.proofs.Computing.{unicode_ident}
+use Rattle.std.specs.Char.{is_ascii_digit, is_whitespace}
+use Rattle.rustc_parse_format.specs.Characters.{Text, is_align, is_no_brace, is_id_start, is_id_continue, behind, behind_word, behind_first, begins_with, starts}
+use Rattle.rustc_parse_format.specs.Pieces.{Mode, Format, InlineAsm, Diagnostic, Alignment, Left, Right, Center, Unknown, Sign, Plus, Minus, Lower, Upper}
+use Rattle.rustc_parse_format.specs.Spelling.{Part, IsPart, row, fixed, unless, absent, run, integer, identifier, optional_identifier}
+use Rattle.rustc_parse_format.specs.Syntax.{PositionText, Digits, Word, NoPosition, position_part, fill_part, align_part, is_sign, sign_part, alternate_part, CountText, NumberCount, IndexCount, NameCount, NoCount, begins_count, count_part, WidthText, PaddedWidth, ZeroIndexWidth, PlainWidth, width_part, PrecisionText, NoPrecision, StarPrecision, DotPrecision, precision_part, TypeText, DebugHexType, SignType, WordType, is_type_sign, type_part, Parts, format_part, SpecText, Default, FormatParts, Modifier, DiagnosticText, spec_part, FieldText, field_part, placeholder_part}
 
-pub record SameCut (a b : Cut) : Type 0 where
-  pub position : a.position ≡ b.position
-  pub spec : a.spec ≡ b.spec
+-- with z gone from behind the brace, what passed still passes
+abbrev IsLocal : (Text → Bool) → Type 0
+IsLocal f = (u q z : Text) → f (u ++ 125 ∷ (q ++ z)) ≡ true → f (u ++ 125 ∷ q) ≡ true
 
-nothing_more : (v r : Text) → closing v r ≡ 125 ∷ r → v ≡ []
-nothing_more [] r e = refl
-nothing_more (c ∷ v) r e = absurd (omega (arith, ap length e, length-append v (125 ∷ r)))
+-- what is behind the brace makes no difference
+abbrev IsBlind : (Text → Bool) → Type 0
+IsBlind f = (u r s : Text) → f (u ++ 125 ∷ r) ≡ f (u ++ 125 ∷ s)
 
-pub record StillCloses (mode : Mode) (v r s : Text) : Type 0 where
-  pub closes : behind_white (cut mode (closing v s)).rest ≡ 125 ∷ s
-  pub same : SameCut (cut mode (closing v r)) (cut mode (closing v s))
+blind : (f : Text → Bool) → IsBlind f → IsLocal f
+blind f h u q z e = h u q (q ++ z) ∙ e
 
-pub cut_kept : (mode : Mode) (v r s : Text) → (begins_aligned r ≡ false → begins_aligned s ≡ false) →
-    behind_white (cut mode (closing v r)).rest ≡ 125 ∷ r → StillCloses mode v r s
-unfolding cut
-cut_kept mode v r s b e =
-    let p = white_both (position_kept v r s) in
-    let far : behind_white (position (closing v r)).1 ≡ closing p.left r = ap (λ x. x.1) p.far in
-    let near : behind_white (position (closing v s)).1 ≡ closing p.left s = ap (λ x. x.1) p.near in
-    let ends : behind_white (specification mode (closing p.left r)).1 ≡ 125 ∷ r = ap (λ x. behind_white (specification mode x).1) (sym far) ∙ e in
-    let enough : suc (length r) ≤ length (specification mode (closing p.left r)).1 =
-    omega (arith, ap length ends, IsRest-le (behind_white_rest (specification mode (closing p.left r)).1)) in
-    let k = specification_kept mode p.left r s b enough in
-    let q = white_both k in
-    let last : q.left ≡ [] = nothing_more q.left r (sym (ap (λ x. x.1) q.far) ∙ ends) in
+blind_not : (f : Text → Bool) → IsBlind f → IsLocal (λ t. not (f t))
+blind_not f h u q z e = ap not (h u q (q ++ z)) ∙ e
+
+always : IsLocal (λ t. true)
+always u q z e = refl
+
+starts-blind : (p : ℕ → Bool) → IsBlind (starts p)
+starts-blind p [] r s = refl
+starts-blind p (c ∷ u) r s = refl
+
+begins-blind : (c : ℕ) → IsBlind (begins_with c)
+begins-blind c [] r s = refl
+begins-blind c (d ∷ u) r s = refl
+
+-- what is left behind a front that the brace ends
+abbrev IsLeft : (Text → Text) → Text → Type 0
+IsLeft f u = (left : Text) × ((r : Text) → f (u ++ 125 ∷ r) ≡ left ++ 125 ∷ r)
+
+behind-left : (p : ℕ → Bool) → p 125 ≡ false → (u : Text) → IsLeft (behind p) u
+behind-left p h [] = ([], λ r. rw h refl)
+behind-left p h (c ∷ u) =
+    elim (p c) as (λ b. (left : Text) × ((r : Text) → cond b (behind p (u ++ 125 ∷ r)) (c ∷ u ++ 125 ∷ r) ≡ left ++ 125 ∷ r)) [
+      | true ↦ behind-left p h u
+      | false ↦ (c ∷ u, λ r. refl)
+    ]
+
+word-left : (u : Text) → IsLeft behind_word u
+unfolding behind_word unicode_ident
+word-left [] = ([], λ r. refl)
+word-left (c ∷ u) =
+    elim (is_id_start c) as (λ b. (left : Text) × ((r : Text) → cond b (behind is_id_continue (u ++ 125 ∷ r)) (c ∷ u ++ 125 ∷ r) ≡ left ++ 125 ∷ r)) [
+      | true ↦ behind-left is_id_continue refl u
+      | false ↦ (c ∷ u, λ r. refl)
+    ]
+
+count-blind : IsBlind begins_count
+count-blind u r s =
+    let w = word-left u in
+    let name : begins_with (code "$") (behind_word (u ++ 125 ∷ r)) ≡ begins_with (code "$") (behind_word (u ++ 125 ∷ s)) =
+    ap (begins_with (code "$")) (w.1 r) ∙ (begins-blind (code "$") w.0 r s ∙ ap (begins_with (code "$")) (sym (w.1 s))) in
+    ap (λ b. b || (starts is_id_start (u ++ 125 ∷ r) && begins_with (code "$") (behind_word (u ++ 125 ∷ r)))) (starts-blind is_ascii_digit u r s)
+    ∙ (ap (λ b. starts is_ascii_digit (u ++ 125 ∷ s) || (b && begins_with (code "$") (behind_word (u ++ 125 ∷ r)))) (starts-blind is_id_start u r s)
+    ∙ ap (λ b. starts is_ascii_digit (u ++ 125 ∷ s) || (starts is_id_start (u ++ 125 ∷ s) && b)) name)
+
+abbrev PartIsLocal : Part → Type 0
+PartIsLocal p = IsLocal p.may_precede
+
+-- A row is local where its parts are.
+abbrev AreLocal : List Part → Type 0
+AreLocal [] = Unit {0}
+AreLocal (p ∷ ps) = PartIsLocal p × AreLocal ps
+
+row-local : (ps : List Part) → AreLocal ps → PartIsLocal (row ps)
+row-local [] h u q z e = refl
+row-local (p ∷ ps) h u q z e =
+    let both = and_parts _ _ e in
+    let w = (row ps).spelling in
+    let far = h.0 (w ++ u) q z (ap p.may_precede (append_assoc w u (125 ∷ (q ++ z))) ∙ both.0) in
+    and_from _ _ (ap p.may_precede (sym (append_assoc w u (125 ∷ q))) ∙ far) (row-local ps h.1 u q z both.1)
+
+two-local : (p q : Part) → PartIsLocal p → PartIsLocal q → PartIsLocal (row (p ∷ q ∷ []))
+two-local p q h k = row-local (p ∷ q ∷ []) (h, (k, tt))
+
+class_ends : (p : ℕ → Bool) → IsLocal (λ t. not (starts p t))
+class_ends p = blind_not (starts p) (starts-blind p)
+
+letter_ends : (c : ℕ) → IsLocal (λ t. not (begins_with c t))
+letter_ends c = blind_not (begins_with c) (begins-blind c)
+
+either-blind : (p q : ℕ → Bool) → IsBlind (λ t. starts p t || starts q t)
+either-blind p q [] r s = refl
+either-blind p q (c ∷ u) r s = refl
+
+position-local : (p : PositionText) → PartIsLocal (position_part p)
+position-local (Digits ds) = class_ends is_ascii_digit
+position-local (Word w) = class_ends is_id_continue
+position-local NoPosition = blind_not (λ t. starts is_ascii_digit t || starts is_id_start t) (either-blind is_ascii_digit is_id_start)
+
+fill-local : (f : Option ℕ) → PartIsLocal (fill_part f)
+fill-local (Some c) = blind (starts is_align) (starts-blind is_align)
+fill-local None = second
+  where
+    second : IsLocal (λ t. not (starts is_align (behind_first t)))
+    second [] [] z e = refl
+    second [] (d ∷ q) z e = e
+    second (c ∷ u) q z e = class_ends is_align u q z e
+
+align-local : (a : Alignment) → PartIsLocal (align_part a)
+align-local Left = always
+align-local Right = always
+align-local Center = always
+align-local Unknown = class_ends is_align
+
+sign-local : (g : Option Sign) → PartIsLocal (sign_part g)
+sign-local (Some Plus) = always
+sign-local (Some Minus) = always
+sign-local None = class_ends is_sign
+
+alternate-local : (b : Bool) → PartIsLocal (alternate_part b)
+alternate-local true = always
+alternate-local false = letter_ends (code "#")
+
+count-local : (k : CountText) → PartIsLocal (count_part k)
+count-local (NumberCount ds) = two-local (integer ds) (absent (begins_with (code "$"))) (class_ends is_ascii_digit) (letter_ends (code "$"))
+count-local (IndexCount ds) = two-local (integer ds) (fixed (codes "$")) (class_ends is_ascii_digit) always
+count-local (NameCount w) = two-local (identifier w) (fixed (codes "$")) (class_ends is_id_continue) always
+count-local NoCount = blind_not begins_count count-blind
+
+width-local : (w : WidthText) → PartIsLocal (width_part w)
+width-local (PaddedWidth k) = two-local (unless (codes "0") (begins_with (code "$"))) (count_part k) (letter_ends (code "$")) (count-local k)
+width-local ZeroIndexWidth = always
+width-local (PlainWidth k) = two-local (absent (begins_with (code "0"))) (count_part k) (letter_ends (code "0")) (count-local k)
+
+precision-local : (p : PrecisionText) → PartIsLocal (precision_part p)
+precision-local NoPrecision = letter_ends (code ".")
+precision-local StarPrecision = always
+precision-local (DotPrecision k) = two-local (unless (codes ".") (begins_with (code "*"))) (count_part k) (letter_ends (code "*")) (count-local k)
+
+word-local : (w : Text) → PartIsLocal (optional_identifier w)
+word-local [] = class_ends is_id_start
+word-local (c ∷ w) = class_ends is_id_continue
+
+type-local : (y : TypeText) → PartIsLocal (type_part y)
+type-local (DebugHexType Lower) = always
+type-local (DebugHexType Upper) = always
+type-local (SignType c) = λ u q z e. ap (λ b. (c == code "?") || not b) (begins-blind (code "?") u q (q ++ z)) ∙ e
+type-local (WordType w) = two-local (absent (starts is_type_sign)) (optional_identifier w) (class_ends is_type_sign) (word-local w)
+
+format-local : (p : Parts) → PartIsLocal (format_part p)
+format-local p =
+    row-local (fill_part p.fill ∷ align_part p.align ∷ sign_part p.sign ∷ alternate_part p.alternate ∷ width_part p.width ∷ precision_part p.precision ∷ type_part p.type ∷ [])
+    (fill-local p.fill, (align-local p.align, (sign-local p.sign, (alternate-local p.alternate, (width-local p.width, (precision-local p.precision, (type-local p.type, tt)))))))
+
+spec-local : (mode : Mode) (s : SpecText) → PartIsLocal (spec_part mode s)
+spec-local mode Default = letter_ends (code ":")
+spec-local Format (FormatParts p) = two-local (fixed (codes ":")) (format_part p) always (format-local p)
+spec-local InlineAsm (Modifier w) = two-local (fixed (codes ":")) (optional_identifier w) always (word-local w)
+spec-local Diagnostic (DiagnosticText u) = two-local (fixed (codes ":")) (run is_no_brace u) always (class_ends is_no_brace)
+spec-local mode s = always
+
+field-local : (mode : Mode) (a : FieldText) → PartIsLocal (field_part mode a)
+field-local mode a =
+    row-local (position_part a.position ∷ run is_whitespace a.space ∷ spec_part mode a.spec ∷ []) (position-local a.position, (class_ends is_whitespace, (spec-local mode a.spec, tt)))
+
+-- So a placeholder in front of q and z stands in front of q alone.
+pub placeholder-local : (mode : Mode) (a : FieldText) (w t q z : Text) → IsPart t (placeholder_part mode a w) (q ++ z) →
+    IsPart ((placeholder_part mode a w).spelling ++ q) (placeholder_part mode a w) q
+placeholder-local mode a w t q z h =
+    let behind_field : (field_part mode a).may_precede (w ++ 125 ∷ [] ++ (q ++ z)) ≡ true = (and_parts _ _ (and_parts true _ h.ends).1).0 in
+    let far = field-local mode a w q z (ap (field_part mode a).may_precede (sym (append_assoc w (125 ∷ []) (q ++ z))) ∙ behind_field) in
     record {
-      closes = ap (λ x. behind_white (specification mode x).1) near ∙ (ap (λ x. x.1) q.near ∙ ap (λ x. closing x s) last);
-      same = record {
-        position = ap (λ x. x.0) p.far ∙ sym (ap (λ x. x.0) p.near);
-        spec = (ap (λ x. (specification mode x).0) far ∙ ap (λ x. x.0) k.far) ∙ sym (ap (λ x. (specification mode x).0) near ∙ ap (λ x. x.0) k.near);
-      };
+      whole = refl;
+      formed = h.formed;
+      ends = and_from ((field_part mode a).may_precede (w ++ 125 ∷ [] ++ q)) true (ap (field_part mode a).may_precede (append_assoc w (125 ∷ []) q) ∙ far) refl;
     }
-
--- What is bare of an argument, what is refused and the next number do not depend on where the parts begin.
-count_bare : (t u : Text) (k : CountText) → bare_count (count_of t k) ≡ bare_count (count_of u k)
-count_bare t u (NumberCount ds) = refl
-count_bare t u (IndexCount ds) = refl
-count_bare t u ZeroIndexCount = refl
-count_bare t u (NameCount w) = refl
-count_bare t u NoCount = refl
-
-precision_bare : (c : ℕ) (t u : Text) (p : PrecisionText) → bare_count (precision_of c t p) ≡ bare_count (precision_of c u p)
-precision_bare c t u NoPrecision = refl
-precision_bare c t u StarPrecision = refl
-precision_bare c t u (DotPrecision k) = count_bare _ _ k
-
-spec_bare : (c : ℕ) (t u r s : Text) (k : SpecText) → bare_spec (spec_of c t k r) ≡ bare_spec (spec_of c u k s)
-unfolding format_of
-spec_bare c t u r s Default = refl
-spec_bare c t u r s (FormatParts p) =
-    let z = p.width.zero_pad in
-    rw (
-      count_bare (count_at z (width_at (behind_first t))) (count_at z (width_at (behind_first u))) p.width.count,
-      precision_bare c (precision_at (behind_first t)) (precision_at (behind_first u)) p.precision,
-    ) refl
-spec_bare c t u r s (Modifier w) = refl
-spec_bare c t u r s (DiagnosticText w) = refl
-
-argument_bare : (c : ℕ) (p : PositionText) (k : SpecText) (t u v w x y : Text) →
-    bare_argument (argument c (record { position_at = t; position = p; spec_at = u; spec = k; rest = v })) ≡
-    bare_argument (argument c (record { position_at = w; position = p; spec_at = x; spec = k; rest = y }))
-unfolding argument
-argument_bare c p k t u v w x y = ap (λ f. record { position = position_of (behind_spec c k) p; position_span = tt; format = f }) (spec_bare c u x v y k)
-
-pub SameCut-argument : (c : ℕ) (a b : Cut) → SameCut a b → bare_argument (argument c a) ≡ bare_argument (argument c b)
-SameCut-argument c a b h = ap (λ p. bare_argument (argument c (record a { position = p }))) h.position ∙
-    (ap (λ k. bare_argument (argument c (record a { position = b.position; spec = k }))) h.spec ∙
-    argument_bare c b.position b.spec a.position_at a.spec_at a.rest b.position_at b.spec_at b.rest)
-
-pub SameCut-next_number : (c : ℕ) (a b : Cut) → SameCut a b → next_number c a ≡ next_number c b
-unfolding next_number
-SameCut-next_number c a b h = rw (h.position, h.spec) refl
-
-pub SameCut-IsClean : (a b : Cut) → SameCut a b → IsClean a → IsClean b
-SameCut-IsClean a b h k = record { named = rw (← h.position, ← h.spec) k.named; fits = rw (← h.position, ← h.spec) k.fits }

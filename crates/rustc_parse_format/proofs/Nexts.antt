@@ -1,13 +1,21 @@
 -- What a call says of the grammar: the piece that begins the rest, a fault where nothing does, and the end.
-use Rattle.std.proofs.Common.{◌≡◌, ◌≢◌, ◌<◌, ℕ, List, [], length, Option, Some, None, IsNone, refl, ap, ◌∙◌}
+use Rattle.std.proofs.Common.{◌≡◌, ◌≢◌, ◌<◌, ℕ, List, [], length, Option, Some, None, IsNone, ◌∷◌, false, refl, ap, ◌∙◌, codes}
 use Rattle.std.specs.Prelude.{Result, Ok, Err, IfOk, OnOk, option_map}
-use Rattle.rustc_parse_format.specs.Characters.{Text}
+use Rattle.rustc_parse_format.specs.Characters.{Text, begins_with}
 use Rattle.rustc_parse_format.specs.Grammar.{Begins}
-use Rattle.rustc_parse_format.specs.Pieces.{Mode, Piece, bare}
+use Rattle.rustc_parse_format.specs.Pieces.{Mode, Piece, NextArgument, bare}
 use Rattle.rustc_parse_format.specs.Faults.{Message}
 use Rattle.rustc_parse_format.specs.Step.{call}
 use Rattle.rustc_parse_format.specs.State.{State, GivesPiece, after, next_call}
 use Rattle.rustc_parse_format.specs.World.{World, Place, piece_in}
+use Rattle.std.proofs.lemmas.Bool.{not-true}
+use Rattle.rustc_parse_format.specs.Spelling.{IsPart, unless}
+use Rattle.rustc_parse_format.specs.Syntax.{FieldText, field_part, opened_part}
+use Rattle.rustc_parse_format.specs.Placeholder.{cut, placed}
+use Rattle.rustc_parse_format.specs.Meaning.{argument}
+use Rattle.rustc_parse_format.proofs.PartLaws.{two-split}
+use Rattle.rustc_parse_format.proofs.PartCuts.{cut-placed}
+use Rattle.rustc_parse_format.proofs.Placeholders.{placeholder-piece}
 use Rattle.rustc_parse_format.proofs.BarePieces.{bare-piece_in}
 use Rattle.rustc_parse_format.proofs.Calls.{begins_call, call_faults}
 use Rattle.rustc_parse_format.proofs.StateWalks.{after-same, after-more}
@@ -20,6 +28,19 @@ if_ok (Err e) p x f = tt
 pub on_ok : {A E X Y : Type 0} (r : Result A E) → OnOk r X → (X → Y) → OnOk r Y
 on_ok (Ok a) x f = f x
 on_ok (Err e) x f = tt
+
+opened_call : (mode : Mode) (c : ℕ) (t : Text) → begins_with 123 t ≡ false → (call mode c (123 ∷ t)).piece ≡ Some (NextArgument (argument c (cut mode t)))
+unfolding call
+opened_call mode c t e = rw e (placeholder-piece mode c (123 ∷ t) t)
+
+-- behind a single brace the piece is the argument of the cut
+pub cut_given : (s : State) (a : FieldText) (r : Text) → IsPart s.rest (opened_part s.mode a) r →
+    option_map (piece_in s.world) (next_call s).piece ≡ Some (piece_in s.world (NextArgument (argument s.next (placed s.mode a r))))
+cut_given s a r h =
+    let o = two-split s.rest (unless (codes "{") (begins_with 123)) (field_part s.mode a) r h in
+    ap (λ t. option_map (piece_in s.world) (call s.mode s.next t).piece) o.first.whole
+    ∙ ap (option_map (piece_in s.world)) (opened_call s.mode s.next o.seam (not-true _ o.first.ends)
+    ∙ ap (λ x. Some (NextArgument (argument s.next x))) (cut-placed s.mode o.seam a r o.second))
 
 pub next_reads : (s new : State) (o : Option (Piece Place)) (q : Piece (Unit {0})) (r : Text) (n : ℕ) → o ≡ option_map (piece_in s.world) (next_call s).piece →
     new ≡ after s (next_call s) → Begins s.mode s.next s.rest q r n → GivesPiece o q r n s new

@@ -3,10 +3,11 @@ use Rattle.std.proofs.Common.{ℕ, ◌+◌, ◌≤◌, ◌==◌, [], ◌∷◌, 
 use Rattle.std.proofs.lemmas.Bool.{cond_both}
 use Rattle.rustc_parse_format.specs.Characters.{Text, behind_white}
 use Rattle.rustc_parse_format.specs.Pieces.{Mode, Format, InlineAsm, Diagnostic}
-use Rattle.rustc_parse_format.specs.Counts.{PrecisionText, precision, behind_dot}
-use Rattle.rustc_parse_format.specs.Specification.{SpecText, align_at, precision_at, type_at, format_parts, specification, behind_colon}
-use Rattle.rustc_parse_format.specs.Placeholder.{PositionText, Digits, Word, NoPosition, position, cut}
-use Rattle.rustc_parse_format.specs.Meaning.{behind_precision, behind_spec, behind_position, next_number}
+use Rattle.rustc_parse_format.specs.Syntax.{PrecisionText, SpecText, PositionText, Digits, Word, NoPosition}
+use Rattle.rustc_parse_format.specs.Counts.{precision, behind_dot}
+use Rattle.rustc_parse_format.specs.Specification.{align_at, precision_at, type_at, format_parts, specification, behind_colon}
+use Rattle.rustc_parse_format.specs.Placeholder.{position, cut}
+use Rattle.rustc_parse_format.specs.Values.{behind_precision, behind_spec, behind_position, next_number}
 use Rattle.rustc_parse_format.proofs.Rests.{IsRest-le, position_rest, behind_white_rest, count_rest, align_at_rest, precision_from_align, type_rest, specification_rest}
 
 dot_number : (c : ℕ) (t : Text) → behind_precision c (behind_dot t).0 + length (behind_dot t).1 ≤ c + 1 + length t
@@ -44,7 +45,7 @@ behind_position-le c (Word w) = omega arith
 behind_position-le c NoPosition = omega arith
 
 -- with the opening brace, which stands in front of t
-pub next_number-le : (mode : Mode) (c : ℕ) (t : Text) → next_number c (cut mode t) + length (cut mode t).rest ≤ c + 1 + length t
+pub next_number-le : (mode : Mode) (c : ℕ) (t : Text) → next_number c (cut mode t).field + length (cut mode t).rest ≤ c + 1 + length t
 unfolding cut next_number
 next_number-le mode c t =
     let u = behind_white (position t).1 in

@@ -7,7 +7,8 @@ use Rattle.rustc_parse_format.specs.Characters.{Text, behind_white, behind_brace
 use Rattle.rustc_parse_format.specs.Marks.{Span, up_to, over_first}
 use Rattle.rustc_parse_format.specs.Pieces.{Mode, Spec, NextArgument, map_spec}
 use Rattle.rustc_parse_format.specs.Placeholder.{cut}
-use Rattle.rustc_parse_format.specs.Meaning.{argument, next_number}
+use Rattle.rustc_parse_format.specs.Values.{next_number}
+use Rattle.rustc_parse_format.specs.Meaning.{argument}
 use Rattle.rustc_parse_format.specs.Faults.{Fault, map_fault, brace_fill, no_brace}
 use Rattle.rustc_parse_format.specs.PartFaults.{cut_faults}
 use Rattle.rustc_parse_format.specs.Step.{Call, IsText, TakesNoMemory, call, placeholder, missing_brace}
@@ -21,9 +22,9 @@ pub placeholder-piece : (mode : Mode) (c : ℕ) (o t : Text) → (placeholder mo
 unfolding placeholder
 placeholder-piece mode c o t = cond_both {A = Call} (begins_with 125 (ending mode t)) _ _ (λ k. k.piece ≡ Some (NextArgument (argument c (cut mode t)))) (λ e. refl) (λ e. refl)
 
-pub placeholder-next : (mode : Mode) (c : ℕ) (o t : Text) → (placeholder mode c o t).next ≡ next_number c (cut mode t)
+pub placeholder-next : (mode : Mode) (c : ℕ) (o t : Text) → (placeholder mode c o t).next ≡ next_number c (cut mode t).field
 unfolding placeholder
-placeholder-next mode c o t = cond_both {A = Call} (begins_with 125 (ending mode t)) _ _ (λ k. k.next ≡ next_number c (cut mode t)) (λ e. refl) (λ e. refl)
+placeholder-next mode c o t = cond_both {A = Call} (begins_with 125 (ending mode t)) _ _ (λ k. k.next ≡ next_number c (cut mode t).field) (λ e. refl) (λ e. refl)
 
 same_rest : (b : Bool) (x y : Call) → (cond b x y).rest ≡ cond b x.rest y.rest
 same_rest true x y = refl

@@ -2,9 +2,10 @@
 use Rattle.std.proofs.Common.{◌≡◌, ◌≢◌, ℕ, ◌++◌, true, false, List, [], ◌∷◌, refl, sym, ◌∙◌, ap, inl, inr, arith, IsTrue, IsFalse}
 use Rattle.unicode_ident.proofs.Computing.{unicode_ident}
 use Rattle.rustc_parse_format.specs.Characters.{Text, is_brace, word, behind_word, digits, behind_digits, behind_white}
-use Rattle.rustc_parse_format.specs.Pieces.{Mode, Argument, Piece, Lit, NextArgument, bare_argument}
+use Rattle.rustc_parse_format.specs.Pieces.{Mode, Argument, Piece, Lit, NextArgument}
 use Rattle.rustc_parse_format.specs.Placeholder.{cut}
-use Rattle.rustc_parse_format.specs.Meaning.{argument, next_number}
+use Rattle.rustc_parse_format.specs.Values.{argument_value, next_number}
+use Rattle.rustc_parse_format.proofs.PlaceholderCuts.{by_cut}
 use Rattle.rustc_parse_format.specs.Grammar.{HasNoBrace, EndsRun, IsRun, IsDoubled, IsPlaceholder, Begins, Reads}
 
 first : Text → ℕ
@@ -41,7 +42,8 @@ run_not_doubled t (c ∷ l) r k s run some twice =
 run_no_placeholder : (mode : Mode) (c n : ℕ) (t l r s : Text) (a : Argument (Unit {0})) → IsRun t l r → l ≢ [] → IsPlaceholder mode c t a s n → ⊥
 run_no_placeholder mode c n t [] r s a run some place = some refl
 run_no_placeholder mode c n t (d ∷ l) r s a run some place =
-    let h : d ≡ 123 = cc (run.whole, place.opens) in clash d 123 h run.unbraced.0 refl
+    let k = by_cut place in
+    let h : d ≡ 123 = cc (run.whole, k.opens) in clash d 123 h run.unbraced.0 refl
 
 pub differ : (s u : Text) → 125 ∷ s ≡ 123 ∷ u → ⊥
 unfolding first
@@ -49,10 +51,11 @@ differ s u e = let h : ◌≡◌ {A = ℕ} 125 123 = ap first e in omega arith
 
 doubled_no_placeholder : (mode : Mode) (c n : ℕ) (t l r s : Text) (a : Argument (Unit {0})) → IsDoubled t l r → IsPlaceholder mode c t a s n → ⊥
 doubled_no_placeholder mode c n t l r s a twice place =
-    let h : twice.brace ≡ 123 = cc (twice.twice, place.opens) in
-    let i : place.inside ≡ 123 ∷ twice.run ++ r = cc (twice.twice, place.opens) in
-    let e : behind_white (cut mode place.inside).rest ≡ 123 ∷ twice.run ++ r = ap (λ u. behind_white (cut mode u).rest) i ∙ brace_stays mode (twice.run ++ r) in
-    differ s (twice.run ++ r) (sym place.closes ∙ e)
+    let k = by_cut place in
+    let h : twice.brace ≡ 123 = cc (twice.twice, k.opens) in
+    let i : k.inside ≡ 123 ∷ twice.run ++ r = cc (twice.twice, k.opens) in
+    let e : behind_white (cut mode k.inside).rest ≡ 123 ∷ twice.run ++ r = ap (λ u. behind_white (cut mode u).rest) i ∙ brace_stays mode (twice.run ++ r) in
+    differ s (twice.run ++ r) (sym k.closes ∙ e)
 
 pub record SameStep (p q : Piece (Unit {0})) (r s : Text) (n m : ℕ) : Type 0 where
   pub piece : p ≡ q
@@ -77,16 +80,18 @@ Begins-unique mode c t (Lit l) (NextArgument b) r s n m (inr x, e) y = absurd (d
 Begins-unique mode c t (NextArgument a) (Lit l) r s n m y (inl x, e) = absurd (run_no_placeholder mode c n t l s r a x.0 x.1 y)
 Begins-unique mode c t (NextArgument a) (Lit l) r s n m y (inr x, e) = absurd (doubled_no_placeholder mode c n t l s r a x y)
 Begins-unique mode c t (NextArgument a) (NextArgument b) r s n m x y =
-    let same : x.inside ≡ y.inside = cc (x.opens, y.opens) in
-    let rest : 125 ∷ r ≡ 125 ∷ s = sym x.closes ∙ (ap (λ u. behind_white (cut mode u).rest) same ∙ y.closes) in
-    let means : a ≡ b = x.means ∙ (ap (λ u. bare_argument (argument c (cut mode u))) same ∙ sym y.means) in
-    record { piece = ap NextArgument means; rest = cc rest; next = x.numbered ∙ (ap (λ u. next_number c (cut mode u)) same ∙ sym y.numbered) }
+    let k = by_cut x in
+    let j = by_cut y in
+    let same : k.inside ≡ j.inside = cc (k.opens, j.opens) in
+    let rest : 125 ∷ r ≡ 125 ∷ s = sym k.closes ∙ (ap (λ u. behind_white (cut mode u).rest) same ∙ j.closes) in
+    let means : a ≡ b = k.means ∙ (ap (λ u. argument_value c (cut mode u).field) same ∙ sym j.means) in
+    record { piece = ap NextArgument means; rest = cc rest; next = k.numbered ∙ (ap (λ u. next_number c (cut mode u).field) same ∙ sym j.numbered) }
 
 pub Begins-some : (mode : Mode) (c : ℕ) (t : Text) (p : Piece (Unit {0})) (r : Text) (n : ℕ) → Begins mode c t p r n → t ≡ [] → ⊥
 Begins-some mode c t (Lit []) r n (inl a, e) h = a.1 refl
 Begins-some mode c t (Lit (d ∷ l)) r n (inl a, e) h = cc (a.0.whole, h)
 Begins-some mode c t (Lit l) r n (inr a, e) h = cc (a.twice, h)
-Begins-some mode c t (NextArgument a) r n b h = cc (b.opens, h)
+Begins-some mode c t (NextArgument a) r n b h = let k = by_cut b in cc (k.opens, h)
 
 ap2 : {A : Type 0} {p q : A} {ps qs : List A} → p ≡ q → ps ≡ qs → p ∷ ps ≡ q ∷ qs
 ap2 e f = cc

@@ -3,6 +3,7 @@ use Rattle.std.proofs.Common.{◌≡◌, ℕ, ◌≤◌, ◌++◌, ◌==◌, Boo
 use Rattle.std.specs.Char.{is_ascii_digit}
 use Rattle.rustc_parse_format.specs.Characters.{Text, is_align, is_no_brace, is_id_start, is_id_continue, behind, word, behind_word, digits, behind_digits, behind_white, behind_first}
 use Rattle.rustc_parse_format.specs.Pieces.{Mode, Format, InlineAsm, Diagnostic, DebugHex, Lower, Upper}
+use Rattle.rustc_parse_format.specs.Syntax.{PaddedWidth, PlainWidth}
 use Rattle.rustc_parse_format.specs.Counts.{count, behind_number, behind_name, width, counted, behind_zero, precision, behind_dot}
 use Rattle.rustc_parse_format.specs.Specification.{fill, align, sign, alternate, type, behind_hex, align_at, sign_at, alternate_at, width_at, precision_at, type_at, format_parts, specification, behind_colon}
 use Rattle.rustc_parse_format.specs.Placeholder.{position, cut}
@@ -74,11 +75,11 @@ count_rest (c ∷ t) =
 
 zero_rest : (t : Text) → IsRest t (behind_zero t).1
 zero_rest [] = IsRest-self []
-zero_rest (c ∷ t) = picked (c == 36) (_, t) (counted true (c ∷ t)) (c ∷ t) (IsRest-cons c (IsRest-self t)) (count_rest (c ∷ t))
+zero_rest (c ∷ t) = picked (c == 36) (_, t) (counted PaddedWidth (c ∷ t)) (c ∷ t) (IsRest-cons c (IsRest-self t)) (count_rest (c ∷ t))
 
 width_rest : (t : Text) → IsRest t (width t).1
 width_rest [] = IsRest-self []
-width_rest (c ∷ t) = picked (c == 48) _ (counted false (c ∷ t)) (c ∷ t) (IsRest-cons c (zero_rest t)) (count_rest (c ∷ t))
+width_rest (c ∷ t) = picked (c == 48) _ (counted PlainWidth (c ∷ t)) (c ∷ t) (IsRest-cons c (zero_rest t)) (count_rest (c ∷ t))
 
 dot_rest : (t : Text) → IsRest t (behind_dot t).1
 dot_rest [] = IsRest-self []

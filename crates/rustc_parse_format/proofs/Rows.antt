@@ -3,9 +3,11 @@ use Rattle.std.proofs.Common.{◌≡◌, ℕ, List, [], ◌∷◌, refl, inl, So
 use Rattle.unicode_ident.proofs.Computing.{unicode_ident}
 use Rattle.rustc_parse_format.specs.Characters.{Text, word, behind_word, digits, behind_digits, behind_white}
 use Rattle.rustc_parse_format.specs.Pieces.{Format, Position, Implicit, Index, Named, Piece, Lit, NextArgument, default_spec}
+use Rattle.rustc_parse_format.specs.Syntax.{Default, NoPosition}
 use Rattle.rustc_parse_format.specs.Specification.{format_parts}
 use Rattle.rustc_parse_format.specs.Placeholder.{cut}
-use Rattle.rustc_parse_format.specs.Meaning.{format_of, argument, next_number}
+use Rattle.rustc_parse_format.specs.Values.{next_number}
+use Rattle.rustc_parse_format.specs.Meaning.{format_of, argument}
 use Rattle.rustc_parse_format.specs.Grammar.{Reads}
 use Rattle.rustc_parse_format.specs.Written.{written}
 use Rattle.rustc_parse_format.specs.Faults.{Fault, message}
@@ -93,4 +95,4 @@ text_and_placeholder-have_this_reading :
     Reads Format 0 (codes "a{}") (Lit (codes "a") ∷ NextArgument (record { position = Implicit 0; position_span = tt; format = default_spec }) ∷ [])
 unfolding computing
 text_and_placeholder-have_this_reading =
-    (codes "{}", 0, (inl (record { whole = refl; unbraced = (refl, tt); ends = refl }, λ e. cc), refl), ([], 1, record { inside = codes "}"; opens = refl; closes = refl; clean = record { named = tt; fits = tt }; means = refl; numbered = refl }, refl))
+    (codes "{}", 0, (inl (record { whole = refl; unbraced = (refl, tt); ends = refl }, λ e. cc), refl), ([], 1, record { field = record { position = NoPosition; space = []; spec = Default }; space = []; written = record { whole = refl; formed = refl; ends = refl }; clean = record { named = tt; fits = tt }; means = refl; numbered = refl }, refl))

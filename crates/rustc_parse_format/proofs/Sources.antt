@@ -1,12 +1,12 @@
 -- The test of a source literal decides what one is.
-use Rattle.std.proofs.Common.{◌≡◌, ◌++◌, ◌-◌, ◌+◌, ◌&&◌, ℕ, Bool, true, false, cond, List, [], ◌∷◌, length, take, drop, Option, Some, None, IsTrue, refl, sym, ap, subst, ◌∙◌, arith, length-append, ◌↔◌}
-use Rattle.std.specs.Prelude.{bytes_eq, if◌then◌else◌}
+use Rattle.std.proofs.Common.{◌≡◌, ◌++◌, ◌-◌, ◌&&◌, ℕ, Bool, true, false, List, [], ◌∷◌, length, take, Option, Some, None, IsTrue, refl, sym, ap, ◌∙◌, arith, length-append, ◌↔◌}
+use Rattle.std.specs.Prelude.{bytes_eq}
 use Rattle.std.proofs.lemmas.Slice.Eq.{bytes_eq-Decides}
 use Rattle.std.proofs.Math.Seq.{take-append_seam}
 use Rattle.std.proofs.lemmas.List.{append-nil}
 use Rattle.rustc_parse_format.specs.Characters.{Text}
 use Rattle.rustc_parse_format.specs.LiteralUnits.{LiteralUnit}
-use Rattle.rustc_parse_format.specs.Literal.{IsContent, IsLiteral, IsSource, units, content_value, quoted, raw_frame, newline}
+use Rattle.rustc_parse_format.specs.Literal.{IsLiteral, IsSource, units, content_value, quoted, raw_frame, newline}
 use Rattle.rustc_parse_format.specs.Source.{unappended, between, stand_for, is_literal_of, is_source, HasSource}
 use Rattle.rustc_parse_format.proofs.LiteralContents.{units-content, units-complete}
 

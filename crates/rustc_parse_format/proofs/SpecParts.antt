@@ -5,9 +5,10 @@ use Rattle.std.proofs.lemmas.Bool.{eqb-true}
 use Rattle.std.proofs.lemmas.Str.{chars-IsAscii}
 use Rattle.rustc_parse_format.specs.Characters.{Text, begins_with, behind_first, word, behind_word}
 use Rattle.rustc_parse_format.specs.Pieces.{DebugHex, Lower, Upper}
-use Rattle.rustc_parse_format.specs.Counts.{NoPrecision, StarPrecision, DotPrecision, count, counted, width, precision}
-use Rattle.rustc_parse_format.specs.Meaning.{type_of}
-use Rattle.rustc_parse_format.specs.Specification.{TypeText, DebugHexType, SignType, WordType, behind_hex, type}
+use Rattle.rustc_parse_format.specs.Syntax.{PaddedWidth, PlainWidth, NoPrecision, StarPrecision, DotPrecision, TypeText, DebugHexType, SignType, WordType}
+use Rattle.rustc_parse_format.specs.Counts.{count, counted, width, precision}
+use Rattle.rustc_parse_format.specs.Values.{type_of}
+use Rattle.rustc_parse_format.specs.Specification.{behind_hex, type}
 
 pub type_lower : (t : Text) → begins_with 120 t ≡ true → type t ≡ behind_hex Lower 120 (behind_first t)
 type_lower [] h = cc h
@@ -47,11 +48,11 @@ question_text t w h e = rw (type_question t h) (ap chars e ∙ chars-IsAscii (co
 
 pub ruleset types_at_front = (lower_text, upper_text, question_text, type_word)
 
-pub width_elsewhere : (t : Text) → begins_with 48 t ≡ false → width t ≡ counted false t
+pub width_elsewhere : (t : Text) → begins_with 48 t ≡ false → width t ≡ counted PlainWidth t
 width_elsewhere [] h = refl
 width_elsewhere (c ∷ t) h = rw h refl
 
-pub width_zero : (t : Text) → begins_with 48 t ≡ true → begins_with 36 (behind_first t) ≡ false → width t ≡ counted true (behind_first t)
+pub width_zero : (t : Text) → begins_with 48 t ≡ true → begins_with 36 (behind_first t) ≡ false → width t ≡ counted PaddedWidth (behind_first t)
 width_zero [] h k = cc h
 width_zero (c ∷ []) h k = rw h refl
 width_zero (c ∷ d ∷ t) h k = rw (h, k) refl

@@ -1,4 +1,5 @@
 -- A text is the list of its characters. Classes of characters, and the longest front of a text whose characters pass.
+use Prim.Native.Char.{code}
 use Rattle.std.specs.Prelude.{ℕ, ◌%◌, Bool, false, not, ◌||◌, ◌==◌, if◌then◌else◌, nat_lt, List, [], ◌∷◌, Option, Some, None, sum_by}
 use Rattle.std.specs.Char.{is_whitespace, is_ascii_digit, len_utf8}
 use Rattle.std.specs.Str.Parse.{digits_value}
@@ -9,7 +10,7 @@ Text = List ℕ
 
 -- what may begin a word: `_` or XID_Start
 abbrev pub is_id_start : ℕ → Bool
-is_id_start c = (c == 95) || is_xid_start c
+is_id_start c = (c == code "_") || is_xid_start c
 
 -- what may go on with one: XID_Continue, which holds `_`
 abbrev pub is_id_continue : ℕ → Bool
@@ -17,14 +18,14 @@ is_id_continue c = is_xid_continue c
 
 -- `{` or `}`
 abbrev pub is_brace : ℕ → Bool
-is_brace c = (c == 123) || (c == 125)
+is_brace c = (c == code "{") || (c == code "}")
 
 abbrev pub is_no_brace : ℕ → Bool
 is_no_brace c = not (is_brace c)
 
 -- `<`, `>` or `^`
 abbrev pub is_align : ℕ → Bool
-is_align c = (c == 60) || (c == 62) || (c == 94)
+is_align c = (c == code "<") || (c == code ">") || (c == code "^")
 
 -- the longest front whose characters all pass
 abbrev pub front : (ℕ → Bool) → Text → Text
@@ -81,7 +82,7 @@ starts p (c ∷ t) = p c
 
 -- what is behind a closing brace, if the text begins with one
 abbrev pub behind_brace : Text → Text
-behind_brace t = if begins_with 125 t then behind_first t else t
+behind_brace t = if begins_with (code "}") t then behind_first t else t
 
 -- the number that digits write, modulo 65536
 abbrev pub number : Text → ℕ

@@ -1,4 +1,5 @@
 -- The faults, over any kind of span, and what each says, as the bytes of its texts.
+use Prim.Native.Char.{code}
 use Rattle.std.specs.Prelude.{ℕ, Bool, false, ◌++◌, ◌==◌, if◌then◌else◌, List, [], ◌∷◌, Option, Some, None, codes, encode_utf8_all}
 use Rattle.rustc_parse_format.specs.Characters.{Text}
 use Rattle.rustc_parse_format.specs.Written.{written}
@@ -18,7 +19,7 @@ pub data Fault (Span : Type 0) : Type 0 where
 -- the span of a fill, where the fill is a closing brace
 abbrev pub brace_fill : {A : Type 0} → Option ℕ → Option A → Option A
 brace_fill None s = None
-brace_fill (Some c) s = if c == 125 then s else None
+brace_fill (Some c) s = if c == code "}" then s else None
 
 -- no closing brace, with the span of such a fill, if there is one
 abbrev pub no_brace : {A : Type 0} → Option A → Option ℕ → A → A → Fault A

@@ -3,14 +3,13 @@
 use Rattle.std.specs.Prelude.{◌≡◌, ◌≢◌, ℕ, ◌≤◌, ◌<◌, ◌⊎◌, ◌++◌, IsTrue, IsFalse, List, [], ◌∷◌, length, take, drop, codes}
 use Rattle.std.specs.List.{AllByRecursion}
 use Rattle.std.specs.Str.Parse.{digits_value}
-use Rattle.rustc_parse_format.specs.Characters.{Text, is_brace, behind_white}
-use Rattle.rustc_parse_format.specs.Pieces.{Mode, Argument, Piece, Lit, NextArgument, bare_argument}
-use Rattle.rustc_parse_format.specs.Counts.{CountText, NumberCount, IndexCount, NameCount, PrecisionText, DotPrecision}
-use Rattle.rustc_parse_format.specs.Specification.{TypeText, WordType, SpecText, FormatParts, Modifier}
-use Rattle.rustc_parse_format.specs.Placeholder.{PositionText, Digits, Word, Cut, cut}
-use Rattle.rustc_parse_format.specs.Meaning.{argument, next_number}
+use Rattle.rustc_parse_format.specs.Characters.{Text, is_brace}
+use Rattle.rustc_parse_format.specs.Spelling.{IsPart}
+use Rattle.rustc_parse_format.specs.Pieces.{Mode, Argument, Piece, Lit, NextArgument}
+use Rattle.rustc_parse_format.specs.Syntax.{CountText, NumberCount, IndexCount, NameCount, WidthText, PaddedWidth, ZeroIndexWidth, PlainWidth, PrecisionText, DotPrecision, TypeText, WordType, SpecText, FormatParts, Modifier, PositionText, Digits, Word, FieldText, placeholder_part}
+use Rattle.rustc_parse_format.specs.Values.{argument_value, next_number}
 
--- the words and the numbers that a cut has
+-- the words and the numbers that a field has
 abbrev pub words_of_position : PositionText → List Text
 words_of_position (Word w) = w ∷ []
 words_of_position p = []
@@ -18,6 +17,11 @@ words_of_position p = []
 abbrev pub words_of_count : CountText → List Text
 words_of_count (NameCount w) = w ∷ []
 words_of_count k = []
+
+abbrev pub words_of_width : WidthText → List Text
+words_of_width (PaddedWidth k) = words_of_count k
+words_of_width ZeroIndexWidth = []
+words_of_width (PlainWidth k) = words_of_count k
 
 abbrev pub words_of_precision : PrecisionText → List Text
 words_of_precision (DotPrecision k) = words_of_count k
@@ -29,7 +33,7 @@ words_of_type y = []
 
 -- the text in a diagnostic is no word
 abbrev pub words_of_spec : SpecText → List Text
-words_of_spec (FormatParts p) = words_of_count p.width.count ++ words_of_precision p.precision ++ words_of_type p.type
+words_of_spec (FormatParts p) = words_of_width p.width ++ words_of_precision p.precision ++ words_of_type p.type
 words_of_spec (Modifier w) = w ∷ []
 words_of_spec s = []
 
@@ -42,16 +46,21 @@ numbers_of_count (NumberCount ds) = ds ∷ []
 numbers_of_count (IndexCount ds) = ds ∷ []
 numbers_of_count k = []
 
+abbrev pub numbers_of_width : WidthText → List Text
+numbers_of_width (PaddedWidth k) = numbers_of_count k
+numbers_of_width ZeroIndexWidth = []
+numbers_of_width (PlainWidth k) = numbers_of_count k
+
 abbrev pub numbers_of_precision : PrecisionText → List Text
 numbers_of_precision (DotPrecision k) = numbers_of_count k
 numbers_of_precision p = []
 
 abbrev pub numbers_of_spec : SpecText → List Text
-numbers_of_spec (FormatParts p) = numbers_of_count p.width.count ++ numbers_of_precision p.precision
+numbers_of_spec (FormatParts p) = numbers_of_width p.width ++ numbers_of_precision p.precision
 numbers_of_spec s = []
 
--- nothing in the cut is refused
-pub record IsClean (a : Cut) : Type 0 where
+-- nothing in the field is refused
+pub record IsClean (a : FieldText) : Type 0 where
   pub named : AllByRecursion (λ w. w ≢ codes "_") (words_of_position a.position ++ words_of_spec a.spec)
   pub fits : AllByRecursion (λ ds. digits_value 10 ds ≤ 65535) (numbers_of_position a.position ++ numbers_of_spec a.spec)
 
@@ -79,14 +88,14 @@ pub record IsDoubled (t l r : Text) : Type 0 where
   pub unbraced : HasNoBrace run
   pub ends : EndsRun r
 
--- t begins with a placeholder that a brace closes and in which nothing is refused
+-- t begins with a placeholder in which nothing is refused
 pub record IsPlaceholder (mode : Mode) (c : ℕ) (t : Text) (a : Argument (Unit {0})) (r : Text) (next : ℕ) : Type 0 where
-  pub inside : Text
-  pub opens : t ≡ 123 ∷ inside
-  pub closes : behind_white (cut mode inside).rest ≡ 125 ∷ r
-  pub clean : IsClean (cut mode inside)
-  pub means : a ≡ bare_argument (argument c (cut mode inside))
-  pub numbered : next ≡ next_number c (cut mode inside)
+  pub field : FieldText
+  pub space : Text
+  pub written : IsPart t (placeholder_part mode field space) r
+  pub clean : IsClean field
+  pub means : a ≡ argument_value c field
+  pub numbered : next ≡ next_number c field
 
 -- the text begins with the piece, and goes on with r and the number next
 abbrev pub Begins : Mode → ℕ → Text → Piece (Unit {0}) → Text → ℕ → Type 0

@@ -1,11 +1,14 @@
 pub mod Characters
 pub mod Pieces
+pub mod Spelling
+pub mod Syntax
+pub mod Values
+pub mod Grammar
 pub mod Marks
 pub mod Counts
 pub mod Specification
 pub mod Placeholder
 pub mod Meaning
-pub mod Grammar
 pub mod Written
 pub mod Faults
 pub mod PartFaults

@@ -2,7 +2,8 @@
 -- raw literals, and which snippet is the source literal of an input. The public rule is the Rust Reference, string
 -- literals and raw string literals. It differs in that the text of a raw literal may hold anything, its closing sequence
 -- or a CR too. In an ordinary content a CR stands in continuations alone.
-use Rattle.std.specs.Prelude.{◌≡◌, ℕ, suc, zero, ◌+◌, ◌++◌, Bool, if◌then◌else◌, List, [], ◌∷◌, length, map, Option, Some, None, IsTrue, replicate, flat_map}
+use Prim.Native.Char.{code}
+use Rattle.std.specs.Prelude.{◌≡◌, ℕ, suc, zero, ◌+◌, ◌++◌, Bool, if◌then◌else◌, List, [], ◌∷◌, length, map, Option, Some, None, IsTrue, replicate, flat_map, codes}
 use Rattle.std.specs.List.{zip}
 use Rattle.rustc_parse_format.specs.Characters.{Text, width}
 use Rattle.rustc_parse_format.specs.LiteralUnits.{LiteralUnit, spelling, value, is_unit, may_precede, unit_at}
@@ -60,21 +61,21 @@ IsNoContent t = (us : List LiteralUnit) → IsContent t us → ⊥
 
 -- an ordinary literal
 abbrev pub quoted : Text → Text
-quoted content = 34 ∷ content ++ 34 ∷ []
+quoted content = codes "\"" ++ content ++ codes "\""
 
 -- A raw literal has n hashes on each side.
 abbrev pub raw_opening : ℕ → Text
-raw_opening n = 114 ∷ replicate n 35 ++ 34 ∷ []
+raw_opening n = codes "r" ++ replicate n (code "#") ++ codes "\""
 
 abbrev pub raw_closing : ℕ → Text
-raw_closing n = 34 ∷ replicate n 35
+raw_closing n = codes "\"" ++ replicate n (code "#")
 
 abbrev pub raw_frame : ℕ → Text → Text
 raw_frame n t = raw_opening n ++ t ++ raw_closing n
 
 -- what a macro appends
 abbrev pub newline : Bool → Text
-newline appended = if appended then 10 ∷ [] else []
+newline appended = if appended then codes "\n" else []
 
 -- the snippet is an ordinary literal that stands for the text
 abbrev pub IsOrdinaryLiteral : Text → Text → Type 0

@@ -1,7 +1,8 @@
 -- The units of an ordinary string literal: how each is written, which characters it stands for, and the unit at the
 -- front of a text. The public rule is the Rust Reference, string literals, of what stands between the quotes. A continuation
 -- takes all HT, LF, CR and space that follow it, over any number of lines.
-use Rattle.std.specs.Prelude.{ℕ, Bool, true, false, not, ◌&&◌, ◌||◌, ◌==◌, ◌++◌, if◌then◌else◌, nat_lt, nat_le, [], ◌∷◌, length, Option, Some, None, is_some}
+use Prim.Native.Char.{code}
+use Rattle.std.specs.Prelude.{ℕ, Bool, true, false, not, ◌&&◌, ◌||◌, ◌==◌, ◌++◌, if◌then◌else◌, nat_lt, nat_le, [], ◌∷◌, length, Option, Some, None, is_some, codes}
 use Rattle.std.specs.List.{list_all, filter}
 use Rattle.std.specs.Char.{digit_value}
 use Rattle.std.specs.Str.Parse.{digits_value}
@@ -22,19 +23,19 @@ pub data LiteralUnit : Type 0 where
 -- as it is written
 abbrev pub spelling : LiteralUnit → Text
 spelling (Plain c) = c ∷ []
-spelling (SimpleEscape l) = 92 ∷ l ∷ []
-spelling (ByteEscape h l) = 92 ∷ 120 ∷ h ∷ l ∷ []
-spelling (UnicodeEscape w) = 92 ∷ 117 ∷ 123 ∷ w ++ 125 ∷ []
-spelling (Continuation w) = 92 ∷ 10 ∷ w
+spelling (SimpleEscape l) = codes "\\" ++ l ∷ []
+spelling (ByteEscape h l) = codes "\\x" ++ h ∷ l ∷ []
+spelling (UnicodeEscape w) = codes "\\u{" ++ w ++ codes "}"
+spelling (Continuation w) = codes "\\\n" ++ w
 
 -- `\n`, `\r`, `\t` and `\0`, or the quotes and the backslash themselves
 abbrev pub escaped : ℕ → Option ℕ
 escaped l =
-    if l == 110 then Some 10 else (if l == 114 then Some 13 else (if l == 116 then Some 9 else (if l == 48 then Some 0
-    else (if (l == 39 || l == 34) || l == 92 then Some l else None))))
+    if l == code "n" then Some (code "\n") else (if l == code "r" then Some (code "\r") else (if l == code "t" then Some (code "\t") else (if l == code "0" then Some (code "\0")
+    else (if (l == code "'" || l == code "\"") || l == code "\\" then Some l else None))))
 
 abbrev pub is_underscore : ℕ → Bool
-is_underscore c = c == 95
+is_underscore c = c == code "_"
 
 abbrev pub is_hex : ℕ → Bool
 is_hex c = nat_lt (digit_value c) 16
@@ -67,11 +68,11 @@ value (Continuation w) = []
 
 -- no quote, no backslash and no CR
 abbrev pub is_plain : ℕ → Bool
-is_plain c = not ((c == 34 || c == 92) || c == 13)
+is_plain c = not ((c == code "\"" || c == code "\\") || c == code "\r")
 
 -- HT, LF, CR or space, which a continuation takes
 abbrev pub is_skipped : ℕ → Bool
-is_skipped c = ((c == 9 || c == 10) || c == 13) || c == 32
+is_skipped c = ((c == code "\t" || c == code "\n") || c == code "\r") || c == code " "
 
 -- no surrogate, and no more than 10FFFF
 abbrev pub is_scalar : ℕ → Bool
@@ -108,7 +109,7 @@ with_rest r u = if is_unit u then Some (u, r) else None
 
 -- not the closing brace
 abbrev pub is_inside : ℕ → Bool
-is_inside c = not (c == 125)
+is_inside c = not (c == code "}")
 
 abbrev pub at_brace : Text → Text → Option (LiteralUnit × Text)
 at_brace w [] = None
@@ -117,7 +118,7 @@ at_brace w (c ∷ r) = with_rest r (UnicodeEscape w)
 -- behind `\u`
 unfoldable pub unicode_at : Text → Option (LiteralUnit × Text)
 unicode_at [] = None
-unicode_at (c ∷ t) = if c == 123 then at_brace (front is_inside t) (behind is_inside t) else None
+unicode_at (c ∷ t) = if c == code "{" then at_brace (front is_inside t) (behind is_inside t) else None
 
 -- behind `\x`
 unfoldable pub byte_at : Text → Option (LiteralUnit × Text)
@@ -129,12 +130,12 @@ byte_at (h ∷ l ∷ r) = with_rest r (ByteEscape h l)
 unfoldable pub escape_at : Text → Option (LiteralUnit × Text)
 escape_at [] = None
 escape_at (l ∷ t) =
-    if l == 10 then Some (Continuation (front is_skipped t), behind is_skipped t)
-    else (if l == 120 then byte_at t else (if l == 117 then unicode_at t else with_rest t (SimpleEscape l)))
+    if l == code "\n" then Some (Continuation (front is_skipped t), behind is_skipped t)
+    else (if l == code "x" then byte_at t else (if l == code "u" then unicode_at t else with_rest t (SimpleEscape l)))
 
 unfoldable pub unit_at : Text → Option (LiteralUnit × Text)
 unit_at [] = None
-unit_at (c ∷ t) = if c == 92 then escape_at t else with_rest t (Plain c)
+unit_at (c ∷ t) = if c == code "\\" then escape_at t else with_rest t (Plain c)
 
 -- what the unit at the front stands for, and the rest
 abbrev pub meaning : Option (LiteralUnit × Text) → Option (Text × Text)

@@ -2,9 +2,9 @@
 use Rattle.std.specs.Prelude.{◌++◌, if◌then◌else◌, List, [], ◌∷◌, codes, bytes_eq}
 use Rattle.rustc_parse_format.specs.Characters.{Text, word, behind_word, digits, behind_digits, behind_first, is_over}
 use Rattle.rustc_parse_format.specs.Marks.{Span, up_to, through}
-use Rattle.rustc_parse_format.specs.Counts.{CountText, ZeroIndexCount, WidthText, count_at, PrecisionText, DotPrecision}
-use Rattle.rustc_parse_format.specs.Specification.{TypeText, WordType, Parts, SpecText, Default, FormatParts, Modifier, DiagnosticText, width_at, precision_at, type_at}
 use Rattle.rustc_parse_format.specs.Placeholder.{Cut}
+use Rattle.rustc_parse_format.specs.Syntax.{WidthText, PaddedWidth, ZeroIndexWidth, PlainWidth, PrecisionText, DotPrecision, TypeText, WordType, Parts, SpecText, Default, FormatParts, Modifier, DiagnosticText}
+use Rattle.rustc_parse_format.specs.Specification.{width_at, precision_at, type_at}
 use Rattle.rustc_parse_format.specs.Faults.{Fault, Underscore, TooLarge}
 
 -- a word `_` at the front of t
@@ -23,13 +23,10 @@ position_faults t = number_faults t ++ word_faults t
 unfoldable pub count_faults : Text → List (Fault Span)
 count_faults t = number_faults t ++ word_faults t
 
--- the count of a width that begins at t
-abbrev pub width_count_faults : Text → CountText → List (Fault Span)
-width_count_faults t ZeroIndexCount = []
-width_count_faults t k = count_faults t
-
 abbrev pub width_faults : Text → WidthText → List (Fault Span)
-width_faults t w = width_count_faults (count_at w.zero_pad t) w.count
+width_faults t (PaddedWidth k) = count_faults (behind_first t)
+width_faults t ZeroIndexWidth = []
+width_faults t (PlainWidth k) = count_faults t
 
 abbrev pub precision_faults : Text → PrecisionText → List (Fault Span)
 precision_faults t (DotPrecision k) = count_faults (behind_first t)
@@ -51,4 +48,4 @@ spec_faults t (Modifier w) r = word_faults (behind_first t)
 spec_faults t (DiagnosticText u) r = []
 
 unfoldable pub cut_faults : Cut → List (Fault Span)
-cut_faults a = position_faults a.position_at ++ spec_faults a.spec_at a.spec a.rest
+cut_faults a = position_faults a.position_at ++ spec_faults a.spec_at a.field.spec a.rest

@@ -1,48 +1,40 @@
--- What a colon brings, as written: in each mode another thing.
--- The public rule is the grammar of format strings in the documentation of `std::fmt`.
+-- By computing: what a colon brings, in each mode another thing.
+use Prim.Native.Char.{code}
 use Rattle.std.specs.Prelude.{ℕ, Bool, true, false, if◌then◌else◌, ◌==◌, [], ◌∷◌, Option, Some, None}
 use Rattle.rustc_parse_format.specs.Characters.{Text, is_align, is_no_brace, front, behind, word, behind_word}
 use Rattle.rustc_parse_format.specs.Pieces.{Mode, Format, InlineAsm, Diagnostic, Alignment, Left, Right, Center, Unknown, Sign, Plus, Minus, DebugHex, Lower, Upper}
-use Rattle.rustc_parse_format.specs.Counts.{WidthText, width, PrecisionText, precision}
+use Rattle.rustc_parse_format.specs.Syntax.{TypeText, DebugHexType, SignType, WordType, Parts, SpecText, Default, FormatParts, Modifier, DiagnosticText}
+use Rattle.rustc_parse_format.specs.Counts.{width, precision}
 
--- Each part of a format specification: what stands at the front, and the rest behind it.
+-- Each part of a format specification at the front of a text, and the rest behind it.
 
--- the first character, where the second one aligns
 abbrev pub fill : Text → Option ℕ × Text
 fill (c ∷ d ∷ t) = if is_align d then (Some c, d ∷ t) else (None, c ∷ d ∷ t)
 fill t = (None, t)
 
 abbrev pub align : Text → Alignment × Text
 align [] = (Unknown, [])
-align (c ∷ t) = if c == 60 then (Left, t) else (if c == 62 then (Right, t) else (if c == 94 then (Center, t) else (Unknown, c ∷ t)))
+align (c ∷ t) = if c == code "<" then (Left, t) else (if c == code ">" then (Right, t) else (if c == code "^" then (Center, t) else (Unknown, c ∷ t)))
 
 abbrev pub sign : Text → Option Sign × Text
 sign [] = (None, [])
-sign (c ∷ t) = if c == 43 then (Some Plus, t) else (if c == 45 then (Some Minus, t) else (None, c ∷ t))
+sign (c ∷ t) = if c == code "+" then (Some Plus, t) else (if c == code "-" then (Some Minus, t) else (None, c ∷ t))
 
 abbrev pub alternate : Text → Bool × Text
 alternate [] = (false, [])
-alternate (c ∷ t) = if c == 35 then (true, t) else (false, c ∷ t)
-
-pub data TypeText : Type 0 where
-  -- `x?` or `X?`
-  DebugHexType : DebugHex → TypeText
-  -- `x`, `X` or `?`
-  SignType : ℕ → TypeText
-  -- a word, which may be empty
-  WordType : Text → TypeText
+alternate (c ∷ t) = if c == code "#" then (true, t) else (false, c ∷ t)
 
 -- with t behind the `x` or `X`
 abbrev pub behind_hex : DebugHex → ℕ → Text → TypeText × Text
 behind_hex h x [] = (SignType x, [])
-behind_hex h x (c ∷ t) = if c == 63 then (DebugHexType h, t) else (SignType x, c ∷ t)
+behind_hex h x (c ∷ t) = if c == code "?" then (DebugHexType h, t) else (SignType x, c ∷ t)
 
 abbrev pub type : Text → TypeText × Text
 type [] = (WordType [], [])
 type (c ∷ t) =
-    if c == 120 then behind_hex Lower c t
-    else (if c == 88 then behind_hex Upper c t
-    else (if c == 63 then (SignType c, t) else (WordType (word (c ∷ t)), behind_word (c ∷ t))))
+    if c == code "x" then behind_hex Lower c t
+    else (if c == code "X" then behind_hex Upper c t
+    else (if c == code "?" then (SignType c, t) else (WordType (word (c ∷ t)), behind_word (c ∷ t))))
 
 -- A format specification that stands at t has its fill there, and each other part behind the one before it.
 abbrev pub align_at : Text → Text
@@ -63,15 +55,6 @@ precision_at t = (width (width_at t)).1
 abbrev pub type_at : Text → Text
 type_at t = (precision (precision_at t)).1
 
-pub record Parts : Type 0 where
-  pub fill : Option ℕ
-  pub align : Alignment
-  pub sign : Option Sign
-  pub alternate : Bool
-  pub width : WidthText
-  pub precision : PrecisionText
-  pub type : TypeText
-
 -- the format specification at the front, and the rest behind it
 unfoldable pub format_parts : Text → Parts × Text
 format_parts t = (
@@ -87,16 +70,6 @@ format_parts t = (
   (type (type_at t)).1,
 )
 
--- what stands in the place of a specification
-pub data SpecText : Type 0 where
-  -- no colon
-  Default : SpecText
-  FormatParts : Parts → SpecText
-  -- the modifier of inline assembly
-  Modifier : Text → SpecText
-  -- the text in a diagnostic
-  DiagnosticText : Text → SpecText
-
 -- with t behind the colon
 abbrev pub behind_colon : Mode → Text → SpecText × Text
 behind_colon Format t = (FormatParts (format_parts t).0, (format_parts t).1)
@@ -106,4 +79,4 @@ behind_colon Diagnostic t = (DiagnosticText (front is_no_brace t), behind is_no_
 -- the specification at the front, and the rest behind it
 abbrev pub specification : Mode → Text → SpecText × Text
 specification mode [] = (Default, [])
-specification mode (c ∷ t) = if c == 58 then behind_colon mode t else (Default, c ∷ t)
+specification mode (c ∷ t) = if c == code ":" then behind_colon mode t else (Default, c ∷ t)

@@ -1,11 +1,13 @@
 -- One call of the parser, with marks for all spans, and the walk up to the first call that gives no piece. Neither the
 -- style of the literal nor the snippet is mentioned.
+use Prim.Native.Char.{code}
 use Rattle.std.specs.Prelude.{◌≡◌, ℕ, suc, zero, ◌++◌, ◌==◌, if◌then◌else◌, List, [], ◌∷◌, length, Option, Some, None}
 use Rattle.rustc_parse_format.specs.Characters.{Text, is_brace, is_no_brace, front, behind, behind_white, first, behind_first, begins_with}
 use Rattle.rustc_parse_format.specs.Pieces.{Mode, Spec, Piece, Lit, NextArgument}
 use Rattle.rustc_parse_format.specs.Marks.{Span, up_to, over_first}
-use Rattle.rustc_parse_format.specs.Placeholder.{Cut, cut}
-use Rattle.rustc_parse_format.specs.Meaning.{argument, next_number}
+use Rattle.rustc_parse_format.specs.Placeholder.{cut, Cut}
+use Rattle.rustc_parse_format.specs.Values.{next_number}
+use Rattle.rustc_parse_format.specs.Meaning.{argument}
 use Rattle.rustc_parse_format.specs.Faults.{Fault, UnmatchedBrace, no_brace, brace_fill}
 use Rattle.rustc_parse_format.specs.PartFaults.{cut_faults}
 
@@ -25,14 +27,14 @@ abbrev pub literal : ℕ → Text → Text → Call
 literal c l t = record { piece = Some (Lit (l ++ front is_no_brace t)); faults = []; rest = behind is_no_brace t; next = c }
 
 abbrev pub closed : ℕ → Cut → Text → Call
-closed c a r = record { piece = Some (NextArgument (argument c a)); faults = cut_faults a; rest = r; next = next_number c a }
+closed c a r = record { piece = Some (NextArgument (argument c a)); faults = cut_faults a; rest = r; next = next_number c a.field }
 
 abbrev pub unclosed : ℕ → Text → Cut → Text → Call
 unclosed c opening a r = record {
   piece = Some (NextArgument (argument c a));
   faults = cut_faults a ++ missing_brace opening (argument c a).format r ∷ [];
   rest = r;
-  next = next_number c a;
+  next = next_number c a.field;
 }
 
 -- the placeholder at opening, with t behind its brace
@@ -40,7 +42,7 @@ unfoldable pub placeholder : Mode → ℕ → Text → Text → Call
 placeholder mode c opening t =
     let a = cut mode t in
     let r = behind_white a.rest in
-    if begins_with 125 r then closed c a (behind_first r) else unclosed c opening a r
+    if begins_with (code "}") r then closed c a (behind_first r) else unclosed c opening a r
 
 abbrev pub unmatched : ℕ → Text → Text → Call
 unmatched c at t = record { piece = None; faults = UnmatchedBrace (over_first at) ∷ []; rest = t; next = c }
@@ -53,7 +55,7 @@ unfoldable pub call : Mode → ℕ → Text → Call
 call mode c [] = at_end c
 call mode c (b ∷ t) =
     if is_brace b
-    then (if begins_with b t then literal c (b ∷ []) (behind_first t) else (if b == 123 then placeholder mode c (b ∷ t) t else unmatched c (b ∷ t) t))
+    then (if begins_with b t then literal c (b ∷ []) (behind_first t) else (if b == code "{" then placeholder mode c (b ∷ t) t else unmatched c (b ∷ t) t))
     else literal c [] (b ∷ t)
 
 -- a call that gives no placeholder and finds no fault

@@ -1,17 +1,18 @@
 -- How a character is written in a message and in a quoted text, as bytes. ASCII characters are escaped as Rust escapes them.
+use Prim.Native.Char.{code}
 use Rattle.std.specs.Prelude.{ℕ, false, ◌++◌, ◌||◌, ◌==◌, if◌then◌else◌, nat_lt, List, Option, Some, None, codes, encode_utf8}
 use Rattle.std.specs.Fmt.{digits}
 
 -- a character with an escape of its own
 abbrev pub short_escape : ℕ → Option (List ℕ)
 short_escape c =
-    if c == 0 then Some (codes "\\0") else (if c == 9 then Some (codes "\\t") else (if c == 13 then Some (codes "\\r")
-    else (if c == 10 then Some (codes "\\n") else (if c == 39 then Some (codes "\\'") else (if c == 34 then Some (codes "\\\"")
-    else (if c == 92 then Some (codes "\\\\") else None))))))
+    if c == code "\0" then Some (codes "\\0") else (if c == code "\t" then Some (codes "\\t") else (if c == code "\r" then Some (codes "\\r")
+    else (if c == code "\n" then Some (codes "\\n") else (if c == code "'" then Some (codes "\\'") else (if c == code "\"" then Some (codes "\\\"")
+    else (if c == code "\\" then Some (codes "\\\\") else None))))))
 
 -- another ASCII control is written by its code, and any other character as itself
 abbrev pub plainly_written : ℕ → List ℕ
-plainly_written c = if nat_lt c 32 || c == 127 then codes "\\u{" ++ digits 16 false c ++ codes "}" else encode_utf8 c
+plainly_written c = if nat_lt c (code " ") || c == 127 then codes "\\u{" ++ digits 16 false c ++ codes "}" else encode_utf8 c
 
 unfoldable pub written : ℕ → List ℕ
 written c = elim (short_escape c) [ Some s ↦ s | None ↦ plainly_written c ]

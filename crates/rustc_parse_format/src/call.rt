@@ -4,7 +4,8 @@ ghost use Rattle.std.specs.Prelude.{◌≡◌, ◌≢◌, ◌++◌, ◌+◌, ◌
 ghost use Rattle.rustc_parse_format.specs.Characters.{behind_brace, behind_first, begins_with, first};
 ghost use Rattle.rustc_parse_format.specs.Faults.{brace_fill, no_brace};
 ghost use Rattle.rustc_parse_format.specs.Marks.{up_to};
-ghost use Rattle.rustc_parse_format.specs.Meaning.{argument, next_number};
+ghost use Rattle.rustc_parse_format.specs.Values.{next_number};
+ghost use Rattle.rustc_parse_format.specs.Meaning.{argument};
 ghost use Rattle.rustc_parse_format.specs.PartFaults.{cut_faults};
 ghost use Rattle.rustc_parse_format.specs.Pieces.{Implicit, map_argument};
 ghost use Rattle.rustc_parse_format.specs.Placeholder.{cut};
@@ -45,7 +46,7 @@ fn position_of<'input>(given: Option<Position<'input>>, curarg: &mut usize) -> P
 }
 
 /// Reads a position, white space and a specification.
-#[tactic(auto, unfolding(crate::specs::Placeholder::cut, crate::specs::Meaning::argument, crate::specs::Meaning::next_number, crate::specs::PartFaults::cut_faults))]
+#[tactic(auto, unfolding(crate::specs::Placeholder::cut, crate::specs::Meaning::argument, crate::specs::Values::next_number, crate::specs::PartFaults::cut_faults))]
 fn read_argument<'input>(
     mode: ParseMode,
     cursor: &mut Cursor<'input>,
@@ -56,7 +57,7 @@ fn read_argument<'input>(
     ensures value { IfOk result (λ a. seen_argument a
         ≡ map_argument (place_of cursor.old.world) (argument curarg.old (cut (seen_mode mode) cursor.old.rest))) }
     ensures rest { OnOk result (cursor.new ≡ record cursor.old { rest = (cut (seen_mode mode) cursor.old.rest).rest }) }
-    ensures next { OnOk result (curarg.new ≡ next_number curarg.old (cut (seen_mode mode) cursor.old.rest)) }
+    ensures next { OnOk result (curarg.new ≡ next_number curarg.old (cut (seen_mode mode) cursor.old.rest).field) }
     ensures found { OnOk result (map seen_fault found.new.items ≡ map seen_fault found.old.items
         ++ faults_in cursor.old.world (cut_faults (cut (seen_mode mode) cursor.old.rest))) }
 {

@@ -3,7 +3,8 @@
 ghost use Rattle.std.specs.Prelude.{◌≡◌, ◌++◌, ◌+◌, ◌<◌, ◌^◌, None, Some, IfOk, OnOk, chars, codes, if◌then◌else◌, length, map, option_map};
 ghost use Rattle.rustc_parse_format.specs.Characters.{begins_with, behind, behind_first, behind_word, front, is_no_brace, word};
 ghost use Rattle.rustc_parse_format.specs.Marks.{up_to};
-ghost use Rattle.rustc_parse_format.specs.Meaning.{behind_precision, behind_spec, debug_hex_of, fill_span, format_of, spec_of, type_of, type_span, word_span};
+ghost use Rattle.rustc_parse_format.specs.Values.{behind_precision, behind_spec, debug_hex_of, type_of};
+ghost use Rattle.rustc_parse_format.specs.Meaning.{fill_span, format_of, spec_of, type_span, word_span};
 ghost use Rattle.rustc_parse_format.specs.PartFaults.{format_faults, spec_faults, type_faults, word_faults};
 ghost use Rattle.rustc_parse_format.specs.Pieces.{default_spec, map_spec};
 ghost use Rattle.rustc_parse_format.specs.Seen.{pair, seen_alignment, seen_debug_hex, seen_mode, seen_sign, seen_spec};

@@ -43,11 +43,15 @@ impl<'input> Parser<'input> {
     ghost use Rattle.std.specs.Prelude.{◌≡◌, ◌≢◌, ◌+◌, ◌<◌, ◌≤◌, ◌^◌, ◌↔◌, [], ℕ, IfOk, IsNone, IsOk, IsTrue, OnErr, OnOk, chars, length, map, option_map, string_bytes};
     ghost use Rattle.rustc_parse_format.specs.Characters.{Text, behind_first};
     ghost use Rattle.rustc_parse_format.specs.Grammar.{Begins};
-    ghost use Rattle.rustc_parse_format.specs.Pieces.{Piece as BarePiece, bare};
+    ghost use Rattle.rustc_parse_format.specs.Meaning.{argument};
+    ghost use Rattle.rustc_parse_format.specs.Pieces.{NextArgument, Piece as BarePiece, bare};
     ghost use Rattle.rustc_parse_format.specs.Seen.{pair, seen, seen_error, seen_mode};
     ghost use Rattle.rustc_parse_format.specs.Source.{HasSource};
     ghost use Rattle.rustc_parse_format.specs.State.{GivesPiece, after, first_of, fresh, next_call};
+    ghost use Rattle.rustc_parse_format.specs.Spelling.{IsPart};
     ghost use Rattle.rustc_parse_format.specs.Step.{TakesNoMemory};
+    ghost use Rattle.rustc_parse_format.specs.Placeholder.{placed};
+    ghost use Rattle.rustc_parse_format.specs.Syntax.{FieldText, opened_part};
     ghost use Rattle.rustc_parse_format.specs.World.{hashes, piece_in, world};
 
     /// A parser at the start of an input, which stands in a literal of this style: None for an ordinary literal, or the
@@ -114,6 +118,10 @@ impl<'input> Parser<'input> {
             → ((q : BarePiece (Unit {0})) (r : Text) (n : ℕ) → ¬ (Begins self.old.mode self.old.next self.old.rest q r n))
             → length self.old.errors < length self.new.errors) }
         ensures end { IfOk result (λ p. self.old.rest ≡ [] → IsNone p × (self.new ≡ self.old)) }
+
+        // Behind a single brace it is the argument of the one cut, whether a brace closes it or not.
+        ensures cut { IfOk result (λ p. (a : FieldText) (r : Text) → IsPart self.old.rest (opened_part self.old.mode a) r
+            → option_map seen p ≡ Some (piece_in self.old.world (NextArgument (argument self.old.next (placed self.old.mode a r))))) }
 
         // It moves on, and takes no more numbers than characters.
         ensures progress { OnOk result (self.old.rest ≢ [] → length self.new.rest < length self.old.rest) }

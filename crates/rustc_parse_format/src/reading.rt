@@ -8,6 +8,7 @@ ghost use Rattle.rustc_parse_format.specs.Seen.{seen, seen_mode};
 ghost use Rattle.rustc_parse_format.specs.Source.{HasSource};
 ghost use Rattle.rustc_parse_format.specs.State.{after_all, calls, fresh};
 ghost use Rattle.rustc_parse_format.specs.Step.{pieces_of};
+ghost use Rattle.rustc_parse_format.specs.Syntax.{FieldText, IsOnlyCut};
 ghost use Rattle.rustc_parse_format.specs.World.{hashes, pieces_in, world};
 
 use crate::parser::Parser;
@@ -54,6 +55,7 @@ pub fn read_all<'input>(
     ensures reading { IfOk result (λ x. x.1.errors ≡ [] → Reads (seen_mode mode) 0 (chars input.now) (map bare (map seen x.0.items))) }
     ensures one_reading { (m : Mode) (c : ℕ) (t : Text) (ps qs : List (BarePiece (Unit {0})))
         → Reads m c t ps → Reads m c t qs → ps ≡ qs }
+    ensures one_cut { (m : Mode) (t : Text) → (a : FieldText) × (r : Text) × IsOnlyCut m t a r }
 
     // With an error, the first pieces read the input up to a character from which on nothing begins it.
     ensures first_fault { IfOk result (λ x. x.1.errors ≢ []

@@ -1,9 +1,10 @@
 //! The sizes of a format specification: its width and its precision.
 
 ghost use Rattle.std.specs.Prelude.{◌≡◌, ◌++◌, ◌+◌, ◌<◌, ◌^◌, IfOk, OnOk, map, option_map};
-ghost use Rattle.rustc_parse_format.specs.Counts.{count, count_at, precision, width};
-ghost use Rattle.rustc_parse_format.specs.Meaning.{behind_precision, count_of, count_span, precision_of, precision_span};
-ghost use Rattle.rustc_parse_format.specs.PartFaults.{count_faults, precision_faults, width_count_faults, width_faults};
+ghost use Rattle.rustc_parse_format.specs.Counts.{count, precision, width};
+ghost use Rattle.rustc_parse_format.specs.Values.{behind_precision, is_padded};
+ghost use Rattle.rustc_parse_format.specs.Meaning.{count_of, count_span, precision_of, precision_span, width_of, width_span};
+ghost use Rattle.rustc_parse_format.specs.PartFaults.{count_faults, precision_faults, width_faults};
 ghost use Rattle.rustc_parse_format.specs.Pieces.{map_count};
 ghost use Rattle.rustc_parse_format.specs.Seen.{pair, seen_count};
 ghost use Rattle.rustc_parse_format.specs.SeenFaults.{seen_fault};
@@ -59,7 +60,7 @@ fn counted<'input>(
         (count_span cursor.old.rest (count cursor.old.rest).0 (count cursor.old.rest).1)) }
     ensures rest { OnOk result (cursor.new ≡ record cursor.old { rest = (count cursor.old.rest).1 }) }
     ensures found { OnOk result (map seen_fault found.new.items
-        ≡ map seen_fault found.old.items ++ faults_in cursor.old.world (width_count_faults cursor.old.rest (count cursor.old.rest).0)) }
+        ≡ map seen_fault found.old.items ++ faults_in cursor.old.world (count_faults cursor.old.rest)) }
 {
     let (count, span) = spanned_count(cursor, found)?;
     Ok(WidthPart {
@@ -74,11 +75,11 @@ pub fn width<'input>(
     cursor: &mut Cursor<'input>,
     found: &mut Vec<Fault<'input>>,
 ) -> Result<WidthPart<'input>, AllocError>
-    ensures zero_pad { IfOk result (λ w. w.zero_pad ≡ (width cursor.old.rest).0.zero_pad) }
+    ensures zero_pad { IfOk result (λ w. w.zero_pad ≡ is_padded (width cursor.old.rest).0) }
     ensures count { IfOk result (λ w. seen_count w.count ≡ map_count (place_of cursor.old.world)
-        (count_of (count_at (width cursor.old.rest).0.zero_pad cursor.old.rest) (width cursor.old.rest).0.count)) }
+        (width_of cursor.old.rest (width cursor.old.rest).0)) }
     ensures span { IfOk result (λ w. option_map pair w.span ≡ option_map (place_of cursor.old.world)
-        (count_span (count_at (width cursor.old.rest).0.zero_pad cursor.old.rest) (width cursor.old.rest).0.count (width cursor.old.rest).1)) }
+        (width_span cursor.old.rest (width cursor.old.rest).0 (width cursor.old.rest).1)) }
     ensures rest { OnOk result (cursor.new ≡ record cursor.old { rest = (width cursor.old.rest).1 }) }
     ensures found { OnOk result (map seen_fault found.new.items
         ≡ map seen_fault found.old.items ++ faults_in cursor.old.world (width_faults cursor.old.rest (width cursor.old.rest).0)) }

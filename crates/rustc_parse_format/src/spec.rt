@@ -5,7 +5,8 @@ ghost use Rattle.rustc_parse_format.specs.Characters.{begins_with, behind_digits
 ghost use Rattle.rustc_parse_format.specs.PartFaults.{count_faults, number_faults, position_faults, word_faults};
 ghost use Rattle.rustc_parse_format.specs.Placeholder.{position};
 ghost use Rattle.rustc_parse_format.specs.Counts.{behind_name, count};
-ghost use Rattle.rustc_parse_format.specs.Meaning.{count_of, given_position};
+ghost use Rattle.rustc_parse_format.specs.Values.{given_position};
+ghost use Rattle.rustc_parse_format.specs.Meaning.{count_of};
 ghost use Rattle.rustc_parse_format.specs.Pieces.{map_count};
 ghost use Rattle.rustc_parse_format.specs.Seen.{seen_count, seen_position};
 ghost use Rattle.rustc_parse_format.specs.SeenFaults.{seen_fault};

@@ -1,12 +1,11 @@
-use Rattle.std.proofs.Common.{◌≡◌, ◌∙◌, ap, arith, length, if◌then◌else◌, suc}
+use Rattle.std.proofs.Common.{◌∙◌, ap, arith, length, if◌then◌else◌, suc}
 use Rattle.std.specs.Prelude.{is_some, unwrap_or}
-use Rattle.rustc_parse_format.specs.Characters.{behind_white}
 use Rattle.rustc_parse_format.specs.State.{Unread}
 use Rattle.rustc_parse_format.specs.Marks.{Start}
 use Rattle.rustc_parse_format.specs.World.{number_of}
 use Rattle.rustc_parse_format.specs.Pieces.{Implicit}
 use Rattle.rustc_parse_format.specs.Placeholder.{cut}
-use Rattle.rustc_parse_format.specs.Meaning.{given_position, next_number}
+use Rattle.rustc_parse_format.specs.Values.{given_position, next_number}
 use Rattle.rustc_parse_format.specs.Seen.{seen_mode}
 use Rattle.rustc_parse_format.proofs.Arguments.{at_spec, argument_parts, faults_parts, spec_at-le, behind_spec-le, pair_same}
 use Rattle.rustc_parse_format.proofs.call.read_argument.Goals as goal
@@ -40,7 +39,7 @@ returns-clause-value c =
     let format = rw at at c.in_ok-format.ensures.value in
     let next = rw at at c.in_ok-format.ensures.next in
     argument_parts c.args.cursor.now.world m n t _ _ _
-    (c.position_of.ensures.value ∙ (ap (λ o. unwrap_or o (Implicit c.specification.new.curarg)) c.in_ok-given.ensures.value ∙ ap (λ k. unwrap_or (given_position (cut m t).position) (Implicit k)) next))
+    (c.position_of.ensures.value ∙ (ap (λ o. unwrap_or o (Implicit c.specification.new.curarg)) c.in_ok-given.ensures.value ∙ ap (λ k. unwrap_or (given_position (cut m t).field.position) (Implicit k)) next))
     (pair_same c.start-start.ensures (c.start.ensures ∙ ap (λ (u : Unread). number_of u.world (Start (length u.rest))) at))
     format
 
@@ -51,7 +50,7 @@ returns-clause-next c =
     let t = c.args.cursor.now.rest in
     let at = at_spec m c.args.cursor.now _ _ c.in_ok-given.ensures.rest c.skip_white.ensures in
     let next = rw at at c.in_ok-format.ensures.next in
-    c.position_of.ensures.next ∙ (ap (λ o. if is_some o then c.specification.new.curarg else suc c.specification.new.curarg) c.in_ok-given.ensures.value ∙ ap (λ k. if is_some (given_position (cut m t).position) then k else suc k) next)
+    c.position_of.ensures.next ∙ (ap (λ o. if is_some o then c.specification.new.curarg else suc c.specification.new.curarg) c.in_ok-given.ensures.value ∙ ap (λ k. if is_some (given_position (cut m t).field.position) then k else suc k) next)
 
 pub returns-clause-found : goal.returns-clause-found
 unfolding cut

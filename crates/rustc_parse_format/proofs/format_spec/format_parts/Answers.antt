@@ -1,7 +1,8 @@
 use Rattle.std.proofs.Common.{◌++◌, ap, map, ◌∙◌}
 use Rattle.std.specs.Prelude.{option_map}
-use Rattle.rustc_parse_format.specs.Counts.{count_at, precision, width}
-use Rattle.rustc_parse_format.specs.Meaning.{behind_precision, count_of, count_span, debug_hex_of, format_of, precision_of, precision_span, type_of, type_span}
+use Rattle.rustc_parse_format.specs.Counts.{precision, width}
+use Rattle.rustc_parse_format.specs.Values.{is_padded, behind_precision, debug_hex_of, type_of}
+use Rattle.rustc_parse_format.specs.Meaning.{width_of, width_span, format_of, precision_of, precision_span, type_span}
 use Rattle.rustc_parse_format.specs.PartFaults.{format_faults, precision_faults, type_faults, width_faults}
 use Rattle.rustc_parse_format.specs.Pieces.{map_count}
 use Rattle.rustc_parse_format.specs.SeenFaults.{seen_fault}
@@ -23,10 +24,10 @@ returns-clause-value c =
     (c.alignment-align.ensures.value ∙ ap (λ (u : Unread). (align u.rest).0) at.fill)
     (c.sign-sign.ensures.value ∙ ap (λ (u : Unread). (sign u.rest).0) at.align)
     (c.alternate-alternate.ensures.value ∙ ap (λ (u : Unread). (alternate u.rest).0) at.sign)
-    (c.in_ok-width.ensures.zero_pad ∙ ap (λ (u : Unread). (width u.rest).0.zero_pad) at.alternate)
+    (c.in_ok-width.ensures.zero_pad ∙ ap (λ (u : Unread). is_padded (width u.rest).0) at.alternate)
     (c.in_ok-type_part.ensures.debug_hex ∙ ap (λ (u : Unread). debug_hex_of (type u.rest).0) at.precision)
-    (c.in_ok-width.ensures.count ∙ ap (λ (u : Unread). map_count (place_of u.world) (count_of (count_at (width u.rest).0.zero_pad u.rest) (width u.rest).0.count)) at.alternate)
-    (c.in_ok-width.ensures.span ∙ ap (λ (u : Unread). option_map (place_of u.world) (count_span (count_at (width u.rest).0.zero_pad u.rest) (width u.rest).0.count (width u.rest).1)) at.alternate)
+    (c.in_ok-width.ensures.count ∙ ap (λ (u : Unread). map_count (place_of u.world) (width_of u.rest (width u.rest).0)) at.alternate)
+    (c.in_ok-width.ensures.span ∙ ap (λ (u : Unread). option_map (place_of u.world) (width_span u.rest (width u.rest).0 (width u.rest).1)) at.alternate)
     (c.in_ok-precision.ensures.value ∙ ap (λ (u : Unread). map_count (place_of u.world) (precision_of c.args.curarg.now u.rest (precision u.rest).0)) at.width)
     (c.in_ok-precision.ensures.span ∙ ap (λ (u : Unread). option_map (place_of u.world) (precision_span u.rest (precision u.rest).0 (precision u.rest).1)) at.width)
     (c.in_ok-type_part.ensures.ty ∙ ap (λ (u : Unread). type_of (type u.rest).0) at.precision)

@@ -4,6 +4,7 @@ use Rattle.rustc_parse_format.specs.Seen.{seen_mode}
 use Rattle.rustc_parse_format.specs.State.{State, fresh, calls}
 use Rattle.rustc_parse_format.specs.World.{world}
 use Rattle.rustc_parse_format.proofs.Readings.{Reads-unique}
+use Rattle.rustc_parse_format.proofs.PartCuts.{cut-only}
 use Rattle.rustc_parse_format.proofs.StateWalks.{after_all-world}
 use Rattle.rustc_parse_format.proofs.ReadPieces.{clean_in, in_clean, reading_of, stops_of}
 use Rattle.rustc_parse_format.proofs.reading.read_all.Goals as goal
@@ -13,6 +14,12 @@ returns-in_err-pieces-clause-one_reading c = Reads-unique
 
 pub returns-clause-one_reading : goal.returns-clause-one_reading
 returns-clause-one_reading c = Reads-unique
+
+pub returns-in_err-pieces-clause-one_cut : goal.returns-in_err-pieces-clause-one_cut
+returns-in_err-pieces-clause-one_cut c = cut-only
+
+pub returns-clause-one_cut : goal.returns-clause-one_cut
+returns-clause-one_cut c = cut-only
 
 pub returns-clause-clean : goal.returns-clause-clean
 returns-clause-clean c =

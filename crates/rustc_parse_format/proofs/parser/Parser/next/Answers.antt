@@ -1,5 +1,6 @@
+use Rattle.std.proofs.Common.{◌∙◌}
 use Rattle.rustc_parse_format.specs.Seen.{seen}
-use Rattle.rustc_parse_format.proofs.Nexts.{if_ok, on_ok, next_reads, next_faulty, next_ends}
+use Rattle.rustc_parse_format.proofs.Nexts.{if_ok, on_ok, cut_given, next_reads, next_faulty, next_ends}
 use Rattle.rustc_parse_format.proofs.parser.Parser.next.Goals as goal
 
 pub returns-clause-reads : goal.returns-clause-reads
@@ -7,6 +8,9 @@ returns-clause-reads c = if_ok c.step.result c.step.ensures.piece c.step.ensures
 
 pub returns-clause-faulty : goal.returns-clause-faulty
 returns-clause-faulty c = on_ok c.step.result c.step.ensures.state (λ f some none. next_faulty c.args.self.now c.step.new.self f some none)
+
+pub returns-clause-cut : goal.returns-clause-cut
+returns-clause-cut c = if_ok c.step.result c.step.ensures.piece c.step.ensures.state (λ p e f a r h. e ∙ cut_given c.args.self.now a r h)
 
 pub returns-clause-end : goal.returns-clause-end
 returns-clause-end c = if_ok c.step.result c.step.ensures.piece c.step.ensures.state (λ p e f h. next_ends seen c.args.self.now c.step.new.self p e f h)

@@ -1,0 +1,123 @@
+-- Worked rows of the grammar itself: texts that are in it, with what is written in them; texts that are not; readings that
+-- are refused.
+use Prim.Native.Char.{code}
+use Rattle.std.proofs.Common.{◌≡◌, ◌≢◌, [], ◌∷◌, List, refl, codes, Some, None, true, false, arith}
+use Rattle.std.proofs.lemmas.Bool.{false≢true}
+use Rattle.rustc_parse_format.specs.Characters.{Text}
+use Rattle.rustc_parse_format.specs.Pieces.{Mode, Format, Diagnostic, Left, Right, Unknown, Plus, Lower, Implicit, Is, Piece, NextArgument, default_spec}
+use Rattle.rustc_parse_format.specs.Spelling.{IsPart}
+use Rattle.rustc_parse_format.specs.Syntax.{Word, NoPosition, NumberCount, IndexCount, NameCount, NoCount, PaddedWidth, ZeroIndexWidth, PlainWidth, NoPrecision, DotPrecision, DebugHexType, SignType, WordType, Parts, Default, FormatParts, DiagnosticText, FieldText, opened_part, IsCut}
+use Rattle.rustc_parse_format.specs.Grammar.{Reads, IsInGrammar}
+use Rattle.rustc_parse_format.specs.Step.{call}
+use Rattle.rustc_parse_format.proofs.Readings.{Reads-unique}
+use Rattle.rustc_parse_format.proofs.Calls.{begins_call}
+use Rattle.rustc_parse_format.proofs.Rows.{computing}
+
+-- a specification in which nothing is written
+abbrev nothing : Parts
+nothing = record { fill = None; align = Unknown; sign = None; alternate = false; width = PlainWidth NoCount; precision = NoPrecision; type = WordType [] }
+
+abbrev spec : Parts → FieldText
+spec p = record { position = NoPosition; space = []; spec = FormatParts p }
+
+-- One placeholder, with what is written in it.
+all_parts-are_written :
+    IsCut Format (codes "a :*>+#05$.b$x?}")
+    (record { position = Word (codes "a"); space = codes " "; spec = FormatParts (record { fill = Some (code "*"); align = Right; sign = Some Plus; alternate = true; width = PaddedWidth (IndexCount (codes "5")); precision = DotPrecision (NameCount (codes "b")); type = DebugHexType Lower }) })
+    (codes "}")
+unfolding computing
+all_parts-are_written = record { whole = refl; formed = refl; ends = refl }
+
+brace_fill-is_no_end : IsCut Format (codes ":}<}") (spec (record nothing { fill = Some (code "}"); align = Left })) (codes "}")
+unfolding computing
+brace_fill-is_no_end = record { whole = refl; formed = refl; ends = refl }
+
+zero_index-is_no_flag : IsCut Format (codes ":0$}") (spec (record nothing { width = ZeroIndexWidth })) (codes "}")
+unfolding computing
+zero_index-is_no_flag = record { whole = refl; formed = refl; ends = refl }
+
+flag-stands_before_an_index : IsCut Format (codes ":00$}") (spec (record nothing { width = PaddedWidth (IndexCount (codes "0")) })) (codes "}")
+unfolding computing
+flag-stands_before_an_index = record { whole = refl; formed = refl; ends = refl }
+
+hexadecimal_letter-leaves_the_word : IsCut Format (codes ":xyz}") (spec (record nothing { type = SignType (code "x") })) (codes "yz}")
+unfolding computing
+hexadecimal_letter-leaves_the_word = record { whole = refl; formed = refl; ends = refl }
+
+diagnostic_text-is_no_specification : IsCut Diagnostic (codes "a:08 b}") (record { position = Word (codes "a"); space = []; spec = DiagnosticText (codes "08 b") }) (codes "}")
+unfolding computing
+diagnostic_text-is_no_specification = record { whole = refl; formed = refl; ends = refl }
+
+-- A field stands behind a single brace whether a brace closes it or not.
+unclosed-has_its_field : IsPart (codes "{a?") (opened_part Format (record { position = Word (codes "a"); space = []; spec = Default })) (codes "?")
+unfolding computing
+unclosed-has_its_field = record { whole = refl; formed = refl; ends = refl }
+
+-- Another way to write the same text is refused.
+flag-is_no_digit : ¬ (IsCut Format (codes ":05}") (spec (record nothing { width = PlainWidth (NumberCount (codes "05")) })) (codes "}"))
+unfolding computing
+flag-is_no_digit h = false≢true h.ends
+
+word-is_not_cut_short : ¬ (IsCut Format (codes "ab}") (record { position = Word (codes "a"); space = []; spec = Default }) (codes "b}"))
+unfolding computing
+word-is_not_cut_short h = false≢true h.ends
+
+fill-is_taken : ¬ (IsCut Format (codes ":<<}") (spec (record nothing { align = Left })) (codes "<}"))
+unfolding computing
+fill-is_taken h = false≢true h.ends
+
+name_count-is_taken : ¬ (IsCut Format (codes ":a$}") (spec (record nothing { type = WordType (codes "a") })) (codes "$}"))
+unfolding computing
+name_count-is_taken h = false≢true h.ends
+
+question-belongs_to_the_letter : ¬ (IsCut Format (codes ":x?}") (spec (record nothing { type = SignType (code "x") })) (codes "?}"))
+unfolding computing
+question-belongs_to_the_letter h = false≢true h.ends
+
+-- A whole text, with its reading, and no other one.
+abbrev padded : List (Piece (Unit {0}))
+padded = NextArgument (record { position = Implicit 0; position_span = tt; format = record default_spec { zero_pad = true; width = Is 5 } }) ∷ []
+
+padded_number-has_this_reading : Reads Format 0 (codes "{:05}") padded
+unfolding computing
+padded_number-has_this_reading = (
+  [],
+  1,
+  record {
+    field = spec (record nothing { width = PaddedWidth (NumberCount (codes "5")) });
+    space = [];
+    written = record { whole = refl; formed = refl; ends = refl };
+    clean = record { named = ((λ e. cc e), tt); fits = ((omega arith), tt) };
+    means = refl;
+    numbered = refl;
+  },
+  refl,
+)
+
+padded_number-has_no_other : (ps : List (Piece (Unit {0}))) → Reads Format 0 (codes "{:05}") ps → ps ≡ padded
+padded_number-has_no_other ps h = Reads-unique Format 0 (codes "{:05}") ps padded h padded_number-has_this_reading
+
+-- Texts that are not in it.
+refused : (mode : Mode) (t : Text) → t ≢ [] → (call mode 0 t).faults ≢ [] → ¬ (IsInGrammar mode t)
+refused mode t some faulty ([], end) = some end
+refused mode t some faulty (p ∷ ps, (r, n, b, later)) = faulty (begins_call mode 0 t p r n b).faultless
+
+lone_brace-is_refused : ¬ (IsInGrammar Format (codes "{"))
+unfolding computing
+lone_brace-is_refused = refused Format (codes "{") (λ e. cc e) (λ e. cc e)
+
+closing_brace-is_refused : ¬ (IsInGrammar Format (codes "}"))
+unfolding computing
+closing_brace-is_refused = refused Format (codes "}") (λ e. cc e) (λ e. cc e)
+
+question_without_colon-is_refused : ¬ (IsInGrammar Format (codes "{a?}"))
+unfolding computing
+question_without_colon-is_refused = refused Format (codes "{a?}") (λ e. cc e) (λ e. cc e)
+
+underscore-is_no_type : ¬ (IsInGrammar Format (codes "{:_}"))
+unfolding computing
+underscore-is_no_type = refused Format (codes "{:_}") (λ e. cc e) (λ e. cc e)
+
+large_number-is_refused : ¬ (IsInGrammar Format (codes "{65536}"))
+unfolding computing
+large_number-is_refused = refused Format (codes "{65536}") (λ e. cc e) (λ e. cc e)

@@ -1,0 +1,128 @@
+-- Runs, integers and words: the longest front of a text is one, and the only one.
+use Rattle.std.proofs.Common.{◌≡◌, ◌≤◌, ◌<◌, ◌⊎◌, inl, inr, ◌++◌, ℕ, Bool, true, false, not, cond, [], ◌∷◌, refl, sym, ◌∙◌, ap, arith}
+use Rattle.std.specs.Prelude.{◌&&◌, ◌==◌, nat_le}
+use Rattle.std.specs.Char.{is_ascii_digit, is_ascii_alphabetic}
+use Rattle.std.proofs.lemmas.Bool.{cond-true, cond-false, and_parts, and_from, not-true, not_from_false, false≢true, leb-true, eqb-true, false_from_ne_true, or_cases}
+use Rattle.unicode_ident.proofs.IdentLemmas.{is_xid_start-ascii}
+use Rattle.unicode_ident.specs.Ident.{is_xid_start}
+use Rattle.rustc_parse_format.specs.Characters.{Text, is_id_start, is_id_continue, front, behind, word, behind_word, digits, behind_digits, starts}
+use Rattle.rustc_parse_format.specs.Spelling.{IsPart, run, integer, identifier, optional_identifier}
+use Rattle.rustc_parse_format.proofs.LiteralFronts.{front-behind, list_all-front, begins_passing-behind, front-append, behind-append}
+use Rattle.rustc_parse_format.proofs.PartLaws.{Finds}
+
+-- each with the rest
+abbrev pub run_at : (ℕ → Bool) → Text → Text × Text
+run_at p t = (front p t, behind p t)
+
+abbrev pub word_at : Text → Text × Text
+word_at t = (word t, behind_word t)
+
+pub run-finds : (p : ℕ → Bool) → Finds (run p) (run_at p)
+run-finds p = record {
+  sound = λ t. record { whole = sym (front-behind p t); formed = list_all-front p t; ends = not_from_false _ (begins_passing-behind p t) };
+  complete = λ t u r h.
+      (let ends : starts p r ≡ false = not-true _ h.ends in
+      ap (λ s. (front p s, behind p s)) h.whole ∙ (ap (λ s. (s, behind p (u ++ r))) (front-append p u r h.formed ends) ∙ ap (λ s. (u, s)) (behind-append p u r h.formed ends)));
+}
+
+-- an integer at the front
+pub integer-sound : (c : ℕ) (t : Text) → is_ascii_digit c ≡ true → IsPart (c ∷ t) (integer (digits (c ∷ t))) (behind_digits (c ∷ t))
+unfolding digits behind_digits
+integer-sound c t d = record {
+  whole = sym (front-behind is_ascii_digit (c ∷ t));
+  formed = and_from _ _ (ap (starts is_ascii_digit) (cond-true (is_ascii_digit c) (c ∷ front is_ascii_digit t) [] d) ∙ d) (list_all-front is_ascii_digit (c ∷ t));
+  ends = not_from_false _ (begins_passing-behind is_ascii_digit (c ∷ t));
+}
+
+pub record IntegerAt (t ds r : Text) : Type 0 where
+  pub digit : starts is_ascii_digit t ≡ true
+  pub read : digits t ≡ ds
+  pub behind : behind_digits t ≡ r
+
+pub integer-complete : (t ds r : Text) → IsPart t (integer ds) r → IntegerAt t ds r
+unfolding digits behind_digits
+integer-complete t [] r h = absurd (false≢true h.formed)
+integer-complete t (c ∷ ds) r h =
+    let all = (and_parts _ _ h.formed).1 in
+    let ends = not-true _ h.ends in
+    record {
+      digit = ap (starts is_ascii_digit) h.whole ∙ (and_parts _ _ h.formed).0;
+      read = ap (front is_ascii_digit) h.whole ∙ front-append is_ascii_digit (c ∷ ds) r all ends;
+      behind = ap (behind is_ascii_digit) h.whole ∙ behind-append is_ascii_digit (c ∷ ds) r all ends;
+    }
+
+-- a word at the front, and none
+word-start : (c : ℕ) (t : Text) → is_id_start c ≡ true → word (c ∷ t) ≡ c ∷ front is_id_continue t
+unfolding word
+word-start c t i = cond-true (is_id_start c) _ _ i
+
+behind_word-start : (c : ℕ) (t : Text) → is_id_start c ≡ true → behind_word (c ∷ t) ≡ behind is_id_continue t
+unfolding behind_word
+behind_word-start c t i = cond-true (is_id_start c) _ _ i
+
+word-none : (t : Text) → starts is_id_start t ≡ false → word t ≡ []
+unfolding word
+word-none [] e = refl
+word-none (c ∷ t) e = cond-false (is_id_start c) _ _ e
+
+pub behind_word-none : (t : Text) → starts is_id_start t ≡ false → behind_word t ≡ t
+unfolding behind_word
+behind_word-none [] e = refl
+behind_word-none (c ∷ t) e = cond-false (is_id_start c) _ _ e
+
+pub identifier-sound : (c : ℕ) (t : Text) → is_id_start c ≡ true → IsPart (c ∷ t) (identifier (word (c ∷ t))) (behind_word (c ∷ t))
+identifier-sound c t i = record {
+  whole = ap (λ u. c ∷ u) (sym (front-behind is_id_continue t))
+      ∙ (ap (λ u. u ++ behind is_id_continue t) (sym (word-start c t i)) ∙ ap (λ u. word (c ∷ t) ++ u) (sym (behind_word-start c t i)));
+  formed = ap (λ w. (identifier w).is_formed) (word-start c t i) ∙ and_from _ _ i (list_all-front is_id_continue t);
+  ends = ap (λ r. not (starts is_id_continue r)) (behind_word-start c t i) ∙ not_from_false _ (begins_passing-behind is_id_continue t);
+}
+
+pub record WordAt (t w r : Text) : Type 0 where
+  pub starts : starts is_id_start t ≡ true
+  pub read : word t ≡ w
+  pub behind : behind_word t ≡ r
+
+pub identifier-complete : (t w r : Text) → IsPart t (identifier w) r → WordAt t w r
+identifier-complete t [] r h = absurd (false≢true h.formed)
+identifier-complete t (c ∷ w) r h =
+    let i : is_id_start c ≡ true = (and_parts _ _ h.formed).0 in
+    let all = (and_parts _ _ h.formed).1 in
+    let ends = not-true _ h.ends in
+    record {
+      starts = ap (starts is_id_start) h.whole ∙ i;
+      read = ap word h.whole ∙ (word-start c (w ++ r) i ∙ ap (λ u. c ∷ u) (front-append is_id_continue w r all ends));
+      behind = ap behind_word h.whole ∙ (behind_word-start c (w ++ r) i ∙ behind-append is_id_continue w r all ends);
+    }
+
+optional-sound : (t : Text) → IsPart t (optional_identifier (word t)) (behind_word t)
+unfolding word behind_word
+optional-sound [] = record { whole = refl; formed = refl; ends = refl }
+optional-sound (c ∷ t) =
+    elim (is_id_start c) as (λ b. is_id_start c ≡ b → IsPart (c ∷ t) (optional_identifier (cond b (c ∷ front is_id_continue t) [])) (cond b (behind is_id_continue t) (c ∷ t))) [
+      | true ↦ λ i. record { whole = ap (λ u. c ∷ u) (sym (front-behind is_id_continue t)); formed = and_from _ _ i (list_all-front is_id_continue t); ends = not_from_false _ (begins_passing-behind is_id_continue t) }
+      | false ↦ λ i. record { whole = refl; formed = refl; ends = not_from_false _ i }
+    ] refl
+
+optional-complete : (t w r : Text) → IsPart t (optional_identifier w) r → word_at t ≡ (w, r)
+optional-complete t [] r h =
+    let e : starts is_id_start t ≡ false = ap (starts is_id_start) h.whole ∙ not-true _ h.ends in
+    ap (λ u. (u, behind_word t)) (word-none t e) ∙ ap (λ u. ([], u)) (behind_word-none t e ∙ h.whole)
+optional-complete t (c ∷ w) r h = let k = identifier-complete t (c ∷ w) r h in ap (λ u. (u, behind_word t)) k.read ∙ ap (λ u. (c ∷ w, u)) k.behind
+
+pub optional_identifier-finds : Finds optional_identifier word_at
+optional_identifier-finds = record { sound = optional-sound; complete = optional-complete }
+
+no_letter : (lo hi c : ℕ) → c < lo → (nat_le lo c && nat_le c hi) ≡ true → ⊥
+no_letter lo hi c small e = let k = leb-true lo c (and_parts _ _ e).0 in omega (arith, k, small)
+
+-- a digit begins no word
+pub start-no_digit : (c : ℕ) → is_id_start c ≡ true → is_ascii_digit c ≡ false
+start-no_digit c i = false_from_ne_true (is_ascii_digit c) (λ d. by_range (leb-true c 57 (and_parts _ _ d).1) (or_cases _ _ i))
+  where
+    by_letter : c ≤ 57 → (is_ascii_alphabetic c) ≡ true → ⊥
+    by_letter small e = elim (or_cases _ _ e) [ inl k ↦ no_letter 65 90 c (omega (arith, small)) k | inr k ↦ no_letter 97 122 c (omega (arith, small)) k ]
+
+    by_range : c ≤ 57 → ((c == 95) ≡ true) ⊎ (is_xid_start c ≡ true) → ⊥
+    by_range small (inl e) = let k = eqb-true c 95 e in omega (arith, k, small)
+    by_range small (inr e) = by_letter small (sym (is_xid_start-ascii c (omega (arith, small))) ∙ e)

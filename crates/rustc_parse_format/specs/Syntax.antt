@@ -1,0 +1,169 @@
+-- What stands between the braces of a placeholder, as written: the parts, how each is spelled and what may follow it.
+-- The public rule is the grammar of format strings in the documentation of `std::fmt`. Parts take what they can from the front
+-- on: one that may be left out is absent only where it does not begin.
+use Prim.Native.Char.{code}
+use Rattle.std.specs.Prelude.{◌≡◌, ℕ, Bool, true, false, not, ◌&&◌, ◌||◌, ◌==◌, [], ◌∷◌, Option, Some, None, codes}
+use Rattle.std.specs.Char.{is_ascii_digit, is_whitespace}
+use Rattle.rustc_parse_format.specs.Characters.{Text, is_align, is_id_start, is_no_brace, behind_first, behind_word, begins_with, starts}
+use Rattle.rustc_parse_format.specs.Pieces.{Mode, Format, InlineAsm, Diagnostic, Alignment, Left, Right, Center, Unknown, Sign, Plus, Minus, DebugHex, Lower, Upper}
+use Rattle.rustc_parse_format.specs.Spelling.{Part, IsPart, before, fixed, unless, absent, never, run, integer, identifier, optional_identifier, row}
+
+pub data PositionText : Type 0 where
+  Digits : Text → PositionText
+  Word : Text → PositionText
+  NoPosition : PositionText
+
+-- argument := integer | identifier
+abbrev pub position_part : PositionText → Part
+position_part (Digits ds) = integer ds
+position_part (Word w) = identifier w
+position_part NoPosition = absent (λ t. starts is_ascii_digit t || starts is_id_start t)
+
+-- fill := character, which an align follows
+abbrev pub fill_part : Option ℕ → Part
+fill_part (Some c) = before (c ∷ []) (starts is_align)
+fill_part None = absent (λ t. starts is_align (behind_first t))
+
+-- align := '<' | '^' | '>'
+abbrev pub align_part : Alignment → Part
+align_part Left = fixed (codes "<")
+align_part Right = fixed (codes ">")
+align_part Center = fixed (codes "^")
+align_part Unknown = absent (starts is_align)
+
+abbrev pub is_sign : ℕ → Bool
+is_sign c = (c == code "+") || (c == code "-")
+
+-- sign := '+' | '-'
+abbrev pub sign_part : Option Sign → Part
+sign_part (Some Plus) = fixed (codes "+")
+sign_part (Some Minus) = fixed (codes "-")
+sign_part None = absent (starts is_sign)
+
+-- ['#']
+abbrev pub alternate_part : Bool → Part
+alternate_part true = fixed (codes "#")
+alternate_part false = absent (begins_with (code "#"))
+
+pub data CountText : Type 0 where
+  -- `10`
+  NumberCount : Text → CountText
+  -- `10$`
+  IndexCount : Text → CountText
+  -- `a$`
+  NameCount : Text → CountText
+  NoCount : CountText
+
+-- digits, or a word with a `$` behind it
+abbrev pub begins_count : Text → Bool
+begins_count t = starts is_ascii_digit t || (starts is_id_start t && begins_with (code "$") (behind_word t))
+
+-- count := integer | parameter, parameter := argument '$'
+abbrev pub count_part : CountText → Part
+count_part (NumberCount ds) = row (integer ds ∷ absent (begins_with (code "$")) ∷ [])
+count_part (IndexCount ds) = row (integer ds ∷ fixed (codes "$") ∷ [])
+count_part (NameCount w) = row (identifier w ∷ fixed (codes "$") ∷ [])
+count_part NoCount = absent begins_count
+
+pub data WidthText : Type 0 where
+  -- the flag `0` and a count
+  PaddedWidth : CountText → WidthText
+  -- `0$`, which is no flag
+  ZeroIndexWidth : WidthText
+  -- a count
+  PlainWidth : CountText → WidthText
+
+-- ['0'] [width], width := count: a `0` in front is the flag, unless a `$` follows
+abbrev pub width_part : WidthText → Part
+width_part (PaddedWidth k) = row (unless (codes "0") (begins_with (code "$")) ∷ count_part k ∷ [])
+width_part ZeroIndexWidth = fixed (codes "0$")
+width_part (PlainWidth k) = row (absent (begins_with (code "0")) ∷ count_part k ∷ [])
+
+pub data PrecisionText : Type 0 where
+  NoPrecision : PrecisionText
+  -- `.*`
+  StarPrecision : PrecisionText
+  -- `.` and a count
+  DotPrecision : CountText → PrecisionText
+
+-- ['.' precision], precision := count | '*'
+abbrev pub precision_part : PrecisionText → Part
+precision_part NoPrecision = absent (begins_with (code "."))
+precision_part StarPrecision = fixed (codes ".*")
+precision_part (DotPrecision k) = row (unless (codes ".") (begins_with (code "*")) ∷ count_part k ∷ [])
+
+pub data TypeText : Type 0 where
+  -- `x?` or `X?`
+  DebugHexType : DebugHex → TypeText
+  -- `x`, `X` or `?`
+  SignType : ℕ → TypeText
+  -- a word, which may be empty
+  WordType : Text → TypeText
+
+abbrev pub is_type_sign : ℕ → Bool
+is_type_sign c = (c == code "x") || (c == code "X") || (c == code "?")
+
+-- type := '' | '?' | 'x' | 'x?' | 'X' | 'X?' | identifier: `x` and `X` alone only where no `?` follows
+abbrev pub type_part : TypeText → Part
+type_part (DebugHexType Lower) = fixed (codes "x?")
+type_part (DebugHexType Upper) = fixed (codes "X?")
+type_part (SignType c) = record { spelling = c ∷ []; is_formed = is_type_sign c; may_precede = λ t. (c == code "?") || not (begins_with (code "?") t) }
+type_part (WordType w) = row (absent (starts is_type_sign) ∷ optional_identifier w ∷ [])
+
+pub record Parts : Type 0 where
+  pub fill : Option ℕ
+  pub align : Alignment
+  pub sign : Option Sign
+  pub alternate : Bool
+  pub width : WidthText
+  pub precision : PrecisionText
+  pub type : TypeText
+
+-- format_spec := [[fill]align][sign]['#']['0'][width]['.' precision]type
+abbrev pub format_part : Parts → Part
+format_part p = row (fill_part p.fill ∷ align_part p.align ∷ sign_part p.sign ∷ alternate_part p.alternate
+    ∷ width_part p.width ∷ precision_part p.precision ∷ type_part p.type ∷ [])
+
+-- what stands in the place of a specification
+pub data SpecText : Type 0 where
+  -- no colon
+  Default : SpecText
+  FormatParts : Parts → SpecText
+  -- the modifier of inline assembly
+  Modifier : Text → SpecText
+  -- the text in a diagnostic
+  DiagnosticText : Text → SpecText
+
+-- [ ':' format_spec ], and in the other modes another thing behind the colon
+abbrev pub spec_part : Mode → SpecText → Part
+spec_part mode Default = absent (begins_with (code ":"))
+spec_part Format (FormatParts p) = row (fixed (codes ":") ∷ format_part p ∷ [])
+spec_part InlineAsm (Modifier w) = row (fixed (codes ":") ∷ optional_identifier w ∷ [])
+spec_part Diagnostic (DiagnosticText u) = row (fixed (codes ":") ∷ run is_no_brace u ∷ [])
+spec_part mode s = never
+
+pub record FieldText : Type 0 where
+  pub position : PositionText
+  -- white space
+  pub space : Text
+  pub spec : SpecText
+
+abbrev pub field_part : Mode → FieldText → Part
+field_part mode a = row (position_part a.position ∷ run is_whitespace a.space ∷ spec_part mode a.spec ∷ [])
+
+-- format := '{' [ argument ] [ ws ] * [ ':' format_spec ] [ ws ] * '}'
+abbrev pub placeholder_part : Mode → FieldText → Text → Part
+placeholder_part mode a space = row (fixed (codes "{") ∷ field_part mode a ∷ run is_whitespace space ∷ fixed (codes "}") ∷ [])
+
+-- a single brace and the field behind it, whether a brace closes it or not
+abbrev pub opened_part : Mode → FieldText → Part
+opened_part mode a = row (unless (codes "{") (begins_with (code "{")) ∷ field_part mode a ∷ [])
+
+-- t is cut into the field a and the rest r
+abbrev pub IsCut : Mode → Text → FieldText → Text → Type 0
+IsCut mode t a r = IsPart t (field_part mode a) r
+
+-- and in no other way
+pub record IsOnlyCut (mode : Mode) (t : Text) (a : FieldText) (r : Text) : Type 0 where
+  pub is_cut : IsCut mode t a r
+  pub is_only : (b : FieldText) (s : Text) → IsCut mode t b s → (b ≡ a) × (s ≡ r)

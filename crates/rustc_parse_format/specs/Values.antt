@@ -1,0 +1,86 @@
+-- What a field means where the next number is c: the argument, without spans, and the number that is next behind it.
+-- The public rule is `std::fmt`, of positional parameters, widths and precisions.
+use Rattle.std.specs.Prelude.{ℕ, Bool, true, false, suc, if◌then◌else◌, [], ◌∷◌, Option, Some, None, codes, is_some, unwrap_or}
+use Rattle.rustc_parse_format.specs.Characters.{Text, number}
+use Rattle.rustc_parse_format.specs.Pieces.{DebugHex, Position, Implicit, Index, Named, Count, Is, Name, Param, Star, Implied, Spec, Argument, default_spec}
+use Rattle.rustc_parse_format.specs.Syntax.{PositionText, Digits, Word, NoPosition, CountText, NumberCount, IndexCount, NameCount, NoCount, WidthText, PaddedWidth, ZeroIndexWidth, PlainWidth, PrecisionText, NoPrecision, StarPrecision, DotPrecision, TypeText, DebugHexType, SignType, WordType, Parts, SpecText, Default, FormatParts, Modifier, DiagnosticText, FieldText}
+
+abbrev pub count_value : CountText → Count (Unit {0})
+count_value (NumberCount ds) = Is (number ds)
+count_value (IndexCount ds) = Param (number ds)
+count_value (NameCount w) = Name w tt
+count_value NoCount = Implied
+
+abbrev pub is_padded : WidthText → Bool
+is_padded (PaddedWidth k) = true
+is_padded w = false
+
+abbrev pub width_value : WidthText → Count (Unit {0})
+width_value (PaddedWidth k) = count_value k
+width_value ZeroIndexWidth = Param 0
+width_value (PlainWidth k) = count_value k
+
+-- a star takes the number c
+abbrev pub precision_value : ℕ → PrecisionText → Count (Unit {0})
+precision_value c NoPrecision = Implied
+precision_value c StarPrecision = Star c
+precision_value c (DotPrecision k) = count_value k
+
+abbrev pub type_of : TypeText → Text
+type_of (DebugHexType h) = codes "?"
+type_of (SignType c) = c ∷ []
+type_of (WordType w) = w
+
+abbrev pub debug_hex_of : TypeText → Option DebugHex
+debug_hex_of (DebugHexType h) = Some h
+debug_hex_of y = None
+
+abbrev pub format_value : ℕ → Parts → Spec (Unit {0})
+format_value c p = record default_spec {
+  fill = p.fill;
+  align = p.align;
+  sign = p.sign;
+  alternate = p.alternate;
+  zero_pad = is_padded p.width;
+  debug_hex = debug_hex_of p.type;
+  width = width_value p.width;
+  precision = precision_value c p.precision;
+  ty = type_of p.type;
+}
+
+abbrev pub spec_value : ℕ → SpecText → Spec (Unit {0})
+spec_value c Default = default_spec
+spec_value c (FormatParts p) = format_value c p
+spec_value c (Modifier w) = record default_spec { ty = w }
+spec_value c (DiagnosticText u) = record default_spec { ty = u }
+
+-- a star takes the next number
+abbrev pub behind_precision : ℕ → PrecisionText → ℕ
+behind_precision c StarPrecision = suc c
+behind_precision c p = c
+
+-- the next number behind the specification
+abbrev pub behind_spec : ℕ → SpecText → ℕ
+behind_spec c (FormatParts p) = behind_precision c p.precision
+behind_spec c s = c
+
+-- a position that is not implicit
+abbrev pub given_position : PositionText → Option Position
+given_position (Digits ds) = Some (Index (number ds))
+given_position (Word w) = Some (Named w)
+given_position NoPosition = None
+
+-- an implicit position takes the number that is next behind the specification
+abbrev pub position_of : ℕ → PositionText → Position
+position_of c p = unwrap_or (given_position p) (Implicit c)
+
+abbrev pub behind_position : ℕ → PositionText → ℕ
+behind_position c p = if is_some (given_position p) then c else suc c
+
+-- the argument that a field means
+abbrev pub argument_value : ℕ → FieldText → Argument (Unit {0})
+argument_value c a = record { position = position_of (behind_spec c a.spec) a.position; position_span = tt; format = spec_value c a.spec }
+
+-- and the next number behind it
+unfoldable pub next_number : ℕ → FieldText → ℕ
+next_number c a = behind_position (behind_spec c a.spec) a.position
