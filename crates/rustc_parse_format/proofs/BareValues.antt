@@ -5,33 +5,32 @@ use Rattle.rustc_parse_format.specs.Pieces.{bare_count, bare_spec, bare_argument
 use Rattle.rustc_parse_format.specs.Syntax.{CountText, NumberCount, IndexCount, NameCount, NoCount, WidthText, PaddedWidth, ZeroIndexWidth, PlainWidth, PrecisionText, NoPrecision, StarPrecision, DotPrecision, SpecText, Default, FormatParts, Modifier, DiagnosticText}
 use Rattle.rustc_parse_format.specs.Values.{count_value, width_value, precision_value, spec_value, behind_spec, position_of, argument_value}
 use Rattle.rustc_parse_format.specs.Placeholder.{Cut}
-use Rattle.rustc_parse_format.specs.Specification.{width_at, precision_at}
-use Rattle.rustc_parse_format.specs.Meaning.{count_of, width_of, precision_of, format_of, spec_of, argument}
+use Rattle.rustc_parse_format.specs.Meaning.{count_of, width_of, precision_of, from_type, from_precision, from_width, format_of, spec_of, argument}
 use Rattle.rustc_parse_format.specs.Characters.{behind_first}
 
-count-bare : (t : Text) (k : CountText) → bare_count (count_of t k) ≡ count_value k
-count-bare t (NumberCount ds) = refl
-count-bare t (IndexCount ds) = refl
-count-bare t (NameCount w) = refl
-count-bare t NoCount = refl
+count-bare : (t : Text) (k : CountText) (r : Text) → bare_count (count_of t k r) ≡ count_value k
+count-bare t (NumberCount ds) r = refl
+count-bare t (IndexCount ds) r = refl
+count-bare t (NameCount w) r = refl
+count-bare t NoCount r = refl
 
-width-bare : (t : Text) (w : WidthText) → bare_count (width_of t w) ≡ width_value w
-width-bare t (PaddedWidth k) = count-bare (behind_first t) k
-width-bare t ZeroIndexWidth = refl
-width-bare t (PlainWidth k) = count-bare t k
+width-bare : (t : Text) (w : WidthText) (r : Text) → bare_count (width_of t w r) ≡ width_value w
+width-bare t (PaddedWidth k) r = count-bare (behind_first t) k r
+width-bare t ZeroIndexWidth r = refl
+width-bare t (PlainWidth k) r = count-bare t k r
 
-precision-bare : (c : ℕ) (t : Text) (p : PrecisionText) → bare_count (precision_of c t p) ≡ precision_value c p
-precision-bare c t NoPrecision = refl
-precision-bare c t StarPrecision = refl
-precision-bare c t (DotPrecision k) = count-bare (behind_first t) k
+precision-bare : (c : ℕ) (t : Text) (p : PrecisionText) (r : Text) → bare_count (precision_of c t p r) ≡ precision_value c p
+precision-bare c t NoPrecision r = refl
+precision-bare c t StarPrecision r = refl
+precision-bare c t (DotPrecision k) r = count-bare (behind_first t) k r
 
 spec-bare : (c : ℕ) (t r : Text) (k : SpecText) → bare_spec (spec_of c t k r) ≡ spec_value c k
 unfolding format_of
 spec-bare c t r Default = refl
 spec-bare c t r (FormatParts p) =
     rw (
-      width-bare (width_at (behind_first t)) p.width,
-      precision-bare c (precision_at (behind_first t)) p.precision,
+      width-bare (from_width p r) p.width (from_precision p r),
+      precision-bare c (from_precision p r) p.precision (from_type p r),
     ) refl
 spec-bare c t r (Modifier w) = refl
 spec-bare c t r (DiagnosticText w) = refl

@@ -1,22 +1,26 @@
 -- A call has no fault exactly where a piece begins the text, and then it gives this piece.
-use Rattle.std.proofs.Common.{◌≡◌, ◌≢◌, ℕ, ◌++◌, ◌==◌, Bool, true, false, List, [], ◌∷◌, refl, sym, inl, inr, ◌∙◌, ap, Some}
-use Rattle.std.proofs.lemmas.Bool.{cond_both, eqb-true, eq-eqb}
-use Rattle.rustc_parse_format.specs.Characters.{Text, is_brace, is_no_brace, front, behind_white, behind_first, begins_with}
+use Rattle.std.proofs.Common.{◌≡◌, ◌≢◌, ℕ, ◌++◌, ◌==◌, Bool, true, false, List, [], ◌∷◌, refl, sym, ◌∙◌, ap, subst, arith, Some}
+use Rattle.std.proofs.lemmas.Bool.{cond_both, eqb-true, eq-eqb, not_from_false, not-true, false≢true}
+use Rattle.std.specs.Char.{is_whitespace}
+use Rattle.unicode_ident.proofs.Computing.{unicode_ident}
+use Rattle.rustc_parse_format.specs.Characters.{Text, is_brace, is_no_brace, front, behind, word, behind_word, digits, behind_digits, behind_white, behind_first, begins_with, starts}
 use Rattle.rustc_parse_format.specs.Marks.{Span}
-use Rattle.rustc_parse_format.specs.Pieces.{Mode, Argument, Piece, Lit, NextArgument, bare}
+use Rattle.rustc_parse_format.specs.Pieces.{Mode, Piece, Lit, NextArgument, bare}
+use Rattle.rustc_parse_format.specs.Spelling.{IsPart, run, doubled}
+use Rattle.rustc_parse_format.specs.Syntax.{PieceText, RunText, DoubledText, PlaceholderText, piece_part}
 use Rattle.rustc_parse_format.specs.Placeholder.{cut}
-use Rattle.rustc_parse_format.specs.Values.{argument_value, next_number}
+use Rattle.rustc_parse_format.specs.Values.{argument_value, next_number, piece_value, number_behind}
 use Rattle.rustc_parse_format.specs.Meaning.{argument}
-use Rattle.rustc_parse_format.specs.Grammar.{IsClean, HasNoBrace, EndsRun, Begins}
+use Rattle.rustc_parse_format.specs.Grammar.{IsClean, IsCleanPiece, Begins}
 use Rattle.rustc_parse_format.specs.Faults.{Fault}
 use Rattle.rustc_parse_format.specs.PartFaults.{cut_faults}
 use Rattle.rustc_parse_format.specs.Step.{Call, call, placeholder, literal}
 use Rattle.rustc_parse_format.proofs.CleanWords.{none_right}
 use Rattle.rustc_parse_format.proofs.CleanCuts.{cut_clean, cut_faultless}
-use Rattle.rustc_parse_format.proofs.Readings.{brace_stays, differ}
 use Rattle.rustc_parse_format.proofs.BareValues.{argument-bare}
-use Rattle.rustc_parse_format.proofs.PlaceholderCuts.{ClosesCut, from_cut, by_cut}
-use Rattle.rustc_parse_format.proofs.Runs.{front_unbraced, behind_ends, front-behind, front_all}
+use Rattle.rustc_parse_format.proofs.PartLaws.{IsPart-moved, two-split, then, last}
+use Rattle.rustc_parse_format.proofs.PartFronts.{run-finds, some_run-sound, some_run-complete}
+use Rattle.rustc_parse_format.proofs.PlaceholderCuts.{from_cut, by_cut}
 
 -- the call gives a piece, which begins the text
 pub record Steps (mode : Mode) (c : ℕ) (t : Text) (k : Call) : Type 0 where
@@ -27,34 +31,22 @@ pub record Steps (mode : Mode) (c : ℕ) (t : Text) (k : Call) : Type 0 where
 abbrev Good : Mode → ℕ → Text → Call → Type 0
 Good mode c t k = k.faults ≡ [] → Steps mode c t k
 
-run_nonempty : (b : ℕ) (t : Text) → is_brace b ≡ false → front is_no_brace (b ∷ t) ≢ []
-run_nonempty b t e = rw e (λ h. cc h)
-
 text_steps : (mode : Mode) (c b : ℕ) (t : Text) → is_brace b ≡ false → Steps mode c (b ∷ t) (literal c [] (b ∷ t))
 text_steps mode c b t e = record {
   piece = Lit (front is_no_brace (b ∷ t));
   given = refl;
-  begins = (inl (record { whole = front-behind is_no_brace (b ∷ t); unbraced = front_unbraced (b ∷ t); ends = behind_ends (b ∷ t) }, run_nonempty b t e), refl);
+  begins = record { text = RunText (front is_no_brace (b ∷ t)); written = some_run-sound is_no_brace b t (not_from_false _ e); clean = tt; means = refl; numbered = refl };
 }
 
 doubled_steps : (mode : Mode) (c b : ℕ) (t : Text) → is_brace b ≡ true → begins_with b t ≡ true → Steps mode c (b ∷ t) (literal c (b ∷ []) (behind_first t))
 doubled_steps mode c b [] e h = cc h
-doubled_steps mode c b (d ∷ t) e h = record {
-  piece = Lit (b ∷ front is_no_brace t);
-  given = refl;
-  begins = (
-    inr (record {
-      brace = b;
-      run = front is_no_brace t;
-      is_one = e;
-      twice = ap (λ x. b ∷ x) (ap (λ x. x ∷ t) (eqb-true d b h) ∙ ap (λ u. b ∷ u) (front-behind is_no_brace t));
-      literal = refl;
-      unbraced = front_unbraced t;
-      ends = behind_ends t;
-    }),
-    refl,
-  );
-}
+doubled_steps mode c b (d ∷ t) e h =
+    let two : IsPart (b ∷ d ∷ t) (doubled is_brace b) t = record { whole = ap (λ x. b ∷ x ∷ t) (eqb-true d b h); formed = e; ends = refl } in
+    record {
+      piece = Lit (b ∷ front is_no_brace t);
+      given = refl;
+      begins = record { text = DoubledText b (front is_no_brace t); written = (then two (last ((run-finds is_no_brace).sound t))).part; clean = tt; means = refl; numbered = refl };
+    }
 
 closes_with : (r : Text) → begins_with 125 r ≡ true → r ≡ 125 ∷ behind_first r
 closes_with [] h = cc h
@@ -67,7 +59,13 @@ placeholder_steps mode c b t e =
     (λ h f. record {
       piece = NextArgument (argument c (cut mode t));
       given = refl;
-      begins = from_cut (record { inside = t; opens = ap (λ x. x ∷ t) e; closes = closes_with _ h; clean = cut_clean mode t f; means = argument-bare c (cut mode t); numbered = refl });
+      begins = record {
+        text = PlaceholderText (cut mode t).field (front is_whitespace (cut mode t).rest);
+        written = IsPart-moved (b ∷ t) (123 ∷ t) _ _ (ap (λ x. x ∷ t) e) (from_cut mode t _ (closes_with _ h));
+        clean = cut_clean mode t f;
+        means = ap NextArgument (argument-bare c (cut mode t));
+        numbered = refl;
+      };
     })
     (λ h f. absurd (told (cut_faults (cut mode t)) _ f))
   where
@@ -101,17 +99,32 @@ pub record Gives (p : Piece (Unit {0})) (r : Text) (n : ℕ) (k : Call) : Type 0
   pub rest : k.rest ≡ r
   pub next : k.next ≡ n
 
-call_text : (mode : Mode) (c b : ℕ) (u r : Text) → is_brace b ≡ false → HasNoBrace u → EndsRun r → Gives (Lit (b ∷ u)) r c (call mode c (b ∷ u ++ r))
-unfolding call
-call_text mode c b u r e h k =
-    let all = front_all u r h k in
-    rw e (record { piece = Lit (b ∷ u); given = ap (λ x. Some (Lit (b ∷ x))) all.0; same = refl; faultless = refl; rest = all.1; next = refl })
+given_as : {p q : Piece (Unit {0})} {r s : Text} {n m : ℕ} {k : Call} → Gives p r n k → p ≡ q → r ≡ s → n ≡ m → Gives q s m k
+given_as g e f h = record { piece = g.piece; given = g.given; same = g.same ∙ e; faultless = g.faultless; rest = g.rest ∙ f; next = g.next ∙ h }
 
-call_doubled : (mode : Mode) (c b : ℕ) (u r : Text) → is_brace b ≡ true → HasNoBrace u → EndsRun r → Gives (Lit (b ∷ u)) r c (call mode c (b ∷ b ∷ u ++ r))
+call_run : (mode : Mode) (c : ℕ) (t : Text) → starts is_no_brace t ≡ true → Gives (Lit (front is_no_brace t)) (behind is_no_brace t) c (call mode c t)
 unfolding call
-call_doubled mode c b u r e h k =
-    let all = front_all u r h k in
-    rw (e, eq-eqb b b refl) (record { piece = Lit (b ∷ u); given = ap (λ x. Some (Lit (b ∷ x))) all.0; same = refl; faultless = refl; rest = all.1; next = refl })
+call_run mode c [] e = absurd (false≢true e)
+call_run mode c (b ∷ t) e =
+    rw (not-true (is_brace b) e) (record { piece = Lit (b ∷ front is_no_brace t); given = refl; same = refl; faultless = refl; rest = refl; next = refl })
+
+call_doubled : (mode : Mode) (c b : ℕ) (t : Text) → is_brace b ≡ true → Gives (Lit (b ∷ front is_no_brace t)) (behind is_no_brace t) c (call mode c (b ∷ b ∷ t))
+unfolding call
+call_doubled mode c b t e =
+    rw (e, eq-eqb b b refl) (record { piece = Lit (b ∷ front is_no_brace t); given = refl; same = refl; faultless = refl; rest = refl; next = refl })
+
+-- behind `{{` there is no placeholder
+brace_stays : (mode : Mode) (u : Text) → behind_white (cut mode (123 ∷ u)).rest ≡ 123 ∷ u
+unfolding cut unicode_ident word behind_word digits behind_digits behind_white
+brace_stays mode u = refl
+
+head : Text → ℕ
+head [] = 0
+head (c ∷ t) = c
+
+differ : (s u : Text) → 125 ∷ s ≡ 123 ∷ u → ⊥
+unfolding head
+differ s u e = let h : ◌≡◌ {A = ℕ} 125 123 = ap head e in omega arith
 
 -- what a brace closes does not begin with an opening brace
 opens_one : (mode : Mode) (t r : Text) → behind_white (cut mode t).rest ≡ 125 ∷ r → begins_with 123 t ≡ false
@@ -130,19 +143,25 @@ call_closed : (mode : Mode) (c : ℕ) (t r : Text) → behind_white (cut mode t)
 unfolding call placeholder
 call_closed mode c t r e h =
     let one = opens_one mode t r e in
-    let none = cut_faultless mode t h (ap (begins_with 125) e) in
+    let none = cut_faultless mode t h in
     rw (one, e) (record { piece = NextArgument (argument c (cut mode t)); given = refl; same = ap NextArgument (argument-bare c (cut mode t)); faultless = none; rest = refl; next = refl })
 
 moved : (mode : Mode) (c : ℕ) (t u : Text) (p : Piece (Unit {0})) (r : Text) (n : ℕ) → t ≡ u → Gives p r n (call mode c u) → Gives p r n (call mode c t)
 moved mode c t u p r n e g = rw e g
 
-cut_call : (mode : Mode) (c : ℕ) (t : Text) (a : Argument (Unit {0})) (r : Text) (n : ℕ) → ClosesCut mode c t a r n → Gives (NextArgument a) r n (call mode c t)
-cut_call mode c t a r n k = rw (k.means, k.numbered) (moved mode c t (123 ∷ k.inside) _ r _ k.opens (call_closed mode c k.inside r k.closes k.clean))
+part_call : (mode : Mode) (c : ℕ) (t : Text) (x : PieceText) (r : Text) → IsPart t (piece_part mode x) r → IsCleanPiece x → Gives (piece_value c x) r (number_behind c x) (call mode c t)
+part_call mode c t (RunText u) r w h =
+    let k = some_run-complete is_no_brace t u r w in
+    given_as (call_run mode c t k.begins) (ap Lit k.read) k.behind refl
+part_call mode c t (DoubledText b u) r w h =
+    let s = two-split t (doubled is_brace b) (run is_no_brace u) r w in
+    let e = (run-finds is_no_brace).complete s.seam u r s.second in
+    moved mode c t (b ∷ b ∷ s.seam) _ r _ s.first.whole (given_as (call_doubled mode c b s.seam s.first.formed) (ap (λ x. Lit (b ∷ x.0)) e) (ap (λ x. x.1) e) refl)
+part_call mode c t (PlaceholderText a space) r w h =
+    let k = by_cut mode t a space r w in
+    moved mode c t (123 ∷ k.inside) _ r _ k.opens
+    (given_as (call_closed mode c k.inside r k.closes (subst IsClean k.field h)) (ap (λ x. NextArgument (argument_value c x)) (sym k.field)) refl (ap (next_number c) (sym k.field)))
 
 -- A call gives the piece that begins the text, with no fault.
 pub begins_call : (mode : Mode) (c : ℕ) (t : Text) (p : Piece (Unit {0})) (r : Text) (n : ℕ) → Begins mode c t p r n → Gives p r n (call mode c t)
-begins_call mode c t (Lit []) r n (inl a, e) = absurd (a.1 refl)
-begins_call mode c t (Lit (b ∷ l)) r n (inl a, e) = rw e (moved mode c t (b ∷ l ++ r) (Lit (b ∷ l)) r c a.0.whole (call_text mode c b l r a.0.unbraced.0 a.0.unbraced.1 a.0.ends))
-begins_call mode c t (Lit l) r n (inr a, e) =
-    rw (e, a.literal) (moved mode c t (a.brace ∷ a.brace ∷ a.run ++ r) (Lit (a.brace ∷ a.run)) r c a.twice (call_doubled mode c a.brace a.run r a.is_one a.unbraced a.ends))
-begins_call mode c t (NextArgument a) r n b = cut_call mode c t a r n (by_cut b)
+begins_call mode c t p r n b = given_as (part_call mode c t b.text r b.written b.clean) (sym b.means) refl (sym b.numbered)

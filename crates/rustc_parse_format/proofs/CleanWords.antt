@@ -1,12 +1,12 @@
 -- The fault of a word and the fault of an integer are not there exactly where nothing of them is refused.
 use Rattle.std.proofs.Common.{◌≡◌, ◌≢◌, ℕ, ◌≤◌, ◌++◌, Bool, true, false, cond, List, [], ◌∷◌, refl, sym, ◌∙◌, ap, codes, if◌then◌else◌}
 use Rattle.std.specs.Prelude.{bytes_eq}
-use Rattle.std.specs.List.{AllByRecursion}
 use Rattle.std.specs.Char.{is_ascii_digit}
 use Rattle.std.specs.Str.Parse.{digits_value}
 use Rattle.std.proofs.lemmas.Slice.Eq.{bytes_eq-Decides}
 use Rattle.std.proofs.lemmas.Bool.{ltb-false, le-ltb, cond_both, false≢true}
 use Rattle.rustc_parse_format.specs.Characters.{Text, is_id_start, is_id_continue, front, word, digits}
+use Rattle.rustc_parse_format.specs.Grammar.{IsNamed, IsSmall}
 use Rattle.rustc_parse_format.specs.PartFaults.{word_faults, number_faults}
 
 pub none_left : {A : Type 0} (xs ys : List A) → xs ++ ys ≡ [] → xs ≡ []
@@ -24,30 +24,6 @@ none_both (x ∷ xs) ys e f = cc
 untold : {A : Type 0} (b : Bool) (x : A) → (if b then x ∷ [] else []) ≡ [] → b ≡ false
 untold true x e = cc
 untold false x e = refl
-
-abbrev pub IsNamed : Text → Type 0
-IsNamed w = w ≢ codes "_"
-
-abbrev pub IsSmall : Text → Type 0
-IsSmall ds = digits_value 10 ds ≤ 65535
-
-abbrev pub AllNamed : List Text → Type 0
-AllNamed ws = AllByRecursion IsNamed ws
-
-abbrev pub AllSmall : List Text → Type 0
-AllSmall ds = AllByRecursion IsSmall ds
-
-pub All-append : (P : Text → Type 0) (xs ys : List Text) → AllByRecursion P xs → AllByRecursion P ys → AllByRecursion P (xs ++ ys)
-All-append P [] ys h k = k
-All-append P (x ∷ xs) ys h k = (h.0, All-append P xs ys h.1 k)
-
-pub All-left : (P : Text → Type 0) (xs ys : List Text) → AllByRecursion P (xs ++ ys) → AllByRecursion P xs
-All-left P [] ys h = tt
-All-left P (x ∷ xs) ys h = (h.0, All-left P xs ys h.1)
-
-pub All-right : (P : Text → Type 0) (xs ys : List Text) → AllByRecursion P (xs ++ ys) → AllByRecursion P ys
-All-right P [] ys h = h
-All-right P (x ∷ xs) ys h = All-right P xs ys h.1
 
 pub named : (t : Text) → word_faults t ≡ [] → IsNamed (word t)
 named t e h = false≢true (sym (untold _ _ e) ∙ (bytes_eq-Decides (word t) (codes "_")).1 h)

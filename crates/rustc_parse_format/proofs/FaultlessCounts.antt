@@ -5,25 +5,25 @@ use Rattle.std.specs.Char.{is_ascii_digit}
 use Rattle.rustc_parse_format.specs.Characters.{Text, is_id_start, word, behind_word, digits, behind_digits}
 use Rattle.rustc_parse_format.specs.Syntax.{CountText, NoCount, WidthText, PaddedWidth, ZeroIndexWidth, PlainWidth, PrecisionText, DotPrecision}
 use Rattle.rustc_parse_format.specs.Counts.{count, behind_number, behind_name, width, behind_zero, precision, behind_dot}
+use Rattle.rustc_parse_format.specs.Grammar.{IsNamed, IsSmall, IsCleanCount, IsCleanWidth, IsCleanPrecision}
 use Rattle.rustc_parse_format.specs.PartFaults.{count_faults, width_faults, precision_faults}
-use Rattle.rustc_parse_format.proofs.CleanWords.{none_both, IsNamed, IsSmall, unnamed, unlarge, choose, no_word, no_digits, digit_word, no_word_at_end, no_digits_at_end}
-use Rattle.rustc_parse_format.proofs.CleanCounts.{CleanCount, CleanWidth, CleanPrecision}
+use Rattle.rustc_parse_format.proofs.CleanWords.{none_both, unnamed, unlarge, choose, no_word, no_digits, digit_word, no_word_at_end, no_digits_at_end}
 
 -- where there is no count, the word that was tried is not `_`
 abbrev pub IsTriedNamed : CountText → Text → Type 0
 IsTriedNamed k r = k ≡ NoCount → IsNamed (word r)
 
-number_small : (ds r : Text) → CleanCount (behind_number ds r).0 → IsSmall ds
-number_small ds [] h = h.1.0
-number_small ds (c ∷ r) h = choose {B = Text} (λ k. CleanCount k → IsSmall ds) (c == 36) _ _ (λ z h. h.1.0) (λ z h. h.1.0) h
+number_small : (ds r : Text) → IsCleanCount (behind_number ds r).0 → IsSmall ds
+number_small ds [] h = h
+number_small ds (c ∷ r) h = choose {B = Text} (λ k. IsCleanCount k → IsSmall ds) (c == 36) _ _ (λ z h. h) (λ z h. h) h
 
 abbrev Faultless : Text → CountText × Text → Type 0
-Faultless t k = CleanCount k.0 → IsTriedNamed k.0 k.1 → count_faults t ≡ []
+Faultless t k = IsCleanCount k.0 → IsTriedNamed k.0 k.1 → count_faults t ≡ []
 
-name_named : (t r : Text) → CleanCount (behind_name t (word t) r).0 → IsTriedNamed (behind_name t (word t) r).0 (behind_name t (word t) r).1 → IsNamed (word t)
+name_named : (t r : Text) → IsCleanCount (behind_name t (word t) r).0 → IsTriedNamed (behind_name t (word t) r).0 (behind_name t (word t) r).1 → IsNamed (word t)
 name_named t [] h f = f refl
 name_named t (c ∷ r) h f =
-    cond_both {A = CountText × Text} (c == 36) _ _ (λ k. CleanCount k.0 → IsTriedNamed k.0 k.1 → IsNamed (word t)) (λ z h f. h.0.0) (λ z h f. f refl) h f
+    cond_both {A = CountText × Text} (c == 36) _ _ (λ k. IsCleanCount k.0 → IsTriedNamed k.0 k.1 → IsNamed (word t)) (λ z h f. h) (λ z h f. f refl) h f
 
 no_count_at_end : count_faults [] ≡ []
 unfolding count_faults
@@ -52,7 +52,7 @@ tried_named ZeroIndexWidth r h = tt
 tried_named (PlainWidth k) r h = λ e. h
 
 abbrev FaultlessWidth : Text → WidthText × Text → Type 0
-FaultlessWidth t w = CleanWidth w.0 → IsWidthTriedNamed w.0 w.1 → width_faults t w.0 ≡ []
+FaultlessWidth t w = IsCleanWidth w.0 → IsWidthTriedNamed w.0 w.1 → width_faults t w.0 ≡ []
 
 zero_faultless : (c : ℕ) (t : Text) → FaultlessWidth (c ∷ t) (behind_zero t)
 zero_faultless c [] = λ h f. no_count_at_end
@@ -67,7 +67,7 @@ width_faultless (c ∷ t) =
     (λ z. zero_faultless c t) (λ z h f. count_faultless (c ∷ t) h f)
 
 abbrev FaultlessPrecision : Text → PrecisionText × Text → Type 0
-FaultlessPrecision t p = CleanPrecision p.0 → (p.0 ≡ DotPrecision NoCount → IsNamed (word p.1)) → precision_faults t p.0 ≡ []
+FaultlessPrecision t p = IsCleanPrecision p.0 → (p.0 ≡ DotPrecision NoCount → IsNamed (word p.1)) → precision_faults t p.0 ≡ []
 
 dot_faultless : (d : ℕ) (t : Text) → FaultlessPrecision (d ∷ t) (behind_dot t)
 dot_faultless d [] = λ h f. no_count_at_end

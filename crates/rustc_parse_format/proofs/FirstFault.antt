@@ -2,12 +2,12 @@
 use Rattle.std.proofs.Common.{◌≡◌, ◌≢◌, ℕ, suc, ◌<◌, ◌++◌, ◌⊎◌, List, [], ◌∷◌, take, drop, length, length-append, append_assoc, refl, sym, inl, inr, ◌∙◌, ap, arith, Some}
 use Rattle.rustc_parse_format.specs.Characters.{Text}
 use Rattle.rustc_parse_format.specs.Marks.{Span}
-use Rattle.rustc_parse_format.specs.Pieces.{Mode, Piece, Lit, NextArgument, bare}
-use Rattle.rustc_parse_format.specs.Syntax.{placeholder_part}
-use Rattle.rustc_parse_format.specs.Values.{argument_value, next_number}
-use Rattle.rustc_parse_format.specs.Grammar.{EndsRun, Begins, Reads, StopsInside}
+use Rattle.rustc_parse_format.specs.Pieces.{Mode, Piece, bare}
+use Rattle.rustc_parse_format.specs.Syntax.{piece_part}
+use Rattle.rustc_parse_format.specs.Values.{piece_value, number_behind}
+use Rattle.rustc_parse_format.specs.Grammar.{Begins, Reads, StopsInside}
 use Rattle.rustc_parse_format.specs.Step.{Call, call, IsWalk}
-use Rattle.rustc_parse_format.proofs.Locality.{placeholder-local}
+use Rattle.rustc_parse_format.proofs.Locality.{piece-local}
 use Rattle.rustc_parse_format.proofs.Calls.{begins_call}
 use Rattle.rustc_parse_format.proofs.Walks.{Faultless, bare_pieces, goes_on, call_same, ended}
 use Rattle.std.proofs.Math.Seq.{take-append_seam, drop-append_seam}
@@ -18,34 +18,13 @@ record BeginsFront (mode : Mode) (c : ℕ) (t : Text) (p : Piece (Unit {0})) (q 
   whole : t ≡ text ++ z
   begins : Begins mode c text p q n
 
-ends_front : (q z : Text) → EndsRun (q ++ z) → EndsRun q
-ends_front [] z e = tt
-ends_front (c ∷ q) z e = e
-
 begins_front : (mode : Mode) (c : ℕ) (t : Text) (p : Piece (Unit {0})) (q z : Text) (n : ℕ) → Begins mode c t p (q ++ z) n → BeginsFront mode c t p q z n
-begins_front mode c t (Lit l) q z n (inl a, e) = record {
-  text = l ++ q;
-  whole = a.0.whole ∙ sym (append_assoc l q z);
-  begins = (inl (record { whole = refl; unbraced = a.0.unbraced; ends = ends_front q z a.0.ends }, a.1), e);
-}
-begins_front mode c t (Lit l) q z n (inr a, e) = record {
-  text = a.brace ∷ a.brace ∷ a.run ++ q;
-  whole = a.twice ∙ ap (λ u. a.brace ∷ a.brace ∷ u) (sym (append_assoc a.run q z));
-  begins = (inr (record { brace = a.brace; run = a.run; is_one = a.is_one; twice = refl; literal = a.literal; unbraced = a.unbraced; ends = ends_front q z a.ends }), e);
-}
-begins_front mode c t (NextArgument a) q z n b =
-    let p = placeholder_part mode b.field b.space in
+begins_front mode c t p q z n b =
+    let u = (piece_part mode b.text).spelling in
     record {
-      text = p.spelling ++ q;
-      whole = b.written.whole ∙ sym (append_assoc p.spelling q z);
-      begins = record {
-        field = b.field;
-        space = b.space;
-        written = placeholder-local mode b.field b.space t q z b.written;
-        clean = b.clean;
-        means = b.means;
-        numbered = b.numbered;
-      };
+      text = u ++ q;
+      whole = b.written.whole ∙ sym (append_assoc u q z);
+      begins = record { text = b.text; written = piece-local mode b.text t q z b.written; clean = b.clean; means = b.means; numbered = b.numbered };
     }
 
 -- what begins the text at a number begins it at each, with another argument
@@ -56,12 +35,11 @@ record BeginsAt (mode : Mode) (c : ℕ) (t : Text) : Type 0 where
   begins : Begins mode c t piece rest next
 
 begins_at : (mode : Mode) (c d : ℕ) (t : Text) (p : Piece (Unit {0})) (r : Text) (n : ℕ) → Begins mode c t p r n → BeginsAt mode d t
-begins_at mode c d t (Lit l) r n (a, e) = record { piece = Lit l; rest = r; next = d; begins = (a, refl) }
-begins_at mode c d t (NextArgument a) r n b = record {
-  piece = NextArgument (argument_value d b.field);
+begins_at mode c d t p r n b = record {
+  piece = piece_value d b.text;
   rest = r;
-  next = next_number d b.field;
-  begins = record { field = b.field; space = b.space; written = b.written; clean = b.clean; means = refl; numbered = refl };
+  next = number_behind d b.text;
+  begins = record { text = b.text; written = b.written; clean = b.clean; means = refl; numbered = refl };
 }
 
 -- The first pieces are the reading of a front of the text, and nothing begins the rest, which is not empty.

@@ -1,8 +1,24 @@
--- A text is the word at its front, or its first character and a front behind it, and what is behind that.
-use Rattle.std.proofs.Common.{◌≡◌, ◌++◌, ℕ, Bool, true, false, cond, [], ◌∷◌, refl, ap}
-use Rattle.rustc_parse_format.specs.Characters.{Text, is_id_start, is_id_continue, front, behind, word, behind_word, behind_first, with_first}
-use Rattle.rustc_parse_format.proofs.Runs.{front-behind}
+-- The longest front of a text whose characters pass, the word at its front, and what is behind them.
+use Rattle.std.proofs.Common.{◌≡◌, ℕ, ◌++◌, Bool, true, false, cond, [], ◌∷◌, refl, ap, ◌∙◌}
+use Rattle.std.specs.List.{list_all}
+use Rattle.std.proofs.lemmas.Bool.{cond_both, cond-true, cond-false, and_parts, and_from}
+use Rattle.rustc_parse_format.specs.Characters.{Text, is_id_start, is_id_continue, front, behind, starts, word, behind_word, behind_first, with_first}
 
+-- A text is such a front, and what is behind it,
+pub front-behind : (p : ℕ → Bool) (t : Text) → t ≡ front p t ++ behind p t
+front-behind p [] = refl
+front-behind p (c ∷ t) = by_test (p c) (front-behind p t)
+  where
+    by_test : (b : Bool) → t ≡ front p t ++ behind p t → c ∷ t ≡ cond b (c ∷ front p t) [] ++ cond b (behind p t) (c ∷ t)
+    by_test true e = ap (λ s. c ∷ s) e
+    by_test false e = refl
+
+-- or its first character and then these,
+pub first-behind : (p : ℕ → Bool) (t : Text) → t ≡ with_first t (front p (behind_first t)) ++ behind p (behind_first t)
+first-behind p [] = refl
+first-behind p (c ∷ t) = ap (λ u. c ∷ u) (front-behind p t)
+
+-- or the word at its front and what is behind that.
 pub word-behind : (t : Text) → t ≡ word t ++ behind_word t
 unfolding word behind_word
 word-behind [] = refl
@@ -12,6 +28,33 @@ word-behind (c ∷ t) =
       | false ↦ refl
     ]
 
-pub first-behind : (p : ℕ → Bool) (t : Text) → t ≡ with_first t (front p (behind_first t)) ++ behind p (behind_first t)
-first-behind p [] = refl
-first-behind p (c ∷ t) = ap (λ u. c ∷ u) (front-behind p t)
+pub list_all-front : (p : ℕ → Bool) (t : Text) → list_all p (front p t) ≡ true
+list_all-front p [] = refl
+list_all-front p (c ∷ t) = cond_both (p c) (c ∷ front p t) [] (λ s. list_all p s ≡ true)
+    (λ yes. and_from _ _ yes (list_all-front p t)) (λ no. refl)
+
+pub starts-behind : (p : ℕ → Bool) (t : Text) → starts p (behind p t) ≡ false
+starts-behind p [] = refl
+starts-behind p (c ∷ t) = cond_both (p c) (behind p t) (c ∷ t) (λ s. starts p s ≡ false)
+    (λ yes. starts-behind p t) (λ no. no)
+
+-- Characters that pass, where none follows, are that front.
+pub front-append : (p : ℕ → Bool) (w r : Text) → list_all p w ≡ true → starts p r ≡ false → front p (w ++ r) ≡ w
+front-append p [] [] a b = refl
+front-append p [] (c ∷ r) a b = cond-false (p c) _ _ b
+front-append p (c ∷ w) r a b =
+    let h : (p c ≡ true) × (list_all p w ≡ true) = and_parts (p c) _ a in
+    cond-true (p c) _ _ h.0 ∙ ap (λ s. c ∷ s) (front-append p w r h.1 b)
+
+pub behind-append : (p : ℕ → Bool) (w r : Text) → list_all p w ≡ true → starts p r ≡ false → behind p (w ++ r) ≡ r
+behind-append p [] [] a b = refl
+behind-append p [] (c ∷ r) a b = cond-false (p c) _ _ b
+behind-append p (c ∷ w) r a b =
+    let h : (p c ≡ true) × (list_all p w ≡ true) = and_parts (p c) _ a in
+    cond-true (p c) _ _ h.0 ∙ behind-append p w r h.1 b
+
+pub list_all-weaker : (p q : ℕ → Bool) (w : Text) → ((c : ℕ) → p c ≡ true → q c ≡ true) → list_all p w ≡ true → list_all q w ≡ true
+list_all-weaker p q [] f a = refl
+list_all-weaker p q (c ∷ w) f a =
+    let h : (p c ≡ true) × (list_all p w ≡ true) = and_parts (p c) _ a in
+    and_from _ _ (f c h.0) (list_all-weaker p q w f h.1)

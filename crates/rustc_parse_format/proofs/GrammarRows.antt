@@ -6,7 +6,7 @@ use Rattle.std.proofs.lemmas.Bool.{false≢true}
 use Rattle.rustc_parse_format.specs.Characters.{Text}
 use Rattle.rustc_parse_format.specs.Pieces.{Mode, Format, Diagnostic, Left, Right, Unknown, Plus, Lower, Implicit, Is, Piece, NextArgument, default_spec}
 use Rattle.rustc_parse_format.specs.Spelling.{IsPart}
-use Rattle.rustc_parse_format.specs.Syntax.{Word, NoPosition, NumberCount, IndexCount, NameCount, NoCount, PaddedWidth, ZeroIndexWidth, PlainWidth, NoPrecision, DotPrecision, DebugHexType, SignType, WordType, Parts, Default, FormatParts, DiagnosticText, FieldText, opened_part, IsCut}
+use Rattle.rustc_parse_format.specs.Syntax.{Word, NoPosition, NumberCount, IndexCount, NameCount, NoCount, PaddedWidth, ZeroIndexWidth, PlainWidth, NoPrecision, DotPrecision, DebugHexType, SignType, WordType, Parts, Default, FormatParts, DiagnosticText, FieldText, PlaceholderText, opened_part, IsCut}
 use Rattle.rustc_parse_format.specs.Grammar.{Reads, IsInGrammar}
 use Rattle.rustc_parse_format.specs.Step.{call}
 use Rattle.rustc_parse_format.proofs.Readings.{Reads-unique}
@@ -84,10 +84,9 @@ padded_number-has_this_reading = (
   [],
   1,
   record {
-    field = spec (record nothing { width = PaddedWidth (NumberCount (codes "5")) });
-    space = [];
+    text = PlaceholderText (spec (record nothing { width = PaddedWidth (NumberCount (codes "5")) })) [];
     written = record { whole = refl; formed = refl; ends = refl };
-    clean = record { named = ((λ e. cc e), tt); fits = ((omega arith), tt) };
+    clean = record { position = tt; spec = record { width = omega arith; precision = tt; type = λ e. cc e } };
     means = refl;
     numbered = refl;
   },

@@ -1,15 +1,16 @@
--- A placeholder is written the same where less stands behind its closing brace: no part looks past the brace, save a fill,
+-- A piece is written the same where less stands behind it. A placeholder ends at its brace: no part looks past the brace, save a fill,
 -- which is taken no more often then.
 use Prim.Native.Char.{code}
 use Rattle.std.proofs.Common.{◌≡◌, ◌++◌, ℕ, Bool, true, false, not, [], ◌∷◌, List, refl, sym, ◌∙◌, ap, append_assoc, Option, Some, None, cond, codes}
 use Rattle.std.specs.Prelude.{◌==◌, ◌||◌, ◌&&◌}
-use Rattle.std.proofs.lemmas.Bool.{and_parts, and_from}
+use Rattle.std.proofs.lemmas.Bool.{and_parts, and_from, not_from_false, not-true}
 use Rattle.unicode_ident.proofs.Computing.{unicode_ident}
 use Rattle.std.specs.Char.{is_ascii_digit, is_whitespace}
 use Rattle.rustc_parse_format.specs.Characters.{Text, is_align, is_no_brace, is_id_start, is_id_continue, behind, behind_word, behind_first, begins_with, starts}
 use Rattle.rustc_parse_format.specs.Pieces.{Mode, Format, InlineAsm, Diagnostic, Alignment, Left, Right, Center, Unknown, Sign, Plus, Minus, Lower, Upper}
-use Rattle.rustc_parse_format.specs.Spelling.{Part, IsPart, row, fixed, unless, absent, run, integer, identifier, optional_identifier}
-use Rattle.rustc_parse_format.specs.Syntax.{PositionText, Digits, Word, NoPosition, position_part, fill_part, align_part, is_sign, sign_part, alternate_part, CountText, NumberCount, IndexCount, NameCount, NoCount, begins_count, count_part, WidthText, PaddedWidth, ZeroIndexWidth, PlainWidth, width_part, PrecisionText, NoPrecision, StarPrecision, DotPrecision, precision_part, TypeText, DebugHexType, SignType, WordType, is_type_sign, type_part, Parts, format_part, SpecText, Default, FormatParts, Modifier, DiagnosticText, spec_part, FieldText, field_part, placeholder_part}
+use Rattle.rustc_parse_format.specs.Spelling.{Part, IsPart, row, fixed, unless, absent, run, integer, optional_identifier, begins}
+use Rattle.rustc_parse_format.proofs.PartNames.{begins_count, begins-count}
+use Rattle.rustc_parse_format.specs.Syntax.{PositionText, Digits, Word, NoPosition, position_part, fill_part, align_part, is_sign, sign_part, alternate_part, CountText, NumberCount, IndexCount, NameCount, NoCount, name_part, count_part, WidthText, PaddedWidth, ZeroIndexWidth, PlainWidth, width_part, PrecisionText, NoPrecision, StarPrecision, DotPrecision, precision_part, TypeText, DebugHexType, SignType, WordType, is_type_sign, type_part, Parts, format_part, SpecText, Default, FormatParts, Modifier, DiagnosticText, spec_part, FieldText, field_part, placeholder_part, PieceText, RunText, DoubledText, PlaceholderText, piece_part}
 
 -- with z gone from behind the brace, what passed still passes
 abbrev IsLocal : (Text → Bool) → Type 0
@@ -127,8 +128,8 @@ alternate-local false = letter_ends (code "#")
 count-local : (k : CountText) → PartIsLocal (count_part k)
 count-local (NumberCount ds) = two-local (integer ds) (absent (begins_with (code "$"))) (class_ends is_ascii_digit) (letter_ends (code "$"))
 count-local (IndexCount ds) = two-local (integer ds) (fixed (codes "$")) (class_ends is_ascii_digit) always
-count-local (NameCount w) = two-local (identifier w) (fixed (codes "$")) (class_ends is_id_continue) always
-count-local NoCount = blind_not begins_count count-blind
+count-local (NameCount w) = two-local (name_part w) (fixed (codes "$")) (blind (begins_with (code "$")) (begins-blind (code "$"))) always
+count-local NoCount = blind_not (λ t. starts is_ascii_digit t || begins name_part t) (λ u r s. begins-count (u ++ 125 ∷ r) ∙ (count-blind u r s ∙ sym (begins-count (u ++ 125 ∷ s))))
 
 width-local : (w : WidthText) → PartIsLocal (width_part w)
 width-local (PaddedWidth k) = two-local (unless (codes "0") (begins_with (code "$"))) (count_part k) (letter_ends (code "$")) (count-local k)
@@ -158,16 +159,20 @@ format-local p =
 spec-local : (mode : Mode) (s : SpecText) → PartIsLocal (spec_part mode s)
 spec-local mode Default = letter_ends (code ":")
 spec-local Format (FormatParts p) = two-local (fixed (codes ":")) (format_part p) always (format-local p)
+spec-local Format (Modifier w) = always
+spec-local Format (DiagnosticText u) = always
+spec-local InlineAsm (FormatParts p) = always
 spec-local InlineAsm (Modifier w) = two-local (fixed (codes ":")) (optional_identifier w) always (word-local w)
+spec-local InlineAsm (DiagnosticText u) = always
+spec-local Diagnostic (FormatParts p) = always
+spec-local Diagnostic (Modifier w) = always
 spec-local Diagnostic (DiagnosticText u) = two-local (fixed (codes ":")) (run is_no_brace u) always (class_ends is_no_brace)
-spec-local mode s = always
 
 field-local : (mode : Mode) (a : FieldText) → PartIsLocal (field_part mode a)
 field-local mode a =
     row-local (position_part a.position ∷ run is_whitespace a.space ∷ spec_part mode a.spec ∷ []) (position-local a.position, (class_ends is_whitespace, (spec-local mode a.spec, tt)))
 
--- So a placeholder in front of q and z stands in front of q alone.
-pub placeholder-local : (mode : Mode) (a : FieldText) (w t q z : Text) → IsPart t (placeholder_part mode a w) (q ++ z) →
+placeholder-local : (mode : Mode) (a : FieldText) (w t q z : Text) → IsPart t (placeholder_part mode a w) (q ++ z) →
     IsPart ((placeholder_part mode a w).spelling ++ q) (placeholder_part mode a w) q
 placeholder-local mode a w t q z h =
     let behind_field : (field_part mode a).may_precede (w ++ 125 ∷ [] ++ (q ++ z)) ≡ true = (and_parts _ _ (and_parts true _ h.ends).1).0 in
@@ -177,3 +182,17 @@ placeholder-local mode a w t q z h =
       formed = h.formed;
       ends = and_from ((field_part mode a).may_precede (w ++ 125 ∷ [] ++ q)) true (ap (field_part mode a).may_precede (append_assoc w (125 ∷ []) q) ∙ far) refl;
     }
+
+-- a run ends where less follows too
+run-local : (p : ℕ → Bool) (q z : Text) → starts p (q ++ z) ≡ false → starts p q ≡ false
+run-local p [] z e = refl
+run-local p (c ∷ q) z e = e
+
+-- So a piece that is written in front of q and z is written in front of q alone.
+pub piece-local : (mode : Mode) (x : PieceText) (t q z : Text) → IsPart t (piece_part mode x) (q ++ z) →
+    IsPart ((piece_part mode x).spelling ++ q) (piece_part mode x) q
+piece-local mode (RunText u) t q z h = record { whole = refl; formed = h.formed; ends = not_from_false _ (run-local is_no_brace q z (not-true _ h.ends)) }
+piece-local mode (DoubledText b u) t q z h =
+    let p = and_parts _ _ (and_parts true _ h.ends).1 in
+    record { whole = refl; formed = h.formed; ends = and_from true _ refl (and_from _ true (not_from_false _ (run-local is_no_brace q z (not-true _ p.0))) refl) }
+piece-local mode (PlaceholderText a w) t q z h = placeholder-local mode a w t q z h

@@ -6,10 +6,11 @@ use Rattle.std.specs.Char.{is_ascii_digit}
 use Rattle.std.proofs.lemmas.Bool.{cond_both, cond-true, cond-false, and_left, and_right, or_from, or_parts, not-true, false≢true, eqb-true}
 use Rattle.rustc_parse_format.specs.Characters.{Text, is_id_start, word, behind_word, digits, behind_digits, begins_with, starts}
 use Rattle.rustc_parse_format.specs.Spelling.{IsPart, fixed, unless, absent, integer, identifier}
-use Rattle.rustc_parse_format.specs.Syntax.{CountText, NumberCount, IndexCount, NameCount, NoCount, begins_count, count_part, WidthText, PaddedWidth, ZeroIndexWidth, PlainWidth, width_part, PrecisionText, NoPrecision, StarPrecision, DotPrecision, precision_part, PositionText, Digits, Word, NoPosition, position_part}
+use Rattle.rustc_parse_format.specs.Syntax.{CountText, NumberCount, IndexCount, NameCount, NoCount, name_part, count_part, WidthText, PaddedWidth, ZeroIndexWidth, PlainWidth, width_part, PrecisionText, NoPrecision, StarPrecision, DotPrecision, precision_part, PositionText, Digits, Word, NoPosition, position_part}
 use Rattle.rustc_parse_format.specs.Counts.{behind_number, behind_name, count, counted, behind_zero, width, behind_dot, precision}
 use Rattle.rustc_parse_format.specs.Placeholder.{position}
 use Rattle.rustc_parse_format.proofs.PartLaws.{Finds, IsPart-moved, unless-there, absent-same, absent-here, fixed-there, letter-there, row-two, two-split}
+use Rattle.rustc_parse_format.proofs.PartNames.{begins_count, named-identifier, no_count-here, no_count-read}
 use Rattle.rustc_parse_format.proofs.PartFronts.{integer-sound, integer-complete, identifier-sound, identifier-complete, start-no_digit}
 
 -- positions
@@ -56,20 +57,20 @@ number-sound t ds (d ∷ s) h =
 
 name-sound : (t w s : Text) → IsPart t (identifier w) s → (begins_with (code "$") s ≡ false → begins_count t ≡ false) →
     IsPart t (count_part (behind_name t w s).0) (behind_name t w s).1
-name-sound t w [] h f = absent-here t begins_count (f refl)
+name-sound t w [] h f = no_count-here t (f refl)
 name-sound t w (d ∷ s) h f =
     cond_both {A = CountText × Text} (d == code "$") _ _ (λ x. IsPart t (count_part x.0) x.1)
-    (λ e. row-two t (d ∷ s) (identifier w) (fixed (codes "$")) s h (letter-there d (code "$") s e))
-    (λ e. absent-here t begins_count (f e))
+    (λ e. row-two t (d ∷ s) (name_part w) (fixed (codes "$")) s (record { whole = h.whole; formed = h.formed; ends = e }) (letter-there d (code "$") s e))
+    (λ e. no_count-here t (f e))
 
 count-sound : (t : Text) → IsPart t (count_part (count t).0) (count t).1
-count-sound [] = absent-here [] begins_count refl
+count-sound [] = no_count-here [] refl
 count-sound (c ∷ t) =
     cond_both {A = CountText × Text} (is_ascii_digit c) _ _ (λ x. IsPart (c ∷ t) (count_part x.0) x.1)
     (λ d. number-sound (c ∷ t) _ _ (integer-sound c t d))
     (λ d. cond_both {A = CountText × Text} (is_id_start c) _ _ (λ x. IsPart (c ∷ t) (count_part x.0) x.1)
     (λ i. name-sound (c ∷ t) _ _ (identifier-sound c t i) (λ e. or_from _ _ d (and_right _ _ e)))
-    (λ i. absent-here (c ∷ t) begins_count (or_from _ _ d (and_left _ _ i))))
+    (λ i. no_count-here (c ∷ t) (or_from _ _ d (and_left _ _ i))))
 
 count-digits : (t : Text) → starts is_ascii_digit t ≡ true → count t ≡ behind_number (digits t) (behind_digits t)
 count-digits [] e = absurd (false≢true e)
@@ -110,10 +111,10 @@ count-complete t (IndexCount ds) r h =
     let i = integer-complete t ds s.seam s.first in
     count-digits t i.digit ∙ (ap (λ u. behind_number u (behind_digits t)) i.read ∙ ap (behind_number ds) (i.behind ∙ s.second.whole))
 count-complete t (NameCount w) r h =
-    let s = two-split t (identifier w) (fixed (codes "$")) r h in
-    let i = identifier-complete t w s.seam s.first in
+    let s = two-split t (name_part w) (fixed (codes "$")) r h in
+    let i = identifier-complete t w s.seam (named-identifier t w s.seam s.first) in
     count-word t i.starts ∙ (ap (λ u. behind_name t u (behind_word t)) i.read ∙ ap (behind_name t w) (i.behind ∙ s.second.whole))
-count-complete t NoCount r h = ap count (absent-same t begins_count r h) ∙ count-none r (not-true _ h.ends)
+count-complete t NoCount r h = ap count h.whole ∙ count-none r (no_count-read t r h)
 
 pub count-finds : Finds count_part count
 count-finds = record { sound = count-sound; complete = count-complete }

@@ -6,8 +6,8 @@ use Rattle.std.proofs.lemmas.Bool.{cond-true, cond-false, and_parts, and_from, n
 use Rattle.unicode_ident.proofs.IdentLemmas.{is_xid_start-ascii}
 use Rattle.unicode_ident.specs.Ident.{is_xid_start}
 use Rattle.rustc_parse_format.specs.Characters.{Text, is_id_start, is_id_continue, front, behind, word, behind_word, digits, behind_digits, starts}
-use Rattle.rustc_parse_format.specs.Spelling.{IsPart, run, integer, identifier, optional_identifier}
-use Rattle.rustc_parse_format.proofs.LiteralFronts.{front-behind, list_all-front, begins_passing-behind, front-append, behind-append}
+use Rattle.rustc_parse_format.specs.Spelling.{IsPart, run, some_run, integer, identifier, optional_identifier}
+use Rattle.rustc_parse_format.proofs.Fronts.{front-behind, list_all-front, starts-behind, front-append, behind-append}
 use Rattle.rustc_parse_format.proofs.PartLaws.{Finds}
 
 -- each with the rest
@@ -19,20 +19,40 @@ word_at t = (word t, behind_word t)
 
 pub run-finds : (p : ℕ → Bool) → Finds (run p) (run_at p)
 run-finds p = record {
-  sound = λ t. record { whole = sym (front-behind p t); formed = list_all-front p t; ends = not_from_false _ (begins_passing-behind p t) };
+  sound = λ t. record { whole = front-behind p t; formed = list_all-front p t; ends = not_from_false _ (starts-behind p t) };
   complete = λ t u r h.
       (let ends : starts p r ≡ false = not-true _ h.ends in
       ap (λ s. (front p s, behind p s)) h.whole ∙ (ap (λ s. (s, behind p (u ++ r))) (front-append p u r h.formed ends) ∙ ap (λ s. (u, s)) (behind-append p u r h.formed ends)));
 }
 
+-- a run at the front that is not empty
+pub some_run-sound : (p : ℕ → Bool) (c : ℕ) (t : Text) → p c ≡ true → IsPart (c ∷ t) (some_run p (front p (c ∷ t))) (behind p (c ∷ t))
+some_run-sound p c t d = record {
+  whole = front-behind p (c ∷ t);
+  formed = and_from _ _ (ap (starts p) (cond-true (p c) (c ∷ front p t) [] d) ∙ d) (list_all-front p (c ∷ t));
+  ends = not_from_false _ (starts-behind p (c ∷ t));
+}
+
+pub record RunAt (p : ℕ → Bool) (t u r : Text) : Type 0 where
+  pub begins : starts p t ≡ true
+  pub read : front p t ≡ u
+  pub behind : behind p t ≡ r
+
+pub some_run-complete : (p : ℕ → Bool) (t u r : Text) → IsPart t (some_run p u) r → RunAt p t u r
+some_run-complete p t [] r h = absurd (false≢true h.formed)
+some_run-complete p t (c ∷ u) r h =
+    let all = and_parts _ _ h.formed in
+    let ends = not-true _ h.ends in
+    record {
+      begins = ap (starts p) h.whole ∙ all.0;
+      read = ap (front p) h.whole ∙ front-append p (c ∷ u) r all.1 ends;
+      behind = ap (behind p) h.whole ∙ behind-append p (c ∷ u) r all.1 ends;
+    }
+
 -- an integer at the front
 pub integer-sound : (c : ℕ) (t : Text) → is_ascii_digit c ≡ true → IsPart (c ∷ t) (integer (digits (c ∷ t))) (behind_digits (c ∷ t))
 unfolding digits behind_digits
-integer-sound c t d = record {
-  whole = sym (front-behind is_ascii_digit (c ∷ t));
-  formed = and_from _ _ (ap (starts is_ascii_digit) (cond-true (is_ascii_digit c) (c ∷ front is_ascii_digit t) [] d) ∙ d) (list_all-front is_ascii_digit (c ∷ t));
-  ends = not_from_false _ (begins_passing-behind is_ascii_digit (c ∷ t));
-}
+integer-sound c t d = some_run-sound is_ascii_digit c t d
 
 pub record IntegerAt (t ds r : Text) : Type 0 where
   pub digit : starts is_ascii_digit t ≡ true
@@ -41,15 +61,7 @@ pub record IntegerAt (t ds r : Text) : Type 0 where
 
 pub integer-complete : (t ds r : Text) → IsPart t (integer ds) r → IntegerAt t ds r
 unfolding digits behind_digits
-integer-complete t [] r h = absurd (false≢true h.formed)
-integer-complete t (c ∷ ds) r h =
-    let all = (and_parts _ _ h.formed).1 in
-    let ends = not-true _ h.ends in
-    record {
-      digit = ap (starts is_ascii_digit) h.whole ∙ (and_parts _ _ h.formed).0;
-      read = ap (front is_ascii_digit) h.whole ∙ front-append is_ascii_digit (c ∷ ds) r all ends;
-      behind = ap (behind is_ascii_digit) h.whole ∙ behind-append is_ascii_digit (c ∷ ds) r all ends;
-    }
+integer-complete t ds r h = let k = some_run-complete is_ascii_digit t ds r h in record { digit = k.begins; read = k.read; behind = k.behind }
 
 -- a word at the front, and none
 word-start : (c : ℕ) (t : Text) → is_id_start c ≡ true → word (c ∷ t) ≡ c ∷ front is_id_continue t
@@ -72,10 +84,10 @@ behind_word-none (c ∷ t) e = cond-false (is_id_start c) _ _ e
 
 pub identifier-sound : (c : ℕ) (t : Text) → is_id_start c ≡ true → IsPart (c ∷ t) (identifier (word (c ∷ t))) (behind_word (c ∷ t))
 identifier-sound c t i = record {
-  whole = ap (λ u. c ∷ u) (sym (front-behind is_id_continue t))
+  whole = ap (λ u. c ∷ u) (front-behind is_id_continue t)
       ∙ (ap (λ u. u ++ behind is_id_continue t) (sym (word-start c t i)) ∙ ap (λ u. word (c ∷ t) ++ u) (sym (behind_word-start c t i)));
   formed = ap (λ w. (identifier w).is_formed) (word-start c t i) ∙ and_from _ _ i (list_all-front is_id_continue t);
-  ends = ap (λ r. not (starts is_id_continue r)) (behind_word-start c t i) ∙ not_from_false _ (begins_passing-behind is_id_continue t);
+  ends = ap (λ r. not (starts is_id_continue r)) (behind_word-start c t i) ∙ not_from_false _ (starts-behind is_id_continue t);
 }
 
 pub record WordAt (t w r : Text) : Type 0 where
@@ -100,7 +112,7 @@ unfolding word behind_word
 optional-sound [] = record { whole = refl; formed = refl; ends = refl }
 optional-sound (c ∷ t) =
     elim (is_id_start c) as (λ b. is_id_start c ≡ b → IsPart (c ∷ t) (optional_identifier (cond b (c ∷ front is_id_continue t) [])) (cond b (behind is_id_continue t) (c ∷ t))) [
-      | true ↦ λ i. record { whole = ap (λ u. c ∷ u) (sym (front-behind is_id_continue t)); formed = and_from _ _ i (list_all-front is_id_continue t); ends = not_from_false _ (begins_passing-behind is_id_continue t) }
+      | true ↦ λ i. record { whole = ap (λ u. c ∷ u) (front-behind is_id_continue t); formed = and_from _ _ i (list_all-front is_id_continue t); ends = not_from_false _ (starts-behind is_id_continue t) }
       | false ↦ λ i. record { whole = refl; formed = refl; ends = not_from_false _ i }
     ] refl
 

@@ -118,7 +118,7 @@ hex-sound h (d ∷ t) =
     (λ e. IsPart-moved _ (letter h ∷ codes "?" ++ t) _ t (ap (λ x. letter h ∷ x ∷ t) (eqb-true d (code "?") e)) (letter_question h t))
     (λ e. letter_alone h (d ∷ t) e)
 
-type-sound : (t : Text) → IsPart t (type_part (type t).0) (type t).1
+pub type-sound : (t : Text) → IsPart t (type_part (type t).0) (type t).1
 unfolding letter
 type-sound [] = record { whole = refl; formed = refl; ends = refl }
 type-sound (c ∷ t) =
@@ -245,7 +245,12 @@ spec-complete InlineAsm t (Modifier w) r h =
 spec-complete Diagnostic t (DiagnosticText u) r h =
     let s = two-split t (fixed (codes ":")) (run is_no_brace u) r h in
     ap (specification Diagnostic) s.first.whole ∙ ap (λ x. (DiagnosticText x.0, x.1)) ((run-finds is_no_brace).complete s.seam u r s.second)
-spec-complete mode t s r h = absurd (false≢true h.formed)
+spec-complete Format t (Modifier w) r h = absurd (false≢true h.formed)
+spec-complete Format t (DiagnosticText u) r h = absurd (false≢true h.formed)
+spec-complete InlineAsm t (FormatParts p) r h = absurd (false≢true h.formed)
+spec-complete InlineAsm t (DiagnosticText u) r h = absurd (false≢true h.formed)
+spec-complete Diagnostic t (FormatParts p) r h = absurd (false≢true h.formed)
+spec-complete Diagnostic t (Modifier w) r h = absurd (false≢true h.formed)
 
 pub spec-finds : (mode : Mode) → Finds (spec_part mode) (specification mode)
 spec-finds mode = record { sound = spec-sound mode; complete = spec-complete mode }

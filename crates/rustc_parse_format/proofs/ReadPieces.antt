@@ -1,5 +1,5 @@
 -- The loop over the calls, and what its pieces and errors say of the grammar.
-use Rattle.std.proofs.Common.{◌≡◌, ◌≢◌, ◌++◌, List, [], ◌∷◌, map, Option, Some, None, refl, sym, ap, ◌∙◌, append_assoc}
+use Rattle.std.proofs.Common.{◌≡◌, ◌≢◌, ◌++◌, List, [], ◌∷◌, map, Option, Some, None, refl, sym, ap, subst, ◌∙◌, append_assoc}
 use Rattle.std.specs.Prelude.{option_map}
 use Rattle.std.proofs.lemmas.List.{append-nil}
 use Rattle.rustc_parse_format.specs.Characters.{Text}
@@ -7,9 +7,10 @@ use Rattle.rustc_parse_format.specs.Grammar.{IsInGrammar, Reads, StopsInside}
 use Rattle.rustc_parse_format.specs.Marks.{Span}
 use Rattle.rustc_parse_format.specs.Pieces.{Mode, Piece, bare}
 use Rattle.rustc_parse_format.specs.Step.{pieces_of}
-use Rattle.rustc_parse_format.specs.State.{State, fresh, after, after_all, calls, next_call}
+use Rattle.rustc_parse_format.specs.State.{State, Walks, fresh, after, after_all, calls, next_call}
 use Rattle.rustc_parse_format.specs.World.{World, Place, piece_in, pieces_in}
 use Rattle.rustc_parse_format.proofs.BarePieces.{bare-pieces_in}
+use Rattle.rustc_parse_format.proofs.Progress.{walk-IsWalk}
 use Rattle.rustc_parse_format.proofs.FaultlessStates.{walk_reads, reads_walk, errors_stop}
 use Rattle.rustc_parse_format.proofs.StateWalks.{after_all-none, after_all-some, pieces_of-none, pieces_of-some}
 
@@ -49,6 +50,11 @@ pieces_end s w done all e d = sym (append-nil done) ∙ (ap (λ ps. done ++ piec
 pub state_end : (s new last : State) → None ≡ option_map (piece_in s.world) (next_call s).piece → new ≡ after s (next_call s) →
     after_all s (calls s) ≡ last → new ≡ last
 state_end s new last e f d = f ∙ (sym (after_all-none s (none_given s.world (next_call s).piece e)) ∙ d)
+
+pub walks_of : (s p new : State) (ps : List (Piece Place)) → p ≡ s → new ≡ after_all p (calls p) → ps ≡ pieces_in p.world (pieces_of (calls p)) → Walks s ps new
+walks_of s p new ps e f g =
+    let walked : Walks p ps new = record { calls = calls p; is_walk = walk-IsWalk p.mode p.next p.rest; pieces = g; state = f } in
+    subst (λ u. Walks u ps new) e walked
 
 -- A fresh parser p, and the parser new behind its last call.
 pub clean_in : (mode : Mode) (w : World) (t : Text) (p new : State) → p ≡ fresh mode w t → new ≡ after_all p (calls p) → new.errors ≡ [] → IsInGrammar mode t

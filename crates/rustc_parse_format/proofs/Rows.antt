@@ -1,14 +1,12 @@
 -- Worked rows of the definitions, each by computing. Places are ranges of bytes, and the input stands behind a quote.
-use Rattle.std.proofs.Common.{◌≡◌, ℕ, List, [], ◌∷◌, refl, inl, Some, None, codes, true, false}
+use Rattle.std.proofs.Common.{◌≡◌, ℕ, List, [], ◌∷◌, refl, Some, None, codes, true, false}
 use Rattle.unicode_ident.proofs.Computing.{unicode_ident}
 use Rattle.rustc_parse_format.specs.Characters.{Text, word, behind_word, digits, behind_digits, behind_white}
 use Rattle.rustc_parse_format.specs.Pieces.{Format, Position, Implicit, Index, Named, Piece, Lit, NextArgument, default_spec}
-use Rattle.rustc_parse_format.specs.Syntax.{Default, NoPosition}
 use Rattle.rustc_parse_format.specs.Specification.{format_parts}
 use Rattle.rustc_parse_format.specs.Placeholder.{cut}
 use Rattle.rustc_parse_format.specs.Values.{next_number}
 use Rattle.rustc_parse_format.specs.Meaning.{format_of, argument}
-use Rattle.rustc_parse_format.specs.Grammar.{Reads}
 use Rattle.rustc_parse_format.specs.Written.{written}
 use Rattle.rustc_parse_format.specs.Faults.{Fault, message}
 use Rattle.rustc_parse_format.specs.PartFaults.{position_faults, count_faults, format_faults, cut_faults}
@@ -90,9 +88,3 @@ wide_characters-have_their_bytes = refl
 raw_style-moves_the_places : (world (codes "a") (Some 2) None false).places ≡ (4, 5) ∷ []
 unfolding computing
 raw_style-moves_the_places = refl
-
-text_and_placeholder-have_this_reading :
-    Reads Format 0 (codes "a{}") (Lit (codes "a") ∷ NextArgument (record { position = Implicit 0; position_span = tt; format = default_spec }) ∷ [])
-unfolding computing
-text_and_placeholder-have_this_reading =
-    (codes "{}", 0, (inl (record { whole = refl; unbraced = (refl, tt); ends = refl }, λ e. cc), refl), ([], 1, record { field = record { position = NoPosition; space = []; spec = Default }; space = []; written = record { whole = refl; formed = refl; ends = refl }; clean = record { named = tt; fits = tt }; means = refl; numbered = refl }, refl))

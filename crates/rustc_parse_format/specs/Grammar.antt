@@ -1,106 +1,75 @@
 -- The grammar: which pieces a text reads as, without their spans. The public rule is the grammar of format strings in the
 -- documentation of `std::fmt`.
-use Rattle.std.specs.Prelude.{◌≡◌, ◌≢◌, ℕ, ◌≤◌, ◌<◌, ◌⊎◌, ◌++◌, IsTrue, IsFalse, List, [], ◌∷◌, length, take, drop, codes}
-use Rattle.std.specs.List.{AllByRecursion}
+use Rattle.std.specs.Prelude.{◌≡◌, ◌≢◌, ℕ, ◌≤◌, ◌<◌, ◌++◌, List, [], ◌∷◌, length, take, drop, codes}
 use Rattle.std.specs.Str.Parse.{digits_value}
-use Rattle.rustc_parse_format.specs.Characters.{Text, is_brace}
+use Rattle.rustc_parse_format.specs.Characters.{Text}
 use Rattle.rustc_parse_format.specs.Spelling.{IsPart}
-use Rattle.rustc_parse_format.specs.Pieces.{Mode, Argument, Piece, Lit, NextArgument}
-use Rattle.rustc_parse_format.specs.Syntax.{CountText, NumberCount, IndexCount, NameCount, WidthText, PaddedWidth, ZeroIndexWidth, PlainWidth, PrecisionText, DotPrecision, TypeText, WordType, SpecText, FormatParts, Modifier, PositionText, Digits, Word, FieldText, placeholder_part}
-use Rattle.rustc_parse_format.specs.Values.{argument_value, next_number}
+use Rattle.rustc_parse_format.specs.Pieces.{Mode, Piece}
+use Rattle.rustc_parse_format.specs.Syntax.{CountText, NumberCount, IndexCount, NameCount, NoCount, WidthText, PaddedWidth, ZeroIndexWidth, PlainWidth, PrecisionText, NoPrecision, StarPrecision, DotPrecision, TypeText, DebugHexType, SignType, WordType, Parts, SpecText, Default, FormatParts, Modifier, DiagnosticText, PositionText, Digits, Word, NoPosition, FieldText, PieceText, RunText, DoubledText, PlaceholderText, piece_part}
+use Rattle.rustc_parse_format.specs.Values.{piece_value, number_behind}
 
--- the words and the numbers that a field has
-abbrev pub words_of_position : PositionText → List Text
-words_of_position (Word w) = w ∷ []
-words_of_position p = []
+-- What is refused of what is well formed: the word `_`, and an integer that does not fit into 16 bits.
 
-abbrev pub words_of_count : CountText → List Text
-words_of_count (NameCount w) = w ∷ []
-words_of_count k = []
+abbrev pub IsNamed : Text → Type 0
+IsNamed w = w ≢ codes "_"
 
-abbrev pub words_of_width : WidthText → List Text
-words_of_width (PaddedWidth k) = words_of_count k
-words_of_width ZeroIndexWidth = []
-words_of_width (PlainWidth k) = words_of_count k
+abbrev pub IsSmall : Text → Type 0
+IsSmall ds = digits_value 10 ds ≤ 65535
 
-abbrev pub words_of_precision : PrecisionText → List Text
-words_of_precision (DotPrecision k) = words_of_count k
-words_of_precision p = []
+abbrev pub IsCleanPosition : PositionText → Type 0
+IsCleanPosition (Digits ds) = IsSmall ds
+IsCleanPosition (Word w) = IsNamed w
+IsCleanPosition NoPosition = Unit {0}
 
-abbrev pub words_of_type : TypeText → List Text
-words_of_type (WordType w) = w ∷ []
-words_of_type y = []
+abbrev pub IsCleanCount : CountText → Type 0
+IsCleanCount (NumberCount ds) = IsSmall ds
+IsCleanCount (IndexCount ds) = IsSmall ds
+IsCleanCount (NameCount w) = IsNamed w
+IsCleanCount NoCount = Unit {0}
+
+abbrev pub IsCleanWidth : WidthText → Type 0
+IsCleanWidth (PaddedWidth k) = IsCleanCount k
+IsCleanWidth ZeroIndexWidth = Unit {0}
+IsCleanWidth (PlainWidth k) = IsCleanCount k
+
+abbrev pub IsCleanPrecision : PrecisionText → Type 0
+IsCleanPrecision NoPrecision = Unit {0}
+IsCleanPrecision StarPrecision = Unit {0}
+IsCleanPrecision (DotPrecision k) = IsCleanCount k
+
+abbrev pub IsCleanType : TypeText → Type 0
+IsCleanType (DebugHexType h) = Unit {0}
+IsCleanType (SignType c) = Unit {0}
+IsCleanType (WordType w) = IsNamed w
+
+pub record AreCleanParts (p : Parts) : Type 0 where
+  pub width : IsCleanWidth p.width
+  pub precision : IsCleanPrecision p.precision
+  pub type : IsCleanType p.type
 
 -- the text in a diagnostic is no word
-abbrev pub words_of_spec : SpecText → List Text
-words_of_spec (FormatParts p) = words_of_width p.width ++ words_of_precision p.precision ++ words_of_type p.type
-words_of_spec (Modifier w) = w ∷ []
-words_of_spec s = []
+abbrev pub IsCleanSpec : SpecText → Type 0
+IsCleanSpec Default = Unit {0}
+IsCleanSpec (FormatParts p) = AreCleanParts p
+IsCleanSpec (Modifier w) = IsNamed w
+IsCleanSpec (DiagnosticText u) = Unit {0}
 
-abbrev pub numbers_of_position : PositionText → List Text
-numbers_of_position (Digits ds) = ds ∷ []
-numbers_of_position p = []
-
-abbrev pub numbers_of_count : CountText → List Text
-numbers_of_count (NumberCount ds) = ds ∷ []
-numbers_of_count (IndexCount ds) = ds ∷ []
-numbers_of_count k = []
-
-abbrev pub numbers_of_width : WidthText → List Text
-numbers_of_width (PaddedWidth k) = numbers_of_count k
-numbers_of_width ZeroIndexWidth = []
-numbers_of_width (PlainWidth k) = numbers_of_count k
-
-abbrev pub numbers_of_precision : PrecisionText → List Text
-numbers_of_precision (DotPrecision k) = numbers_of_count k
-numbers_of_precision p = []
-
-abbrev pub numbers_of_spec : SpecText → List Text
-numbers_of_spec (FormatParts p) = numbers_of_width p.width ++ numbers_of_precision p.precision
-numbers_of_spec s = []
-
--- nothing in the field is refused
 pub record IsClean (a : FieldText) : Type 0 where
-  pub named : AllByRecursion (λ w. w ≢ codes "_") (words_of_position a.position ++ words_of_spec a.spec)
-  pub fits : AllByRecursion (λ ds. digits_value 10 ds ≤ 65535) (numbers_of_position a.position ++ numbers_of_spec a.spec)
+  pub position : IsCleanPosition a.position
+  pub spec : IsCleanSpec a.spec
 
-abbrev pub HasNoBrace : Text → Type 0
-HasNoBrace u = AllByRecursion (λ c. IsFalse (is_brace c)) u
+abbrev pub IsCleanPiece : PieceText → Type 0
+IsCleanPiece (RunText u) = Unit {0}
+IsCleanPiece (DoubledText b u) = Unit {0}
+IsCleanPiece (PlaceholderText a space) = IsClean a
 
--- the end, or a brace
-abbrev pub EndsRun : Text → Type 0
-EndsRun [] = Unit {0}
-EndsRun (c ∷ t) = IsTrue (is_brace c)
-
--- t is u and then r: a run without braces, as long as it can be
-pub record IsRun (t u r : Text) : Type 0 where
-  pub whole : t ≡ u ++ r
-  pub unbraced : HasNoBrace u
-  pub ends : EndsRun r
-
--- t begins with a doubled brace and a run, which together stand for l
-pub record IsDoubled (t l r : Text) : Type 0 where
-  pub brace : ℕ
-  pub run : Text
-  pub is_one : IsTrue (is_brace brace)
-  pub twice : t ≡ brace ∷ brace ∷ run ++ r
-  pub literal : l ≡ brace ∷ run
-  pub unbraced : HasNoBrace run
-  pub ends : EndsRun r
-
--- t begins with a placeholder in which nothing is refused
-pub record IsPlaceholder (mode : Mode) (c : ℕ) (t : Text) (a : Argument (Unit {0})) (r : Text) (next : ℕ) : Type 0 where
-  pub field : FieldText
-  pub space : Text
-  pub written : IsPart t (placeholder_part mode field space) r
-  pub clean : IsClean field
-  pub means : a ≡ argument_value c field
-  pub numbered : next ≡ next_number c field
-
--- the text begins with the piece, and goes on with r and the number next
-abbrev pub Begins : Mode → ℕ → Text → Piece (Unit {0}) → Text → ℕ → Type 0
-Begins mode c t (Lit l) r next = ((IsRun t l r × (l ≢ [])) ⊎ IsDoubled t l r) × (next ≡ c)
-Begins mode c t (NextArgument a) r next = IsPlaceholder mode c t a r next
+-- t begins with the piece p, which takes its numbers from c on, and goes on with r and the number next
+pub record Begins (mode : Mode) (c : ℕ) (t : Text) (p : Piece (Unit {0})) (r : Text) (next : ℕ) : Type 0 where
+  pub text : PieceText
+  pub written : IsPart t (piece_part mode text) r
+  pub clean : IsCleanPiece text
+  pub means : p ≡ piece_value c text
+  pub numbered : next ≡ number_behind c text
 
 -- the text reads as these pieces, from the number c on
 abbrev pub Reads : Mode → ℕ → Text → List (Piece (Unit {0})) → Type 0
@@ -118,3 +87,18 @@ pub record StopsInside (mode : Mode) (c : ℕ) (t : Text) (ps : List (Piece (Uni
   pub inside : characters < length t
   pub reads : Reads mode c (take characters t) (take pieces ps)
   pub stops : (n : ℕ) (p : Piece (Unit {0})) (r : Text) (next : ℕ) → ¬ (Begins mode n (drop characters t) p r next)
+
+-- What pieces as written mean, one behind the other, from the number c on; and how they are spelled.
+abbrev pub piece_values : ℕ → List PieceText → List (Piece (Unit {0}))
+piece_values c [] = []
+piece_values c (x ∷ xs) = piece_value c x ∷ piece_values (number_behind c x) xs
+
+abbrev pub spelled : Mode → List PieceText → Text
+spelled mode [] = []
+spelled mode (x ∷ xs) = (piece_part mode x).spelling ++ spelled mode xs
+
+-- pieces as written that mean ps and, one behind the other, are the text again
+pub record IsSpelled (mode : Mode) (c : ℕ) (t : Text) (ps : List (Piece (Unit {0}))) : Type 0 where
+  pub texts : List PieceText
+  pub means : piece_values c texts ≡ ps
+  pub whole : spelled mode texts ≡ t

@@ -6,7 +6,7 @@ use Rattle.std.specs.Prelude.{ℕ, Bool, true, false, not, ◌&&◌, ◌||◌, �
 use Rattle.std.specs.List.{list_all, filter}
 use Rattle.std.specs.Char.{digit_value}
 use Rattle.std.specs.Str.Parse.{digits_value}
-use Rattle.rustc_parse_format.specs.Characters.{Text, front, behind}
+use Rattle.rustc_parse_format.specs.Characters.{Text, front, behind, starts}
 
 pub data LiteralUnit : Type 0 where
   -- a character that stands for itself
@@ -78,16 +78,11 @@ is_skipped c = ((c == code "\t" || c == code "\n") || c == code "\r") || c == co
 abbrev pub is_scalar : ℕ → Bool
 is_scalar c = nat_lt c 0xD800 || (nat_lt 0xDFFF c && nat_lt c 0x11_0000)
 
--- the text begins with a character that passes
-abbrev pub begins_passing : (ℕ → Bool) → Text → Bool
-begins_passing p [] = false
-begins_passing p (c ∷ t) = p c
-
 -- One to six hexadecimal digits, the first in front and each with any number of `_` behind it, that write the code of a
 -- character.
 abbrev pub is_unicode : Text → Bool
 is_unicode w =
-    begins_passing is_hex w && (list_all (λ c. is_hex c || is_underscore c) w
+    starts is_hex w && (list_all (λ c. is_hex c || is_underscore c) w
     && (nat_le (length (hex_digits w)) 6 && is_scalar (unicode_value w)))
 
 -- it is well formed
@@ -100,7 +95,7 @@ is_unit (Continuation w) = list_all is_skipped w
 
 -- it may stand in front of that text: a continuation takes all the white space
 abbrev pub may_precede : LiteralUnit → Text → Bool
-may_precede (Continuation w) r = not (begins_passing is_skipped r)
+may_precede (Continuation w) r = not (starts is_skipped r)
 may_precede u r = true
 
 -- The unit at the front of a text, by computing, and the rest.

@@ -1,30 +1,31 @@
 -- What a cut means where the next number is c: the argument of `Values`, with marks for its spans.
-use Rattle.std.specs.Prelude.{ℕ, [], ◌∷◌, Option, Some, None}
-use Rattle.rustc_parse_format.specs.Characters.{Text, behind_word, behind_first, number}
+use Rattle.std.specs.Prelude.{ℕ, ◌++◌, [], ◌∷◌, Option, Some, None, codes}
+use Rattle.rustc_parse_format.specs.Characters.{Text, behind_first, number}
 use Rattle.rustc_parse_format.specs.Pieces.{Count, Is, Name, Param, Star, Implied, Spec, Argument, default_spec}
 use Rattle.rustc_parse_format.specs.Marks.{Span, up_to, through, over_first}
 use Rattle.rustc_parse_format.specs.Placeholder.{Cut}
-use Rattle.rustc_parse_format.specs.Syntax.{CountText, NumberCount, IndexCount, NameCount, NoCount, WidthText, PaddedWidth, ZeroIndexWidth, PlainWidth, PrecisionText, NoPrecision, StarPrecision, DotPrecision, TypeText, WordType, Parts, SpecText, Default, FormatParts, Modifier, DiagnosticText}
+use Rattle.rustc_parse_format.specs.Syntax.{CountText, NumberCount, IndexCount, NameCount, NoCount, WidthText, PaddedWidth, ZeroIndexWidth, PlainWidth, width_part, PrecisionText, NoPrecision, StarPrecision, DotPrecision, precision_part, TypeText, DebugHexType, SignType, WordType, type_part, Parts, SpecText, Default, FormatParts, Modifier, DiagnosticText}
 use Rattle.rustc_parse_format.specs.Values.{is_padded, type_of, debug_hex_of, behind_spec, position_of}
-use Rattle.rustc_parse_format.specs.Specification.{width_at, precision_at, type_at}
 
--- the count that stands at t
-abbrev pub count_of : Text → CountText → Count Span
-count_of t (NumberCount ds) = Is (number ds)
-count_of t (IndexCount ds) = Param (number ds)
-count_of t (NameCount w) = Name w (up_to t (behind_word t))
-count_of t NoCount = Implied
+-- the count that stands at t, with r behind it; the span of a name ends in front of its `$`
+abbrev pub count_of : Text → CountText → Text → Count Span
+count_of t (NumberCount ds) r = Is (number ds)
+count_of t (IndexCount ds) r = Param (number ds)
+count_of t (NameCount w) r = Name w (up_to t (codes "$" ++ r))
+count_of t NoCount r = Implied
 
 -- from t to r, where there is a count
 abbrev pub count_span : Text → CountText → Text → Option Span
+count_span t (NumberCount ds) r = Some (up_to t r)
+count_span t (IndexCount ds) r = Some (up_to t r)
+count_span t (NameCount w) r = Some (up_to t r)
 count_span t NoCount r = None
-count_span t k r = Some (up_to t r)
 
--- the width that stands at t
-abbrev pub width_of : Text → WidthText → Count Span
-width_of t (PaddedWidth k) = count_of (behind_first t) k
-width_of t ZeroIndexWidth = Param 0
-width_of t (PlainWidth k) = count_of t k
+-- the width that stands at t, with r behind it
+abbrev pub width_of : Text → WidthText → Text → Count Span
+width_of t (PaddedWidth k) r = count_of (behind_first t) k r
+width_of t ZeroIndexWidth r = Param 0
+width_of t (PlainWidth k) r = count_of t k r
 
 -- where its count stands, with r behind it
 abbrev pub width_span : Text → WidthText → Text → Option Span
@@ -32,16 +33,17 @@ width_span t (PaddedWidth k) r = count_span (behind_first t) k r
 width_span t ZeroIndexWidth r = Some (through t (behind_first t))
 width_span t (PlainWidth k) r = count_span t k r
 
--- the precision that stands at t; a star takes the number c
-abbrev pub precision_of : ℕ → Text → PrecisionText → Count Span
-precision_of c t NoPrecision = Implied
-precision_of c t StarPrecision = Star c
-precision_of c t (DotPrecision k) = count_of (behind_first t) k
+-- the precision that stands at t, with r behind it; a star takes the number c
+abbrev pub precision_of : ℕ → Text → PrecisionText → Text → Count Span
+precision_of c t NoPrecision r = Implied
+precision_of c t StarPrecision r = Star c
+precision_of c t (DotPrecision k) r = count_of (behind_first t) k r
 
 -- from t to r, where there is a precision
 abbrev pub precision_span : Text → PrecisionText → Text → Option Span
 precision_span t NoPrecision r = None
-precision_span t p r = Some (up_to t r)
+precision_span t StarPrecision r = Some (up_to t r)
+precision_span t (DotPrecision k) r = Some (up_to t r)
 
 -- from t to r, where the word is not empty
 abbrev pub word_span : Text → Text → Text → Option Span
@@ -50,13 +52,24 @@ word_span t (c ∷ w) r = Some (up_to t r)
 
 -- of the type `x`, `X`, `?`, `x?` or `X?` there is none
 abbrev pub type_span : Text → TypeText → Text → Option Span
+type_span t (DebugHexType h) r = None
+type_span t (SignType c) r = None
 type_span t (WordType w) r = word_span t w r
-type_span t y r = None
 
 -- the fill that stands at t
 abbrev pub fill_span : Text → Option ℕ → Option Span
 fill_span t None = None
 fill_span t (Some c) = Some (over_first t)
+
+-- A format specification in front of r, from its type on, from its precision on and from its width on.
+abbrev pub from_type : Parts → Text → Text
+from_type p r = (type_part p.type).spelling ++ r
+
+abbrev pub from_precision : Parts → Text → Text
+from_precision p r = (precision_part p.precision).spelling ++ from_type p r
+
+abbrev pub from_width : Parts → Text → Text
+from_width p r = (width_part p.width).spelling ++ from_precision p r
 
 -- the format specification that stands at t, behind its colon, with r behind it
 unfoldable pub format_of : ℕ → Text → Parts → Text → Spec Span
@@ -68,12 +81,12 @@ format_of c t p r = record {
   alternate = p.alternate;
   zero_pad = is_padded p.width;
   debug_hex = debug_hex_of p.type;
-  width = width_of (width_at t) p.width;
-  width_span = width_span (width_at t) p.width (precision_at t);
-  precision = precision_of c (precision_at t) p.precision;
-  precision_span = precision_span (precision_at t) p.precision (type_at t);
+  width = width_of (from_width p r) p.width (from_precision p r);
+  width_span = width_span (from_width p r) p.width (from_precision p r);
+  precision = precision_of c (from_precision p r) p.precision (from_type p r);
+  precision_span = precision_span (from_precision p r) p.precision (from_type p r);
   ty = type_of p.type;
-  ty_span = type_span (type_at t) p.type r;
+  ty_span = type_span (from_type p r) p.type r;
 }
 
 -- the specification that stands at t, with r behind it

@@ -3,8 +3,8 @@ use Rattle.std.specs.Prelude.{◌++◌, if◌then◌else◌, List, [], ◌∷◌
 use Rattle.rustc_parse_format.specs.Characters.{Text, word, behind_word, digits, behind_digits, behind_first, is_over}
 use Rattle.rustc_parse_format.specs.Marks.{Span, up_to, through}
 use Rattle.rustc_parse_format.specs.Placeholder.{Cut}
-use Rattle.rustc_parse_format.specs.Syntax.{WidthText, PaddedWidth, ZeroIndexWidth, PlainWidth, PrecisionText, DotPrecision, TypeText, WordType, Parts, SpecText, Default, FormatParts, Modifier, DiagnosticText}
-use Rattle.rustc_parse_format.specs.Specification.{width_at, precision_at, type_at}
+use Rattle.rustc_parse_format.specs.Syntax.{WidthText, PaddedWidth, ZeroIndexWidth, PlainWidth, PrecisionText, NoPrecision, StarPrecision, DotPrecision, TypeText, DebugHexType, SignType, WordType, Parts, SpecText, Default, FormatParts, Modifier, DiagnosticText}
+use Rattle.rustc_parse_format.specs.Meaning.{from_width, from_precision, from_type}
 use Rattle.rustc_parse_format.specs.Faults.{Fault, Underscore, TooLarge}
 
 -- a word `_` at the front of t
@@ -29,21 +29,23 @@ width_faults t ZeroIndexWidth = []
 width_faults t (PlainWidth k) = count_faults t
 
 abbrev pub precision_faults : Text → PrecisionText → List (Fault Span)
+precision_faults t NoPrecision = []
+precision_faults t StarPrecision = []
 precision_faults t (DotPrecision k) = count_faults (behind_first t)
-precision_faults t p = []
 
 abbrev pub type_faults : Text → TypeText → List (Fault Span)
+type_faults t (DebugHexType h) = []
+type_faults t (SignType c) = []
 type_faults t (WordType w) = word_faults t
-type_faults t y = []
 
--- the format specification that stands at t
-unfoldable pub format_faults : Text → Parts → List (Fault Span)
-format_faults t p = width_faults (width_at t) p.width ++ precision_faults (precision_at t) p.precision ++ type_faults (type_at t) p.type
+-- the format specification in front of r
+unfoldable pub format_faults : Parts → Text → List (Fault Span)
+format_faults p r = width_faults (from_width p r) p.width ++ precision_faults (from_precision p r) p.precision ++ type_faults (from_type p r) p.type
 
 -- the specification that stands at t, with r behind it
 abbrev pub spec_faults : Text → SpecText → Text → List (Fault Span)
 spec_faults t Default r = []
-spec_faults t (FormatParts p) r = format_faults (behind_first t) p
+spec_faults t (FormatParts p) r = format_faults p r
 spec_faults t (Modifier w) r = word_faults (behind_first t)
 spec_faults t (DiagnosticText u) r = []
 

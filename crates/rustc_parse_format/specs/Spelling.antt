@@ -1,6 +1,6 @@
 -- How a text is written, part by part. A part that may be left out is written as nothing, and only where it does not begin;
 -- a run, an integer or a word ends where nothing goes on with it.
-use Rattle.std.specs.Prelude.{◌≡◌, ℕ, Bool, true, false, not, ◌&&◌, ◌++◌, IsTrue, List, [], ◌∷◌}
+use Rattle.std.specs.Prelude.{◌≡◌, ℕ, Bool, true, false, not, ◌&&◌, ◌||◌, ◌++◌, IsTrue, List, [], ◌∷◌}
 use Rattle.std.specs.List.{list_all}
 use Rattle.std.specs.Char.{is_ascii_digit}
 use Rattle.rustc_parse_format.specs.Characters.{Text, is_id_start, is_id_continue, starts}
@@ -43,9 +43,17 @@ never = record { spelling = []; is_formed = false; may_precede = λ r. true }
 abbrev pub run : (ℕ → Bool) → Text → Part
 run p u = record { spelling = u; is_formed = list_all p u; may_precede = λ r. not (starts p r) }
 
--- digits, at least one
+-- the same, at least one
+abbrev pub some_run : (ℕ → Bool) → Text → Part
+some_run p u = record (run p u) { is_formed = starts p u && list_all p u }
+
+-- a character that passes, twice
+abbrev pub doubled : (ℕ → Bool) → ℕ → Part
+doubled p c = record { spelling = c ∷ c ∷ []; is_formed = p c; may_precede = λ r. true }
+
+-- digits
 abbrev pub integer : Text → Part
-integer ds = record { spelling = ds; is_formed = starts is_ascii_digit ds && list_all is_ascii_digit ds; may_precede = λ r. not (starts is_ascii_digit r) }
+integer ds = some_run is_ascii_digit ds
 
 abbrev pub is_word : Text → Bool
 is_word [] = false
@@ -54,10 +62,23 @@ is_word (c ∷ w) = is_id_start c && list_all is_id_continue w
 abbrev pub identifier : Text → Part
 identifier w = record { spelling = w; is_formed = is_word w; may_precede = λ r. not (starts is_id_continue r) }
 
+-- a word in front of what passes
+abbrev pub identifier_before : (Text → Bool) → Text → Part
+identifier_before p w = record { spelling = w; is_formed = is_word w; may_precede = p }
+
 -- a word, or nothing where none begins
 abbrev pub optional_identifier : Text → Part
 optional_identifier [] = absent (starts is_id_start)
 optional_identifier (c ∷ w) = identifier (c ∷ w)
+
+-- some front of the text passes, with what is behind it
+abbrev pub some_front : Text → (Text → Text → Bool) → Bool
+some_front [] p = p [] []
+some_front (c ∷ t) p = p [] (c ∷ t) || some_front t (λ u r. p (c ∷ u) r)
+
+-- the text begins with such a part, each spelled as the text that it is made of
+abbrev pub begins : (Text → Part) → Text → Bool
+begins part t = some_front t (λ u r. (part u).is_formed && (part u).may_precede r)
 
 -- parts one behind the other, each in front of the next
 abbrev pub row : List Part → Part

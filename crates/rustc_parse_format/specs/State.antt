@@ -3,8 +3,8 @@ use Rattle.std.specs.Prelude.{◌≡◌, ℕ, ◌-◌, List, [], ◌∷◌, leng
 use Rattle.rustc_parse_format.specs.Characters.{Text, width}
 use Rattle.rustc_parse_format.specs.Pieces.{Mode, Piece, bare}
 use Rattle.rustc_parse_format.specs.Faults.{Message, add_errors}
-use Rattle.rustc_parse_format.specs.World.{World, Place, place_at, faults_in}
-use Rattle.rustc_parse_format.specs.Step.{Call, call, walk}
+use Rattle.rustc_parse_format.specs.World.{World, Place, place_at, faults_in, pieces_in}
+use Rattle.rustc_parse_format.specs.Step.{Call, call, walk, IsWalk, pieces_of}
 
 -- What a cursor stands at: the rest of an input, in its world.
 pub record Unread : Type 0 where
@@ -54,3 +54,10 @@ calls s = walk s.mode s.next s.rest
 abbrev pub after_all : State → List Call → State
 after_all s [] = s
 after_all s (k ∷ ks) = after_all (after s k) ks
+
+-- the pieces ps are those of a walk from the state old on, and new is the state after its last call
+pub record Walks (old : State) (ps : List (Piece Place)) (new : State) : Type 0 where
+  pub calls : List Call
+  pub is_walk : IsWalk old.mode old.next old.rest calls
+  pub pieces : ps ≡ pieces_in old.world (pieces_of calls)
+  pub state : new ≡ after_all old calls

@@ -1,12 +1,12 @@
--- What stands between the braces of a placeholder, as written: the parts, how each is spelled and what may follow it.
--- The public rule is the grammar of format strings in the documentation of `std::fmt`. Parts take what they can from the front
--- on: one that may be left out is absent only where it does not begin.
+-- A format string as it is written: its pieces and their parts, how each is spelled and what may follow it.
+-- The public rule is the grammar of format strings in the documentation of `std::fmt`; what is quoted from it stands in front of
+-- its row. Parts take what they can from the front on: one that may be left out is absent only where it does not begin.
 use Prim.Native.Char.{code}
-use Rattle.std.specs.Prelude.{◌≡◌, ℕ, Bool, true, false, not, ◌&&◌, ◌||◌, ◌==◌, [], ◌∷◌, Option, Some, None, codes}
+use Rattle.std.specs.Prelude.{◌≡◌, ℕ, Bool, true, false, not, ◌||◌, ◌==◌, [], ◌∷◌, Option, Some, None, codes}
 use Rattle.std.specs.Char.{is_ascii_digit, is_whitespace}
-use Rattle.rustc_parse_format.specs.Characters.{Text, is_align, is_id_start, is_no_brace, behind_first, behind_word, begins_with, starts}
+use Rattle.rustc_parse_format.specs.Characters.{Text, is_align, is_brace, is_id_start, is_no_brace, behind_first, begins_with, starts}
 use Rattle.rustc_parse_format.specs.Pieces.{Mode, Format, InlineAsm, Diagnostic, Alignment, Left, Right, Center, Unknown, Sign, Plus, Minus, DebugHex, Lower, Upper}
-use Rattle.rustc_parse_format.specs.Spelling.{Part, IsPart, before, fixed, unless, absent, never, run, integer, identifier, optional_identifier, row}
+use Rattle.rustc_parse_format.specs.Spelling.{Part, IsPart, before, fixed, unless, absent, never, run, some_run, doubled, integer, identifier, identifier_before, optional_identifier, begins, row}
 
 pub data PositionText : Type 0 where
   Digits : Text → PositionText
@@ -54,16 +54,16 @@ pub data CountText : Type 0 where
   NameCount : Text → CountText
   NoCount : CountText
 
--- digits, or a word with a `$` behind it
-abbrev pub begins_count : Text → Bool
-begins_count t = starts is_ascii_digit t || (starts is_id_start t && begins_with (code "$") (behind_word t))
+-- a name in front of its `$`
+abbrev pub name_part : Text → Part
+name_part w = identifier_before (begins_with (code "$")) w
 
--- count := integer | parameter, parameter := argument '$'
+-- count := integer | parameter, parameter := argument '$': absent where neither digits nor such a name begin
 abbrev pub count_part : CountText → Part
 count_part (NumberCount ds) = row (integer ds ∷ absent (begins_with (code "$")) ∷ [])
 count_part (IndexCount ds) = row (integer ds ∷ fixed (codes "$") ∷ [])
-count_part (NameCount w) = row (identifier w ∷ fixed (codes "$") ∷ [])
-count_part NoCount = absent begins_count
+count_part (NameCount w) = row (name_part w ∷ fixed (codes "$") ∷ [])
+count_part NoCount = absent (λ t. starts is_ascii_digit t || begins name_part t)
 
 pub data WidthText : Type 0 where
   -- the flag `0` and a count
@@ -138,10 +138,16 @@ pub data SpecText : Type 0 where
 abbrev pub spec_part : Mode → SpecText → Part
 spec_part mode Default = absent (begins_with (code ":"))
 spec_part Format (FormatParts p) = row (fixed (codes ":") ∷ format_part p ∷ [])
+spec_part Format (Modifier w) = never
+spec_part Format (DiagnosticText u) = never
+spec_part InlineAsm (FormatParts p) = never
 spec_part InlineAsm (Modifier w) = row (fixed (codes ":") ∷ optional_identifier w ∷ [])
+spec_part InlineAsm (DiagnosticText u) = never
+spec_part Diagnostic (FormatParts p) = never
+spec_part Diagnostic (Modifier w) = never
 spec_part Diagnostic (DiagnosticText u) = row (fixed (codes ":") ∷ run is_no_brace u ∷ [])
-spec_part mode s = never
 
+-- what stands between the braces, but for white space in front of the closing one
 pub record FieldText : Type 0 where
   pub position : PositionText
   -- white space
@@ -154,6 +160,21 @@ field_part mode a = row (position_part a.position ∷ run is_whitespace a.space 
 -- format := '{' [ argument ] [ ws ] * [ ':' format_spec ] [ ws ] * '}'
 abbrev pub placeholder_part : Mode → FieldText → Text → Part
 placeholder_part mode a space = row (fixed (codes "{") ∷ field_part mode a ∷ run is_whitespace space ∷ fixed (codes "}") ∷ [])
+
+-- a piece of a format string
+pub data PieceText : Type 0 where
+  -- characters without braces
+  RunText : Text → PieceText
+  -- a brace twice, and characters without braces
+  DoubledText : ℕ → Text → PieceText
+  -- a placeholder, with the white space in front of its closing brace
+  PlaceholderText : FieldText → Text → PieceText
+
+-- format_string := text [ maybe_format text ] *, maybe_format := '{' '{' | '}' '}' | format
+abbrev pub piece_part : Mode → PieceText → Part
+piece_part mode (RunText u) = some_run is_no_brace u
+piece_part mode (DoubledText b u) = row (doubled is_brace b ∷ run is_no_brace u ∷ [])
+piece_part mode (PlaceholderText a space) = placeholder_part mode a space
 
 -- a single brace and the field behind it, whether a brace closes it or not
 abbrev pub opened_part : Mode → FieldText → Part

@@ -1,9 +1,9 @@
--- What a field means where the next number is c: the argument, without spans, and the number that is next behind it.
+-- What a piece as written means where the next number is c, without spans, and the number that is next behind it.
 -- The public rule is `std::fmt`, of positional parameters, widths and precisions.
 use Rattle.std.specs.Prelude.{ℕ, Bool, true, false, suc, if◌then◌else◌, [], ◌∷◌, Option, Some, None, codes, is_some, unwrap_or}
 use Rattle.rustc_parse_format.specs.Characters.{Text, number}
-use Rattle.rustc_parse_format.specs.Pieces.{DebugHex, Position, Implicit, Index, Named, Count, Is, Name, Param, Star, Implied, Spec, Argument, default_spec}
-use Rattle.rustc_parse_format.specs.Syntax.{PositionText, Digits, Word, NoPosition, CountText, NumberCount, IndexCount, NameCount, NoCount, WidthText, PaddedWidth, ZeroIndexWidth, PlainWidth, PrecisionText, NoPrecision, StarPrecision, DotPrecision, TypeText, DebugHexType, SignType, WordType, Parts, SpecText, Default, FormatParts, Modifier, DiagnosticText, FieldText}
+use Rattle.rustc_parse_format.specs.Pieces.{DebugHex, Position, Implicit, Index, Named, Count, Is, Name, Param, Star, Implied, Spec, Argument, Piece, Lit, NextArgument, default_spec}
+use Rattle.rustc_parse_format.specs.Syntax.{PositionText, Digits, Word, NoPosition, CountText, NumberCount, IndexCount, NameCount, NoCount, WidthText, PaddedWidth, ZeroIndexWidth, PlainWidth, PrecisionText, NoPrecision, StarPrecision, DotPrecision, TypeText, DebugHexType, SignType, WordType, Parts, SpecText, Default, FormatParts, Modifier, DiagnosticText, FieldText, PieceText, RunText, DoubledText, PlaceholderText}
 
 abbrev pub count_value : CountText → Count (Unit {0})
 count_value (NumberCount ds) = Is (number ds)
@@ -13,7 +13,8 @@ count_value NoCount = Implied
 
 abbrev pub is_padded : WidthText → Bool
 is_padded (PaddedWidth k) = true
-is_padded w = false
+is_padded ZeroIndexWidth = false
+is_padded (PlainWidth k) = false
 
 abbrev pub width_value : WidthText → Count (Unit {0})
 width_value (PaddedWidth k) = count_value k
@@ -33,7 +34,8 @@ type_of (WordType w) = w
 
 abbrev pub debug_hex_of : TypeText → Option DebugHex
 debug_hex_of (DebugHexType h) = Some h
-debug_hex_of y = None
+debug_hex_of (SignType c) = None
+debug_hex_of (WordType w) = None
 
 abbrev pub format_value : ℕ → Parts → Spec (Unit {0})
 format_value c p = record default_spec {
@@ -56,13 +58,16 @@ spec_value c (DiagnosticText u) = record default_spec { ty = u }
 
 -- a star takes the next number
 abbrev pub behind_precision : ℕ → PrecisionText → ℕ
+behind_precision c NoPrecision = c
 behind_precision c StarPrecision = suc c
-behind_precision c p = c
+behind_precision c (DotPrecision k) = c
 
 -- the next number behind the specification
 abbrev pub behind_spec : ℕ → SpecText → ℕ
+behind_spec c Default = c
 behind_spec c (FormatParts p) = behind_precision c p.precision
-behind_spec c s = c
+behind_spec c (Modifier w) = c
+behind_spec c (DiagnosticText u) = c
 
 -- a position that is not implicit
 abbrev pub given_position : PositionText → Option Position
@@ -84,3 +89,15 @@ argument_value c a = record { position = position_of (behind_spec c a.spec) a.po
 -- and the next number behind it
 unfoldable pub next_number : ℕ → FieldText → ℕ
 next_number c a = behind_position (behind_spec c a.spec) a.position
+
+-- A run is itself, a doubled brace stands for one brace in front of its run, and a placeholder for an argument.
+abbrev pub piece_value : ℕ → PieceText → Piece (Unit {0})
+piece_value c (RunText u) = Lit u
+piece_value c (DoubledText b u) = Lit (b ∷ u)
+piece_value c (PlaceholderText a space) = NextArgument (argument_value c a)
+
+-- the next number behind the piece
+abbrev pub number_behind : ℕ → PieceText → ℕ
+number_behind c (RunText u) = c
+number_behind c (DoubledText b u) = c
+number_behind c (PlaceholderText a space) = next_number c a

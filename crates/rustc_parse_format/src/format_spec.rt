@@ -205,7 +205,7 @@ fn format_parts<'input>(
     ensures rest { OnOk result (cursor.new ≡ record cursor.old { rest = (format_parts cursor.old.rest).1 }) }
     ensures next { OnOk result (curarg.new ≡ behind_precision curarg.old (format_parts cursor.old.rest).0.precision) }
     ensures found { OnOk result (map seen_fault found.new.items
-        ≡ map seen_fault found.old.items ++ faults_in cursor.old.world (format_faults cursor.old.rest (format_parts cursor.old.rest).0)) }
+        ≡ map seen_fault found.old.items ++ faults_in cursor.old.world (format_faults (format_parts cursor.old.rest).0 (format_parts cursor.old.rest).1)) }
 {
     let (fill, fill_span) = fill(cursor);
     let align = alignment(cursor);

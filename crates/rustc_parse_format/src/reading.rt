@@ -2,11 +2,11 @@
 
 ghost use Rattle.std.specs.Prelude.{◌≡◌, ◌≢◌, ◌+◌, ◌<◌, ◌^◌, ◌↔◌, ℕ, [], List, IfOk, IsTrue, chars, length, map, option_map, string_bytes};
 ghost use Rattle.rustc_parse_format.specs.Characters.{Text};
-ghost use Rattle.rustc_parse_format.specs.Grammar.{IsInGrammar, Reads, StopsInside};
+ghost use Rattle.rustc_parse_format.specs.Grammar.{IsInGrammar, IsSpelled, Reads, StopsInside};
 ghost use Rattle.rustc_parse_format.specs.Pieces.{Mode, Piece as BarePiece, bare};
 ghost use Rattle.rustc_parse_format.specs.Seen.{seen, seen_mode};
 ghost use Rattle.rustc_parse_format.specs.Source.{HasSource};
-ghost use Rattle.rustc_parse_format.specs.State.{after_all, calls, fresh};
+ghost use Rattle.rustc_parse_format.specs.State.{Walks, after_all, calls, fresh};
 ghost use Rattle.rustc_parse_format.specs.Step.{pieces_of};
 ghost use Rattle.rustc_parse_format.specs.Syntax.{FieldText, IsOnlyCut};
 ghost use Rattle.rustc_parse_format.specs.World.{hashes, pieces_in, world};
@@ -47,12 +47,17 @@ pub fn read_all<'input>(
         let s = fresh (seen_mode mode) (world (chars input.now) style (option_map (λ t. chars (string_bytes t)) snippet) appended_newline) (chars input.now) in
         (map seen x.0.items ≡ pieces_in s.world (pieces_of (calls s))) × (x.1 ≡ after_all s (calls s))) }
 
+    ensures walks { IfOk result (λ x. Walks
+        (fresh (seen_mode mode) (world (chars input.now) style (option_map (λ t. chars (string_bytes t)) snippet) appended_newline) (chars input.now))
+        (map seen x.0.items) x.1) }
+
     ensures source { IfOk result (λ x. IsTrue x.1.world.is_literal
         ↔ HasSource (chars input.now) style (option_map (λ t. chars (string_bytes t)) snippet) appended_newline) }
 
     // No error is left exactly where the input is in the grammar, and then the pieces are its one reading.
     ensures clean { IfOk result (λ x. (x.1.errors ≡ []) ↔ IsInGrammar (seen_mode mode) (chars input.now)) }
     ensures reading { IfOk result (λ x. x.1.errors ≡ [] → Reads (seen_mode mode) 0 (chars input.now) (map bare (map seen x.0.items))) }
+    ensures round_trip { IfOk result (λ x. x.1.errors ≡ [] → IsSpelled (seen_mode mode) 0 (chars input.now) (map bare (map seen x.0.items))) }
     ensures one_reading { (m : Mode) (c : ℕ) (t : Text) (ps qs : List (BarePiece (Unit {0})))
         → Reads m c t ps → Reads m c t qs → ps ≡ qs }
     ensures one_cut { (m : Mode) (t : Text) → (a : FieldText) × (r : Text) × IsOnlyCut m t a r }

@@ -23,7 +23,7 @@ fn spanned_count<'input>(
     found: &mut Vec<Fault<'input>>,
 ) -> Result<(Count<'input>, Option<Range<usize>>), AllocError>
     ensures value { IfOk result (λ k. seen_count k.0
-        ≡ map_count (place_of cursor.old.world) (count_of cursor.old.rest (count cursor.old.rest).0)) }
+        ≡ map_count (place_of cursor.old.world) (count_of cursor.old.rest (count cursor.old.rest).0 (count cursor.old.rest).1)) }
     ensures span { IfOk result (λ k. option_map pair k.1 ≡ option_map (place_of cursor.old.world)
         (count_span cursor.old.rest (count cursor.old.rest).0 (count cursor.old.rest).1)) }
     ensures rest { OnOk result (cursor.new ≡ record cursor.old { rest = (count cursor.old.rest).1 }) }
@@ -55,7 +55,7 @@ fn counted<'input>(
 ) -> Result<WidthPart<'input>, AllocError>
     ensures zero_pad { IfOk result (λ w. w.zero_pad ≡ zero_pad) }
     ensures count { IfOk result (λ w. seen_count w.count
-        ≡ map_count (place_of cursor.old.world) (count_of cursor.old.rest (count cursor.old.rest).0)) }
+        ≡ map_count (place_of cursor.old.world) (count_of cursor.old.rest (count cursor.old.rest).0 (count cursor.old.rest).1)) }
     ensures span { IfOk result (λ w. option_map pair w.span ≡ option_map (place_of cursor.old.world)
         (count_span cursor.old.rest (count cursor.old.rest).0 (count cursor.old.rest).1)) }
     ensures rest { OnOk result (cursor.new ≡ record cursor.old { rest = (count cursor.old.rest).1 }) }
@@ -77,7 +77,7 @@ pub fn width<'input>(
 ) -> Result<WidthPart<'input>, AllocError>
     ensures zero_pad { IfOk result (λ w. w.zero_pad ≡ is_padded (width cursor.old.rest).0) }
     ensures count { IfOk result (λ w. seen_count w.count ≡ map_count (place_of cursor.old.world)
-        (width_of cursor.old.rest (width cursor.old.rest).0)) }
+        (width_of cursor.old.rest (width cursor.old.rest).0 (width cursor.old.rest).1)) }
     ensures span { IfOk result (λ w. option_map pair w.span ≡ option_map (place_of cursor.old.world)
         (width_span cursor.old.rest (width cursor.old.rest).0 (width cursor.old.rest).1)) }
     ensures rest { OnOk result (cursor.new ≡ record cursor.old { rest = (width cursor.old.rest).1 }) }
@@ -110,7 +110,7 @@ pub fn precision<'input>(
 ) -> Result<(Count<'input>, Option<Range<usize>>), AllocError>
     requires { curarg.old + 1 < 2 ^ 64 }
     ensures value { IfOk result (λ k. seen_count k.0 ≡ map_count (place_of cursor.old.world)
-        (precision_of curarg.old cursor.old.rest (precision cursor.old.rest).0)) }
+        (precision_of curarg.old cursor.old.rest (precision cursor.old.rest).0 (precision cursor.old.rest).1)) }
     ensures span { IfOk result (λ k. option_map pair k.1 ≡ option_map (place_of cursor.old.world)
         (precision_span cursor.old.rest (precision cursor.old.rest).0 (precision cursor.old.rest).1)) }
     ensures rest { OnOk result (cursor.new ≡ record cursor.old { rest = (precision cursor.old.rest).1 }) }

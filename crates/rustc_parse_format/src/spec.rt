@@ -97,7 +97,7 @@ fn name_count<'input>(
     found: &mut Vec<Fault<'input>>,
 ) -> Result<Count<'input>, AllocError>
     ensures value { IfOk result (λ k. seen_count k ≡ map_count (place_of cursor.old.world)
-        (count_of cursor.old.rest (behind_name cursor.old.rest (word cursor.old.rest) (behind_word cursor.old.rest)).0)) }
+        (let k = behind_name cursor.old.rest (word cursor.old.rest) (behind_word cursor.old.rest) in count_of cursor.old.rest k.0 k.1)) }
     ensures rest { OnOk result (cursor.new ≡ record cursor.old {
       rest = (behind_name cursor.old.rest (word cursor.old.rest) (behind_word cursor.old.rest)).1;
     }) }
@@ -121,7 +121,7 @@ pub fn count<'input>(
     found: &mut Vec<Fault<'input>>,
 ) -> Result<Count<'input>, AllocError>
     ensures value { IfOk result (λ k. seen_count k
-        ≡ map_count (place_of cursor.old.world) (count_of cursor.old.rest (count cursor.old.rest).0)) }
+        ≡ map_count (place_of cursor.old.world) (count_of cursor.old.rest (count cursor.old.rest).0 (count cursor.old.rest).1)) }
     ensures rest { OnOk result (cursor.new ≡ record cursor.old { rest = (count cursor.old.rest).1 }) }
     ensures found { OnOk result (map seen_fault found.new.items
         ≡ map seen_fault found.old.items ++ faults_in cursor.old.world (count_faults cursor.old.rest)) }

@@ -3,10 +3,10 @@ use Rattle.std.specs.Prelude.{option_map}
 use Rattle.rustc_parse_format.specs.Seen.{seen_mode}
 use Rattle.rustc_parse_format.specs.State.{State, fresh, calls}
 use Rattle.rustc_parse_format.specs.World.{world}
-use Rattle.rustc_parse_format.proofs.Readings.{Reads-unique}
+use Rattle.rustc_parse_format.proofs.Readings.{Reads-unique, Reads-spelled}
 use Rattle.rustc_parse_format.proofs.PartCuts.{cut-only}
 use Rattle.rustc_parse_format.proofs.StateWalks.{after_all-world}
-use Rattle.rustc_parse_format.proofs.ReadPieces.{clean_in, in_clean, reading_of, stops_of}
+use Rattle.rustc_parse_format.proofs.ReadPieces.{walks_of, clean_in, in_clean, reading_of, stops_of}
 use Rattle.rustc_parse_format.proofs.reading.read_all.Goals as goal
 
 pub returns-in_err-pieces-clause-one_reading : goal.returns-in_err-pieces-clause-one_reading
@@ -32,6 +32,14 @@ returns-clause-reading c =
     let s = fresh (seen_mode c.args.mode) (world (chars c.args.input.now) c.args.style (option_map (λ (t : String Global). chars (string_bytes t)) c.args.snippet) c.args.appended_newline) (chars c.args.input.now) in
     let e : ◌≡◌ {A = State} c.in_ok-parser.parser s = c.in_ok-parser.ensures.start in
     reading_of (seen_mode c.args.mode) s.world (chars c.args.input.now) _ _ _ e c.in_ok-pieces.ensures.state c.in_ok-pieces.ensures.pieces
+
+pub returns-clause-walks : goal.returns-clause-walks
+returns-clause-walks c =
+    walks_of (fresh (seen_mode c.args.mode) (world (chars c.args.input.now) c.args.style (option_map (λ (t : String Global). chars (string_bytes t)) c.args.snippet) c.args.appended_newline) (chars c.args.input.now))
+    _ _ _ c.in_ok-parser.ensures.start c.in_ok-pieces.ensures.state c.in_ok-pieces.ensures.pieces
+
+pub returns-clause-round_trip : goal.returns-clause-round_trip
+returns-clause-round_trip c none = Reads-spelled (seen_mode c.args.mode) 0 (chars c.args.input.now) _ (returns-clause-reading c none)
 
 pub returns-clause-first_fault : goal.returns-clause-first_fault
 returns-clause-first_fault c =

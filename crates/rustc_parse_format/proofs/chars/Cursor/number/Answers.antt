@@ -2,7 +2,7 @@ use Rattle.std.proofs.Common.{◌++◌, ◌∙◌, ap, sym}
 use Rattle.std.specs.Char.{is_ascii_digit}
 use Rattle.rustc_parse_format.specs.State.{Unread}
 use Rattle.rustc_parse_format.specs.Characters.{digits, behind_digits}
-use Rattle.rustc_parse_format.proofs.Runs.{front-behind}
+use Rattle.rustc_parse_format.proofs.Fronts.{front-behind}
 use Rattle.rustc_parse_format.proofs.chars.Cursor.number.Goals as goal
 
 pub before-requires : goal.before-requires

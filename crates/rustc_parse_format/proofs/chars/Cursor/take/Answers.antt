@@ -2,7 +2,7 @@ use Rattle.std.proofs.Common.{◌++◌, ◌∙◌, ap, sym}
 use Rattle.rustc_parse_format.specs.State.{Unread}
 use Rattle.rustc_parse_format.specs.Characters.{front}
 use Rattle.rustc_parse_format.specs.Classes.{passes}
-use Rattle.rustc_parse_format.proofs.Runs.{front-behind}
+use Rattle.rustc_parse_format.proofs.Fronts.{front-behind}
 use Rattle.rustc_parse_format.proofs.chars.Cursor.take.Goals as goal
 
 pub before-requires : goal.before-requires
