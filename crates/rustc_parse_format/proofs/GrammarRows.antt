@@ -1,16 +1,12 @@
--- Worked rows of the grammar itself: texts that are in it, with what is written in them; texts that are not; readings that
--- are refused.
+-- Worked rows of the parts of a placeholder: what is written in a text, and other ways to write it that are refused.
 use Prim.Native.Char.{code}
-use Rattle.std.proofs.Common.{◌≡◌, ◌≢◌, [], ◌∷◌, List, refl, codes, Some, None, true, false, arith}
+use Rattle.std.proofs.Common.{◌≡◌, [], ◌∷◌, List, refl, codes, Some, None, true, false, arith}
 use Rattle.std.proofs.lemmas.Bool.{false≢true}
-use Rattle.rustc_parse_format.specs.Characters.{Text}
-use Rattle.rustc_parse_format.specs.Pieces.{Mode, Format, Diagnostic, Left, Right, Unknown, Plus, Lower, Implicit, Is, Piece, NextArgument, default_spec}
+use Rattle.rustc_parse_format.specs.Pieces.{Format, Diagnostic, Left, Right, Unknown, Plus, Lower, Implicit, Is, Piece, NextArgument, default_spec}
 use Rattle.rustc_parse_format.specs.Spelling.{IsPart}
 use Rattle.rustc_parse_format.specs.Syntax.{Word, NoPosition, NumberCount, IndexCount, NameCount, NoCount, PaddedWidth, ZeroIndexWidth, PlainWidth, NoPrecision, DotPrecision, DebugHexType, SignType, WordType, Parts, Default, FormatParts, DiagnosticText, FieldText, PlaceholderText, opened_part, IsCut}
-use Rattle.rustc_parse_format.specs.Grammar.{Reads, IsInGrammar}
-use Rattle.rustc_parse_format.specs.Step.{call}
+use Rattle.rustc_parse_format.specs.Grammar.{Reads}
 use Rattle.rustc_parse_format.proofs.Readings.{Reads-unique}
-use Rattle.rustc_parse_format.proofs.Calls.{begins_call}
 use Rattle.rustc_parse_format.proofs.Rows.{computing}
 
 -- a specification in which nothing is written
@@ -95,28 +91,3 @@ padded_number-has_this_reading = (
 
 padded_number-has_no_other : (ps : List (Piece (Unit {0}))) → Reads Format 0 (codes "{:05}") ps → ps ≡ padded
 padded_number-has_no_other ps h = Reads-unique Format 0 (codes "{:05}") ps padded h padded_number-has_this_reading
-
--- Texts that are not in it.
-refused : (mode : Mode) (t : Text) → t ≢ [] → (call mode 0 t).faults ≢ [] → ¬ (IsInGrammar mode t)
-refused mode t some faulty ([], end) = some end
-refused mode t some faulty (p ∷ ps, (r, n, b, later)) = faulty (begins_call mode 0 t p r n b).faultless
-
-lone_brace-is_refused : ¬ (IsInGrammar Format (codes "{"))
-unfolding computing
-lone_brace-is_refused = refused Format (codes "{") (λ e. cc e) (λ e. cc e)
-
-closing_brace-is_refused : ¬ (IsInGrammar Format (codes "}"))
-unfolding computing
-closing_brace-is_refused = refused Format (codes "}") (λ e. cc e) (λ e. cc e)
-
-question_without_colon-is_refused : ¬ (IsInGrammar Format (codes "{a?}"))
-unfolding computing
-question_without_colon-is_refused = refused Format (codes "{a?}") (λ e. cc e) (λ e. cc e)
-
-underscore-is_no_type : ¬ (IsInGrammar Format (codes "{:_}"))
-unfolding computing
-underscore-is_no_type = refused Format (codes "{:_}") (λ e. cc e) (λ e. cc e)
-
-large_number-is_refused : ¬ (IsInGrammar Format (codes "{65536}"))
-unfolding computing
-large_number-is_refused = refused Format (codes "{65536}") (λ e. cc e) (λ e. cc e)

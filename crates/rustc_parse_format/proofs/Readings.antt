@@ -5,7 +5,7 @@ use Rattle.rustc_parse_format.specs.Pieces.{Mode, Piece, bare}
 use Rattle.rustc_parse_format.specs.Syntax.{piece_part}
 use Rattle.rustc_parse_format.specs.Grammar.{Begins, Reads, piece_values, IsSpelled}
 use Rattle.rustc_parse_format.specs.Step.{call}
-use Rattle.rustc_parse_format.proofs.Calls.{Gives, begins_call}
+use Rattle.rustc_parse_format.proofs.Calls.{begins_call}
 
 record SameStep (p q : Piece (Unit {0})) (r s : Text) (n m : ℕ) : Type 0 where
   piece : p ≡ q
