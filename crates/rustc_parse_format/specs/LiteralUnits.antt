@@ -95,8 +95,11 @@ is_unit (Continuation w) = list_all is_skipped w
 
 -- it may stand in front of that text: a continuation takes all the white space
 abbrev pub may_precede : LiteralUnit → Text → Bool
+may_precede (Plain c) r = true
+may_precede (SimpleEscape l) r = true
+may_precede (ByteEscape h l) r = true
+may_precede (UnicodeEscape w) r = true
 may_precede (Continuation w) r = not (starts is_skipped r)
-may_precede u r = true
 
 -- The unit at the front of a text, by computing, and the rest.
 abbrev pub with_rest : Text → LiteralUnit → Option (LiteralUnit × Text)

@@ -12,7 +12,7 @@ short_escape c =
 
 -- another ASCII control is written by its code, and any other character as itself
 abbrev pub plainly_written : ℕ → List ℕ
-plainly_written c = if nat_lt c (code " ") || c == 127 then codes "\\u{" ++ digits 16 false c ++ codes "}" else encode_utf8 c
+plainly_written c = if nat_lt c (code " ") || c == code "\u{7f}" then codes "\\u{" ++ digits 16 false c ++ codes "}" else encode_utf8 c
 
 unfoldable pub written : ℕ → List ℕ
 written c = elim (short_escape c) [ Some s ↦ s | None ↦ plainly_written c ]
