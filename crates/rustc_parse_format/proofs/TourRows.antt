@@ -1,0 +1,113 @@
+-- The input `{{{x:>5}` through the words that matter most, one after the other: the example of docs/DEFINITIONS.md.
+use Prim.Native.Char.{code}
+use Rattle.std.proofs.Common.{◌≡◌, ◌≢◌, ℕ, List, [], ◌∷◌, refl, ap, codes, Some, None, false, arith}
+use Rattle.rustc_parse_format.specs.Characters.{Text}
+use Rattle.rustc_parse_format.specs.Marks.{Span, Start}
+use Rattle.rustc_parse_format.specs.Pieces.{Format, Right, Named, Is, Spec, Piece, Lit, NextArgument, default_spec}
+use Rattle.rustc_parse_format.specs.Spelling.{IsPart}
+use Rattle.rustc_parse_format.specs.Syntax.{Word, NumberCount, NoCount, PlainWidth, NoPrecision, WordType, Parts, FormatParts, PieceText, DoubledText, PlaceholderText, piece_part}
+use Rattle.rustc_parse_format.specs.Grammar.{Begins, Reads, piece_values}
+use Rattle.rustc_parse_format.specs.Step.{walk, pieces_of}
+use Rattle.rustc_parse_format.specs.World.{Place}
+use Rattle.rustc_parse_format.specs.State.{State}
+use Rattle.rustc_parse_format.proofs.Rows.{computing, quoted, pieces, start, ended}
+
+abbrev input : Text
+input = codes "{{{x:>5}"
+
+abbrev rest : Text
+rest = codes "{x:>5}"
+
+-- As it is written.
+abbrev braces : PieceText
+braces = DoubledText (code "{") []
+
+abbrev sized : Parts
+sized = record { fill = None; align = Right; sign = None; alternate = false; width = PlainWidth (NumberCount (codes "5")); precision = NoPrecision; type = WordType [] }
+
+abbrev placeholder : PieceText
+placeholder = PlaceholderText (record { position = Word (codes "x"); space = []; spec = FormatParts sized }) []
+
+-- As it is read, without spans.
+abbrev bare_pieces : List (Piece (Unit {0}))
+bare_pieces =
+    Lit (codes "{")
+    ∷ NextArgument (record { position = Named (codes "x"); position_span = tt; format = record default_spec { align = Right; width = Is 5 } })
+    ∷ []
+
+-- The text is the doubled brace and then the rest, and the rest is the placeholder.
+braces-are_written : IsPart input (piece_part Format braces) rest
+unfolding computing
+braces-are_written = record { whole = refl; formed = refl; ends = refl }
+
+placeholder-is_written : IsPart rest (piece_part Format placeholder) []
+unfolding computing
+placeholder-is_written = record { whole = refl; formed = refl; ends = refl }
+
+pieces-have_these_values : piece_values 0 (braces ∷ placeholder ∷ []) ≡ bare_pieces
+unfolding computing
+pieces-have_these_values = refl
+
+-- So the text begins with a brace, which takes no number, and reads as both pieces.
+brace-begins_it : Begins Format 0 input (Lit (codes "{")) rest 0
+unfolding computing
+brace-begins_it = record { text = braces; written = braces-are_written; clean = tt; means = refl; numbered = refl }
+
+head : Text → ℕ
+head [] = 0
+head (c ∷ t) = c
+
+name-is_no_underscore : codes "x" ≢ codes "_"
+unfolding head
+name-is_no_underscore e = let h : ◌≡◌ {A = ℕ} (code "x") (code "_") = ap head e in omega arith
+
+input-reads_as_both : Reads Format 0 input bare_pieces
+unfolding computing
+input-reads_as_both = (
+  rest,
+  0,
+  brace-begins_it,
+  (
+    [],
+    0,
+    record {
+      text = placeholder;
+      written = placeholder-is_written;
+      clean = record { position = name-is_no_underscore; spec = record { width = omega arith; precision = tt; type = λ e. cc e } };
+      means = refl;
+      numbered = refl;
+    },
+    refl,
+  ),
+)
+
+-- The calls give the same with marks, by how many characters are left,
+marked : List (Piece Span)
+marked =
+    Lit (codes "{")
+    ∷ NextArgument (record {
+      position = Named (codes "x");
+      position_span = record { from = Start 5; to = Start 4 };
+      format = record (default_spec {A = Span}) { align = Right; width = Is 5; width_span = Some (record { from = Start 2; to = Start 1 }) };
+    })
+    ∷ []
+
+calls-give_marks : pieces_of (walk Format 0 input) ≡ marked
+unfolding computing marked
+calls-give_marks = refl
+
+-- and the world of a text behind a quote makes them bytes.
+placed : List (Piece Place)
+placed =
+    Lit (codes "{")
+    ∷ NextArgument (record { position = Named (codes "x"); position_span = (4, 5); format = record (default_spec {A = Place}) { align = Right; width = Is 5; width_span = Some (7, 8) } })
+    ∷ []
+
+world-makes_them_bytes : pieces input ≡ placed
+unfolding computing placed
+world-makes_them_bytes = refl
+
+-- Behind the last call nothing is left, no number was taken, and there is no error.
+state-is_at_the_end : ended input ≡ record (start input) { rest = [] }
+unfolding computing
+state-is_at_the_end = refl
