@@ -97,25 +97,31 @@ impl<'input> Parser<'input> {
         ensures spare { TakesNoMemory (next_call self.old) → IsOk result }
         ensures steps { OnOk result (Paid self.old.rest trail.old self.new.rest trail.new) }
     {
-        let mut cursor = self.cursor.duplicate();
+        let front = self.cursor.duplicate();
         let mut curarg = self.curarg;
         let mut found = Vec::new(self.alloc);
-        let piece = read_piece(
+        let Ok(piece) = read_piece(
             self.alloc,
             self.mode,
-            &mut cursor,
+            &mut self.cursor,
             trail,
             &mut curarg,
             &mut found,
-        )?;
-        add_errors(self.alloc, &mut self.errors, found)?;
-        self.cursor = cursor;
+        ) else {
+            self.cursor = front;
+            return Err(AllocError);
+        };
+        if add_errors(self.alloc, &mut self.errors, found).is_err() {
+            self.cursor = front;
+            return Err(AllocError);
+        }
         self.curarg = curarg;
         Ok(piece)
     }
 
-    /// A count of the steps from here on.
-    pub(crate) fn count<L: Ledger>(&self, blank: Blank) -> StepCount<'input, L>
+    /// A count of the steps from here on, which contracts see and no code: it is nothing when the program runs. A step is a
+    /// move of the parser over one character of the input.
+    pub fn count<L: Ledger>(&self, blank: Blank) -> StepCount<'input, L>
         requires name { blank.name ≡ L.name }
         requires parts { blank.parts ≡ L.parts }
         requires three { blank.parts ≡ 3 }
@@ -124,8 +130,8 @@ impl<'input> Parser<'input> {
         self.cursor.count(blank)
     }
 
-    /// [`Parser::next`], with its steps counted.
-    pub(crate) fn next_counted<L: Ledger>(
+    /// The next piece, as by [`Parser::next`], with its steps counted. An error leaves the parser and the count as they were.
+    pub fn next_counted<L: Ledger>(
         &mut self,
         count: &mut StepCount<'input, L>,
     ) -> Result<Option<Piece<'input>>, AllocError>

@@ -94,10 +94,11 @@ pub fn read_all<'input>(
     Ok((pieces, parser))
 }
 
-/// A new parser is called some number of times. A call may be refused or find the end, and others follow. Its steps are
-/// then at most its position and its reach.
+/// Calls a new parser some number of times. A call may be refused or find the end, and others follow. The steps of all
+/// calls that were not refused are then at most the position and the greatest position at which it stood, and so at most
+/// two for each character of the input.
 #[tactic(auto, using(crate::proofs::Steps::part_le))]
-fn steps_are_few<'input, L: Ledger>(
+pub fn steps_are_few<'input, L: Ledger>(
     parser: &mut Parser<'input>,
     times: u64,
     count: &mut StepCount<'input, L>,

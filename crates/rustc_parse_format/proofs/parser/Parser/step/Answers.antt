@@ -8,4 +8,4 @@ pub invariant_of-self-2 : goal.invariant_of-self-2
 invariant_of-self-2 g c =
     let most = call_next-le (seen_mode c.self.inside.mode) c.self.inside.curarg c.self.inside.cursor.rest in
     let fits = c.self.invariant in
-    rw (c.in_ok-piece.ensures.next, ap (λ (u : Unread). u.rest) c.in_ok-piece.ensures.rest, c.duplicate-cursor.ensures) (omega arith)
+    rw (c.in-Ok.ensures.next, ap (λ (u : Unread). u.rest) c.in-Ok.ensures.rest) (omega arith)
