@@ -1,11 +1,12 @@
 -- A number that is read digit by digit, modulo 65536.
-use Rattle.std.proofs.Common.{◌≡◌, ◌+◌, ◌*◌, ◌%◌, ◌/◌, ◌<◌, ◌≤◌, ℕ, Bool, true, false, [], ◌∷◌, nat_lt, refl, sym, ap, ◌∙◌, arith}
-use Rattle.std.specs.Prelude.{◌||◌}
-use Rattle.std.specs.Char.{digit_value}
+use Rattle.std.proofs.Common.{◌≡◌, ◌+◌, ◌*◌, ◌%◌, ◌/◌, ◌<◌, ◌≤◌, ℕ, Bool, true, false, [], ◌∷◌, Some, nat_lt, refl, sym, ap, ◌∙◌, arith}
+use Rattle.std.specs.Prelude.{◌||◌, unwrap_or}
+use Rattle.std.specs.Char.{digit_value, is_ascii_digit}
 use Rattle.std.specs.Str.Parse.{digits_value, digits_value_after}
+use Rattle.std.proofs.lemmas.Option.{none-some}
 use Rattle.std.proofs.Math.Nat.{mod-add-div', add-mul-mod_self_right}
 use Rattle.std.proofs.lemmas.Bool.{ltb-true, ltb-false, lt-ltb}
-use Rattle.rustc_parse_format.specs.Characters.{Text, number, is_over}
+use Rattle.rustc_parse_format.specs.Characters.{Text, behind_first, first, front, number, is_over}
 
 -- The digits read so far write the number whole, and those left follow them.
 pub record Counted (value : ℕ) (over : Bool) (left all : Text) : Type 0 where
@@ -40,6 +41,15 @@ counted-digit value d over left all k = record {
   high = rw (k.low, k.high) (high_more k.whole (digit_value d));
   more = k.more;
 }
+
+pub counted-first : (value : ℕ) (over : Bool) (t r all : Text) (x : ℕ) → first t ≡ Some x → is_ascii_digit x ≡ true → r ≡ behind_first t → Counted value over (front is_ascii_digit t) all →
+    Counted ((value * 10 + digit_value x) % 65536) (over || nat_lt 65535 (value * 10 + digit_value x)) (front is_ascii_digit r) all
+counted-first value over [] r all x f d e k = absurd (none-some x f)
+counted-first value over (c ∷ t) r all x f d e k =
+    let same : c ≡ x = ap (λ o. unwrap_or o 0) f in
+    let digit : is_ascii_digit c ≡ true = ap is_ascii_digit same ∙ d in
+    let here : Counted value over (c ∷ front is_ascii_digit t) all = rw digit at k in
+    rw (e, ← same) (counted-digit value c over (front is_ascii_digit t) all here)
 
 pub counted-value : (value : ℕ) (over : Bool) (all : Text) → Counted value over [] all → value ≡ number all
 counted-value value over all k = k.low ∙ ap (λ n. n % 65536) k.more

@@ -1,5 +1,5 @@
 -- What a call says of the grammar: the piece that begins the rest, a fault where nothing does, and the end.
-use Rattle.std.proofs.Common.{◌≡◌, ◌≢◌, ◌<◌, ℕ, List, [], length, Option, Some, None, IsNone, ◌∷◌, false, refl, ap, ◌∙◌, codes}
+use Rattle.std.proofs.Common.{◌≡◌, ◌≢◌, ◌<◌, ◌≤◌, ◌+◌, ℕ, List, [], length, Option, Some, None, IsNone, ◌∷◌, false, refl, ap, ◌∙◌, codes}
 use Rattle.std.specs.Prelude.{Result, Ok, Err, IfOk, OnOk, option_map}
 use Rattle.rustc_parse_format.specs.Characters.{Text, begins_with}
 use Rattle.rustc_parse_format.specs.Grammar.{Begins}
@@ -18,6 +18,7 @@ use Rattle.rustc_parse_format.proofs.PartCuts.{cut-placed}
 use Rattle.rustc_parse_format.proofs.Placeholders.{placeholder-piece}
 use Rattle.rustc_parse_format.proofs.BarePieces.{bare-piece_in}
 use Rattle.rustc_parse_format.proofs.Calls.{begins_call, call_faults}
+use Rattle.rustc_parse_format.proofs.Progress.{call-lt, call_next-le}
 use Rattle.rustc_parse_format.proofs.StateWalks.{after-same, after-more}
 
 -- what holds of a result where two facts do
@@ -57,6 +58,12 @@ pub next_faulty : (s new : State) → new ≡ after s (next_call s) → s.rest �
     ((q : Piece (Unit {0})) (r : Text) (n : ℕ) → ¬ (Begins s.mode s.next s.rest q r n)) → length s.errors < length new.errors
 next_faulty s new f some none = rw f (after-more s (next_call s) (call_faults s.mode s.next s.rest some none))
 
+pub next_moves : (s new : State) → new ≡ after s (next_call s) → s.rest ≢ [] → length new.rest < length s.rest
+next_moves s new f some = rw f (call-lt s.mode s.next s.rest some)
+
+pub next_numbers : (s new : State) → new ≡ after s (next_call s) → new.next + length new.rest ≤ s.next + length s.rest
+next_numbers s new f = rw f (call_next-le s.mode s.next s.rest)
+
 at_end_same : (mode : Mode) (w : World) (input t : Text) (n : ℕ) (es : List (Message Place)) → t ≡ [] →
     let s : State = record { mode = mode; world = w; input = input; rest = t; next = n; errors = es } in
     ((next_call s).piece ≡ None) × (after s (next_call s) ≡ s)
@@ -72,3 +79,8 @@ pub next_ends : {A : Type 0} (f : A → Piece Place) (s new : State) (o : Option
 next_ends f s new o e h end =
     let both = at_end_same s.mode s.world s.input s.rest s.next s.errors end in
     (none_given f o (e ∙ ap (option_map (piece_in s.world)) both.0), h ∙ both.1)
+
+-- a call that gives a piece moves on
+pub piece_moves : {A : Type 0} (f : A → Piece Place) (s new : State) (a : A) → Some (f a) ≡ option_map (piece_in s.world) (next_call s).piece →
+    new ≡ after s (next_call s) → length new.rest < length s.rest
+piece_moves f s new a e h = next_moves s new h (λ end. let no : IsNone (Some a) = (next_ends f s new (Some a) e h end).0 in cc no)

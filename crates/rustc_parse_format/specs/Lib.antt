@@ -13,6 +13,7 @@ pub mod Written
 pub mod Faults
 pub mod PartFaults
 pub mod Step
+pub mod Steps
 pub mod State
 pub mod Bytes
 pub mod Classes

@@ -7,6 +7,11 @@ ghost use Rattle.rustc_parse_format.specs.Bytes.{IsLeft};
 
 use std::marker::Model;
 use std::ops::Range;
+use std::sync::ledger::{Blank, Ledger};
+
+mod steps;
+
+pub use steps::{StepCount, Trail};
 
 /// A class of characters whose longest front is read.
 #[derive(Clone, Copy)]
@@ -120,6 +125,7 @@ impl<'input> Cursor<'input> {
     ghost use Rattle.rustc_parse_format.specs.Marks.{Start, End};
     ghost use Rattle.rustc_parse_format.specs.Seen.{pair};
     ghost use Rattle.rustc_parse_format.specs.State.{first_of};
+    ghost use Rattle.rustc_parse_format.specs.Steps.{Forward};
     ghost use Rattle.rustc_parse_format.specs.World.{plain_world, number_of};
 
     /// At the start of an input that starts and ends at these bytes of the source.
@@ -154,8 +160,18 @@ impl<'input> Cursor<'input> {
         }
     }
 
+    /// A count of the steps from here on.
+    pub fn count<L: Ledger>(&self, blank: Blank) -> StepCount<'input, L>
+        requires name { blank.name ≡ L.name }
+        requires parts { blank.parts ≡ L.parts }
+        requires three { blank.parts ≡ 3 }
+        ensures { result ≡ record { steps = 0; left = length self.now.rest } }
+    {
+        StepCount::new(blank, self.rest)
+    }
+
     /// What is left.
-    pub fn rest(&self) -> &'input str
+    fn rest(&self) -> &'input str
         ensures { chars result.now ≡ self.now.rest }
     {
         self.rest
@@ -175,11 +191,25 @@ impl<'input> Cursor<'input> {
         first(behind_first(self.rest))
     }
 
-    /// Moves over the next character, if there is one.
-    pub fn advance(&mut self)
-        ensures { self.new ≡ record self.old { rest = behind_first self.old.rest } }
+    /// Moves over the next character, if there is one: the only move forward.
+    pub fn advance<L: Ledger>(&mut self, trail: &mut Trail<'input, L>)
+        ensures rest { self.new ≡ record self.old { rest = behind_first self.old.rest } }
+        ensures steps { Forward self.old.rest trail.old self.new.rest trail.new }
     {
+        if self.rest.is_empty() {
+            return;
+        }
+        trail.step();
         self.rest = behind_first(self.rest);
+    }
+
+    /// Goes back to an earlier place.
+    pub fn go_back<L: Ledger>(&mut self, place: Cursor<'input>, trail: &mut Trail<'input, L>)
+        ensures place { self.new ≡ place.entry }
+        ensures steps { trail.new ≡ record trail.old { left = length self.old.rest } }
+    {
+        trail.go_back(self.rest);
+        *self = place;
     }
 
     /// The byte position of the next character in the input, or of its end.
@@ -227,6 +257,16 @@ impl<'input> Cursor<'input> {
         Some((self.start()..self.stop(), self.position(), c))
     }
 
+    /// The same of the character behind the next one.
+    pub fn place_ahead(&self) -> Option<(Range<usize>, usize, char)>
+        ensures { option_map (λ x. (pair x.0, x.1, x.2)) result
+            ≡ first_of self.now.world self.now.input (behind_first self.now.rest) }
+    {
+        let mut ahead = self.duplicate();
+        ahead.rest = behind_first(ahead.rest);
+        ahead.next_place()
+    }
+
     /// The character behind the next one is c.
     pub fn goes_on_with(&self, c: char) -> bool
         ensures { result ≡ begins_with c (behind_first self.now.rest) }
@@ -249,73 +289,84 @@ impl<'input> Cursor<'input> {
     }
 
     /// Moves behind the longest front of the class.
-    pub fn skip(&mut self, class: Class)
-        ensures { self.new ≡ record self.old { rest = behind (passes class) self.old.rest } }
+    pub fn skip<L: Ledger>(&mut self, class: Class, trail: &mut Trail<'input, L>)
+        ensures rest { self.new ≡ record self.old { rest = behind (passes class) self.old.rest } }
+        ensures steps { Forward self.old.rest trail.old self.new.rest trail.new }
     {
         while let Some(c) = self.peek() {
             if !class.passes(c) {
                 break;
             }
-            self.advance();
+            self.advance(trail);
         }
     }
 
     /// Moves behind the white space at the front.
     #[tactic(auto, unfolding(crate::specs::Characters::behind_white))]
-    pub fn skip_white(&mut self)
-        ensures { self.new ≡ record self.old { rest = behind_white self.old.rest } }
+    pub fn skip_white<L: Ledger>(&mut self, trail: &mut Trail<'input, L>)
+        ensures rest { self.new ≡ record self.old { rest = behind_white self.old.rest } }
+        ensures steps { Forward self.old.rest trail.old self.new.rest trail.new }
     {
-        self.skip(Class::White);
+        self.skip(Class::White, trail);
     }
 
     /// Reads the longest front of the class.
-    pub fn take(&mut self, class: Class) -> &'input str
+    pub fn take<L: Ledger>(&mut self, class: Class, trail: &mut Trail<'input, L>) -> &'input str
         ensures value { chars result.now ≡ front (passes class) self.old.rest }
         ensures rest { self.new ≡ record self.old { rest = behind (passes class) self.old.rest } }
+        ensures steps { Forward self.old.rest trail.old self.new.rest trail.new }
     {
         let text = self.rest();
-        self.skip(class);
+        self.skip(class, trail);
         before(text, self.rest())
     }
 
     /// Reads the next character, and the longest front of the class behind it.
-    pub fn take_behind_first(&mut self, class: Class) -> &'input str
+    pub fn take_behind_first<L: Ledger>(
+        &mut self,
+        class: Class,
+        trail: &mut Trail<'input, L>,
+    ) -> &'input str
         ensures value { chars result.now ≡ with_first self.old.rest (front (passes class) (behind_first self.old.rest)) }
         ensures rest { self.new ≡ record self.old { rest = behind (passes class) (behind_first self.old.rest) } }
+        ensures steps { Forward self.old.rest trail.old self.new.rest trail.new }
     {
         let text = self.rest();
-        self.advance();
-        self.skip(class);
+        self.advance(trail);
+        self.skip(class, trail);
         before(text, self.rest())
     }
 
     /// Moves behind the word at the front.
     #[tactic(auto, unfolding(crate::specs::Characters::behind_word))]
-    fn skip_word(&mut self)
-        ensures { self.new ≡ record self.old { rest = behind_word self.old.rest } }
+    fn skip_word<L: Ledger>(&mut self, trail: &mut Trail<'input, L>)
+        ensures rest { self.new ≡ record self.old { rest = behind_word self.old.rest } }
+        ensures steps { Forward self.old.rest trail.old self.new.rest trail.new }
     {
         if self.starts_word() {
-            self.advance();
-            self.skip(Class::Continue);
+            self.advance(trail);
+            self.skip(Class::Continue, trail);
         }
     }
 
     /// Reads the word at the front, which may be empty.
-    pub fn word(&mut self) -> &'input str
+    pub fn word<L: Ledger>(&mut self, trail: &mut Trail<'input, L>) -> &'input str
         ensures value { chars result.now ≡ word self.old.rest }
         ensures rest { self.new ≡ record self.old { rest = behind_word self.old.rest } }
+        ensures steps { Forward self.old.rest trail.old self.new.rest trail.new }
     {
         let text = self.rest();
-        self.skip_word();
+        self.skip_word(trail);
         before(text, self.rest())
     }
 
     /// Moves behind the digits at the front: their number modulo 65536, and whether it is above 65535.
     #[tactic(auto, unfolding(crate::specs::Characters::digits, crate::specs::Characters::behind_digits))]
-    fn skip_number(&mut self) -> (u16, bool)
+    fn skip_number<L: Ledger>(&mut self, trail: &mut Trail<'input, L>) -> (u16, bool)
         ensures value { result.0 ≡ number (digits self.old.rest) }
         ensures over { result.1 ≡ is_over (digits self.old.rest) }
         ensures rest { self.new ≡ record self.old { rest = behind_digits self.old.rest } }
+        ensures steps { Forward self.old.rest trail.old self.new.rest trail.new }
     {
         let mut value = 0;
         let mut over = false;
@@ -325,21 +376,22 @@ impl<'input> Cursor<'input> {
             }
             let more = with_digit(value, c);
             value = more.0;
-            over = over || more.1;
-            self.advance();
+            over |= more.1;
+            self.advance(trail);
         }
         (value, over)
     }
 
     /// Reads the digits at the front: their number modulo 65536, and whether it is above 65535.
-    pub fn number(&mut self) -> (&'input str, u16, bool)
+    pub fn number<L: Ledger>(&mut self, trail: &mut Trail<'input, L>) -> (&'input str, u16, bool)
         ensures text { chars result.0.now ≡ digits self.old.rest }
         ensures value { result.1 ≡ number (digits self.old.rest) }
         ensures over { result.2 ≡ is_over (digits self.old.rest) }
         ensures rest { self.new ≡ record self.old { rest = behind_digits self.old.rest } }
+        ensures steps { Forward self.old.rest trail.old self.new.rest trail.new }
     {
         let text = self.rest();
-        let (value, over) = self.skip_number();
+        let (value, over) = self.skip_number(trail);
         (before(text, self.rest()), value, over)
     }
 }

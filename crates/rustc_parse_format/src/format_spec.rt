@@ -10,15 +10,17 @@ ghost use Rattle.rustc_parse_format.specs.Pieces.{default_spec, map_spec};
 ghost use Rattle.rustc_parse_format.specs.Seen.{pair, seen_alignment, seen_debug_hex, seen_mode, seen_sign, seen_spec};
 ghost use Rattle.rustc_parse_format.specs.SeenFaults.{seen_fault};
 ghost use Rattle.rustc_parse_format.specs.Specification.{align, alternate, fill, format_parts, sign, specification, type};
+ghost use Rattle.rustc_parse_format.specs.Steps.{Forward, IsFurthest, IsInWord, Paid};
 ghost use Rattle.rustc_parse_format.specs.World.{Place, faults_in, place_of};
 
-use crate::chars::{Class, Cursor, first};
+use crate::chars::{Class, Cursor, Trail, first};
 use crate::faults::Fault;
 use crate::sizes::{precision, width};
 use crate::spec;
 use crate::types::{Alignment, Count, DebugHex, FormatSpec, ParseMode, Sign};
 use std::alloc::AllocError;
 use std::ops::Range;
+use std::sync::ledger::Ledger;
 
 /// A specification where nothing is asked for.
 pub fn default_spec<'input>() -> FormatSpec<'input>
@@ -42,16 +44,20 @@ pub fn default_spec<'input>() -> FormatSpec<'input>
 }
 
 /// Reads the fill at the front: a character with an alignment behind it.
-fn fill(cursor: &mut Cursor<'_>) -> (Option<char>, Option<Range<usize>>)
+fn fill<'input, L: Ledger>(
+    cursor: &mut Cursor<'input>,
+    trail: &mut Trail<'input, L>,
+) -> (Option<char>, Option<Range<usize>>)
     ensures value { result.0 ≡ (fill cursor.old.rest).0 }
     ensures span { option_map pair result.1
         ≡ option_map (place_of cursor.old.world) (fill_span cursor.old.rest (fill cursor.old.rest).0) }
     ensures rest { cursor.new ≡ record cursor.old { rest = (fill cursor.old.rest).1 } }
+    ensures steps { Forward cursor.old.rest trail.old cursor.new.rest trail.new }
 {
     match (cursor.peek(), cursor.peek_ahead()) {
         (Some(c), Some('<' | '>' | '^')) => {
             let span = cursor.start()..cursor.stop();
-            cursor.advance();
+            cursor.advance(trail);
             (Some(c), Some(span))
         }
         _ => (None, None),
@@ -59,9 +65,13 @@ fn fill(cursor: &mut Cursor<'_>) -> (Option<char>, Option<Range<usize>>)
 }
 
 /// Reads the alignment at the front.
-fn alignment(cursor: &mut Cursor<'_>) -> Alignment
+fn alignment<'input, L: Ledger>(
+    cursor: &mut Cursor<'input>,
+    trail: &mut Trail<'input, L>,
+) -> Alignment
     ensures value { seen_alignment result ≡ (align cursor.old.rest).0 }
     ensures rest { cursor.new ≡ record cursor.old { rest = (align cursor.old.rest).1 } }
+    ensures steps { Forward cursor.old.rest trail.old cursor.new.rest trail.new }
 {
     let alignment = match cursor.peek() {
         Some('<') => Alignment::AlignLeft,
@@ -69,35 +79,41 @@ fn alignment(cursor: &mut Cursor<'_>) -> Alignment
         Some('^') => Alignment::AlignCenter,
         _ => return Alignment::AlignUnknown,
     };
-    cursor.advance();
+    cursor.advance(trail);
     alignment
 }
 
 /// Reads the sign flag at the front.
-fn sign(cursor: &mut Cursor<'_>) -> Option<Sign>
+fn sign<'input, L: Ledger>(
+    cursor: &mut Cursor<'input>,
+    trail: &mut Trail<'input, L>,
+) -> Option<Sign>
     ensures value { option_map seen_sign result ≡ (sign cursor.old.rest).0 }
     ensures rest { cursor.new ≡ record cursor.old { rest = (sign cursor.old.rest).1 } }
+    ensures steps { Forward cursor.old.rest trail.old cursor.new.rest trail.new }
 {
     let sign = match cursor.peek() {
         Some('+') => Sign::Plus,
         Some('-') => Sign::Minus,
         _ => return None,
     };
-    cursor.advance();
+    cursor.advance(trail);
     Some(sign)
 }
 
 /// Reads the flag `#` at the front.
-fn alternate(cursor: &mut Cursor<'_>) -> bool
+fn alternate<'input, L: Ledger>(cursor: &mut Cursor<'input>, trail: &mut Trail<'input, L>) -> bool
     ensures value { result ≡ (alternate cursor.old.rest).0 }
     ensures rest { cursor.new ≡ record cursor.old { rest = (alternate cursor.old.rest).1 } }
+    ensures steps { Forward cursor.old.rest trail.old cursor.new.rest trail.new }
 {
-    spec::take_char(cursor, '#')
+    spec::take_char(cursor, trail, '#')
 }
 
 /// Reads the word at the front, and where it stands if it is not empty.
-fn spanned_word<'input>(
+fn spanned_word<'input, L: Ledger>(
     cursor: &mut Cursor<'input>,
+    trail: &mut Trail<'input, L>,
     found: &mut Vec<Fault<'input>>,
 ) -> Result<(&'input str, Option<Range<usize>>), AllocError>
     ensures value { IfOk result (λ w. chars w.0.now ≡ word cursor.old.rest) }
@@ -106,9 +122,10 @@ fn spanned_word<'input>(
     ensures rest { OnOk result (cursor.new ≡ record cursor.old { rest = behind_word cursor.old.rest }) }
     ensures found { OnOk result (map seen_fault found.new.items
         ≡ map seen_fault found.old.items ++ faults_in cursor.old.world (word_faults cursor.old.rest)) }
+    ensures steps { OnOk result (Forward cursor.old.rest trail.old cursor.new.rest trail.new) }
 {
     let start = cursor.start();
-    let word = spec::word(cursor, found)?;
+    let word = spec::word(cursor, trail, found)?;
     if first(word).is_none() {
         return Ok((word, None));
     }
@@ -137,8 +154,9 @@ fn sign_type<'input>(ty: &'input str) -> TypePart<'input>
 }
 
 /// Reads the letter `x` or `X`. With a `?` behind it the letter is a case of the type `?`, else it is the type.
-fn hex_type<'input>(
+fn hex_type<'input, L: Ledger>(
     cursor: &mut Cursor<'input>,
+    trail: &mut Trail<'input, L>,
     case: DebugHex,
     letter: &'input str,
 ) -> TypePart<'input>
@@ -148,9 +166,10 @@ fn hex_type<'input>(
     ensures rest { cursor.new ≡ record cursor.old {
       rest = if begins_with 63 (behind_first cursor.old.rest) then behind_first (behind_first cursor.old.rest) else behind_first cursor.old.rest;
     } }
+    ensures steps { Forward cursor.old.rest trail.old cursor.new.rest trail.new }
 {
-    cursor.advance();
-    if spec::take_char(cursor, '?') {
+    cursor.advance(trail);
+    if spec::take_char(cursor, trail, '?') {
         return TypePart {
             ty: "?",
             debug_hex: Some(case),
@@ -162,8 +181,9 @@ fn hex_type<'input>(
 
 /// Reads the type at the front.
 #[tactic(auto, using(crate::proofs::SpecParts::types_at_front))]
-fn type_part<'input>(
+fn type_part<'input, L: Ledger>(
     cursor: &mut Cursor<'input>,
+    trail: &mut Trail<'input, L>,
     found: &mut Vec<Fault<'input>>,
 ) -> Result<TypePart<'input>, AllocError>
     ensures ty { IfOk result (λ y. chars y.ty.now ≡ type_of (type cursor.old.rest).0) }
@@ -173,18 +193,19 @@ fn type_part<'input>(
     ensures rest { OnOk result (cursor.new ≡ record cursor.old { rest = (type cursor.old.rest).1 }) }
     ensures found { OnOk result (map seen_fault found.new.items
         ≡ map seen_fault found.old.items ++ faults_in cursor.old.world (type_faults cursor.old.rest (type cursor.old.rest).0)) }
+    ensures steps { OnOk result (Forward cursor.old.rest trail.old cursor.new.rest trail.new) }
 {
     if spec::is_next(cursor, 'x') {
-        return Ok(hex_type(cursor, DebugHex::Lower, "x"));
+        return Ok(hex_type(cursor, trail, DebugHex::Lower, "x"));
     }
     if spec::is_next(cursor, 'X') {
-        return Ok(hex_type(cursor, DebugHex::Upper, "X"));
+        return Ok(hex_type(cursor, trail, DebugHex::Upper, "X"));
     }
     if spec::is_next(cursor, '?') {
-        cursor.advance();
+        cursor.advance(trail);
         return Ok(sign_type("?"));
     }
-    let (ty, span) = spanned_word(cursor, found)?;
+    let (ty, span) = spanned_word(cursor, trail, found)?;
     Ok(TypePart {
         ty,
         debug_hex: None,
@@ -193,27 +214,30 @@ fn type_part<'input>(
 }
 
 /// Reads the format specification at the front.
-#[tactic(auto, unfolding(crate::specs::Specification::format_parts, crate::specs::Meaning::format_of, crate::specs::PartFaults::format_faults))]
-fn format_parts<'input>(
+#[tactic(auto, using(crate::proofs::Steps::part_le), unfolding(crate::specs::Specification::format_parts, crate::specs::Meaning::format_of, crate::specs::PartFaults::format_faults))]
+fn format_parts<'input, L: Ledger>(
     cursor: &mut Cursor<'input>,
+    trail: &mut Trail<'input, L>,
     curarg: &mut usize,
     found: &mut Vec<Fault<'input>>,
 ) -> Result<FormatSpec<'input>, AllocError>
-    requires { curarg.old + 1 < 2 ^ 64 }
+    requires numbers { curarg.old + 1 < 2 ^ 64 }
+    requires steps { IsFurthest cursor.old.rest trail.old }
     ensures value { IfOk result (λ f. seen_spec f ≡ map_spec (place_of cursor.old.world)
         (format_of curarg.old cursor.old.rest (format_parts cursor.old.rest).0 (format_parts cursor.old.rest).1)) }
     ensures rest { OnOk result (cursor.new ≡ record cursor.old { rest = (format_parts cursor.old.rest).1 }) }
     ensures next { OnOk result (curarg.new ≡ behind_precision curarg.old (format_parts cursor.old.rest).0.precision) }
     ensures found { OnOk result (map seen_fault found.new.items
         ≡ map seen_fault found.old.items ++ faults_in cursor.old.world (format_faults (format_parts cursor.old.rest).0 (format_parts cursor.old.rest).1)) }
+    ensures steps { OnOk result (Paid cursor.old.rest trail.old cursor.new.rest trail.new) }
 {
-    let (fill, fill_span) = fill(cursor);
-    let align = alignment(cursor);
-    let sign = sign(cursor);
-    let alternate = alternate(cursor);
-    let width = width(cursor, found)?;
-    let (precision, precision_span) = precision(cursor, curarg, found)?;
-    let type_part = type_part(cursor, found)?;
+    let (fill, fill_span) = fill(cursor, trail);
+    let align = alignment(cursor, trail);
+    let sign = sign(cursor, trail);
+    let alternate = alternate(cursor, trail);
+    let width = width(cursor, trail, found)?;
+    let (precision, precision_span) = precision(cursor, trail, curarg, found)?;
+    let type_part = type_part(cursor, trail, found)?;
     Ok(FormatSpec {
         fill,
         fill_span,
@@ -232,8 +256,9 @@ fn format_parts<'input>(
 }
 
 /// Reads the modifier of inline assembly at the front.
-fn modifier<'input>(
+fn modifier<'input, L: Ledger>(
     cursor: &mut Cursor<'input>,
+    trail: &mut Trail<'input, L>,
     found: &mut Vec<Fault<'input>>,
 ) -> Result<FormatSpec<'input>, AllocError>
     ensures value { IfOk result (λ f. seen_spec f ≡ record (default_spec {A = Place}) {
@@ -243,8 +268,9 @@ fn modifier<'input>(
     ensures rest { OnOk result (cursor.new ≡ record cursor.old { rest = behind_word cursor.old.rest }) }
     ensures found { OnOk result (map seen_fault found.new.items
         ≡ map seen_fault found.old.items ++ faults_in cursor.old.world (word_faults cursor.old.rest)) }
+    ensures steps { OnOk result (Forward cursor.old.rest trail.old cursor.new.rest trail.new) }
 {
-    let (ty, ty_span) = spanned_word(cursor, found)?;
+    let (ty, ty_span) = spanned_word(cursor, trail, found)?;
     Ok(FormatSpec {
         ty,
         ty_span,
@@ -253,16 +279,20 @@ fn modifier<'input>(
 }
 
 /// Reads a colon and the text of a diagnostic, whose span takes in the colon.
-fn diagnostic_text<'input>(cursor: &mut Cursor<'input>) -> FormatSpec<'input>
+fn diagnostic_text<'input, L: Ledger>(
+    cursor: &mut Cursor<'input>,
+    trail: &mut Trail<'input, L>,
+) -> FormatSpec<'input>
     ensures value { seen_spec result ≡ record (default_spec {A = Place}) {
       ty = front is_no_brace (behind_first cursor.old.rest);
       ty_span = Some (place_of cursor.old.world (up_to cursor.old.rest (behind is_no_brace (behind_first cursor.old.rest))));
     } }
     ensures rest { cursor.new ≡ record cursor.old { rest = behind is_no_brace (behind_first cursor.old.rest) } }
+    ensures steps { Forward cursor.old.rest trail.old cursor.new.rest trail.new }
 {
     let start = cursor.start();
-    cursor.advance();
-    let ty = cursor.take(Class::Text);
+    cursor.advance(trail);
+    let ty = cursor.take(Class::Text, trail);
     FormatSpec {
         ty,
         ty_span: Some(start..cursor.start()),
@@ -271,13 +301,16 @@ fn diagnostic_text<'input>(cursor: &mut Cursor<'input>) -> FormatSpec<'input>
 }
 
 /// Reads the specification at the front: a colon and what the mode has behind it, or nothing.
-pub fn specification<'input>(
+#[tactic(auto, using(crate::proofs::Steps::part_le))]
+pub fn specification<'input, L: Ledger>(
     mode: ParseMode,
     cursor: &mut Cursor<'input>,
+    trail: &mut Trail<'input, L>,
     curarg: &mut usize,
     found: &mut Vec<Fault<'input>>,
 ) -> Result<FormatSpec<'input>, AllocError>
-    requires { curarg.old + length cursor.old.rest < 2 ^ 64 }
+    requires numbers { curarg.old + length cursor.old.rest < 2 ^ 64 }
+    requires steps { IsInWord cursor.old.rest trail.old }
     ensures value { IfOk result (λ f. seen_spec f ≡ map_spec (place_of cursor.old.world) (spec_of curarg.old cursor.old.rest
         (specification (seen_mode mode) cursor.old.rest).0 (specification (seen_mode mode) cursor.old.rest).1)) }
     ensures rest { OnOk result (cursor.new ≡ record cursor.old { rest = (specification (seen_mode mode) cursor.old.rest).1 }) }
@@ -285,19 +318,20 @@ pub fn specification<'input>(
     ensures found { OnOk result (map seen_fault found.new.items ≡ map seen_fault found.old.items
         ++ faults_in cursor.old.world (spec_faults cursor.old.rest
         (specification (seen_mode mode) cursor.old.rest).0 (specification (seen_mode mode) cursor.old.rest).1)) }
+    ensures steps { OnOk result (Paid cursor.old.rest trail.old cursor.new.rest trail.new) }
 {
     if !spec::is_next(cursor, ':') {
         return Ok(default_spec());
     }
     match mode {
         ParseMode::Format => {
-            cursor.advance();
-            format_parts(cursor, curarg, found)
+            cursor.advance(trail);
+            format_parts(cursor, trail, curarg, found)
         }
         ParseMode::InlineAsm => {
-            cursor.advance();
-            modifier(cursor, found)
+            cursor.advance(trail);
+            modifier(cursor, trail, found)
         }
-        ParseMode::Diagnostic => Ok(diagnostic_text(cursor)),
+        ParseMode::Diagnostic => Ok(diagnostic_text(cursor, trail)),
     }
 }

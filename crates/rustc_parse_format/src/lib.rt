@@ -14,8 +14,9 @@ mod spec;
 mod types;
 mod world;
 
+pub use chars::StepCount;
 pub use parser::Parser;
-pub use reading::read_all;
+pub use reading::{read_all, steps_are_few};
 pub use types::Alignment::{AlignCenter, AlignLeft, AlignRight, AlignUnknown};
 pub use types::Count::{CountImplied, CountIs, CountIsName, CountIsParam, CountIsStar};
 pub use types::Position::{ArgumentImplicitlyIs, ArgumentIs, ArgumentNamed};

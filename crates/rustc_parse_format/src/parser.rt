@@ -1,13 +1,14 @@
 //! The parser: one call after another, up to the end of the input.
 
 use crate::call::read_piece;
-use crate::chars::Cursor;
+use crate::chars::{Cursor, StepCount, Trail};
 use crate::faults::add_errors;
 use crate::types::{ParseError, ParseMode, Piece};
 use crate::world::{has_source, quote_offset, text_end};
 use std::alloc::{AllocError, Global};
-use std::marker::Model;
+use std::marker::{Brand, Model};
 use std::ops::Range;
+use std::sync::ledger::{Blank, Ledger};
 
 /// A parser over an input.
 #[derive(Drop)]
@@ -50,6 +51,7 @@ impl<'input> Parser<'input> {
     ghost use Rattle.rustc_parse_format.specs.State.{GivesPiece, after, first_of, fresh, next_call};
     ghost use Rattle.rustc_parse_format.specs.Spelling.{IsPart};
     ghost use Rattle.rustc_parse_format.specs.Step.{TakesNoMemory};
+    ghost use Rattle.rustc_parse_format.specs.Steps.{IsInWord, Paid};
     ghost use Rattle.rustc_parse_format.specs.Placeholder.{placed};
     ghost use Rattle.rustc_parse_format.specs.Syntax.{FieldText, opened_part};
     ghost use Rattle.rustc_parse_format.specs.World.{hashes, piece_in, world};
@@ -83,23 +85,88 @@ impl<'input> Parser<'input> {
         })
     }
 
-    /// One call.
-    fn step(&mut self) -> Result<Option<Piece<'input>>, AllocError>
+    /// One call, on a trail.
+    fn step<L: Ledger>(
+        &mut self,
+        trail: &mut Trail<'input, L>,
+    ) -> Result<Option<Piece<'input>>, AllocError>
+        requires { IsInWord self.old.rest trail.old }
         ensures piece { IfOk result (λ p. option_map seen p ≡ option_map (piece_in self.old.world) (next_call self.old).piece) }
         ensures state { OnOk result (self.new ≡ after self.old (next_call self.old)) }
         ensures err { OnErr result (self.new ≡ self.old) }
         ensures spare { TakesNoMemory (next_call self.old) → IsOk result }
-        ensures progress { OnOk result (self.old.rest ≢ [] → length self.new.rest < length self.old.rest) }
-        ensures numbers { OnOk result (self.new.next + length self.new.rest ≤ self.old.next + length self.old.rest) }
+        ensures steps { OnOk result (Paid self.old.rest trail.old self.new.rest trail.new) }
     {
-        let mut cursor = self.cursor.duplicate();
+        let front = self.cursor.duplicate();
         let mut curarg = self.curarg;
         let mut found = Vec::new(self.alloc);
-        let piece = read_piece(self.alloc, self.mode, &mut cursor, &mut curarg, &mut found)?;
-        add_errors(self.alloc, &mut self.errors, found)?;
-        self.cursor = cursor;
+        let Ok(piece) = read_piece(
+            self.alloc,
+            self.mode,
+            &mut self.cursor,
+            trail,
+            &mut curarg,
+            &mut found,
+        ) else {
+            self.cursor = front;
+            return Err(AllocError);
+        };
+        if add_errors(self.alloc, &mut self.errors, found).is_err() {
+            self.cursor = front;
+            return Err(AllocError);
+        }
         self.curarg = curarg;
         Ok(piece)
+    }
+
+    /// A count of the steps from here on, which contracts see and no code: it is nothing when the program runs. A step is a
+    /// move of the parser over one character of the input.
+    pub fn count<L: Ledger>(&self, blank: Blank) -> StepCount<'input, L>
+        requires name { blank.name ≡ L.name }
+        requires parts { blank.parts ≡ L.parts }
+        requires three { blank.parts ≡ 3 }
+        ensures { result ≡ record { steps = 0; left = length self.now.rest } }
+    {
+        self.cursor.count(blank)
+    }
+
+    /// The next piece, as by [`Parser::next`], with its steps counted. An error leaves the parser and the count as they were.
+    pub fn next_counted<L: Ledger>(
+        &mut self,
+        count: &mut StepCount<'input, L>,
+    ) -> Result<Option<Piece<'input>>, AllocError>
+        requires { IsInWord self.old.rest count.old }
+        ensures piece { IfOk result (λ p. option_map seen p ≡ option_map (piece_in self.old.world) (next_call self.old).piece) }
+        ensures state { OnOk result (self.new ≡ after self.old (next_call self.old)) }
+        ensures err { OnErr result (self.new ≡ self.old) }
+        ensures spare { TakesNoMemory (next_call self.old) → IsOk result }
+        ensures steps { Paid self.old.rest count.old self.new.rest count.new }
+        ensures refused { OnErr result (count.new ≡ count.old) }
+    {
+        let result = self.step(&mut count.call);
+        if result.is_ok() {
+            count.before.keep(&mut count.call);
+        } else {
+            count.before.undo(&mut count.call);
+        }
+        result
+    }
+
+    /// A call whose steps nobody counts.
+    fn next_uncounted<L: Ledger>(
+        &mut self,
+        blank: Blank,
+    ) -> Result<Option<Piece<'input>>, AllocError>
+        requires name { blank.name ≡ L.name }
+        requires parts { blank.parts ≡ L.parts }
+        requires three { blank.parts ≡ 3 }
+        ensures piece { IfOk result (λ p. option_map seen p ≡ option_map (piece_in self.old.world) (next_call self.old).piece) }
+        ensures state { OnOk result (self.new ≡ after self.old (next_call self.old)) }
+        ensures err { OnErr result (self.new ≡ self.old) }
+        ensures spare { TakesNoMemory (next_call self.old) → IsOk result }
+    {
+        let mut count = self.count::<L>(blank);
+        self.next_counted(&mut count)
     }
 
     /// The next piece, or None at the end and over a closing brace that closes nothing, behind which a later call goes
@@ -127,7 +194,7 @@ impl<'input> Parser<'input> {
         ensures progress { OnOk result (self.old.rest ≢ [] → length self.new.rest < length self.old.rest) }
         ensures numbers { OnOk result (self.new.next + length self.new.rest ≤ self.old.next + length self.old.rest) }
     {
-        self.step()
+        self.next_uncounted::<Brand>(Blank::new(3))
     }
 
     /// The place of the next character in the source, its byte position in the input, and itself, or None at the end.
@@ -143,9 +210,7 @@ impl<'input> Parser<'input> {
         ensures { option_map (λ x. (pair x.0, x.1, x.2)) result
             ≡ first_of self.now.world self.now.input (behind_first self.now.rest) }
     {
-        let mut ahead = self.cursor.duplicate();
-        ahead.advance();
-        ahead.next_place()
+        self.cursor.place_ahead()
     }
 
     /// The errors of all calls so far, in their order.

@@ -8,26 +8,49 @@ ghost use Rattle.rustc_parse_format.specs.Seen.{seen, seen_mode};
 ghost use Rattle.rustc_parse_format.specs.Source.{HasSource};
 ghost use Rattle.rustc_parse_format.specs.State.{Walks, after_all, calls, fresh};
 ghost use Rattle.rustc_parse_format.specs.Step.{pieces_of};
+ghost use Rattle.rustc_parse_format.specs.Steps.{AreFew, IsInWord, IsStart};
 ghost use Rattle.rustc_parse_format.specs.Syntax.{FieldText, IsOnlyCut};
 ghost use Rattle.rustc_parse_format.specs.World.{hashes, pieces_in, world};
 
+use crate::chars::StepCount;
 use crate::parser::Parser;
 use crate::types::{ParseMode, Piece};
 use std::alloc::{AllocError, Global};
+use std::marker::Brand;
+use std::sync::ledger::{Blank, Ledger};
 
 /// The pieces of a parser up to the first call that gives none.
-fn read_pieces<'input>(
+fn read_pieces<'input, L: Ledger>(
     alloc: Global,
     parser: &mut Parser<'input>,
+    count: &mut StepCount<'input, L>,
 ) -> Result<Vec<Piece<'input>>, AllocError>
+    requires { IsInWord parser.old.rest count.old }
     ensures pieces { IfOk result (λ ps. map seen ps.items ≡ pieces_in parser.old.world (pieces_of (calls parser.old))) }
     ensures state { IfOk result (λ ps. parser.new ≡ after_all parser.old (calls parser.old)) }
+    ensures few { IsStart parser.old count.old → AreFew parser.new count.new }
 {
     let mut pieces = Vec::new(alloc);
-    while let Some(piece) = parser.next()? {
+    while let Some(piece) = parser.next_counted(count)? {
         pieces.push(piece)?;
     }
     Ok(pieces)
+}
+
+/// The same, with steps that nobody counts.
+fn read_uncounted<'input, L: Ledger>(
+    alloc: Global,
+    parser: &mut Parser<'input>,
+    blank: Blank,
+) -> Result<Vec<Piece<'input>>, AllocError>
+    requires name { blank.name ≡ L.name }
+    requires parts { blank.parts ≡ L.parts }
+    requires three { blank.parts ≡ 3 }
+    ensures pieces { IfOk result (λ ps. map seen ps.items ≡ pieces_in parser.old.world (pieces_of (calls parser.old))) }
+    ensures state { IfOk result (λ ps. parser.new ≡ after_all parser.old (calls parser.old)) }
+{
+    let mut count = parser.count::<L>(blank);
+    read_pieces(alloc, parser, &mut count)
 }
 
 /// The pieces of an input, up to the first call that gives none, and the parser behind them. The arguments are those of
@@ -67,6 +90,23 @@ pub fn read_all<'input>(
         → StopsInside (seen_mode mode) 0 (chars input.now) (map bare (map seen x.0.items))) }
 {
     let mut parser = Parser::new(alloc, input, style, snippet, appended_newline, mode)?;
-    let pieces = read_pieces(alloc, &mut parser)?;
+    let pieces = read_uncounted::<Brand>(alloc, &mut parser, Blank::new(3))?;
     Ok((pieces, parser))
+}
+
+/// Calls a new parser some number of times. A call may be refused or find the end, and others follow. The steps of all
+/// calls that were not refused are then at most the position and the greatest position at which it stood, and so at most
+/// two for each character of the input.
+#[tactic(auto, using(crate::proofs::Steps::part_le))]
+pub fn steps_are_few<'input, L: Ledger>(
+    parser: &mut Parser<'input>,
+    times: u64,
+    count: &mut StepCount<'input, L>,
+)
+    requires { IsStart parser.old count.old }
+    ensures { AreFew parser.new count.new }
+{
+    for _ in 0..times {
+        let _ = parser.next_counted(count);
+    }
 }

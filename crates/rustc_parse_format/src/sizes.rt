@@ -8,20 +8,25 @@ ghost use Rattle.rustc_parse_format.specs.PartFaults.{count_faults, precision_fa
 ghost use Rattle.rustc_parse_format.specs.Pieces.{map_count};
 ghost use Rattle.rustc_parse_format.specs.Seen.{pair, seen_count};
 ghost use Rattle.rustc_parse_format.specs.SeenFaults.{seen_fault};
+ghost use Rattle.rustc_parse_format.specs.Steps.{IsFurthest, IsInWord, Paid};
 ghost use Rattle.rustc_parse_format.specs.World.{faults_in, place_of};
 
-use crate::chars::Cursor;
+use crate::chars::{Cursor, Trail};
 use crate::faults::Fault;
 use crate::spec;
 use crate::types::Count;
 use std::alloc::AllocError;
 use std::ops::Range;
+use std::sync::ledger::Ledger;
 
 /// Reads the count at the front, and where it stands.
-fn spanned_count<'input>(
+#[tactic(auto, using(crate::proofs::Steps::part_le))]
+fn spanned_count<'input, L: Ledger>(
     cursor: &mut Cursor<'input>,
+    trail: &mut Trail<'input, L>,
     found: &mut Vec<Fault<'input>>,
 ) -> Result<(Count<'input>, Option<Range<usize>>), AllocError>
+    requires { IsFurthest cursor.old.rest trail.old }
     ensures value { IfOk result (λ k. seen_count k.0
         ≡ map_count (place_of cursor.old.world) (count_of cursor.old.rest (count cursor.old.rest).0 (count cursor.old.rest).1)) }
     ensures span { IfOk result (λ k. option_map pair k.1 ≡ option_map (place_of cursor.old.world)
@@ -29,9 +34,10 @@ fn spanned_count<'input>(
     ensures rest { OnOk result (cursor.new ≡ record cursor.old { rest = (count cursor.old.rest).1 }) }
     ensures found { OnOk result (map seen_fault found.new.items
         ≡ map seen_fault found.old.items ++ faults_in cursor.old.world (count_faults cursor.old.rest)) }
+    ensures steps { OnOk result (Paid cursor.old.rest trail.old cursor.new.rest trail.new) }
 {
     let start = cursor.start();
-    let count = spec::count(cursor, found)?;
+    let count = spec::count(cursor, trail, found)?;
     let span = match count {
         Count::CountImplied => None,
         _ => Some(start..cursor.start()),
@@ -48,11 +54,14 @@ pub struct WidthPart<'input> {
 }
 
 /// Reads the count of a width, which has the flag `0` or not.
-fn counted<'input>(
+#[tactic(auto, using(crate::proofs::Steps::part_le))]
+fn counted<'input, L: Ledger>(
     zero_pad: bool,
     cursor: &mut Cursor<'input>,
+    trail: &mut Trail<'input, L>,
     found: &mut Vec<Fault<'input>>,
 ) -> Result<WidthPart<'input>, AllocError>
+    requires { IsFurthest cursor.old.rest trail.old }
     ensures zero_pad { IfOk result (λ w. w.zero_pad ≡ zero_pad) }
     ensures count { IfOk result (λ w. seen_count w.count
         ≡ map_count (place_of cursor.old.world) (count_of cursor.old.rest (count cursor.old.rest).0 (count cursor.old.rest).1)) }
@@ -61,8 +70,9 @@ fn counted<'input>(
     ensures rest { OnOk result (cursor.new ≡ record cursor.old { rest = (count cursor.old.rest).1 }) }
     ensures found { OnOk result (map seen_fault found.new.items
         ≡ map seen_fault found.old.items ++ faults_in cursor.old.world (count_faults cursor.old.rest)) }
+    ensures steps { OnOk result (Paid cursor.old.rest trail.old cursor.new.rest trail.new) }
 {
-    let (count, span) = spanned_count(cursor, found)?;
+    let (count, span) = spanned_count(cursor, trail, found)?;
     Ok(WidthPart {
         zero_pad,
         count,
@@ -71,10 +81,13 @@ fn counted<'input>(
 }
 
 /// Reads the width at the front. A `0` in front of it is a flag, unless a `$` makes it an index.
-pub fn width<'input>(
+#[tactic(auto, using(crate::proofs::Steps::part_le))]
+pub fn width<'input, L: Ledger>(
     cursor: &mut Cursor<'input>,
+    trail: &mut Trail<'input, L>,
     found: &mut Vec<Fault<'input>>,
 ) -> Result<WidthPart<'input>, AllocError>
+    requires { IsFurthest cursor.old.rest trail.old }
     ensures zero_pad { IfOk result (λ w. w.zero_pad ≡ is_padded (width cursor.old.rest).0) }
     ensures count { IfOk result (λ w. seen_count w.count ≡ map_count (place_of cursor.old.world)
         (width_of cursor.old.rest (width cursor.old.rest).0 (width cursor.old.rest).1)) }
@@ -83,17 +96,18 @@ pub fn width<'input>(
     ensures rest { OnOk result (cursor.new ≡ record cursor.old { rest = (width cursor.old.rest).1 }) }
     ensures found { OnOk result (map seen_fault found.new.items
         ≡ map seen_fault found.old.items ++ faults_in cursor.old.world (width_faults cursor.old.rest (width cursor.old.rest).0)) }
+    ensures steps { OnOk result (Paid cursor.old.rest trail.old cursor.new.rest trail.new) }
 {
     if !spec::is_next(cursor, '0') {
-        return counted(false, cursor, found);
+        return counted(false, cursor, trail, found);
     }
     let start = cursor.start();
-    cursor.advance();
+    cursor.advance(trail);
     if !spec::is_next(cursor, '$') {
-        return counted(true, cursor, found);
+        return counted(true, cursor, trail, found);
     }
     let span = start..cursor.stop();
-    cursor.advance();
+    cursor.advance(trail);
     Ok(WidthPart {
         zero_pad: false,
         count: Count::CountIsParam(0),
@@ -102,13 +116,15 @@ pub fn width<'input>(
 }
 
 /// Reads the precision at the front, and where it stands. A star takes the next number.
-#[tactic(auto, using(crate::proofs::SpecParts::precisions_at_front))]
-pub fn precision<'input>(
+#[tactic(auto, using(crate::proofs::Steps::part_le, crate::proofs::SpecParts::precisions_at_front))]
+pub fn precision<'input, L: Ledger>(
     cursor: &mut Cursor<'input>,
+    trail: &mut Trail<'input, L>,
     curarg: &mut usize,
     found: &mut Vec<Fault<'input>>,
 ) -> Result<(Count<'input>, Option<Range<usize>>), AllocError>
-    requires { curarg.old + 1 < 2 ^ 64 }
+    requires numbers { curarg.old + 1 < 2 ^ 64 }
+    requires steps { IsInWord cursor.old.rest trail.old }
     ensures value { IfOk result (λ k. seen_count k.0 ≡ map_count (place_of cursor.old.world)
         (precision_of curarg.old cursor.old.rest (precision cursor.old.rest).0 (precision cursor.old.rest).1)) }
     ensures span { IfOk result (λ k. option_map pair k.1 ≡ option_map (place_of cursor.old.world)
@@ -117,18 +133,19 @@ pub fn precision<'input>(
     ensures next { OnOk result (curarg.new ≡ behind_precision curarg.old (precision cursor.old.rest).0) }
     ensures found { OnOk result (map seen_fault found.new.items
         ≡ map seen_fault found.old.items ++ faults_in cursor.old.world (precision_faults cursor.old.rest (precision cursor.old.rest).0)) }
+    ensures steps { OnOk result (Paid cursor.old.rest trail.old cursor.new.rest trail.new) }
 {
     if !spec::is_next(cursor, '.') {
         return Ok((Count::CountImplied, None));
     }
     let start = cursor.start();
-    cursor.advance();
+    cursor.advance(trail);
     if spec::is_next(cursor, '*') {
         let number = *curarg;
         *curarg = number + 1;
-        cursor.advance();
+        cursor.advance(trail);
         return Ok((Count::CountIsStar(number), Some(start..cursor.start())));
     }
-    let count = spec::count(cursor, found)?;
+    let count = spec::count(cursor, trail, found)?;
     Ok((count, Some(start..cursor.start())))
 }

@@ -10,32 +10,32 @@ use Rattle.rustc_parse_format.specs.Seen.{seen_mode}
 use Rattle.rustc_parse_format.proofs.Arguments.{at_spec, argument_parts, faults_parts, spec_at-le, behind_spec-le, pair_same}
 use Rattle.rustc_parse_format.proofs.call.read_argument.Goals as goal
 
-pub specification-requires : goal.specification-requires
+pub specification-requires-clause-numbers : goal.specification-requires-clause-numbers
 unfolding cut
-specification-requires c =
+specification-requires-clause-numbers g c =
     let m = seen_mode c.args.mode in
     let t = c.args.cursor.now.rest in
-    let at = at_spec m c.args.cursor.now _ _ c.in_ok-given.ensures.rest c.skip_white.ensures in
+    let at = at_spec m c.args.cursor.now _ _ c.in_ok-given.ensures.rest c.skip_white.ensures.rest in
     let size = spec_at-le m t in
     rw at (omega arith)
 
 pub position_of-requires : goal.position_of-requires
 unfolding cut
-position_of-requires c =
+position_of-requires g c =
     let m = seen_mode c.args.mode in
     let t = c.args.cursor.now.rest in
-    let at = at_spec m c.args.cursor.now _ _ c.in_ok-given.ensures.rest c.skip_white.ensures in
+    let at = at_spec m c.args.cursor.now _ _ c.in_ok-given.ensures.rest c.skip_white.ensures.rest in
     let next = rw at at c.in_ok-format.ensures.next in
     let most = behind_spec-le m c.args.curarg.now t in
     rw next (omega arith)
 
 pub returns-clause-value : goal.returns-clause-value
 unfolding cut
-returns-clause-value c =
+returns-clause-value g c =
     let m = seen_mode c.args.mode in
     let t = c.args.cursor.now.rest in
     let n = c.args.curarg.now in
-    let at = at_spec m c.args.cursor.now _ _ c.in_ok-given.ensures.rest c.skip_white.ensures in
+    let at = at_spec m c.args.cursor.now _ _ c.in_ok-given.ensures.rest c.skip_white.ensures.rest in
     let format = rw at at c.in_ok-format.ensures.value in
     let next = rw at at c.in_ok-format.ensures.next in
     argument_parts c.args.cursor.now.world m n t _ _ _
@@ -45,17 +45,17 @@ returns-clause-value c =
 
 pub returns-clause-next : goal.returns-clause-next
 unfolding cut next_number
-returns-clause-next c =
+returns-clause-next g c =
     let m = seen_mode c.args.mode in
     let t = c.args.cursor.now.rest in
-    let at = at_spec m c.args.cursor.now _ _ c.in_ok-given.ensures.rest c.skip_white.ensures in
+    let at = at_spec m c.args.cursor.now _ _ c.in_ok-given.ensures.rest c.skip_white.ensures.rest in
     let next = rw at at c.in_ok-format.ensures.next in
     c.position_of.ensures.next ∙ (ap (λ o. if is_some o then c.specification.new.curarg else suc c.specification.new.curarg) c.in_ok-given.ensures.value ∙ ap (λ k. if is_some (given_position (cut m t).field.position) then k else suc k) next)
 
 pub returns-clause-found : goal.returns-clause-found
 unfolding cut
-returns-clause-found c =
+returns-clause-found g c =
     let m = seen_mode c.args.mode in
     let t = c.args.cursor.now.rest in
-    let at = at_spec m c.args.cursor.now _ _ c.in_ok-given.ensures.rest c.skip_white.ensures in
+    let at = at_spec m c.args.cursor.now _ _ c.in_ok-given.ensures.rest c.skip_white.ensures.rest in
     faults_parts c.args.cursor.now.world m t _ _ _ c.in_ok-given.ensures.found (rw at at c.in_ok-format.ensures.found)

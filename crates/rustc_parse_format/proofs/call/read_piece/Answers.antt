@@ -5,7 +5,7 @@ use Rattle.rustc_parse_format.proofs.Placeholders.{placeholder_takes}
 use Rattle.rustc_parse_format.proofs.call.read_piece.Goals as goal
 
 pub returns-in_err-piece-clause-spare : goal.returns-in_err-piece-clause-spare
-returns-in_err-piece-clause-spare c k =
+returns-in_err-piece-clause-spare g c k =
     absurd (placeholder_takes (seen_mode c.args.mode) c.args.curarg.now c.args.cursor.now.rest
     (sym c.peek.ensures ∙ (c.in-Some.is ∙ ap (λ (x : ℕ). Some x) c.if-c-eq123.true))
     (ap (λ x. begins_with x (behind_first c.args.cursor.now.rest)) (sym c.if-c-eq123.true) ∙ (sym c.if-goes_on_with.ensures)) k)

@@ -13,37 +13,37 @@ use Rattle.rustc_parse_format.proofs.Placeholders.{ending, placeholder-piece, pl
 use Rattle.rustc_parse_format.proofs.call.read_placeholder.Goals as goal
 
 pub returns-clause-piece : goal.returns-clause-piece
-returns-clause-piece c =
+returns-clause-piece g c =
     let m = seen_mode c.args.mode in
     let t = c.args.cursor.now.rest in
-    let value = rw c.advance.ensures at c.in_ok-argument.ensures.value in
+    let value = rw c.advance.ensures.rest at c.in_ok-argument.ensures.value in
     let boxed = ap seen_argument c.in_ok-new.ensures.ok in
     rw (placeholder-piece m c.args.curarg.now t (behind_first t)) (ap (λ (a : Argument Place). Some (NextArgument a)) (boxed ∙ value))
 
 pub returns-clause-rest : goal.returns-clause-rest
-returns-clause-rest c =
+returns-clause-rest g c =
     let m = seen_mode c.args.mode in
     let t = c.args.cursor.now.rest in
-    let rest = rw c.advance.ensures at c.in_ok-argument.ensures.rest in
-    let at : ◌≡◌ {A = Unread} c.skip_white.new.self (record c.args.cursor.now { rest = ending m (behind_first t) }) = c.skip_white.ensures ∙ ap (λ (u : Unread). record u { rest = behind_white u.rest }) rest in
+    let rest = rw c.advance.ensures.rest at c.in_ok-argument.ensures.rest in
+    let at : ◌≡◌ {A = Unread} c.skip_white.new.self (record c.args.cursor.now { rest = ending m (behind_first t) }) = c.skip_white.ensures.rest ∙ ap (λ (u : Unread). record u { rest = behind_white u.rest }) rest in
     rw (placeholder-rest m c.args.curarg.now t (behind_first t)) (c.in_ok-close.ensures.rest ∙ ap (λ (u : Unread). record u { rest = behind_brace u.rest }) at)
 
 pub returns-clause-next : goal.returns-clause-next
-returns-clause-next c =
+returns-clause-next g c =
     let m = seen_mode c.args.mode in
     let t = c.args.cursor.now.rest in
-    let next = rw c.advance.ensures at c.in_ok-argument.ensures.next in
+    let next = rw c.advance.ensures.rest at c.in_ok-argument.ensures.next in
     rw (placeholder-next m c.args.curarg.now t (behind_first t)) next
 
 pub returns-clause-found : goal.returns-clause-found
-returns-clause-found c =
+returns-clause-found g c =
     let m = seen_mode c.args.mode in
     let t = c.args.cursor.now.rest in
-    let rest = rw c.advance.ensures at c.in_ok-argument.ensures.rest in
-    let found = rw c.advance.ensures at c.in_ok-argument.ensures.found in
-    let at : ◌≡◌ {A = Unread} c.skip_white.new.self (record c.args.cursor.now { rest = ending m (behind_first t) }) = c.skip_white.ensures ∙ ap (λ (u : Unread). record u { rest = behind_white u.rest }) rest in
+    let rest = rw c.advance.ensures.rest at c.in_ok-argument.ensures.rest in
+    let found = rw c.advance.ensures.rest at c.in_ok-argument.ensures.found in
+    let at : ◌≡◌ {A = Unread} c.skip_white.new.self (record c.args.cursor.now { rest = ending m (behind_first t) }) = c.skip_white.ensures.rest ∙ ap (λ (u : Unread). record u { rest = behind_white u.rest }) rest in
     let more = rw at at c.in_ok-close.ensures.found in
-    let value = rw c.advance.ensures at c.in_ok-argument.ensures.value in
+    let value = rw c.advance.ensures.rest at c.in_ok-argument.ensures.value in
     let w = c.args.cursor.now.world in
     let format = (argument c.args.curarg.now (cut m (behind_first t))).format in
     let seen = seen_spec c.in_ok-argument.argument.format in

@@ -15,7 +15,7 @@ use Rattle.rustc_parse_format.proofs.format_spec.format_parts.Goals as goal
 
 pub returns-clause-value : goal.returns-clause-value
 unfolding format_parts format_of
-returns-clause-value c =
+returns-clause-value g c =
     let t = c.args.cursor.now.rest in
     let w = c.args.cursor.now.world in
     let at = behind_parts c.args.cursor.now c.fill-fill.new.cursor c.alignment-align.new.cursor c.sign-sign.new.cursor c.alternate-alternate.new.cursor
@@ -46,7 +46,7 @@ returns-clause-value c =
 
 pub returns-clause-rest : goal.returns-clause-rest
 unfolding format_parts
-returns-clause-rest c =
+returns-clause-rest g c =
     let at = behind_parts c.args.cursor.now c.fill-fill.new.cursor c.alignment-align.new.cursor c.sign-sign.new.cursor c.alternate-alternate.new.cursor
     c.width.new.cursor c.precision.new.cursor c.type_part.new.cursor c.fill-fill.ensures.rest c.alignment-align.ensures.rest c.sign-sign.ensures.rest c.alternate-alternate.ensures.rest
     c.in_ok-width.ensures.rest c.in_ok-precision.ensures.rest c.in_ok-type_part.ensures.rest in
@@ -54,7 +54,7 @@ returns-clause-rest c =
 
 pub returns-clause-next : goal.returns-clause-next
 unfolding format_parts
-returns-clause-next c =
+returns-clause-next g c =
     let at = behind_parts c.args.cursor.now c.fill-fill.new.cursor c.alignment-align.new.cursor c.sign-sign.new.cursor c.alternate-alternate.new.cursor
     c.width.new.cursor c.precision.new.cursor c.type_part.new.cursor c.fill-fill.ensures.rest c.alignment-align.ensures.rest c.sign-sign.ensures.rest c.alternate-alternate.ensures.rest
     c.in_ok-width.ensures.rest c.in_ok-precision.ensures.rest c.in_ok-type_part.ensures.rest in
@@ -62,7 +62,7 @@ returns-clause-next c =
 
 pub returns-clause-found : goal.returns-clause-found
 unfolding format_parts
-returns-clause-found c =
+returns-clause-found g c =
     let at = behind_parts c.args.cursor.now c.fill-fill.new.cursor c.alignment-align.new.cursor c.sign-sign.new.cursor c.alternate-alternate.new.cursor
     c.width.new.cursor c.precision.new.cursor c.type_part.new.cursor c.fill-fill.ensures.rest c.alignment-align.ensures.rest c.sign-sign.ensures.rest c.alternate-alternate.ensures.rest
     c.in_ok-width.ensures.rest c.in_ok-precision.ensures.rest c.in_ok-type_part.ensures.rest in

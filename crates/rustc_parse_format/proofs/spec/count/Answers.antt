@@ -7,17 +7,17 @@ use Rattle.rustc_parse_format.proofs.spec.count.Goals as goal
 
 pub returns-then-take_char-clause-found : goal.returns-then-take_char-clause-found
 unfolding count_faults
-returns-then-take_char-clause-found c = rw (faults_at_digit c.args.cursor.now.rest (sym c.if-starts_digit.ensures)) c.in_ok-number.ensures.found
+returns-then-take_char-clause-found g c = rw (faults_at_digit c.args.cursor.now.rest (sym c.if-starts_digit.ensures)) c.in_ok-number.ensures.found
 
 pub returns-then-starts_digit-clause-found : goal.returns-then-starts_digit-clause-found
 unfolding count_faults
-returns-then-starts_digit-clause-found c = rw (faults_at_digit c.args.cursor.now.rest (sym c.if-starts_digit.ensures)) c.in_ok-number.ensures.found
+returns-then-starts_digit-clause-found g c = rw (faults_at_digit c.args.cursor.now.rest (sym c.if-starts_digit.ensures)) c.in_ok-number.ensures.found
 
 pub returns-then-starts_word-clause-found : goal.returns-then-starts_word-clause-found
 unfolding count_faults
-returns-then-starts_word-clause-found c = rw (faults_at_word c.args.cursor.now.rest (sym c.if-starts_digit.ensures)) c.name_count.ensures.found
+returns-then-starts_word-clause-found g c = rw (faults_at_word c.args.cursor.now.rest (sym c.if-starts_digit.ensures)) c.name_count.ensures.found
 
 pub returns-clause-found : goal.returns-clause-found
 unfolding count_faults
-returns-clause-found c =
+returns-clause-found g c =
     rw (faults_nowhere c.args.cursor.now.rest (sym c.if-starts_digit.ensures) (sym c.if-starts_word.ensures)) (sym (append-nil (map seen_fault c.args.found.now.items)))

@@ -7,13 +7,13 @@ use Rattle.rustc_parse_format.proofs.spec.position.Goals as goal
 
 pub returns-then-starts_digit-clause-found : goal.returns-then-starts_digit-clause-found
 unfolding position_faults
-returns-then-starts_digit-clause-found c = rw (faults_at_digit c.args.cursor.now.rest (sym c.if-starts_digit.ensures)) c.in_ok-number.ensures.found
+returns-then-starts_digit-clause-found g c = rw (faults_at_digit c.args.cursor.now.rest (sym c.if-starts_digit.ensures)) c.in_ok-number.ensures.found
 
 pub returns-then-starts_word-clause-found : goal.returns-then-starts_word-clause-found
 unfolding position_faults
-returns-then-starts_word-clause-found c = rw (faults_at_word c.args.cursor.now.rest (sym c.if-starts_digit.ensures)) c.in_ok-name.ensures.found
+returns-then-starts_word-clause-found g c = rw (faults_at_word c.args.cursor.now.rest (sym c.if-starts_digit.ensures)) c.in_ok-name.ensures.found
 
 pub returns-clause-found : goal.returns-clause-found
 unfolding position_faults
-returns-clause-found c =
+returns-clause-found g c =
     rw (faults_nowhere c.args.cursor.now.rest (sym c.if-starts_digit.ensures) (sym c.if-starts_word.ensures)) (sym (append-nil (map seen_fault c.args.found.now.items)))

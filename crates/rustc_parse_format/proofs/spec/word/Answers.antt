@@ -6,6 +6,6 @@ use Rattle.rustc_parse_format.proofs.Readers.{word_noted}
 use Rattle.rustc_parse_format.proofs.spec.word.Goals as goal
 
 pub returns-clause-found : goal.returns-clause-found
-returns-clause-found c =
+returns-clause-found g c =
     word_noted c.args.cursor.now.world c.args.cursor.now.rest _ _ _ _ _ c.word-word.ensures.value c.start-start.ensures
     (c.start.ensures ∙ ap (λ (u : Unread). number_of u.world (Start (length u.rest))) c.word-word.ensures.rest) c.in_ok-note_word.ensures

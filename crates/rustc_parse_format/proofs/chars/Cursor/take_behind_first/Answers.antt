@@ -6,15 +6,15 @@ use Rattle.rustc_parse_format.proofs.Fronts.{first-behind}
 use Rattle.rustc_parse_format.proofs.chars.Cursor.take_behind_first.Goals as goal
 
 pub before-requires : goal.before-requires
-before-requires c =
+before-requires g c =
     let t = c.args.self.now.rest in
     let u = with_first t (front (passes c.args.class) (behind_first t)) in
-    let e = ap (λ (u : Unread). u.rest) c.advance.ensures in
-    (u, c.rest-text.ensures ∙ (first-behind (passes c.args.class) t ∙ ap (λ r. u ++ r) (sym (c.rest.ensures ∙ (ap (λ (u : Unread). u.rest) c.skip.ensures ∙ ap (behind (passes c.args.class)) e)))))
+    let e = ap (λ (u : Unread). u.rest) c.advance.ensures.rest in
+    (u, c.rest-text.ensures ∙ (first-behind (passes c.args.class) t ∙ ap (λ r. u ++ r) (sym (c.rest.ensures ∙ (ap (λ (u : Unread). u.rest) c.skip.ensures.rest ∙ ap (behind (passes c.args.class)) e)))))
 
 pub returns-clause-value : goal.returns-clause-value
-returns-clause-value c =
+returns-clause-value g c =
     let t = c.args.self.now.rest in
     let u = with_first t (front (passes c.args.class) (behind_first t)) in
-    let e = ap (λ (u : Unread). u.rest) c.advance.ensures in
-    c.before-2.ensures _ (c.rest-text.ensures ∙ (first-behind (passes c.args.class) t ∙ ap (λ r. u ++ r) (sym (c.rest.ensures ∙ (ap (λ (u : Unread). u.rest) c.skip.ensures ∙ ap (behind (passes c.args.class)) e)))))
+    let e = ap (λ (u : Unread). u.rest) c.advance.ensures.rest in
+    c.before-2.ensures _ (c.rest-text.ensures ∙ (first-behind (passes c.args.class) t ∙ ap (λ r. u ++ r) (sym (c.rest.ensures ∙ (ap (λ (u : Unread). u.rest) c.skip.ensures.rest ∙ ap (behind (passes c.args.class)) e)))))
