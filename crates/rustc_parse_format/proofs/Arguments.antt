@@ -8,7 +8,7 @@ use Rattle.rustc_parse_format.specs.Placeholder.{position, cut}
 use Rattle.rustc_parse_format.specs.Values.{position_of, behind_spec}
 use Rattle.rustc_parse_format.specs.Meaning.{spec_of, argument}
 use Rattle.rustc_parse_format.specs.Faults.{Fault, map_fault}
-use Rattle.rustc_parse_format.specs.PartFaults.{position_faults, spec_faults, cut_faults}
+use Rattle.rustc_parse_format.specs.PartFaults.{argument_faults, spec_faults, cut_faults}
 use Rattle.rustc_parse_format.specs.State.{Unread}
 use Rattle.rustc_parse_format.specs.World.{World, Place, place_of, faults_in}
 use Rattle.rustc_parse_format.proofs.Numbers.{specification_number}
@@ -29,13 +29,13 @@ unfolding argument cut
 argument_parts w mode c t p s f a b d = rw (a, b, d) refl
 
 pub faults_parts : (w : World) (mode : Mode) (t : Text) (old middle new : List (Fault Place)) →
-    middle ≡ old ++ faults_in w (position_faults t) →
+    middle ≡ old ++ faults_in w (argument_faults t) →
     new ≡ middle ++ faults_in w (spec_faults (cut mode t).spec_at (cut mode t).field.spec (cut mode t).rest) →
     new ≡ old ++ faults_in w (cut_faults (cut mode t))
 unfolding cut_faults cut
 faults_parts w mode t old middle new a b =
     let rest = spec_faults (cut mode t).spec_at (cut mode t).field.spec (cut mode t).rest in
-    rw (b, a) (append_assoc old (faults_in w (position_faults t)) (faults_in w rest) ∙ ap (λ fs. old ++ fs) (sym (map-append (map_fault (place_of w)) (position_faults t) rest)))
+    rw (b, a) (append_assoc old (faults_in w (argument_faults t)) (faults_in w rest) ∙ ap (λ fs. old ++ fs) (sym (map-append (map_fault (place_of w)) (argument_faults t) rest)))
 
 pub spec_at-le : (mode : Mode) (t : Text) → length (cut mode t).spec_at ≤ length t
 unfolding cut

@@ -6,7 +6,7 @@ use Rattle.rustc_parse_format.specs.Characters.{Text, is_id_start, word, behind_
 use Rattle.rustc_parse_format.specs.Syntax.{NumberCount, IndexCount, NameCount, NoCount, WidthText}
 use Rattle.rustc_parse_format.specs.Counts.{count, behind_number, behind_name, width, behind_zero, precision, behind_dot}
 use Rattle.rustc_parse_format.specs.Grammar.{IsNamed, IsSmall, IsCleanCount, IsCleanWidth, IsCleanPrecision}
-use Rattle.rustc_parse_format.specs.PartFaults.{number_faults, count_faults, width_faults, precision_faults}
+use Rattle.rustc_parse_format.specs.PartFaults.{number_faults, argument_faults, width_faults, precision_faults}
 use Rattle.rustc_parse_format.proofs.CleanWords.{none_left, none_right, named, small, choose}
 
 number_clean : (ds r : Text) → IsSmall ds → IsCleanCount (behind_number ds r).0
@@ -17,8 +17,8 @@ name_clean : (t w r : Text) → IsNamed w → IsCleanCount (behind_name t w r).0
 name_clean t w [] h = tt
 name_clean t w (c ∷ r) h = choose IsCleanCount (c == 36) (NameCount w, r) (NoCount, t) (λ e. h) (λ e. tt)
 
-count_clean : (t : Text) → count_faults t ≡ [] → IsCleanCount (count t).0
-unfolding count_faults
+count_clean : (t : Text) → argument_faults t ≡ [] → IsCleanCount (count t).0
+unfolding argument_faults
 count_clean [] e = tt
 count_clean (c ∷ t) e =
     choose IsCleanCount (is_ascii_digit c) _ _

@@ -9,14 +9,14 @@ use Rattle.rustc_parse_format.specs.Syntax.{SpecText}
 use Rattle.rustc_parse_format.specs.Specification.{type, behind_hex, width_at, precision_at, type_at, format_parts, specification, behind_colon}
 use Rattle.rustc_parse_format.specs.Placeholder.{position, cut}
 use Rattle.rustc_parse_format.specs.Grammar.{IsClean, IsCleanPosition, IsCleanType, AreCleanParts, IsCleanSpec}
-use Rattle.rustc_parse_format.specs.PartFaults.{number_faults, position_faults, width_faults, precision_faults, type_faults, format_faults, spec_faults, cut_faults}
+use Rattle.rustc_parse_format.specs.PartFaults.{number_faults, argument_faults, width_faults, precision_faults, type_faults, format_faults, spec_faults, cut_faults}
 use Rattle.rustc_parse_format.proofs.CleanWords.{none_left, none_right, none_both, named, small, unnamed, unlarge, choose, no_word, no_digits, digit_word, word_first, no_word_at_end, no_digits_at_end}
 use Rattle.rustc_parse_format.proofs.PartPlaces.{format_faults-at}
 use Rattle.rustc_parse_format.proofs.CleanCounts.{width_clean, precision_clean}
 use Rattle.rustc_parse_format.proofs.FaultlessCounts.{tried_named, width_faultless, precision_faultless}
 
-position_clean : (t : Text) → position_faults t ≡ [] → IsCleanPosition (position t).0
-unfolding position_faults
+position_clean : (t : Text) → argument_faults t ≡ [] → IsCleanPosition (position t).0
+unfolding argument_faults
 position_clean [] e = tt
 position_clean (c ∷ t) e =
     choose {B = Text} IsCleanPosition (is_ascii_digit c) _ _
@@ -25,13 +25,13 @@ position_clean (c ∷ t) e =
     (λ i. named (c ∷ t) (none_right (number_faults (c ∷ t)) _ e))
     (λ i. tt))
 
-position_faultless : (t : Text) → IsCleanPosition (position t).0 → position_faults t ≡ []
-unfolding position_faults
+position_faultless : (t : Text) → IsCleanPosition (position t).0 → argument_faults t ≡ []
+unfolding argument_faults
 position_faultless [] h = none_both _ _ no_digits_at_end no_word_at_end
 position_faultless (c ∷ t) h =
-    choose {B = Text} (λ p. IsCleanPosition p → position_faults (c ∷ t) ≡ []) (is_ascii_digit c) _ _
+    choose {B = Text} (λ p. IsCleanPosition p → argument_faults (c ∷ t) ≡ []) (is_ascii_digit c) _ _
     (λ d h. none_both _ _ (unlarge (c ∷ t) h) (digit_word c t d))
-    (λ d. choose {B = Text} (λ p. IsCleanPosition p → position_faults (c ∷ t) ≡ []) (is_id_start c) _ _
+    (λ d. choose {B = Text} (λ p. IsCleanPosition p → argument_faults (c ∷ t) ≡ []) (is_id_start c) _ _
     (λ i h. none_both _ _ (no_digits c t d) (unnamed (c ∷ t) h))
     (λ i h. none_both _ _ (no_digits c t d) (no_word c t i)))
     h
@@ -137,7 +137,7 @@ pub cut_clean : (mode : Mode) (t : Text) → cut_faults (cut mode t) ≡ [] → 
 unfolding cut cut_faults
 cut_clean mode t e = record {
   position = position_clean t (none_left _ _ e);
-  spec = specification_clean mode (behind_white (position t).1) (none_right (position_faults t) _ e);
+  spec = specification_clean mode (behind_white (position t).1) (none_right (argument_faults t) _ e);
 }
 
 -- A cut in which nothing is refused has no fault.

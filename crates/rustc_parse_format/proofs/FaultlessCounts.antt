@@ -6,7 +6,7 @@ use Rattle.rustc_parse_format.specs.Characters.{Text, is_id_start, word, behind_
 use Rattle.rustc_parse_format.specs.Syntax.{CountText, NoCount, WidthText, PaddedWidth, ZeroIndexWidth, PlainWidth, PrecisionText, DotPrecision}
 use Rattle.rustc_parse_format.specs.Counts.{count, behind_number, behind_name, width, behind_zero, precision, behind_dot}
 use Rattle.rustc_parse_format.specs.Grammar.{IsNamed, IsSmall, IsCleanCount, IsCleanWidth, IsCleanPrecision}
-use Rattle.rustc_parse_format.specs.PartFaults.{count_faults, width_faults, precision_faults}
+use Rattle.rustc_parse_format.specs.PartFaults.{argument_faults, width_faults, precision_faults}
 use Rattle.rustc_parse_format.proofs.CleanWords.{none_both, unnamed, unlarge, choose, no_word, no_digits, digit_word, no_word_at_end, no_digits_at_end}
 
 -- where there is no count, the word that was tried is not `_`
@@ -18,19 +18,19 @@ number_small ds [] h = h
 number_small ds (c ∷ r) h = choose {B = Text} (λ k. IsCleanCount k → IsSmall ds) (c == 36) _ _ (λ z h. h) (λ z h. h) h
 
 abbrev Faultless : Text → CountText × Text → Type 0
-Faultless t k = IsCleanCount k.0 → IsTriedNamed k.0 k.1 → count_faults t ≡ []
+Faultless t k = IsCleanCount k.0 → IsTriedNamed k.0 k.1 → argument_faults t ≡ []
 
 name_named : (t r : Text) → IsCleanCount (behind_name t (word t) r).0 → IsTriedNamed (behind_name t (word t) r).0 (behind_name t (word t) r).1 → IsNamed (word t)
 name_named t [] h f = f refl
 name_named t (c ∷ r) h f =
     cond_both {A = CountText × Text} (c == 36) _ _ (λ k. IsCleanCount k.0 → IsTriedNamed k.0 k.1 → IsNamed (word t)) (λ z h f. h) (λ z h f. f refl) h f
 
-no_count_at_end : count_faults [] ≡ []
-unfolding count_faults
+no_count_at_end : argument_faults [] ≡ []
+unfolding argument_faults
 no_count_at_end = none_both _ _ no_digits_at_end no_word_at_end
 
 count_faultless : (t : Text) → Faultless t (count t)
-unfolding count_faults
+unfolding argument_faults
 count_faultless [] h f = no_count_at_end
 count_faultless (c ∷ t) h f =
     cond_both {A = CountText × Text} (is_ascii_digit c) _ _ (Faultless (c ∷ t))

@@ -103,9 +103,9 @@ walk_stops : (mode : Mode) (c : ℕ) (t : Text) (ks : List Call) → IsWalk mode
 walk_stops mode c t [] w f = absurd w
 walk_stops mode c t (k ∷ ks) w f = one_call mode c t k ks w f (none_or_some k.faults) (λ v g. walk_stops mode k.next k.rest ks v g)
 
-some_length : (t : Text) → t ≢ [] → 0 < length t
+pub some_length : {A : Type 0} (xs : List A) → xs ≢ [] → 0 < length xs
 some_length [] h = absurd (h refl)
-some_length (c ∷ t) h = omega arith
+some_length (x ∷ xs) h = omega arith
 
 by_length : (mode : Mode) (c : ℕ) (t : Text) (ps : List (Piece (Unit {0}))) → Stops mode c t ps → StopsInside mode c t ps
 by_length mode c t ps s =

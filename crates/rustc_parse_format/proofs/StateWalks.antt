@@ -5,6 +5,7 @@ use Rattle.rustc_parse_format.specs.Pieces.{Piece}
 use Rattle.rustc_parse_format.specs.Step.{Call, pieces_of}
 use Rattle.rustc_parse_format.specs.State.{State, next_call, after, calls, after_all}
 use Rattle.rustc_parse_format.proofs.Progress.{walk-none, walk-some}
+use Rattle.rustc_parse_format.proofs.FirstFault.{some_length}
 use Rattle.rustc_parse_format.proofs.FaultlessStates.{after-length}
 
 -- A call without a piece is the last,
@@ -31,10 +32,6 @@ pieces_of-some s p e = rw (calls-some s p e, e) refl
 -- A call without a fault leaves the errors as they are,
 pub after-same : (s : State) (k : Call) → k.faults ≡ [] → (after s k).errors ≡ s.errors
 after-same s k e = rw e refl
-
-some_length : {A : Type 0} (xs : List A) → xs ≢ [] → 0 < length xs
-some_length [] h = absurd (h refl)
-some_length (x ∷ xs) h = omega arith
 
 -- and one with a fault leaves more.
 pub after-more : (s : State) (k : Call) → k.faults ≢ [] → length s.errors < length (after s k).errors

@@ -4,7 +4,6 @@
 -- or a CR too. In an ordinary content a CR stands in continuations alone.
 use Prim.Native.Char.{code}
 use Rattle.std.specs.Prelude.{◌≡◌, ℕ, suc, zero, ◌+◌, ◌++◌, Bool, if◌then◌else◌, List, [], ◌∷◌, length, map, Option, Some, None, IsTrue, replicate, flat_map, codes}
-use Rattle.std.specs.List.{zip}
 use Rattle.rustc_parse_format.specs.Characters.{Text, width}
 use Rattle.rustc_parse_format.specs.LiteralUnits.{LiteralUnit, spelling, value, is_unit, may_precede, unit_at}
 
@@ -37,15 +36,10 @@ units t = units_within (length t) t
 abbrev pub content_value : List LiteralUnit → Text
 content_value us = flat_map value us
 
--- where each of them comes from: the bytes of its unit, from the first to behind the last, in a content that starts at
--- a byte
-abbrev pub unit_places : ℕ → List LiteralUnit → List (ℕ × ℕ)
-unit_places at [] = []
-unit_places at (u ∷ us) = map (λ c. (at, at + width (spelling u))) (value u) ++ unit_places (at + width (spelling u)) us
-
--- the characters, each with its place
+-- the characters, each with its place: the bytes of its unit, in a content that starts at a byte
 abbrev pub placed_characters : ℕ → List LiteralUnit → List ((ℕ × ℕ) × ℕ)
-placed_characters at us = zip (unit_places at us) (content_value us)
+placed_characters at [] = []
+placed_characters at (u ∷ us) = map (λ c. ((at, at + width (spelling u)), c)) (value u) ++ placed_characters (at + width (spelling u)) us
 
 -- the text is the content of these units, and of no others
 pub record IsOnlyContent (t : Text) (us : List LiteralUnit) : Type 0 where

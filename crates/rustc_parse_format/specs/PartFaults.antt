@@ -15,23 +15,20 @@ word_faults t = if bytes_eq (word t) (codes "_") then Underscore (up_to t (behin
 abbrev pub number_faults : Text → List (Fault Span)
 number_faults t = if is_over (digits t) then TooLarge (digits t) (through t (behind_digits t)) ∷ [] else []
 
--- a position at the front of t is an integer or a word, so at most one of these is there
-unfoldable pub position_faults : Text → List (Fault Span)
-position_faults t = number_faults t ++ word_faults t
-
--- A count is an integer or a word. A word is tried, and so looked at, even where no `$` makes it a count.
-unfoldable pub count_faults : Text → List (Fault Span)
-count_faults t = number_faults t ++ word_faults t
+-- A position and a count at the front of t are an integer or a word, so at most one of these is there. A word is tried for a
+-- count, and so looked at, even where no `$` makes it one.
+unfoldable pub argument_faults : Text → List (Fault Span)
+argument_faults t = number_faults t ++ word_faults t
 
 abbrev pub width_faults : Text → WidthText → List (Fault Span)
-width_faults t (PaddedWidth k) = count_faults (behind_first t)
+width_faults t (PaddedWidth k) = argument_faults (behind_first t)
 width_faults t ZeroIndexWidth = []
-width_faults t (PlainWidth k) = count_faults t
+width_faults t (PlainWidth k) = argument_faults t
 
 abbrev pub precision_faults : Text → PrecisionText → List (Fault Span)
 precision_faults t NoPrecision = []
 precision_faults t StarPrecision = []
-precision_faults t (DotPrecision k) = count_faults (behind_first t)
+precision_faults t (DotPrecision k) = argument_faults (behind_first t)
 
 abbrev pub type_faults : Text → TypeText → List (Fault Span)
 type_faults t (DebugHexType h) = []
@@ -50,4 +47,4 @@ spec_faults t (Modifier w) r = word_faults (behind_first t)
 spec_faults t (DiagnosticText u) r = []
 
 unfoldable pub cut_faults : Cut → List (Fault Span)
-cut_faults a = position_faults a.position_at ++ spec_faults a.spec_at a.field.spec a.rest
+cut_faults a = argument_faults a.position_at ++ spec_faults a.spec_at a.field.spec a.rest

@@ -4,7 +4,7 @@ ghost use Rattle.std.specs.Prelude.{◌≡◌, ◌++◌, ◌+◌, ◌<◌, ◌^�
 ghost use Rattle.rustc_parse_format.specs.Counts.{count, precision, width};
 ghost use Rattle.rustc_parse_format.specs.Values.{behind_precision, is_padded};
 ghost use Rattle.rustc_parse_format.specs.Meaning.{count_of, count_span, precision_of, precision_span, width_of, width_span};
-ghost use Rattle.rustc_parse_format.specs.PartFaults.{count_faults, precision_faults, width_faults};
+ghost use Rattle.rustc_parse_format.specs.PartFaults.{argument_faults, precision_faults, width_faults};
 ghost use Rattle.rustc_parse_format.specs.Pieces.{map_count};
 ghost use Rattle.rustc_parse_format.specs.Seen.{pair, seen_count};
 ghost use Rattle.rustc_parse_format.specs.SeenFaults.{seen_fault};
@@ -33,7 +33,7 @@ fn spanned_count<'input, L: Ledger>(
         (count_span cursor.old.rest (count cursor.old.rest).0 (count cursor.old.rest).1)) }
     ensures rest { OnOk result (cursor.new ≡ record cursor.old { rest = (count cursor.old.rest).1 }) }
     ensures found { OnOk result (map seen_fault found.new.items
-        ≡ map seen_fault found.old.items ++ faults_in cursor.old.world (count_faults cursor.old.rest)) }
+        ≡ map seen_fault found.old.items ++ faults_in cursor.old.world (argument_faults cursor.old.rest)) }
     ensures steps { OnOk result (Paid cursor.old.rest trail.old cursor.new.rest trail.new) }
 {
     let start = cursor.start();
@@ -69,7 +69,7 @@ fn counted<'input, L: Ledger>(
         (count_span cursor.old.rest (count cursor.old.rest).0 (count cursor.old.rest).1)) }
     ensures rest { OnOk result (cursor.new ≡ record cursor.old { rest = (count cursor.old.rest).1 }) }
     ensures found { OnOk result (map seen_fault found.new.items
-        ≡ map seen_fault found.old.items ++ faults_in cursor.old.world (count_faults cursor.old.rest)) }
+        ≡ map seen_fault found.old.items ++ faults_in cursor.old.world (argument_faults cursor.old.rest)) }
     ensures steps { OnOk result (Paid cursor.old.rest trail.old cursor.new.rest trail.new) }
 {
     let (count, span) = spanned_count(cursor, trail, found)?;

@@ -2,7 +2,7 @@
 
 ghost use Rattle.std.specs.Prelude.{◌≡◌, ◌++◌, IfOk, OnOk, chars, if◌then◌else◌, map, option_map};
 ghost use Rattle.rustc_parse_format.specs.Characters.{begins_with, behind_digits, behind_first, behind_word, digits, number, word};
-ghost use Rattle.rustc_parse_format.specs.PartFaults.{count_faults, number_faults, position_faults, word_faults};
+ghost use Rattle.rustc_parse_format.specs.PartFaults.{argument_faults, number_faults, word_faults};
 ghost use Rattle.rustc_parse_format.specs.Placeholder.{position};
 ghost use Rattle.rustc_parse_format.specs.Counts.{behind_name, count};
 ghost use Rattle.rustc_parse_format.specs.Values.{given_position};
@@ -64,7 +64,7 @@ pub fn position<'input, L: Ledger>(
     ensures value { IfOk result (λ p. option_map seen_position p ≡ given_position (position cursor.old.rest).0) }
     ensures rest { OnOk result (cursor.new ≡ record cursor.old { rest = (position cursor.old.rest).1 }) }
     ensures found { OnOk result (map seen_fault found.new.items
-        ≡ map seen_fault found.old.items ++ faults_in cursor.old.world (position_faults cursor.old.rest)) }
+        ≡ map seen_fault found.old.items ++ faults_in cursor.old.world (argument_faults cursor.old.rest)) }
     ensures steps { OnOk result (Forward cursor.old.rest trail.old cursor.new.rest trail.new) }
 {
     if cursor.starts_digit() {
@@ -144,7 +144,7 @@ pub fn count<'input, L: Ledger>(
         ≡ map_count (place_of cursor.old.world) (count_of cursor.old.rest (count cursor.old.rest).0 (count cursor.old.rest).1)) }
     ensures rest { OnOk result (cursor.new ≡ record cursor.old { rest = (count cursor.old.rest).1 }) }
     ensures found { OnOk result (map seen_fault found.new.items
-        ≡ map seen_fault found.old.items ++ faults_in cursor.old.world (count_faults cursor.old.rest)) }
+        ≡ map seen_fault found.old.items ++ faults_in cursor.old.world (argument_faults cursor.old.rest)) }
     ensures steps { OnOk result (Paid cursor.old.rest trail.old cursor.new.rest trail.new) }
 {
     if cursor.starts_digit() {

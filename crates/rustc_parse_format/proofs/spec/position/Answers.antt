@@ -1,19 +1,19 @@
 use Rattle.std.proofs.Common.{map, sym}
 use Rattle.std.proofs.lemmas.List.{append-nil}
-use Rattle.rustc_parse_format.specs.PartFaults.{position_faults}
+use Rattle.rustc_parse_format.specs.PartFaults.{argument_faults}
 use Rattle.rustc_parse_format.specs.SeenFaults.{seen_fault}
 use Rattle.rustc_parse_format.proofs.TriedParts.{faults_at_digit, faults_at_word, faults_nowhere}
 use Rattle.rustc_parse_format.proofs.spec.position.Goals as goal
 
 pub returns-then-starts_digit-clause-found : goal.returns-then-starts_digit-clause-found
-unfolding position_faults
+unfolding argument_faults
 returns-then-starts_digit-clause-found g c = rw (faults_at_digit c.args.cursor.now.rest (sym c.if-starts_digit.ensures)) c.in_ok-number.ensures.found
 
 pub returns-then-starts_word-clause-found : goal.returns-then-starts_word-clause-found
-unfolding position_faults
+unfolding argument_faults
 returns-then-starts_word-clause-found g c = rw (faults_at_word c.args.cursor.now.rest (sym c.if-starts_digit.ensures)) c.in_ok-name.ensures.found
 
 pub returns-clause-found : goal.returns-clause-found
-unfolding position_faults
+unfolding argument_faults
 returns-clause-found g c =
     rw (faults_nowhere c.args.cursor.now.rest (sym c.if-starts_digit.ensures) (sym c.if-starts_word.ensures)) (sym (append-nil (map seen_fault c.args.found.now.items)))
