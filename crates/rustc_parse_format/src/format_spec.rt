@@ -15,33 +15,13 @@ ghost use Rattle.rustc_parse_format.specs.World.{Place, faults_in, place_of};
 
 use crate::chars::{Class, Cursor, Trail, first};
 use crate::faults::Fault;
+use crate::laws::default_of_spec;
 use crate::sizes::{precision, width};
 use crate::spec;
 use crate::types::{Alignment, Count, DebugHex, FormatSpec, ParseMode, Sign};
 use std::alloc::AllocError;
 use std::ops::Range;
 use std::sync::ledger::Ledger;
-
-/// A specification where nothing is asked for.
-pub fn default_spec<'input>() -> FormatSpec<'input>
-    ensures { seen_spec result ≡ default_spec }
-{
-    FormatSpec {
-        fill: None,
-        fill_span: None,
-        align: Alignment::AlignUnknown,
-        sign: None,
-        alternate: false,
-        zero_pad: false,
-        debug_hex: None,
-        precision: Count::CountImplied,
-        precision_span: None,
-        width: Count::CountImplied,
-        width_span: None,
-        ty: "",
-        ty_span: None,
-    }
-}
 
 /// Reads the fill at the front: a character with an alignment behind it.
 fn fill<'input, L: Ledger>(
@@ -274,7 +254,7 @@ fn modifier<'input, L: Ledger>(
     Ok(FormatSpec {
         ty,
         ty_span,
-        ..default_spec()
+        ..default_of_spec()
     })
 }
 
@@ -296,7 +276,7 @@ fn diagnostic_text<'input, L: Ledger>(
     FormatSpec {
         ty,
         ty_span: Some(start..cursor.start()),
-        ..default_spec()
+        ..default_of_spec()
     }
 }
 
@@ -321,7 +301,7 @@ pub fn specification<'input, L: Ledger>(
     ensures steps { OnOk result (Paid cursor.old.rest trail.old cursor.new.rest trail.new) }
 {
     if !spec::is_next(cursor, ':') {
-        return Ok(default_spec());
+        return Ok(default_of_spec());
     }
     match mode {
         ParseMode::Format => {

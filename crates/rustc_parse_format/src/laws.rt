@@ -157,7 +157,7 @@ fn know_spec(spec: &FormatSpec<'_>)
 }
 
 /// `==` of two specifications says whether they are seen the same.
-fn specs_are_equal(a: &FormatSpec<'_>, b: &FormatSpec<'_>) -> bool
+pub fn specs_are_equal(a: &FormatSpec<'_>, b: &FormatSpec<'_>) -> bool
     ensures { IsTrue result ↔ (seen_spec a.now ≡ seen_spec b.now) }
 {
     know_spec(a);
@@ -166,7 +166,7 @@ fn specs_are_equal(a: &FormatSpec<'_>, b: &FormatSpec<'_>) -> bool
 }
 
 /// By default each part of a specification is absent.
-fn default_of_spec<'input>() -> FormatSpec<'input>
+pub fn default_of_spec<'input>() -> FormatSpec<'input>
     ensures { seen_spec result ≡ default_spec }
 {
     FormatSpec::default()

@@ -1,7 +1,7 @@
 ghost use Rattle.std.specs.Prelude.{◌≡◌};
 ghost use Rattle.rustc_parse_format.specs.Seen.{index_of};
 
-use crate::chars::first;
+use crate::laws::{default_of_spec, specs_are_equal};
 use std::ops::Range;
 
 /// What kind of text is parsed.
@@ -171,45 +171,6 @@ impl Position<'_> {
     }
 }
 
-impl FormatSpec<'_> {
-    ghost use Rattle.rustc_parse_format.specs.Identifiers.{has_no_flags, has_no_spans, has_no_values, has_nothing};
-    ghost use Rattle.rustc_parse_format.specs.Seen.{seen_spec};
-
-    fn has_no_flags(&self) -> bool
-        ensures { result ≡ has_no_flags (seen_spec self.now) }
-    {
-        self.fill.is_none()
-            && matches!(self.align, Alignment::AlignUnknown)
-            && self.sign.is_none()
-            && !self.alternate
-            && !self.zero_pad
-            && self.debug_hex.is_none()
-    }
-
-    fn has_no_values(&self) -> bool
-        ensures { result ≡ has_no_values (seen_spec self.now) }
-    {
-        matches!(self.width, Count::CountImplied)
-            && matches!(self.precision, Count::CountImplied)
-            && first(self.ty).is_none()
-    }
-
-    fn has_no_spans(&self) -> bool
-        ensures { result ≡ has_no_spans (seen_spec self.now) }
-    {
-        self.fill_span.is_none()
-            && self.width_span.is_none()
-            && self.precision_span.is_none()
-            && self.ty_span.is_none()
-    }
-
-    fn has_nothing(&self) -> bool
-        ensures { result ≡ has_nothing (seen_spec self.now) }
-    {
-        self.has_no_flags() && self.has_no_values() && self.has_no_spans()
-    }
-}
-
 impl Argument<'_> {
     ghost use Rattle.std.specs.Prelude.{◌↔◌, IsTrue};
     ghost use Rattle.rustc_parse_format.specs.Identifiers.{IsIdentifier};
@@ -219,9 +180,7 @@ impl Argument<'_> {
     pub fn is_identifier(&self) -> bool
         ensures { IsTrue result ↔ IsIdentifier (seen_argument self.now) }
     {
-        match self.position {
-            Position::ArgumentNamed(_) => self.format.has_nothing(),
-            _ => false,
-        }
+        matches!(self.position, Position::ArgumentNamed(_))
+            && specs_are_equal(&self.format, &default_of_spec())
     }
 }
