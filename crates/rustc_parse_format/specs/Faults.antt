@@ -61,47 +61,38 @@ expected (Some c) = codes "expected `}`, found `" ++ written c ++ codes "`"
 abbrev pub out_of_range : Text → List ℕ
 out_of_range ds = codes "integer `" ++ encode_utf8_all ds ++ codes "` does not fit into the type `u16` whose range is `0..=65535`"
 
+-- an error with these texts and spans
+abbrev pub error : {A : Type 0} → List ℕ → Option (List ℕ) → List ℕ → A → Option (List ℕ × A) → Message A
+error description note label span second =
+    record { description = description; note = note; label = label; span = span; second = second; suggestion = Nothing }
+
+-- the error of each fault
 unfoldable pub message : {A : Type 0} → Fault A → Message A
-message (UnmatchedBrace s) = record {
-  description = codes "unmatched `}` found";
-  note = Some (codes "if you intended to print `}`, you can escape it using `}}`");
-  label = codes "unmatched `}`";
-  span = s;
-  second = None;
-  suggestion = Nothing;
-}
-message (MissingBrace c s o) = record {
-  description = expected c;
-  note = Some (codes "if you intended to print `{`, you can escape it using `{{`");
-  label = codes "expected `}`";
-  span = s;
-  second = Some (codes "because of this opening brace", o);
-  suggestion = Nothing;
-}
-message (FillBrace c s o) = record {
-  description = expected c;
-  note = Some (codes "the character `}` is interpreted as a fill character because of the `:` that precedes it");
-  label = codes "expected `}`";
-  span = s;
-  second = Some (codes "this is not interpreted as a formatting closing brace", o);
-  suggestion = Nothing;
-}
-message (Underscore s) = record {
-  description = codes "invalid argument name `_`";
-  note = Some (codes "argument name cannot be a single underscore");
-  label = codes "invalid argument name";
-  span = s;
-  second = None;
-  suggestion = Nothing;
-}
-message (TooLarge ds s) = record {
-  description = out_of_range ds;
-  note = None;
-  label = codes "integer out of range for `u16`";
-  span = s;
-  second = None;
-  suggestion = Nothing;
-}
+message (UnmatchedBrace s) = error
+    (codes "unmatched `}` found")
+    (Some (codes "if you intended to print `}`, you can escape it using `}}`"))
+    (codes "unmatched `}`") s
+    None
+message (MissingBrace c s o) = error
+    (expected c)
+    (Some (codes "if you intended to print `{`, you can escape it using `{{`"))
+    (codes "expected `}`") s
+    (Some (codes "because of this opening brace", o))
+message (FillBrace c s o) = error
+    (expected c)
+    (Some (codes "the character `}` is interpreted as a fill character because of the `:` that precedes it"))
+    (codes "expected `}`") s
+    (Some (codes "this is not interpreted as a formatting closing brace", o))
+message (Underscore s) = error
+    (codes "invalid argument name `_`")
+    (Some (codes "argument name cannot be a single underscore"))
+    (codes "invalid argument name") s
+    None
+message (TooLarge ds s) = error
+    (out_of_range ds)
+    None
+    (codes "integer out of range for `u16`") s
+    None
 
 -- the list of errors after these faults, in the order in which they were found
 abbrev pub add_errors : {A : Type 0} → List (Message A) → List (Fault A) → List (Message A)

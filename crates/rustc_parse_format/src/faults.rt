@@ -1,7 +1,7 @@
 //! Faults as they are found, and the errors that they become.
 
 ghost use Rattle.std.specs.Prelude.{◌≡◌, ◌++◌, ◌∷◌, [], IfOk, IsOk, option_map, OnOk, OnErr, bytes_eq, chars, codes, map, string_bytes, if◌then◌else◌};
-ghost use Rattle.rustc_parse_format.specs.Faults.{FillBrace, MissingBrace, TooLarge, Underscore, UnmatchedBrace, add_errors, expected, message, out_of_range};
+ghost use Rattle.rustc_parse_format.specs.Faults.{TooLarge, Underscore, add_errors, error, expected, message, out_of_range};
 ghost use Rattle.rustc_parse_format.specs.Written.{plainly_written, short_escape, written};
 ghost use Rattle.rustc_parse_format.specs.Seen.{pair, seen_error};
 ghost use Rattle.rustc_parse_format.specs.SeenFaults.{seen_fault};
@@ -106,90 +106,6 @@ fn expected_brace(alloc: Global, found: Option<char>) -> Result<String, AllocErr
     format!(in alloc; "expected `}}`, found `{shown}`")
 }
 
-#[tactic(auto, unfolding(crate::specs::Faults::message))]
-fn unmatched_brace(alloc: Global, span: Range<usize>) -> Result<ParseError, AllocError>
-    ensures { IfOk result (λ e. seen_error e ≡ message (UnmatchedBrace (pair span))) }
-{
-    Ok(ParseError {
-        description: String::from_str(alloc, "unmatched `}` found")?,
-        note: Some(String::from_str(
-            alloc,
-            "if you intended to print `}`, you can escape it using `}}`",
-        )?),
-        label: String::from_str(alloc, "unmatched `}`")?,
-        span,
-        secondary_label: None,
-        suggestion: Suggestion::None,
-    })
-}
-
-#[tactic(auto, unfolding(crate::specs::Faults::message))]
-fn missing_brace(
-    alloc: Global,
-    found: Option<char>,
-    span: Range<usize>,
-    opening: Range<usize>,
-) -> Result<ParseError, AllocError>
-    ensures { IfOk result (λ e. seen_error e ≡ message (MissingBrace found (pair span) (pair opening))) }
-{
-    Ok(ParseError {
-        description: expected_brace(alloc, found)?,
-        note: Some(String::from_str(
-            alloc,
-            "if you intended to print `{`, you can escape it using `{{`",
-        )?),
-        label: String::from_str(alloc, "expected `}`")?,
-        span,
-        secondary_label: Some((
-            String::from_str(alloc, "because of this opening brace")?,
-            opening,
-        )),
-        suggestion: Suggestion::None,
-    })
-}
-
-#[tactic(auto, unfolding(crate::specs::Faults::message))]
-fn fill_brace(
-    alloc: Global,
-    found: Option<char>,
-    span: Range<usize>,
-    fill: Range<usize>,
-) -> Result<ParseError, AllocError>
-    ensures { IfOk result (λ e. seen_error e ≡ message (FillBrace found (pair span) (pair fill))) }
-{
-    Ok(ParseError {
-        description: expected_brace(alloc, found)?,
-        note: Some(String::from_str(
-            alloc,
-            "the character `}` is interpreted as a fill character because of the `:` that precedes it",
-        )?),
-        label: String::from_str(alloc, "expected `}`")?,
-        span,
-        secondary_label: Some((
-            String::from_str(
-                alloc,
-                "this is not interpreted as a formatting closing brace",
-            )?,
-            fill,
-        )),
-        suggestion: Suggestion::None,
-    })
-}
-
-#[tactic(auto, unfolding(crate::specs::Faults::message))]
-fn underscore(alloc: Global, span: Range<usize>) -> Result<ParseError, AllocError>
-    ensures { IfOk result (λ e. seen_error e ≡ message (Underscore (pair span))) }
-{
-    Ok(ParseError {
-        description: String::from_str(alloc, "invalid argument name `_`")?,
-        note: Some(String::from_str(alloc, "argument name cannot be a single underscore")?),
-        label: String::from_str(alloc, "invalid argument name")?,
-        span,
-        secondary_label: None,
-        suggestion: Suggestion::None,
-    })
-}
-
 /// What a number above 65535 is described by.
 fn out_of_range(alloc: Global, digits: &str) -> Result<String, AllocError>
     ensures { IfOk result (λ s. string_bytes s ≡ out_of_range (chars digits.now)) }
@@ -199,30 +115,87 @@ fn out_of_range(alloc: Global, digits: &str) -> Result<String, AllocError>
     )
 }
 
-#[tactic(auto, unfolding(crate::specs::Faults::message))]
-fn too_large(alloc: Global, digits: &str, span: Range<usize>) -> Result<ParseError, AllocError>
-    ensures { IfOk result (λ e. seen_error e ≡ message (TooLarge (chars digits.now) (pair span))) }
+/// An error with these texts and spans.
+fn error(
+    alloc: Global,
+    description: String,
+    note: Option<&str>,
+    label: &str,
+    span: Range<usize>,
+    second: Option<(&str, Range<usize>)>,
+) -> Result<ParseError, AllocError>
+    ensures { IfOk result (λ e. seen_error e ≡ error (string_bytes description) (option_map (λ s. s.now) note.entry)
+        label.entry.now (pair span) (option_map (λ x. (x.0.now, pair x.1)) second.entry)) }
 {
+    let note = match note {
+        Some(text) => Some(String::from_str(alloc, text)?),
+        None => None,
+    };
+    let secondary_label = match second {
+        Some((text, place)) => Some((String::from_str(alloc, text)?, place)),
+        None => None,
+    };
     Ok(ParseError {
-        description: out_of_range(alloc, digits)?,
-        note: None,
-        label: String::from_str(alloc, "integer out of range for `u16`")?,
+        description,
+        note,
+        label: String::from_str(alloc, label)?,
         span,
-        secondary_label: None,
+        secondary_label,
         suggestion: Suggestion::None,
     })
 }
 
-/// The error that a fault becomes.
+/// The error that a fault becomes: a row for each.
+#[tactic(auto, unfolding(crate::specs::Faults::message))]
 fn error_of(alloc: Global, fault: Fault<'_>) -> Result<ParseError, AllocError>
     ensures { IfOk result (λ e. seen_error e ≡ message (seen_fault fault.entry)) }
 {
     match fault {
-        Fault::UnmatchedBrace(span) => unmatched_brace(alloc, span),
-        Fault::MissingBrace(found, span, opening) => missing_brace(alloc, found, span, opening),
-        Fault::FillBrace(found, span, fill) => fill_brace(alloc, found, span, fill),
-        Fault::Underscore(span) => underscore(alloc, span),
-        Fault::TooLarge(digits, span) => too_large(alloc, digits, span),
+        Fault::UnmatchedBrace(span) => error(
+            alloc,
+            String::from_str(alloc, "unmatched `}` found")?,
+            Some("if you intended to print `}`, you can escape it using `}}`"),
+            "unmatched `}`",
+            span,
+            None,
+        ),
+        Fault::MissingBrace(found, span, opening) => error(
+            alloc,
+            expected_brace(alloc, found)?,
+            Some("if you intended to print `{`, you can escape it using `{{`"),
+            "expected `}`",
+            span,
+            Some(("because of this opening brace", opening)),
+        ),
+        Fault::FillBrace(found, span, fill) => error(
+            alloc,
+            expected_brace(alloc, found)?,
+            Some(
+                "the character `}` is interpreted as a fill character because of the `:` that precedes it",
+            ),
+            "expected `}`",
+            span,
+            Some((
+                "this is not interpreted as a formatting closing brace",
+                fill,
+            )),
+        ),
+        Fault::Underscore(span) => error(
+            alloc,
+            String::from_str(alloc, "invalid argument name `_`")?,
+            Some("argument name cannot be a single underscore"),
+            "invalid argument name",
+            span,
+            None,
+        ),
+        Fault::TooLarge(digits, span) => error(
+            alloc,
+            out_of_range(alloc, digits)?,
+            None,
+            "integer out of range for `u16`",
+            span,
+            None,
+        ),
     }
 }
 
