@@ -6,7 +6,7 @@ use Rattle.std.specs.Str.Parse.{digits_value, digits_value_after}
 use Rattle.std.proofs.lemmas.Option.{none-some}
 use Rattle.std.proofs.Math.Nat.{mod-add-div', add-mul-mod_self_right}
 use Rattle.std.proofs.lemmas.Bool.{ltb-true, ltb-false, lt-ltb}
-use Rattle.rustc_parse_format.specs.Characters.{Text, behind_first, first, front, number, is_over}
+use Rattle.rustc_parse_format.specs.Characters.{Text, behind_first, first, front}
 
 -- The digits read so far write the number whole, and those left follow them.
 pub record Counted (value : ℕ) (over : Bool) (left all : Text) : Type 0 where
@@ -14,9 +14,6 @@ pub record Counted (value : ℕ) (over : Bool) (left all : Text) : Type 0 where
   pub low : value ≡ whole % 65536
   pub high : over ≡ nat_lt 65535 whole
   pub more : digits_value_after 10 whole left ≡ digits_value 10 all
-
-pub counted-none : (all : Text) → Counted 0 false all all
-counted-none all = record { whole = 0; low = refl; high = refl; more = refl }
 
 low_more : (n d : ℕ) → ((n % 65536) * 10 + d) % 65536 ≡ (n * 10 + d) % 65536
 low_more n d =
@@ -50,9 +47,3 @@ counted-first value over (c ∷ t) r all x f d e k =
     let digit : is_ascii_digit c ≡ true = ap is_ascii_digit same ∙ d in
     let here : Counted value over (c ∷ front is_ascii_digit t) all = rw digit at k in
     rw (e, ← same) (counted-digit value c over (front is_ascii_digit t) all here)
-
-pub counted-value : (value : ℕ) (over : Bool) (all : Text) → Counted value over [] all → value ≡ number all
-counted-value value over all k = k.low ∙ ap (λ n. n % 65536) k.more
-
-pub counted-over : (value : ℕ) (over : Bool) (all : Text) → Counted value over [] all → over ≡ is_over all
-counted-over value over all k = k.high ∙ ap (λ n. nat_lt 65535 n) k.more

@@ -43,10 +43,6 @@ pub spells-value : (t r w : Text) (v : Option ℕ) (c : ℕ) → meaning (unit_a
     spells t w ≡ (begins_with c w && spells r (behind_first w))
 spells-value t r w v c e f = spells-character t r w c (e ∙ ap (λ x. Some (at_most_one x, r)) f)
 
-pub spells-no_value : (t r w : Text) (v : Option ℕ) → meaning (unit_at t) ≡ Some (at_most_one v, r) → v ≡ None →
-    spells t w ≡ spells r w
-spells-no_value t r w v e f = spells-nothing t r w (e ∙ ap (λ x. Some (at_most_one x, r)) f)
-
 pub spells-end : (w : Text) (b : Bool) → (IsTrue b ↔ (w ≡ [])) → b ≡ spells [] w
 unfolding spells
 spells-end w b f = by_text w b f ∙ ap (λ o. are_spelling o w) (sym units-nil)

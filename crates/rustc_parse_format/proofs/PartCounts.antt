@@ -116,9 +116,6 @@ count-complete t (NameCount w) r h =
     count-word t i.starts ∙ (ap (λ u. behind_name t u (behind_word t)) i.read ∙ ap (behind_name t w) (i.behind ∙ s.second.whole))
 count-complete t NoCount r h = ap count h.whole ∙ count-none r (no_count-read t r h)
 
-pub count-finds : Finds count_part count
-count-finds = record { sound = count-sound; complete = count-complete }
-
 -- widths
 plain : (t : Text) → begins_with (code "0") t ≡ false → IsPart t (width_part (counted PlainWidth t).0) (counted PlainWidth t).1
 plain t e = row-two t t (absent (begins_with (code "0"))) (count_part (count t).0) (count t).1 (absent-here t (begins_with (code "0")) e) (count-sound t)

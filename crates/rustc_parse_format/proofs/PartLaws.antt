@@ -1,6 +1,6 @@
 -- A row of parts is its first part and the row of the others; a function reads a part where it finds it and nothing else.
 use Rattle.std.proofs.Common.{◌≡◌, ◌++◌, ◌==◌, Bool, true, false, List, [], ◌∷◌, refl, sym, ◌∙◌, ap, append_assoc, ℕ}
-use Rattle.std.proofs.lemmas.Bool.{and_parts, and_from, not-true, not_from_false, eqb-true}
+use Rattle.std.proofs.lemmas.Bool.{and_parts, and_from, not_from_false, eqb-true}
 use Rattle.rustc_parse_format.specs.Characters.{Text}
 use Rattle.rustc_parse_format.specs.Spelling.{Part, IsPart, row, fixed, unless, absent}
 
@@ -28,9 +28,6 @@ fixed-there u r = unless-there (λ s. false) u r refl
 pub letter-there : (c d : ℕ) (r : Text) → (c == d) ≡ true → IsPart (c ∷ r) (fixed (d ∷ [])) r
 letter-there c d r e = IsPart-moved (c ∷ r) (d ∷ r) (fixed (d ∷ [])) r (ap (λ x. x ∷ r) (eqb-true c d e)) (fixed-there (d ∷ []) r)
 
-pub unless-not : (t : Text) (p : Text → Bool) (u r : Text) → IsPart t (unless u p) r → p r ≡ false
-unless-not t p u r h = not-true (p r) h.ends
-
 pub row-nil : (t : Text) → IsPart t (row []) t
 row-nil t = record { whole = refl; formed = refl; ends = refl }
 
@@ -57,9 +54,6 @@ row-split t p ps r h = record {
   first = record { whole = h.whole ∙ append_assoc p.spelling (row ps).spelling r; formed = (and_parts _ _ h.formed).0; ends = (and_parts _ _ h.ends).0 };
   others = record { whole = refl; formed = (and_parts _ _ h.formed).1; ends = (and_parts _ _ h.ends).1 };
 }
-
-pub row-end : (t r : Text) → IsPart t (row []) r → t ≡ r
-row-end t r h = h.whole
 
 pub row-only : (t : Text) (p : Part) (r : Text) → IsPart t (row (p ∷ [])) r → IsPart t p r
 row-only t p r h =

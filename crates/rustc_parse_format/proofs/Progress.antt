@@ -1,5 +1,5 @@
 -- A call before the end leaves less, and takes no more numbers than characters. There is one walk.
-use Rattle.std.proofs.Common.{◌≡◌, ◌≢◌, ℕ, suc, zero, ◌+◌, ◌≤◌, ◌<◌, ◌==◌, false, List, [], ◌∷◌, length, refl, sym, ◌∙◌, ap, arith, Option, Some, None}
+use Rattle.std.proofs.Common.{◌≡◌, ◌≢◌, ℕ, suc, zero, ◌+◌, ◌≤◌, ◌<◌, ◌==◌, false, List, [], ◌∷◌, length, refl, sym, ◌∙◌, arith, Option, Some, None}
 use Rattle.std.proofs.lemmas.Bool.{cond_both}
 use Rattle.rustc_parse_format.specs.Characters.{Text, is_brace, is_no_brace, behind_white, behind_first, begins_with}
 use Rattle.rustc_parse_format.specs.Marks.{Span}
@@ -48,12 +48,6 @@ unfolding call
 call_next-le mode c [] = omega arith
 call_next-le mode c (b ∷ t) = (call_advances mode c b t).1
 
--- A call leaves no more than it was given.
-pub call-le : (mode : Mode) (c : ℕ) (t : Text) → length (call mode c t).rest ≤ length t
-unfolding call
-call-le mode c [] = omega arith
-call-le mode c (b ∷ t) = omega (arith, (call_advances mode c b t).0)
-
 turn : (mode : Mode) (c : ℕ) (t : Text) (n : ℕ) (o : Option (Piece Span)) → (call mode c t).piece ≡ o →
     IsWalk mode (call mode c t).next (call mode c t).rest (walk_for n mode (call mode c t).next (call mode c t).rest) →
     IsWalk mode c t (elim o [ None ↦ call mode c t ∷ [] | Some p ↦ call mode c t ∷ walk_for n mode (call mode c t).next (call mode c t).rest ])
@@ -98,21 +92,3 @@ pub walk-some : (mode : Mode) (c : ℕ) (t : Text) (p : Piece Span) → (call mo
     walk mode c t ≡ call mode c t ∷ walk mode (call mode c t).next (call mode c t).rest
 walk-some mode c t p e =
     IsWalk-unique mode c t _ _ (walk-IsWalk mode c t) (refl, rw e (walk-IsWalk mode (call mode c t).next (call mode c t).rest))
-
-ends_at_once : (mode : Mode) (c : ℕ) (p : Piece Span) → (call mode c []).piece ≡ Some p → ⊥
-unfolding call
-ends_at_once mode c p e = cc e
-
--- There is at most one call more than characters.
-pub IsWalk-length : (mode : Mode) (c : ℕ) (t : Text) (ks : List Call) → IsWalk mode c t ks → length ks ≤ length t + 1
-IsWalk-length mode c t [] w = absurd w
-IsWalk-length mode c t (k ∷ ks) w = at_piece k.piece refl w.1 (λ v. IsWalk-length mode k.next k.rest ks v)
-  where
-    more : (t : Text) (p : Piece Span) → k ≡ call mode c t → k.piece ≡ Some p → length ks ≤ length k.rest + 1 → length (k ∷ ks) ≤ length t + 1
-    more [] p e g h = absurd (ends_at_once mode c p (sym (ap (λ x. x.piece) e) ∙ g))
-    more (b ∷ t) p e g h = omega (arith, h, ap (λ x. length x.rest) e, (call_advances mode c b t).0)
-
-    at_piece : (o : Option (Piece Span)) → k.piece ≡ o → GoesOn o ks (IsWalk mode k.next k.rest ks) →
-        (IsWalk mode k.next k.rest ks → length ks ≤ length k.rest + 1) → length (k ∷ ks) ≤ length t + 1
-    at_piece None e g f = rw g (omega arith)
-    at_piece (Some p) e g f = more t p w.0 e (f g)

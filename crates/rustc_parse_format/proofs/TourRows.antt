@@ -3,14 +3,13 @@ use Prim.Native.Char.{code}
 use Rattle.std.proofs.Common.{◌≡◌, ◌≢◌, ℕ, List, [], ◌∷◌, refl, ap, codes, Some, None, false, arith}
 use Rattle.rustc_parse_format.specs.Characters.{Text}
 use Rattle.rustc_parse_format.specs.Marks.{Span, Start}
-use Rattle.rustc_parse_format.specs.Pieces.{Format, Right, Named, Is, Spec, Piece, Lit, NextArgument, default_spec}
+use Rattle.rustc_parse_format.specs.Pieces.{Format, Right, Named, Is, Piece, Lit, NextArgument, default_spec}
 use Rattle.rustc_parse_format.specs.Spelling.{IsPart}
-use Rattle.rustc_parse_format.specs.Syntax.{Word, NumberCount, NoCount, PlainWidth, NoPrecision, WordType, Parts, FormatParts, PieceText, DoubledText, PlaceholderText, piece_part}
+use Rattle.rustc_parse_format.specs.Syntax.{Word, NumberCount, PlainWidth, NoPrecision, WordType, Parts, FormatParts, PieceText, DoubledText, PlaceholderText, piece_part}
 use Rattle.rustc_parse_format.specs.Grammar.{Begins, Reads, piece_values}
 use Rattle.rustc_parse_format.specs.Step.{walk, pieces_of}
 use Rattle.rustc_parse_format.specs.World.{Place}
-use Rattle.rustc_parse_format.specs.State.{State}
-use Rattle.rustc_parse_format.proofs.Rows.{computing, quoted, pieces, start, ended}
+use Rattle.rustc_parse_format.proofs.Rows.{computing, pieces, start, ended}
 
 abbrev input : Text
 input = codes "{{{x:>5}"
