@@ -4,10 +4,10 @@ use Rattle.std.specs.Prelude.{Result, Ok, Err, IfOk, OnOk, option_map}
 use Rattle.rustc_parse_format.specs.Characters.{Text, begins_with}
 use Rattle.rustc_parse_format.specs.Grammar.{Begins}
 use Rattle.rustc_parse_format.specs.Pieces.{Mode, Piece, NextArgument, bare}
-use Rattle.rustc_parse_format.specs.Faults.{Message}
+use Rattle.rustc_parse_format.specs.Faults.{Message, Keeps}
 use Rattle.rustc_parse_format.specs.Step.{call}
 use Rattle.rustc_parse_format.specs.State.{State, GivesPiece, after, next_call}
-use Rattle.rustc_parse_format.specs.World.{World, Place, piece_in}
+use Rattle.rustc_parse_format.specs.World.{World, Place, faults_in, piece_in}
 use Rattle.std.proofs.lemmas.Bool.{not-true}
 use Rattle.rustc_parse_format.specs.Spelling.{IsPart, unless}
 use Rattle.rustc_parse_format.specs.Syntax.{FieldText, field_part, opened_part}
@@ -17,6 +17,7 @@ use Rattle.rustc_parse_format.proofs.PartLaws.{two-split}
 use Rattle.rustc_parse_format.proofs.PartCuts.{cut-placed}
 use Rattle.rustc_parse_format.proofs.Placeholders.{placeholder-piece}
 use Rattle.rustc_parse_format.proofs.BarePieces.{bare-piece_in}
+use Rattle.rustc_parse_format.proofs.Errors.{add_errors-keeps}
 use Rattle.rustc_parse_format.proofs.Calls.{begins_call, call_faults}
 use Rattle.rustc_parse_format.proofs.Progress.{call-lt, call_next-le}
 use Rattle.rustc_parse_format.proofs.StateWalks.{after-same, after-more}
@@ -84,3 +85,6 @@ next_ends f s new o e h end =
 pub piece_moves : {A : Type 0} (f : A → Piece Place) (s new : State) (a : A) → Some (f a) ≡ option_map (piece_in s.world) (next_call s).piece →
     new ≡ after s (next_call s) → length new.rest < length s.rest
 piece_moves f s new a e h = next_moves s new h (λ end. let no : IsNone (Some a) = (next_ends f s new (Some a) e h end).0 in cc no)
+
+pub next_keeps : (s new : State) → new ≡ after s (next_call s) → Keeps s.errors new.errors
+next_keeps s new e = rw e (add_errors-keeps s.errors (faults_in s.world (next_call s).faults))

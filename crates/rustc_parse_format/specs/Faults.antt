@@ -1,6 +1,6 @@
 -- The faults, over any kind of span, and what each says, as the bytes of its texts.
 use Prim.Native.Char.{code}
-use Rattle.std.specs.Prelude.{ℕ, Bool, false, ◌++◌, ◌==◌, if◌then◌else◌, List, [], ◌∷◌, Option, Some, None, codes, encode_utf8_all}
+use Rattle.std.specs.Prelude.{◌≡◌, ℕ, Bool, false, ◌++◌, ◌==◌, if◌then◌else◌, List, [], ◌∷◌, Option, Some, None, codes, encode_utf8_all}
 use Rattle.rustc_parse_format.specs.Characters.{Text}
 use Rattle.rustc_parse_format.specs.Written.{written}
 
@@ -98,3 +98,7 @@ message (TooLarge ds s) = error
 abbrev pub add_errors : {A : Type 0} → List (Message A) → List (Fault A) → List (Message A)
 add_errors old [] = old
 add_errors old (f ∷ fs) = add_errors (if is_front f then message f ∷ old else old ++ message f ∷ []) fs
+
+-- the errors of before are still there, in order, with new ones in front of them and behind them
+abbrev pub Keeps : {A : Type 0} → List (Message A) → List (Message A) → Type 0
+Keeps {A = A} old new = (front : List (Message A)) × (back : List (Message A)) × (new ≡ front ++ (old ++ back))

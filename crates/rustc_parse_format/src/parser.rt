@@ -43,6 +43,7 @@ impl<'input> Model for Parser<'input> {
 impl<'input> Parser<'input> {
     ghost use Rattle.std.specs.Prelude.{◌≡◌, ◌≢◌, ◌+◌, ◌<◌, ◌≤◌, ◌^◌, ◌↔◌, [], ℕ, IfOk, IsNone, IsOk, IsTrue, OnErr, OnOk, chars, length, map, option_map, string_bytes};
     ghost use Rattle.rustc_parse_format.specs.Characters.{Text, behind_first};
+    ghost use Rattle.rustc_parse_format.specs.Faults.{Keeps};
     ghost use Rattle.rustc_parse_format.specs.Grammar.{Begins};
     ghost use Rattle.rustc_parse_format.specs.Meaning.{argument};
     ghost use Rattle.rustc_parse_format.specs.Pieces.{NextArgument, Piece as BarePiece, bare};
@@ -185,6 +186,7 @@ impl<'input> Parser<'input> {
             → ((q : BarePiece (Unit {0})) (r : Text) (n : ℕ) → ¬ (Begins self.old.mode self.old.next self.old.rest q r n))
             → length self.old.errors < length self.new.errors) }
         ensures end { IfOk result (λ p. self.old.rest ≡ [] → IsNone p × (self.new ≡ self.old)) }
+        ensures keeps { OnOk result (Keeps self.old.errors self.new.errors) }
 
         // Behind a single brace it is the argument of the one cut, whether a brace closes it or not.
         ensures cut { IfOk result (λ p. (a : FieldText) (r : Text) → IsPart self.old.rest (opened_part self.old.mode a) r

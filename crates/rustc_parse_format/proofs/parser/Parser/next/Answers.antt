@@ -1,6 +1,6 @@
 use Rattle.std.proofs.Common.{◌∙◌}
 use Rattle.rustc_parse_format.specs.Seen.{seen}
-use Rattle.rustc_parse_format.proofs.Nexts.{if_ok, on_ok, cut_given, next_reads, next_faulty, next_ends, next_moves, next_numbers}
+use Rattle.rustc_parse_format.proofs.Nexts.{if_ok, on_ok, cut_given, next_reads, next_faulty, next_ends, next_moves, next_numbers, next_keeps}
 use Rattle.rustc_parse_format.proofs.parser.Parser.next.Goals as goal
 
 pub returns-clause-reads : goal.returns-clause-reads
@@ -20,3 +20,6 @@ returns-clause-progress c = on_ok c.next_uncounted.result c.next_uncounted.ensur
 
 pub returns-clause-numbers : goal.returns-clause-numbers
 returns-clause-numbers c = on_ok c.next_uncounted.result c.next_uncounted.ensures.state (λ f. next_numbers c.args.self.now c.next_uncounted.new.self f)
+
+pub returns-clause-keeps : goal.returns-clause-keeps
+returns-clause-keeps c = on_ok c.next_uncounted.result c.next_uncounted.ensures.state (λ f. next_keeps c.args.self.now c.next_uncounted.new.self f)
