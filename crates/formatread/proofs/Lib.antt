@@ -1,3 +1,5 @@
 mod Texts
 mod Literals
 mod Contents
+mod OneLiteral
+mod OneAnswer

@@ -2,7 +2,7 @@ ghost use Rattle.std.specs.Prelude.{◌≡◌, ◌≢◌, ◌<◌, ◌≤◌, �
 ghost use Rattle.std.specs.Io.KnownBytes.{Appends};
 ghost use Rattle.rustc_parse_format.specs.Seen.{seen_mode};
 ghost use Rattle.formatread.specs.declared.verdict.RunFault.TheVariants.{Words, TooLong, NotText, NotLiteral, Write as WriteFault};
-ghost use Rattle.formatread.specs.Program.{IsOwed, asked, limit, mode_named};
+ghost use Rattle.formatread.specs.Program.{Answer, IsOwed, asked, limit, mode_named};
 ghost use Rattle.formatread.specs.SeenTask.{seen_task};
 
 use super::input::list_input;
@@ -31,6 +31,8 @@ pub fn run<R: Read, W: Write>(
     ensures listing { IfOk result (λ faulty. IfSome (R.remaining reader.old) (λ input. (text : List ℕ)
         × IsOwed (map string_bytes words.now) input (Ok (text, faulty))
         × Appends (W.contents writer.old) (W.contents writer.new) text)) }
+    // A call owes one answer.
+    ensures one_answer { (ws : List (List ℕ)) (input : List ℕ) (x y : Answer) → IsOwed ws input x → IsOwed ws input y → x ≡ y }
     ensures words { IsErrOf result Words ↔ (asked (map string_bytes words.now) ≡ None) }
     // Bad words are told before anything is read.
     ensures unread { IsErrOf result Words → reader.new ≡ reader.old }
