@@ -3,7 +3,8 @@
 
 ghost use Rattle.std.specs.Prelude.{◌≡◌, ◌↔◌, ◌++◌, ℕ, List, IsTrue, IfOk, IfSome, IfNone, MatchOption, chars, option_map, true, replicate};
 ghost use Rattle.rustc_parse_format.specs.Literal.{IsNoContent, IsOrdinaryLiteral, IsReadAs, IsSource, newline, quoted, raw_closing, raw_frame, raw_opening};
-ghost use Rattle.rustc_parse_format.specs.LiteralReading.{IsTaken, placed, seen_characters, spells};
+ghost use Rattle.rustc_parse_format.specs.LiteralReading.{IsTaken, placed, seen_characters};
+ghost use Rattle.rustc_parse_format.specs.Source.{spells};
 
 mod rest;
 mod unit;
