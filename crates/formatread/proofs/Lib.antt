@@ -3,3 +3,4 @@ mod Literals
 mod Contents
 mod OneLiteral
 mod OneAnswer
+mod Empty
