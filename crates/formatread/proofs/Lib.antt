@@ -1,3 +1,6 @@
 mod Texts
 mod Literals
 mod Contents
+mod OneLiteral
+mod OneAnswer
+mod Empty

@@ -23,7 +23,7 @@ raw_frame-parts n t =
     ∙ ap (λ x. replicate n 35 ++ 34 ∷ x) (sym (append_assoc t (34 ∷ []) (replicate n 35))))
 
 -- the hashes up to a quote are as many as there are up to anything that is no hash
-same_hashes : (n m : ℕ) (s t : Text) → replicate n 35 ++ 34 ∷ t ≡ replicate m 35 ++ s → ((u : Text) → s ≡ 35 ∷ u → ⊥) → (n ≡ m) × (34 ∷ t ≡ s)
+pub same_hashes : (n m : ℕ) (s t : Text) → replicate n 35 ++ 34 ∷ t ≡ replicate m 35 ++ s → ((u : Text) → s ≡ 35 ∷ u → ⊥) → (n ≡ m) × (34 ∷ t ≡ s)
 same_hashes zero zero s t e h = (refl, e)
 same_hashes zero (suc m) s t e h = absurd (let no : ◌≡◌ {A = ℕ} 34 35 = ap (λ x. get_or x 0 0) e in omega (arith, no))
 same_hashes (suc n) zero s t e h = absurd (h (replicate n 35 ++ 34 ∷ t) (sym e))

@@ -58,8 +58,12 @@ listed mode s = (listing (pieces mode s), is_faulty mode s)
 abbrev pub IsShort : List ℕ → Type 0
 IsShort input = length input ≤ limit
 
--- What is owed for an input: what is written, and whether it tells of a fault; or a refusal.
-abbrev pub IsOwedFor : Task → List ℕ → Result (List ℕ × Bool) RunFault → Type 0
+-- What is written, and whether it tells of a fault; or a refusal.
+abbrev pub Answer : Type 0
+Answer = Result (List ℕ × Bool) RunFault
+
+-- what is owed for an input
+abbrev pub IsOwedFor : Task → List ℕ → Answer → Type 0
 IsOwedFor a input (Ok x) = IsShort input × IsUtf8 input × ((s : Source) × IsSourceOf a.is_literal (chars input) s × (x ≡ listed a.mode s))
 IsOwedFor a input (Err TooLong) = limit < length input
 IsOwedFor a input (Err NotText) = IsShort input × (IsUtf8 input → ⊥)
@@ -70,7 +74,7 @@ IsOwedFor a input (Err Memory) = ⊥
 IsOwedFor a input (Err Write) = ⊥
 
 -- the same for words that ask for something
-abbrev pub IsOwed : List (List ℕ) → List ℕ → Result (List ℕ × Bool) RunFault → Type 0
+abbrev pub IsOwed : List (List ℕ) → List ℕ → Answer → Type 0
 IsOwed words input answer = (a : Task) × (asked words ≡ Some a) × IsOwedFor a input answer
 
 -- the text that is told, and the status

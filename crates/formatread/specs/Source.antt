@@ -13,10 +13,6 @@ pub record Source : Type 0 where
 abbrev pub bare_source : Text → Source
 bare_source t = record { text = t; style = None; snippet = None }
 
--- what a literal of that style stands for, with the literal as its snippet
-abbrev pub literal_source : Option ℕ → Text → Text → Source
-literal_source style literal t = record { text = t; style = style; snippet = Some literal }
-
 -- the input is a literal, with at most one newline behind it
 pub record IsInLiteral (input : Text) (s : Source) : Type 0 where
   pub literal : Text

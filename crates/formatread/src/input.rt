@@ -1,6 +1,6 @@
 //! The listing of an input that is a text.
 
-ghost use Rattle.std.specs.Prelude.{◌≡◌, ◌≢◌, ◌≤◌, IfOk, IfErr, IsErrOf, length, nat_lt, chars, option_map, string_bytes};
+ghost use Rattle.std.specs.Prelude.{◌≡◌, ◌≢◌, ◌≤◌, [], IfOk, IfErr, IsErrOf, IsOk, false, length, nat_lt, chars, option_map, string_bytes};
 ghost use Rattle.rustc_parse_format.specs.Seen.{seen_mode};
 ghost use Rattle.rustc_parse_format.specs.World.{hashes};
 ghost use Rattle.formatread.specs.declared.verdict.RunFault.TheVariants.{Words, TooLong, NotText, NotLiteral};
@@ -28,6 +28,7 @@ pub fn list_input(
     ensures not_words { IfErr result (λ fault. fault ≢ Words) }
     ensures not_long { IfErr result (λ fault. fault ≢ TooLong) }
     ensures is_text { IfErr result (λ fault. fault ≢ NotText) }
+    ensures empty { input.now ≡ [] → is_literal ≡ false → IsOk result }
 {
     if is_literal {
         list_literal(alloc, input, mode)
@@ -64,8 +65,9 @@ fn list_source(
     mode: ParseMode,
 ) -> Result<(String, bool), AllocError>
     requires { hashes style ≤ limit }
-    ensures { IfOk result (λ x. (string_bytes x.0, x.1) ≡ listed (seen_mode mode)
+    ensures lines { IfOk result (λ x. (string_bytes x.0, x.1) ≡ listed (seen_mode mode)
         (record { text = chars text.now; style = style; snippet = option_map (λ s. chars (string_bytes s)) snippet })) }
+    ensures empty { text.now ≡ [] → IsOk result }
 {
     let (pieces, parser) = read_all(alloc, text, style, snippet, false, mode)?;
     let lines = listing(alloc, pieces.as_slice())?;

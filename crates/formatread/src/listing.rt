@@ -1,15 +1,18 @@
-ghost use Rattle.std.specs.Prelude.{◌≡◌, ◌++◌, IfOk, OnOk, map, chars, codes, encode_utf8_all, flat_map, option_map, string_bytes};
-ghost use Rattle.rustc_parse_format.specs.Written.{plainly_written, short_escape, written};
+ghost use Rattle.std.specs.Prelude.{◌≡◌, ◌++◌, [], IfOk, IsOk, OnOk, map, chars, codes, encode_utf8_all, flat_map, option_map, string_bytes};
+ghost use Rattle.rustc_parse_format.specs.Written.{written};
 ghost use Rattle.rustc_parse_format.specs.Seen.{pair, seen, seen_alignment, seen_count, seen_debug_hex, seen_position, seen_sign, seen_spec};
 ghost use Rattle.formatread.specs.Listing.{align_part, count_text, fill_part, flag_part, flag_parts, hex_part, line, listing, position_text, precision_part, quoted, sign_part, type_part, value_parts, width_part};
 
-use rustc_parse_format::{Alignment, Argument, Count, DebugHex, FormatSpec, Piece, Position, Sign};
+use rustc_parse_format::{
+    Alignment, Argument, Count, DebugHex, FormatSpec, Piece, Position, Sign, put_written,
+};
 use std::alloc::{AllocError, Global};
 use std::ops::Range;
 
 /// The listing of pieces: a line for each.
 pub fn listing(alloc: Global, pieces: &[Piece<'_>]) -> Result<String, AllocError>
-    ensures { IfOk result (λ text. string_bytes text ≡ listing (map seen pieces.now)) }
+    ensures lines { IfOk result (λ text. string_bytes text ≡ listing (map seen pieces.now)) }
+    ensures empty { pieces.now ≡ [] → IsOk result }
 {
     let mut out = String::new(alloc);
     for piece in pieces {
@@ -168,7 +171,7 @@ fn put_fill(out: &mut String, fill: Option<char>) -> Result<(), AllocError>
 {
     if let Some(c) = fill {
         out.push_str(" fill=\"")?;
-        put_character(out, c)?;
+        put_written(out, c)?;
         out.push_str("\"")?;
     }
     Ok(())
@@ -243,48 +246,7 @@ fn put_characters(out: &mut String, text: &str) -> Result<(), AllocError>
         flat_map written (chars text.now)) }
 {
     for c in text.chars() {
-        put_character(out, c)?;
-    }
-    Ok(())
-}
-
-/// Adds a character as it is written.
-#[tactic(auto, unfolding(rustc_parse_format::specs::Written::written))]
-fn put_character(out: &mut String, c: char) -> Result<(), AllocError>
-    ensures { OnOk result (string_bytes out.new ≡ string_bytes out.old ++ written c) }
-{
-    match short_escape(c) {
-        Some(escape) => out.push_str(escape)?,
-        None => put_plain(out, c)?,
-    }
-    Ok(())
-}
-
-/// The escape of a character that has one of its own.
-fn short_escape(c: char) -> Option<&'static str>
-    ensures { option_map (λ s. s.now) result ≡ short_escape c }
-{
-    match c {
-        '\0' => Some("\\0"),
-        '\t' => Some("\\t"),
-        '\r' => Some("\\r"),
-        '\n' => Some("\\n"),
-        '\'' => Some("\\'"),
-        '"' => Some("\\\""),
-        '\\' => Some("\\\\"),
-        _ => None,
-    }
-}
-
-/// Adds a character without an escape of its own.
-fn put_plain(out: &mut String, c: char) -> Result<(), AllocError>
-    ensures { OnOk result (string_bytes out.new ≡ string_bytes out.old ++ plainly_written c) }
-{
-    let code = u32::from(c);
-    if code < 32 || code == 127 {
-        write!(out, "\\u{{{code:x}}}")?;
-    } else {
-        out.push(c)?;
+        put_written(out, c)?;
     }
     Ok(())
 }

@@ -2,10 +2,10 @@
 
 ghost use Rattle.std.specs.Prelude.{◌≡◌, ◌++◌, ◌+◌, ◌<◌, ◌≤◌, ℕ, [], ◌∷◌, Option, IfOk, IfSome, MatchOption, OnOk, chars, length, map, replicate, string_bytes, true, Bool};
 ghost use Rattle.rustc_parse_format.specs.Characters.{Text};
-ghost use Rattle.rustc_parse_format.specs.Literal.{IsLiteral, IsOrdinaryLiteral, newline, quoted, raw_closing, raw_frame, raw_opening};
+ghost use Rattle.rustc_parse_format.specs.Literal.{IsLiteral, IsOrdinaryLiteral, newline, raw_closing, raw_frame, raw_opening};
 ghost use Rattle.rustc_parse_format.specs.World.{hashes};
 
-use rustc_parse_format::literal::read_content;
+use rustc_parse_format::literal::{between_quotes, read_content};
 use std::alloc::{AllocError, Global};
 use std::ops::Range;
 
@@ -74,15 +74,6 @@ fn put(text: &mut String, c: char) -> Result<(), AllocError>
 {
     text.push(c)?;
     Ok(())
-}
-
-/// What stands between quotes, or `None` where they are not there.
-fn between_quotes(literal: &str) -> Option<&str>
-    ensures { MatchOption result
-        ((t : Text) → chars literal.now ≡ quoted t → ⊥)
-        (λ t. chars literal.now ≡ quoted (chars t.now)) }
-{
-    in_front_of(behind(literal, '"')?, '"')
 }
 
 /// The hashes of a raw literal and its text, or `None` if it is none.

@@ -1,8 +1,9 @@
-ghost use Rattle.std.specs.Prelude.{◌≡◌, ◌≢◌, ◌<◌, ◌≤◌, ◌↔◌, ℕ, List, None, Ok, Err, IfOk, IfErr, IfSome, IsErrOf, OnOk, length, map, nat_lt, chars, option_map, string_bytes};
+ghost use Rattle.std.specs.Prelude.{◌≡◌, ◌≢◌, ◌<◌, ◌≤◌, ◌↔◌, ◌⊎◌, ℕ, List, [], None, Some, Ok, Err, IfOk, IfErr, IfSome, IsErrOf, IsOk, IsOkUnless, OnOk, false, length, map, nat_lt, chars, option_map, string_bytes};
 ghost use Rattle.std.specs.Io.KnownBytes.{Appends};
+ghost use Rattle.rustc_parse_format.specs.Pieces.{Mode};
 ghost use Rattle.rustc_parse_format.specs.Seen.{seen_mode};
-ghost use Rattle.formatread.specs.declared.verdict.RunFault.TheVariants.{Words, TooLong, NotText, NotLiteral, Write as WriteFault};
-ghost use Rattle.formatread.specs.Program.{IsOwed, asked, limit, mode_named};
+ghost use Rattle.formatread.specs.declared.verdict.RunFault.TheVariants.{Words, TooLong, NotText, NotLiteral, Read as ReadFault, Write as WriteFault};
+ghost use Rattle.formatread.specs.Program.{Answer, IsOwed, asked, limit, mode_named};
 ghost use Rattle.formatread.specs.SeenTask.{seen_task};
 
 use super::input::list_input;
@@ -31,6 +32,8 @@ pub fn run<R: Read, W: Write>(
     ensures listing { IfOk result (λ faulty. IfSome (R.remaining reader.old) (λ input. (text : List ℕ)
         × IsOwed (map string_bytes words.now) input (Ok (text, faulty))
         × Appends (W.contents writer.old) (W.contents writer.new) text)) }
+    // A call owes one answer.
+    ensures one_answer { (ws : List (List ℕ)) (input : List ℕ) (x y : Answer) → IsOwed ws input x → IsOwed ws input y → x ≡ y }
     ensures words { IsErrOf result Words ↔ (asked (map string_bytes words.now) ≡ None) }
     // Bad words are told before anything is read.
     ensures unread { IsErrOf result Words → reader.new ≡ reader.old }
@@ -40,6 +43,9 @@ pub fn run<R: Read, W: Write>(
         (λ input. IsOwed (map string_bytes words.now) input (Err NotText)) }
     ensures not_literal { IsErrOf result NotLiteral → IfSome (R.remaining reader.old)
         (λ input. IsOwed (map string_bytes words.now) input (Err NotLiteral)) }
+    // With nothing to read, and no literal asked for, nothing is written, and only the read can fail.
+    ensures empty { (mode : Mode) → asked (map string_bytes words.now) ≡ Some (record { mode = mode; is_literal = false })
+        → R.remaining reader.old ≡ Some [] → (writer.new ≡ writer.old) × ((result ≡ Ok false) ⊎ (result ≡ Err ReadFault)) }
     // Nothing is written before all is ready.
     ensures unwritten { IfErr result (λ fault. fault ≢ WriteFault → writer.new ≡ writer.old) }
 {
@@ -101,6 +107,7 @@ fn read_input<R: Read>(alloc: Global, reader: &mut R) -> Result<Vec<u8>, RunFaul
     ensures not_words { IfErr result (λ fault. fault ≢ Words) }
     ensures is_text { IfErr result (λ fault. fault ≢ NotText) }
     ensures is_literal { IfErr result (λ fault. fault ≢ NotLiteral) }
+    ensures empty { R.remaining reader.old ≡ Some [] → IsOkUnless result ReadFault }
 {
     let mut bytes = Vec::new(alloc);
     let mut chunk = [0u8; CHUNK];
@@ -124,6 +131,7 @@ fn read_input<R: Read>(alloc: Global, reader: &mut R) -> Result<Vec<u8>, RunFaul
 fn write_whole<W: Write>(writer: &mut W, bytes: &[u8]) -> Result<(), RunFault>
     ensures ok { OnOk result (Appends (W.contents writer.old) (W.contents writer.new) bytes.now) }
     ensures err { IfErr result (λ fault. fault ≡ WriteFault) }
+    ensures empty { bytes.now ≡ [] → IsOk result × (writer.new ≡ writer.old) }
 {
     let mut rest = bytes;
     while !rest.is_empty() {

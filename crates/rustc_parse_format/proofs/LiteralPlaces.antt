@@ -1,11 +1,11 @@
 -- The characters of a content with their places, by the unit at its front.
-use Rattle.std.proofs.Common.{◌≡◌, ◌≢◌, ℕ, ◌+◌, ◌++◌, List, [], ◌∷◌, refl, sym, ap, ◌∙◌, arith, Option, Some, None, option_map, append-nil}
+use Rattle.std.proofs.Common.{◌≡◌, ◌≢◌, ℕ, ◌+◌, ◌++◌, List, [], ◌∷◌, refl, sym, ap, ◌∙◌, arith, Option, Some, None, option_map, append-nil, Result, Ok, Err, IfOk, IfSome, IfNone}
 use Rattle.std.specs.declared.ops.Range.{Range}
 use Rattle.std.proofs.lemmas.Option.{same_Some, none-some}
 use Rattle.rustc_parse_format.specs.Characters.{Text, width}
 use Rattle.rustc_parse_format.specs.World.{Place}
 use Rattle.rustc_parse_format.specs.LiteralUnits.{LiteralUnit, spelling, value, meaning, unit_at, at_most_one}
-use Rattle.rustc_parse_format.specs.Literal.{IsContent, IsOnlyContent, more, units, placed_characters}
+use Rattle.rustc_parse_format.specs.Literal.{IsContent, IsNoContent, IsOnlyContent, IsReadAs, more, units, placed_characters}
 use Rattle.rustc_parse_format.specs.LiteralReading.{seen_characters, placed}
 use Rattle.rustc_parse_format.specs.Seen.{pair}
 use Rattle.rustc_parse_format.proofs.LiteralWidths.{width-append}
@@ -111,3 +111,16 @@ placed-no_content t e us h = by_units (units t) refl e
     by_units : (o : Option (List LiteralUnit)) → units t ≡ o → None ≡ option_map (placed_characters 0) o → ⊥
     by_units None f e = units-no_content t us f h
     by_units (Some vs) f e = none-some (placed_characters 0 vs) e
+
+-- the same of what a reader answers
+pub read-found : {X E : Type 0} (r : Result (Option X) E) (f : X → List (Place × ℕ)) (t : Text) →
+    IfOk r (λ o. option_map f o ≡ placed 0 t) → IfOk r (λ o. IfSome o (λ x. IsReadAs t (f x)))
+read-found (Ok None) f t e = tt
+read-found (Ok (Some x)) f t e = placed-content t (f x) e
+read-found (Err x) f t e = tt
+
+pub read-none : {X E : Type 0} (r : Result (Option X) E) (f : X → List (Place × ℕ)) (t : Text) →
+    IfOk r (λ o. option_map f o ≡ placed 0 t) → IfOk r (λ o. IfNone o (IsNoContent t))
+read-none (Ok None) f t e = placed-no_content t e
+read-none (Ok (Some x)) f t e = tt
+read-none (Err x) f t e = tt

@@ -8,11 +8,12 @@ use Rattle.rustc_parse_format.specs.Characters.{Text}
 use Rattle.rustc_parse_format.specs.LiteralUnits.{LiteralUnit, Plain, SimpleEscape, ByteEscape, UnicodeEscape, Continuation, value, may_precede}
 use Rattle.rustc_parse_format.specs.LiteralUnits.{unit_at, escape_at, byte_at, unicode_at}
 use Rattle.rustc_parse_format.specs.Literal.{IsContent, IsOnlyContent, IsReadAs, IsNoContent, units, content_value, placed_characters}
+use Rattle.rustc_parse_format.specs.Source.{spells}
 use Rattle.rustc_parse_format.proofs.LiteralContents.{units-only, units-no_content}
 
--- each definition that finds the units of a text
+-- each definition that finds the units of a text, or says what they stand for
 unfoldable pub finding_units : Unit {0}
-unfolding units unit_at escape_at byte_at unicode_at
+unfolding spells units unit_at escape_at byte_at unicode_at
 finding_units = tt
 
 -- the text is a content of one unit, which stands for those characters

@@ -1,27 +1,28 @@
 -- Whether a content spells a text, by the unit at its front; quotes round one that does are an ordinary literal.
 use Rattle.std.proofs.Common.{◌≡◌, ℕ, ◌++◌, Bool, true, false, ◌&&◌, ◌↔◌, List, [], ◌∷◌, refl, sym, ap, ◌∙◌, subst, Option, Some, None, ◌≢◌}
-use Rattle.std.specs.Prelude.{◌==◌, IsTrue}
-use Rattle.std.proofs.lemmas.Bool.{and_parts, and_from, eqb-true, eq-eqb, false≢true, and_right}
+use Rattle.std.specs.Prelude.{IsTrue, bytes_eq}
+use Rattle.std.proofs.lemmas.Bool.{false≢true, and_right}
+use Rattle.std.proofs.lemmas.Slice.Eq.{bytes_eq-Decides}
 use Rattle.std.proofs.lemmas.List.{append_cancel_right}
 use Rattle.rustc_parse_format.specs.Characters.{Text, behind_first, begins_with}
 use Rattle.rustc_parse_format.specs.LiteralUnits.{LiteralUnit, value, meaning, unit_at, at_most_one}
 use Rattle.rustc_parse_format.specs.Literal.{IsContent, IsOrdinaryLiteral, content_value, units, quoted, more}
-use Rattle.rustc_parse_format.specs.LiteralReading.{is_same, are_spelling, spells}
+use Rattle.rustc_parse_format.specs.Source.{spells, stand_for}
 use Rattle.rustc_parse_format.proofs.LiteralContents.{units-content, units-complete, units-nil, units-some, units-none}
 use Rattle.rustc_parse_format.proofs.LiteralMeanings.{meaning-none, meaning-some, meaning-shorter}
 
 pub spells-none : (t w : Text) → t ≢ [] → meaning (unit_at t) ≡ None → spells t w ≡ false
 unfolding spells
 spells-none [] w n e = absurd (n refl)
-spells-none (c ∷ t) w n e = ap (λ o. are_spelling o w) (units-none c t (meaning-none _ e))
+spells-none (c ∷ t) w n e = ap (λ o. stand_for o w) (units-none c t (meaning-none _ e))
 
 pub spells-nothing : (t r w : Text) → meaning (unit_at t) ≡ Some ([], r) → spells t w ≡ spells r w
 unfolding spells
 spells-nothing t r w e =
     let m = meaning-some (unit_at t) [] r e in
-    ap (λ o. are_spelling o w) (units-some t m.unit r m.is_it) ∙ by_rest m.unit m.has_value (units r)
+    ap (λ o. stand_for o w) (units-some t m.unit r m.is_it) ∙ by_rest m.unit m.has_value (units r)
   where
-    by_rest : (u : LiteralUnit) → value u ≡ [] → (o : Option (List LiteralUnit)) → are_spelling (more u o) w ≡ are_spelling o w
+    by_rest : (u : LiteralUnit) → value u ≡ [] → (o : Option (List LiteralUnit)) → stand_for (more u o) w ≡ stand_for o w
     by_rest u v None = refl
     by_rest u v (Some us) = rw v refl
 
@@ -30,10 +31,10 @@ pub spells-character : (t r w : Text) (c : ℕ) → meaning (unit_at t) ≡ Some
 unfolding spells
 spells-character t r w c e =
     let m = meaning-some (unit_at t) (c ∷ []) r e in
-    ap (λ o. are_spelling o w) (units-some t m.unit r m.is_it) ∙ by_rest m.unit m.has_value (units r) w
+    ap (λ o. stand_for o w) (units-some t m.unit r m.is_it) ∙ by_rest m.unit m.has_value (units r) w
   where
     by_rest : (u : LiteralUnit) → value u ≡ c ∷ [] → (o : Option (List LiteralUnit)) (w : Text) →
-        are_spelling (more u o) w ≡ (begins_with c w && are_spelling o (behind_first w))
+        stand_for (more u o) w ≡ (begins_with c w && stand_for o (behind_first w))
     by_rest u v None w = sym (and_right (begins_with c w) false refl)
     by_rest u v (Some us) [] = rw v refl
     by_rest u v (Some us) (d ∷ w) = rw v refl
@@ -45,41 +46,27 @@ spells-value t r w v c e f = spells-character t r w c (e ∙ ap (λ x. Some (at_
 
 pub spells-end : (w : Text) (b : Bool) → (IsTrue b ↔ (w ≡ [])) → b ≡ spells [] w
 unfolding spells
-spells-end w b f = by_text w b f ∙ ap (λ o. are_spelling o w) (sym units-nil)
+spells-end w b f = by_text w b f ∙ ap (λ o. stand_for o w) (sym units-nil)
   where
-    by_text : (w : Text) (b : Bool) → (IsTrue b ↔ (w ≡ [])) → b ≡ is_same [] w
+    by_text : (w : Text) (b : Bool) → (IsTrue b ↔ (w ≡ [])) → b ≡ bytes_eq w []
     by_text [] b f = f.1 refl
     by_text (d ∷ w) false f = refl
     by_text (d ∷ w) true f = let e : d ∷ w ≡ [] = f.0 refl in absurd cc
 
 pub ruleset spelling_steps = (meaning-shorter, spells-none, spells-nothing, spells-end)
 
-is_same-true : (s t : Text) → is_same s t ≡ true → s ≡ t
-is_same-true [] [] e = refl
-is_same-true [] (d ∷ t) e = absurd (false≢true e)
-is_same-true (c ∷ s) [] e = absurd (false≢true e)
-is_same-true (c ∷ s) (d ∷ t) e =
-    let h : ((d == c) ≡ true) × (is_same s t ≡ true) = and_parts (d == c) (is_same s t) e in
-    let first : d ≡ c = eqb-true d c h.0 in
-    let rest : s ≡ t = is_same-true s t h.1 in
-    cc
-
-is_same-same : (t : Text) → is_same t t ≡ true
-is_same-same [] = refl
-is_same-same (c ∷ t) = and_from (c == c) (is_same t t) (eq-eqb c c refl) (is_same-same t)
-
-spells-parts : (q t : Text) → spells q t ≡ true → (us : List LiteralUnit) × IsContent q us × (content_value us ≡ t)
+pub spells-parts : (q t : Text) → spells q t ≡ true → (us : List LiteralUnit) × IsContent q us × (content_value us ≡ t)
 unfolding spells
 spells-parts q t e = by_units (units q) refl e
   where
-    by_units : (o : Option (List LiteralUnit)) → units q ≡ o → are_spelling o t ≡ true →
+    by_units : (o : Option (List LiteralUnit)) → units q ≡ o → stand_for o t ≡ true →
         (us : List LiteralUnit) × IsContent q us × (content_value us ≡ t)
     by_units None f e = absurd (false≢true e)
-    by_units (Some us) f e = (us, units-content q us f, is_same-true (content_value us) t e)
+    by_units (Some us) f e = (us, units-content q us f, sym ((bytes_eq-Decides t (content_value us)).0 e))
 
-spells-from : (q t : Text) (us : List LiteralUnit) → IsContent q us → content_value us ≡ t → spells q t ≡ true
+pub spells-from : (q t : Text) (us : List LiteralUnit) → IsContent q us → content_value us ≡ t → spells q t ≡ true
 unfolding spells
-spells-from q t us h v = ap (λ o. are_spelling o t) (units-complete q us h) ∙ (ap (λ s. is_same s t) v ∙ is_same-same t)
+spells-from q t us h v = ap (λ o. stand_for o t) (units-complete q us h) ∙ (bytes_eq-Decides t (content_value us)).1 (sym v)
 
 pub is_literal : (s q t : Text) → s ≡ quoted q → (b : Bool) → b ≡ spells q t → IsTrue b ↔ IsOrdinaryLiteral s t
 is_literal s q t e b f = (to, from)

@@ -1,12 +1,12 @@
 -- The loop over the calls, and what its pieces and errors say of the grammar.
-use Rattle.std.proofs.Common.{◌≡◌, ◌≢◌, ◌++◌, List, [], ◌∷◌, map, Option, Some, None, refl, sym, ap, subst, ◌∙◌, append_assoc}
+use Rattle.std.proofs.Common.{◌≡◌, ◌≢◌, ℕ, ◌++◌, List, [], ◌∷◌, map, Option, Some, None, refl, sym, ap, subst, ◌∙◌, append_assoc}
 use Rattle.std.specs.Prelude.{option_map}
 use Rattle.std.proofs.lemmas.List.{append-nil}
 use Rattle.rustc_parse_format.specs.Characters.{Text}
 use Rattle.rustc_parse_format.specs.Grammar.{IsInGrammar, Reads, StopsInside}
 use Rattle.rustc_parse_format.specs.Marks.{Span}
 use Rattle.rustc_parse_format.specs.Pieces.{Mode, Piece, bare}
-use Rattle.rustc_parse_format.specs.Step.{pieces_of}
+use Rattle.rustc_parse_format.specs.Step.{TakesNoMemory, call, pieces_of}
 use Rattle.rustc_parse_format.specs.State.{State, Walks, fresh, after, after_all, calls, next_call}
 use Rattle.rustc_parse_format.specs.World.{World, Place, piece_in, pieces_in}
 use Rattle.rustc_parse_format.proofs.BarePieces.{bare-pieces_in}
@@ -74,3 +74,9 @@ pub stops_of : (mode : Mode) (w : World) (t : Text) (p new : State) (ps : List (
 stops_of mode w t p new ps e f g h =
     let r = errors_stop mode w t (λ k. h (ap (λ (s : State). s.errors) (rw e at f) ∙ k)) in
     rw (g, bare-pieces_in p.world (pieces_of (calls p)), e) r
+
+-- a call at the end takes no memory
+pub at_end-text : (mode : Mode) (c : ℕ) (t : Text) → t ≡ [] → TakesNoMemory (call mode c t)
+unfolding call
+at_end-text mode c [] e = (tt, refl)
+at_end-text mode c (b ∷ t) e = absurd cc

@@ -1,14 +1,13 @@
 -- The test of a source literal decides what one is.
-use Rattle.std.proofs.Common.{◌≡◌, ◌++◌, ◌-◌, ◌&&◌, ℕ, Bool, true, false, List, [], ◌∷◌, length, take, Option, Some, None, IsTrue, refl, sym, ap, ◌∙◌, arith, length-append, ◌↔◌}
+use Rattle.std.proofs.Common.{◌≡◌, ◌++◌, ◌-◌, ◌&&◌, ℕ, Bool, true, false, [], ◌∷◌, length, take, Option, Some, None, IsTrue, refl, sym, ap, ◌∙◌, arith, length-append, ◌↔◌}
 use Rattle.std.specs.Prelude.{bytes_eq}
 use Rattle.std.proofs.lemmas.Slice.Eq.{bytes_eq-Decides}
 use Rattle.std.proofs.Math.Seq.{take-append_seam}
 use Rattle.std.proofs.lemmas.List.{append-nil}
 use Rattle.rustc_parse_format.specs.Characters.{Text}
-use Rattle.rustc_parse_format.specs.LiteralUnits.{LiteralUnit}
-use Rattle.rustc_parse_format.specs.Literal.{IsLiteral, IsSource, units, content_value, quoted, raw_frame, newline}
-use Rattle.rustc_parse_format.specs.Source.{unappended, between, stand_for, is_literal_of, is_source, HasSource}
-use Rattle.rustc_parse_format.proofs.LiteralContents.{units-content, units-complete}
+use Rattle.rustc_parse_format.specs.Literal.{IsLiteral, IsSource, quoted, raw_frame, newline}
+use Rattle.rustc_parse_format.specs.Source.{unappended, between, spells, is_literal_of, is_source, HasSource}
+use Rattle.rustc_parse_format.proofs.LiteralSpelling.{spells-parts, spells-from}
 
 both : (a b : Bool) → IsTrue (a && b) → IsTrue a × IsTrue b
 both true b h = (refl, h)
@@ -36,29 +35,19 @@ between-quoted t =
     let n : length (34 ∷ t ++ 34 ∷ []) - 2 ≡ length t = omega (arith, length-append t (34 ∷ [])) in
     ap (λ k. take k (t ++ 34 ∷ [])) n ∙ take-append_seam t (34 ∷ [])
 
--- units that stand for a text
-record StandFor (content t : Text) : Type 0 where
-  us : List LiteralUnit
-  are : units content ≡ Some us
-  value : content_value us ≡ t
-
-stood : (content t : Text) (o : Option (List LiteralUnit)) → units content ≡ o → IsTrue (stand_for o t) → StandFor content t
-stood content t None e h = cc h
-stood content t (Some us) e h = record { us = us; are = e; value = same (content_value us) t h }
-
 literal_of : (style : Option ℕ) (snippet t : Text) → IsTrue (is_literal_of style snippet t) → IsLiteral style snippet t
 literal_of None snippet t h =
-    let k = both (bytes_eq (quoted (between snippet)) snippet) (stand_for (units (between snippet)) t) h in
-    let s = stood (between snippet) t (units (between snippet)) refl k.1 in
-    (between snippet, s.us, sym (same (quoted (between snippet)) snippet k.0), units-content (between snippet) s.us s.are, s.value)
+    let k = both (bytes_eq (quoted (between snippet)) snippet) (spells (between snippet) t) h in
+    let parts = spells-parts (between snippet) t k.1 in
+    (between snippet, parts.0, sym (same (quoted (between snippet)) snippet k.0), parts.1, parts.2)
 literal_of (Some n) snippet t h = sym (same (raw_frame n t) snippet h)
 
 of_literal : (style : Option ℕ) (snippet t : Text) → IsLiteral style snippet t → IsTrue (is_literal_of style snippet t)
 of_literal None snippet t (content, us, e, h, v) =
     let b : between snippet ≡ content = ap between e ∙ between-quoted content in
-    join (bytes_eq (quoted (between snippet)) snippet) (stand_for (units (between snippet)) t)
+    join (bytes_eq (quoted (between snippet)) snippet) (spells (between snippet) t)
     (test (quoted (between snippet)) snippet (ap quoted b ∙ sym e))
-    (rw (b, units-complete content us h) (test (content_value us) t v))
+    (ap (λ s. spells s t) b ∙ spells-from content t us h v)
 of_literal (Some n) snippet t e = test (raw_frame n t) snippet (sym e)
 
 pub source-found : (input : Text) (style : Option ℕ) (snippet : Text) (b : Bool) → IsTrue (is_source input style (Some snippet) b) → IsSource input style snippet b

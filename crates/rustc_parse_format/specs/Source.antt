@@ -15,11 +15,15 @@ between t = take (length t - 2) (drop 1 t)
 -- units, if they are there, stand for the text
 abbrev pub stand_for : Option (List LiteralUnit) → Text → Bool
 stand_for None t = false
-stand_for (Some us) t = bytes_eq (content_value us) t
+stand_for (Some us) t = bytes_eq t (content_value us)
+
+-- the first is a content that stands for the second
+unfoldable pub spells : Text → Text → Bool
+spells content t = stand_for (units content) t
 
 -- the snippet is a literal of that style that stands for the text
 abbrev pub is_literal_of : Option ℕ → Text → Text → Bool
-is_literal_of None snippet t = bytes_eq (quoted (between snippet)) snippet && stand_for (units (between snippet)) t
+is_literal_of None snippet t = bytes_eq (quoted (between snippet)) snippet && spells (between snippet) t
 is_literal_of (Some n) snippet t = bytes_eq (raw_frame n t) snippet
 
 -- Without a snippet there is no source literal.

@@ -2,12 +2,13 @@
 
 ghost use Rattle.std.specs.Prelude.{◌≡◌, ◌++◌, ◌∷◌, [], IfOk, IsOk, option_map, OnOk, OnErr, bytes_eq, chars, codes, map, string_bytes, if◌then◌else◌};
 ghost use Rattle.rustc_parse_format.specs.Faults.{TooLarge, Underscore, add_errors, error, expected, message, out_of_range};
-ghost use Rattle.rustc_parse_format.specs.Written.{plainly_written, short_escape, written};
+ghost use Rattle.rustc_parse_format.specs.Written.{written};
 ghost use Rattle.rustc_parse_format.specs.Seen.{pair, seen_error};
 ghost use Rattle.rustc_parse_format.specs.SeenFaults.{seen_fault};
 
 use crate::chars::is_underscore;
 use crate::types::{ParseError, Suggestion};
+use crate::written::put_written;
 use std::alloc::{AllocError, Global};
 use std::ops::Range;
 
@@ -57,42 +58,13 @@ pub fn note_number<'input>(
     Ok(())
 }
 
-/// The escape of a character that has one of its own.
-fn short_escape(c: char) -> Option<&'static str>
-    ensures { option_map (λ s. s.now) result ≡ short_escape c }
-{
-    match c {
-        '\0' => Some("\\0"),
-        '\t' => Some("\\t"),
-        '\r' => Some("\\r"),
-        '\n' => Some("\\n"),
-        '\'' => Some("\\'"),
-        '"' => Some("\\\""),
-        '\\' => Some("\\\\"),
-        _ => None,
-    }
-}
-
-/// How a character without an escape of its own is written.
-fn plainly_written(alloc: Global, c: char) -> Result<String, AllocError>
-    ensures { IfOk result (λ s. string_bytes s ≡ plainly_written c) }
-{
-    let code = u32::from(c);
-    if code < 32 || code == 127 {
-        return format!(in alloc; "\\u{{{code:x}}}");
-    }
-    format!(in alloc; "{c}")
-}
-
 /// How a character is written in a message.
-#[tactic(auto, unfolding(crate::specs::Written::written))]
 fn written(alloc: Global, c: char) -> Result<String, AllocError>
     ensures { IfOk result (λ s. string_bytes s ≡ written c) }
 {
-    match short_escape(c) {
-        Some(escape) => String::from_str(alloc, escape),
-        None => plainly_written(alloc, c),
-    }
+    let mut text = String::new(alloc);
+    put_written(&mut text, c)?;
+    Ok(text)
 }
 
 /// What a missing brace is described by.

@@ -13,6 +13,7 @@ mod sizes;
 mod spec;
 mod types;
 mod world;
+mod written;
 
 pub use chars::StepCount;
 pub use parser::Parser;
@@ -24,3 +25,5 @@ pub use types::{
     Alignment, Argument, Count, DebugHex, FormatSpec, ParseError, ParseMode, Piece, Position, Sign,
     Suggestion,
 };
+#[doc(hidden)]
+pub use written::put_written;

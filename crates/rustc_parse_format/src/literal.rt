@@ -1,9 +1,10 @@
 //! String literals as they are written in a program: the characters of a content with their places, and which snippet
 //! is the source literal of an input.
 
-ghost use Rattle.std.specs.Prelude.{◌≡◌, ◌↔◌, ◌++◌, ℕ, List, IsTrue, IfOk, IfSome, IfNone, MatchOption, chars, option_map, true, replicate};
+ghost use Rattle.std.specs.Prelude.{◌≡◌, ◌↔◌, ◌++◌, ℕ, List, [], IsTrue, IfOk, IsOk, IfSome, IfNone, MatchOption, chars, option_map, true, replicate};
 ghost use Rattle.rustc_parse_format.specs.Literal.{IsNoContent, IsOrdinaryLiteral, IsReadAs, IsSource, newline, quoted, raw_closing, raw_frame, raw_opening};
-ghost use Rattle.rustc_parse_format.specs.LiteralReading.{IsTaken, placed, seen_characters, spells};
+ghost use Rattle.rustc_parse_format.specs.LiteralReading.{IsTaken, placed, seen_characters};
+ghost use Rattle.rustc_parse_format.specs.Source.{spells};
 
 mod rest;
 mod unit;
@@ -21,7 +22,18 @@ pub fn read_content(
 ) -> Result<Option<Vec<(Range<usize>, char)>>, AllocError>
     ensures found { IfOk result (λ o. IfSome o (λ v. IsReadAs (chars content.now) (seen_characters v.items))) }
     ensures none { IfOk result (λ o. IfNone o (IsNoContent (chars content.now))) }
+    ensures empty { content.now ≡ [] → IsOk result }
+{
+    read_characters(alloc, content)
+}
+
+/// The same, by computing.
+fn read_characters(
+    alloc: Global,
+    content: &str,
+) -> Result<Option<Vec<(Range<usize>, char)>>, AllocError>
     ensures computed { IfOk result (λ o. option_map (λ v. seen_characters v.items) o ≡ placed 0 (chars content.now)) }
+    ensures empty { chars content.now ≡ [] → IsOk result }
 {
     let mut found = Vec::new(alloc);
     let mut rest = Rest::new(content);
@@ -90,8 +102,8 @@ fn is_ordinary_literal(snippet: &str, text: &str) -> bool
     }
 }
 
-/// What stands between the first and the last character, where both are quotes.
-fn between_quotes(snippet: &str) -> Option<&str>
+/// What stands between the first and the last character, or `None` if these are not two quotes.
+pub fn between_quotes(snippet: &str) -> Option<&str>
     ensures { MatchOption result
         ((t : List ℕ) → chars snippet.now ≡ quoted t → ⊥)
         (λ t. chars snippet.now ≡ quoted (chars t.now)) }

@@ -1,6 +1,6 @@
 //! A whole input at once.
 
-ghost use Rattle.std.specs.Prelude.{◌≡◌, ◌≢◌, ◌+◌, ◌<◌, ◌^◌, ◌↔◌, ℕ, [], List, IfOk, IsTrue, chars, length, map, option_map, string_bytes};
+ghost use Rattle.std.specs.Prelude.{◌≡◌, ◌≢◌, ◌+◌, ◌<◌, ◌^◌, ◌↔◌, ℕ, [], List, IfOk, IsOk, IsTrue, chars, length, map, option_map, string_bytes};
 ghost use Rattle.rustc_parse_format.specs.Characters.{Text};
 ghost use Rattle.rustc_parse_format.specs.Grammar.{IsInGrammar, IsSpelled, Reads, StopsInside};
 ghost use Rattle.rustc_parse_format.specs.Pieces.{Mode, Piece as BarePiece, bare};
@@ -29,6 +29,7 @@ fn read_pieces<'input, L: Ledger>(
     ensures pieces { IfOk result (λ ps. map seen ps.items ≡ pieces_in parser.old.world (pieces_of (calls parser.old))) }
     ensures state { IfOk result (λ ps. parser.new ≡ after_all parser.old (calls parser.old)) }
     ensures few { IsStart parser.old count.old → AreFew parser.new count.new }
+    ensures empty { parser.old.rest ≡ [] → IsOk result }
 {
     let mut pieces = Vec::new(alloc);
     while let Some(piece) = parser.next_counted(count)? {
@@ -48,6 +49,7 @@ fn read_uncounted<'input, L: Ledger>(
     requires three { blank.parts ≡ 3 }
     ensures pieces { IfOk result (λ ps. map seen ps.items ≡ pieces_in parser.old.world (pieces_of (calls parser.old))) }
     ensures state { IfOk result (λ ps. parser.new ≡ after_all parser.old (calls parser.old)) }
+    ensures empty { parser.old.rest ≡ [] → IsOk result }
 {
     let mut count = parser.count::<L>(blank);
     read_pieces(alloc, parser, &mut count)
@@ -88,6 +90,9 @@ pub fn read_all<'input>(
     // With an error, the first pieces read the input up to a character from which on nothing begins it.
     ensures first_fault { IfOk result (λ x. x.1.errors ≢ []
         → StopsInside (seen_mode mode) 0 (chars input.now) (map bare (map seen x.0.items))) }
+
+    // Nothing is read without memory.
+    ensures empty { input.now ≡ [] → IsOk result }
 {
     let mut parser = Parser::new(alloc, input, style, snippet, appended_newline, mode)?;
     let pieces = read_uncounted::<Brand>(alloc, &mut parser, Blank::new(3))?;

@@ -1,9 +1,12 @@
-use Rattle.std.proofs.Common.{Err, ap, map, option_map, string_bytes, sym, subst, ◌∙◌}
+use Rattle.std.proofs.Common.{◌≡◌, List, ℕ, Bool, [], Err, Ok, false, inl, ap, map, option_map, string_bytes, sym, subst, ◌∙◌}
 use Rattle.std.specs.Str.{IsUtf8}
+use Rattle.std.proofs.lemmas.Bool.{false≢true}
 use Rattle.std.proofs.lemmas.Option.{IfSome_then}
 use Rattle.formatread.specs.declared.verdict.RunFault.TheVariants.{NotText}
 use Rattle.formatread.specs.Program.{IsOwed, IsShort}
 use Rattle.formatread.specs.SeenTask.{seen_task}
+use Rattle.formatread.proofs.Empty.{empty-listed}
+use Rattle.formatread.proofs.OneAnswer.{owed-only}
 use Rattle.formatread.proofs.run.run.Goals as goal
 
 pub returns-in_default-clause-not_text : goal.returns-in_default-clause-not_text
@@ -13,3 +16,33 @@ returns-in_default-clause-not_text g c _ =
       sym c.asked.ensures ∙ ap (option_map seen_task) c.in-Some.is,
       (subst IsShort e c.in_ok-input.ensures.short, λ u. c.in_default.ensures.cases.0 (subst IsUtf8 (sym (c.as_slice.ensures.value ∙ e)) u)),
     ))
+
+pub returns-in-None-clause-one_answer : goal.returns-in-None-clause-one_answer
+returns-in-None-clause-one_answer g c = owed-only
+
+pub returns-in_err-input-clause-one_answer : goal.returns-in_err-input-clause-one_answer
+returns-in_err-input-clause-one_answer g c = owed-only
+
+pub returns-in_default-clause-one_answer : goal.returns-in_default-clause-one_answer
+returns-in_default-clause-one_answer g c = owed-only
+
+pub returns-in_err-lines-clause-one_answer : goal.returns-in_err-lines-clause-one_answer
+returns-in_err-lines-clause-one_answer g c = owed-only
+
+pub returns-in_err-write_whole-clause-one_answer : goal.returns-in_err-write_whole-clause-one_answer
+returns-in_err-write_whole-clause-one_answer g c = owed-only
+
+pub returns-clause-one_answer : goal.returns-clause-one_answer
+returns-clause-one_answer g c = owed-only
+
+pub returns-in_err-write_whole-clause-empty : goal.returns-in_err-write_whole-clause-empty
+returns-in_err-write_whole-clause-empty g c mode a e =
+    let none = empty-listed c.asked.result c.in-Some.task mode _ _ c.in_ok-input.input.items c.as_slice.result.now c.in-Ok.text.now
+    (string_bytes c.in_ok-lines.lines, c.in_ok-lines.faulty) c.asked.ensures c.in-Some.is a e c.in_ok-input.ensures.bytes c.as_slice.ensures.value c.in-Ok.ensures.cases.0 c.in_ok-lines.ensures.lines in
+    absurd (false≢true (c.in_err-write_whole.ensures.empty (c.as_bytes.ensures.value ∙ ap (λ (x : List ℕ × Bool). x.0) none)).0)
+
+pub returns-clause-empty : goal.returns-clause-empty
+returns-clause-empty g c mode a e =
+    let none = empty-listed c.asked.result c.in-Some.task mode _ _ c.in_ok-input.input.items c.as_slice.result.now c.in-Ok.text.now
+    (string_bytes c.in_ok-lines.lines, c.in_ok-lines.faulty) c.asked.ensures c.in-Some.is a e c.in_ok-input.ensures.bytes c.as_slice.ensures.value c.in-Ok.ensures.cases.0 c.in_ok-lines.ensures.lines in
+    ((c.in_ok-write_whole.ensures.empty (c.as_bytes.ensures.value ∙ ap (λ (x : List ℕ × Bool). x.0) none)).1, inl (ap (λ (x : List ℕ × Bool). Ok x.1) none))

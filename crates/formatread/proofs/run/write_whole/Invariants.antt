@@ -1,4 +1,4 @@
-use Rattle.std.proofs.Common.{◌≡◌, ◌++◌, ℕ, List, length}
+use Rattle.std.proofs.Common.{◌≡◌, ◌++◌, ℕ, List, [], length}
 use Rattle.std.specs.Io.KnownBytes.{Appends}
 use Rattle.formatread.proofs.run.write_whole.Given as goal
 
@@ -6,7 +6,7 @@ use Rattle.formatread.proofs.run.write_whole.Given as goal
 abbrev pub invariant-loop-rest : goal.invariant-loop-rest
 invariant-loop-rest g l =
     let contents = g.W.Write.contents in
-    (written : List ℕ) × (l.bytes ≡ written ++ l.rest) × Appends (contents l.fn.writer) (contents l.writer) written
+    (written : List ℕ) × (l.bytes ≡ written ++ l.rest) × Appends (contents l.fn.writer) (contents l.writer) written × (l.bytes ≡ [] → l.writer ≡ l.fn.writer)
 
 abbrev pub decreases-loop-rest : goal.decreases-loop-rest
 decreases-loop-rest g l = length l.rest

@@ -1,6 +1,6 @@
 use Rattle.std.proofs.Common.{◌≡◌, ◌&&◌, true, false, ap, sym, ◌∙◌}
 use Rattle.rustc_parse_format.specs.Characters.{behind_first, begins_with}
-use Rattle.rustc_parse_format.specs.LiteralReading.{spells}
+use Rattle.rustc_parse_format.specs.Source.{spells}
 use Rattle.rustc_parse_format.proofs.LiteralSpelling.{spells-value, spells-end}
 use Rattle.rustc_parse_format.proofs.literal.stands_for.Goals as goal
 

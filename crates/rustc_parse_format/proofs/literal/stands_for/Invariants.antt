@@ -1,5 +1,5 @@
 use Rattle.std.proofs.Common.{◌≡◌, length, chars}
-use Rattle.rustc_parse_format.specs.LiteralReading.{spells}
+use Rattle.rustc_parse_format.specs.Source.{spells}
 use Rattle.rustc_parse_format.proofs.literal.stands_for.Given as goal
 
 abbrev pub invariant-loop-rest : goal.invariant-loop-rest

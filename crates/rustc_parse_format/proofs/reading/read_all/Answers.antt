@@ -1,5 +1,8 @@
-use Rattle.std.proofs.Common.{◌≡◌, ap, chars, string_bytes, String, Global}
+use Rattle.std.proofs.Common.{◌≡◌, ◌∙◌, ap, chars, string_bytes, String, Global}
 use Rattle.std.specs.Prelude.{option_map}
+use Rattle.std.proofs.lemmas.Bool.{false≢true}
+use Rattle.std.proofs.lemmas.Str.{chars-nil}
+use Rattle.rustc_parse_format.specs.Characters.{Text}
 use Rattle.rustc_parse_format.specs.Seen.{seen_mode}
 use Rattle.rustc_parse_format.specs.State.{State, fresh, calls}
 use Rattle.rustc_parse_format.specs.World.{world}
@@ -20,6 +23,11 @@ returns-in_err-pieces-clause-one_cut c = cut-only
 
 pub returns-clause-one_cut : goal.returns-clause-one_cut
 returns-clause-one_cut c = cut-only
+
+pub returns-in_err-pieces-clause-empty : goal.returns-in_err-pieces-clause-empty
+returns-in_err-pieces-clause-empty c e =
+    let start : ◌≡◌ {A = Text} c.in_ok-parser.parser.rest (chars c.args.input.now) = ap (λ (s : State). s.rest) c.in_ok-parser.ensures.start in
+    absurd (false≢true (c.in_err-pieces.ensures.empty (start ∙ ap chars e ∙ chars-nil)))
 
 pub returns-clause-clean : goal.returns-clause-clean
 returns-clause-clean c =

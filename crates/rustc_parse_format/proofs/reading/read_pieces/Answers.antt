@@ -1,12 +1,13 @@
 use Rattle.std.proofs.Common.{◌≡◌, ◌∙◌, [], ◌∷◌, ap, map, Option, Some, None, sym}
 use Rattle.std.specs.Prelude.{option_map}
+use Rattle.std.proofs.lemmas.Bool.{false≢true}
 use Rattle.std.proofs.lemmas.List.{map-append}
 use Rattle.rustc_parse_format.specs.Pieces.{Piece}
 use Rattle.rustc_parse_format.specs.Seen.{seen}
 use Rattle.rustc_parse_format.specs.State.{State, next_call}
 use Rattle.rustc_parse_format.specs.World.{Place, piece_in}
-use Rattle.rustc_parse_format.proofs.ReadPieces.{pieces_more, state_more, pieces_end, state_end}
-use Rattle.rustc_parse_format.proofs.Nexts.{piece_moves}
+use Rattle.rustc_parse_format.proofs.ReadPieces.{at_end-text, pieces_more, state_more, pieces_end, state_end}
+use Rattle.rustc_parse_format.proofs.Nexts.{next_ends, piece_moves}
 use Rattle.rustc_parse_format.proofs.Steps.{paid_then}
 use Rattle.rustc_parse_format.proofs.reading.read_pieces.Goals as goal
 
@@ -19,8 +20,18 @@ loop-pieces-preserved g c =
       pieces = rw pushed (pieces_more c.loop-pieces.parser c.next_counted.new.self c.args.parser.now.world (seen c.in-Some.piece) _ _ c.loop-pieces.invariant.world given c.in_ok-piece.ensures.state c.loop-pieces.invariant.pieces);
       input = ap (λ (s : State). s.input) c.in_ok-piece.ensures.state ∙ c.loop-pieces.invariant.input;
       steps = paid_then c.loop-pieces.invariant.steps c.in_ok-piece.ensures.steps;
+      empty = λ e. let none = rw c.in-Some.is at (next_ends seen c.loop-pieces.parser c.next_counted.new.self _ c.in_ok-piece.ensures.piece c.in_ok-piece.ensures.state (c.loop-pieces.invariant.empty e)).0 in absurd (false≢true (sym none));
       state = state_more c.loop-pieces.parser c.next_counted.new.self (seen c.in-Some.piece) given c.in_ok-piece.ensures.state ∙ c.loop-pieces.invariant.state;
     }
+
+pub returns-in_err-piece-clause-empty : goal.returns-in_err-piece-clause-empty
+returns-in_err-piece-clause-empty g c e =
+    let s = c.loop-pieces.parser in absurd (false≢true (c.in_err-piece.ensures.spare (at_end-text s.mode s.next s.rest (c.loop-pieces.invariant.empty e))))
+
+pub returns-in_err-push-clause-empty : goal.returns-in_err-push-clause-empty
+returns-in_err-push-clause-empty g c e =
+    let none = rw c.in-Some.is at (next_ends seen c.loop-pieces.parser c.next_counted.new.self _ c.in_ok-piece.ensures.piece c.in_ok-piece.ensures.state (c.loop-pieces.invariant.empty e)).0 in
+    absurd (false≢true (sym none))
 
 pub returns-clause-pieces : goal.returns-clause-pieces
 returns-clause-pieces g c =

@@ -1,4 +1,4 @@
-use Rattle.std.proofs.Common.{◌≡◌, ◌++◌, length, map}
+use Rattle.std.proofs.Common.{◌≡◌, ◌++◌, [], length, map}
 use Rattle.rustc_parse_format.specs.Seen.{seen}
 use Rattle.rustc_parse_format.specs.State.{calls, after_all}
 use Rattle.rustc_parse_format.specs.Step.{pieces_of}
@@ -10,6 +10,7 @@ abbrev pub invariant-loop-pieces : goal.invariant-loop-pieces
 invariant-loop-pieces g l = record {
   world : l.parser.world ≡ l.fn.parser.world;
   pieces : map seen l.pieces.items ++ pieces_in l.fn.parser.world (pieces_of (calls l.parser)) ≡ pieces_in l.fn.parser.world (pieces_of (calls l.fn.parser));
+  empty : l.fn.parser.rest ≡ [] → l.parser.rest ≡ [];
   state : after_all l.parser (calls l.parser) ≡ after_all l.fn.parser (calls l.fn.parser);
   input : l.parser.input ≡ l.fn.parser.input;
   steps : Paid l.fn.parser.rest l.fn.count l.parser.rest l.count;

@@ -1,11 +1,12 @@
-use Rattle.std.proofs.Common.{◌≡◌, ◌+◌, length, chars}
+use Rattle.std.proofs.Common.{◌≡◌, ◌+◌, [], length, chars}
 use Rattle.rustc_parse_format.specs.Characters.{width}
 use Rattle.rustc_parse_format.proofs.LiteralPlaces.{IsSoFar}
-use Rattle.rustc_parse_format.proofs.literal.read_content.Given as goal
+use Rattle.rustc_parse_format.proofs.literal.read_characters.Given as goal
 
 abbrev pub invariant-loop-rest : goal.invariant-loop-rest
 invariant-loop-rest l = record {
   so_far : IsSoFar l.found.items l.at l.rest (chars l.fn.content);
+  empty : chars l.fn.content ≡ [] → l.rest ≡ [];
   position : l.at + width l.rest ≡ l.total;
 }
 
