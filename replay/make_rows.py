@@ -77,9 +77,9 @@ def files():
             snippet, text = cases.bytes_of(snippet), cases.bytes_of(text)
             answer = cases.bytes_of(answer).split(b"\n")[:-1]
             assert answer[0] in (b"source yes", b"source no") and answer[1].startswith(b"end "), line
-            columns = [name, mode, style, newline, escaped(snippet), escaped(text)]
+            columns = [escaped(name.encode()), mode, style, newline, escaped(snippet), escaped(text)]
             if snippet != b"-":
-                sources.append(row([name, "format", *columns[2:]], answer[:1]))
+                sources.append(row([columns[0], "format", *columns[2:]], answer[:1]))
             hashes = None if style == "-" else int(style)
             answer = stage.row(mode, hashes, newline == "1", snippet[1:], text, [answer[0], *answer[2:]])
             if answer is not None:

@@ -70,14 +70,13 @@ def case(whole):
     return name, words, given, refusal, b"".join(line + b"\n" for line in lines), status
 
 
-def moves_places(style, newline, snippet, text):
-    """Of a source literal: its characters do not stand in it as they stand in the text. (The program's lists do not say
-    where they stand.)"""
+def moves_places(style, newline, snippet, text, lines):
+    """Of a source literal: its characters do not stand in it as they stand in the text, or a place tells where the text
+    ends in it, as that of a placeholder that nothing ends. (The program's lists show no place.)"""
     text = text[: -len(b"\n")] if newline else text
-    if style is None:
-        return snippet != b'"' + text + b'"'
-    hashes = b"#" * style
-    return snippet != b"r" + hashes + b'"' + text + b'"' + hashes
+    hashes = b"#" * (style or 0)
+    plain = (b"" if style is None else b"r") + hashes + b'"' + text + b'"' + hashes
+    return snippet != plain or any(b"string was terminated" in line for line in lines)
 
 
 def row(mode, style, newline, snippet, text, lines):
@@ -85,7 +84,7 @@ def row(mode, style, newline, snippet, text, lines):
     closed placeholders and the lines of a literal stand, and of suggestions only None is made."""
     if mode == "diagnostic-named":
         return None
-    if lines[0] == b"source yes" and moves_places(style, newline, snippet, text):
+    if lines[0] == b"source yes" and moves_places(style, newline, snippet, text, lines):
         return None
     if recovers(lines, text, 1 if style is None else style + 2):
         return None

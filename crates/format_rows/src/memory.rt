@@ -8,11 +8,13 @@ use rustc_parse_format::{
     Argument, Count, FormatSpec, ParseMode, Parser, Piece, Position, read_all,
 };
 use std::alloc::{AllocError, Global};
+use std::io::Print;
+use std::process::Abort;
 use std::test::Fail;
 
 /// One call, and one more where it is refused memory, which changes nothing.
 fn next_again<'input>(
-    rt: &HostRuntime,
+    rt: &(impl Abort + Print),
     parser: &mut Parser<'input>,
 ) -> Result<Option<Piece<'input>>, Fail> {
     let (next, ahead) = (parser.peek(), parser.peek_ahead());
@@ -39,11 +41,11 @@ fn is_argument(piece: &Option<Piece<'_>>, argument: &Argument<'_>) -> bool {
     matches!(piece, Some(Piece::NextArgument(it)) if **it == *argument)
 }
 
-fn implicit(number: usize, at: usize) -> Argument<'static> {
+fn implicit(number: usize, at: usize, format: FormatSpec<'static>) -> Argument<'static> {
     Argument {
         position: Position::ArgumentImplicitlyIs(number),
         position_span: at..at,
-        format: FormatSpec::default(),
+        format,
     }
 }
 
@@ -54,7 +56,7 @@ fn next_out_of_memory_changes_nothing(rt: HostRuntime) -> Result<(), Fail> {
         assert_eq!(rt; next_again(&rt, &mut parser)?, Some(Piece::Lit(text)));
     }
     let piece = next_again(&rt, &mut parser)?;
-    assert!(rt; is_argument(&piece, &implicit(0, 10)));
+    assert!(rt; is_argument(&piece, &implicit(0, 10, FormatSpec::default())));
     assert_eq!(rt; next_again(&rt, &mut parser)?, None);
     assert_eq!(rt; parser.peek(), None);
     assert_eq!(rt; parser.curarg(), 1);
@@ -91,27 +93,28 @@ fn next_out_of_memory_finds_no_fault_twice(rt: HostRuntime) -> Result<(), Fail> 
     Ok(())
 }
 
+/// A call of `read_all` in which a star takes a number.
+fn read_star(alloc: Global) -> Result<(Vec<Piece<'static>>, Parser<'static>), AllocError> {
+    read_all(alloc, "{}{:.*}{}", None, None, false, ParseMode::Format)
+}
+
 #[test]
 fn read_all_out_of_memory_is_called_again(rt: HostRuntime) -> Result<(), Fail> {
-    let read = || read_all(
-        rt.alloc(),
-        "{}{:.*}{}",
-        None,
-        None,
-        false,
-        ParseMode::Format,
-    );
-    let (pieces, parser) = match read() {
+    let (pieces, parser) = match read_star(rt.alloc()) {
         Ok(read) => read,
         Err(AllocError) => {
             println!(rt; "refused")?;
-            read()?
+            read_star(rt.alloc())?
         }
     };
-    let mut starred = implicit(2, 4);
-    starred.format.precision = Count::CountIsStar(1);
-    starred.format.precision_span = Some(5..7);
-    let wanted = [implicit(0, 2), starred, implicit(3, 9)];
+    let mut star = FormatSpec::default();
+    star.precision = Count::CountIsStar(1);
+    star.precision_span = Some(5..7);
+    let wanted = [
+        implicit(0, 2, FormatSpec::default()),
+        implicit(2, 4, star),
+        implicit(3, 9, FormatSpec::default()),
+    ];
     assert_eq!(rt; pieces.len(), wanted.len());
     for (piece, argument) in pieces.iter().zip(wanted.iter()) {
         assert!(rt; matches!(piece, Piece::NextArgument(it) if **it == *argument));

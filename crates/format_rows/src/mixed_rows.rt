@@ -130,7 +130,6 @@ mixed-0308│format│-│0│-│{0}xb\n│source no\narg index 0 2..3\nlit "xb
 mixed-0310│format│1│0│-│"c·\u{a0}{fooxb} {}│source no\nlit "\\"c·\u{a0}"\narg name fooxb 10..15\nlit " "\narg implicit 0 18..18\nnone\ncurarg 1\n
 mixed-0314│format│2│0│=r##"\u{3000}b#\n  b\n   ‿="##│\u{3000}b#\n  b\n   ‿=│source yes\nlit "\u{3000}b#\\n  b\\n   ‿="\nnone\ncurarg 0\n
 mixed-0317│asm│3│0│="{\u{2ebf0}x\\u{66_3}\\x0b9\t:x}{\\\n  o\\x3a\\x65}"│{\u{2ebf0}x٣\t\t:x}{o:e}│source no\narg name \u{2ebf0}x٣ 6..15 ty="x"@16..17\narg name o 19..20 ty="e"@21..22\nnone\ncurarg 0\n
-mixed-0319│format│0│1│=r"c?;0\n  {X:"│c?;0\n  {X:\n│source yes\nlit "c?;0\\n  "\narg name X 10..11\nnone\ncurarg 0\nfault 12..12 expected `}` but string was terminated\nnote if you intended to print `{`, you can escape it using `{{`\nlabel expected `}`\nsecond 9..10 because of this opening brace\n
 mixed-0322│format│4│0│="\\\\.*\\u{0_02C}\\x61=\\u{0__00__7B}\\x6f:^\\\n   0\\x30$_}\\r"│\\.*,a={o:^00$_}\r│source no\nlit "\\\\.*,a="\narg name o 13..14 align=center zero width=param:0@17..19 ty="_"@19..20\nlit "\\r"\nnone\ncurarg 0\nfault 19..20 invalid argument name `_`\nnote argument name cannot be a single underscore\nlabel invalid argument name\n
 mixed-0324│asm│1│0│-│{:l}"{\t:v}│source no\narg implicit 0 4..4 ty="l"@5..6\nlit "\\""\narg implicit 1 9..10 ty="v"@11..12\nnone\ncurarg 2\n
 mixed-0327│diagnostic│1│0│=r"_\ta9X\n"│_\ta9X\n│source no\nlit "_\\ta9X\\n"\nnone\ncurarg 0\n
@@ -148,7 +147,6 @@ mixed-0360│format│7│0│-│{x$│source no\narg name x 10..11\nlit "$"\nn
 mixed-0362│diagnostic│3│0│=r###""###││source yes\nnone\ncurarg 0\n
 mixed-0364│format│1│1│="\\u{7__B}\\x3a\\u{65_}}-゛\\x2e\\u{20}\\x3a{\u{c5c}T\\\n    "│{:e}-゛. :{\u{c5c}T│source no\narg implicit 0 4..4 ty="e"@5..6\nlit "-゛. :"\narg name \u{c5c}T 15..51\nnone\ncurarg 1\nfault 51..51 expected `}` but string was terminated\nnote if you intended to print `{`, you can escape it using `{{`\nlabel expected `}`\nsecond 14..15 because of this opening brace\n
 mixed-0366│diagnostic│0│0│=r"^^ⅷ>{"ﬀ9"│^^ⅷ>{"ﬀ9│source yes\nlit "^^ⅷ>"\narg implicit 0 9..9\nlit "\\"ﬀ9"\nnone\ncurarg 1\nfault 9..9 expected `}`, found `\\"`\nnote if you intended to print `{`, you can escape it using `{{`\nlabel expected `}`\nsecond 8..9 because of this opening brace\n
-mixed-0368│format│2│0│=r##"}}{foo}{r"##│}}{foo}{r│source yes\nlit "}"\narg name foo 7..10\narg name r 12..13\nnone\ncurarg 0\nfault 13..13 expected `}` but string was terminated\nnote if you intended to print `{`, you can escape it using `{{`\nlabel expected `}`\nsecond 11..12 because of this opening brace\n
 mixed-0372│format│0│0│=r"c\n  b:\n"│c\n  b:\n│source yes\nlit "c\\n  b:\\n"\nnone\ncurarg 0\n
 mixed-0374│diagnostic│2│0│=r"│{:0"\u{200c}_}│source no\narg implicit 0 5..5 ty="0\\"\u{200c}_"@5..12\nnone\ncurarg 1\n
 mixed-0376│format│-│0│=r""\t"│"\t\n│source no\nlit "\\"\\t\\n"\nnone\ncurarg 0\n
@@ -169,7 +167,7 @@ mixed-0398│format│3│0│=r###"\u{2000}a\ny{X:xyz}"###│\u{2000}a\ny{X:xyz
 "####;
 
 /// How many rows they are.
-pub const WALKS_COUNT: usize = 164;
+pub const WALKS_COUNT: usize = 162;
 
 /// Rows in which pieces come after a None.
 pub const CALLS: &str = r####"

@@ -64,7 +64,7 @@ simple-a{{b│format│-│0│-│a{{b│source no\nlit "a"\nlit "{b"\nnone\ncu
 simple-a}}b│format│-│0│-│a}}b│source no\nlit "a"\nlit "}b"\nnone\ncurarg 0\n
 simple-a}}│format│-│0│-│a}}│source no\nlit "a"\nlit "}"\nnone\ncurarg 0\n
 simple-}}│format│-│0│-│}}│source no\nlit "}"\nnone\ncurarg 0\n
-simple-\}}│format│-│0│-│\\}}│source no\nlit "\\\\"\nlit "}"\nnone\ncurarg 0\n
+simple-\\}}│format│-│0│-│\\}}│source no\nlit "\\\\"\nlit "}"\nnone\ncurarg 0\n
 format_empty│format│-│0│-│{}│source no\narg implicit 0 2..2\nnone\ncurarg 1\n
 format_position│format│-│0│-│{3}│source no\narg index 3 2..3\nnone\ncurarg 0\n
 format_position_nothing_else│format│-│0│-│{3:}│source no\narg index 3 2..3\nnone\ncurarg 0\n
