@@ -51,8 +51,8 @@ def table(name, about, rows):
 
 
 def tables_of_walks(about, rows):
-    calls = [row for row in rows if re.search(r"\\nnone\\n(lit|arg) ", row)]
-    walks = [row for row in rows if row not in calls]
+    calls = [line for line in rows if re.search(r"\\nnone\\n(lit|arg) ", line)]
+    walks = [line for line in rows if line not in calls]
     return (
         f"//! {about} Made by `replay/make_rows.py`.\n"
         + table("WALKS", "Rows in which no piece comes after a None.", walks)
