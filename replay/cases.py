@@ -2,8 +2,8 @@
 
 Bytes are written as text. A backslash stands before n, t and r for LF, HT and CR, before itself, and before x and two
 hexadecimal digits for any byte that isn't part of a printable character. In the words, s behind a backslash is a space
-inside a word, and e an empty word. A refusal is the name of one, or empty. The first line names the stage of the
-program that the list belongs to."""
+inside a word, and e an empty word. A refusal is the name of one, or empty. A line that begins with # and a space is no
+case. The answers are those of the whole program."""
 
 NAMED = {"n": 10, "t": 9, "r": 13, "\\": 92, "s": 32}
 
@@ -47,23 +47,13 @@ def text_of_words(words):
 
 
 def read(path):
-    """The stage that the list names, if any, and its cases."""
-    stage, cases = None, []
+    """The cases of a list."""
+    found = []
     with open(path, encoding="utf-8", newline="\n") as lines:
         for line in lines:
             line = line.rstrip("\n")
-            if line.startswith("# stage "):
-                stage = line[len("# stage ") :]
             if not line or line.startswith("# "):
                 continue
             name, words, given, refusal, wanted, status = line.split("\t")
-            cases.append((name, words_of(words), bytes_of(given), refusal, bytes_of(wanted), int(status)))
-    return stage, cases
-
-
-def write(path, stage, cases):
-    with open(path, "w", encoding="utf-8", newline="\n") as out:
-        out.write(f"# stage {stage}\n# id\twords\tstandard input\trefusal\tstandard output\tstatus\n")
-        for name, words, given, refusal, wanted, status in cases:
-            row = [name, text_of_words(words), text_of(given), refusal, text_of(wanted), str(status)]
-            out.write("\t".join(row) + "\n")
+            found.append((name, words_of(words), bytes_of(given), refusal, bytes_of(wanted), int(status)))
+    return found

@@ -1,48 +1,32 @@
 #!/usr/bin/env python3
-"""Makes the tables of crates/format_rows from a file of expected answers of the whole parser, for a stage of it.
+"""Makes the tables of crates/format_rows from replay/library.tsv.
 
-    replay/make_rows.py FILE STAGE
+    replay/make_rows.py           writes them
+    replay/make_rows.py --check   compares them with what it would write
 
-The stages are those of make_lists.py. A line of FILE has, with tabs between them, a name, the mode, the style, whether
-a newline was appended, the snippet, the input and the answer, as crates/format_rows/src/row.rt says; but bytes are
-written as in cases.py, and the answer has a line `end N`, which no public call tells and which is dropped. Answers that
-the stage gives otherwise are left out. A table of walks has the rows in which no piece comes behind a None, a table of
-calls the others. The tables of snippets have every row, with nothing but whether its snippet is the source literal."""
+A line of library.tsv has, with tabs between them, a name, the mode, the style, whether a newline was appended, the
+snippet, the input and the answer, as crates/format_rows/src/row.rt says; but bytes are written as in cases.py, and the
+answer has a line `end N`, which no public call tells and which is dropped. The rules of stage.py are applied. A table
+of walks has the rows in which no piece comes after a None, a table of calls the others. The table of snippets has
+every row with a snippet, with nothing but whether it is the source literal of the input."""
 
 import os
 import re
 import sys
 
 import cases
-import make_lists
+import stage
 
-SOURCES = os.path.join(make_lists.HERE, "..", "crates", "format_rows", "src")
-MOST = 370
-
-
-def is_at(at, mode, text, answer):
-    """The stage gives this answer."""
-    if mode != "format" and not at({"asm": "spec", "diagnostic": "spec"}.get(mode, "all")):
-        return False
-    if answer.startswith("source yes") and not at("spans"):
-        return False
-    if not at("faults") and make_lists.needs_later_faults([it.encode() for it in answer.split("\n")]):
-        return False
-    if not at("faults") and "\nsuggest " in answer:
-        return False
-    clean = "\nfault " not in answer
-    if not at("spec") and (not make_lists.has_bare_placeholders(text) if clean else b":" in text):
-        return False
-    return True
+HERE = os.path.dirname(os.path.abspath(__file__))
+SOURCES = os.path.join(HERE, "..", "crates", "format_rows", "src")
 
 
-def escaped(text):
+def escaped(data):
+    """Bytes as a column of a row writes them."""
     out = []
-    for char in cases.bytes_of(text).decode():
-        if char == "\\":
-            out.append("\\\\")
-        elif char in "\n\t\r":
-            out.append({"\n": "\\n", "\t": "\\t", "\r": "\\r"}[char])
+    for char in data.decode():
+        if char in "\\\n\t\r":
+            out.append({"\\": "\\\\", "\n": "\\n", "\t": "\\t", "\r": "\\r"}[char])
         elif char == " " or char.isprintable() and not char.isspace():
             out.append(char)
         else:
@@ -50,57 +34,88 @@ def escaped(text):
     return "".join(out)
 
 
+def row(columns, answer):
+    return "│".join(columns) + "│" + escaped(b"".join(line + b"\n" for line in answer))
+
+
 def table(name, about, rows):
+    """A constant with rows, and one that says how many they are, or nothing where there is no row."""
+    if not rows:
+        return ""
     text = "\n".join(rows)
-    frame = "#" * (1 + max((len(it) for it in re.findall('"(#*)', text)), default=0))
-    return f"/// {about}\npub const {name}: &str = r{frame}\"\n{text}\n\"{frame};\n"
+    frame = "#" * (1 + max((len(found) for found in re.findall('"(#*)', text)), default=0))
+    return (
+        f"\n/// {about}\npub const {name}: &str = r{frame}\"\n{text}\n\"{frame};\n"
+        f"\n/// How many rows they are.\npub const {name}_COUNT: usize = {len(rows)};\n"
+    )
 
 
-def write(file, about, rows):
-    behind = [row for row in rows if re.search(r"\\nnone\\n(lit|arg) ", row)]
-    walks = [row for row in rows if row not in behind]
-    with open(os.path.join(SOURCES, file), "w", encoding="utf-8", newline="\n") as out:
-        out.write(f"//! {about} Made by `replay/make_rows.py`.\n\n")
-        out.write(table("WALKS", "Rows in which no piece comes behind a None.", walks))
-        out.write("\n")
-        out.write(table("CALLS", "Rows in which pieces come behind a None.", behind))
-    print(f"{file}: {len(walks)} walks, {len(behind)} calls")
+def tables_of_walks(about, rows):
+    calls = [line for line in rows if re.search(r"\\nnone\\n(lit|arg) ", line)]
+    walks = [line for line in rows if line not in calls]
+    return (
+        f"//! {about} Made by `replay/make_rows.py`.\n"
+        + table("WALKS", "Rows in which no piece comes after a None.", walks)
+        + table("CALLS", "Rows in which pieces come after a None.", calls)
+    )
 
 
-def write_sources(file, about, rows):
-    with open(os.path.join(SOURCES, file), "w", encoding="utf-8", newline="\n") as out:
-        out.write(f"//! {about} Made by `replay/make_rows.py`.\n\n")
-        out.write(table("SOURCES", "Whether the snippet is the source literal of the input.", rows))
-    print(f"{file}: {len(rows)} snippets")
+def table_of_snippets(about, rows):
+    return f"//! {about} Made by `replay/make_rows.py`.\n" + table(
+        "SOURCES", "Whether the snippet is the source literal of the input.", rows
+    )
 
 
-def main():
-    if len(sys.argv) != 3 or sys.argv[2] not in make_lists.STAGES:
-        sys.exit(__doc__)
-    stages = make_lists.STAGES
-    at = lambda other: stages.index(sys.argv[2]) >= stages.index(other)
+def files():
+    """Each file of tables, by its name."""
     named, mixed, sources = [], [], []
-    with open(sys.argv[1], encoding="utf-8", newline="\n") as lines:
-        for count, line in enumerate(lines):
+    with open(os.path.join(HERE, "library.tsv"), encoding="utf-8", newline="\n") as lines:
+        for line in lines:
             if line.startswith("# "):
                 continue
             name, mode, style, newline, snippet, text, answer = line.rstrip("\n").split("\t")
-            if at("literal"):
-                source = re.match(r"source (yes|no)\\n", answer).group(0)
-                name_here = make_lists.name_of(name, count)
-                sources.append("│".join([name_here, "format", style, newline, escaped(snippet), escaped(text), escaped(source)]))
-            answer = re.sub(r"(?<=\\n)end \d+\\n", "", answer, count=1)
-            if is_at(at, mode, cases.bytes_of(text), cases.bytes_of(answer).decode()):
-                name = make_lists.name_of(name, count)
-                row = "│".join([name, mode, style, newline, escaped(snippet), escaped(text), escaped(answer)])
-                (mixed if name.startswith("mixed-") else named).append(row)
-    write("named_rows.rt", "Worked rows: each shows one thing.", named[:MOST])
-    write("mixed_rows.rt", "Inputs that were made at random.", mixed[:MOST])
-    if sources:
-        half = (len(sources) + 1) // 2
-        write_sources("snippets.rt", "Snippets and inputs.", sources[:half])
-        write_sources("more_snippets.rt", "More snippets and inputs.", sources[half:])
+            snippet, text = cases.bytes_of(snippet), cases.bytes_of(text)
+            answer = cases.bytes_of(answer).split(b"\n")[:-1]
+            assert answer[0] in (b"source yes", b"source no") and answer[1].startswith(b"end "), line
+            columns = [escaped(name.encode()), mode, style, newline, escaped(snippet), escaped(text)]
+            if snippet != b"-":
+                sources.append(row([columns[0], "format", *columns[2:]], answer[:1]))
+            hashes = None if style == "-" else int(style)
+            answer = stage.row(mode, hashes, newline == "1", snippet[1:], text, [answer[0], *answer[2:]])
+            if answer is not None:
+                (mixed if name.startswith("mixed-") else named).append(row(columns, answer))
+    return {
+        "named_rows.rt": tables_of_walks("Worked rows: each shows one thing.", named),
+        "mixed_rows.rt": tables_of_walks("Inputs that were made at random.", mixed),
+        "snippets.rt": table_of_snippets("Snippets and inputs.", sources),
+    }
+
+
+def check(made):
+    """Counts the files that are what would be written now."""
+    failed = 0
+    for name, text in made.items():
+        with open(os.path.join(SOURCES, name), encoding="utf-8", newline="\n") as file:
+            if file.read() != text:
+                print(f"FAILED: {name} is not what replay/make_rows.py makes of replay/library.tsv")
+                failed += 1
+    print(f"tables: {len(made) - failed} passed, {failed} failed")
+    return 1 if failed else 0
+
+
+def main():
+    if sys.argv[1:] not in ([], ["--check"]):
+        sys.exit(__doc__)
+    made = files()
+    if sys.argv[1:]:
+        return check(made)
+    for name, text in made.items():
+        with open(os.path.join(SOURCES, name), "w", encoding="utf-8", newline="\n") as out:
+            out.write(text)
+        counts = re.findall(r"const (\w+)_COUNT: usize = (\d+)", text)
+        print(f"{name}: " + ", ".join(f"{count} {table.lower()}" for table, count in counts))
+    return 0
 
 
 if __name__ == "__main__":
-    main()
+    sys.exit(main())

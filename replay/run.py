@@ -3,8 +3,9 @@
 
     replay/run.py [--program FILE] [--show N] [LIST ..]
 
-Each case compares standard output, standard error and the status. With no --program, the program is built first. The
-last line counts the cases that passed and failed, and the status is 0 only if each passed."""
+Each case compares standard output, standard error and the status with the answer of the whole program, brought to what
+this stage of it does (stage.py). With no --program, the program is built first. The last line counts the cases that
+passed and failed, and the status is 0 only if each passed."""
 
 import argparse
 import glob
@@ -15,12 +16,12 @@ import sys
 from concurrent.futures import ThreadPoolExecutor
 
 import cases
+import stage
 
 HERE = os.path.dirname(os.path.abspath(__file__))
 LIMIT = 1048576
 SECONDS = 60
-USAGE = "usage: formatread format|asm|diagnostic [--literal]"
-WHOLE_USAGE = "usage: formatread format|asm|diagnostic|diagnostic-named [--literal] [--args N,NAME,..]"
+USAGE = "usage: formatread format|asm|diagnostic|diagnostic-named [--literal] [--args N,NAME,..]"
 SAYS = {
     "": "",
     "NotLiteral": "formatread: input is not a string literal",
@@ -32,23 +33,18 @@ SAYS = {
 }
 
 
-def told(refusal, stage):
+def told(refusal):
     """What is on standard error."""
-    if refusal == "Words":
-        text = WHOLE_USAGE if stage == "all" else USAGE
-    else:
-        text = SAYS[refusal]
+    text = stage.usage(USAGE) if refusal == "Words" else SAYS[refusal]
     return text.encode() + b"\n" if text else b""
 
 
-def made_cases(stage):
+def made_cases():
     """Cases that are too large for a list, with a stream that fails at the end where one does."""
-    span = lambda text: b" " + text.encode() if stage in ("spans", "faults", "all") else b""
     words = [b"format"]
     wide = "€".encode()
     count = 20000
-    places = [span(f"{2 * i + 2}..{2 * i + 2}") for i in range(count)]
-    bare = b"".join(b"arg implicit %d%s\n" % (i, place) for i, place in enumerate(places))
+    bare = b"".join(b"arg implicit %d %d..%d\n" % (i, 2 * i + 2, 2 * i + 2) for i in range(count))
     many = b"a}}" * count
     return [
         ("limit-reached", words, b"a" * LIMIT, "", b'lit "' + b"a" * LIMIT + b'"\n', 0, None),
@@ -73,9 +69,9 @@ def made_cases(stage):
     ]
 
 
-def run(program, stage, case):
-    """Why the case failed: nothing, if it passed."""
-    name, words, given, refusal, wanted, status, fails = (*case, None)[:7]
+def run(program, case, fails=None):
+    """Why the case failed: nothing, if it passed. A stream may fail."""
+    name, words, given, refusal, wanted, status = case
     opened = []
     how = {"input": given, "stdout": subprocess.PIPE}
     if fails == "read":
@@ -92,7 +88,7 @@ def run(program, stage, case):
     finally:
         for it in opened:
             os.close(it)
-    pairs = [("standard error", ran.stderr, told(refusal, stage)), ("status", ran.returncode, status)]
+    pairs = [("standard error", ran.stderr, told(refusal)), ("status", ran.returncode, status)]
     if fails != "write":
         pairs.append(("standard output", ran.stdout, wanted))
     return [f"{what}: {got!r:.500}, wanted {want!r:.500}" for what, got, want in pairs if got != want]
@@ -113,18 +109,19 @@ def main():
             return 1
     lists = said.lists or sorted(glob.glob(os.path.join(HERE, "cases", "*.tsv")))
     read = [cases.read(file) for file in lists]
-    stages = {stage for stage, _ in read}
-    if len(stages) != 1 or not all(some for _, some in read):
-        print("replay: 0 passed, 1 failed: the lists are missing, empty or of several stages")
+    if not all(read) or not read:
+        print("replay: 0 passed, 1 failed: the lists are missing or empty")
         return 1
-    stage = stages.pop()
-    todo = made_cases(stage) + [case for _, some in read for case in some]
+    whole = [(case, None) for some in read for case in some]
+    whole += [(case[:6], case[6]) for case in made_cases()]
+    todo = [(case, fails) for case, fails in ((stage.case(case), fails) for case, fails in whole) if case]
     with ThreadPoolExecutor(os.cpu_count()) as pool:
-        why = list(pool.map(lambda case: run(os.path.abspath(program), stage, case), todo))
-    failed = [(case, it) for case, it in zip(todo, why) if it]
+        why = list(pool.map(lambda it: run(os.path.abspath(program), *it), todo))
+    failed = [(case, it) for (case, _), it in zip(todo, why) if it]
     for case, it in failed[: said.show]:
         print(f"FAILED {case[0]}: words {cases.text_of_words(case[1])!r}, input {cases.text_of(case[2][:300])!r}")
         print(*(f"    {line}" for line in it), sep="\n")
+    print(f"{len(whole) - len(todo)} cases are left out: stage.py says which")
     print(f"replay: {len(todo) - len(failed)} passed, {len(failed)} failed")
     return 1 if failed else 0
 

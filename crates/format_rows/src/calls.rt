@@ -5,6 +5,7 @@ use rustc_parse_format::{
     Parser, Piece, Position, Sign, read_all,
 };
 use std::alloc::{AllocError, Global};
+use std::process::Abort;
 use std::test::Fail;
 
 fn parser_of(alloc: Global, input: &'static str) -> Result<Parser<'static>, AllocError> {
@@ -16,6 +17,37 @@ fn positions_have_their_index(rt: HostRuntime) {
     assert_eq!(rt; Position::ArgumentImplicitlyIs(3).index(), Some(3));
     assert_eq!(rt; Position::ArgumentIs(65535).index(), Some(65535));
     assert_eq!(rt; Position::ArgumentNamed("3").index(), None);
+}
+
+/// The argument of an input that is one placeholder is a name and nothing else.
+fn is_identifier(
+    rt: &impl Abort,
+    alloc: Global,
+    input: &'static str,
+    mode: ParseMode,
+) -> Result<bool, Fail> {
+    assert!(rt; input.len() < 100);
+    let mut parser = Parser::new(alloc, input, None, None, false, mode)?;
+    match parser.next()? {
+        Some(Piece::NextArgument(argument)) => Ok(argument.is_identifier()),
+        _ => panic!(rt; "{input} has no argument"),
+    }
+}
+
+#[test]
+fn an_identifier_is_a_name_and_nothing_else(rt: HostRuntime) -> Result<(), Fail> {
+    for (input, mode, wanted) in [
+        ("{foo}", ParseMode::Format, true),
+        ("{foo:}", ParseMode::Format, true),
+        ("{foo:}", ParseMode::Diagnostic, false),
+        ("{foo:5}", ParseMode::Format, false),
+        ("{}", ParseMode::Format, false),
+        ("{3}", ParseMode::Format, false),
+    ] {
+        let found = is_identifier(&rt, rt.alloc(), input, mode)?;
+        assert_eq!(rt; found, wanted, "{input} in {mode:?}");
+    }
+    Ok(())
 }
 
 #[test]

@@ -1,8 +1,9 @@
 //! Tests of the parser through its public calls.
 //!
 //! `named_rows` and `mixed_rows` are tables of inputs with all that reading them gives. What they expect comes from
-//! outside (`replay/README.md` tells from where), and never from the parser itself. `snippets` and `more_snippets` are
-//! tables of snippets that are source literals of their inputs, or not. `calls` has what no table shows.
+//! outside (`replay/README.md` tells from where), and never from the parser itself. `snippets` is a table of snippets
+//! that are source literals of their inputs, or not. `calls` has what no table shows, and `memory` calls that are
+//! refused memory.
 #![tactic(auto)]
 
 #[cfg(test)]
@@ -10,9 +11,9 @@ mod calls;
 #[cfg(test)]
 mod listing;
 #[cfg(test)]
-mod mixed_rows;
+mod memory;
 #[cfg(test)]
-mod more_snippets;
+mod mixed_rows;
 #[cfg(test)]
 mod named_rows;
 #[cfg(test)]
@@ -21,3 +22,5 @@ mod row;
 mod snippets;
 #[cfg(test)]
 mod tables;
+#[cfg(test)]
+mod written;

@@ -9,8 +9,8 @@ use std::alloc::AllocError;
 use std::ops::Range;
 
 /// Adds whether the snippet is the source literal.
-pub fn put_source(out: &mut String, parser: &Parser<'_>) -> Result<(), AllocError> {
-    out.push_str(if parser.is_source_literal() {
+pub fn put_source(out: &mut String, is_source: bool) -> Result<(), AllocError> {
+    out.push_str(if is_source {
         "source yes\n"
     } else {
         "source no\n"

@@ -1,6 +1,6 @@
 //! Worked rows: each shows one thing. Made by `replay/make_rows.py`.
 
-/// Rows in which no piece comes behind a None.
+/// Rows in which no piece comes after a None.
 pub const WALKS: &str = r###"
 worked-001│format│-│0│-││source no\nnone\ncurarg 0\n
 worked-002│format│-│0│-│{{a}}b{{{}│source no\nlit "{a"\nlit "}b"\nlit "{"\narg implicit 0 10..10\nnone\ncurarg 1\n
@@ -13,16 +13,21 @@ worked-008│format│-│0│-│{:_}│source no\narg implicit 0 2..2 ty="_"@3
 worked-013│format│-│0│="foo)│foo│source no\nlit "foo"\nnone\ncurarg 0\n
 worked-014│format│-│0│="│foo│source no\nlit "foo"\nnone\ncurarg 0\n
 worked-015│format│2│0│=r"│foo│source no\nlit "foo"\nnone\ncurarg 0\n
+worked-016│format│-│1│="foo"│foo\n│source yes\nlit "foo\\n"\nnone\ncurarg 0\n
 worked-017│format│0│0│-│{:5│source no\narg implicit 0 3..3 width=is:5@4..3\nnone\ncurarg 1\nfault 3..3 expected `}` but string was terminated\nnote if you intended to print `{`, you can escape it using `{{`\nlabel expected `}`\nsecond 2..3 because of this opening brace\n
+worked-018│format│1│0│=r#"{a}"#│{a}│source yes\narg name a 4..5\nnone\ncurarg 0\n
 worked-019│diagnostic│-│0│-│{foo:bar}│source no\narg name foo 2..5 ty="bar"@5..9\nnone\ncurarg 0\n
 worked-020│format│-│0│-│{:08.3x?}│source no\narg implicit 0 2..2 zero width=is:8@4..5 precision=is:3@5..7 hex=lower ty="?"\nnone\ncurarg 1\n
 worked-021│format│-│0│-│{│source no\narg implicit 0 1..1\nnone\ncurarg 1\nfault 1..1 expected `}` but string was terminated\nnote if you intended to print `{`, you can escape it using `{{`\nlabel expected `}`\nsecond 1..2 because of this opening brace\n
 worked-023│format│-│1│-││source no\nnone\ncurarg 0\n
+worked-027│format│-│1│=""│\n│source yes\nlit "\\n"\nnone\ncurarg 0\n
+worked-028│format│0│1│=r"a"│a\n│source yes\nlit "a\\n"\nnone\ncurarg 0\n
 worked-029│format│-│0│-│{100000000000000000000}│source no\narg index 0 2..23\nnone\ncurarg 0\nfault 2..24 integer `100000000000000000000` does not fit into the type `u16` whose range is `0..=65535`\nlabel integer out of range for `u16`\n
 worked-030│format│-│1│-│{a\n│source no\narg name a 2..2\nnone\ncurarg 0\nfault 2..2 expected `}` but string was terminated\nnote if you intended to print `{`, you can escape it using `{{`\nlabel expected `}`\nsecond 1..2 because of this opening brace\n
 worked-031│format│-│0│-│{:70000$}│source no\narg implicit 0 2..2 width=param:4464@3..9\nnone\ncurarg 1\nfault 3..9 integer `70000` does not fit into the type `u16` whose range is `0..=65535`\nlabel integer out of range for `u16`\n
 worked-032│format│-│0│-│{1000000│source no\narg index 16960 2..8\nnone\ncurarg 0\nfault 2..8 integer `1000000` does not fit into the type `u16` whose range is `0..=65535`\nlabel integer out of range for `u16`\nfault 8..8 expected `}` but string was terminated\nnote if you intended to print `{`, you can escape it using `{{`\nlabel expected `}`\nsecond 1..2 because of this opening brace\n
 worked-033│format│18446744073709551610│0│-│{a}│source no\narg name a 18446744073709551613..18446744073709551614\nnone\ncurarg 0\n
+worked-034│format│-│0│="ab"│ab│source yes\nlit "ab"\nnone\ncurarg 0\n
 worked-035│format│-│0│=│foo│source no\nlit "foo"\nnone\ncurarg 0\n
 worked-036│format│-│0│="│foo│source no\nlit "foo"\nnone\ncurarg 0\n
 worked-037│format│-│0│="foo│foo│source no\nlit "foo"\nnone\ncurarg 0\n
@@ -49,13 +54,17 @@ worked-080│format│-│0│-│{:_$}│source no\narg implicit 0 2..2 width=n
 worked-081│format│-│0│-│{:xyz}│source no\narg implicit 0 2..2 ty="x"\nlit "yz"\nnone\nnone\ncurarg 1\nfault 4..4 expected `}`, found `y`\nnote if you intended to print `{`, you can escape it using `{{`\nlabel expected `}`\nsecond 1..2 because of this opening brace\nfault 6..7 unmatched `}` found\nnote if you intended to print `}`, you can escape it using `}}`\nlabel unmatched `}`\n
 worked-082│diagnostic│-│0│-│{}{0}{a:}│source no\narg implicit 0 2..2\narg index 0 4..5\narg name a 7..8 ty=""@8..9\nnone\ncurarg 1\n
 worked-083│asm│-│0│-│{0:e}│source no\narg index 0 2..3 ty="e"@4..5\nnone\ncurarg 0\n
+worked-084│format│-│0│-│{a:..b}│source no\narg name a 2..3 precision=implied@4..5\nlit ".b"\nnone\nnone\ncurarg 0\nfault 5..5 expected `}`, found `.`\nnote if you intended to print `{`, you can escape it using `{{`\nlabel expected `}`\nsecond 1..2 because of this opening brace\nfault 7..8 unmatched `}` found\nnote if you intended to print `}`, you can escape it using `}}`\nlabel unmatched `}`\n
+worked-086│format│-│0│="{\n}"│{\n}│source yes\narg implicit 0 2..3\nnone\ncurarg 1\n
+worked-088│format│1│0│=r#"a"#b"#│a"#b│source yes\nlit "a\\"#b"\nnone\ncurarg 0\n
+worked-089│asm│0│0│=r"\n        .intel_syntax noprefix\n        nop"│\n        .intel_syntax noprefix\n        nop│source yes\nlit "\\n        .intel_syntax noprefix\\n        nop"\nnone\ncurarg 0\n
 worked-090│format│1│1│=r#"assertion `left {op} right` failed"#│assertion `left {op} right` failed│source no\nlit "assertion `left "\narg name op 20..22\nlit " right` failed"\nnone\ncurarg 0\n
 simple-asdf│format│-│0│-│asdf│source no\nlit "asdf"\nnone\ncurarg 0\n
 simple-a{{b│format│-│0│-│a{{b│source no\nlit "a"\nlit "{b"\nnone\ncurarg 0\n
 simple-a}}b│format│-│0│-│a}}b│source no\nlit "a"\nlit "}b"\nnone\ncurarg 0\n
 simple-a}}│format│-│0│-│a}}│source no\nlit "a"\nlit "}"\nnone\ncurarg 0\n
 simple-}}│format│-│0│-│}}│source no\nlit "}"\nnone\ncurarg 0\n
-simple-\}}│format│-│0│-│\\}}│source no\nlit "\\\\"\nlit "}"\nnone\ncurarg 0\n
+simple-\\}}│format│-│0│-│\\}}│source no\nlit "\\\\"\nlit "}"\nnone\ncurarg 0\n
 format_empty│format│-│0│-│{}│source no\narg implicit 0 2..2\nnone\ncurarg 1\n
 format_position│format│-│0│-│{3}│source no\narg index 3 2..3\nnone\ncurarg 0\n
 format_position_nothing_else│format│-│0│-│{3:}│source no\narg index 3 2..3\nnone\ncurarg 0\n
@@ -88,12 +97,16 @@ invalid05│format│-│0│-│{:|}│source no\narg implicit 0 2..2\nlit "|"\
 invalid_position│format│-│0│-│{18446744073709551616}│source no\narg index 0 2..22\nnone\ncurarg 0\nfault 2..23 integer `18446744073709551616` does not fit into the type `u16` whose range is `0..=65535`\nlabel integer out of range for `u16`\n
 invalid_width│format│-│0│-│{:18446744073709551616}│source no\narg implicit 0 2..2 width=is:0@3..23\nnone\ncurarg 1\nfault 3..24 integer `18446744073709551616` does not fit into the type `u16` whose range is `0..=65535`\nlabel integer out of range for `u16`\n
 invalid_precision│format│-│0│-│{:.18446744073709551616}│source no\narg implicit 0 2..2 precision=is:0@3..24\nnone\ncurarg 1\nfault 4..25 integer `18446744073709551616` does not fit into the type `u16` whose range is `0..=65535`\nlabel integer out of range for `u16`\n
+worked-133│format│-│0│=""││source yes\nnone\ncurarg 0\n
 worked-135│format│-│1│="foo\\n"│foo\n│source no\nlit "foo\\n"\nnone\ncurarg 0\n
 worked-137│format│-│0│="a"b"│a"b│source no\nlit "a\\"b"\nnone\ncurarg 0\n
 worked-138│format│-│0│="a\\"│a"│source no\nlit "a\\""\nnone\ncurarg 0\n
 worked-139│format│-│0│="foo"x│foo│source no\nlit "foo"\nnone\ncurarg 0\n
+worked-140│format│0│0│=r""││source yes\nnone\ncurarg 0\n
 worked-141│format│0│1│=r""││source no\nnone\ncurarg 0\n
+worked-142│format│0│0│=r"a"b"│a"b│source yes\nlit "a\\"b"\nnone\ncurarg 0\n
 worked-143│format│1│0│=r##""##││source no\nnone\ncurarg 0\n
+worked-144│format│1│1│=r#"a"#│a\n│source yes\nlit "a\\n"\nnone\ncurarg 0\n
 worked-145│format│0│1│=r"a"│ab│source no\nlit "ab"\nnone\ncurarg 0\n
 written-1│format│-│0│-│{a:x\u{80}}│source no\narg name a 2..3 ty="x"\nlit "\u{80}"\nnone\nnone\ncurarg 0\nfault 5..5 expected `}`, found `\u{80}`\nnote if you intended to print `{`, you can escape it using `{{`\nlabel expected `}`\nsecond 1..2 because of this opening brace\nfault 7..8 unmatched `}` found\nnote if you intended to print `}`, you can escape it using `}}`\nlabel unmatched `}`\n
 written-2│format│-│0│-│{a:x\u{2028}}│source no\narg name a 2..3 ty="x"\nnone\ncurarg 0\n
@@ -105,7 +118,5 @@ written-7│format│-│0│-│{a:x"}│source no\narg name a 2..3 ty="x"\nlit
 written-8│format│-│0│-│{a:x\\}│source no\narg name a 2..3 ty="x"\nlit "\\\\"\nnone\nnone\ncurarg 0\nfault 5..5 expected `}`, found `\\\\`\nnote if you intended to print `{`, you can escape it using `{{`\nlabel expected `}`\nsecond 1..2 because of this opening brace\nfault 6..7 unmatched `}` found\nnote if you intended to print `}`, you can escape it using `}}`\nlabel unmatched `}`\n
 "###;
 
-/// Rows in which pieces come behind a None.
-pub const CALLS: &str = r#"
-
-"#;
+/// How many rows they are.
+pub const WALKS_COUNT: usize = 114;

@@ -1,10 +1,12 @@
 //! A row of a table, and what reading its input gives.
 //!
-//! A row is a line with `│` between its columns: a name, the mode, the style (`-` or how many `#`), whether a newline
-//! was appended (`0` or `1`), the snippet (`-`, or `=` and the snippet), the input, and the listing. A backslash stands
-//! before `n`, `t` and `r` for LF, HT and CR, before `u` and a code in braces, and before itself.
+//! A row is a line with `│` between its columns: a name, the mode (`format`, `asm` or `diagnostic`), the style (`-` or
+//! how many `#`), whether a newline was appended (`0` or `1`), the snippet (`-`, or `=` and the snippet), the input, and
+//! the listing. A backslash stands before `n`, `t` and `r` for LF, HT and CR, before `u` and a code in braces, and before
+//! itself. A line that is written otherwise fails the test that reads it.
 
 use crate::listing::{put_end, put_piece, put_source};
+use crate::written::text_of;
 use rustc_parse_format::literal::is_source_literal;
 use rustc_parse_format::{ParseMode, Parser, read_all};
 use std::alloc::{AllocError, Global};
@@ -25,23 +27,48 @@ pub struct Row {
     pub wanted: String,
 }
 
-/// The row that a line writes.
-pub fn row_of(alloc: Global, line: &str) -> Result<Row, Fail> {
+/// Why a line gives no row.
+#[derive(Debug, Drop)]
+enum RowFault {
+    /// This column is not written as it should be.
+    Column(&'static str),
+    Memory(AllocError),
+}
+
+impl From<AllocError> for RowFault {
+    fn from(error: AllocError) -> RowFault {
+        RowFault::Memory(error)
+    }
+}
+
+/// The row that a line writes. Where it writes none, the test fails, and names the line and the column.
+pub fn row_of(rt: &impl Abort, alloc: Global, line: &str) -> Result<Row, Fail> {
+    match read_row(alloc, line) {
+        Ok(row) => Ok(row),
+        Err(RowFault::Column(column)) => panic!(rt; "no {column} in the row {line}"),
+        Err(RowFault::Memory(error)) => Err(error)?,
+    }
+}
+
+fn read_row(alloc: Global, line: &str) -> Result<Row, RowFault> {
     let mut columns = line.split('│');
-    let name = text_of(alloc, columns.next().unwrap_or(""))?;
-    let mode = match columns.next() {
-        Some("asm") => ParseMode::InlineAsm,
-        Some("diagnostic") => ParseMode::Diagnostic,
-        _ => ParseMode::Format,
+    let name = text_of(alloc, columns.next())?.ok_or(RowFault::Column("name"))?;
+    let mode = mode_of(columns.next()).ok_or(RowFault::Column("mode"))?;
+    let style = style_of(columns.next()).ok_or(RowFault::Column("style"))?;
+    let appended_newline = newline_of(columns.next()).ok_or(RowFault::Column("newline"))?;
+    let snippet = match columns.next() {
+        Some("-") => None,
+        Some(column) => {
+            let snippet = text_of(alloc, column.strip_prefix('='))?;
+            Some(snippet.ok_or(RowFault::Column("snippet"))?)
+        }
+        None => return Err(RowFault::Column("snippet")),
     };
-    let style = columns.next().unwrap_or("").parse().ok();
-    let appended_newline = columns.next() == Some("1");
-    let snippet = match columns.next().unwrap_or("").strip_prefix('=') {
-        Some(text) => Some(text_of(alloc, text)?),
-        None => None,
-    };
-    let input = text_of(alloc, columns.next().unwrap_or(""))?;
-    let wanted = text_of(alloc, columns.next().ok_or("a row has seven columns")?)?;
+    let input = text_of(alloc, columns.next())?.ok_or(RowFault::Column("input"))?;
+    let wanted = text_of(alloc, columns.next())?.ok_or(RowFault::Column("listing"))?;
+    if columns.next().is_some() {
+        return Err(RowFault::Column("end behind seven columns"));
+    }
     Ok(Row {
         name,
         mode,
@@ -53,55 +80,29 @@ pub fn row_of(alloc: Global, line: &str) -> Result<Row, Fail> {
     })
 }
 
-/// How a character of a column is read.
-#[derive(Clone, Copy)]
-enum Reading {
-    /// As itself.
-    Plain,
-    /// Behind a backslash.
-    Escaped,
-    /// In the braces of a code, which has this value so far.
-    Code(u32),
-}
-
-/// The text that a column writes.
-fn text_of(alloc: Global, column: &str) -> Result<String, AllocError> {
-    let mut text = String::new(alloc);
-    let mut reading = Reading::Plain;
-    for c in column.chars() {
-        match (reading, c) {
-            (Reading::Plain, '\\') => reading = Reading::Escaped,
-            (Reading::Plain, _) => text.push(c)?,
-            (Reading::Escaped, 'u') => reading = Reading::Code(0),
-            (Reading::Escaped, _) => {
-                text.push(unescaped(c))?;
-                reading = Reading::Plain;
-            }
-            (Reading::Code(_), '{') => {}
-            (Reading::Code(code), '}') => {
-                text.push(char::from_u32(code).unwrap_or('?'))?;
-                reading = Reading::Plain;
-            }
-            (Reading::Code(code), _) => reading = Reading::Code(with_digit(code, c)),
-        }
-    }
-    Ok(text)
-}
-
-/// The character that a letter behind a backslash stands for.
-fn unescaped(c: char) -> char {
-    match c {
-        'n' => '\n',
-        't' => '\t',
-        'r' => '\r',
-        _ => c,
+fn mode_of(column: Option<&str>) -> Option<ParseMode> {
+    match column {
+        Some("format") => Some(ParseMode::Format),
+        Some("asm") => Some(ParseMode::InlineAsm),
+        Some("diagnostic") => Some(ParseMode::Diagnostic),
+        _ => None,
     }
 }
 
-/// A hexadecimal number with one digit more.
-fn with_digit(code: u32, digit: char) -> u32 {
-    code.wrapping_mul(16)
-        .wrapping_add(digit.to_digit(16).unwrap_or(0))
+fn style_of(column: Option<&str>) -> Option<Option<usize>> {
+    match column {
+        Some("-") => Some(None),
+        Some(hashes) => hashes.parse().ok().map(Some),
+        None => None,
+    }
+}
+
+fn newline_of(column: Option<&str>) -> Option<bool> {
+    match column {
+        Some("0") => Some(false),
+        Some("1") => Some(true),
+        _ => None,
+    }
 }
 
 /// A snippet of its own.
@@ -133,34 +134,32 @@ fn start<'row>(rt: &impl Abort, alloc: Global, row: &'row Row) -> Result<Parser<
 pub fn source_by_parser(rt: &impl Abort, alloc: Global, row: &Row) -> Result<String, Fail> {
     let parser = start(rt, alloc, row)?;
     let mut out = String::new(alloc);
-    put_source(&mut out, &parser)?;
+    put_source(&mut out, parser.is_source_literal())?;
     Ok(out)
 }
 
-/// What the test of literals says of it. Without a snippet there is no source literal.
-pub fn source_by_literal(alloc: Global, row: &Row) -> Result<String, Fail> {
-    let is_source = match &row.snippet {
-        Some(snippet) => is_source_literal(
-            row.input.as_str(),
-            row.style,
-            snippet.as_str(),
-            row.appended_newline,
-        ),
-        None => false,
+/// What the test of literals says of it. The row has to have a snippet.
+pub fn source_by_literal(rt: &impl Abort, alloc: Global, row: &Row) -> Result<String, Fail> {
+    let Some(snippet) = &row.snippet else {
+        let name = row.name.as_str();
+        panic!(rt; "row {name} has no snippet");
     };
-    let answer = if is_source {
-        "source yes\n"
-    } else {
-        "source no\n"
-    };
-    Ok(String::from_str(alloc, answer)?)
+    let is_source = is_source_literal(
+        row.input.as_str(),
+        row.style,
+        snippet.as_str(),
+        row.appended_newline,
+    );
+    let mut out = String::new(alloc);
+    put_source(&mut out, is_source)?;
+    Ok(out)
 }
 
 /// What the calls of `next` give up to the first one at the end of the input.
 pub fn by_next(rt: &impl Abort, alloc: Global, row: &Row) -> Result<String, Fail> {
     let mut parser = start(rt, alloc, row)?;
     let mut out = String::new(alloc);
-    put_source(&mut out, &parser)?;
+    put_source(&mut out, parser.is_source_literal())?;
     for _ in 0..row.input.len() + 1 {
         let is_at_end = parser.peek().is_none();
         match parser.next()? {
@@ -190,7 +189,7 @@ pub fn by_read_all(rt: &impl Abort, alloc: Global, row: &Row) -> Result<String, 
         row.mode,
     )?;
     let mut out = String::new(alloc);
-    put_source(&mut out, &parser)?;
+    put_source(&mut out, parser.is_source_literal())?;
     for piece in pieces.iter() {
         put_piece(&mut out, piece)?;
     }

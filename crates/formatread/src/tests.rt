@@ -255,24 +255,29 @@ fn a_write_that_takes_no_byte_has_failed(rt: HostRuntime) -> Result<(), Fail> {
     Ok(())
 }
 
-/// Passes whether or not a growth is refused.
+/// Passes whether or not a request for memory is refused.
 #[test]
-fn a_refused_growth_leaves_nothing_written(rt: HostRuntime) -> Result<(), Fail> {
-    let Ok(words) = words(rt.alloc(), &["format"]) else {
-        return Ok(());
+fn writes_nothing_out_of_memory(rt: HostRuntime) -> Result<(), Fail> {
+    let words = match words(rt.alloc(), &["format"]) {
+        Ok(words) => words,
+        Err(AllocError) => {
+            println!(rt; "refused")?;
+            words(rt.alloc(), &["format"])?
+        }
     };
     let mut reader = HI;
     let mut sheet = Sheet::new();
-    match run(rt.alloc(), &mut reader, &mut sheet, words.as_slice()) {
-        Err(fault) => {
-            assert_eq!(rt; fault, RunFault::Memory);
-            assert!(rt; sheet.text().is_empty());
-        }
-        Ok(faulty) => {
-            assert!(rt; !faulty);
-            assert_eq!(rt; sheet.text(), HI_LINES);
-        }
+    let mut answer = run(rt.alloc(), &mut reader, &mut sheet, words.as_slice());
+    if answer == Err(RunFault::Memory) {
+        println!(rt; "refused")?;
+        assert!(rt; sheet.text().is_empty());
+        assert_eq!(rt; verdict(&answer).1, 3);
+        reader = HI;
+        answer = run(rt.alloc(), &mut reader, &mut sheet, words.as_slice());
     }
+    assert_eq!(rt; answer, Ok(false));
+    assert_eq!(rt; sheet.text(), HI_LINES);
+    assert!(rt; reader.is_empty());
     Ok(())
 }
 

@@ -1,9 +1,11 @@
 //! Worked rows of literals.
 
 use super::*;
+use std::test::Fail;
 
+/// Passes whether or not a request for memory is refused.
 #[test]
-fn reads_contents(rt: HostRuntime) -> Result<(), AllocError> {
+fn reads_a_content_again_out_of_memory(rt: HostRuntime) -> Result<(), Fail> {
     let content = "a\\x41\\u{1_F__600_}\\\n b";
     let wanted = [
         (0..1, 'a'),
@@ -11,10 +13,12 @@ fn reads_contents(rt: HostRuntime) -> Result<(), AllocError> {
         (5..18, '\u{1F600}'),
         (21..22, 'b'),
     ];
-    // a call that finds no memory changes nothing: the next one gives the characters
     let read = match read_content(rt.alloc(), content) {
         Ok(read) => read,
-        Err(_) => read_content(rt.alloc(), content)?,
+        Err(AllocError) => {
+            println!(rt; "refused")?;
+            read_content(rt.alloc(), content)?
+        }
     };
     match read {
         None => assert!(rt; false, "a content"),
