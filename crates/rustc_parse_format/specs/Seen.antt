@@ -1,5 +1,7 @@
 -- What a contract sees of the declared types: texts by their characters, messages by their bytes, ranges as pairs.
 use Rattle.std.specs.Prelude.{ℕ, Option, Some, None, option_map, chars, string_bytes}
+use Rattle.std.specs.declared.string.String.{String}
+use Rattle.std.specs.declared.alloc.Global.{Global}
 use Rattle.std.specs.declared.ops.Range.{Range}
 use Rattle.rustc_parse_format.specs.declared.types.ParseMode.{ParseMode as DeclaredMode}
 use Rattle.rustc_parse_format.specs.declared.types.ParseMode.TheVariants.{Format as FormatMode, InlineAsm as InlineAsmMode, Diagnostic as DiagnosticMode}
@@ -20,12 +22,17 @@ use Rattle.rustc_parse_format.specs.declared.types.Count.TheVariants.{CountIs, C
 use Rattle.rustc_parse_format.specs.declared.types.ParseError.{ParseError}
 use Rattle.rustc_parse_format.specs.declared.types.Suggestion.{Suggestion as DeclaredSuggestion}
 use Rattle.rustc_parse_format.specs.declared.types.Suggestion.TheVariants.{None as NoSuggestion, UsePositional as Positional, RemoveRawIdent as RemoveRaw, ReorderFormatParameter as Reorder, AddMissingColon as AddColon, UseRustDebugPrintingMacro as UseDebugMacro}
+use Rattle.rustc_parse_format.specs.Characters.{Text}
 use Rattle.rustc_parse_format.specs.Pieces.{Mode, Format, InlineAsm, Diagnostic, Alignment, Left, Right, Center, Unknown, Sign, Plus, Minus, DebugHex, Lower, Upper, Position, Implicit, Index, Named, Count, Is, Name, Param, Star, Implied, Spec, Argument, Piece, Lit, NextArgument}
 use Rattle.rustc_parse_format.specs.Faults.{Message, Suggestion, Nothing, UsePositional, RemoveRawIdent, ReorderFormatParameter, AddMissingColon, UseRustDebugPrintingMacro}
 use Rattle.rustc_parse_format.specs.World.{Place}
 
 abbrev pub pair : Range ℕ → Place
 pair r = (r.start, r.end)
+
+-- a snippet by its characters
+abbrev pub seen_snippet : Option (String Global) → Option Text
+seen_snippet snippet = option_map (λ s. chars (string_bytes s)) snippet
 
 abbrev pub seen_mode : DeclaredMode → Mode
 seen_mode FormatMode = Format

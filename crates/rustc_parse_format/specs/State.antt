@@ -1,9 +1,9 @@
 -- What a caller sees of a parser between two calls.
-use Rattle.std.specs.Prelude.{◌≡◌, ℕ, ◌-◌, List, [], ◌∷◌, length, Option, Some, None, option_map}
+use Rattle.std.specs.Prelude.{◌≡◌, ℕ, ◌-◌, Bool, List, [], ◌∷◌, length, Option, Some, None, option_map}
 use Rattle.rustc_parse_format.specs.Characters.{Text, width}
 use Rattle.rustc_parse_format.specs.Pieces.{Mode, Piece, bare}
 use Rattle.rustc_parse_format.specs.Faults.{Message, add_errors}
-use Rattle.rustc_parse_format.specs.World.{World, Place, place_at, faults_in, pieces_in}
+use Rattle.rustc_parse_format.specs.World.{World, Place, place_at, world, faults_in, pieces_in}
 use Rattle.rustc_parse_format.specs.Step.{Call, call, walk, IsWalk, pieces_of}
 
 -- What a cursor stands at: the rest of an input, in its world.
@@ -30,6 +30,10 @@ pub record State : Type 0 where
 -- at the start of an input
 abbrev pub fresh : Mode → World → Text → State
 fresh mode w input = record { mode = mode; world = w; input = input; rest = input; next = 0; errors = [] }
+
+-- the same for what a parser is given: an input, the style of its literal, a snippet, and whether a newline was appended
+abbrev pub first_state : Mode → Text → Option ℕ → Option Text → Bool → State
+first_state mode input style snippet appended = fresh mode (world input style snippet appended) input
 
 -- the call that comes next
 abbrev pub next_call : State → Call

@@ -41,21 +41,21 @@ impl<'input> Model for Parser<'input> {
 }
 
 impl<'input> Parser<'input> {
-    ghost use Rattle.std.specs.Prelude.{◌≡◌, ◌≢◌, ◌+◌, ◌<◌, ◌≤◌, ◌^◌, ◌↔◌, [], ℕ, IfOk, IsNone, IsOk, IsTrue, OnErr, OnOk, chars, length, map, option_map, string_bytes};
+    ghost use Rattle.std.specs.Prelude.{◌≡◌, ◌≢◌, ◌+◌, ◌<◌, ◌≤◌, ◌^◌, ◌↔◌, [], ℕ, IfOk, IsNone, IsOk, IsTrue, OnErr, OnOk, chars, length, map, option_map};
     ghost use Rattle.rustc_parse_format.specs.Characters.{Text, behind_first};
     ghost use Rattle.rustc_parse_format.specs.Faults.{Keeps};
     ghost use Rattle.rustc_parse_format.specs.Grammar.{Begins};
     ghost use Rattle.rustc_parse_format.specs.Meaning.{argument};
     ghost use Rattle.rustc_parse_format.specs.Pieces.{NextArgument, Piece as BarePiece, bare};
-    ghost use Rattle.rustc_parse_format.specs.Seen.{pair, seen, seen_error, seen_mode};
+    ghost use Rattle.rustc_parse_format.specs.Seen.{pair, seen, seen_error, seen_mode, seen_snippet};
     ghost use Rattle.rustc_parse_format.specs.Source.{HasSource};
-    ghost use Rattle.rustc_parse_format.specs.State.{GivesPiece, after, first_of, fresh, next_call};
+    ghost use Rattle.rustc_parse_format.specs.State.{GivesPiece, after, first_of, first_state, next_call};
     ghost use Rattle.rustc_parse_format.specs.Spelling.{IsPart};
     ghost use Rattle.rustc_parse_format.specs.Step.{TakesNoMemory};
     ghost use Rattle.rustc_parse_format.specs.Steps.{IsInWord, Paid};
     ghost use Rattle.rustc_parse_format.specs.Placeholder.{placed};
     ghost use Rattle.rustc_parse_format.specs.Syntax.{FieldText, opened_part};
-    ghost use Rattle.rustc_parse_format.specs.World.{hashes, piece_in, world};
+    ghost use Rattle.rustc_parse_format.specs.World.{hashes, piece_in};
 
     /// A parser at the start of an input, which stands in a literal of this style: None for an ordinary literal, or the
     /// number of the hashes of a raw one. The snippet is the source that the input is said to come from. The hashes, the
@@ -70,10 +70,10 @@ impl<'input> Parser<'input> {
     ) -> Result<Parser<'input>, AllocError>
         requires { hashes style + length input.now + 2 < 2 ^ 64 }
         ensures ok { IsOk result }
-        ensures start { IfOk result (λ p. p ≡ fresh (seen_mode mode)
-            (world (chars input.now) style (option_map (λ s. chars (string_bytes s)) snippet) appended_newline) (chars input.now)) }
+        ensures start { IfOk result (λ p.
+            p ≡ first_state (seen_mode mode) (chars input.now) style (seen_snippet snippet) appended_newline) }
         ensures source { IfOk result (λ p. IsTrue p.world.is_literal
-            ↔ HasSource (chars input.now) style (option_map (λ s. chars (string_bytes s)) snippet) appended_newline) }
+            ↔ HasSource (chars input.now) style (seen_snippet snippet) appended_newline) }
     {
         let is_literal = has_source(input, style, &snippet, appended_newline);
         let end = text_end(input, &snippet, appended_newline);

@@ -1,16 +1,16 @@
 //! A whole input at once.
 
-ghost use Rattle.std.specs.Prelude.{◌≡◌, ◌≢◌, ◌+◌, ◌<◌, ◌^◌, ◌↔◌, ℕ, [], List, IfOk, IsOk, IsTrue, chars, length, map, option_map, string_bytes};
+ghost use Rattle.std.specs.Prelude.{◌≡◌, ◌≢◌, ◌+◌, ◌<◌, ◌^◌, ◌↔◌, ℕ, [], List, IfOk, IsOk, IsTrue, chars, length, map};
 ghost use Rattle.rustc_parse_format.specs.Characters.{Text};
 ghost use Rattle.rustc_parse_format.specs.Grammar.{IsInGrammar, IsSpelled, Reads, StopsInside};
 ghost use Rattle.rustc_parse_format.specs.Pieces.{Mode, Piece as BarePiece, bare};
-ghost use Rattle.rustc_parse_format.specs.Seen.{seen, seen_mode};
+ghost use Rattle.rustc_parse_format.specs.Seen.{seen, seen_mode, seen_snippet};
 ghost use Rattle.rustc_parse_format.specs.Source.{HasSource};
-ghost use Rattle.rustc_parse_format.specs.State.{Walks, after_all, calls, fresh};
+ghost use Rattle.rustc_parse_format.specs.State.{Walks, after_all, calls, first_state};
 ghost use Rattle.rustc_parse_format.specs.Step.{pieces_of};
 ghost use Rattle.rustc_parse_format.specs.Steps.{AreFew, IsInWord, IsStart};
 ghost use Rattle.rustc_parse_format.specs.Syntax.{FieldText, IsOnlyCut};
-ghost use Rattle.rustc_parse_format.specs.World.{hashes, pieces_in, world};
+ghost use Rattle.rustc_parse_format.specs.World.{hashes, pieces_in};
 
 use crate::chars::StepCount;
 use crate::parser::Parser;
@@ -69,15 +69,15 @@ pub fn read_all<'input>(
 
     // It is the walk of a fresh parser, put through its world.
     ensures walk { IfOk result (λ x.
-        let s = fresh (seen_mode mode) (world (chars input.now) style (option_map (λ t. chars (string_bytes t)) snippet) appended_newline) (chars input.now) in
+        let s = first_state (seen_mode mode) (chars input.now) style (seen_snippet snippet) appended_newline in
         (map seen x.0.items ≡ pieces_in s.world (pieces_of (calls s))) × (x.1 ≡ after_all s (calls s))) }
 
     ensures walks { IfOk result (λ x. Walks
-        (fresh (seen_mode mode) (world (chars input.now) style (option_map (λ t. chars (string_bytes t)) snippet) appended_newline) (chars input.now))
+        (first_state (seen_mode mode) (chars input.now) style (seen_snippet snippet) appended_newline)
         (map seen x.0.items) x.1) }
 
     ensures source { IfOk result (λ x. IsTrue x.1.world.is_literal
-        ↔ HasSource (chars input.now) style (option_map (λ t. chars (string_bytes t)) snippet) appended_newline) }
+        ↔ HasSource (chars input.now) style (seen_snippet snippet) appended_newline) }
 
     // No error is left exactly where the input is in the grammar, and then the pieces are its one reading.
     ensures clean { IfOk result (λ x. (x.1.errors ≡ []) ↔ IsInGrammar (seen_mode mode) (chars input.now)) }

@@ -1,6 +1,7 @@
 //! Where the input stands in the source.
 
-ghost use Rattle.std.specs.Prelude.{◌≡◌, ◌+◌, ◌<◌, ◌^◌, chars, option_map, string_bytes};
+ghost use Rattle.std.specs.Prelude.{◌≡◌, ◌+◌, ◌<◌, ◌^◌, chars};
+ghost use Rattle.rustc_parse_format.specs.Seen.{seen_snippet};
 ghost use Rattle.rustc_parse_format.specs.Source.{is_source};
 ghost use Rattle.rustc_parse_format.specs.World.{hashes, quote_offset, text_end};
 
@@ -20,7 +21,7 @@ pub fn quote_offset(style: Option<usize>) -> usize
 /// Where the text ends: with the snippet, or else with the input, without its appended newline.
 pub fn text_end(input: &str, snippet: &Option<String>, appended_newline: bool) -> usize
     ensures { result
-        ≡ text_end (chars input.now) (option_map (λ s. chars (string_bytes s)) snippet.now) appended_newline }
+        ≡ text_end (chars input.now) (seen_snippet snippet.now) appended_newline }
 {
     match snippet {
         Some(text) => text.as_str().len(),
@@ -37,7 +38,7 @@ pub fn has_source(
     appended_newline: bool,
 ) -> bool
     ensures { result ≡ is_source (chars input.now) style
-        (option_map (λ s. chars (string_bytes s)) snippet.now) appended_newline }
+        (seen_snippet snippet.now) appended_newline }
 {
     match snippet {
         Some(text) => is_source_literal(input, style, text.as_str(), appended_newline),

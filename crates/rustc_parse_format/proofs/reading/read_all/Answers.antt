@@ -3,8 +3,8 @@ use Rattle.std.specs.Prelude.{option_map}
 use Rattle.std.proofs.lemmas.Bool.{false≢true}
 use Rattle.std.proofs.lemmas.Str.{chars-nil}
 use Rattle.rustc_parse_format.specs.Characters.{Text}
-use Rattle.rustc_parse_format.specs.Seen.{seen_mode}
-use Rattle.rustc_parse_format.specs.State.{State, fresh, calls}
+use Rattle.rustc_parse_format.specs.Seen.{seen_mode, seen_snippet}
+use Rattle.rustc_parse_format.specs.State.{State, first_state, calls}
 use Rattle.rustc_parse_format.specs.World.{world}
 use Rattle.rustc_parse_format.proofs.Readings.{Reads-unique, Reads-spelled}
 use Rattle.rustc_parse_format.proofs.PartCuts.{cut-only}
@@ -31,19 +31,19 @@ returns-in_err-pieces-clause-empty c e =
 
 pub returns-clause-clean : goal.returns-clause-clean
 returns-clause-clean c =
-    let s = fresh (seen_mode c.args.mode) (world (chars c.args.input.now) c.args.style (option_map (λ (t : String Global). chars (string_bytes t)) c.args.snippet) c.args.appended_newline) (chars c.args.input.now) in
+    let s = first_state (seen_mode c.args.mode) (chars c.args.input.now) c.args.style (seen_snippet c.args.snippet) c.args.appended_newline in
     let e : ◌≡◌ {A = State} c.in_ok-parser.parser s = c.in_ok-parser.ensures.start in
     (clean_in (seen_mode c.args.mode) s.world (chars c.args.input.now) _ _ e c.in_ok-pieces.ensures.state, in_clean (seen_mode c.args.mode) s.world (chars c.args.input.now) _ _ e c.in_ok-pieces.ensures.state)
 
 pub returns-clause-reading : goal.returns-clause-reading
 returns-clause-reading c =
-    let s = fresh (seen_mode c.args.mode) (world (chars c.args.input.now) c.args.style (option_map (λ (t : String Global). chars (string_bytes t)) c.args.snippet) c.args.appended_newline) (chars c.args.input.now) in
+    let s = first_state (seen_mode c.args.mode) (chars c.args.input.now) c.args.style (seen_snippet c.args.snippet) c.args.appended_newline in
     let e : ◌≡◌ {A = State} c.in_ok-parser.parser s = c.in_ok-parser.ensures.start in
     reading_of (seen_mode c.args.mode) s.world (chars c.args.input.now) _ _ _ e c.in_ok-pieces.ensures.state c.in_ok-pieces.ensures.pieces
 
 pub returns-clause-walks : goal.returns-clause-walks
 returns-clause-walks c =
-    walks_of (fresh (seen_mode c.args.mode) (world (chars c.args.input.now) c.args.style (option_map (λ (t : String Global). chars (string_bytes t)) c.args.snippet) c.args.appended_newline) (chars c.args.input.now))
+    walks_of (first_state (seen_mode c.args.mode) (chars c.args.input.now) c.args.style (seen_snippet c.args.snippet) c.args.appended_newline)
     _ _ _ c.in_ok-parser.ensures.start c.in_ok-pieces.ensures.state c.in_ok-pieces.ensures.pieces
 
 pub returns-clause-round_trip : goal.returns-clause-round_trip
@@ -51,7 +51,7 @@ returns-clause-round_trip c none = Reads-spelled (seen_mode c.args.mode) 0 (char
 
 pub returns-clause-first_fault : goal.returns-clause-first_fault
 returns-clause-first_fault c =
-    let s = fresh (seen_mode c.args.mode) (world (chars c.args.input.now) c.args.style (option_map (λ (t : String Global). chars (string_bytes t)) c.args.snippet) c.args.appended_newline) (chars c.args.input.now) in
+    let s = first_state (seen_mode c.args.mode) (chars c.args.input.now) c.args.style (seen_snippet c.args.snippet) c.args.appended_newline in
     let e : ◌≡◌ {A = State} c.in_ok-parser.parser s = c.in_ok-parser.ensures.start in
     stops_of (seen_mode c.args.mode) s.world (chars c.args.input.now) _ _ _ e c.in_ok-pieces.ensures.state c.in_ok-pieces.ensures.pieces
 

@@ -1,6 +1,7 @@
 use Rattle.std.proofs.Common.{◌≤◌, ap, length, chars, arith, refl, String, Global, string_bytes}
 use Rattle.std.specs.Prelude.{option_map}
 use Rattle.std.proofs.lemmas.Str.{length-le-encodes, encodes-chars}
+use Rattle.rustc_parse_format.specs.Seen.{seen_snippet}
 use Rattle.rustc_parse_format.specs.State.{Unread}
 use Rattle.rustc_parse_format.specs.World.{world}
 use Rattle.rustc_parse_format.proofs.Sources.{has_source}
@@ -18,4 +19,4 @@ returns-clause-start c = rw (c.new.ensures, c.quote_offset.ensures, c.text_end-e
 pub returns-clause-source : goal.returns-clause-source
 returns-clause-source c =
     rw (ap (λ (u : Unread). u.world.is_literal) c.new.ensures, c.has_source-is_literal.ensures)
-    (has_source (chars c.args.input.now) c.args.style (option_map (λ (t : String Global). chars (string_bytes t)) c.args.snippet) c.args.appended_newline)
+    (has_source (chars c.args.input.now) c.args.style (seen_snippet c.args.snippet) c.args.appended_newline)
