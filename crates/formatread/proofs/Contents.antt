@@ -5,7 +5,7 @@ use Rattle.std.specs.Char.{IsScalar}
 use Rattle.std.specs.declared.ops.Range.{Range}
 use Rattle.std.proofs.lemmas.Str.{IsUtf8-encode, chars-append, chars_past_char, chars-nil}
 use Rattle.std.proofs.lemmas.List.{append-nil, map-append}
-use Rattle.rustc_parse_format.specs.Characters.{Text, width}
+use Rattle.rustc_parse_format.specs.Characters.{Text, byte_length}
 use Rattle.rustc_parse_format.specs.World.{Place}
 use Rattle.rustc_parse_format.specs.LiteralUnits.{LiteralUnit, spelling, value}
 use Rattle.rustc_parse_format.specs.Literal.{content_value, placed_characters}
@@ -19,7 +19,7 @@ alone p (c ∷ t) = ap (λ u. c ∷ u) (alone p t)
 placed-value : (at : ℕ) (us : List LiteralUnit) → map (λ (x : Place × ℕ). x.1) (placed_characters at us) ≡ content_value us
 placed-value at [] = refl
 placed-value at (u ∷ us) =
-    let end = at + width (spelling u) in
+    let end = at + byte_length (spelling u) in
     map-append (λ (x : Place × ℕ). x.1) (map (λ c. ((at, end), c)) (value u)) (placed_characters end us)
     ∙ (ap (λ t. t ++ map (λ (x : Place × ℕ). x.1) (placed_characters end us)) (alone (at, end) (value u)) ∙ ap (λ t. value u ++ t) (placed-value end us))
 

@@ -4,7 +4,7 @@ use Rattle.std.proofs.Common.{◌≡◌, [], ◌∷◌, List, refl, codes, Some,
 use Rattle.std.proofs.lemmas.Bool.{false≢true}
 use Rattle.rustc_parse_format.specs.Pieces.{Format, Diagnostic, Left, Right, Unknown, Plus, Lower, Implicit, Is, Piece, NextArgument, default_spec}
 use Rattle.rustc_parse_format.specs.Spelling.{IsPart}
-use Rattle.rustc_parse_format.specs.Syntax.{Word, NoPosition, NumberCount, IndexCount, NameCount, NoCount, PaddedWidth, ZeroIndexWidth, PlainWidth, NoPrecision, DotPrecision, DebugHexType, SignType, WordType, Parts, Default, FormatParts, DiagnosticText, FieldText, PlaceholderText, opened_part, IsCut}
+use Rattle.rustc_parse_format.specs.Syntax.{Word, NoPosition, NumberCount, IndexCount, NameCount, NoCount, PaddedWidth, ZeroIndexWidth, PlainWidth, NoPrecision, DotPrecision, DebugHexType, CharacterType, WordType, Parts, Default, FormatParts, DiagnosticText, FieldText, PlaceholderText, opened_part, IsCut}
 use Rattle.rustc_parse_format.specs.Grammar.{Reads}
 use Rattle.rustc_parse_format.proofs.Readings.{Reads-unique}
 use Rattle.rustc_parse_format.proofs.Rows.{computing}
@@ -36,7 +36,7 @@ flag-stands_before_an_index : IsCut Format (codes ":00$}") (spec (record nothing
 unfolding computing
 flag-stands_before_an_index = record { whole = refl; formed = refl; ends = refl }
 
-hexadecimal_letter-leaves_the_word : IsCut Format (codes ":xyz}") (spec (record nothing { type = SignType (code "x") })) (codes "yz}")
+hexadecimal_letter-leaves_the_word : IsCut Format (codes ":xyz}") (spec (record nothing { type = CharacterType (code "x") })) (codes "yz}")
 unfolding computing
 hexadecimal_letter-leaves_the_word = record { whole = refl; formed = refl; ends = refl }
 
@@ -66,7 +66,7 @@ name_count-is_taken : ¬ (IsCut Format (codes ":a$}") (spec (record nothing { ty
 unfolding computing
 name_count-is_taken h = false≢true h.ends
 
-question-belongs_to_the_letter : ¬ (IsCut Format (codes ":x?}") (spec (record nothing { type = SignType (code "x") })) (codes "?}"))
+question-belongs_to_the_letter : ¬ (IsCut Format (codes ":x?}") (spec (record nothing { type = CharacterType (code "x") })) (codes "?}"))
 unfolding computing
 question-belongs_to_the_letter h = false≢true h.ends
 

@@ -1,7 +1,7 @@
 -- The unit that has a meaning: it is at the front, and the rest is shorter.
 use Rattle.std.proofs.Common.{◌≡◌, ◌<◌, ◌≤◌, length, refl, sym, ap, arith, Option, Some, None}
 use Rattle.std.proofs.lemmas.Option.{none-some, some_pair_parts}
-use Rattle.rustc_parse_format.specs.Characters.{Text, width}
+use Rattle.rustc_parse_format.specs.Characters.{Text, byte_length}
 use Rattle.rustc_parse_format.specs.LiteralUnits.{LiteralUnit, spelling, value, meaning, unit_at}
 use Rattle.rustc_parse_format.proofs.LiteralWidths.{width-append}
 use Rattle.rustc_parse_format.proofs.LiteralUnitLaws.{unit_at-front}
@@ -26,7 +26,7 @@ meaning-some (Some (u, s)) v r e =
 pub meaning-shorter : (t v r : Text) → meaning (unit_at t) ≡ Some (v, r) → length r < length t
 meaning-shorter t v r e = let m = meaning-some (unit_at t) v r e in unit_at-shorter t m.unit r m.is_it
 
-pub meaning-narrower : (t v r : Text) → meaning (unit_at t) ≡ Some (v, r) → width r ≤ width t
+pub meaning-narrower : (t v r : Text) → meaning (unit_at t) ≡ Some (v, r) → byte_length r ≤ byte_length t
 meaning-narrower t v r e =
     let m = meaning-some (unit_at t) v r e in
-    omega (arith, width-append (spelling m.unit) r, ap width (unit_at-front t m.unit r m.is_it).split)
+    omega (arith, width-append (spelling m.unit) r, ap byte_length (unit_at-front t m.unit r m.is_it).split)

@@ -2,7 +2,7 @@
 use Rattle.std.proofs.Common.{◌≡◌, ◌≢◌, ℕ, ◌+◌, ◌++◌, List, [], ◌∷◌, refl, sym, ap, ◌∙◌, arith, Option, Some, None, option_map, append-nil, Result, Ok, Err, IfOk, IfSome, IfNone}
 use Rattle.std.specs.declared.ops.Range.{Range}
 use Rattle.std.proofs.lemmas.Option.{same_Some, none-some}
-use Rattle.rustc_parse_format.specs.Characters.{Text, width}
+use Rattle.rustc_parse_format.specs.Characters.{Text, byte_length}
 use Rattle.rustc_parse_format.specs.World.{Place}
 use Rattle.rustc_parse_format.specs.LiteralUnits.{LiteralUnit, spelling, value, meaning, unit_at, at_most_one}
 use Rattle.rustc_parse_format.specs.Literal.{IsContent, IsNoContent, IsOnlyContent, IsReadAs, more, units, placed_characters}
@@ -19,10 +19,10 @@ unfolding placed
 placed-none at [] n e = absurd (n refl)
 placed-none at (c ∷ t) n e = ap (option_map (placed_characters at)) (units-none c t (meaning-none _ e))
 
-past : (at end : ℕ) (t v r : Text) → at + width t ≡ end + width r → (m : Means (unit_at t) v r) → at + width (spelling m.unit) ≡ end
-past at end t v r e m = omega (arith, width-append (spelling m.unit) r, ap width (unit_at-front t m.unit r m.is_it).split)
+past : (at end : ℕ) (t v r : Text) → at + byte_length t ≡ end + byte_length r → (m : Means (unit_at t) v r) → at + byte_length (spelling m.unit) ≡ end
+past at end t v r e m = omega (arith, width-append (spelling m.unit) r, ap byte_length (unit_at-front t m.unit r m.is_it).split)
 
-placed-nothing : (at end : ℕ) (t r : Text) → meaning (unit_at t) ≡ Some ([], r) → at + width t ≡ end + width r →
+placed-nothing : (at end : ℕ) (t r : Text) → meaning (unit_at t) ≡ Some ([], r) → at + byte_length t ≡ end + byte_length r →
     placed at t ≡ placed end r
 unfolding placed
 placed-nothing at end t r e l =
@@ -30,12 +30,12 @@ placed-nothing at end t r e l =
     ap (option_map (placed_characters at)) (units-some t m.unit r m.is_it)
     ∙ by_rest m.unit m.has_value (past at end t [] r l m) (units r)
   where
-    by_rest : (u : LiteralUnit) → value u ≡ [] → at + width (spelling u) ≡ end → (o : Option (List LiteralUnit)) →
+    by_rest : (u : LiteralUnit) → value u ≡ [] → at + byte_length (spelling u) ≡ end → (o : Option (List LiteralUnit)) →
         option_map (placed_characters at) (more u o) ≡ option_map (placed_characters end) o
     by_rest u v k None = refl
     by_rest u v k (Some us) = rw (v, k) refl
 
-placed-character : (at end : ℕ) (t r : Text) (c : ℕ) → meaning (unit_at t) ≡ Some (c ∷ [], r) → at + width t ≡ end + width r →
+placed-character : (at end : ℕ) (t r : Text) (c : ℕ) → meaning (unit_at t) ≡ Some (c ∷ [], r) → at + byte_length t ≡ end + byte_length r →
     placed at t ≡ option_map (λ ps. ((at, end), c) ∷ ps) (placed end r)
 unfolding placed
 placed-character at end t r c e l =
@@ -43,7 +43,7 @@ placed-character at end t r c e l =
     ap (option_map (placed_characters at)) (units-some t m.unit r m.is_it)
     ∙ by_rest m.unit m.has_value (past at end t (c ∷ []) r l m) (units r)
   where
-    by_rest : (u : LiteralUnit) → value u ≡ c ∷ [] → at + width (spelling u) ≡ end → (o : Option (List LiteralUnit)) →
+    by_rest : (u : LiteralUnit) → value u ≡ c ∷ [] → at + byte_length (spelling u) ≡ end → (o : Option (List LiteralUnit)) →
         option_map (placed_characters at) (more u o) ≡ option_map (λ ps. ((at, end), c) ∷ ps) (option_map (placed_characters end) o)
     by_rest u v k None = refl
     by_rest u v k (Some us) = rw (v, k) refl
@@ -69,7 +69,7 @@ IsSoFar xs at t whole = option_map (λ ps. seen_characters xs ++ ps) (placed at 
 
 pub found-character : (at end c : ℕ) (t r whole : Text) (v : Option ℕ) (xs ys : List (Range ℕ × ℕ)) → IsSoFar xs at t whole →
     meaning (unit_at t) ≡ Some (at_most_one v, r) → v ≡ Some c →
-    at + width t ≡ end + width r → ys ≡ xs ++ (record { start = at; end = end }, c) ∷ [] → IsSoFar ys end r whole
+    at + byte_length t ≡ end + byte_length r → ys ≡ xs ++ (record { start = at; end = end }, c) ∷ [] → IsSoFar ys end r whole
 found-character at end c t r whole v xs ys so_far e f l g =
     ap (λ zs. option_map (λ ps. seen_characters zs ++ ps) (placed end r)) g
     ∙ (found-push xs (record { start = at; end = end }, c) (placed end r)
@@ -78,7 +78,7 @@ found-character at end c t r whole v xs ys so_far e f l g =
 
 pub found-nothing : (at end : ℕ) (t r whole : Text) (v : Option ℕ) (xs : List (Range ℕ × ℕ)) → IsSoFar xs at t whole →
     meaning (unit_at t) ≡ Some (at_most_one v, r) → v ≡ None →
-    at + width t ≡ end + width r → IsSoFar xs end r whole
+    at + byte_length t ≡ end + byte_length r → IsSoFar xs end r whole
 found-nothing at end t r whole v xs so_far e f l =
     ap (option_map (λ ps. seen_characters xs ++ ps)) (sym (placed-nothing at end t r (e
     ∙ ap (λ x. Some (at_most_one x, r)) f) l)) ∙ so_far

@@ -10,7 +10,7 @@ use Rattle.rustc_parse_format.specs.Characters.{Text, is_align, is_no_brace, is_
 use Rattle.rustc_parse_format.specs.Pieces.{Mode, Format, InlineAsm, Diagnostic, Alignment, Left, Right, Center, Unknown, Sign, Plus, Minus, Lower, Upper}
 use Rattle.rustc_parse_format.specs.Spelling.{Part, IsPart, row, fixed, unless, absent, run, integer, optional_identifier, begins}
 use Rattle.rustc_parse_format.proofs.PartNames.{begins_count, begins-count}
-use Rattle.rustc_parse_format.specs.Syntax.{PositionText, Digits, Word, NoPosition, position_part, fill_part, align_part, is_sign, sign_part, alternate_part, CountText, NumberCount, IndexCount, NameCount, NoCount, name_part, count_part, WidthText, PaddedWidth, ZeroIndexWidth, PlainWidth, width_part, PrecisionText, NoPrecision, StarPrecision, DotPrecision, precision_part, TypeText, DebugHexType, SignType, WordType, is_type_sign, type_part, Parts, format_part, SpecText, Default, FormatParts, Modifier, DiagnosticText, spec_part, FieldText, field_part, placeholder_part, PieceText, RunText, DoubledText, PlaceholderText, piece_part}
+use Rattle.rustc_parse_format.specs.Syntax.{PositionText, Digits, Word, NoPosition, position_part, fill_part, align_part, is_sign, sign_part, alternate_part, CountText, NumberCount, IndexCount, NameCount, NoCount, name_part, count_part, WidthText, PaddedWidth, ZeroIndexWidth, PlainWidth, width_part, PrecisionText, NoPrecision, StarPrecision, DotPrecision, precision_part, TypeText, DebugHexType, CharacterType, WordType, is_type_character, type_part, Parts, format_part, SpecText, Default, FormatParts, Modifier, DiagnosticText, spec_part, FieldText, field_part, placeholder_part, PieceText, RunText, DoubledText, PlaceholderText, piece_part}
 
 -- with z gone from behind the brace, what passed still passes
 abbrev IsLocal : (Text → Bool) → Type 0
@@ -148,8 +148,8 @@ word-local (c ∷ w) = class_ends is_id_continue
 type-local : (y : TypeText) → PartIsLocal (type_part y)
 type-local (DebugHexType Lower) = always
 type-local (DebugHexType Upper) = always
-type-local (SignType c) = λ u q z e. ap (λ b. (c == code "?") || not b) (begins-blind (code "?") u q (q ++ z)) ∙ e
-type-local (WordType w) = two-local (absent (starts is_type_sign)) (optional_identifier w) (class_ends is_type_sign) (word-local w)
+type-local (CharacterType c) = λ u q z e. ap (λ b. (c == code "?") || not b) (begins-blind (code "?") u q (q ++ z)) ∙ e
+type-local (WordType w) = two-local (absent (starts is_type_character)) (optional_identifier w) (class_ends is_type_character) (word-local w)
 
 format-local : (p : Parts) → PartIsLocal (format_part p)
 format-local p =

@@ -6,7 +6,7 @@ use Rattle.std.proofs.lemmas.Bool.{cond_both, cond-true, cond-false, or_from, or
 use Rattle.rustc_parse_format.specs.Characters.{Text, is_align, is_no_brace, word, behind_word, behind_first, begins_with, starts}
 use Rattle.rustc_parse_format.specs.Spelling.{IsPart, fixed, absent, run, optional_identifier}
 use Rattle.rustc_parse_format.specs.Pieces.{Mode, Format, InlineAsm, Diagnostic, Alignment, Left, Right, Center, Unknown, Sign, Plus, Minus, DebugHex, Lower, Upper}
-use Rattle.rustc_parse_format.specs.Syntax.{WidthText, width_part, PrecisionText, precision_part, fill_part, align_part, is_sign, sign_part, alternate_part, is_type_sign, TypeText, DebugHexType, SignType, WordType, type_part, Parts, format_part, SpecText, Default, FormatParts, Modifier, DiagnosticText, spec_part}
+use Rattle.rustc_parse_format.specs.Syntax.{WidthText, width_part, PrecisionText, precision_part, fill_part, align_part, is_sign, sign_part, alternate_part, is_type_character, TypeText, DebugHexType, CharacterType, WordType, type_part, Parts, format_part, SpecText, Default, FormatParts, Modifier, DiagnosticText, spec_part}
 use Rattle.rustc_parse_format.specs.Counts.{width, precision}
 use Rattle.rustc_parse_format.specs.Specification.{fill, align, sign, alternate, behind_hex, type, align_at, sign_at, alternate_at, width_at, precision_at, type_at, format_parts, behind_colon, specification}
 use Rattle.rustc_parse_format.proofs.PartLaws.{Finds, IsPart-moved, absent-same, absent-here, fixed-there, letter-there, row-two, two-split, IsRow, then, last, opened, only}
@@ -103,12 +103,12 @@ unfolding letter
 letter_question Lower t = fixed-there (codes "x?") t
 letter_question Upper t = fixed-there (codes "X?") t
 
-letter_is_sign : (h : DebugHex) → is_type_sign (letter h) ≡ true
+letter_is_sign : (h : DebugHex) → is_type_character (letter h) ≡ true
 unfolding letter
 letter_is_sign Lower = refl
 letter_is_sign Upper = refl
 
-letter_alone : (h : DebugHex) (t : Text) → begins_with (code "?") t ≡ false → IsPart (letter h ∷ t) (type_part (SignType (letter h))) t
+letter_alone : (h : DebugHex) (t : Text) → begins_with (code "?") t ≡ false → IsPart (letter h ∷ t) (type_part (CharacterType (letter h))) t
 letter_alone h t e = record { whole = refl; formed = letter_is_sign h; ends = or_right _ _ (ap not e) }
 
 hex-sound : (h : DebugHex) (t : Text) → IsPart (letter h ∷ t) (type_part (behind_hex h (letter h) t).0) (behind_hex h (letter h) t).1
@@ -128,18 +128,18 @@ type-sound (c ∷ t) =
     (λ f. subst (λ d. IsPart (d ∷ t) (type_part (behind_hex Upper d t).0) (behind_hex Upper d t).1) (sym (eqb-true c (code "X") f)) (hex-sound Upper t))
     (λ f. cond_both {A = TypeText × Text} (c == code "?") _ _ (λ x. IsPart (c ∷ t) (type_part x.0) x.1)
     (λ g. record { whole = refl; formed = or_right _ _ g; ends = or_left _ _ g })
-    (λ g. row-two (c ∷ t) (c ∷ t) (absent (starts is_type_sign)) (optional_identifier (word (c ∷ t))) (behind_word (c ∷ t))
-    (absent-here (c ∷ t) (starts is_type_sign) (or_from _ _ (or_from _ _ e f) g)) (optional_identifier-finds.sound (c ∷ t)))))
+    (λ g. row-two (c ∷ t) (c ∷ t) (absent (starts is_type_character)) (optional_identifier (word (c ∷ t))) (behind_word (c ∷ t))
+    (absent-here (c ∷ t) (starts is_type_character) (or_from _ _ (or_from _ _ e f) g)) (optional_identifier-finds.sound (c ∷ t)))))
 
-hex-alone : (h : DebugHex) (c : ℕ) (r : Text) → begins_with (code "?") r ≡ false → behind_hex h c r ≡ (SignType c, r)
+hex-alone : (h : DebugHex) (c : ℕ) (r : Text) → begins_with (code "?") r ≡ false → behind_hex h c r ≡ (CharacterType c, r)
 hex-alone h c [] e = refl
 hex-alone h c (d ∷ r) e = cond-false (d == code "?") _ _ e
 
 -- how `x`, `X` and `?` are read, each where it may stand
 abbrev IsRead : Text → ℕ → Type 0
-IsRead r c = ((c == code "?") || not (begins_with (code "?") r)) ≡ true → type (c ∷ r) ≡ (SignType c, r)
+IsRead r c = ((c == code "?") || not (begins_with (code "?") r)) ≡ true → type (c ∷ r) ≡ (CharacterType c, r)
 
-sign-read : (c : ℕ) (r : Text) → is_type_sign c ≡ true → IsRead r c
+sign-read : (c : ℕ) (r : Text) → is_type_character c ≡ true → IsRead r c
 sign-read c r e = by_sign (or_cases _ _ e)
   where
     by_hex : ((c == code "x") ≡ true) ⊎ ((c == code "X") ≡ true) → IsRead r c
@@ -150,7 +150,7 @@ sign-read c r e = by_sign (or_cases _ _ e)
     by_sign (inl f) = by_hex (or_cases _ _ f)
     by_sign (inr f) = subst (IsRead r) (sym (eqb-true c (code "?") f)) (λ n. refl)
 
-type-word : (t : Text) → starts is_type_sign t ≡ false → type t ≡ (WordType (word t), behind_word t)
+type-word : (t : Text) → starts is_type_character t ≡ false → type t ≡ (WordType (word t), behind_word t)
 unfolding word behind_word
 type-word [] e = refl
 type-word (c ∷ t) e =
@@ -160,9 +160,9 @@ type-word (c ∷ t) e =
 type-complete : (t : Text) (y : TypeText) (r : Text) → IsPart t (type_part y) r → type t ≡ (y, r)
 type-complete t (DebugHexType Lower) r h = ap type h.whole
 type-complete t (DebugHexType Upper) r h = ap type h.whole
-type-complete t (SignType c) r h = ap type h.whole ∙ sign-read c r h.formed h.ends
+type-complete t (CharacterType c) r h = ap type h.whole ∙ sign-read c r h.formed h.ends
 type-complete t (WordType w) r h =
-    let s = two-split t (absent (starts is_type_sign)) (optional_identifier w) r h in
+    let s = two-split t (absent (starts is_type_character)) (optional_identifier w) r h in
     ap type (absent-same t _ s.seam s.first)
     ∙ (type-word s.seam (not-true _ s.first.ends) ∙ ap (λ x. (WordType x.0, x.1)) (optional_identifier-finds.complete s.seam w r s.second))
 

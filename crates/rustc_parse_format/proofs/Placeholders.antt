@@ -11,7 +11,7 @@ use Rattle.rustc_parse_format.specs.Values.{next_number}
 use Rattle.rustc_parse_format.specs.Meaning.{argument}
 use Rattle.rustc_parse_format.specs.Faults.{Fault, map_fault, brace_fill, no_brace}
 use Rattle.rustc_parse_format.specs.PartFaults.{cut_faults}
-use Rattle.rustc_parse_format.specs.Step.{Call, IsText, TakesNoMemory, call, placeholder, missing_brace}
+use Rattle.rustc_parse_format.specs.Step.{Call, GivesNoArgument, IsPlain, call, placeholder, unclosed_fault}
 use Rattle.rustc_parse_format.specs.World.{World, Place, place_of, faults_in}
 
 -- what stands where the closing brace should
@@ -39,7 +39,7 @@ same_faults true x y fs f e h = e ∙ sym (append-nil fs)
 same_faults false x y fs f e h = h
 
 pub placeholder-faults : (mode : Mode) (c : ℕ) (o t : Text) → (placeholder mode c o t).faults
-    ≡ cut_faults (cut mode t) ++ (if begins_with 125 (ending mode t) then [] else missing_brace o (argument c (cut mode t)).format (ending mode t) ∷ [])
+    ≡ cut_faults (cut mode t) ++ (if begins_with 125 (ending mode t) then [] else unclosed_fault o (argument c (cut mode t)).format (ending mode t) ∷ [])
 unfolding placeholder
 placeholder-faults mode c o t = same_faults (begins_with 125 (ending mode t)) _ _ (cut_faults (cut mode t)) _ refl refl
 
@@ -56,9 +56,9 @@ no_brace-map g None found a o = refl
 no_brace-map g (Some s) found a o = refl
 
 -- the missing brace put through a world
-pub missing_brace_in : (w : World) (o : Text) (f : Spec Span) (r : Text) (seen : Spec Place) → seen ≡ map_spec (place_of w) f →
-    map_fault (place_of w) (missing_brace o f r) ≡ no_brace (brace_fill seen.fill seen.fill_span) (first r) (place_of w (up_to r r)) (place_of w (over_first o))
-missing_brace_in w o f r seen e =
+pub unclosed_fault_in : (w : World) (o : Text) (f : Spec Span) (r : Text) (seen : Spec Place) → seen ≡ map_spec (place_of w) f →
+    map_fault (place_of w) (unclosed_fault o f r) ≡ no_brace (brace_fill seen.fill seen.fill_span) (first r) (place_of w (up_to r r)) (place_of w (over_first o))
+unclosed_fault_in w o f r seen e =
     rw e (no_brace-map (place_of w) (brace_fill f.fill f.fill_span) (first r) (up_to r r) (over_first o) ∙
     ap (λ s. no_brace s (first r) (place_of w (up_to r r)) (place_of w (over_first o))) (brace_fill-map (place_of w) f.fill f.fill_span))
 
@@ -69,23 +69,23 @@ map-else g false x = refl
 -- all faults of a placeholder put through a world
 pub placeholder_faults_in : (w : World) (mode : Mode) (c : ℕ) (o t : Text) (old middle new : List (Fault Place)) (f : Fault Place) →
     middle ≡ old ++ faults_in w (cut_faults (cut mode t)) →
-    f ≡ map_fault (place_of w) (missing_brace o (argument c (cut mode t)).format (ending mode t)) →
+    f ≡ map_fault (place_of w) (unclosed_fault o (argument c (cut mode t)).format (ending mode t)) →
     new ≡ middle ++ (if begins_with 125 (ending mode t) then [] else f ∷ []) →
     new ≡ old ++ faults_in w (placeholder mode c o t).faults
 placeholder_faults_in w mode c o t old middle new f a b d =
-    let m = missing_brace o (argument c (cut mode t)).format (ending mode t) in
+    let m = unclosed_fault o (argument c (cut mode t)).format (ending mode t) in
     let cs = cut_faults (cut mode t) in
     rw (d, a, b, placeholder-faults mode c o t)
     (append_assoc old (faults_in w cs) _ ∙ ap (λ fs. old ++ fs) (sym (map-append (map_fault (place_of w)) cs _ ∙ ap (λ fs. faults_in w cs ++ fs) (map-else (map_fault (place_of w)) (begins_with 125 (ending mode t)) m))))
 
-placeholder_boxed : (mode : Mode) (c : ℕ) (o t : Text) → IsText (placeholder mode c o t).piece → ⊥
+placeholder_boxed : (mode : Mode) (c : ℕ) (o t : Text) → GivesNoArgument (placeholder mode c o t).piece → ⊥
 placeholder_boxed mode c o t k = rw (placeholder-piece mode c o t) at k
 
-opened : (mode : Mode) (c b : ℕ) (t : Text) → b ≡ 123 → begins_with 123 t ≡ false → IsText (call mode c (b ∷ t)).piece → ⊥
+opened : (mode : Mode) (c b : ℕ) (t : Text) → b ≡ 123 → begins_with 123 t ≡ false → GivesNoArgument (call mode c (b ∷ t)).piece → ⊥
 unfolding call
 opened mode c b t e h k = placeholder_boxed mode c (123 ∷ t) t (rw (e, h) at k)
 
 -- a call at an opening brace that is not doubled takes memory
-pub placeholder_takes : (mode : Mode) (c : ℕ) (t : Text) → first t ≡ Some 123 → begins_with 123 (behind_first t) ≡ false → TakesNoMemory (call mode c t) → ⊥
+pub placeholder_takes : (mode : Mode) (c : ℕ) (t : Text) → first t ≡ Some 123 → begins_with 123 (behind_first t) ≡ false → IsPlain (call mode c t) → ⊥
 placeholder_takes mode c [] e h k = cc e
 placeholder_takes mode c (b ∷ t) e h k = opened mode c b t (cc) h k.0

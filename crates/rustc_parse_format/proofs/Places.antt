@@ -6,28 +6,28 @@ use Rattle.std.proofs.lemmas.Str.{IsUtf8-from_is_utf8, length-encode, encodes-ch
 use Rattle.std.proofs.lemmas.List.{take-append-drop, nil_from_length}
 use Rattle.std.proofs.lemmas.List.Sums.{sum_by-cons}
 use Rattle.std.proofs.Math.Utf8.{encodes}
-use Rattle.rustc_parse_format.specs.Characters.{Text, behind_first, width}
+use Rattle.rustc_parse_format.specs.Characters.{Text, behind_first, byte_length}
 use Rattle.rustc_parse_format.specs.World.{World, Place, place_at, plain_places, plain_world}
 use Rattle.rustc_parse_format.specs.Bytes.{IsLeft}
 
-width_encodes : (t : Text) → length (encodes t) ≡ width t
+width_encodes : (t : Text) → length (encodes t) ≡ byte_length t
 width_encodes [] = refl
 width_encodes (c ∷ t) = length-append (encode_utf8 c) (encodes t) ∙ (ap (λ k. k + length (encodes t)) (length-encode c) ∙ (ap (λ k. len_utf8 c + k) (width_encodes t) ∙ sym (sum_by-cons len_utf8 c t)))
 
-pub width_chars : (s : List ℕ) → IsUtf8 s → width (chars s) ≡ length s
+pub width_chars : (s : List ℕ) → IsUtf8 s → byte_length (chars s) ≡ length s
 width_chars s u = sym (width_encodes (chars s)) ∙ ap length (encodes-chars s u)
 
 length-plain_places : (q : ℕ) (t : Text) → length (plain_places q t) ≡ length t
 length-plain_places q [] = refl
 length-plain_places q (c ∷ t) = ap suc (length-plain_places (q + len_utf8 c) t)
 
-get_plain : (q : ℕ) (pre t : Text) (c : ℕ) (d : Place) → get_or (plain_places q (pre ++ c ∷ t)) (length pre) d ≡ (q + width pre, (q + width pre) + len_utf8 c)
+get_plain : (q : ℕ) (pre t : Text) (c : ℕ) (d : Place) → get_or (plain_places q (pre ++ c ∷ t)) (length pre) d ≡ (q + byte_length pre, (q + byte_length pre) + len_utf8 c)
 get_plain q [] t c d = let e : q + 0 ≡ q = omega arith in rw e refl
 get_plain q (b ∷ pre) t c d =
-    let e : (q + len_utf8 b) + width pre ≡ q + width (b ∷ pre) = omega (arith, sum_by-cons len_utf8 b pre) in
+    let e : (q + len_utf8 b) + byte_length pre ≡ q + byte_length (b ∷ pre) = omega (arith, sum_by-cons len_utf8 b pre) in
     subst (λ k. get_or (plain_places (q + len_utf8 b) (pre ++ c ∷ t)) (length pre) d ≡ (k, k + len_utf8 c)) e (get_plain (q + len_utf8 b) pre t c d)
 
-pub place_inside : (b : Bool) (q e : ℕ) (pre t : Text) (c : ℕ) → place_at (plain_world b q (pre ++ c ∷ t) e) (length (c ∷ t)) ≡ (q + width pre, (q + width pre) + len_utf8 c)
+pub place_inside : (b : Bool) (q e : ℕ) (pre t : Text) (c : ℕ) → place_at (plain_world b q (pre ++ c ∷ t) e) (length (c ∷ t)) ≡ (q + byte_length pre, (q + byte_length pre) + len_utf8 c)
 unfolding place_at
 place_inside b q e pre t c =
     let n : length (plain_places q (pre ++ c ∷ t)) - length (c ∷ t) ≡ length pre = omega (arith, length-plain_places q (pre ++ c ∷ t), length-append pre (c ∷ t)) in
@@ -41,11 +41,11 @@ pub place_end : (w : World) → place_at w 0 ≡ (w.end, w.end)
 unfolding place_at
 place_end w = let n : length w.places - 0 ≡ length w.places = omega arith in ap (λ k. get_or w.places k (w.end, w.end)) n ∙ get_past w.places (w.end, w.end)
 
--- what is left, as characters, and the width of what is in front of it
+-- what is left, as characters, and the bytes of what is in front of it
 pub record Left (input rest : List ℕ) : Type 0 where
   pub pre : Text
   pub whole : chars input ≡ pre ++ chars rest
-  pub bytes : width pre ≡ length input - length rest
+  pub bytes : byte_length pre ≡ length input - length rest
 
 pub left : (input rest : List ℕ) → IsLeft input rest → Left input rest
 left input rest l =
@@ -63,7 +63,7 @@ left input rest l =
       bytes = width_chars (take i input) front ∙ size;
     }
 
-pub position_left : (input rest : List ℕ) → IsLeft input rest → length input - length rest ≡ width (chars input) - width (chars rest)
+pub position_left : (input rest : List ℕ) → IsLeft input rest → length input - length rest ≡ byte_length (chars input) - byte_length (chars rest)
 position_left input rest l = rw (width_chars input (IsUtf8-from_is_utf8 input l.valid), width_chars rest (IsUtf8-from_is_utf8 rest l.valid_rest)) refl
 
 pub place_left : (b : Bool) (q e : ℕ) (input rest : List ℕ) → IsLeft input rest → (c : ℕ) (t : Text) → chars rest ≡ c ∷ t →
@@ -77,7 +77,7 @@ place_left b q e input rest l c t h =
 pub behind_width : (rest behind : List ℕ) (c : ℕ) (t : Text) → IsUtf8 rest → IsUtf8 behind → chars rest ≡ c ∷ t → chars behind ≡ behind_first (chars rest) → length rest ≡ len_utf8 c + length behind
 behind_width rest behind c t u v h e =
     let b : chars behind ≡ t = e ∙ ap behind_first h in
-    sym (width_chars rest u) ∙ (ap width h ∙ (sum_by-cons len_utf8 c t ∙ ap (λ k. len_utf8 c + k) (ap width (sym b) ∙ width_chars behind v)))
+    sym (width_chars rest u) ∙ (ap byte_length h ∙ (sum_by-cons len_utf8 c t ∙ ap (λ k. len_utf8 c + k) (ap byte_length (sym b) ∙ width_chars behind v)))
 
 -- a text with bytes has a first character
 pub record Begun (s : List ℕ) : Type 0 where
@@ -89,7 +89,7 @@ pub begun : (s : List ℕ) → IsUtf8 s → (length s ≡ 0 → ⊥) → Begun s
 begun s u h = at (chars s) refl
   where
     at : (t : Text) → chars s ≡ t → Begun s
-    at [] e = absurd (h (sym (width_chars s u) ∙ ap width e))
+    at [] e = absurd (h (sym (width_chars s u) ∙ ap byte_length e))
     at (c ∷ t) e = record { head = c; tail = t; chars_are = e }
 
 -- at the end of the text

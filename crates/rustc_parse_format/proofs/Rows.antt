@@ -20,19 +20,19 @@ unfolding unicode_ident word behind_word digits behind_digits behind_white cut a
 computing = tt
 
 -- an input with no snippet
-abbrev pub quoted : Text → World
-quoted t = world t None None false
+abbrev pub behind_quote : Text → World
+behind_quote t = world t None None false
 
 -- what a walk over the input gives, and what it finds
 abbrev pub pieces : Text → List (Piece Place)
-pieces t = pieces_in (quoted t) (pieces_of (walk Format 0 t))
+pieces t = pieces_in (behind_quote t) (pieces_of (walk Format 0 t))
 
 abbrev pub faults : Text → List (Fault Place)
-faults t = faults_in (quoted t) (faults_of (walk Format 0 t))
+faults t = faults_in (behind_quote t) (faults_of (walk Format 0 t))
 
 -- a parser before its first call, and behind all
 abbrev pub start : Text → State
-start t = fresh Format (quoted t) t
+start t = fresh Format (behind_quote t) t
 
 abbrev pub ended : Text → State
 ended t = after_all (start t) (calls (start t))
@@ -81,7 +81,7 @@ only_implicit_positions-take_a_number : pieces (codes "{}{7}{a}{}") ≡ bare_at 
 unfolding computing
 only_implicit_positions-take_a_number = refl
 
-wide_characters-have_their_bytes : (quoted (97 ∷ 8364 ∷ 128512 ∷ [])).places ≡ (1, 2) ∷ (2, 5) ∷ (5, 9) ∷ []
+wide_characters-have_their_bytes : (behind_quote (97 ∷ 8364 ∷ 128512 ∷ [])).places ≡ (1, 2) ∷ (2, 5) ∷ (5, 9) ∷ []
 unfolding computing
 wide_characters-have_their_bytes = refl
 

@@ -5,7 +5,7 @@ use Rattle.std.proofs.lemmas.Bool.{eqb-true}
 use Rattle.std.proofs.lemmas.Str.{chars-IsAscii}
 use Rattle.rustc_parse_format.specs.Characters.{Text, begins_with, behind_first, word, behind_word}
 use Rattle.rustc_parse_format.specs.Pieces.{DebugHex, Lower, Upper}
-use Rattle.rustc_parse_format.specs.Syntax.{PaddedWidth, PlainWidth, NoPrecision, StarPrecision, DotPrecision, TypeText, DebugHexType, SignType, WordType}
+use Rattle.rustc_parse_format.specs.Syntax.{PaddedWidth, PlainWidth, NoPrecision, StarPrecision, DotPrecision, TypeText, DebugHexType, CharacterType, WordType}
 use Rattle.rustc_parse_format.specs.Counts.{count, counted, width, precision}
 use Rattle.rustc_parse_format.specs.Values.{type_of}
 use Rattle.rustc_parse_format.specs.Specification.{behind_hex, type}
@@ -18,7 +18,7 @@ pub type_upper : (t : Text) → begins_with 88 t ≡ true → type t ≡ behind_
 type_upper [] h = cc h
 type_upper (c ∷ t) h = rw (eqb-true c 88 h) refl
 
-pub type_question : (t : Text) → begins_with 63 t ≡ true → type t ≡ (SignType 63, behind_first t)
+pub type_question : (t : Text) → begins_with 63 t ≡ true → type t ≡ (CharacterType 63, behind_first t)
 type_question [] h = cc h
 type_question (c ∷ t) h = rw (eqb-true c 63 h) refl
 
@@ -33,7 +33,7 @@ hex_text : (h : DebugHex) (c : ℕ) (t w : Text) → chars (codes "?") ≡ codes
 hex_text h c [] w q k e = ap chars e ∙ k
 hex_text h c (d ∷ t) w q k e = at (d == 63) e
   where
-    at : (b : Bool) → w ≡ (if b then codes "?" else c ∷ []) → chars w ≡ type_of (cond {A = TypeText × Text} b (DebugHexType h, t) (SignType c, d ∷ t)).0
+    at : (b : Bool) → w ≡ (if b then codes "?" else c ∷ []) → chars w ≡ type_of (cond {A = TypeText × Text} b (DebugHexType h, t) (CharacterType c, d ∷ t)).0
     at true e = ap chars e ∙ q
     at false e = ap chars e ∙ k
 

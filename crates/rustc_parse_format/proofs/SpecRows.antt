@@ -5,7 +5,7 @@ use Rattle.rustc_parse_format.specs.Pieces.{Mode, Format, InlineAsm, Diagnostic,
 use Rattle.rustc_parse_format.specs.Faults.{UnmatchedBrace, MissingBrace, FillBrace, Underscore, TooLarge}
 use Rattle.rustc_parse_format.specs.Step.{walk, pieces_of}
 use Rattle.rustc_parse_format.specs.World.{Place, world, pieces_in}
-use Rattle.rustc_parse_format.proofs.Rows.{computing, quoted, pieces, faults, bare_at}
+use Rattle.rustc_parse_format.proofs.Rows.{computing, behind_quote, pieces, faults, bare_at}
 
 -- a placeholder
 abbrev at : Position → ℕ → ℕ → Spec Place → Piece Place
@@ -13,7 +13,7 @@ at p from to s = NextArgument (record { position = p; position_span = (from, to)
 
 -- what a walk in another mode gives
 abbrev pieces_by : Mode → Text → List (Piece Place)
-pieces_by mode t = pieces_in (quoted t) (pieces_of (walk mode 0 t))
+pieces_by mode t = pieces_in (behind_quote t) (pieces_of (walk mode 0 t))
 
 closing_brace-is_a_fill : pieces (codes "{:}>5}") ≡ at (Implicit 0) 2 2 (record default_spec { fill = Some 125; fill_span = Some (3, 4); align = Right; width = Is 5; width_span = Some (5, 6) }) ∷ []
 unfolding computing

@@ -93,5 +93,5 @@ abbrev pub is_over : Text → Bool
 is_over ds = nat_lt 65535 (digits_value 10 ds)
 
 -- how many bytes a text takes in UTF-8
-abbrev pub width : Text → ℕ
-width t = sum_by len_utf8 t
+abbrev pub byte_length : Text → ℕ
+byte_length t = sum_by len_utf8 t

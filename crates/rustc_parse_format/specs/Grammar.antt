@@ -5,7 +5,7 @@ use Rattle.std.specs.Str.Parse.{digits_value}
 use Rattle.rustc_parse_format.specs.Characters.{Text}
 use Rattle.rustc_parse_format.specs.Spelling.{IsPart}
 use Rattle.rustc_parse_format.specs.Pieces.{Mode, Piece}
-use Rattle.rustc_parse_format.specs.Syntax.{CountText, NumberCount, IndexCount, NameCount, NoCount, WidthText, PaddedWidth, ZeroIndexWidth, PlainWidth, PrecisionText, NoPrecision, StarPrecision, DotPrecision, TypeText, DebugHexType, SignType, WordType, Parts, SpecText, Default, FormatParts, Modifier, DiagnosticText, PositionText, Digits, Word, NoPosition, FieldText, PieceText, RunText, DoubledText, PlaceholderText, piece_part}
+use Rattle.rustc_parse_format.specs.Syntax.{CountText, NumberCount, IndexCount, NameCount, NoCount, WidthText, PaddedWidth, ZeroIndexWidth, PlainWidth, PrecisionText, NoPrecision, StarPrecision, DotPrecision, TypeText, DebugHexType, CharacterType, WordType, Parts, SpecText, Default, FormatParts, Modifier, DiagnosticText, PositionText, Digits, Word, NoPosition, FieldText, PieceText, RunText, DoubledText, PlaceholderText, piece_part}
 use Rattle.rustc_parse_format.specs.Values.{piece_value, number_behind}
 
 -- What is refused of what is well formed: the word `_`, and an integer that does not fit into 16 bits.
@@ -39,7 +39,7 @@ IsCleanPrecision (DotPrecision k) = IsCleanCount k
 
 abbrev pub IsCleanType : TypeText → Type 0
 IsCleanType (DebugHexType h) = Unit {0}
-IsCleanType (SignType c) = Unit {0}
+IsCleanType (CharacterType c) = Unit {0}
 IsCleanType (WordType w) = IsNamed w
 
 pub record AreCleanParts (p : Parts) : Type 0 where

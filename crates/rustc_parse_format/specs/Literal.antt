@@ -4,7 +4,7 @@
 -- or a CR too. In an ordinary content a CR stands in continuations alone.
 use Prim.Native.Char.{code}
 use Rattle.std.specs.Prelude.{◌≡◌, ℕ, suc, zero, ◌+◌, ◌++◌, Bool, if◌then◌else◌, List, [], ◌∷◌, length, map, Option, Some, None, IsTrue, replicate, flat_map, codes}
-use Rattle.rustc_parse_format.specs.Characters.{Text, width}
+use Rattle.rustc_parse_format.specs.Characters.{Text, byte_length}
 use Rattle.rustc_parse_format.specs.LiteralUnits.{LiteralUnit, spelling, value, is_unit, may_precede, unit_at}
 
 -- the text is a content, of these units
@@ -39,7 +39,7 @@ content_value us = flat_map value us
 -- the characters, each with its place: the bytes of its unit, in a content that starts at a byte
 abbrev pub placed_characters : ℕ → List LiteralUnit → List ((ℕ × ℕ) × ℕ)
 placed_characters at [] = []
-placed_characters at (u ∷ us) = map (λ c. ((at, at + width (spelling u)), c)) (value u) ++ placed_characters (at + width (spelling u)) us
+placed_characters at (u ∷ us) = map (λ c. ((at, at + byte_length (spelling u)), c)) (value u) ++ placed_characters (at + byte_length (spelling u)) us
 
 -- the text is the content of these units, and of no others
 pub record IsOnlyContent (t : Text) (us : List LiteralUnit) : Type 0 where

@@ -4,7 +4,7 @@ use Rattle.rustc_parse_format.specs.Characters.{Text, behind_first, number}
 use Rattle.rustc_parse_format.specs.Pieces.{Count, Is, Name, Param, Star, Implied, Spec, Argument, default_spec}
 use Rattle.rustc_parse_format.specs.Marks.{Span, up_to, through, over_first}
 use Rattle.rustc_parse_format.specs.Placeholder.{Cut}
-use Rattle.rustc_parse_format.specs.Syntax.{CountText, NumberCount, IndexCount, NameCount, NoCount, WidthText, PaddedWidth, ZeroIndexWidth, PlainWidth, width_part, PrecisionText, NoPrecision, StarPrecision, DotPrecision, precision_part, TypeText, DebugHexType, SignType, WordType, type_part, Parts, SpecText, Default, FormatParts, Modifier, DiagnosticText}
+use Rattle.rustc_parse_format.specs.Syntax.{CountText, NumberCount, IndexCount, NameCount, NoCount, WidthText, PaddedWidth, ZeroIndexWidth, PlainWidth, width_part, PrecisionText, NoPrecision, StarPrecision, DotPrecision, precision_part, TypeText, DebugHexType, CharacterType, WordType, type_part, Parts, SpecText, Default, FormatParts, Modifier, DiagnosticText}
 use Rattle.rustc_parse_format.specs.Values.{is_padded, type_of, debug_hex_of, behind_spec, position_of}
 
 -- the count that stands at t, with r behind it; the span of a name ends in front of its `$`
@@ -53,7 +53,7 @@ word_span t (c ∷ w) r = Some (up_to t r)
 -- of the type `x`, `X`, `?`, `x?` or `X?` there is none
 abbrev pub type_span : Text → TypeText → Text → Option Span
 type_span t (DebugHexType h) r = None
-type_span t (SignType c) r = None
+type_span t (CharacterType c) r = None
 type_span t (WordType w) r = word_span t w r
 
 -- the fill that stands at t

@@ -3,7 +3,7 @@ use Rattle.std.specs.Prelude.{◌++◌, if◌then◌else◌, List, [], ◌∷◌
 use Rattle.rustc_parse_format.specs.Characters.{Text, word, behind_word, digits, behind_digits, behind_first, is_over}
 use Rattle.rustc_parse_format.specs.Marks.{Span, up_to, through}
 use Rattle.rustc_parse_format.specs.Placeholder.{Cut}
-use Rattle.rustc_parse_format.specs.Syntax.{WidthText, PaddedWidth, ZeroIndexWidth, PlainWidth, PrecisionText, NoPrecision, StarPrecision, DotPrecision, TypeText, DebugHexType, SignType, WordType, Parts, SpecText, Default, FormatParts, Modifier, DiagnosticText}
+use Rattle.rustc_parse_format.specs.Syntax.{WidthText, PaddedWidth, ZeroIndexWidth, PlainWidth, PrecisionText, NoPrecision, StarPrecision, DotPrecision, TypeText, DebugHexType, CharacterType, WordType, Parts, SpecText, Default, FormatParts, Modifier, DiagnosticText}
 use Rattle.rustc_parse_format.specs.Meaning.{from_width, from_precision, from_type}
 use Rattle.rustc_parse_format.specs.Faults.{Fault, Underscore, TooLarge}
 
@@ -32,7 +32,7 @@ precision_faults t (DotPrecision k) = argument_faults (behind_first t)
 
 abbrev pub type_faults : Text → TypeText → List (Fault Span)
 type_faults t (DebugHexType h) = []
-type_faults t (SignType c) = []
+type_faults t (CharacterType c) = []
 type_faults t (WordType w) = word_faults t
 
 -- the format specification in front of r

@@ -3,7 +3,7 @@ use Prim.Native.Char.{code}
 use Rattle.std.specs.Prelude.{ℕ, Bool, true, false, if◌then◌else◌, ◌==◌, [], ◌∷◌, Option, Some, None}
 use Rattle.rustc_parse_format.specs.Characters.{Text, is_align, is_no_brace, front, behind, word, behind_word}
 use Rattle.rustc_parse_format.specs.Pieces.{Mode, Format, InlineAsm, Diagnostic, Alignment, Left, Right, Center, Unknown, Sign, Plus, Minus, DebugHex, Lower, Upper}
-use Rattle.rustc_parse_format.specs.Syntax.{TypeText, DebugHexType, SignType, WordType, Parts, SpecText, Default, FormatParts, Modifier, DiagnosticText}
+use Rattle.rustc_parse_format.specs.Syntax.{TypeText, DebugHexType, CharacterType, WordType, Parts, SpecText, Default, FormatParts, Modifier, DiagnosticText}
 use Rattle.rustc_parse_format.specs.Counts.{width, precision}
 
 -- Each part of a format specification at the front of a text, and the rest behind it.
@@ -26,15 +26,15 @@ alternate (c ∷ t) = if c == code "#" then (true, t) else (false, c ∷ t)
 
 -- with t behind the `x` or `X`
 abbrev pub behind_hex : DebugHex → ℕ → Text → TypeText × Text
-behind_hex h x [] = (SignType x, [])
-behind_hex h x (c ∷ t) = if c == code "?" then (DebugHexType h, t) else (SignType x, c ∷ t)
+behind_hex h x [] = (CharacterType x, [])
+behind_hex h x (c ∷ t) = if c == code "?" then (DebugHexType h, t) else (CharacterType x, c ∷ t)
 
 abbrev pub type : Text → TypeText × Text
 type [] = (WordType [], [])
 type (c ∷ t) =
     if c == code "x" then behind_hex Lower c t
     else (if c == code "X" then behind_hex Upper c t
-    else (if c == code "?" then (SignType c, t) else (WordType (word (c ∷ t)), behind_word (c ∷ t))))
+    else (if c == code "?" then (CharacterType c, t) else (WordType (word (c ∷ t)), behind_word (c ∷ t))))
 
 -- A format specification that stands at t has its fill there, and each other part behind the one before it.
 abbrev pub align_at : Text → Text

@@ -1,6 +1,6 @@
 -- What a caller sees of a parser between two calls.
 use Rattle.std.specs.Prelude.{◌≡◌, ℕ, ◌-◌, Bool, List, [], ◌∷◌, length, Option, Some, None, option_map}
-use Rattle.rustc_parse_format.specs.Characters.{Text, width}
+use Rattle.rustc_parse_format.specs.Characters.{Text, byte_length}
 use Rattle.rustc_parse_format.specs.Pieces.{Mode, Piece, bare}
 use Rattle.rustc_parse_format.specs.Faults.{Message, add_errors}
 use Rattle.rustc_parse_format.specs.World.{World, Place, place_at, world, faults_in, pieces_in}
@@ -15,7 +15,7 @@ pub record Unread : Type 0 where
 -- the first character of t with its place and its byte position in the input, if there is one
 abbrev pub first_of : World → Text → Text → Option (Place × ℕ × ℕ)
 first_of w input [] = None
-first_of w input (c ∷ t) = Some (place_at w (length (c ∷ t)), width input - width (c ∷ t), c)
+first_of w input (c ∷ t) = Some (place_at w (length (c ∷ t)), byte_length input - byte_length (c ∷ t), c)
 
 pub record State : Type 0 where
   pub mode : Mode

@@ -19,8 +19,8 @@ pub record Call : Type 0 where
   pub next : ℕ
 
 -- r stands where the closing brace of the placeholder at opening, with the specification f, should
-abbrev pub missing_brace : Text → Spec Span → Text → Fault Span
-missing_brace opening f r = no_brace (brace_fill f.fill f.fill_span) (first r) (up_to r r) (over_first opening)
+abbrev pub unclosed_fault : Text → Spec Span → Text → Fault Span
+unclosed_fault opening f r = no_brace (brace_fill f.fill f.fill_span) (first r) (up_to r r) (over_first opening)
 
 -- the characters of l, and the longest run without braces at the front of t
 abbrev pub literal : ℕ → Text → Text → Call
@@ -32,7 +32,7 @@ closed c a r = record { piece = Some (NextArgument (argument c a)); faults = cut
 abbrev pub unclosed : ℕ → Text → Cut → Text → Call
 unclosed c opening a r = record {
   piece = Some (NextArgument (argument c a));
-  faults = cut_faults a ++ missing_brace opening (argument c a).format r ∷ [];
+  faults = cut_faults a ++ unclosed_fault opening (argument c a).format r ∷ [];
   rest = r;
   next = next_number c a.field;
 }
@@ -59,13 +59,13 @@ call mode c (b ∷ t) =
     else literal c [] (b ∷ t)
 
 -- a call that gives no placeholder and finds no fault
-abbrev pub IsText : Option (Piece Span) → Type 0
-IsText None = Unit {0}
-IsText (Some (Lit t)) = Unit {0}
-IsText (Some (NextArgument a)) = ⊥
+abbrev pub GivesNoArgument : Option (Piece Span) → Type 0
+GivesNoArgument None = Unit {0}
+GivesNoArgument (Some (Lit t)) = Unit {0}
+GivesNoArgument (Some (NextArgument a)) = ⊥
 
-abbrev pub TakesNoMemory : Call → Type 0
-TakesNoMemory k = IsText k.piece × (k.faults ≡ [])
+abbrev pub IsPlain : Call → Type 0
+IsPlain k = GivesNoArgument k.piece × (k.faults ≡ [])
 
 -- Each call goes on where the one before it stopped, and the first with no piece is the last.
 abbrev pub GoesOn : Option (Piece Span) → List Call → Type 0 → Type 0

@@ -96,19 +96,19 @@ pub data TypeText : Type 0 where
   -- `x?` or `X?`
   DebugHexType : DebugHex → TypeText
   -- `x`, `X` or `?`
-  SignType : ℕ → TypeText
+  CharacterType : ℕ → TypeText
   -- a word, which may be empty
   WordType : Text → TypeText
 
-abbrev pub is_type_sign : ℕ → Bool
-is_type_sign c = (c == code "x") || (c == code "X") || (c == code "?")
+abbrev pub is_type_character : ℕ → Bool
+is_type_character c = (c == code "x") || (c == code "X") || (c == code "?")
 
 -- type := '' | '?' | 'x' | 'x?' | 'X' | 'X?' | identifier: `x` and `X` alone only where no `?` follows
 abbrev pub type_part : TypeText → Part
 type_part (DebugHexType Lower) = fixed (codes "x?")
 type_part (DebugHexType Upper) = fixed (codes "X?")
-type_part (SignType c) = record { spelling = c ∷ []; is_formed = is_type_sign c; may_precede = λ t. (c == code "?") || not (begins_with (code "?") t) }
-type_part (WordType w) = row (absent (starts is_type_sign) ∷ optional_identifier w ∷ [])
+type_part (CharacterType c) = record { spelling = c ∷ []; is_formed = is_type_character c; may_precede = λ t. (c == code "?") || not (begins_with (code "?") t) }
+type_part (WordType w) = row (absent (starts is_type_character) ∷ optional_identifier w ∷ [])
 
 pub record Parts : Type 0 where
   pub fill : Option ℕ

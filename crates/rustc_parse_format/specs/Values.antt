@@ -3,7 +3,7 @@
 use Rattle.std.specs.Prelude.{ℕ, Bool, true, false, suc, if◌then◌else◌, [], ◌∷◌, Option, Some, None, codes, is_some, unwrap_or}
 use Rattle.rustc_parse_format.specs.Characters.{Text, number}
 use Rattle.rustc_parse_format.specs.Pieces.{DebugHex, Position, Implicit, Index, Named, Count, Is, Name, Param, Star, Implied, Spec, Argument, Piece, Lit, NextArgument, default_spec}
-use Rattle.rustc_parse_format.specs.Syntax.{PositionText, Digits, Word, NoPosition, CountText, NumberCount, IndexCount, NameCount, NoCount, WidthText, PaddedWidth, ZeroIndexWidth, PlainWidth, PrecisionText, NoPrecision, StarPrecision, DotPrecision, TypeText, DebugHexType, SignType, WordType, Parts, SpecText, Default, FormatParts, Modifier, DiagnosticText, FieldText, PieceText, RunText, DoubledText, PlaceholderText}
+use Rattle.rustc_parse_format.specs.Syntax.{PositionText, Digits, Word, NoPosition, CountText, NumberCount, IndexCount, NameCount, NoCount, WidthText, PaddedWidth, ZeroIndexWidth, PlainWidth, PrecisionText, NoPrecision, StarPrecision, DotPrecision, TypeText, DebugHexType, CharacterType, WordType, Parts, SpecText, Default, FormatParts, Modifier, DiagnosticText, FieldText, PieceText, RunText, DoubledText, PlaceholderText}
 
 abbrev pub count_value : CountText → Count (Unit {0})
 count_value (NumberCount ds) = Is (number ds)
@@ -29,12 +29,12 @@ precision_value c (DotPrecision k) = count_value k
 
 abbrev pub type_of : TypeText → Text
 type_of (DebugHexType h) = codes "?"
-type_of (SignType c) = c ∷ []
+type_of (CharacterType c) = c ∷ []
 type_of (WordType w) = w
 
 abbrev pub debug_hex_of : TypeText → Option DebugHex
 debug_hex_of (DebugHexType h) = Some h
-debug_hex_of (SignType c) = None
+debug_hex_of (CharacterType c) = None
 debug_hex_of (WordType w) = None
 
 abbrev pub format_value : ℕ → Parts → Spec (Unit {0})

@@ -1,7 +1,7 @@
 -- A world gives each character of the input its place, a range of bytes, and so each mark its number.
 use Rattle.std.specs.Prelude.{ℕ, ◌+◌, ◌-◌, Bool, if◌then◌else◌, List, [], ◌∷◌, length, map, Option, Some, None, slice_index_or}
 use Rattle.std.specs.Char.{len_utf8}
-use Rattle.rustc_parse_format.specs.Characters.{Text, width}
+use Rattle.rustc_parse_format.specs.Characters.{Text, byte_length}
 use Rattle.rustc_parse_format.specs.Pieces.{Piece, map_piece}
 use Rattle.rustc_parse_format.specs.Source.{is_source}
 use Rattle.rustc_parse_format.specs.Marks.{Mark, Start, End, Span}
@@ -36,8 +36,8 @@ quote_offset (Some n) = n + 2
 
 -- Where the text ends: with the snippet, or else with the input, without its appended newline.
 abbrev pub text_end : Text → Option Text → Bool → ℕ
-text_end input (Some snippet) newline = width snippet
-text_end input None newline = width input - (if newline then 1 else 0)
+text_end input (Some snippet) newline = byte_length snippet
+text_end input None newline = byte_length input - (if newline then 1 else 0)
 
 -- a text that starts at a byte and ends at another, and whether it has a source literal
 abbrev pub plain_world : Bool → ℕ → Text → ℕ → World

@@ -11,7 +11,7 @@ ghost use Rattle.rustc_parse_format.specs.Pieces.{Implicit, map_argument};
 ghost use Rattle.rustc_parse_format.specs.Placeholder.{cut};
 ghost use Rattle.rustc_parse_format.specs.Seen.{pair, seen, seen_argument, seen_mode, seen_position};
 ghost use Rattle.rustc_parse_format.specs.SeenFaults.{seen_fault};
-ghost use Rattle.rustc_parse_format.specs.Step.{TakesNoMemory, call, placeholder};
+ghost use Rattle.rustc_parse_format.specs.Step.{IsPlain, call, placeholder};
 ghost use Rattle.rustc_parse_format.specs.Steps.{Forward, IsInWord, Paid};
 ghost use Rattle.rustc_parse_format.specs.World.{faults_in, piece_in, place_of};
 
@@ -178,7 +178,7 @@ pub fn read_piece<'input, L: Ledger>(
     ensures next { OnOk result (curarg.new ≡ (call (seen_mode mode) curarg.old cursor.old.rest).next) }
     ensures found { OnOk result (map seen_fault found.new.items ≡ map seen_fault found.old.items
         ++ faults_in cursor.old.world (call (seen_mode mode) curarg.old cursor.old.rest).faults) }
-    ensures spare { TakesNoMemory (call (seen_mode mode) curarg.old cursor.old.rest) → IsOk result }
+    ensures spare { IsPlain (call (seen_mode mode) curarg.old cursor.old.rest) → IsOk result }
     ensures steps { OnOk result (Paid cursor.old.rest trail.old cursor.new.rest trail.new) }
 {
     let Some(c) = cursor.peek() else {

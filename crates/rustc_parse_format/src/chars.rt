@@ -119,7 +119,7 @@ impl<'input> Model for Cursor<'input> {
 
 impl<'input> Cursor<'input> {
     ghost use Rattle.std.specs.Prelude.{◌≡◌, ◌-◌, ◌+◌, ◌<◌, ◌^◌, chars, length, option_map};
-    ghost use Rattle.rustc_parse_format.specs.Characters.{begins_with, first, behind_first, with_first, width, front, behind, behind_white, word, behind_word, digits, behind_digits, number, is_id_start, is_over, starts};
+    ghost use Rattle.rustc_parse_format.specs.Characters.{begins_with, first, behind_first, with_first, byte_length, front, behind, behind_white, word, behind_word, digits, behind_digits, number, is_id_start, is_over, starts};
     ghost use Rattle.std.specs.Char.{is_ascii_digit};
     ghost use Rattle.rustc_parse_format.specs.Classes.{passes};
     ghost use Rattle.rustc_parse_format.specs.Marks.{Start, End};
@@ -214,7 +214,7 @@ impl<'input> Cursor<'input> {
 
     /// The byte position of the next character in the input, or of its end.
     pub fn position(&self) -> usize
-        ensures { result ≡ width self.now.input - width self.now.rest }
+        ensures { result ≡ byte_length self.now.input - byte_length self.now.rest }
     {
         self.input.len() - self.rest.len()
     }

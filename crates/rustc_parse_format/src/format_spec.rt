@@ -121,7 +121,7 @@ struct TypePart<'input> {
 }
 
 /// A type that is a sign.
-fn sign_type<'input>(ty: &'input str) -> TypePart<'input>
+fn character_type<'input>(ty: &'input str) -> TypePart<'input>
     ensures ty { result.ty.now ≡ ty.entry.now }
     ensures debug_hex { result.debug_hex ≡ None }
     ensures span { result.span ≡ None }
@@ -156,7 +156,7 @@ fn hex_type<'input, L: Ledger>(
             span: None,
         };
     }
-    sign_type(letter)
+    character_type(letter)
 }
 
 /// Reads the type at the front.
@@ -183,7 +183,7 @@ fn type_part<'input, L: Ledger>(
     }
     if spec::is_next(cursor, '?') {
         cursor.advance(trail);
-        return Ok(sign_type("?"));
+        return Ok(character_type("?"));
     }
     let (ty, span) = spanned_word(cursor, trail, found)?;
     Ok(TypePart {

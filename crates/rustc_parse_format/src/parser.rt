@@ -51,7 +51,7 @@ impl<'input> Parser<'input> {
     ghost use Rattle.rustc_parse_format.specs.Source.{HasSource};
     ghost use Rattle.rustc_parse_format.specs.State.{GivesPiece, after, first_of, first_state, next_call};
     ghost use Rattle.rustc_parse_format.specs.Spelling.{IsPart};
-    ghost use Rattle.rustc_parse_format.specs.Step.{TakesNoMemory};
+    ghost use Rattle.rustc_parse_format.specs.Step.{IsPlain};
     ghost use Rattle.rustc_parse_format.specs.Steps.{IsInWord, Paid};
     ghost use Rattle.rustc_parse_format.specs.Placeholder.{placed};
     ghost use Rattle.rustc_parse_format.specs.Syntax.{FieldText, opened_part};
@@ -95,7 +95,7 @@ impl<'input> Parser<'input> {
         ensures piece { IfOk result (λ p. option_map seen p ≡ option_map (piece_in self.old.world) (next_call self.old).piece) }
         ensures state { OnOk result (self.new ≡ after self.old (next_call self.old)) }
         ensures err { OnErr result (self.new ≡ self.old) }
-        ensures spare { TakesNoMemory (next_call self.old) → IsOk result }
+        ensures spare { IsPlain (next_call self.old) → IsOk result }
         ensures steps { OnOk result (Paid self.old.rest trail.old self.new.rest trail.new) }
     {
         let front = self.cursor.duplicate();
@@ -140,7 +140,7 @@ impl<'input> Parser<'input> {
         ensures piece { IfOk result (λ p. option_map seen p ≡ option_map (piece_in self.old.world) (next_call self.old).piece) }
         ensures state { OnOk result (self.new ≡ after self.old (next_call self.old)) }
         ensures err { OnErr result (self.new ≡ self.old) }
-        ensures spare { TakesNoMemory (next_call self.old) → IsOk result }
+        ensures spare { IsPlain (next_call self.old) → IsOk result }
         ensures steps { Paid self.old.rest count.old self.new.rest count.new }
         ensures refused { OnErr result (count.new ≡ count.old) }
     {
@@ -164,7 +164,7 @@ impl<'input> Parser<'input> {
         ensures piece { IfOk result (λ p. option_map seen p ≡ option_map (piece_in self.old.world) (next_call self.old).piece) }
         ensures state { OnOk result (self.new ≡ after self.old (next_call self.old)) }
         ensures err { OnErr result (self.new ≡ self.old) }
-        ensures spare { TakesNoMemory (next_call self.old) → IsOk result }
+        ensures spare { IsPlain (next_call self.old) → IsOk result }
     {
         let mut count = self.count::<L>(blank);
         self.next_counted(&mut count)
@@ -177,7 +177,7 @@ impl<'input> Parser<'input> {
         ensures piece { IfOk result (λ p. option_map seen p ≡ option_map (piece_in self.old.world) (next_call self.old).piece) }
         ensures state { OnOk result (self.new ≡ after self.old (next_call self.old)) }
         ensures err { OnErr result (self.new ≡ self.old) }
-        ensures spare { TakesNoMemory (next_call self.old) → IsOk result }
+        ensures spare { IsPlain (next_call self.old) → IsOk result }
 
         // A piece that begins the rest is the one that is given, and then nothing is a fault.
         ensures reads { IfOk result (λ p. (q : BarePiece (Unit {0})) (r : Text) (n : ℕ)

@@ -1,7 +1,7 @@
 //! What is left of a text, from which characters are taken one at a time.
 
 ghost use Rattle.std.specs.Prelude.{◌≡◌, ◌↔◌, List, ℕ, [], chars, IsTrue};
-ghost use Rattle.rustc_parse_format.specs.Characters.{begins_with, behind, behind_first, first, width};
+ghost use Rattle.rustc_parse_format.specs.Characters.{begins_with, behind, behind_first, first, byte_length};
 ghost use Rattle.rustc_parse_format.specs.LiteralUnits.{is_skipped};
 
 use std::marker::Model;
@@ -28,7 +28,7 @@ impl<'a> Rest<'a> {
 
     /// How many bytes are left.
     pub fn len(&self) -> usize
-        ensures { result ≡ width self.now }
+        ensures { result ≡ byte_length self.now }
     {
         byte_count(self.text)
     }
@@ -86,7 +86,7 @@ fn past_first(text: &str) -> &str
 
 /// How many bytes a text takes.
 fn byte_count(text: &str) -> usize
-    ensures { result ≡ width (chars text.now) }
+    ensures { result ≡ byte_length (chars text.now) }
 {
     text.len()
 }

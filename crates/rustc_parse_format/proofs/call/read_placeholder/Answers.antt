@@ -9,7 +9,7 @@ use Rattle.rustc_parse_format.specs.Seen.{seen_argument, seen_mode, seen_spec}
 use Rattle.rustc_parse_format.specs.State.{Unread}
 use Rattle.rustc_parse_format.specs.World.{Place, place_of}
 use Rattle.rustc_parse_format.proofs.Arguments.{pair_same}
-use Rattle.rustc_parse_format.proofs.Placeholders.{ending, placeholder-piece, placeholder-rest, placeholder-next, placeholder_faults_in, missing_brace_in}
+use Rattle.rustc_parse_format.proofs.Placeholders.{ending, placeholder-piece, placeholder-rest, placeholder-next, placeholder_faults_in, unclosed_fault_in}
 use Rattle.rustc_parse_format.proofs.call.read_placeholder.Goals as goal
 
 pub returns-clause-piece : goal.returns-clause-piece
@@ -52,5 +52,5 @@ returns-clause-found g c =
     let missing =
     ap (λ (s : Option Place). no_brace s (first r) here (c.start.result, c.stop.result)) c.brace_fill-fill.ensures ∙
     (ap (λ (o : Place). no_brace (brace_fill seen.fill seen.fill_span) (first r) here o) (pair_same c.start.ensures c.stop.ensures) ∙
-    sym (missing_brace_in w t format r seen (ap (λ (a : Argument Place). a.format) value))) in
+    sym (unclosed_fault_in w t format r seen (ap (λ (a : Argument Place). a.format) value))) in
     placeholder_faults_in w m c.args.curarg.now t (behind_first t) _ _ _ _ found missing more

@@ -9,7 +9,7 @@ pub returns-then-is_next-2-clause-ty : goal.returns-then-is_next-2-clause-ty
 returns-then-is_next-2-clause-ty g c = upper_text c.args.cursor.now.rest _ (sym c.if-is_next-2.ensures) c.hex_type-then-is_next-2.ensures.ty
 
 pub returns-then-is_next-3-clause-ty : goal.returns-then-is_next-3-clause-ty
-returns-then-is_next-3-clause-ty g c = question_text c.args.cursor.now.rest _ (sym c.if-is_next-3.ensures) c.sign_type.ensures.ty
+returns-then-is_next-3-clause-ty g c = question_text c.args.cursor.now.rest _ (sym c.if-is_next-3.ensures) c.character_type.ensures.ty
 
 pub returns-clause-ty : goal.returns-clause-ty
 returns-clause-ty g c =

@@ -1,6 +1,6 @@
 use Rattle.std.proofs.Common.{◌≡◌, ◌≢◌, ◌-◌, ◌≤◌, None, [], arith, chars}
 use Rattle.std.proofs.lemmas.Bool.{both_ways}
-use Rattle.rustc_parse_format.specs.Characters.{width}
+use Rattle.rustc_parse_format.specs.Characters.{byte_length}
 use Rattle.rustc_parse_format.specs.LiteralUnits.{meaning, unit_at, at_most_one}
 use Rattle.rustc_parse_format.proofs.LiteralMeanings.{meaning-narrower, meaning-shorter}
 use Rattle.rustc_parse_format.proofs.LiteralPlaces.{found-character, found-nothing, found-all, found-none}
@@ -15,13 +15,13 @@ returns-in_default-clause-computed c =
 
 pub overflow_sub-end : goal.overflow_sub-end
 overflow_sub-end c =
-    let narrower : width c.read_unit.new.rest ≤ width c.loop-rest.rest = meaning-narrower c.loop-rest.rest
+    let narrower : byte_length c.read_unit.new.rest ≤ byte_length c.loop-rest.rest = meaning-narrower c.loop-rest.rest
     (at_most_one c.in-Some.value) c.read_unit.new.rest c.in-Some.ensures in
     omega arith
 
 pub loop-rest-preserved-in_ok-push : goal.loop-rest-preserved-in_ok-push
 loop-rest-preserved-in_ok-push c =
-    let narrower : width c.read_unit.new.rest ≤ width c.loop-rest.rest = meaning-narrower c.loop-rest.rest
+    let narrower : byte_length c.read_unit.new.rest ≤ byte_length c.loop-rest.rest = meaning-narrower c.loop-rest.rest
     (at_most_one c.in-Some.value) c.read_unit.new.rest c.in-Some.ensures in
     record {
       empty = λ e. absurd (both_ways _ c.loop-rest-test.true (c.is_empty.ensures.1 (c.loop-rest.invariant.empty e)));
@@ -34,7 +34,7 @@ loop-rest-preserved-in_ok-push c =
 
 pub loop-rest-preserved : goal.loop-rest-preserved
 loop-rest-preserved c =
-    let narrower : width c.read_unit.new.rest ≤ width c.loop-rest.rest = meaning-narrower c.loop-rest.rest
+    let narrower : byte_length c.read_unit.new.rest ≤ byte_length c.loop-rest.rest = meaning-narrower c.loop-rest.rest
     (at_most_one c.in-Some.value) c.read_unit.new.rest c.in-Some.ensures in
     record {
       empty = λ e. absurd (both_ways _ c.loop-rest-test.true (c.is_empty.ensures.1 (c.loop-rest.invariant.empty e)));

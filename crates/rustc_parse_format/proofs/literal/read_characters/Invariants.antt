@@ -1,5 +1,5 @@
 use Rattle.std.proofs.Common.{◌≡◌, ◌+◌, [], length, chars}
-use Rattle.rustc_parse_format.specs.Characters.{width}
+use Rattle.rustc_parse_format.specs.Characters.{byte_length}
 use Rattle.rustc_parse_format.proofs.LiteralPlaces.{IsSoFar}
 use Rattle.rustc_parse_format.proofs.literal.read_characters.Given as goal
 
@@ -7,7 +7,7 @@ abbrev pub invariant-loop-rest : goal.invariant-loop-rest
 invariant-loop-rest l = record {
   so_far : IsSoFar l.found.items l.at l.rest (chars l.fn.content);
   empty : chars l.fn.content ≡ [] → l.rest ≡ [];
-  position : l.at + width l.rest ≡ l.total;
+  position : l.at + byte_length l.rest ≡ l.total;
 }
 
 abbrev pub decreases-loop-rest : goal.decreases-loop-rest
