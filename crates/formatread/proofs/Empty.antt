@@ -1,17 +1,21 @@
 -- What an empty input gives.
-use Rattle.std.proofs.Common.{◌≡◌, ℕ, Bool, true, false, List, [], ◌∷◌, Option, Some, refl, sym, ap, ◌∙◌, option_map, map, chars}
-use Rattle.std.specs.Prelude.{IfSome}
-use Rattle.std.proofs.lemmas.Option.{same_Some}
+use Rattle.std.proofs.Common.{◌≡◌, ◌≤◌, ℕ, ◌++◌, Bool, true, false, List, [], ◌∷◌, Option, None, Some, Result, Ok, Err, String, Global, string_bytes, replicate, refl, sym, ap, ◌∙◌, option_map, map, chars, length, arith}
+use Rattle.std.specs.Prelude.{IfSome, MatchOption}
+use Rattle.std.proofs.lemmas.Option.{same_Some, none-some}
 use Rattle.std.proofs.lemmas.Str.{chars-nil}
+use Rattle.std.proofs.lemmas.List.{nil_from_length}
+use Rattle.rustc_parse_format.specs.Literal.{IsLiteral, quoted, raw_frame}
 use Rattle.rustc_parse_format.specs.Pieces.{Mode, Piece}
-use Rattle.rustc_parse_format.specs.Seen.{seen_mode}
 use Rattle.rustc_parse_format.specs.Step.{call, pieces_of, walk}
 use Rattle.rustc_parse_format.specs.State.{calls, fresh}
 use Rattle.rustc_parse_format.specs.World.{Place, World, pieces_in}
 use Rattle.formatread.specs.declared.run.Task.{Task as DeclaredTask}
+use Rattle.formatread.specs.declared.verdict.RunFault.{RunFault}
+use Rattle.formatread.specs.declared.verdict.RunFault.TheVariants.{NotLiteral}
 use Rattle.formatread.specs.Program.{Task, is_faulty, listed, pieces}
 use Rattle.formatread.specs.SeenTask.{seen_task}
 use Rattle.formatread.specs.Source.{IsSourceOf, Source, bare_source}
+use Rattle.formatread.proofs.Literals.{raw_frame-parts}
 
 -- an empty text has no pieces and no fault
 walk-nil : (mode : Mode) (w : World) → pieces_in w (pieces_of (calls (fresh mode w []))) ≡ []
@@ -31,18 +35,41 @@ no_items f [] mode w bs e h = refl
 no_items f (x ∷ xs) mode w bs e h =
     let none : f x ∷ map f xs ≡ [] = h ∙ ap (λ t. pieces_in w (pieces_of (calls (fresh mode w t)))) (chars-empty bs e) ∙ walk-nil mode w in absurd cc
 
-nothing_listed : (mode : Mode) (is_literal : Bool) (t : List ℕ) (x : List ℕ × Bool) → is_literal ≡ false → t ≡ []
-    → (s : Source) × IsSourceOf is_literal t s × (x ≡ listed mode s) → x ≡ ([], false)
-nothing_listed mode true t x e f h = cc
-nothing_listed mode false t x e f (s, bare, given) = given ∙ ap (listed mode) (bare ∙ ap bare_source f) ∙ listed-nil mode
+-- nor is it a literal
+pub empty-not_raw : (bs : List ℕ) → bs ≡ [] → (n : ℕ) (t : List ℕ) → chars bs ≡ raw_frame n t → ⊥
+empty-not_raw bs e n t h =
+    let none : [] ≡ 114 ∷ (replicate n 35 ++ 34 ∷ ((t ++ 34 ∷ []) ++ replicate n 35)) = sym (chars-empty bs e) ∙ h ∙ raw_frame-parts n t in cc
 
--- Where the words ask for no literal and there is nothing to read, nothing is listed.
-pub empty-listed : (o : Option DeclaredTask) (t : DeclaredTask) (mode : Mode) (a : Option Task) (remaining : Option (List ℕ))
-    (items slice text : List ℕ) (x : List ℕ × Bool) → option_map seen_task o ≡ a → o ≡ Some t → a ≡ Some (record { mode = mode; is_literal = false })
-    → remaining ≡ Some [] → IfSome remaining (λ input. items ≡ input) → slice ≡ items → text ≡ slice
-    → (s : Source) × IsSourceOf t.is_literal (chars text) s × (x ≡ listed (seen_mode t.mode) s) → x ≡ ([], false)
-empty-listed o t mode a remaining items slice text x seen is asked known held sliced read given =
-    let same : seen_task t ≡ record { mode = mode; is_literal = false } = same_Some (seen_task t) (record { mode = mode; is_literal = false })
-    (ap (option_map seen_task) (sym is) ∙ seen ∙ asked) in
-    let none : items ≡ [] = rw known at held in
-    nothing_listed (seen_mode t.mode) t.is_literal (chars text) x (ap (λ (a : Task). a.is_literal) same) (chars-empty text (read ∙ sliced ∙ none)) given
+pub empty-not_quoted : (bs : List ℕ) → bs ≡ [] → (t : List ℕ) → chars bs ≡ quoted t → ⊥
+empty-not_quoted bs e t h = let none : [] ≡ 34 ∷ (t ++ 34 ∷ []) = sym (chars-empty bs e) ∙ h in cc
+
+pub empty-no_literal : (bs : List ℕ) → bs ≡ [] → (style : Option ℕ) (t : List ℕ) → IsLiteral style (chars bs) t → ⊥
+empty-no_literal bs e None t (content, us, h, is, v) = empty-not_quoted bs e content h
+empty-no_literal bs e (Some n) t h = empty-not_raw bs e n t h
+
+-- what the words ask for, and what was read
+pub asked-literal : (o : Option DeclaredTask) (t : DeclaredTask) (mode : Mode) (literal : Bool) (a : Option Task) → option_map seen_task o ≡ a → o ≡ Some t
+    → a ≡ Some (record { mode = mode; is_literal = literal }) → t.is_literal ≡ literal
+asked-literal o t mode literal a seen is asked =
+    ap (λ (a : Task). a.is_literal) (same_Some (seen_task t) (record { mode = mode; is_literal = literal }) (ap (option_map seen_task) (sym is) ∙ seen ∙ asked))
+
+pub empty-read : (remaining : Option (List ℕ)) (items slice text : List ℕ) → remaining ≡ Some [] → IfSome remaining (λ input. items ≡ input)
+    → slice ≡ items → text ≡ slice → text ≡ []
+empty-read remaining items slice text known held sliced read = let none : items ≡ [] = rw known at held in read ∙ sliced ∙ none
+
+pub nothing_found : (o : Option (String Global × Option ℕ)) (x : String Global × Option ℕ) (bs literal : List ℕ) → bs ≡ [] → length literal ≤ length bs
+    → MatchOption o ((style : Option ℕ) (t : List ℕ) → IsLiteral style (chars literal) t → ⊥) (λ y. IsLiteral y.1 (chars literal) (chars (string_bytes y.0)))
+    → o ≡ Some x → ⊥
+nothing_found None x bs literal e short found is = absurd (none-some x is)
+nothing_found (Some y) x bs literal e short found is =
+    empty-no_literal literal (nil_from_length literal (omega (arith, ap length e))) y.1 (chars (string_bytes y.0)) found
+
+-- what the program does with it
+pub empty-listed : (mode : Mode) (is_literal : Bool) (lines : String Global) (faulty : Bool) (bs : List ℕ) → bs ≡ []
+    → (bs ≡ [] → is_literal ≡ true → ◌≡◌ {A = Result (String Global × Bool) RunFault} (Ok (lines, faulty)) (Err NotLiteral))
+    → (s : Source) × IsSourceOf is_literal (chars bs) s × ((string_bytes lines, faulty) ≡ listed mode s)
+    → (is_literal ≡ false) × (string_bytes lines ≡ []) × (faulty ≡ false)
+empty-listed mode true lines faulty bs e refused given = absurd (let no_listing = refused e refl in cc)
+empty-listed mode false lines faulty bs e refused (s, bare, given) =
+    let none = given ∙ ap (listed mode) (bare ∙ ap bare_source (chars-empty bs e)) ∙ listed-nil mode in
+    (refl, ap (λ (x : List ℕ × Bool). x.0) none, ap (λ (x : List ℕ × Bool). x.1) none)

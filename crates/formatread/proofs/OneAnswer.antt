@@ -1,5 +1,5 @@
 -- An input owes one answer.
-use Rattle.std.proofs.Common.{◌≡◌, ◌≤◌, ◌<◌, ℕ, Bool, List, Option, Some, refl, sym, ap, ◌∙◌, subst, arith, Ok, Err, chars, length}
+use Rattle.std.proofs.Common.{◌≡◌, ◌<◌, ℕ, Bool, List, refl, sym, ap, ◌∙◌, subst, arith, Ok, Err, chars, length}
 use Rattle.std.specs.Str.{IsUtf8}
 use Rattle.std.proofs.lemmas.Option.{same_Some}
 use Rattle.formatread.specs.declared.verdict.RunFault.TheVariants.{Words, Read, TooLong, NotText, NotLiteral, Memory, Write}

@@ -77,6 +77,11 @@ IsOwedFor a input (Err Write) = ⊥
 abbrev pub IsOwed : List (List ℕ) → List ℕ → Answer → Type 0
 IsOwed words input answer = (a : Task) × (asked words ≡ Some a) × IsOwedFor a input answer
 
+-- the answer where there is nothing to read: no fault, or no literal
+abbrev pub empty_answer : Bool → Result Bool RunFault
+empty_answer false = Ok false
+empty_answer true = Err NotLiteral
+
 -- the text that is told, and the status
 abbrev pub verdict : Result Bool RunFault → List ℕ × ℕ
 verdict (Ok false) = ([], 0)

@@ -1,6 +1,6 @@
 //! The listing of an input that is a text.
 
-ghost use Rattle.std.specs.Prelude.{◌≡◌, ◌≢◌, ◌≤◌, [], IfOk, IfErr, IsErrOf, IsOk, false, length, nat_lt, chars, option_map, string_bytes};
+ghost use Rattle.std.specs.Prelude.{◌≡◌, ◌≢◌, ◌≤◌, [], Err, IfOk, IfErr, IsErrOf, IsOk, false, length, nat_lt, chars, option_map, string_bytes, true};
 ghost use Rattle.rustc_parse_format.specs.Seen.{seen_mode};
 ghost use Rattle.rustc_parse_format.specs.World.{hashes};
 ghost use Rattle.formatread.specs.declared.verdict.RunFault.TheVariants.{Words, TooLong, NotText, NotLiteral};
@@ -29,6 +29,7 @@ pub fn list_input(
     ensures not_long { IfErr result (λ fault. fault ≢ TooLong) }
     ensures is_text { IfErr result (λ fault. fault ≢ NotText) }
     ensures empty { input.now ≡ [] → is_literal ≡ false → IsOk result }
+    ensures empty_literal { input.now ≡ [] → is_literal ≡ true → result ≡ Err NotLiteral }
 {
     if is_literal {
         list_literal(alloc, input, mode)
@@ -46,6 +47,7 @@ fn list_literal(alloc: Global, input: &str, mode: ParseMode) -> Result<(String, 
     ensures not_words { IfErr result (λ fault. fault ≢ Words) }
     ensures not_long { IfErr result (λ fault. fault ≢ TooLong) }
     ensures is_text { IfErr result (λ fault. fault ≢ NotText) }
+    ensures empty { input.now ≡ [] → result ≡ Err NotLiteral }
 {
     let literal = without_newline(input);
     let Some((text, style)) = literal_text(alloc, literal)? else {

@@ -1,6 +1,6 @@
 //! A standard input that is a string literal.
 
-ghost use Rattle.std.specs.Prelude.{◌≡◌, ◌++◌, ◌+◌, ◌<◌, ◌≤◌, ℕ, [], ◌∷◌, Option, IfOk, IfSome, MatchOption, OnOk, chars, length, map, replicate, string_bytes, true, Bool};
+ghost use Rattle.std.specs.Prelude.{◌≡◌, ◌++◌, ◌+◌, ◌<◌, ◌≤◌, ℕ, [], ◌∷◌, Option, IfOk, IfSome, IsOk, MatchOption, OnOk, chars, length, map, replicate, string_bytes, true, Bool};
 ghost use Rattle.rustc_parse_format.specs.Characters.{Text};
 ghost use Rattle.rustc_parse_format.specs.Literal.{IsLiteral, IsOrdinaryLiteral, newline, raw_closing, raw_frame, raw_opening};
 ghost use Rattle.rustc_parse_format.specs.World.{hashes};
@@ -32,6 +32,7 @@ pub fn literal_text(
         ((style : Option ℕ) (t : Text) → IsLiteral style (chars literal.now) t → ⊥)
         (λ x. IsLiteral x.1 (chars literal.now) (chars (string_bytes x.0)))) }
     ensures few { IfOk result (λ o. IfSome o (λ x. hashes x.1 ≤ length literal.now)) }
+    ensures empty { literal.now ≡ [] → IsOk result }
 {
     if let Some((hashes, text)) = raw_text(literal) {
         return Ok(Some((String::from_str(alloc, text)?, Some(hashes))));
@@ -44,9 +45,10 @@ pub fn literal_text(
 
 /// What an ordinary literal stands for, or `None` if the text is none.
 fn ordinary_text(alloc: Global, literal: &str) -> Result<Option<String>, AllocError>
-    ensures { IfOk result (λ o. MatchOption o
+    ensures found { IfOk result (λ o. MatchOption o
         ((t : Text) → IsOrdinaryLiteral (chars literal.now) t → ⊥)
         (λ s. IsOrdinaryLiteral (chars literal.now) (chars (string_bytes s)))) }
+    ensures empty { literal.now ≡ [] → IsOk result }
 {
     let Some(content) = between_quotes(literal) else {
         return Ok(None);

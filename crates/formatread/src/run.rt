@@ -1,9 +1,9 @@
-ghost use Rattle.std.specs.Prelude.{◌≡◌, ◌≢◌, ◌<◌, ◌≤◌, ◌↔◌, ◌⊎◌, ℕ, List, [], None, Some, Ok, Err, IfOk, IfErr, IfSome, IsErrOf, IsOk, IsOkUnless, OnOk, false, length, map, nat_lt, chars, option_map, string_bytes};
+ghost use Rattle.std.specs.Prelude.{◌≡◌, ◌≢◌, ◌<◌, ◌≤◌, ◌↔◌, ◌⊎◌, ℕ, Bool, List, [], None, Some, Ok, Err, IfOk, IfErr, IfSome, IsErrOf, IsOk, IsOkUnless, OnOk, length, map, nat_lt, chars, option_map, string_bytes};
 ghost use Rattle.std.specs.Io.KnownBytes.{Appends};
 ghost use Rattle.rustc_parse_format.specs.Pieces.{Mode};
 ghost use Rattle.rustc_parse_format.specs.Seen.{seen_mode};
 ghost use Rattle.formatread.specs.declared.verdict.RunFault.TheVariants.{Words, TooLong, NotText, NotLiteral, Read as ReadFault, Write as WriteFault};
-ghost use Rattle.formatread.specs.Program.{Answer, IsOwed, asked, limit, mode_named};
+ghost use Rattle.formatread.specs.Program.{Answer, IsOwed, asked, empty_answer, limit, mode_named};
 ghost use Rattle.formatread.specs.SeenTask.{seen_task};
 
 use super::input::list_input;
@@ -43,9 +43,9 @@ pub fn run<R: Read, W: Write>(
         (λ input. IsOwed (map string_bytes words.now) input (Err NotText)) }
     ensures not_literal { IsErrOf result NotLiteral → IfSome (R.remaining reader.old)
         (λ input. IsOwed (map string_bytes words.now) input (Err NotLiteral)) }
-    // With nothing to read, and no literal asked for, nothing is written, and only the read can fail.
-    ensures empty { (mode : Mode) → asked (map string_bytes words.now) ≡ Some (record { mode = mode; is_literal = false })
-        → R.remaining reader.old ≡ Some [] → (writer.new ≡ writer.old) × ((result ≡ Ok false) ⊎ (result ≡ Err ReadFault)) }
+    // With nothing to read nothing is written, and the answer is known but for a read that fails.
+    ensures empty { (mode : Mode) (literal : Bool) → asked (map string_bytes words.now) ≡ Some (record { mode = mode; is_literal = literal })
+        → R.remaining reader.old ≡ Some [] → (writer.new ≡ writer.old) × ((result ≡ empty_answer literal) ⊎ (result ≡ Err ReadFault)) }
     // Nothing is written before all is ready.
     ensures unwritten { IfErr result (λ fault. fault ≢ WriteFault → writer.new ≡ writer.old) }
 {

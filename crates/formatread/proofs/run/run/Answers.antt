@@ -1,11 +1,12 @@
-use Rattle.std.proofs.Common.{◌≡◌, List, ℕ, Bool, [], Err, Ok, false, inl, ap, map, option_map, string_bytes, sym, subst, ◌∙◌}
+use Rattle.std.proofs.Common.{Err, Ok, inl, ap, map, option_map, string_bytes, sym, subst, ◌∙◌}
 use Rattle.std.specs.Str.{IsUtf8}
 use Rattle.std.proofs.lemmas.Bool.{false≢true}
 use Rattle.std.proofs.lemmas.Option.{IfSome_then}
+use Rattle.rustc_parse_format.specs.Seen.{seen_mode}
 use Rattle.formatread.specs.declared.verdict.RunFault.TheVariants.{NotText}
-use Rattle.formatread.specs.Program.{IsOwed, IsShort}
+use Rattle.formatread.specs.Program.{IsOwed, IsShort, empty_answer}
 use Rattle.formatread.specs.SeenTask.{seen_task}
-use Rattle.formatread.proofs.Empty.{empty-listed}
+use Rattle.formatread.proofs.Empty.{asked-literal, empty-listed, empty-read}
 use Rattle.formatread.proofs.OneAnswer.{owed-only}
 use Rattle.formatread.proofs.run.run.Goals as goal
 
@@ -36,13 +37,20 @@ pub returns-clause-one_answer : goal.returns-clause-one_answer
 returns-clause-one_answer g c = owed-only
 
 pub returns-in_err-write_whole-clause-empty : goal.returns-in_err-write_whole-clause-empty
-returns-in_err-write_whole-clause-empty g c mode a e =
-    let none = empty-listed c.asked.result c.in-Some.task mode _ _ c.in_ok-input.input.items c.as_slice.result.now c.in-Ok.text.now
-    (string_bytes c.in_ok-lines.lines, c.in_ok-lines.faulty) c.asked.ensures c.in-Some.is a e c.in_ok-input.ensures.bytes c.as_slice.ensures.value c.in-Ok.ensures.cases.0 c.in_ok-lines.ensures.lines in
-    absurd (false≢true (c.in_err-write_whole.ensures.empty (c.as_bytes.ensures.value ∙ ap (λ (x : List ℕ × Bool). x.0) none)).0)
+returns-in_err-write_whole-clause-empty g c mode literal a e =
+    let task = c.in-Some.task in
+    let none = empty-read _ c.in_ok-input.input.items c.as_slice.result.now c.in-Ok.text.now e c.in_ok-input.ensures.bytes
+    c.as_slice.ensures.value c.in-Ok.ensures.cases.0 in
+    let listed = empty-listed (seen_mode task.mode) task.is_literal c.in_ok-lines.lines c.in_ok-lines.faulty c.in-Ok.text.now none
+    c.in_ok-lines.ensures.empty_literal c.in_ok-lines.ensures.lines in
+    absurd (false≢true (c.in_err-write_whole.ensures.empty (c.as_bytes.ensures.value ∙ listed.1)).0)
 
 pub returns-clause-empty : goal.returns-clause-empty
-returns-clause-empty g c mode a e =
-    let none = empty-listed c.asked.result c.in-Some.task mode _ _ c.in_ok-input.input.items c.as_slice.result.now c.in-Ok.text.now
-    (string_bytes c.in_ok-lines.lines, c.in_ok-lines.faulty) c.asked.ensures c.in-Some.is a e c.in_ok-input.ensures.bytes c.as_slice.ensures.value c.in-Ok.ensures.cases.0 c.in_ok-lines.ensures.lines in
-    ((c.in_ok-write_whole.ensures.empty (c.as_bytes.ensures.value ∙ ap (λ (x : List ℕ × Bool). x.0) none)).1, inl (ap (λ (x : List ℕ × Bool). Ok x.1) none))
+returns-clause-empty g c mode literal a e =
+    let task = c.in-Some.task in
+    let none = empty-read _ c.in_ok-input.input.items c.as_slice.result.now c.in-Ok.text.now e c.in_ok-input.ensures.bytes
+    c.as_slice.ensures.value c.in-Ok.ensures.cases.0 in
+    let listed = empty-listed (seen_mode task.mode) task.is_literal c.in_ok-lines.lines c.in_ok-lines.faulty c.in-Ok.text.now none
+    c.in_ok-lines.ensures.empty_literal c.in_ok-lines.ensures.lines in
+    let asks = asked-literal c.asked.result task mode literal _ c.asked.ensures c.in-Some.is a in
+    ((c.in_ok-write_whole.ensures.empty (c.as_bytes.ensures.value ∙ listed.1)).1, inl (ap Ok listed.2 ∙ ap empty_answer (sym listed.0 ∙ asks)))
