@@ -1,7 +1,7 @@
 """The lists of cases: a line each, with tabs between id, words, standard input, refusal, standard output and status.
 
 Bytes are written as text. A backslash stands before n, t and r for LF, HT and CR, before itself, and before x and two
-hexadecimal digits for any byte that isn't part of a printable character. In the words, s behind a backslash is a space
+hexadecimal digits for any byte that isn't part of a printable character. In the words, s after a backslash is a space
 inside a word, and e an empty word. A refusal is the name of one, or empty. A line that begins with # and a space is no
 case. The answers are those of the whole program."""
 

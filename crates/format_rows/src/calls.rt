@@ -109,7 +109,7 @@ fn peeks_show_what_is_next(rt: HostRuntime) -> Result<(), Fail> {
 }
 
 #[test]
-fn read_all_leaves_its_parser_behind_the_first_none(rt: HostRuntime) -> Result<(), Fail> {
+fn read_all_leaves_its_parser_after_the_first_none(rt: HostRuntime) -> Result<(), Fail> {
     let (pieces, mut parser) = read_all(rt.alloc(), "{}}x", None, None, false, ParseMode::Format)?;
     assert_eq!(rt; pieces.len(), 1);
     assert_eq!(rt; parser.curarg(), 1);

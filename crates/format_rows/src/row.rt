@@ -67,7 +67,7 @@ fn read_row(alloc: Global, line: &str) -> Result<Row, RowFault> {
     let input = text_of(alloc, columns.next())?.ok_or(RowFault::Column("input"))?;
     let wanted = text_of(alloc, columns.next())?.ok_or(RowFault::Column("listing"))?;
     if columns.next().is_some() {
-        return Err(RowFault::Column("end behind seven columns"));
+        return Err(RowFault::Column("end after seven columns"));
     }
     Ok(Row {
         name,
