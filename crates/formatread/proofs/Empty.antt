@@ -4,7 +4,7 @@ use Rattle.std.specs.Prelude.{IfSome, MatchOption}
 use Rattle.std.proofs.lemmas.Option.{same_Some, none-some}
 use Rattle.std.proofs.lemmas.Str.{chars-nil}
 use Rattle.std.proofs.lemmas.List.{nil_from_length}
-use Rattle.rustc_parse_format.specs.Literal.{IsLiteral, quoted, raw_frame}
+use Rattle.rustc_parse_format.specs.Literal.{IsLiteral, ordinary_frame, raw_frame}
 use Rattle.rustc_parse_format.specs.Pieces.{Mode, Piece}
 use Rattle.rustc_parse_format.specs.Step.{call, pieces_of, walk}
 use Rattle.rustc_parse_format.specs.State.{calls, fresh}
@@ -40,11 +40,11 @@ pub empty-not_raw : (bs : List ℕ) → bs ≡ [] → (n : ℕ) (t : List ℕ) �
 empty-not_raw bs e n t h =
     let none : [] ≡ 114 ∷ (replicate n 35 ++ 34 ∷ ((t ++ 34 ∷ []) ++ replicate n 35)) = sym (chars-empty bs e) ∙ h ∙ raw_frame-parts n t in cc
 
-pub empty-not_quoted : (bs : List ℕ) → bs ≡ [] → (t : List ℕ) → chars bs ≡ quoted t → ⊥
-empty-not_quoted bs e t h = let none : [] ≡ 34 ∷ (t ++ 34 ∷ []) = sym (chars-empty bs e) ∙ h in cc
+pub empty-no_frame : (bs : List ℕ) → bs ≡ [] → (t : List ℕ) → chars bs ≡ ordinary_frame t → ⊥
+empty-no_frame bs e t h = let none : [] ≡ 34 ∷ (t ++ 34 ∷ []) = sym (chars-empty bs e) ∙ h in cc
 
 pub empty-no_literal : (bs : List ℕ) → bs ≡ [] → (style : Option ℕ) (t : List ℕ) → IsLiteral style (chars bs) t → ⊥
-empty-no_literal bs e None t (content, us, h, is, v) = empty-not_quoted bs e content h
+empty-no_literal bs e None t (content, us, h, is, v) = empty-no_frame bs e content h
 empty-no_literal bs e (Some n) t h = empty-not_raw bs e n t h
 
 -- what the words ask for, and what was read

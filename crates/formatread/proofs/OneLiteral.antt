@@ -3,7 +3,7 @@ use Rattle.std.proofs.Common.{◌≡◌, ◌≢◌, ℕ, zero, suc, ◌++◌, Bo
 use Rattle.std.proofs.lemmas.List.{append_cancel_right, replicate_more, same_from_push}
 use Rattle.std.proofs.lemmas.Option.{same_Some}
 use Rattle.rustc_parse_format.specs.Characters.{Text}
-use Rattle.rustc_parse_format.specs.Literal.{IsLiteral, content_value, newline, quoted, raw_closing, raw_frame, raw_opening, units}
+use Rattle.rustc_parse_format.specs.Literal.{IsLiteral, content_value, newline, ordinary_frame, raw_closing, raw_frame, raw_opening, units}
 use Rattle.rustc_parse_format.proofs.LiteralContents.{units-complete}
 use Rattle.formatread.specs.Source.{IsInLiteral, IsSourceOf, Source}
 use Rattle.formatread.proofs.Literals.{raw_frame-parts, same_hashes}
@@ -71,7 +71,7 @@ raw-only n m t w e =
     quote-no_hash u f = let no : ◌≡◌ {A = ℕ} 34 35 = ap (λ x. get_or x 0 0) f in omega (arith, no)
 
 -- an ordinary literal begins with a quote, and a raw one does not
-ordinary-not_raw : (n : ℕ) (content t : Text) → quoted content ≡ raw_frame n t → ⊥
+ordinary-not_raw : (n : ℕ) (content t : Text) → ordinary_frame content ≡ raw_frame n t → ⊥
 ordinary-not_raw n content t e = let no : ◌≡◌ {A = ℕ} 34 114 = ap (λ x. get_or x 0 0) e in omega (arith, no)
 
 pub literal-only : (style other : Option ℕ) (l t w : Text) → IsLiteral style l t → IsLiteral other l w → (style ≡ other) × (t ≡ w)

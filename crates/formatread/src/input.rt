@@ -1,7 +1,7 @@
 //! The listing of an input that is a text.
 
-ghost use Rattle.std.specs.Prelude.{◌≡◌, ◌≢◌, ◌≤◌, [], Err, IfOk, IfErr, IsErrOf, IsOk, false, length, nat_lt, chars, option_map, string_bytes, true};
-ghost use Rattle.rustc_parse_format.specs.Seen.{seen_mode};
+ghost use Rattle.std.specs.Prelude.{◌≡◌, ◌≢◌, ◌≤◌, [], Err, IfOk, IfErr, IsErrOf, IsOk, false, length, nat_lt, chars, string_bytes, true};
+ghost use Rattle.rustc_parse_format.specs.Seen.{seen_mode, seen_snippet};
 ghost use Rattle.rustc_parse_format.specs.World.{hashes};
 ghost use Rattle.formatread.specs.declared.verdict.RunFault.TheVariants.{Words, TooLong, NotText, NotLiteral};
 ghost use Rattle.formatread.specs.Source.{IsInLiteral, IsSourceOf, Source, bare_source};
@@ -68,7 +68,7 @@ fn list_source(
 ) -> Result<(String, bool), AllocError>
     requires { hashes style ≤ limit }
     ensures lines { IfOk result (λ x. (string_bytes x.0, x.1) ≡ listed (seen_mode mode)
-        (record { text = chars text.now; style = style; snippet = option_map (λ s. chars (string_bytes s)) snippet })) }
+        (record { text = chars text.now; style = style; snippet = seen_snippet snippet })) }
     ensures empty { text.now ≡ [] → IsOk result }
 {
     let (pieces, parser) = read_all(alloc, text, style, snippet, false, mode)?;

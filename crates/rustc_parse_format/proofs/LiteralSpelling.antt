@@ -6,7 +6,7 @@ use Rattle.std.proofs.lemmas.Slice.Eq.{bytes_eq-Decides}
 use Rattle.std.proofs.lemmas.List.{append_cancel_right}
 use Rattle.rustc_parse_format.specs.Characters.{Text, behind_first, begins_with}
 use Rattle.rustc_parse_format.specs.LiteralUnits.{LiteralUnit, value, meaning, unit_at, at_most_one}
-use Rattle.rustc_parse_format.specs.Literal.{IsContent, IsOrdinaryLiteral, content_value, units, quoted, more}
+use Rattle.rustc_parse_format.specs.Literal.{IsContent, IsOrdinaryLiteral, content_value, units, ordinary_frame, more}
 use Rattle.rustc_parse_format.specs.Source.{spells, stand_for}
 use Rattle.rustc_parse_format.proofs.LiteralContents.{units-content, units-complete, units-nil, units-some, units-none}
 use Rattle.rustc_parse_format.proofs.LiteralMeanings.{meaning-none, meaning-some, meaning-shorter}
@@ -68,7 +68,7 @@ pub spells-from : (q t : Text) (us : List LiteralUnit) → IsContent q us → co
 unfolding spells
 spells-from q t us h v = ap (λ o. stand_for o t) (units-complete q us h) ∙ (bytes_eq-Decides t (content_value us)).1 (sym v)
 
-pub is_literal : (s q t : Text) → s ≡ quoted q → (b : Bool) → b ≡ spells q t → IsTrue b ↔ IsOrdinaryLiteral s t
+pub is_literal : (s q t : Text) → s ≡ ordinary_frame q → (b : Bool) → b ≡ spells q t → IsTrue b ↔ IsOrdinaryLiteral s t
 is_literal s q t e b f = (to, from)
   where
     to : IsTrue b → IsOrdinaryLiteral s t

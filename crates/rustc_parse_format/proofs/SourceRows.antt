@@ -4,14 +4,14 @@ use Rattle.std.proofs.Common.{◌≡◌, ◌++◌, ℕ, Bool, true, false, List,
 use Rattle.std.proofs.lemmas.Bool.{false≢true}
 use Rattle.rustc_parse_format.specs.Characters.{Text}
 use Rattle.rustc_parse_format.specs.LiteralUnits.{LiteralUnit, Plain, SimpleEscape, Continuation}
-use Rattle.rustc_parse_format.specs.Literal.{IsLiteral, units, content_value, quoted}
+use Rattle.rustc_parse_format.specs.Literal.{IsLiteral, units, content_value, ordinary_frame}
 use Rattle.rustc_parse_format.specs.Source.{is_source, HasSource}
 use Rattle.rustc_parse_format.proofs.Sources.{has_source}
 use Rattle.rustc_parse_format.proofs.LiteralContents.{units-content}
 use Rattle.rustc_parse_format.proofs.LiteralRows.{finding_units}
 
 -- A content in its quotes is a literal.
-in_quotes : (content : Text) (us : List LiteralUnit) → units content ≡ Some us → IsLiteral None (quoted content) (content_value us)
+in_quotes : (content : Text) (us : List LiteralUnit) → units content ≡ Some us → IsLiteral None (ordinary_frame content) (content_value us)
 in_quotes content us e = (content, us, refl, units-content content us e, refl)
 
 -- What computing denies is not so.

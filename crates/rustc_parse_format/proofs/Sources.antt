@@ -5,7 +5,7 @@ use Rattle.std.proofs.lemmas.Slice.Eq.{bytes_eq-Decides}
 use Rattle.std.proofs.Math.Seq.{take-append_seam}
 use Rattle.std.proofs.lemmas.List.{append-nil}
 use Rattle.rustc_parse_format.specs.Characters.{Text}
-use Rattle.rustc_parse_format.specs.Literal.{IsLiteral, IsSource, quoted, raw_frame, newline}
+use Rattle.rustc_parse_format.specs.Literal.{IsLiteral, IsSource, ordinary_frame, raw_frame, newline}
 use Rattle.rustc_parse_format.specs.Source.{unappended, between, spells, is_literal_of, is_source, HasSource}
 use Rattle.rustc_parse_format.proofs.LiteralSpelling.{spells-parts, spells-from}
 
@@ -30,23 +30,23 @@ unappended-append true t =
     ap (λ k. take k (t ++ 10 ∷ [])) n ∙ take-append_seam t (10 ∷ [])
 unappended-append false t = append-nil t
 
-between-quoted : (t : Text) → between (quoted t) ≡ t
-between-quoted t =
+between-frame : (t : Text) → between (ordinary_frame t) ≡ t
+between-frame t =
     let n : length (34 ∷ t ++ 34 ∷ []) - 2 ≡ length t = omega (arith, length-append t (34 ∷ [])) in
     ap (λ k. take k (t ++ 34 ∷ [])) n ∙ take-append_seam t (34 ∷ [])
 
 literal_of : (style : Option ℕ) (snippet t : Text) → IsTrue (is_literal_of style snippet t) → IsLiteral style snippet t
 literal_of None snippet t h =
-    let k = both (bytes_eq (quoted (between snippet)) snippet) (spells (between snippet) t) h in
+    let k = both (bytes_eq (ordinary_frame (between snippet)) snippet) (spells (between snippet) t) h in
     let parts = spells-parts (between snippet) t k.1 in
-    (between snippet, parts.0, sym (same (quoted (between snippet)) snippet k.0), parts.1, parts.2)
+    (between snippet, parts.0, sym (same (ordinary_frame (between snippet)) snippet k.0), parts.1, parts.2)
 literal_of (Some n) snippet t h = sym (same (raw_frame n t) snippet h)
 
 of_literal : (style : Option ℕ) (snippet t : Text) → IsLiteral style snippet t → IsTrue (is_literal_of style snippet t)
 of_literal None snippet t (content, us, e, h, v) =
-    let b : between snippet ≡ content = ap between e ∙ between-quoted content in
-    join (bytes_eq (quoted (between snippet)) snippet) (spells (between snippet) t)
-    (test (quoted (between snippet)) snippet (ap quoted b ∙ sym e))
+    let b : between snippet ≡ content = ap between e ∙ between-frame content in
+    join (bytes_eq (ordinary_frame (between snippet)) snippet) (spells (between snippet) t)
+    (test (ordinary_frame (between snippet)) snippet (ap ordinary_frame b ∙ sym e))
     (ap (λ s. spells s t) b ∙ spells-from content t us h v)
 of_literal (Some n) snippet t e = test (raw_frame n t) snippet (sym e)
 

@@ -54,8 +54,8 @@ abbrev pub IsNoContent : Text → Type 0
 IsNoContent t = (us : List LiteralUnit) → IsContent t us → ⊥
 
 -- an ordinary literal
-abbrev pub quoted : Text → Text
-quoted content = codes "\"" ++ content ++ codes "\""
+abbrev pub ordinary_frame : Text → Text
+ordinary_frame content = codes "\"" ++ content ++ codes "\""
 
 -- A raw literal has n hashes on each side.
 abbrev pub raw_opening : ℕ → Text
@@ -74,7 +74,7 @@ newline appended = if appended then codes "\n" else []
 -- the snippet is an ordinary literal that stands for the text
 abbrev pub IsOrdinaryLiteral : Text → Text → Type 0
 IsOrdinaryLiteral snippet t =
-    (content : Text) × (us : List LiteralUnit) × (snippet ≡ quoted content) × IsContent content us × (content_value us ≡ t)
+    (content : Text) × (us : List LiteralUnit) × (snippet ≡ ordinary_frame content) × IsContent content us × (content_value us ≡ t)
 
 -- the snippet is a literal of that style that stands for the text; a raw one is named by its hashes
 abbrev pub IsLiteral : Option ℕ → Text → Text → Type 0

@@ -2,7 +2,7 @@
 use Rattle.std.specs.Prelude.{ℕ, ◌-◌, ◌&&◌, ◌++◌, Bool, false, if◌then◌else◌, List, length, take, drop, Option, Some, None, bytes_eq}
 use Rattle.rustc_parse_format.specs.Characters.{Text}
 use Rattle.rustc_parse_format.specs.LiteralUnits.{LiteralUnit}
-use Rattle.rustc_parse_format.specs.Literal.{units, content_value, quoted, raw_frame, newline, IsSource}
+use Rattle.rustc_parse_format.specs.Literal.{units, content_value, ordinary_frame, raw_frame, newline, IsSource}
 
 -- the text in front of an appended newline
 abbrev pub unappended : Bool → Text → Text
@@ -23,7 +23,7 @@ spells content t = stand_for (units content) t
 
 -- the snippet is a literal of that style that stands for the text
 abbrev pub is_literal_of : Option ℕ → Text → Text → Bool
-is_literal_of None snippet t = bytes_eq (quoted (between snippet)) snippet && spells (between snippet) t
+is_literal_of None snippet t = bytes_eq (ordinary_frame (between snippet)) snippet && spells (between snippet) t
 is_literal_of (Some n) snippet t = bytes_eq (raw_frame n t) snippet
 
 -- Without a snippet there is no source literal.

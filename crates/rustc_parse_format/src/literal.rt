@@ -2,7 +2,7 @@
 //! is the source literal of an input.
 
 ghost use Rattle.std.specs.Prelude.{◌≡◌, ◌↔◌, ◌++◌, ℕ, List, [], IsTrue, IfOk, IsOk, IfSome, IfNone, MatchOption, chars, option_map, true, replicate};
-ghost use Rattle.rustc_parse_format.specs.Literal.{IsNoContent, IsOrdinaryLiteral, IsReadAs, IsSource, newline, quoted, raw_closing, raw_frame, raw_opening};
+ghost use Rattle.rustc_parse_format.specs.Literal.{IsNoContent, IsOrdinaryLiteral, IsReadAs, IsSource, newline, ordinary_frame, raw_closing, raw_frame, raw_opening};
 ghost use Rattle.rustc_parse_format.specs.LiteralReading.{IsTaken, placed, seen_characters};
 ghost use Rattle.rustc_parse_format.specs.Source.{spells};
 
@@ -105,8 +105,8 @@ fn is_ordinary_literal(snippet: &str, text: &str) -> bool
 /// What stands between the first and the last character, or `None` if these are not two quotes.
 pub fn between_quotes(snippet: &str) -> Option<&str>
     ensures { MatchOption result
-        ((t : List ℕ) → chars snippet.now ≡ quoted t → ⊥)
-        (λ t. chars snippet.now ≡ quoted (chars t.now)) }
+        ((t : List ℕ) → chars snippet.now ≡ ordinary_frame t → ⊥)
+        (λ t. chars snippet.now ≡ ordinary_frame (chars t.now)) }
 {
     match snippet.strip_prefix('"') {
         Some(behind) => behind.strip_suffix('"'),

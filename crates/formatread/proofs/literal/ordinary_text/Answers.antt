@@ -1,6 +1,6 @@
 use Rattle.std.proofs.Common.{chars, map, ap, sym, ◌∙◌}
 use Rattle.formatread.proofs.Contents.{read-value}
-use Rattle.formatread.proofs.Empty.{empty-not_quoted}
+use Rattle.formatread.proofs.Empty.{empty-no_frame}
 use Rattle.formatread.proofs.literal.ordinary_text.Goals as goal
 
 pub returns-in_ok-joined-in-Some-2-clause-found : goal.returns-in_ok-joined-in-Some-2-clause-found
@@ -15,7 +15,7 @@ returns-in_ok-joined-in-Some-2-clause-found c =
     )
 
 pub returns-in_err-characters-clause-empty : goal.returns-in_err-characters-clause-empty
-returns-in_err-characters-clause-empty c e = absurd (empty-not_quoted c.args.literal.now e (chars c.in-Some.content.now) c.in-Some.ensures)
+returns-in_err-characters-clause-empty c e = absurd (empty-no_frame c.args.literal.now e (chars c.in-Some.content.now) c.in-Some.ensures)
 
 pub returns-in_err-joined-in-Some-2-clause-empty : goal.returns-in_err-joined-in-Some-2-clause-empty
-returns-in_err-joined-in-Some-2-clause-empty c e = absurd (empty-not_quoted c.args.literal.now e (chars c.in-Some.content.now) c.in-Some.ensures)
+returns-in_err-joined-in-Some-2-clause-empty c e = absurd (empty-no_frame c.args.literal.now e (chars c.in-Some.content.now) c.in-Some.ensures)

@@ -1,14 +1,14 @@
 use Rattle.std.proofs.Common.{◌≡◌, ◌∷◌, ◌++◌, [], ℕ, List, Option, None, Some, MatchOption, chars, Bor, arith, ap, ◌∙◌, sym, ◌<◌}
 use Rattle.std.proofs.lemmas.Str.Pattern.{strip_prefix_char, strip_suffix_char}
 use Rattle.rustc_parse_format.specs.Characters.{Text}
-use Rattle.rustc_parse_format.specs.Literal.{quoted}
+use Rattle.rustc_parse_format.specs.Literal.{ordinary_frame}
 use Rattle.rustc_parse_format.proofs.LiteralEdges.{chars-last, chars-first, first-IsUtf8}
 use Rattle.rustc_parse_format.proofs.literal.between_quotes.Goals as goal
 
 -- the text behind the first quote ends with one, or the whole is nothing in quotes
 last_quote : (bs rest : List ℕ) (r : Option (Bor (List ℕ))) → chars bs ≡ 34 ∷ chars rest →
     MatchOption r ((t : Text) → t ++ 34 ∷ [] ≡ chars rest → ⊥) (λ x. chars x.now ++ 34 ∷ [] ≡ chars rest) →
-    MatchOption r ((t : Text) → chars bs ≡ quoted t → ⊥) (λ x. chars bs ≡ quoted (chars x.now))
+    MatchOption r ((t : Text) → chars bs ≡ ordinary_frame t → ⊥) (λ x. chars bs ≡ ordinary_frame (chars x.now))
 last_quote bs rest None e f = λ t g. let same : 34 ∷ (t ++ 34 ∷ []) ≡ 34 ∷ chars rest = sym g ∙ e in f t cc
 last_quote bs rest (Some x) e f = e ∙ ap (λ s. 34 ∷ s) (sym f)
 
