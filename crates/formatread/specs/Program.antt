@@ -31,7 +31,7 @@ abbrev pub task : Bool → Option Mode → Option Task
 task literal None = None
 task literal (Some mode) = Some (record { mode = mode; is_literal = literal })
 
--- what the words ask for: a name of a mode, and perhaps `--literal` behind it, are accepted, and nothing else
+-- what the words ask for: a name of a mode, and perhaps `--literal` after it, are accepted, and nothing else
 abbrev pub asked : List (List ℕ) → Option Task
 asked [] = None
 asked (w ∷ []) = task false (mode_named w)

@@ -13,7 +13,7 @@ pub record Source : Type 0 where
 abbrev pub bare_source : Text → Source
 bare_source t = record { text = t; style = None; snippet = None }
 
--- the input is a literal, with at most one newline behind it
+-- the input is a literal, with at most one newline after it
 pub record IsInLiteral (input : Text) (s : Source) : Type 0 where
   pub literal : Text
   pub appended : Bool

@@ -86,7 +86,7 @@ fn put_count(out: &mut String, count: &Count<'_>) -> Result<(), AllocError>
     Ok(())
 }
 
-/// Adds a text, as it stands, behind another.
+/// Adds a text, as it stands, after another.
 fn put_name(out: &mut String, label: &str, name: &str) -> Result<(), AllocError>
     ensures { OnOk result (string_bytes out.new ≡ string_bytes out.old ++
         (label.now ++ encode_utf8_all (chars name.now))) }

@@ -91,7 +91,7 @@ fn raw_text(literal: &str) -> Option<(usize, &str)>
     Some((hashes, text))
 }
 
-/// How many hashes a text begins with, and what is behind them.
+/// How many hashes a text begins with, and what is after them.
 fn behind_hashes(text: &str) -> (usize, &str)
     ensures all { chars text.now ≡ replicate result.0 35 ++ chars result.1.now }
     ensures no_more { (t : Text) → chars result.1.now ≡ 35 ∷ t → ⊥ }
@@ -122,7 +122,7 @@ fn in_front_of_hashes(text: &str, count: usize) -> Option<&str>
     Some(rest)
 }
 
-/// What is behind this character at the front of a text, or `None` where it is not there.
+/// What is after this character at the front of a text, or `None` where it is not there.
 fn behind(text: &str, c: char) -> Option<&str>
     requires { c < 128 }
     ensures rest { MatchOption result

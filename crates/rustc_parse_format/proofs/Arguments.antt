@@ -14,7 +14,7 @@ use Rattle.rustc_parse_format.specs.World.{World, Place, place_of, faults_in}
 use Rattle.rustc_parse_format.proofs.Numbers.{specification_number}
 use Rattle.rustc_parse_format.proofs.Rests.{IsRest-le, IsRest-trans, position_rest, behind_white_rest}
 
--- a cursor behind a position and white space
+-- a cursor after a position and white space
 pub at_spec : (mode : Mode) (start given skipped : Unread) → given ≡ record start { rest = (position start.rest).1 } → skipped ≡ record given { rest = behind_white given.rest } →
     skipped ≡ record start { rest = (cut mode start.rest).spec_at }
 unfolding cut

@@ -113,7 +113,7 @@ unfolding call
 call_doubled mode c b t e =
     rw (e, eq-eqb b b refl) (record { piece = Lit (b ∷ front is_no_brace t); given = refl; same = refl; faultless = refl; rest = refl; next = refl })
 
--- behind `{{` there is no placeholder
+-- after `{{` there is no placeholder
 brace_stays : (mode : Mode) (u : Text) → behind_white (cut mode (123 ∷ u)).rest ≡ 123 ∷ u
 unfolding cut unicode_ident word behind_word digits behind_digits behind_white
 brace_stays mode u = refl

@@ -28,7 +28,7 @@ unmatched_brace-first_call : (next_call (start (codes "}a"))).piece ≡ None
 unfolding computing
 unmatched_brace-first_call = refl
 
--- and the next call goes on behind it
+-- and the next call goes on after it
 unmatched_brace-second_call : let s = start (codes "}a") in (next_call (after s (next_call s))).piece ≡ Some (Lit (codes "a"))
 unfolding computing
 unmatched_brace-second_call = refl

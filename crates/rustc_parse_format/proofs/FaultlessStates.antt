@@ -35,7 +35,7 @@ none (x ∷ xs) e = absurd (omega arith)
 no_length : {A : Type 0} (xs : List A) → xs ≡ [] → length xs ≡ 0
 no_length xs e = rw e refl
 
--- There is no error behind a call exactly where there was none, and the call has no fault.
+-- There is no error after a call exactly where there was none, and the call has no fault.
 pub after-no_errors : (s : State) (k : Call) → (after s k).errors ≡ [] → (s.errors ≡ []) × (k.faults ≡ [])
 after-no_errors s k e = (
   none s.errors (omega (arith, after-length s k, no_length (after s k).errors e)),

@@ -12,7 +12,7 @@ use Rattle.rustc_parse_format.proofs.Calls.{begins_call}
 use Rattle.rustc_parse_format.proofs.Walks.{Faultless, bare_pieces, goes_on, call_same, ended}
 use Rattle.std.proofs.Math.Seq.{take-append_seam, drop-append_seam}
 
--- the same piece begins the text without z behind it
+-- the same piece begins the text without z after it
 record BeginsFront (mode : Mode) (c : ℕ) (t : Text) (p : Piece (Unit {0})) (q z : Text) (n : ℕ) : Type 0 where
   text : Text
   whole : t ≡ text ++ z

@@ -1,4 +1,4 @@
--- A format specification whose parts are read one behind the other.
+-- A format specification whose parts are read one after the other.
 use Rattle.std.proofs.Common.{◌≡◌, ◌++◌, ℕ, List, refl, sym, ap, ◌∙◌, append_assoc}
 use Rattle.std.specs.Prelude.{Bool, Option}
 use Rattle.std.proofs.lemmas.List.{map-append}
@@ -11,7 +11,7 @@ use Rattle.rustc_parse_format.specs.Specification.{fill, align, sign, alternate,
 use Rattle.rustc_parse_format.specs.State.{Unread}
 use Rattle.rustc_parse_format.specs.World.{World, Place, faults_in}
 
--- what the cursor stands at behind each part
+-- what the cursor stands at after each part
 pub record Behind (u a s h w p y r : Unread) : Type 0 where
   pub fill : a ≡ record u { rest = align_at u.rest }
   pub align : s ≡ record u { rest = sign_at u.rest }

@@ -1,10 +1,10 @@
--- The longest front of a text whose characters pass, the word at its front, and what is behind them.
+-- The longest front of a text whose characters pass, the word at its front, and what is after them.
 use Rattle.std.proofs.Common.{◌≡◌, ℕ, ◌++◌, Bool, true, false, cond, [], ◌∷◌, refl, ap, ◌∙◌}
 use Rattle.std.specs.List.{list_all}
 use Rattle.std.proofs.lemmas.Bool.{cond_both, cond-true, cond-false, and_parts, and_from}
 use Rattle.rustc_parse_format.specs.Characters.{Text, is_id_start, is_id_continue, front, behind, starts, word, behind_word, behind_first, with_first}
 
--- A text is such a front, and what is behind it,
+-- A text is such a front, and what is after it,
 pub front-behind : (p : ℕ → Bool) (t : Text) → t ≡ front p t ++ behind p t
 front-behind p [] = refl
 front-behind p (c ∷ t) = by_test (p c) (front-behind p t)
@@ -18,7 +18,7 @@ pub first-behind : (p : ℕ → Bool) (t : Text) → t ≡ with_first t (front p
 first-behind p [] = refl
 first-behind p (c ∷ t) = ap (λ u. c ∷ u) (front-behind p t)
 
--- or the word at its front and what is behind that.
+-- or the word at its front and what is after that.
 pub word-behind : (t : Text) → t ≡ word t ++ behind_word t
 unfolding word behind_word
 word-behind [] = refl

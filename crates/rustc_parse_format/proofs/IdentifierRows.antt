@@ -24,6 +24,6 @@ index-is_no_identifier h = let e : ◌≡◌ {A = Position} (Index 3) (Named h.n
 name_with_a_width-is_no_identifier : ¬ (IsIdentifier (argument (Named (codes "foo")) (2, 5) (record default_spec { width = Is 5; width_span = Some (6, 7) })))
 name_with_a_width-is_no_identifier h = let e : ◌≡◌ {A = Count Place} (Is 5) Implied = ap (λ s. s.width) h.format in cc
 
--- `{foo:}` in a diagnostic, where the text behind the colon is empty and has its place
+-- `{foo:}` in a diagnostic, where the text after the colon is empty and has its place
 name_with_an_empty_text-is_no_identifier : ¬ (IsIdentifier (argument (Named (codes "foo")) (2, 5) (record default_spec { ty_span = Some (5, 6) })))
 name_with_an_empty_text-is_no_identifier h = let e : ◌≡◌ {A = Option Place} (Some (5, 6)) None = ap (λ s. s.ty_span) h.format in cc

@@ -1,4 +1,4 @@
--- What is behind a prefix of a text, and raw literals part by part.
+-- What is after a prefix of a text, and raw literals part by part.
 use Rattle.std.proofs.Common.{◌≡◌, ℕ, ◌++◌, Bool, true, false, cond, ◌↔◌, [], ◌∷◌, refl, sym, ap, ◌∙◌, Some, None, append-nil, replicate}
 use Rattle.std.specs.Prelude.{◌==◌, IsTrue, if◌then◌else◌}
 use Rattle.std.proofs.lemmas.Option.{same_Some, none-some}
@@ -47,7 +47,7 @@ after_prefix-parts (c ∷ p) (d ∷ s) r e =
 
 pub ruleset prefix_steps = (after_prefix-append, after_prefix-append_none, after_prefix-cons, after_prefix-cons_none)
 
--- Whether a text is p, by what is behind p.
+-- Whether a text is p, by what is after p.
 none_behind : (p s : Text) → after_prefix p s ≡ None → IsTrue false ↔ (s ≡ p)
 none_behind p s e = (
   λ f. absurd (false≢true f),

@@ -12,7 +12,7 @@ use Rattle.rustc_parse_format.specs.LiteralUnits.{LiteralUnit, UnicodeEscape, me
 abbrev is_digit_or_underscore : ℕ → Bool
 is_digit_or_underscore c = is_hex c || is_underscore c
 
--- what is behind n digits that write v: the character, and the rest behind the brace
+-- what is after n digits that write v: the character, and the rest after the brace
 abbrev pub behind_digits : ℕ → ℕ → Text → Option (Text × Text)
 behind_digits n v [] = None
 behind_digits n v (c ∷ t) =
@@ -37,7 +37,7 @@ close_never : (b : Bool) (v : ℕ) (r : Text) → b ≡ false → None ≡ close
 close_never b v [] e = refl
 close_never b v (c ∷ r) e = sym (cond-false b _ _ e)
 
--- A step by the character: the brace, a `_`, a digit, or another. What is behind it is w, and then b.
+-- A step by the character: the brace, a `_`, a digit, or another. What is after it is w, and then b.
 at_brace_step : (n v c : ℕ) (t : Text) → n ≤ 6 →
     cond (nat_lt 0 n) (cond (is_scalar v) (Some (v ∷ [], t)) None) None ≡ closed n v [] (c ∷ t)
 at_brace_step n v c t small = by_tests (nat_lt 0 n) (is_scalar v) (nat_le (n + 0) 6) (le-leb (n + 0) 6 (omega arith))
@@ -114,7 +114,7 @@ behind_digits-front n v (c ∷ t) small =
     step n v c t (front is_inside t) (behind is_inside t) small (behind_digits-front n v t small)
     (λ k. behind_digits-front (n + 1) (v * 16 + digit_value c) t k)
 
--- What is behind `\u`.
+-- What is after `\u`.
 pub unicode_at-brace : (t : Text) → begins_with 123 t ≡ true → meaning (unicode_at t) ≡ behind_digits 0 0 (behind_first t)
 unfolding unicode_at
 unicode_at-brace [] e = refl

@@ -1,4 +1,4 @@
--- A piece is written the same where less stands behind it. A placeholder ends at its brace: no part looks past the brace, save a fill,
+-- A piece is written the same where less comes after it. A placeholder ends at its brace: no part looks past the brace, save a fill,
 -- which is taken no more often then.
 use Prim.Native.Char.{code}
 use Rattle.std.proofs.Common.{◌≡◌, ◌++◌, ℕ, Bool, true, false, not, [], ◌∷◌, List, refl, sym, ◌∙◌, ap, append_assoc, Option, Some, None, cond, codes}
@@ -12,11 +12,11 @@ use Rattle.rustc_parse_format.specs.Spelling.{Part, IsPart, row, fixed, unless, 
 use Rattle.rustc_parse_format.proofs.PartNames.{begins_count, begins-count}
 use Rattle.rustc_parse_format.specs.Syntax.{PositionText, Digits, Word, NoPosition, position_part, fill_part, align_part, is_sign, sign_part, alternate_part, CountText, NumberCount, IndexCount, NameCount, NoCount, name_part, count_part, WidthText, PaddedWidth, ZeroIndexWidth, PlainWidth, width_part, PrecisionText, NoPrecision, StarPrecision, DotPrecision, precision_part, TypeText, DebugHexType, CharacterType, WordType, is_type_character, type_part, Parts, format_part, SpecText, Default, FormatParts, Modifier, DiagnosticText, spec_part, FieldText, field_part, placeholder_part, PieceText, RunText, DoubledText, PlaceholderText, piece_part}
 
--- with z gone from behind the brace, what passed still passes
+-- with z gone from after the brace, what passed still passes
 abbrev IsLocal : (Text → Bool) → Type 0
 IsLocal f = (u q z : Text) → f (u ++ 125 ∷ (q ++ z)) ≡ true → f (u ++ 125 ∷ q) ≡ true
 
--- what is behind the brace makes no difference
+-- what is after the brace makes no difference
 abbrev IsBlind : (Text → Bool) → Type 0
 IsBlind f = (u r s : Text) → f (u ++ 125 ∷ r) ≡ f (u ++ 125 ∷ s)
 
@@ -37,7 +37,7 @@ begins-blind : (c : ℕ) → IsBlind (begins_with c)
 begins-blind c [] r s = refl
 begins-blind c (d ∷ u) r s = refl
 
--- what is left behind a front that the brace ends
+-- what is left after a front that the brace ends
 abbrev IsLeft : (Text → Text) → Text → Type 0
 IsLeft f u = (left : Text) × ((r : Text) → f (u ++ 125 ∷ r) ≡ left ++ 125 ∷ r)
 

@@ -35,7 +35,7 @@ opened_call : (mode : Mode) (c : ℕ) (t : Text) → begins_with 123 t ≡ false
 unfolding call
 opened_call mode c t e = rw e (placeholder-piece mode c (123 ∷ t) t)
 
--- behind a single brace the piece is the argument of the cut
+-- after a single brace the piece is the argument of the cut
 pub cut_given : (s : State) (a : FieldText) (r : Text) → IsPart s.rest (opened_part s.mode a) r →
     option_map (piece_in s.world) (next_call s).piece ≡ Some (piece_in s.world (NextArgument (argument s.next (placed s.mode a r))))
 cut_given s a r h =

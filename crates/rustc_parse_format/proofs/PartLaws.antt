@@ -42,7 +42,7 @@ row-cons t s p ps r h k = record {
 pub row-one : (t : Text) (p : Part) (r : Text) → IsPart t p r → IsPart t (row (p ∷ [])) r
 row-one t p r h = row-cons t r p [] r h (row-nil r)
 
--- what is behind the first part of a row
+-- what is after the first part of a row
 pub record Split (t : Text) (p : Part) (ps : List Part) (r : Text) : Type 0 where
   pub seam : Text
   pub first : IsPart t p seam

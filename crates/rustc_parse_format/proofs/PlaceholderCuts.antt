@@ -10,7 +10,7 @@ use Rattle.rustc_parse_format.proofs.PartLaws.{fixed-there, IsRow, then, last, o
 use Rattle.rustc_parse_format.proofs.PartFronts.{run-finds}
 use Rattle.rustc_parse_format.proofs.PartCuts.{cut-sound, cut-placed}
 
--- behind an opening brace the cut of what follows has this field, and a closing brace behind its white space
+-- after an opening brace the cut of what follows has this field, and a closing brace after its white space
 pub record ClosesCut (mode : Mode) (t : Text) (a : FieldText) (r : Text) : Type 0 where
   pub inside : Text
   pub opens : t ≡ 123 ∷ inside

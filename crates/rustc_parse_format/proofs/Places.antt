@@ -73,7 +73,7 @@ place_left b q e input rest l c t h =
     let whole : chars input ≡ k.pre ++ c ∷ t = k.whole ∙ ap (λ u. k.pre ++ u) h in
     rw (whole, h, ← k.bytes) (place_inside b q e k.pre t c)
 
--- what is behind the first character of a text starts where that character ends
+-- what is after the first character of a text starts where that character ends
 pub behind_width : (rest behind : List ℕ) (c : ℕ) (t : Text) → IsUtf8 rest → IsUtf8 behind → chars rest ≡ c ∷ t → chars behind ≡ behind_first (chars rest) → length rest ≡ len_utf8 c + length behind
 behind_width rest behind c t u v h e =
     let b : chars behind ≡ t = e ∙ ap behind_first h in

@@ -84,7 +84,7 @@ IsWalk-unique mode c t (k ∷ ks) (j ∷ js) a b = same k j ks js (a.0 ∙ sym b
         let z : GoesOn k.piece js (IsWalk mode k.next k.rest js) = rw e y in
         let g = at_piece k.piece ks js _ _ x z f in cc
 
--- What a loop over the calls needs: a walk ends with a call that gives no piece, and goes on behind one that gives one.
+-- What a loop over the calls needs: a walk ends with a call that gives no piece, and goes on after one that gives one.
 pub walk-none : (mode : Mode) (c : ℕ) (t : Text) → (call mode c t).piece ≡ None → walk mode c t ≡ call mode c t ∷ []
 walk-none mode c t e = IsWalk-unique mode c t _ _ (walk-IsWalk mode c t) (refl, rw e refl)
 

@@ -56,7 +56,7 @@ walks_of s p new ps e f g =
     let walked : Walks p ps new = record { calls = calls p; is_walk = walk-IsWalk p.mode p.next p.rest; pieces = g; state = f } in
     subst (λ u. Walks u ps new) e walked
 
--- A fresh parser p, and the parser new behind its last call.
+-- A fresh parser p, and the parser new after its last call.
 pub clean_in : (mode : Mode) (w : World) (t : Text) (p new : State) → p ≡ fresh mode w t → new ≡ after_all p (calls p) → new.errors ≡ [] → IsInGrammar mode t
 clean_in mode w t p new e f h = (_, walk_reads mode w t (sym (ap (λ (s : State). s.errors) (rw e at f)) ∙ h))
 

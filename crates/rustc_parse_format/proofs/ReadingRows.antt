@@ -132,7 +132,7 @@ no_types-are_not_in : AreNotIn Format no_types
 unfolding computing
 no_types-are_not_in = are_not_in Format no_types refl
 
--- behind the colon inline assembly has a word, and a diagnostic any text without braces
+-- after the colon inline assembly has a word, and a diagnostic any text without braces
 abbrev modifiers : List Text
 modifiers = codes "{0:e}" ∷ codes "{a:}" ∷ codes "{:xyz}" ∷ codes "{{{}" ∷ []
 

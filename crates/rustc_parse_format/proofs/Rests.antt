@@ -130,7 +130,7 @@ width_from_align t = IsRest-trans (align_rest (align_at t)) (IsRest-trans (sign_
 pub precision_from_align : (t : Text) → IsRest (align_at t) (precision_at t)
 precision_from_align t = IsRest-trans (width_from_align t) (width_rest (width_at t))
 
--- behind the fill
+-- after the fill
 pub format_from_align : (t : Text) → IsRest (align_at t) (format_parts t).1
 unfolding format_parts
 format_from_align t = IsRest-trans (precision_from_align t) (IsRest-trans (precision_rest (precision_at t)) (type_rest (type_at t)))

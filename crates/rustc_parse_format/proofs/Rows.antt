@@ -1,4 +1,4 @@
--- Worked rows of the definitions, each by computing. Places are ranges of bytes, and the input stands behind a quote.
+-- Worked rows of the definitions, each by computing. Places are ranges of bytes, and the input comes after a quote.
 use Rattle.std.proofs.Common.{◌≡◌, ℕ, List, [], ◌∷◌, refl, Some, None, codes, true, false}
 use Rattle.unicode_ident.proofs.Computing.{unicode_ident}
 use Rattle.rustc_parse_format.specs.Characters.{Text, word, behind_word, digits, behind_digits, behind_white}
@@ -30,7 +30,7 @@ pieces t = pieces_in (behind_quote t) (pieces_of (walk Format 0 t))
 abbrev pub faults : Text → List (Fault Place)
 faults t = faults_in (behind_quote t) (faults_of (walk Format 0 t))
 
--- a parser before its first call, and behind all
+-- a parser before its first call, and after all
 abbrev pub start : Text → State
 start t = fresh Format (behind_quote t) t
 

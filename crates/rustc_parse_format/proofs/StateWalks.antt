@@ -18,7 +18,7 @@ after_all-none s e = ap (after_all s) (calls-none s e)
 pub pieces_of-none : (s : State) → (next_call s).piece ≡ None → pieces_of (calls s) ≡ []
 pieces_of-none s e = rw (calls-none s e, e) refl
 
--- and behind one with a piece the calls go on.
+-- and after one with a piece the calls go on.
 pub calls-some : (s : State) (p : Piece Span) → (next_call s).piece ≡ Some p → calls s ≡ next_call s ∷ calls (after s (next_call s))
 calls-some s p e = walk-some s.mode s.next s.rest p e
 

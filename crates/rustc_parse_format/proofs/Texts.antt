@@ -1,4 +1,4 @@
--- Texts as bytes: behind a first character, in front of a rest, and the place of a rest.
+-- Texts as bytes: after a first character, in front of a rest, and the place of a rest.
 use Rattle.std.proofs.Common.{◌≡◌, ◌++◌, ◌≤◌, ◌+◌, ◌-◌, List, ℕ, Bool, true, false, [], ◌∷◌, length, chars, Some, None, Option, MatchOption, IsUtf8, take, drop, refl, ap, sym, ◌∙◌, arith, length-append, IsCharBoundary}
 use Rattle.std.specs.Prelude.{encode_utf8, ◌&&◌, slice_range}
 use Rattle.std.specs.Char.{len_utf8}

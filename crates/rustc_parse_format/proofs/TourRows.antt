@@ -95,7 +95,7 @@ calls-give_marks : pieces_of (walk Format 0 input) ≡ marked
 unfolding computing marked
 calls-give_marks = refl
 
--- and the world of a text behind a quote makes them bytes.
+-- and the world of a text after a quote makes them bytes.
 placed : List (Piece Place)
 placed =
     Lit (codes "{")

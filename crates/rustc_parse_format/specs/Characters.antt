@@ -32,7 +32,7 @@ abbrev pub front : (ℕ → Bool) → Text → Text
 front p [] = []
 front p (c ∷ t) = if p c then c ∷ front p t else []
 
--- what is behind it
+-- what is after it
 abbrev pub behind : (ℕ → Bool) → Text → Text
 behind p [] = []
 behind p (c ∷ t) = if p c then behind p t else c ∷ t
@@ -53,7 +53,7 @@ digits t = front is_ascii_digit t
 unfoldable pub behind_digits : Text → Text
 behind_digits t = behind is_ascii_digit t
 
--- what is behind the white space at the front
+-- what is after the white space at the front
 unfoldable pub behind_white : Text → Text
 behind_white t = behind is_whitespace t
 
@@ -80,7 +80,7 @@ abbrev pub starts : (ℕ → Bool) → Text → Bool
 starts p [] = false
 starts p (c ∷ t) = p c
 
--- what is behind a closing brace, if the text begins with one
+-- what is after a closing brace, if the text begins with one
 abbrev pub behind_brace : Text → Text
 behind_brace t = if begins_with (code "}") t then behind_first t else t
 

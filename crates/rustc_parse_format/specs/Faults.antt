@@ -99,6 +99,6 @@ abbrev pub add_errors : {A : Type 0} → List (Message A) → List (Fault A) →
 add_errors old [] = old
 add_errors old (f ∷ fs) = add_errors (if is_front f then message f ∷ old else old ++ message f ∷ []) fs
 
--- the errors of before are still there, in order, with new ones in front of them and behind them
+-- the errors of before are still there, in order, with new ones in front of them and after them
 abbrev pub Keeps : {A : Type 0} → List (Message A) → List (Message A) → Type 0
 Keeps {A = A} old new = (front : List (Message A)) × (back : List (Message A)) × (new ≡ front ++ (old ++ back))

@@ -88,7 +88,7 @@ pub record StopsInside (mode : Mode) (c : ℕ) (t : Text) (ps : List (Piece (Uni
   pub reads : Reads mode c (take characters t) (take pieces ps)
   pub stops : (n : ℕ) (p : Piece (Unit {0})) (r : Text) (next : ℕ) → ¬ (Begins mode n (drop characters t) p r next)
 
--- What pieces as written mean, one behind the other, from the number c on; and how they are spelled.
+-- What pieces as written mean, one after the other, from the number c on; and how they are spelled.
 abbrev pub piece_values : ℕ → List PieceText → List (Piece (Unit {0}))
 piece_values c [] = []
 piece_values c (x ∷ xs) = piece_value c x ∷ piece_values (number_behind c x) xs
@@ -97,7 +97,7 @@ abbrev pub spelled : Mode → List PieceText → Text
 spelled mode [] = []
 spelled mode (x ∷ xs) = (piece_part mode x).spelling ++ spelled mode xs
 
--- pieces as written that mean ps and, one behind the other, are the text again
+-- pieces as written that mean ps and, one after the other, are the text again
 pub record IsSpelled (mode : Mode) (c : ℕ) (t : Text) (ps : List (Piece (Unit {0}))) : Type 0 where
   pub texts : List PieceText
   pub means : piece_values c texts ≡ ps

@@ -1,4 +1,4 @@
--- Literals by computing, as the functions that read them go: what a content gives, and what is behind a prefix.
+-- Literals by computing, as the functions that read them go: what a content gives, and what is after a prefix.
 use Rattle.std.specs.Prelude.{◌≡◌, ℕ, Bool, ◌==◌, if◌then◌else◌, List, [], ◌∷◌, map, Option, Some, None, option_map}
 use Rattle.std.specs.declared.ops.Range.{Range}
 use Rattle.rustc_parse_format.specs.Characters.{Text}
@@ -14,12 +14,12 @@ seen_characters cs = map (λ x. (pair x.0, x.1)) cs
 unfoldable pub placed : ℕ → Text → Option (List (Place × ℕ))
 placed at t = option_map (placed_characters at) (units t)
 
--- what is behind p, where the text begins with it
+-- what is after p, where the text begins with it
 abbrev pub after_prefix : Text → Text → Option Text
 after_prefix [] t = Some t
 after_prefix (c ∷ p) [] = None
 after_prefix (c ∷ p) (d ∷ t) = if d == c then after_prefix p t else None
 
--- p stands in front of the text, as the flag says, and r is behind it
+-- p stands in front of the text, as the flag says, and r is after it
 abbrev pub IsTaken : Text → Text → Bool → Text → Type 0
 IsTaken p t b r = after_prefix p t ≡ (if b then Some r else None)

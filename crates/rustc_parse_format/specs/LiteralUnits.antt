@@ -17,7 +17,7 @@ pub data LiteralUnit : Type 0 where
   ByteEscape : ℕ → ℕ → LiteralUnit
   -- `\u{..}`, by what its braces hold
   UnicodeEscape : Text → LiteralUnit
-  -- a backslash and an LF, by the white space behind them
+  -- a backslash and an LF, by the white space after them
   Continuation : Text → LiteralUnit
 
 -- as it is written
@@ -78,7 +78,7 @@ is_skipped c = ((c == code "\t" || c == code "\n") || c == code "\r") || c == co
 abbrev pub is_scalar : ℕ → Bool
 is_scalar c = nat_lt c 0xD800 || (nat_lt 0xDFFF c && nat_lt c 0x11_0000)
 
--- One to six hexadecimal digits, the first in front and each with any number of `_` behind it, that write the code of a
+-- One to six hexadecimal digits, the first in front and each with any number of `_` after it, that write the code of a
 -- character.
 abbrev pub is_unicode : Text → Bool
 is_unicode w =
@@ -113,18 +113,18 @@ abbrev pub at_brace : Text → Text → Option (LiteralUnit × Text)
 at_brace w [] = None
 at_brace w (c ∷ r) = with_rest r (UnicodeEscape w)
 
--- behind `\u`
+-- after `\u`
 unfoldable pub unicode_at : Text → Option (LiteralUnit × Text)
 unicode_at [] = None
 unicode_at (c ∷ t) = if c == code "{" then at_brace (front is_inside t) (behind is_inside t) else None
 
--- behind `\x`
+-- after `\x`
 unfoldable pub byte_at : Text → Option (LiteralUnit × Text)
 byte_at [] = None
 byte_at (h ∷ []) = None
 byte_at (h ∷ l ∷ r) = with_rest r (ByteEscape h l)
 
--- behind a backslash
+-- after a backslash
 unfoldable pub escape_at : Text → Option (LiteralUnit × Text)
 escape_at [] = None
 escape_at (l ∷ t) =

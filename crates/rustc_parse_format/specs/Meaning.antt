@@ -7,7 +7,7 @@ use Rattle.rustc_parse_format.specs.Placeholder.{Cut}
 use Rattle.rustc_parse_format.specs.Syntax.{CountText, NumberCount, IndexCount, NameCount, NoCount, WidthText, PaddedWidth, ZeroIndexWidth, PlainWidth, width_part, PrecisionText, NoPrecision, StarPrecision, DotPrecision, precision_part, TypeText, DebugHexType, CharacterType, WordType, type_part, Parts, SpecText, Default, FormatParts, Modifier, DiagnosticText}
 use Rattle.rustc_parse_format.specs.Values.{is_padded, type_of, debug_hex_of, behind_spec, position_of}
 
--- the count that stands at t, with r behind it; the span of a name ends in front of its `$`
+-- the count that stands at t, with r after it; the span of a name ends in front of its `$`
 abbrev pub count_of : Text → CountText → Text → Count Span
 count_of t (NumberCount ds) r = Is (number ds)
 count_of t (IndexCount ds) r = Param (number ds)
@@ -21,19 +21,19 @@ count_span t (IndexCount ds) r = Some (up_to t r)
 count_span t (NameCount w) r = Some (up_to t r)
 count_span t NoCount r = None
 
--- the width that stands at t, with r behind it
+-- the width that stands at t, with r after it
 abbrev pub width_of : Text → WidthText → Text → Count Span
 width_of t (PaddedWidth k) r = count_of (behind_first t) k r
 width_of t ZeroIndexWidth r = Param 0
 width_of t (PlainWidth k) r = count_of t k r
 
--- where its count stands, with r behind it
+-- where its count stands, with r after it
 abbrev pub width_span : Text → WidthText → Text → Option Span
 width_span t (PaddedWidth k) r = count_span (behind_first t) k r
 width_span t ZeroIndexWidth r = Some (through t (behind_first t))
 width_span t (PlainWidth k) r = count_span t k r
 
--- the precision that stands at t, with r behind it; a star takes the number c
+-- the precision that stands at t, with r after it; a star takes the number c
 abbrev pub precision_of : ℕ → Text → PrecisionText → Text → Count Span
 precision_of c t NoPrecision r = Implied
 precision_of c t StarPrecision r = Star c
@@ -71,7 +71,7 @@ from_precision p r = (precision_part p.precision).spelling ++ from_type p r
 abbrev pub from_width : Parts → Text → Text
 from_width p r = (width_part p.width).spelling ++ from_precision p r
 
--- the format specification that stands at t, behind its colon, with r behind it
+-- the format specification that stands at t, after its colon, with r after it
 unfoldable pub format_of : ℕ → Text → Parts → Text → Spec Span
 format_of c t p r = record {
   fill = p.fill;
@@ -89,7 +89,7 @@ format_of c t p r = record {
   ty_span = type_span (from_type p r) p.type r;
 }
 
--- the specification that stands at t, with r behind it
+-- the specification that stands at t, with r after it
 abbrev pub spec_of : ℕ → Text → SpecText → Text → Spec Span
 spec_of c t Default r = default_spec
 spec_of c t (FormatParts p) r = format_of c (behind_first t) p r

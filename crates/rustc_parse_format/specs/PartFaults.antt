@@ -11,7 +11,7 @@ use Rattle.rustc_parse_format.specs.Faults.{Fault, Underscore, TooLarge}
 abbrev pub word_faults : Text → List (Fault Span)
 word_faults t = if bytes_eq (word t) (codes "_") then Underscore (up_to t (behind_word t)) ∷ [] else []
 
--- an integer at the front of t that is too large; the span takes in the character behind it
+-- an integer at the front of t that is too large; the span takes in the character after it
 abbrev pub number_faults : Text → List (Fault Span)
 number_faults t = if is_over (digits t) then TooLarge (digits t) (through t (behind_digits t)) ∷ [] else []
 
@@ -39,7 +39,7 @@ type_faults t (WordType w) = word_faults t
 unfoldable pub format_faults : Parts → Text → List (Fault Span)
 format_faults p r = width_faults (from_width p r) p.width ++ precision_faults (from_precision p r) p.precision ++ type_faults (from_type p r) p.type
 
--- the specification that stands at t, with r behind it
+-- the specification that stands at t, with r after it
 abbrev pub spec_faults : Text → SpecText → Text → List (Fault Span)
 spec_faults t Default r = []
 spec_faults t (FormatParts p) r = format_faults p r

@@ -1,4 +1,4 @@
--- Where the field behind an opening brace stands, and by computing the cut of a text into a field and a rest.
+-- Where the field after an opening brace stands, and by computing the cut of a text into a field and a rest.
 use Rattle.std.specs.Prelude.{if◌then◌else◌, ◌++◌, [], ◌∷◌}
 use Rattle.std.specs.Char.{is_ascii_digit, is_whitespace}
 use Rattle.rustc_parse_format.specs.Characters.{Text, is_id_start, front, word, behind_word, digits, behind_digits, behind_white}
@@ -6,14 +6,14 @@ use Rattle.rustc_parse_format.specs.Pieces.{Mode}
 use Rattle.rustc_parse_format.specs.Syntax.{PositionText, Digits, Word, NoPosition, FieldText, field_part, spec_part}
 use Rattle.rustc_parse_format.specs.Specification.{specification}
 
--- A field where it stands: with the text from its position on, from its specification on, and behind it.
+-- A field where it stands: with the text from its position on, from its specification on, and after it.
 pub record Cut : Type 0 where
   pub field : FieldText
   pub position_at : Text
   pub spec_at : Text
   pub rest : Text
 
--- with r behind it
+-- with r after it
 abbrev pub placed : Mode → FieldText → Text → Cut
 placed mode a r = record {
   field = a;
@@ -22,7 +22,7 @@ placed mode a r = record {
   rest = r;
 }
 
--- By computing: the position at the front, and the rest behind it.
+-- By computing: the position at the front, and the rest after it.
 abbrev pub position : Text → PositionText × Text
 position [] = (NoPosition, [])
 position (c ∷ t) =

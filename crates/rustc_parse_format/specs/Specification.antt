@@ -6,7 +6,7 @@ use Rattle.rustc_parse_format.specs.Pieces.{Mode, Format, InlineAsm, Diagnostic,
 use Rattle.rustc_parse_format.specs.Syntax.{TypeText, DebugHexType, CharacterType, WordType, Parts, SpecText, Default, FormatParts, Modifier, DiagnosticText}
 use Rattle.rustc_parse_format.specs.Counts.{width, precision}
 
--- Each part of a format specification at the front of a text, and the rest behind it.
+-- Each part of a format specification at the front of a text, and the rest after it.
 
 abbrev pub fill : Text → Option ℕ × Text
 fill (c ∷ d ∷ t) = if is_align d then (Some c, d ∷ t) else (None, c ∷ d ∷ t)
@@ -24,7 +24,7 @@ abbrev pub alternate : Text → Bool × Text
 alternate [] = (false, [])
 alternate (c ∷ t) = if c == code "#" then (true, t) else (false, c ∷ t)
 
--- with t behind the `x` or `X`
+-- with t after the `x` or `X`
 abbrev pub behind_hex : DebugHex → ℕ → Text → TypeText × Text
 behind_hex h x [] = (CharacterType x, [])
 behind_hex h x (c ∷ t) = if c == code "?" then (DebugHexType h, t) else (CharacterType x, c ∷ t)
@@ -36,7 +36,7 @@ type (c ∷ t) =
     else (if c == code "X" then behind_hex Upper c t
     else (if c == code "?" then (CharacterType c, t) else (WordType (word (c ∷ t)), behind_word (c ∷ t))))
 
--- A format specification that stands at t has its fill there, and each other part behind the one before it.
+-- A format specification that stands at t has its fill there, and each other part after the one before it.
 abbrev pub align_at : Text → Text
 align_at t = (fill t).1
 
@@ -55,7 +55,7 @@ precision_at t = (width (width_at t)).1
 abbrev pub type_at : Text → Text
 type_at t = (precision (precision_at t)).1
 
--- the format specification at the front, and the rest behind it
+-- the format specification at the front, and the rest after it
 unfoldable pub format_parts : Text → Parts × Text
 format_parts t = (
   record {
@@ -70,13 +70,13 @@ format_parts t = (
   (type (type_at t)).1,
 )
 
--- with t behind the colon
+-- with t after the colon
 abbrev pub behind_colon : Mode → Text → SpecText × Text
 behind_colon Format t = (FormatParts (format_parts t).0, (format_parts t).1)
 behind_colon InlineAsm t = (Modifier (word t), behind_word t)
 behind_colon Diagnostic t = (DiagnosticText (front is_no_brace t), behind is_no_brace t)
 
--- the specification at the front, and the rest behind it
+-- the specification at the front, and the rest after it
 abbrev pub specification : Mode → Text → SpecText × Text
 specification mode [] = (Default, [])
 specification mode (c ∷ t) = if c == code ":" then behind_colon mode t else (Default, c ∷ t)

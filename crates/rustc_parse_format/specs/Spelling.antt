@@ -71,7 +71,7 @@ abbrev pub optional_identifier : Text → Part
 optional_identifier [] = absent (starts is_id_start)
 optional_identifier (c ∷ w) = identifier (c ∷ w)
 
--- some front of the text passes, with what is behind it
+-- some front of the text passes, with what is after it
 abbrev pub some_front : Text → (Text → Text → Bool) → Bool
 some_front [] p = p [] []
 some_front (c ∷ t) p = p [] (c ∷ t) || some_front t (λ u r. p (c ∷ u) r)
@@ -80,7 +80,7 @@ some_front (c ∷ t) p = p [] (c ∷ t) || some_front t (λ u r. p (c ∷ u) r)
 abbrev pub begins : (Text → Part) → Text → Bool
 begins part t = some_front t (λ u r. (part u).is_formed && (part u).may_precede r)
 
--- parts one behind the other, each in front of the next
+-- parts one after the other, each in front of the next
 abbrev pub row : List Part → Part
 row [] = fixed []
 row (p ∷ ps) = record {

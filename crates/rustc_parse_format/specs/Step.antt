@@ -37,7 +37,7 @@ unclosed c opening a r = record {
   next = next_number c a.field;
 }
 
--- the placeholder at opening, with t behind its brace
+-- the placeholder at opening, with t after its brace
 unfoldable pub placeholder : Mode → ℕ → Text → Text → Call
 placeholder mode c opening t =
     let a = cut mode t in

@@ -14,7 +14,7 @@ pub record Trail : Type 0 where
 abbrev pub is_word_part : ℕ → Bool
 is_word_part c = is_id_start c || is_id_continue c
 
--- how many characters are left behind the part of a word at the front of t
+-- how many characters are left after the part of a word at the front of t
 abbrev pub behind_part : Text → ℕ
 behind_part t = length (behind is_word_part t)
 
@@ -40,7 +40,7 @@ pub record Paid (t : Text) (a : Trail) (u : Text) (b : Trail) : Type 0 where
   pub left : b.left ≤ a.left
   pub word : IsInWord u b
 
--- how many characters a parser has behind it
+-- how many characters a parser has after it
 abbrev pub position : State → ℕ
 position s = length s.input - length s.rest
 

@@ -134,7 +134,7 @@ pub data SpecText : Type 0 where
   -- the text in a diagnostic
   DiagnosticText : Text → SpecText
 
--- [ ':' format_spec ], and in the other modes another thing behind the colon
+-- [ ':' format_spec ], and in the other modes another thing after the colon
 abbrev pub spec_part : Mode → SpecText → Part
 spec_part mode Default = absent (begins_with (code ":"))
 spec_part Format (FormatParts p) = row (fixed (codes ":") ∷ format_part p ∷ [])
@@ -176,7 +176,7 @@ piece_part mode (RunText u) = some_run is_no_brace u
 piece_part mode (DoubledText b u) = row (doubled is_brace b ∷ run is_no_brace u ∷ [])
 piece_part mode (PlaceholderText a space) = placeholder_part mode a space
 
--- a single brace and the field behind it, whether a brace closes it or not
+-- a single brace and the field after it, whether a brace closes it or not
 abbrev pub opened_part : Mode → FieldText → Part
 opened_part mode a = row (unless (codes "{") (begins_with (code "{")) ∷ field_part mode a ∷ [])
 

@@ -1,4 +1,4 @@
--- What a piece as written means where the next number is c, without spans, and the number that is next behind it.
+-- What a piece as written means where the next number is c, without spans, and the number that is next after it.
 -- The public rule is `std::fmt`, of positional parameters, widths and precisions.
 use Rattle.std.specs.Prelude.{ℕ, Bool, true, false, suc, if◌then◌else◌, [], ◌∷◌, Option, Some, None, codes, is_some, unwrap_or}
 use Rattle.rustc_parse_format.specs.Characters.{Text, number}
@@ -62,7 +62,7 @@ behind_precision c NoPrecision = c
 behind_precision c StarPrecision = suc c
 behind_precision c (DotPrecision k) = c
 
--- the next number behind the specification
+-- the next number after the specification
 abbrev pub behind_spec : ℕ → SpecText → ℕ
 behind_spec c Default = c
 behind_spec c (FormatParts p) = behind_precision c p.precision
@@ -75,7 +75,7 @@ given_position (Digits ds) = Some (Index (number ds))
 given_position (Word w) = Some (Named w)
 given_position NoPosition = None
 
--- an implicit position takes the number that is next behind the specification
+-- an implicit position takes the number that is next after the specification
 abbrev pub position_of : ℕ → PositionText → Position
 position_of c p = unwrap_or (given_position p) (Implicit c)
 
@@ -86,7 +86,7 @@ behind_position c p = if is_some (given_position p) then c else suc c
 abbrev pub argument_value : ℕ → FieldText → Argument (Unit {0})
 argument_value c a = record { position = position_of (behind_spec c a.spec) a.position; position_span = tt; format = spec_value c a.spec }
 
--- and the next number behind it
+-- and the next number after it
 unfoldable pub next_number : ℕ → FieldText → ℕ
 next_number c a = behind_position (behind_spec c a.spec) a.position
 
@@ -96,7 +96,7 @@ piece_value c (RunText u) = Lit u
 piece_value c (DoubledText b u) = Lit (b ∷ u)
 piece_value c (PlaceholderText a space) = NextArgument (argument_value c a)
 
--- the next number behind the piece
+-- the next number after the piece
 abbrev pub number_behind : ℕ → PieceText → ℕ
 number_behind c (RunText u) = c
 number_behind c (DoubledText b u) = c

@@ -49,7 +49,7 @@ pub fn first(text: &str) -> Option<char>
     text.chars().next()
 }
 
-/// What is behind the first character.
+/// What is after the first character.
 pub fn behind_first(text: &str) -> &str
     ensures rest { chars result.now ≡ behind_first (chars text.now) }
     ensures left { (input : List ℕ) → IsLeft input text.now → IsLeft input result.now }
@@ -184,7 +184,7 @@ impl<'input> Cursor<'input> {
         first(self.rest)
     }
 
-    /// The character behind the next one.
+    /// The character after the next one.
     pub fn peek_ahead(&self) -> Option<char>
         ensures { result ≡ first (behind_first self.now.rest) }
     {
@@ -257,7 +257,7 @@ impl<'input> Cursor<'input> {
         Some((self.start()..self.stop(), self.position(), c))
     }
 
-    /// The same of the character behind the next one.
+    /// The same of the character after the next one.
     pub fn place_ahead(&self) -> Option<(Range<usize>, usize, char)>
         ensures { option_map (λ x. (pair x.0, x.1, x.2)) result
             ≡ first_of self.now.world self.now.input (behind_first self.now.rest) }
@@ -267,7 +267,7 @@ impl<'input> Cursor<'input> {
         ahead.next_place()
     }
 
-    /// The character behind the next one is c.
+    /// The character after the next one is c.
     pub fn goes_on_with(&self, c: char) -> bool
         ensures { result ≡ begins_with c (behind_first self.now.rest) }
     {
@@ -288,7 +288,7 @@ impl<'input> Cursor<'input> {
         self.peek().is_some_and(is_id_start)
     }
 
-    /// Moves behind the longest front of the class.
+    /// Moves over the longest front of the class.
     pub fn skip<L: Ledger>(&mut self, class: Class, trail: &mut Trail<'input, L>)
         ensures rest { self.new ≡ record self.old { rest = behind (passes class) self.old.rest } }
         ensures steps { Forward self.old.rest trail.old self.new.rest trail.new }
@@ -301,7 +301,7 @@ impl<'input> Cursor<'input> {
         }
     }
 
-    /// Moves behind the white space at the front.
+    /// Moves over the white space at the front.
     #[tactic(auto, unfolding(crate::specs::Characters::behind_white))]
     pub fn skip_white<L: Ledger>(&mut self, trail: &mut Trail<'input, L>)
         ensures rest { self.new ≡ record self.old { rest = behind_white self.old.rest } }
@@ -321,7 +321,7 @@ impl<'input> Cursor<'input> {
         before(text, self.rest())
     }
 
-    /// Reads the next character, and the longest front of the class behind it.
+    /// Reads the next character, and the longest front of the class after it.
     pub fn take_behind_first<L: Ledger>(
         &mut self,
         class: Class,
@@ -337,7 +337,7 @@ impl<'input> Cursor<'input> {
         before(text, self.rest())
     }
 
-    /// Moves behind the word at the front.
+    /// Moves over the word at the front.
     #[tactic(auto, unfolding(crate::specs::Characters::behind_word))]
     fn skip_word<L: Ledger>(&mut self, trail: &mut Trail<'input, L>)
         ensures rest { self.new ≡ record self.old { rest = behind_word self.old.rest } }
@@ -360,7 +360,7 @@ impl<'input> Cursor<'input> {
         before(text, self.rest())
     }
 
-    /// Moves behind the digits at the front: their number modulo 65536, and whether it is above 65535.
+    /// Moves over the digits at the front: their number modulo 65536, and whether it is above 65535.
     #[tactic(auto, unfolding(crate::specs::Characters::digits, crate::specs::Characters::behind_digits))]
     fn skip_number<L: Ledger>(&mut self, trail: &mut Trail<'input, L>) -> (u16, bool)
         ensures value { result.0 ≡ number (digits self.old.rest) }

@@ -23,7 +23,7 @@ use std::alloc::AllocError;
 use std::ops::Range;
 use std::sync::ledger::Ledger;
 
-/// Reads the fill at the front: a character with an alignment behind it.
+/// Reads the fill at the front: a character with an alignment after it.
 fn fill<'input, L: Ledger>(
     cursor: &mut Cursor<'input>,
     trail: &mut Trail<'input, L>,
@@ -133,7 +133,7 @@ fn character_type<'input>(ty: &'input str) -> TypePart<'input>
     }
 }
 
-/// Reads the letter `x` or `X`. With a `?` behind it the letter is a case of the type `?`, else it is the type.
+/// Reads the letter `x` or `X`. With a `?` after it the letter is a case of the type `?`, else it is the type.
 fn hex_type<'input, L: Ledger>(
     cursor: &mut Cursor<'input>,
     trail: &mut Trail<'input, L>,
@@ -280,7 +280,7 @@ fn diagnostic_text<'input, L: Ledger>(
     }
 }
 
-/// Reads the specification at the front: a colon and what the mode has behind it, or nothing.
+/// Reads the specification at the front: a colon and what the mode has after it, or nothing.
 #[tactic(auto, using(crate::proofs::Steps::part_le))]
 pub fn specification<'input, L: Ledger>(
     mode: ParseMode,

@@ -162,7 +162,7 @@ fn takes_opening(rest: &mut Rest<'_>, hashes: usize) -> bool
     rest.takes('"')
 }
 
-/// Takes what stands behind the text of a raw literal, and says whether it was there.
+/// Takes what comes after the text of a raw literal, and says whether it was there.
 #[tactic(auto, using(crate::proofs::LiteralPrefixes::prefix_steps))]
 fn takes_closing(rest: &mut Rest<'_>, hashes: usize) -> bool
     ensures { IsTaken (raw_closing hashes) rest.old result rest.new }

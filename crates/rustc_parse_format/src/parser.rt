@@ -170,7 +170,7 @@ impl<'input> Parser<'input> {
         self.next_counted(&mut count)
     }
 
-    /// The next piece, or None at the end and over a closing brace that closes nothing, behind which a later call goes
+    /// The next piece, or None at the end and over a closing brace that closes nothing, after which a later call goes
     /// on: a parser is not fused. An error leaves the parser as it was.
     pub fn next(&mut self) -> Result<Option<Piece<'input>>, AllocError>
         // The piece and the new state are the definition's call, put through the parser's world.
@@ -207,7 +207,7 @@ impl<'input> Parser<'input> {
         self.cursor.next_place()
     }
 
-    /// The same of the character behind the next one.
+    /// The same of the character after the next one.
     pub fn peek_ahead(&self) -> Option<(Range<usize>, usize, char)>
         ensures { option_map (λ x. (pair x.0, x.1, x.2)) result
             ≡ first_of self.now.world self.now.input (behind_first self.now.rest) }

@@ -55,7 +55,7 @@ fn read_uncounted<'input, L: Ledger>(
     read_pieces(alloc, parser, &mut count)
 }
 
-/// The pieces of an input, up to the first call that gives none, and the parser behind them. The arguments are those of
+/// The pieces of an input, up to the first call that gives none, and the parser after them. The arguments are those of
 /// [`Parser::new`]. Out of memory, nothing stands.
 pub fn read_all<'input>(
     alloc: Global,

@@ -29,7 +29,7 @@ pub enum Piece<'input> {
 pub struct Argument<'input> {
     /// Which argument is meant.
     pub position: Position<'input>,
-    /// Where the position stands, with the white space behind it.
+    /// Where the position stands, with the white space after it.
     pub position_span: Range<usize>,
     /// How the argument is to be formatted.
     pub format: FormatSpec<'input>,

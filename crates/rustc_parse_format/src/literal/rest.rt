@@ -75,7 +75,7 @@ impl<'a> Rest<'a> {
     }
 }
 
-/// What is behind the first character.
+/// What is after the first character.
 fn past_first(text: &str) -> &str
     ensures { chars result.now ≡ behind_first (chars text.now) }
 {

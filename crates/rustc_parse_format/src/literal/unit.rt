@@ -18,7 +18,7 @@ pub fn read_unit(rest: &mut Rest<'_>) -> Option<Option<char>>
     }
 }
 
-/// Takes what is behind a backslash.
+/// Takes what is after a backslash.
 #[tactic(auto, unfolding(crate::specs::LiteralUnits::escape_at))]
 fn read_escape(rest: &mut Rest<'_>) -> Option<Option<char>>
     ensures { meaning (escape_at rest.old) ≡ option_map (λ v. (at_most_one v, rest.new)) result }
@@ -48,7 +48,7 @@ fn escaped(letter: char) -> Option<char>
     }
 }
 
-/// Takes what is behind `\x`.
+/// Takes what is after `\x`.
 #[tactic(auto, unfolding(crate::specs::LiteralUnits::byte_at))]
 fn read_byte(rest: &mut Rest<'_>) -> Option<char>
     ensures { meaning (byte_at rest.old) ≡ option_map (λ c. (c ∷ [], rest.new)) result }
@@ -58,7 +58,7 @@ fn read_byte(rest: &mut Rest<'_>) -> Option<char>
     Some((high * 16 + low) as u8 as char)
 }
 
-/// Takes what is behind `\u`.
+/// Takes what is after `\u`.
 #[tactic(auto, using(crate::proofs::LiteralUnicode::unicode_steps))]
 fn read_unicode(rest: &mut Rest<'_>) -> Option<char>
     ensures { meaning (unicode_at rest.old) ≡ option_map (λ c. (c ∷ [], rest.new)) result }

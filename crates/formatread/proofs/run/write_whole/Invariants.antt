@@ -2,7 +2,7 @@ use Rattle.std.proofs.Common.{◌≡◌, ◌++◌, ℕ, List, [], length}
 use Rattle.std.specs.Io.KnownBytes.{Appends}
 use Rattle.formatread.proofs.run.write_whole.Given as goal
 
--- a front of the bytes is written, and the rest is what is behind it
+-- a front of the bytes is written, and the rest is what is after it
 abbrev pub invariant-loop-rest : goal.invariant-loop-rest
 invariant-loop-rest g l =
     let contents = g.W.Write.contents in

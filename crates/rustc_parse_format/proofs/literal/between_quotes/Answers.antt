@@ -5,7 +5,7 @@ use Rattle.rustc_parse_format.specs.Literal.{ordinary_frame}
 use Rattle.rustc_parse_format.proofs.LiteralEdges.{chars-last, chars-first, first-IsUtf8}
 use Rattle.rustc_parse_format.proofs.literal.between_quotes.Goals as goal
 
--- the text behind the first quote ends with one, or the whole is nothing in quotes
+-- the text after the first quote ends with one, or the whole is nothing in quotes
 last_quote : (bs rest : List ℕ) (r : Option (Bor (List ℕ))) → chars bs ≡ 34 ∷ chars rest →
     MatchOption r ((t : Text) → t ++ 34 ∷ [] ≡ chars rest → ⊥) (λ x. chars x.now ++ 34 ∷ [] ≡ chars rest) →
     MatchOption r ((t : Text) → chars bs ≡ ordinary_frame t → ⊥) (λ x. chars bs ≡ ordinary_frame (chars x.now))
