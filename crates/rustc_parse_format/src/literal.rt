@@ -126,7 +126,7 @@ fn stands_for(content: &str, text: &str) -> bool
             return false;
         };
         if let Some(c) = value {
-            if !wanted.takes(c) {
+            if !wanted.next_is(c) {
                 return false;
             }
         }
@@ -153,13 +153,13 @@ fn is_raw_literal(snippet: &str, hashes: usize, text: &str) -> bool
 fn takes_opening(rest: &mut Rest<'_>, hashes: usize) -> bool
     ensures { IsTaken (raw_opening hashes) rest.old result rest.new }
 {
-    if !rest.takes('r') {
+    if !rest.next_is('r') {
         return false;
     }
     if !takes_hashes(rest, hashes) {
         return false;
     }
-    rest.takes('"')
+    rest.next_is('"')
 }
 
 /// Takes what comes after the text of a raw literal, and says whether it was there.
@@ -167,7 +167,7 @@ fn takes_opening(rest: &mut Rest<'_>, hashes: usize) -> bool
 fn takes_closing(rest: &mut Rest<'_>, hashes: usize) -> bool
     ensures { IsTaken (raw_closing hashes) rest.old result rest.new }
 {
-    rest.takes('"') && takes_hashes(rest, hashes)
+    rest.next_is('"') && takes_hashes(rest, hashes)
 }
 
 /// Takes so many hashes, and says whether they were there.
@@ -176,7 +176,7 @@ fn takes_hashes(rest: &mut Rest<'_>, hashes: usize) -> bool
 {
     let mut left = hashes;
     while left > 0 {
-        if !rest.takes('#') {
+        if !rest.next_is('#') {
             return false;
         }
         left -= 1;
@@ -190,7 +190,7 @@ fn takes_text(rest: &mut Rest<'_>, text: &str) -> bool
 {
     let mut wanted = Rest::new(text);
     while let Some(c) = wanted.next() {
-        if !rest.takes(c) {
+        if !rest.next_is(c) {
             return false;
         }
     }

@@ -4,6 +4,7 @@ ghost use Rattle.std.specs.Prelude.{◌≡◌, ◌↔◌, List, ℕ, [], chars, 
 ghost use Rattle.rustc_parse_format.specs.Characters.{begins_with, behind, behind_first, first, byte_length};
 ghost use Rattle.rustc_parse_format.specs.LiteralUnits.{is_skipped};
 
+use crate::chars::{behind_first, first};
 use std::marker::Model;
 
 /// What is left of a text.
@@ -44,7 +45,7 @@ impl<'a> Rest<'a> {
     pub fn peek(&self) -> Option<char>
         ensures { result ≡ first self.now }
     {
-        self.text.chars().next()
+        first(self.text)
     }
 
     /// Takes the next character.
@@ -53,12 +54,12 @@ impl<'a> Rest<'a> {
         ensures rest { self.new ≡ behind_first self.old }
     {
         let first = self.peek();
-        self.text = past_first(self.text);
+        self.text = behind_first(self.text);
         first
     }
 
-    /// Takes the next character, and says whether it is this one.
-    pub fn takes(&mut self, c: char) -> bool
+    /// Takes the next character, whatever it is, and says whether it was this one.
+    pub fn next_is(&mut self, c: char) -> bool
         ensures value { result ≡ begins_with c self.old }
         ensures rest { self.new ≡ behind_first self.old }
     {
@@ -70,18 +71,9 @@ impl<'a> Rest<'a> {
         ensures { self.new ≡ behind is_skipped self.old }
     {
         while let Some('\t' | '\n' | '\r' | ' ') = self.peek() {
-            self.text = past_first(self.text);
+            self.text = behind_first(self.text);
         }
     }
-}
-
-/// What is after the first character.
-fn past_first(text: &str) -> &str
-    ensures { chars result.now ≡ behind_first (chars text.now) }
-{
-    let mut rest = text.chars();
-    rest.next();
-    rest.as_str()
 }
 
 /// How many bytes a text takes.

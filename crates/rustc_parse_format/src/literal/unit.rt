@@ -63,7 +63,7 @@ fn read_byte(rest: &mut Rest<'_>) -> Option<char>
 fn read_unicode(rest: &mut Rest<'_>) -> Option<char>
     ensures { meaning (unicode_at rest.old) ≡ option_map (λ c. (c ∷ [], rest.new)) result }
 {
-    if !rest.takes('{') {
+    if !rest.next_is('{') {
         return None;
     }
     let mut digits: u32 = 0;
