@@ -13,7 +13,7 @@ Place = ℕ × ℕ
 
 pub record World : Type 0 where
   -- the snippet is the source literal of the input
-  pub is_literal : Bool
+  pub has_source : Bool
   -- of each character of the input
   pub places : List Place
   -- of the end of the text
@@ -41,7 +41,7 @@ text_end input None newline = byte_length input - (if newline then 1 else 0)
 
 -- a text that starts at a byte and ends at another, and whether it has a source literal
 abbrev pub plain_world : Bool → ℕ → Text → ℕ → World
-plain_world literal at input end = record { is_literal = literal; places = plain_places at input; end = end }
+plain_world literal at input end = record { has_source = literal; places = plain_places at input; end = end }
 
 unfoldable pub world : Text → Option ℕ → Option Text → Bool → World
 world input style snippet newline = plain_world (is_source input style snippet newline) (quote_offset style) input (text_end input snippet newline)

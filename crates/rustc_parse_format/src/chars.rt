@@ -243,7 +243,7 @@ impl<'input> Cursor<'input> {
 
     /// The snippet is the source literal of the input.
     pub fn is_source_literal(&self) -> bool
-        ensures { result ≡ self.now.world.is_literal }
+        ensures { result ≡ self.now.world.has_source }
     {
         self.is_source_literal
     }

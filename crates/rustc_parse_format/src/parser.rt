@@ -72,15 +72,15 @@ impl<'input> Parser<'input> {
         ensures ok { IsOk result }
         ensures start { IfOk result (λ p.
             p ≡ first_state (seen_mode mode) (chars input.now) style (seen_snippet snippet) appended_newline) }
-        ensures source { IfOk result (λ p. IsTrue p.world.is_literal
+        ensures source { IfOk result (λ p. IsTrue p.world.has_source
             ↔ HasSource (chars input.now) style (seen_snippet snippet) appended_newline) }
     {
-        let is_literal = has_source(input, style, &snippet, appended_newline);
+        let is_source = has_source(input, style, &snippet, appended_newline);
         let end = text_end(input, &snippet, appended_newline);
         Ok(Parser {
             alloc,
             mode,
-            cursor: Cursor::new(input, is_literal, quote_offset(style), end),
+            cursor: Cursor::new(input, is_source, quote_offset(style), end),
             curarg: 0,
             errors: Vec::new(alloc),
         })
@@ -224,7 +224,7 @@ impl<'input> Parser<'input> {
 
     /// The snippet is the source literal of the input.
     pub fn is_source_literal(&self) -> bool
-        ensures { result ≡ self.now.world.is_literal }
+        ensures { result ≡ self.now.world.has_source }
     {
         self.cursor.is_source_literal()
     }

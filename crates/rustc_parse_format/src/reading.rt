@@ -76,7 +76,7 @@ pub fn read_all<'input>(
         (first_state (seen_mode mode) (chars input.now) style (seen_snippet snippet) appended_newline)
         (map seen x.0.items) x.1) }
 
-    ensures source { IfOk result (λ x. IsTrue x.1.world.is_literal
+    ensures source { IfOk result (λ x. IsTrue x.1.world.has_source
         ↔ HasSource (chars input.now) style (seen_snippet snippet) appended_newline) }
 
     // No error is left exactly where the input is in the grammar, and then the pieces are its one reading.

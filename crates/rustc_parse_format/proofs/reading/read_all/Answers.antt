@@ -57,4 +57,4 @@ returns-clause-first_fault c =
 
 pub returns-clause-source : goal.returns-clause-source
 returns-clause-source c =
-    rw (ap (λ (s : State). s.world.is_literal) c.in_ok-pieces.ensures.state, after_all-world c.in_ok-parser.parser (calls c.in_ok-parser.parser)) c.in_ok-parser.ensures.source
+    rw (ap (λ (s : State). s.world.has_source) c.in_ok-pieces.ensures.state, after_all-world c.in_ok-parser.parser (calls c.in_ok-parser.parser)) c.in_ok-parser.ensures.source

@@ -14,9 +14,9 @@ invariant_of-result c =
 
 pub returns-clause-start : goal.returns-clause-start
 unfolding world
-returns-clause-start c = rw (c.new.ensures, c.quote_offset.ensures, c.text_end-end.ensures, c.has_source-is_literal.ensures, c.new-2.ensures.items) refl
+returns-clause-start c = rw (c.new.ensures, c.quote_offset.ensures, c.text_end-end.ensures, c.has_source-is_source.ensures, c.new-2.ensures.items) refl
 
 pub returns-clause-source : goal.returns-clause-source
 returns-clause-source c =
-    rw (ap (λ (u : Unread). u.world.is_literal) c.new.ensures, c.has_source-is_literal.ensures)
+    rw (ap (λ (u : Unread). u.world.has_source) c.new.ensures, c.has_source-is_source.ensures)
     (has_source (chars c.args.input.now) c.args.style (seen_snippet c.args.snippet) c.args.appended_newline)
