@@ -17,7 +17,7 @@ pub enum RunFault {
     NotText,
     /// The input is no string literal.
     NotLiteral,
-    /// A growth was refused.
+    /// A request for memory was refused.
     Memory,
     /// A write failed, or took no byte.
     Write,

@@ -44,7 +44,7 @@ diagnostic_text-is_no_specification : IsCut Diagnostic (codes "a:08 b}") (record
 unfolding computing
 diagnostic_text-is_no_specification = record { whole = refl; formed = refl; ends = refl }
 
--- A field comes after a single brace whether a brace closes it or not.
+-- What follows a single opening brace is a field, whether a brace closes it or not.
 unclosed-has_its_field : IsPart (codes "{a?") (opened_part Format (record { position = Word (codes "a"); space = []; spec = Default })) (codes "?")
 unfolding computing
 unclosed-has_its_field = record { whole = refl; formed = refl; ends = refl }

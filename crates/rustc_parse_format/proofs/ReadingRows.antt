@@ -37,11 +37,11 @@ clean_all : (ks : List Call) → Faultless ks → list_all (λ k. is_none k.faul
 clean_all [] f = refl
 clean_all (k ∷ ks) f = rw f.0 (clean_all ks f.1)
 
-clean_in : (mode : Mode) (t : Text) → is_clean mode t ≡ true → IsInGrammar mode t
-clean_in mode t e = (bare_pieces (walk mode 0 t), faultless-reads mode 0 t (walk mode 0 t) (walk-IsWalk mode 0 t) (all_clean (walk mode 0 t) e))
+is_in : (mode : Mode) (t : Text) → is_clean mode t ≡ true → IsInGrammar mode t
+is_in mode t e = (bare_pieces (walk mode 0 t), faultless-reads mode 0 t (walk mode 0 t) (walk-IsWalk mode 0 t) (all_clean (walk mode 0 t) e))
 
-in_clean : (mode : Mode) (t : Text) → is_clean mode t ≡ false → ¬ (IsInGrammar mode t)
-in_clean mode t e (ps, r) = false≢true (sym e ∙ clean_all (walk mode 0 t) (reads-faultless mode 0 t (walk mode 0 t) ps (walk-IsWalk mode 0 t) r).0)
+not_in : (mode : Mode) (t : Text) → is_clean mode t ≡ false → ¬ (IsInGrammar mode t)
+not_in mode t e (ps, r) = false≢true (sym e ∙ clean_all (walk mode 0 t) (reads-faultless mode 0 t (walk mode 0 t) ps (walk-IsWalk mode 0 t) r).0)
 
 abbrev AreIn : Mode → List Text → Type 0
 AreIn mode ts = AllByRecursion (λ t. IsInGrammar mode t) ts
@@ -51,11 +51,11 @@ AreNotIn mode ts = AllByRecursion (λ t. ¬ (IsInGrammar mode t)) ts
 
 are_in : (mode : Mode) (ts : List Text) → list_all (is_clean mode) ts ≡ true → AreIn mode ts
 are_in mode [] e = tt
-are_in mode (t ∷ ts) e = (clean_in mode t (and_parts _ _ e).0, are_in mode ts (and_parts _ _ e).1)
+are_in mode (t ∷ ts) e = (is_in mode t (and_parts _ _ e).0, are_in mode ts (and_parts _ _ e).1)
 
 are_not_in : (mode : Mode) (ts : List Text) → list_all (λ t. not (is_clean mode t)) ts ≡ true → AreNotIn mode ts
 are_not_in mode [] e = tt
-are_not_in mode (t ∷ ts) e = (in_clean mode t (not-true _ (and_parts _ _ e).0), are_not_in mode ts (and_parts _ _ e).1)
+are_not_in mode (t ∷ ts) e = (not_in mode t (not-true _ (and_parts _ _ e).0), are_not_in mode ts (and_parts _ _ e).1)
 
 -- format_string := text [ maybe_format text ] *
 abbrev strings : List Text
@@ -72,7 +72,7 @@ no_strings-are_not_in : AreNotIn Format no_strings
 unfolding computing
 no_strings-are_not_in = are_not_in Format no_strings refl
 
--- format := '{' [ argument ] [ ws ] * [ ':' format_spec ] [ ws ] * '}', argument := integer | identifier
+-- format := '{' [ argument ] [ ':' format_spec ] [ ws ] * '}', argument := integer | identifier
 abbrev positions : List Text
 positions = codes "{}" ∷ codes "{a}" ∷ codes "{_a1}" ∷ codes "{0}" ∷ codes "{007}" ∷ codes "{65535}" ∷ codes "{a }" ∷ codes "{ }" ∷ codes "{a \t\n: }" ∷ []
 
@@ -96,7 +96,7 @@ unfolding computing
 flags-are_in = are_in Format flags refl
 
 abbrev no_flags : List Text
-no_flags = codes "{:*}" ∷ codes "{:>>>}" ∷ codes "{:}<" ∷ codes "{:+-}" ∷ codes "{:##}" ∷ codes "{:#+}" ∷ codes "{:0+}" ∷ codes "{: >5}}" ∷ []
+no_flags = codes "{:*}" ∷ codes "{:>>>}" ∷ codes "{:}<" ∷ codes "{:+-}" ∷ codes "{:##}" ∷ codes "{:#+}" ∷ codes "{:0+}" ∷ codes "{: > 5}" ∷ []
 
 no_flags-are_not_in : AreNotIn Format no_flags
 unfolding computing

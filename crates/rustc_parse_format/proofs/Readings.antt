@@ -49,11 +49,12 @@ Reads-unique mode c t (p ∷ ps) (q ∷ qs) (r, n, a, later) (s, m, b, others) =
 
 -- What is read is written: the pieces as written, one after the other, are the text.
 pub Reads-spelled : (mode : Mode) (c : ℕ) (t : Text) (ps : List (Piece (Unit {0}))) → Reads mode c t ps → IsSpelled mode c t ps
-Reads-spelled mode c t [] e = record { texts = []; means = refl; whole = sym e }
+Reads-spelled mode c t [] e = record { texts = []; formed = tt; means = refl; whole = sym e }
 Reads-spelled mode c t (p ∷ ps) (r, n, b, later) =
     let s = Reads-spelled mode n r ps later in
     record {
       texts = b.text ∷ s.texts;
+      formed = ((b.written.formed, b.clean), s.formed);
       means = both (sym b.means) (ap (λ k. piece_values k s.texts) (sym b.numbered) ∙ s.means);
       whole = ap (λ u. (piece_part mode b.text).spelling ++ u) s.whole ∙ sym b.written.whole;
     }

@@ -1,13 +1,16 @@
 -- The input `{{{x:>5}` through the words that matter most, one after the other: the example of docs/DEFINITIONS.md.
 use Prim.Native.Char.{code}
-use Rattle.std.proofs.Common.{◌≡◌, ◌≢◌, ℕ, List, [], ◌∷◌, refl, ap, codes, Some, None, false, arith}
+use Rattle.std.proofs.Common.{◌≡◌, ◌≢◌, ℕ, List, [], ◌∷◌, refl, ap, codes, map, Some, None, true, false, arith}
 use Rattle.rustc_parse_format.specs.Characters.{Text}
 use Rattle.rustc_parse_format.specs.Marks.{Span, Start}
 use Rattle.rustc_parse_format.specs.Pieces.{Format, Right, Named, Is, Piece, Lit, NextArgument, default_spec}
 use Rattle.rustc_parse_format.specs.Spelling.{IsPart}
-use Rattle.rustc_parse_format.specs.Syntax.{Word, NumberCount, PlainWidth, NoPrecision, WordType, Parts, FormatParts, PieceText, DoubledText, PlaceholderText, piece_part}
+use Rattle.rustc_parse_format.specs.Syntax.{Word, NumberCount, PlainWidth, NoPrecision, WordType, Parts, FormatParts, PieceText, DoubledText, PlaceholderText, fill_part, piece_part}
 use Rattle.rustc_parse_format.specs.Grammar.{Begins, Reads, piece_values}
-use Rattle.rustc_parse_format.specs.Step.{walk, pieces_of}
+use Rattle.rustc_parse_format.specs.Step.{walk, pieces_of, faults_of}
+use Rattle.rustc_parse_format.proofs.Readings.{Reads-unique}
+use Rattle.std.proofs.lemmas.Bool.{false≢true}
+use Rattle.std.specs.Prelude.{is_some}
 use Rattle.rustc_parse_format.specs.World.{Place}
 use Rattle.rustc_parse_format.proofs.Rows.{computing, pieces, start, ended}
 
@@ -33,6 +36,10 @@ bare_pieces =
     Lit (codes "{")
     ∷ NextArgument (record { position = Named (codes "x"); position_span = tt; format = record default_spec { align = Right; width = Is 5 } })
     ∷ []
+
+-- A fill may not be left out where the second character aligns.
+no_fill-is_refused : ¬ (IsPart (codes ">>5}") (fill_part None) (codes ">>5}"))
+no_fill-is_refused h = false≢true h.ends
 
 -- The text is the doubled brace and then the rest, and the rest is the placeholder.
 braces-are_written : IsPart input (piece_part Format braces) rest
@@ -80,7 +87,19 @@ input-reads_as_both = (
   ),
 )
 
--- The calls give the same with marks, by how many characters are left,
+input-reads_as_nothing_else : (ps : List (Piece (Unit {0}))) → Reads Format 0 input ps → ps ≡ bare_pieces
+input-reads_as_nothing_else ps h = Reads-unique Format 0 input ps bare_pieces h input-reads_as_both
+
+-- Three calls without a fault, the last without a piece,
+calls-are_three : map (λ k. is_some k.piece) (walk Format 0 input) ≡ true ∷ true ∷ false ∷ []
+unfolding computing
+calls-are_three = refl
+
+calls-find_no_fault : faults_of (walk Format 0 input) ≡ []
+unfolding computing
+calls-find_no_fault = refl
+
+-- give the same with marks, by how many characters are left,
 marked : List (Piece Span)
 marked =
     Lit (codes "{")
@@ -106,7 +125,7 @@ world-makes_them_bytes : pieces input ≡ placed
 unfolding computing placed
 world-makes_them_bytes = refl
 
--- Behind the last call nothing is left, no number was taken, and there is no error.
+-- After the last call nothing is left, no number was taken, and there is no error.
 state-is_at_the_end : ended input ≡ record (start input) { rest = [] }
 unfolding computing
 state-is_at_the_end = refl

@@ -1,6 +1,7 @@
 -- The grammar: which pieces a text reads as, without their spans. The public rule is the grammar of format strings in the
 -- documentation of `std::fmt`.
-use Rattle.std.specs.Prelude.{◌≡◌, ◌≢◌, ℕ, ◌≤◌, ◌<◌, ◌++◌, List, [], ◌∷◌, length, take, drop, codes}
+use Rattle.std.specs.Prelude.{◌≡◌, ◌≢◌, ℕ, ◌≤◌, ◌<◌, ◌++◌, IsTrue, List, [], ◌∷◌, length, take, drop, codes}
+use Rattle.std.specs.List.{AllByRecursion}
 use Rattle.std.specs.Str.Parse.{digits_value}
 use Rattle.rustc_parse_format.specs.Characters.{Text}
 use Rattle.rustc_parse_format.specs.Spelling.{IsPart}
@@ -97,8 +98,10 @@ abbrev pub spelled : Mode → List PieceText → Text
 spelled mode [] = []
 spelled mode (x ∷ xs) = (piece_part mode x).spelling ++ spelled mode xs
 
--- pieces as written that mean ps and, one after the other, are the text again
+-- Pieces as written, each well formed and with nothing in it that is refused, that mean ps and, one after the other, are the
+-- text again.
 pub record IsSpelled (mode : Mode) (c : ℕ) (t : Text) (ps : List (Piece (Unit {0}))) : Type 0 where
   pub texts : List PieceText
+  pub formed : AllByRecursion (λ x. IsTrue (piece_part mode x).is_formed × IsCleanPiece x) texts
   pub means : piece_values c texts ≡ ps
   pub whole : spelled mode texts ≡ t

@@ -58,12 +58,13 @@ call mode c (b ∷ t) =
     then (if begins_with b t then literal c (b ∷ []) (behind_first t) else (if b == code "{" then placeholder mode c (b ∷ t) t else unmatched c (b ∷ t) t))
     else literal c [] (b ∷ t)
 
--- a call that gives no placeholder and finds no fault
+-- text, or no piece
 abbrev pub GivesNoArgument : Option (Piece Span) → Type 0
 GivesNoArgument None = Unit {0}
 GivesNoArgument (Some (Lit t)) = Unit {0}
 GivesNoArgument (Some (NextArgument a)) = ⊥
 
+-- a call that gives this and finds no fault
 abbrev pub IsPlain : Call → Type 0
 IsPlain k = GivesNoArgument k.piece × (k.faults ≡ [])
 

@@ -33,14 +33,15 @@ pub record Forward (t : Text) (a : Trail) (u : Text) (b : Trail) : Type 0 where
   pub rest : length u ≤ length t
   pub part : behind_part u ≤ behind_part t
 
--- The same where a word may be given back: no fewer steps, and what is left, here and there, pays for them.
+-- The same where a word may be given back: no fewer steps, and each is paid for by a character fewer that is left,
+-- where it stands or where it last went back.
 pub record Paid (t : Text) (a : Trail) (u : Text) (b : Trail) : Type 0 where
   pub least : a.steps + length t ≤ b.steps + length u
   pub steps : b.steps + (length u + b.left) ≤ a.steps + (length t + a.left)
   pub left : b.left ≤ a.left
   pub word : IsInWord u b
 
--- how many characters a parser has after it
+-- how many characters a parser has read
 abbrev pub position : State → ℕ
 position s = length s.input - length s.rest
 

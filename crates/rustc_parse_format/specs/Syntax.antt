@@ -1,6 +1,6 @@
 -- A format string as it is written: its pieces and their parts, how each is spelled and what may follow it.
 -- The public rule is the grammar of format strings in the documentation of `std::fmt`; what is quoted from it stands in front of
--- its row. Parts take what they can from the front on: one that may be left out is absent only where it does not begin.
+-- its row, with what this language adds after it in words. Parts take what they can from the front on: one that may be left out is absent only where it does not begin.
 use Prim.Native.Char.{code}
 use Rattle.std.specs.Prelude.{◌≡◌, ℕ, Bool, true, false, not, ◌||◌, ◌==◌, [], ◌∷◌, Option, Some, None, codes}
 use Rattle.std.specs.Char.{is_ascii_digit, is_whitespace}
@@ -103,7 +103,7 @@ pub data TypeText : Type 0 where
 abbrev pub is_type_character : ℕ → Bool
 is_type_character c = (c == code "x") || (c == code "X") || (c == code "?")
 
--- type := '' | '?' | 'x' | 'x?' | 'X' | 'X?' | identifier: `x` and `X` alone only where no `?` follows
+-- type := '' | '?' | 'x?' | 'X?' | identifier: `x` and `X` begin no longer word, and are alone only where no `?` follows
 abbrev pub type_part : TypeText → Part
 type_part (DebugHexType Lower) = fixed (codes "x?")
 type_part (DebugHexType Upper) = fixed (codes "X?")
@@ -157,7 +157,7 @@ pub record FieldText : Type 0 where
 abbrev pub field_part : Mode → FieldText → Part
 field_part mode a = row (position_part a.position ∷ run is_whitespace a.space ∷ spec_part mode a.spec ∷ [])
 
--- format := '{' [ argument ] [ ws ] * [ ':' format_spec ] [ ws ] * '}'
+-- format := '{' [ argument ] [ ':' format_spec ] [ ws ] * '}', with white space in front of the colon too
 abbrev pub placeholder_part : Mode → FieldText → Text → Part
 placeholder_part mode a space = row (fixed (codes "{") ∷ field_part mode a ∷ run is_whitespace space ∷ fixed (codes "}") ∷ [])
 

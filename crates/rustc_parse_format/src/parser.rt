@@ -188,7 +188,7 @@ impl<'input> Parser<'input> {
         ensures end { IfOk result (λ p. self.old.rest ≡ [] → IsNone p × (self.new ≡ self.old)) }
         ensures keeps { OnOk result (Keeps self.old.errors self.new.errors) }
 
-        // Behind a single brace it is the argument of the one cut, whether a brace closes it or not.
+        // After a single opening brace it is the argument of the one cut, whether a brace closes it or not.
         ensures cut { IfOk result (λ p. (a : FieldText) (r : Text) → IsPart self.old.rest (opened_part self.old.mode a) r
             → option_map seen p ≡ Some (piece_in self.old.world (NextArgument (argument self.old.next (placed self.old.mode a r))))) }
 

@@ -56,7 +56,7 @@ fn read_uncounted<'input, L: Ledger>(
 }
 
 /// The pieces of an input, up to the first call that gives none, and the parser after them. The arguments are those of
-/// [`Parser::new`]. Out of memory, nothing stands.
+/// [`Parser::new`]. Out of memory, neither is given.
 pub fn read_all<'input>(
     alloc: Global,
     input: &'input str,
@@ -91,7 +91,7 @@ pub fn read_all<'input>(
     ensures first_fault { IfOk result (λ x. x.1.errors ≢ []
         → StopsInside (seen_mode mode) 0 (chars input.now) (map bare (map seen x.0.items))) }
 
-    // Nothing is read without memory.
+    // An empty input is read even where no memory is left.
     ensures empty { input.now ≡ [] → IsOk result }
 {
     let mut parser = Parser::new(alloc, input, style, snippet, appended_newline, mode)?;

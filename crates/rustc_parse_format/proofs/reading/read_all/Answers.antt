@@ -1,11 +1,9 @@
-use Rattle.std.proofs.Common.{◌≡◌, ◌∙◌, ap, chars, string_bytes, String, Global}
-use Rattle.std.specs.Prelude.{option_map}
+use Rattle.std.proofs.Common.{◌≡◌, ◌∙◌, ap, chars}
 use Rattle.std.proofs.lemmas.Bool.{false≢true}
 use Rattle.std.proofs.lemmas.Str.{chars-nil}
 use Rattle.rustc_parse_format.specs.Characters.{Text}
 use Rattle.rustc_parse_format.specs.Seen.{seen_mode, seen_snippet}
 use Rattle.rustc_parse_format.specs.State.{State, first_state, calls}
-use Rattle.rustc_parse_format.specs.World.{world}
 use Rattle.rustc_parse_format.proofs.Readings.{Reads-unique, Reads-spelled}
 use Rattle.rustc_parse_format.proofs.PartCuts.{cut-only}
 use Rattle.rustc_parse_format.proofs.StateWalks.{after_all-world}

@@ -1,5 +1,4 @@
-use Rattle.std.proofs.Common.{◌≤◌, ap, length, chars, arith, refl, String, Global, string_bytes}
-use Rattle.std.specs.Prelude.{option_map}
+use Rattle.std.proofs.Common.{◌≤◌, ap, length, chars, arith, refl}
 use Rattle.std.proofs.lemmas.Str.{length-le-encodes, encodes-chars}
 use Rattle.rustc_parse_format.specs.Seen.{seen_snippet}
 use Rattle.rustc_parse_format.specs.State.{Unread}
