@@ -1,11 +1,11 @@
 -- Steps: what one move does, where the cursor never stood further on, and that a word given back is paid.
 use Rattle.std.proofs.Common.{◌≡◌, ℕ, ◌+◌, ◌≤◌, Bool, true, false, cond, List, [], ◌∷◌, chars, length, refl, ap, ◌∙◌, arith}
-use Rattle.std.specs.Prelude.{◌||◌}
+use Rattle.std.specs.Prelude.{◌||◌, if◌then◌else◌, is_some}
 use Rattle.unicode_ident.proofs.Computing.{unicode_ident}
 use Rattle.std.proofs.lemmas.Str.{chars-nil}
 use Rattle.std.proofs.lemmas.Bool.{eqb-true}
 use Rattle.std.proofs.lemmas.List.{nil_from_length}
-use Rattle.rustc_parse_format.specs.Characters.{Text, is_id_start, is_id_continue, behind, behind_first, behind_word, begins_with}
+use Rattle.rustc_parse_format.specs.Characters.{Text, is_id_start, is_id_continue, behind, behind_first, behind_word, begins_with, first}
 use Rattle.rustc_parse_format.proofs.Places.{Begun}
 use Rattle.rustc_parse_format.specs.Steps.{Trail, Forward, Paid, IsFurthest, is_word_part, behind_part}
 
@@ -82,11 +82,10 @@ forward_one c t a b e = record {
   part = part_behind_first c t;
 }
 
-pub moved : (s : List ℕ) (r : Text) (a b : Trail) → Begun s → r ≡ behind_first (chars s) → b ≡ record a { steps = a.steps + 1 } → Forward (chars s) a r b
-moved s r a b f e k = rw (e, f.chars_are) (forward_one f.head f.tail a b k)
-
-pub over : (s : List ℕ) → length s ≡ 0 → chars s ≡ []
-over s h = rw (nil_from_length s h, chars-nil) refl
+-- a step over the next character, if there is one
+pub moved : (t r : Text) (a b : Trail) → r ≡ behind_first t → b ≡ (if is_some (first t) then record a { steps = a.steps + 1 } else a) → Forward t a r b
+moved [] r a b f e = rw (e, f) (record { steps = refl; left = refl; rest = omega arith; part = omega arith })
+moved (c ∷ t) r a b f e = rw f (forward_one c t a b e)
 
 -- A word is tried where the cursor never stood further on, and given back.
 pub paid_back : (t u v : Text) (a b d : Trail) → IsFurthest t a → u ≡ behind_word t → Forward t a u b → v ≡ t → d ≡ record b { left = length u } → Paid t a v d

@@ -196,10 +196,7 @@ impl<'input> Cursor<'input> {
         ensures rest { self.new ≡ record self.old { rest = behind_first self.old.rest } }
         ensures steps { Forward self.old.rest trail.old self.new.rest trail.new }
     {
-        if self.rest.is_empty() {
-            return;
-        }
-        trail.step();
+        trail.step(first(self.rest));
         self.rest = behind_first(self.rest);
     }
 

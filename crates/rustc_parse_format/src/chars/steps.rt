@@ -1,6 +1,6 @@
 //! The steps of a cursor, counted in contracts alone: counting does nothing when the program runs.
 
-ghost use Rattle.std.specs.Prelude.{◌≡◌, ◌+◌, chars, length};
+ghost use Rattle.std.specs.Prelude.{◌≡◌, ◌+◌, chars, if◌then◌else◌, is_some, length};
 
 use std::marker::Model;
 use std::mem;
@@ -27,11 +27,13 @@ impl<'input, L: Ledger> Model for Trail<'input, L> {
 }
 
 impl<'input, L: Ledger> Trail<'input, L> {
-    /// One step.
-    pub(super) fn step(&mut self)
-        ensures { self.new ≡ record self.old { steps = self.old.steps + 1 } }
+    /// A step over the next character, if there is one.
+    pub(super) fn step(&mut self, next: Option<char>)
+        ensures { self.new ≡ (if is_some next then record self.old { steps = self.old.steps + 1 } else self.old) }
     {
-        self.book.add(&mut self.made, 1);
+        if next.is_some() {
+            self.book.add(&mut self.made, 1);
+        }
     }
 
     /// The cursor goes back from where this is left.
