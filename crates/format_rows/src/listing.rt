@@ -17,37 +17,6 @@ pub fn put_source(out: &mut String, is_source: bool) -> Result<(), AllocError> {
     })
 }
 
-/// Adds the line of a piece.
-pub fn put_piece(out: &mut String, piece: &Piece<'_>) -> Result<(), AllocError> {
-    match piece {
-        Piece::Lit(text) => {
-            out.push_str("lit ")?;
-            put_quoted(out, text)?;
-        }
-        Piece::NextArgument(argument) => put_argument(out, argument)?,
-    }
-    out.push_str("\n")
-}
-
-/// Adds what is kept beside the pieces.
-pub fn put_end(out: &mut String, parser: &Parser<'_>) -> Result<(), AllocError> {
-    let next = parser.curarg();
-    write!(out, "curarg {next}\n")?;
-    for error in parser.errors() {
-        put_error(out, error)?;
-    }
-    Ok(())
-}
-
-/// Adds a text in quotes, with its characters escaped as in the program's listing.
-fn put_quoted(out: &mut String, text: &str) -> Result<(), AllocError> {
-    out.push('"')?;
-    for c in text.chars() {
-        put_escaped(out, c)?;
-    }
-    out.push('"')
-}
-
 fn put_escaped(out: &mut String, c: char) -> Result<(), AllocError> {
     let code = u32::from(c);
     match c {
@@ -63,6 +32,15 @@ fn put_escaped(out: &mut String, c: char) -> Result<(), AllocError> {
     }
 }
 
+/// Adds a text in quotes, with its characters escaped as in the program's listing.
+fn put_quoted(out: &mut String, text: &str) -> Result<(), AllocError> {
+    out.push('"')?;
+    for c in text.chars() {
+        put_escaped(out, c)?;
+    }
+    out.push('"')
+}
+
 fn put_range(out: &mut String, label: &str, range: &Range<usize>) -> Result<(), AllocError> {
     let (start, end) = (range.start, range.end);
     write!(out, "{label}{start}..{end}")
@@ -73,17 +51,6 @@ fn put_optional_range(out: &mut String, range: &Option<Range<usize>>) -> Result<
         Some(range) => put_range(out, "@", range),
         None => Ok(()),
     }
-}
-
-fn put_argument(out: &mut String, argument: &Argument<'_>) -> Result<(), AllocError> {
-    match &argument.position {
-        Position::ArgumentImplicitlyIs(n) => write!(out, "arg implicit {n}")?,
-        Position::ArgumentIs(n) => write!(out, "arg index {n}")?,
-        Position::ArgumentNamed(name) => write!(out, "arg name {name}")?,
-    }
-    put_range(out, " ", &argument.position_span)?;
-    put_flags(out, &argument.format)?;
-    put_values(out, &argument.format)
 }
 
 fn put_flags(out: &mut String, spec: &FormatSpec<'_>) -> Result<(), AllocError> {
@@ -108,6 +75,20 @@ fn put_flags(out: &mut String, spec: &FormatSpec<'_>) -> Result<(), AllocError> 
     out.push_str(if spec.zero_pad { " zero" } else { "" })
 }
 
+fn put_count(out: &mut String, label: &str, count: &Count<'_>) -> Result<(), AllocError> {
+    out.push_str(label)?;
+    match count {
+        Count::CountIs(n) => write!(out, "is:{n}"),
+        Count::CountIsName(name, range) => {
+            write!(out, "name:{name}")?;
+            put_range(out, "@", range)
+        }
+        Count::CountIsParam(n) => write!(out, "param:{n}"),
+        Count::CountIsStar(n) => write!(out, "star:{n}"),
+        Count::CountImplied => out.push_str("implied"),
+    }
+}
+
 fn put_values(out: &mut String, spec: &FormatSpec<'_>) -> Result<(), AllocError> {
     if spec.width != Count::CountImplied {
         put_count(out, " width=", &spec.width)?;
@@ -129,18 +110,43 @@ fn put_values(out: &mut String, spec: &FormatSpec<'_>) -> Result<(), AllocError>
     put_optional_range(out, &spec.ty_span)
 }
 
-fn put_count(out: &mut String, label: &str, count: &Count<'_>) -> Result<(), AllocError> {
-    out.push_str(label)?;
-    match count {
-        Count::CountIs(n) => write!(out, "is:{n}"),
-        Count::CountIsName(name, range) => {
-            write!(out, "name:{name}")?;
-            put_range(out, "@", range)
-        }
-        Count::CountIsParam(n) => write!(out, "param:{n}"),
-        Count::CountIsStar(n) => write!(out, "star:{n}"),
-        Count::CountImplied => out.push_str("implied"),
+fn put_argument(out: &mut String, argument: &Argument<'_>) -> Result<(), AllocError> {
+    match &argument.position {
+        Position::ArgumentImplicitlyIs(n) => write!(out, "arg implicit {n}")?,
+        Position::ArgumentIs(n) => write!(out, "arg index {n}")?,
+        Position::ArgumentNamed(name) => write!(out, "arg name {name}")?,
     }
+    put_range(out, " ", &argument.position_span)?;
+    put_flags(out, &argument.format)?;
+    put_values(out, &argument.format)
+}
+
+/// Adds the line of a piece.
+pub fn put_piece(out: &mut String, piece: &Piece<'_>) -> Result<(), AllocError> {
+    match piece {
+        Piece::Lit(text) => {
+            out.push_str("lit ")?;
+            put_quoted(out, text)?;
+        }
+        Piece::NextArgument(argument) => put_argument(out, argument)?,
+    }
+    out.push_str("\n")
+}
+
+fn put_suggestion(out: &mut String, suggestion: &Suggestion) -> Result<(), AllocError> {
+    match suggestion {
+        Suggestion::None => return Ok(()),
+        Suggestion::UsePositional => out.push_str("suggest positional")?,
+        Suggestion::RemoveRawIdent(range) => put_range(out, "suggest raw ", range)?,
+        Suggestion::ReorderFormatParameter(range, text) => {
+            put_range(out, "suggest reorder ", range)?;
+            let text = text.as_str();
+            write!(out, " {text}")?;
+        }
+        Suggestion::AddMissingColon(range) => put_range(out, "suggest colon ", range)?,
+        Suggestion::UseRustDebugPrintingMacro => out.push_str("suggest dbg")?,
+    }
+    out.push_str("\n")
 }
 
 fn put_error(out: &mut String, error: &ParseError) -> Result<(), AllocError> {
@@ -160,18 +166,12 @@ fn put_error(out: &mut String, error: &ParseError) -> Result<(), AllocError> {
     put_suggestion(out, &error.suggestion)
 }
 
-fn put_suggestion(out: &mut String, suggestion: &Suggestion) -> Result<(), AllocError> {
-    match suggestion {
-        Suggestion::None => return Ok(()),
-        Suggestion::UsePositional => out.push_str("suggest positional")?,
-        Suggestion::RemoveRawIdent(range) => put_range(out, "suggest raw ", range)?,
-        Suggestion::ReorderFormatParameter(range, text) => {
-            put_range(out, "suggest reorder ", range)?;
-            let text = text.as_str();
-            write!(out, " {text}")?;
-        }
-        Suggestion::AddMissingColon(range) => put_range(out, "suggest colon ", range)?,
-        Suggestion::UseRustDebugPrintingMacro => out.push_str("suggest dbg")?,
+/// Adds what is kept beside the pieces.
+pub fn put_end(out: &mut String, parser: &Parser<'_>) -> Result<(), AllocError> {
+    let next = parser.curarg();
+    write!(out, "curarg {next}\n")?;
+    for error in parser.errors() {
+        put_error(out, error)?;
     }
-    out.push_str("\n")
+    Ok(())
 }

@@ -41,12 +41,28 @@ impl From<AllocError> for RowFault {
     }
 }
 
-/// The row that a line writes. Where it writes none, the test fails, and names the line and the column.
-pub fn row_of(rt: &impl Abort, alloc: Global, line: &str) -> Result<Row, Fail> {
-    match read_row(alloc, line) {
-        Ok(row) => Ok(row),
-        Err(RowFault::Column(column)) => panic!(rt; "no {column} in the row {line}"),
-        Err(RowFault::Memory(error)) => Err(error)?,
+fn mode_of(column: Option<&str>) -> Option<ParseMode> {
+    match column {
+        Some("format") => Some(ParseMode::Format),
+        Some("asm") => Some(ParseMode::InlineAsm),
+        Some("diagnostic") => Some(ParseMode::Diagnostic),
+        _ => None,
+    }
+}
+
+fn style_of(column: Option<&str>) -> Option<Option<usize>> {
+    match column {
+        Some("-") => Some(None),
+        Some(hashes) => hashes.parse().ok().map(Some),
+        None => None,
+    }
+}
+
+fn newline_of(column: Option<&str>) -> Option<bool> {
+    match column {
+        Some("0") => Some(false),
+        Some("1") => Some(true),
+        _ => None,
     }
 }
 
@@ -80,28 +96,12 @@ fn read_row(alloc: Global, line: &str) -> Result<Row, RowFault> {
     })
 }
 
-fn mode_of(column: Option<&str>) -> Option<ParseMode> {
-    match column {
-        Some("format") => Some(ParseMode::Format),
-        Some("asm") => Some(ParseMode::InlineAsm),
-        Some("diagnostic") => Some(ParseMode::Diagnostic),
-        _ => None,
-    }
-}
-
-fn style_of(column: Option<&str>) -> Option<Option<usize>> {
-    match column {
-        Some("-") => Some(None),
-        Some(hashes) => hashes.parse().ok().map(Some),
-        None => None,
-    }
-}
-
-fn newline_of(column: Option<&str>) -> Option<bool> {
-    match column {
-        Some("0") => Some(false),
-        Some("1") => Some(true),
-        _ => None,
+/// The row that a line writes. Where it writes none, the test fails, and names the line and the column.
+pub fn row_of(rt: &impl Abort, alloc: Global, line: &str) -> Result<Row, Fail> {
+    match read_row(alloc, line) {
+        Ok(row) => Ok(row),
+        Err(RowFault::Column(column)) => panic!(rt; "no {column} in the row {line}"),
+        Err(RowFault::Memory(error)) => Err(error)?,
     }
 }
 

@@ -16,6 +16,19 @@ fn rows_of(rt: &impl Abort, alloc: Global, table: &str, count: usize) -> Result<
     Ok(rows)
 }
 
+/// What `read_all` gives of a row of a table of walks: its listing without the calls that gave no piece. A walk ends at
+/// the first of these, and in such a table only the end of the input comes after it.
+fn without_nones(alloc: Global, listing: &str) -> Result<String, Fail> {
+    let mut out = String::new(alloc);
+    for line in listing.split('\n') {
+        if line != "none" && !line.is_empty() {
+            out.push_str(line)?;
+            out.push('\n')?;
+        }
+    }
+    Ok(out)
+}
+
 /// Reads each row of a table of walks, in which no piece comes after a None.
 fn check_walks(rt: &impl Abort, alloc: Global, table: &str, count: usize) -> Result<(), Fail> {
     for row in rows_of(rt, alloc, table, count)? {
@@ -57,19 +70,6 @@ fn check_sources(rt: &impl Abort, alloc: Global, table: &str, count: usize) -> R
         );
     }
     Ok(())
-}
-
-/// What `read_all` gives of a row of a table of walks: its listing without the calls that gave no piece. A walk ends at
-/// the first of these, and in such a table only the end of the input comes after it.
-fn without_nones(alloc: Global, listing: &str) -> Result<String, Fail> {
-    let mut out = String::new(alloc);
-    for line in listing.split('\n') {
-        if line != "none" && !line.is_empty() {
-            out.push_str(line)?;
-            out.push('\n')?;
-        }
-    }
-    Ok(out)
 }
 
 #[test]

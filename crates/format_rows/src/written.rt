@@ -15,6 +15,36 @@ enum Reading {
     Code(u32),
 }
 
+/// The character that one after a backslash stands for.
+fn unescaped(c: char) -> Option<char> {
+    match c {
+        'n' => Some('\n'),
+        't' => Some('\t'),
+        'r' => Some('\r'),
+        '\\' => Some('\\'),
+        _ => None,
+    }
+}
+
+/// A hexadecimal number with one digit more.
+fn with_digit(code: u32, digit: char) -> Option<u32> {
+    code.checked_mul(16)?.checked_add(digit.to_digit(16)?)
+}
+
+/// What a character brings, and how the next one is read.
+fn step(reading: Reading, c: char) -> Option<(Option<char>, Reading)> {
+    match (reading, c) {
+        (Reading::Plain, '\\') => Some((None, Reading::Escaped)),
+        (Reading::Plain, _) => Some((Some(c), Reading::Plain)),
+        (Reading::Escaped, 'u') => Some((None, Reading::Opening)),
+        (Reading::Escaped, _) => Some((Some(unescaped(c)?), Reading::Plain)),
+        (Reading::Opening, '{') => Some((None, Reading::Code(0))),
+        (Reading::Opening, _) => None,
+        (Reading::Code(code), '}') => Some((Some(char::from_u32(code)?), Reading::Plain)),
+        (Reading::Code(code), _) => Some((None, Reading::Code(with_digit(code, c)?))),
+    }
+}
+
 /// The text that a column writes, or None where there is no column or it writes no text.
 pub fn text_of(alloc: Global, column: Option<&str>) -> Result<Option<String>, AllocError> {
     let Some(column) = column else {
@@ -36,34 +66,4 @@ pub fn text_of(alloc: Global, column: Option<&str>) -> Result<Option<String>, Al
         Reading::Plain => Some(text),
         _ => None,
     })
-}
-
-/// What a character brings, and how the next one is read.
-fn step(reading: Reading, c: char) -> Option<(Option<char>, Reading)> {
-    match (reading, c) {
-        (Reading::Plain, '\\') => Some((None, Reading::Escaped)),
-        (Reading::Plain, _) => Some((Some(c), Reading::Plain)),
-        (Reading::Escaped, 'u') => Some((None, Reading::Opening)),
-        (Reading::Escaped, _) => Some((Some(unescaped(c)?), Reading::Plain)),
-        (Reading::Opening, '{') => Some((None, Reading::Code(0))),
-        (Reading::Opening, _) => None,
-        (Reading::Code(code), '}') => Some((Some(char::from_u32(code)?), Reading::Plain)),
-        (Reading::Code(code), _) => Some((None, Reading::Code(with_digit(code, c)?))),
-    }
-}
-
-/// The character that one after a backslash stands for.
-fn unescaped(c: char) -> Option<char> {
-    match c {
-        'n' => Some('\n'),
-        't' => Some('\t'),
-        'r' => Some('\r'),
-        '\\' => Some('\\'),
-        _ => None,
-    }
-}
-
-/// A hexadecimal number with one digit more.
-fn with_digit(code: u32, digit: char) -> Option<u32> {
-    code.checked_mul(16)?.checked_add(digit.to_digit(16)?)
 }

@@ -8,7 +8,7 @@ use Rattle.std.proofs.lemmas.Str.{encodes-chars, chars-nil}
 use Rattle.rustc_parse_format.specs.Characters.{Text}
 use Rattle.rustc_parse_format.specs.Written.{written}
 use Rattle.rustc_parse_format.specs.Seen.{pair}
-use Rattle.formatread.specs.Listing.{quoted, type_part}
+use Rattle.formatread.specs.Listing.{quoted, type_entry}
 
 -- one character more is written
 pub written-push : (out : List ℕ) (t : Text) (c : ℕ) → (out ++ flat_map written t) ++ written c ≡ out ++ flat_map written (t ++ c ∷ [])
@@ -18,21 +18,21 @@ written-push out t c =
     ∙ ap (λ x. out ++ x) (sym (flat_map-append written t (c ∷ [])))
 
 -- a type that was not written leaves nothing
-pub type_part-absent : (out : List ℕ) (s : Option (Range ℕ)) (bs : List ℕ) → is_some s ≡ false → true ≡ (length bs == 0) → out ≡ out ++ type_part (option_map pair s) (chars bs)
-type_part-absent out None [] e h = sym (ap (λ t. out ++ type_part None t) chars-nil ∙ append-nil out)
-type_part-absent out None (b ∷ bs) e h = grind (arith, nat_tests)
-type_part-absent out (Some r) bs e h = cc
+pub type_entry-absent : (out : List ℕ) (s : Option (Range ℕ)) (bs : List ℕ) → is_some s ≡ false → true ≡ (length bs == 0) → out ≡ out ++ type_entry (option_map pair s) (chars bs)
+type_entry-absent out None [] e h = sym (ap (λ t. out ++ type_entry None t) chars-nil ∙ append-nil out)
+type_entry-absent out None (b ∷ bs) e h = grind (arith, nat_tests)
+type_entry-absent out (Some r) bs e h = cc
 
 -- one with a span is shown
-pub type_part-given : (s : Option (Range ℕ)) (t : Text) → is_some s ≡ true → type_part (option_map pair s) t ≡ codes " ty=" ++ quoted t
-type_part-given None t e = cc
-type_part-given (Some r) t e = refl
+pub type_entry-given : (s : Option (Range ℕ)) (t : Text) → is_some s ≡ true → type_entry (option_map pair s) t ≡ codes " ty=" ++ quoted t
+type_entry-given None t e = cc
+type_entry-given (Some r) t e = refl
 
 -- one that is not empty is shown
-type_part-cons : (s : Option (Range ℕ)) (bs : List ℕ) (t : Text) → encode_utf8_all t ≡ bs → is_some s ≡ false → false ≡ (length bs == 0) → type_part (option_map pair s) t ≡ codes " ty=" ++ quoted t
-type_part-cons None bs [] w e h = absurd (elim bs as (λ x. [] ≡ x → false ≡ (length x == 0) → ⊥) [ [] ↦ λ p q. grind (arith, nat_tests) | b ∷ bs ↦ λ p q. cc ] w h)
-type_part-cons None bs (c ∷ t) w e h = refl
-type_part-cons (Some r) bs t w e h = cc
+type_entry-cons : (s : Option (Range ℕ)) (bs : List ℕ) (t : Text) → encode_utf8_all t ≡ bs → is_some s ≡ false → false ≡ (length bs == 0) → type_entry (option_map pair s) t ≡ codes " ty=" ++ quoted t
+type_entry-cons None bs [] w e h = absurd (elim bs as (λ x. [] ≡ x → false ≡ (length x == 0) → ⊥) [ [] ↦ λ p q. grind (arith, nat_tests) | b ∷ bs ↦ λ p q. cc ] w h)
+type_entry-cons None bs (c ∷ t) w e h = refl
+type_entry-cons (Some r) bs t w e h = cc
 
-pub type_part-chars : (s : Option (Range ℕ)) (bs : List ℕ) → IsUtf8 bs → is_some s ≡ false → false ≡ (length bs == 0) → type_part (option_map pair s) (chars bs) ≡ codes " ty=" ++ quoted (chars bs)
-type_part-chars s bs u e h = type_part-cons s bs (chars bs) (encodes-chars bs u) e h
+pub type_entry-chars : (s : Option (Range ℕ)) (bs : List ℕ) → IsUtf8 bs → is_some s ≡ false → false ≡ (length bs == 0) → type_entry (option_map pair s) (chars bs) ≡ codes " ty=" ++ quoted (chars bs)
+type_entry-chars s bs u e h = type_entry-cons s bs (chars bs) (encodes-chars bs u) e h

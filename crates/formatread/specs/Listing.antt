@@ -22,63 +22,63 @@ count_text (Param n) = codes "param:" ++ decimal n
 count_text (Star n) = codes "star:" ++ decimal n
 count_text Implied = codes "implied"
 
--- Each part of a specification has a space before it, and leaves nothing where it is not there.
-abbrev pub fill_part : Option ℕ → List ℕ
-fill_part None = []
-fill_part (Some c) = codes " fill=" ++ quoted (c ∷ [])
+-- Each entry of a specification has a space before it, and leaves nothing where it is not there.
+abbrev pub fill_entry : Option ℕ → List ℕ
+fill_entry None = []
+fill_entry (Some c) = codes " fill=" ++ quoted (c ∷ [])
 
-abbrev pub align_part : Alignment → List ℕ
-align_part Left = codes " align=left"
-align_part Right = codes " align=right"
-align_part Center = codes " align=center"
-align_part Unknown = []
+abbrev pub align_entry : Alignment → List ℕ
+align_entry Left = codes " align=left"
+align_entry Right = codes " align=right"
+align_entry Center = codes " align=center"
+align_entry Unknown = []
 
-abbrev pub sign_part : Option Sign → List ℕ
-sign_part None = []
-sign_part (Some Plus) = codes " sign=+"
-sign_part (Some Minus) = codes " sign=-"
+abbrev pub sign_entry : Option Sign → List ℕ
+sign_entry None = []
+sign_entry (Some Plus) = codes " sign=+"
+sign_entry (Some Minus) = codes " sign=-"
 
-abbrev pub flag_part : Bool → List ℕ → List ℕ
-flag_part true name = name
-flag_part false name = []
+abbrev pub flag_entry : Bool → List ℕ → List ℕ
+flag_entry true name = name
+flag_entry false name = []
 
-abbrev pub width_part : Count Place → List ℕ
-width_part Implied = []
-width_part (Is n) = codes " width=" ++ count_text (Is n)
-width_part (Name w s) = codes " width=" ++ count_text (Name w s)
-width_part (Param n) = codes " width=" ++ count_text (Param n)
-width_part (Star n) = codes " width=" ++ count_text (Star n)
+abbrev pub width_entry : Count Place → List ℕ
+width_entry Implied = []
+width_entry (Is n) = codes " width=" ++ count_text (Is n)
+width_entry (Name w s) = codes " width=" ++ count_text (Name w s)
+width_entry (Param n) = codes " width=" ++ count_text (Param n)
+width_entry (Star n) = codes " width=" ++ count_text (Star n)
 
 -- a precision that was written may be implied
-abbrev pub precision_part : Option Place → Count Place → List ℕ
-precision_part None k = []
-precision_part (Some s) k = codes " precision=" ++ count_text k
+abbrev pub precision_entry : Option Place → Count Place → List ℕ
+precision_entry None k = []
+precision_entry (Some s) k = codes " precision=" ++ count_text k
 
-abbrev pub hex_part : Option DebugHex → List ℕ
-hex_part None = []
-hex_part (Some Lower) = codes " hex=lower"
-hex_part (Some Upper) = codes " hex=upper"
+abbrev pub hex_entry : Option DebugHex → List ℕ
+hex_entry None = []
+hex_entry (Some Lower) = codes " hex=lower"
+hex_entry (Some Upper) = codes " hex=upper"
 
-abbrev pub type_part : Option Place → Text → List ℕ
-type_part None [] = []
-type_part None (c ∷ t) = codes " ty=" ++ quoted (c ∷ t)
-type_part (Some s) t = codes " ty=" ++ quoted t
+abbrev pub type_entry : Option Place → Text → List ℕ
+type_entry None [] = []
+type_entry None (c ∷ t) = codes " ty=" ++ quoted (c ∷ t)
+type_entry (Some s) t = codes " ty=" ++ quoted t
 
 -- fill, alignment and flags
-unfoldable pub flag_parts : Spec Place → List ℕ
-flag_parts s =
-    fill_part s.fill ++ (align_part s.align ++ (sign_part s.sign
-    ++ (flag_part s.alternate (codes " alt") ++ flag_part s.zero_pad (codes " zero"))))
+unfoldable pub flag_entries : Spec Place → List ℕ
+flag_entries s =
+    fill_entry s.fill ++ (align_entry s.align ++ (sign_entry s.sign
+    ++ (flag_entry s.alternate (codes " alt") ++ flag_entry s.zero_pad (codes " zero"))))
 
 -- counts and type
-unfoldable pub value_parts : Spec Place → List ℕ
-value_parts s =
-    width_part s.width ++ (precision_part s.precision_span s.precision
-    ++ (hex_part s.debug_hex ++ type_part s.ty_span s.ty))
+unfoldable pub value_entries : Spec Place → List ℕ
+value_entries s =
+    width_entry s.width ++ (precision_entry s.precision_span s.precision
+    ++ (hex_entry s.debug_hex ++ type_entry s.ty_span s.ty))
 
 abbrev pub line : Piece Place → List ℕ
 line (Lit t) = codes "lit " ++ (quoted t ++ codes "\n")
-line (NextArgument a) = codes "arg " ++ (position_text a.position ++ (flag_parts a.format ++ (value_parts a.format ++ codes "\n")))
+line (NextArgument a) = codes "arg " ++ (position_text a.position ++ (flag_entries a.format ++ (value_entries a.format ++ codes "\n")))
 
 -- a line for each piece
 abbrev pub listing : List (Piece Place) → List ℕ

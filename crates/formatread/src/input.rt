@@ -14,6 +14,51 @@ use super::verdict::RunFault;
 use rustc_parse_format::{ParseMode, Parser, read_all};
 use std::alloc::{AllocError, Global};
 
+/// Whether the parser found a fault.
+fn has_errors(parser: &Parser<'_>) -> bool
+    ensures { result ≡ nat_lt 0 (length parser.now.errors) }
+{
+    parser.errors().len() > 0
+}
+
+/// The listing of what the parser is given, and whether it has a fault.
+#[tactic(auto, unfolding(crate::specs::Program::pieces, crate::specs::Program::is_faulty))]
+fn list_source(
+    alloc: Global,
+    text: &str,
+    style: Option<usize>,
+    snippet: Option<String>,
+    mode: ParseMode,
+) -> Result<(String, bool), AllocError>
+    requires { hashes style ≤ limit }
+    ensures lines { IfOk result (λ x. (string_bytes x.0, x.1) ≡ listed (seen_mode mode)
+        (record { text = chars text.now; style = style; snippet = seen_snippet snippet })) }
+    ensures empty { text.now ≡ [] → IsOk result }
+{
+    let (pieces, parser) = read_all(alloc, text, style, snippet, false, mode)?;
+    let lines = listing(alloc, pieces.as_slice())?;
+    Ok((lines, has_errors(&parser)))
+}
+
+/// The listing of what the input stands for as a literal, and whether it has a fault.
+fn list_literal(alloc: Global, input: &str, mode: ParseMode) -> Result<(String, bool), RunFault>
+    requires { IsShort input.now }
+    ensures lines { IfOk result (λ x. (s : Source) × IsInLiteral (chars input.now) s
+        × ((string_bytes x.0, x.1) ≡ listed (seen_mode mode) s)) }
+    ensures not_literal { IsErrOf result NotLiteral → (s : Source) → IsInLiteral (chars input.now) s → ⊥ }
+    ensures not_words { IfErr result (λ fault. fault ≢ Words) }
+    ensures not_long { IfErr result (λ fault. fault ≢ TooLong) }
+    ensures is_text { IfErr result (λ fault. fault ≢ NotText) }
+    ensures empty { input.now ≡ [] → result ≡ Err NotLiteral }
+{
+    let literal = without_newline(input);
+    let Some((text, style)) = literal_text(alloc, literal)? else {
+        return Err(RunFault::NotLiteral);
+    };
+    let snippet = String::from_str(alloc, literal)?;
+    Ok(list_source(alloc, text.as_str(), style, Some(snippet), mode)?)
+}
+
 /// The listing of an input, which may have to be a literal, and whether it has a fault.
 pub fn list_input(
     alloc: Global,
@@ -36,49 +81,4 @@ pub fn list_input(
     } else {
         Ok(list_source(alloc, input, None, None, mode)?)
     }
-}
-
-/// The listing of what the input stands for as a literal, and whether it has a fault.
-fn list_literal(alloc: Global, input: &str, mode: ParseMode) -> Result<(String, bool), RunFault>
-    requires { IsShort input.now }
-    ensures lines { IfOk result (λ x. (s : Source) × IsInLiteral (chars input.now) s
-        × ((string_bytes x.0, x.1) ≡ listed (seen_mode mode) s)) }
-    ensures not_literal { IsErrOf result NotLiteral → (s : Source) → IsInLiteral (chars input.now) s → ⊥ }
-    ensures not_words { IfErr result (λ fault. fault ≢ Words) }
-    ensures not_long { IfErr result (λ fault. fault ≢ TooLong) }
-    ensures is_text { IfErr result (λ fault. fault ≢ NotText) }
-    ensures empty { input.now ≡ [] → result ≡ Err NotLiteral }
-{
-    let literal = without_newline(input);
-    let Some((text, style)) = literal_text(alloc, literal)? else {
-        return Err(RunFault::NotLiteral);
-    };
-    let snippet = String::from_str(alloc, literal)?;
-    Ok(list_source(alloc, text.as_str(), style, Some(snippet), mode)?)
-}
-
-/// The listing of what the parser is given, and whether it has a fault.
-#[tactic(auto, unfolding(crate::specs::Program::pieces, crate::specs::Program::is_faulty))]
-fn list_source(
-    alloc: Global,
-    text: &str,
-    style: Option<usize>,
-    snippet: Option<String>,
-    mode: ParseMode,
-) -> Result<(String, bool), AllocError>
-    requires { hashes style ≤ limit }
-    ensures lines { IfOk result (λ x. (string_bytes x.0, x.1) ≡ listed (seen_mode mode)
-        (record { text = chars text.now; style = style; snippet = seen_snippet snippet })) }
-    ensures empty { text.now ≡ [] → IsOk result }
-{
-    let (pieces, parser) = read_all(alloc, text, style, snippet, false, mode)?;
-    let lines = listing(alloc, pieces.as_slice())?;
-    Ok((lines, has_errors(&parser)))
-}
-
-/// Whether the parser found a fault.
-fn has_errors(parser: &Parser<'_>) -> bool
-    ensures { result ≡ nat_lt 0 (length parser.now.errors) }
-{
-    parser.errors().len() > 0
 }

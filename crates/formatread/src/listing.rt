@@ -1,7 +1,7 @@
 ghost use Rattle.std.specs.Prelude.{◌≡◌, ◌++◌, [], IfOk, IsOk, OnOk, map, chars, codes, encode_utf8_all, flat_map, option_map, string_bytes};
 ghost use Rattle.rustc_parse_format.specs.Written.{written};
 ghost use Rattle.rustc_parse_format.specs.Seen.{pair, seen, seen_alignment, seen_count, seen_debug_hex, seen_position, seen_sign, seen_spec};
-ghost use Rattle.formatread.specs.Listing.{align_part, count_text, fill_part, flag_part, flag_parts, hex_part, line, listing, position_text, precision_part, quoted, sign_part, type_part, value_parts, width_part};
+ghost use Rattle.formatread.specs.Listing.{align_entry, count_text, fill_entry, flag_entry, flag_entries, hex_entry, line, listing, position_text, precision_entry, quoted, sign_entry, type_entry, value_entries, width_entry};
 
 use rustc_parse_format::{
     Alignment, Argument, Count, DebugHex, FormatSpec, Piece, Position, Sign, put_written,
@@ -9,26 +9,24 @@ use rustc_parse_format::{
 use std::alloc::{AllocError, Global};
 use std::ops::Range;
 
-/// The listing of pieces: a line for each.
-pub fn listing(alloc: Global, pieces: &[Piece<'_>]) -> Result<String, AllocError>
-    ensures lines { IfOk result (λ text. string_bytes text ≡ listing (map seen pieces.now)) }
-    ensures empty { pieces.now ≡ [] → IsOk result }
+/// Adds each character of a text as it is written.
+fn put_characters(out: &mut String, text: &str) -> Result<(), AllocError>
+    ensures { OnOk result (string_bytes out.new ≡ string_bytes out.old ++
+        flat_map written (chars text.now)) }
 {
-    let mut out = String::new(alloc);
-    for piece in pieces {
-        put_piece(&mut out, piece)?;
+    for c in text.chars() {
+        put_written(out, c)?;
     }
-    Ok(out)
+    Ok(())
 }
 
-/// Adds the line of a piece.
-fn put_piece(out: &mut String, piece: &Piece<'_>) -> Result<(), AllocError>
-    ensures { OnOk result (string_bytes out.new ≡ string_bytes out.old ++ line (seen piece.now)) }
+/// Adds a text between quotes.
+fn put_quoted(out: &mut String, text: &str) -> Result<(), AllocError>
+    ensures { OnOk result (string_bytes out.new ≡ string_bytes out.old ++ quoted (chars text.now)) }
 {
-    match piece {
-        Piece::Lit(text) => put_literal(out, text)?,
-        Piece::NextArgument(argument) => put_argument(out, argument)?,
-    }
+    out.push_str("\"")?;
+    put_characters(out, text)?;
+    out.push_str("\"")?;
     Ok(())
 }
 
@@ -43,18 +41,13 @@ fn put_literal(out: &mut String, text: &str) -> Result<(), AllocError>
     Ok(())
 }
 
-/// Adds the line of a placeholder.
-fn put_argument(out: &mut String, argument: &Argument<'_>) -> Result<(), AllocError>
+/// Adds a text, as it stands, after another.
+fn put_name(out: &mut String, label: &str, name: &str) -> Result<(), AllocError>
     ensures { OnOk result (string_bytes out.new ≡ string_bytes out.old ++
-        (codes "arg " ++ (position_text (seen_position argument.now.position)
-        ++ (flag_parts (seen_spec argument.now.format)
-        ++ (value_parts (seen_spec argument.now.format) ++ codes "\n"))))) }
+        (label.now ++ encode_utf8_all (chars name.now))) }
 {
-    out.push_str("arg ")?;
-    put_position(out, &argument.position)?;
-    put_flags(out, &argument.format)?;
-    put_values(out, &argument.format)?;
-    out.push_str("\n")?;
+    out.push_str(label)?;
+    out.push_str(name)?;
     Ok(())
 }
 
@@ -68,6 +61,71 @@ fn put_position(out: &mut String, position: &Position<'_>) -> Result<(), AllocEr
         Position::ArgumentIs(n) => write!(out, "index {n}")?,
         Position::ArgumentNamed(name) => put_name(out, "name ", name)?,
     }
+    Ok(())
+}
+
+/// Adds a fill.
+fn put_fill(out: &mut String, fill: Option<char>) -> Result<(), AllocError>
+    ensures { OnOk result (string_bytes out.new ≡ string_bytes out.old ++ fill_entry fill) }
+{
+    if let Some(c) = fill {
+        out.push_str(" fill=\"")?;
+        put_written(out, c)?;
+        out.push_str("\"")?;
+    }
+    Ok(())
+}
+
+/// Adds an alignment.
+fn put_alignment(out: &mut String, align: Alignment) -> Result<(), AllocError>
+    ensures { OnOk result (string_bytes out.new ≡ string_bytes out.old ++
+        align_entry (seen_alignment align)) }
+{
+    let text = match align {
+        Alignment::AlignLeft => " align=left",
+        Alignment::AlignRight => " align=right",
+        Alignment::AlignCenter => " align=center",
+        Alignment::AlignUnknown => "",
+    };
+    out.push_str(text)?;
+    Ok(())
+}
+
+/// Adds a sign.
+fn put_sign(out: &mut String, sign: Option<Sign>) -> Result<(), AllocError>
+    ensures { OnOk result (string_bytes out.new ≡ string_bytes out.old ++
+        sign_entry (option_map seen_sign sign)) }
+{
+    let text = match sign {
+        None => "",
+        Some(Sign::Plus) => " sign=+",
+        Some(Sign::Minus) => " sign=-",
+    };
+    out.push_str(text)?;
+    Ok(())
+}
+
+/// Adds the name of a flag that is set.
+fn put_flag(out: &mut String, name: &str, flag: bool) -> Result<(), AllocError>
+    ensures { OnOk result (string_bytes out.new ≡ string_bytes out.old ++ flag_entry flag name.now) }
+{
+    if flag {
+        out.push_str(name)?;
+    }
+    Ok(())
+}
+
+/// Adds fill, alignment and flags.
+#[tactic(auto, unfolding(crate::specs::Listing::flag_entries))]
+fn put_flags(out: &mut String, spec: &FormatSpec<'_>) -> Result<(), AllocError>
+    ensures { OnOk result (string_bytes out.new ≡ string_bytes out.old ++
+        flag_entries (seen_spec spec.now)) }
+{
+    put_fill(out, spec.fill)?;
+    put_alignment(out, spec.align)?;
+    put_sign(out, spec.sign)?;
+    put_flag(out, " alt", spec.alternate)?;
+    put_flag(out, " zero", spec.zero_pad)?;
     Ok(())
 }
 
@@ -86,47 +144,10 @@ fn put_count(out: &mut String, count: &Count<'_>) -> Result<(), AllocError>
     Ok(())
 }
 
-/// Adds a text, as it stands, after another.
-fn put_name(out: &mut String, label: &str, name: &str) -> Result<(), AllocError>
-    ensures { OnOk result (string_bytes out.new ≡ string_bytes out.old ++
-        (label.now ++ encode_utf8_all (chars name.now))) }
-{
-    out.push_str(label)?;
-    out.push_str(name)?;
-    Ok(())
-}
-
-/// Adds fill, alignment and flags.
-#[tactic(auto, unfolding(crate::specs::Listing::flag_parts))]
-fn put_flags(out: &mut String, spec: &FormatSpec<'_>) -> Result<(), AllocError>
-    ensures { OnOk result (string_bytes out.new ≡ string_bytes out.old ++
-        flag_parts (seen_spec spec.now)) }
-{
-    put_fill(out, spec.fill)?;
-    put_alignment(out, spec.align)?;
-    put_sign(out, spec.sign)?;
-    put_flag(out, " alt", spec.alternate)?;
-    put_flag(out, " zero", spec.zero_pad)?;
-    Ok(())
-}
-
-/// Adds counts and type.
-#[tactic(auto, unfolding(crate::specs::Listing::value_parts))]
-fn put_values(out: &mut String, spec: &FormatSpec<'_>) -> Result<(), AllocError>
-    ensures { OnOk result (string_bytes out.new ≡ string_bytes out.old ++
-        value_parts (seen_spec spec.now)) }
-{
-    put_width(out, &spec.width)?;
-    put_precision(out, &spec.precision_span, &spec.precision)?;
-    put_hex(out, spec.debug_hex)?;
-    put_type(out, &spec.ty_span, spec.ty)?;
-    Ok(())
-}
-
 /// Adds a width, unless it is implied.
 fn put_width(out: &mut String, width: &Count<'_>) -> Result<(), AllocError>
     ensures { OnOk result (string_bytes out.new ≡ string_bytes out.old ++
-        width_part (seen_count width.now)) }
+        width_entry (seen_count width.now)) }
 {
     if matches!(width, Count::CountImplied) {
         return Ok(());
@@ -143,7 +164,7 @@ fn put_precision(
     precision: &Count<'_>,
 ) -> Result<(), AllocError>
     ensures { OnOk result (string_bytes out.new ≡ string_bytes out.old ++
-        precision_part (option_map pair span.now) (seen_count precision.now)) }
+        precision_entry (option_map pair span.now) (seen_count precision.now)) }
 {
     if let Some(_) = span {
         out.push_str(" precision=")?;
@@ -152,74 +173,10 @@ fn put_precision(
     Ok(())
 }
 
-/// Adds a type that was written.
-fn put_type(out: &mut String, span: &Option<Range<usize>>, ty: &str) -> Result<(), AllocError>
-    ensures { OnOk result (string_bytes out.new ≡ string_bytes out.old ++
-        type_part (option_map pair span.now) (chars ty.now)) }
-{
-    if span.is_none() && ty.is_empty() {
-        return Ok(());
-    }
-    out.push_str(" ty=")?;
-    put_quoted(out, ty)?;
-    Ok(())
-}
-
-/// Adds a fill.
-fn put_fill(out: &mut String, fill: Option<char>) -> Result<(), AllocError>
-    ensures { OnOk result (string_bytes out.new ≡ string_bytes out.old ++ fill_part fill) }
-{
-    if let Some(c) = fill {
-        out.push_str(" fill=\"")?;
-        put_written(out, c)?;
-        out.push_str("\"")?;
-    }
-    Ok(())
-}
-
-/// Adds an alignment.
-fn put_alignment(out: &mut String, align: Alignment) -> Result<(), AllocError>
-    ensures { OnOk result (string_bytes out.new ≡ string_bytes out.old ++
-        align_part (seen_alignment align)) }
-{
-    let text = match align {
-        Alignment::AlignLeft => " align=left",
-        Alignment::AlignRight => " align=right",
-        Alignment::AlignCenter => " align=center",
-        Alignment::AlignUnknown => "",
-    };
-    out.push_str(text)?;
-    Ok(())
-}
-
-/// Adds a sign.
-fn put_sign(out: &mut String, sign: Option<Sign>) -> Result<(), AllocError>
-    ensures { OnOk result (string_bytes out.new ≡ string_bytes out.old ++
-        sign_part (option_map seen_sign sign)) }
-{
-    let text = match sign {
-        None => "",
-        Some(Sign::Plus) => " sign=+",
-        Some(Sign::Minus) => " sign=-",
-    };
-    out.push_str(text)?;
-    Ok(())
-}
-
-/// Adds the name of a flag that is set.
-fn put_flag(out: &mut String, name: &str, flag: bool) -> Result<(), AllocError>
-    ensures { OnOk result (string_bytes out.new ≡ string_bytes out.old ++ flag_part flag name.now) }
-{
-    if flag {
-        out.push_str(name)?;
-    }
-    Ok(())
-}
-
 /// Adds the case of hexadecimal digits.
 fn put_hex(out: &mut String, hex: Option<DebugHex>) -> Result<(), AllocError>
     ensures { OnOk result (string_bytes out.new ≡ string_bytes out.old ++
-        hex_part (option_map seen_debug_hex hex)) }
+        hex_entry (option_map seen_debug_hex hex)) }
 {
     let text = match hex {
         None => "",
@@ -230,23 +187,66 @@ fn put_hex(out: &mut String, hex: Option<DebugHex>) -> Result<(), AllocError>
     Ok(())
 }
 
-/// Adds a text between quotes.
-fn put_quoted(out: &mut String, text: &str) -> Result<(), AllocError>
-    ensures { OnOk result (string_bytes out.new ≡ string_bytes out.old ++ quoted (chars text.now)) }
+/// Adds a type that was written.
+fn put_type(out: &mut String, span: &Option<Range<usize>>, ty: &str) -> Result<(), AllocError>
+    ensures { OnOk result (string_bytes out.new ≡ string_bytes out.old ++
+        type_entry (option_map pair span.now) (chars ty.now)) }
 {
-    out.push_str("\"")?;
-    put_characters(out, text)?;
-    out.push_str("\"")?;
+    if span.is_none() && ty.is_empty() {
+        return Ok(());
+    }
+    out.push_str(" ty=")?;
+    put_quoted(out, ty)?;
     Ok(())
 }
 
-/// Adds each character of a text as it is written.
-fn put_characters(out: &mut String, text: &str) -> Result<(), AllocError>
+/// Adds counts and type.
+#[tactic(auto, unfolding(crate::specs::Listing::value_entries))]
+fn put_values(out: &mut String, spec: &FormatSpec<'_>) -> Result<(), AllocError>
     ensures { OnOk result (string_bytes out.new ≡ string_bytes out.old ++
-        flat_map written (chars text.now)) }
+        value_entries (seen_spec spec.now)) }
 {
-    for c in text.chars() {
-        put_written(out, c)?;
+    put_width(out, &spec.width)?;
+    put_precision(out, &spec.precision_span, &spec.precision)?;
+    put_hex(out, spec.debug_hex)?;
+    put_type(out, &spec.ty_span, spec.ty)?;
+    Ok(())
+}
+
+/// Adds the line of a placeholder.
+fn put_argument(out: &mut String, argument: &Argument<'_>) -> Result<(), AllocError>
+    ensures { OnOk result (string_bytes out.new ≡ string_bytes out.old ++
+        (codes "arg " ++ (position_text (seen_position argument.now.position)
+        ++ (flag_entries (seen_spec argument.now.format)
+        ++ (value_entries (seen_spec argument.now.format) ++ codes "\n"))))) }
+{
+    out.push_str("arg ")?;
+    put_position(out, &argument.position)?;
+    put_flags(out, &argument.format)?;
+    put_values(out, &argument.format)?;
+    out.push_str("\n")?;
+    Ok(())
+}
+
+/// Adds the line of a piece.
+fn put_piece(out: &mut String, piece: &Piece<'_>) -> Result<(), AllocError>
+    ensures { OnOk result (string_bytes out.new ≡ string_bytes out.old ++ line (seen piece.now)) }
+{
+    match piece {
+        Piece::Lit(text) => put_literal(out, text)?,
+        Piece::NextArgument(argument) => put_argument(out, argument)?,
     }
     Ok(())
+}
+
+/// The listing of pieces: a line for each.
+pub fn listing(alloc: Global, pieces: &[Piece<'_>]) -> Result<String, AllocError>
+    ensures lines { IfOk result (λ text. string_bytes text ≡ listing (map seen pieces.now)) }
+    ensures empty { pieces.now ≡ [] → IsOk result }
+{
+    let mut out = String::new(alloc);
+    for piece in pieces {
+        put_piece(&mut out, piece)?;
+    }
+    Ok(out)
 }

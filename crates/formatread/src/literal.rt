@@ -9,6 +9,17 @@ use rustc_parse_format::literal::{between_quotes, read_content};
 use std::alloc::{AllocError, Global};
 use std::ops::Range;
 
+/// What is in front of this character at the end of a text, or `None` where it is not there.
+fn in_front_of(text: &str, c: char) -> Option<&str>
+    requires { c < 128 }
+    ensures front { MatchOption result
+        ((t : Text) → t ++ c ∷ [] ≡ chars text.now → ⊥)
+        (λ t. chars t.now ++ c ∷ [] ≡ chars text.now) }
+    ensures shorter { IfSome result (λ t. length t.now + 1 ≡ length text.now) }
+{
+    text.strip_suffix(c)
+}
+
 /// A text without the newline at its end, if it has one there.
 pub fn without_newline(text: &str) -> &str
     ensures cut { (b : Bool) × (chars result.now ++ newline b ≡ chars text.now) }
@@ -23,72 +34,15 @@ pub fn without_newline(text: &str) -> &str
     }
 }
 
-/// What a literal stands for, and its style, or `None` if the text is no literal.
-pub fn literal_text(
-    alloc: Global,
-    literal: &str,
-) -> Result<Option<(String, Option<usize>)>, AllocError>
-    ensures found { IfOk result (λ o. MatchOption o
-        ((style : Option ℕ) (t : Text) → IsLiteral style (chars literal.now) t → ⊥)
-        (λ x. IsLiteral x.1 (chars literal.now) (chars (string_bytes x.0)))) }
-    ensures few { IfOk result (λ o. IfSome o (λ x. hashes x.1 ≤ length literal.now)) }
-    ensures empty { literal.now ≡ [] → IsOk result }
+/// What is after this character at the front of a text, or `None` where it is not there.
+fn behind(text: &str, c: char) -> Option<&str>
+    requires { c < 128 }
+    ensures rest { MatchOption result
+        ((t : Text) → chars text.now ≡ c ∷ t → ⊥)
+        (λ t. chars text.now ≡ c ∷ chars t.now) }
+    ensures shorter { IfSome result (λ t. length t.now + 1 ≡ length text.now) }
 {
-    if let Some((hashes, text)) = raw_text(literal) {
-        return Ok(Some((String::from_str(alloc, text)?, Some(hashes))));
-    }
-    match ordinary_text(alloc, literal)? {
-        Some(text) => Ok(Some((text, None))),
-        None => Ok(None),
-    }
-}
-
-/// What an ordinary literal stands for, or `None` if the text is none.
-fn ordinary_text(alloc: Global, literal: &str) -> Result<Option<String>, AllocError>
-    ensures found { IfOk result (λ o. MatchOption o
-        ((t : Text) → IsOrdinaryLiteral (chars literal.now) t → ⊥)
-        (λ s. IsOrdinaryLiteral (chars literal.now) (chars (string_bytes s)))) }
-    ensures empty { literal.now ≡ [] → IsOk result }
-{
-    let Some(content) = between_quotes(literal) else {
-        return Ok(None);
-    };
-    match read_content(alloc, content)? {
-        Some(characters) => Ok(Some(joined(alloc, characters.as_slice())?)),
-        None => Ok(None),
-    }
-}
-
-/// The text of characters with places.
-fn joined(alloc: Global, characters: &[(Range<usize>, char)]) -> Result<String, AllocError>
-    ensures { IfOk result (λ s. chars (string_bytes s) ≡ map (λ x. x.1) characters.now) }
-{
-    let mut text = String::new(alloc);
-    for (_, c) in characters {
-        put(&mut text, *c)?;
-    }
-    Ok(text)
-}
-
-/// Adds a character.
-fn put(text: &mut String, c: char) -> Result<(), AllocError>
-    ensures { OnOk result (chars (string_bytes text.new) ≡ chars (string_bytes text.old) ++ c ∷ []) }
-{
-    text.push(c)?;
-    Ok(())
-}
-
-/// The hashes of a raw literal and its text, or `None` if it is none.
-fn raw_text(literal: &str) -> Option<(usize, &str)>
-    ensures text { MatchOption result
-        ((n : ℕ) (t : Text) → chars literal.now ≡ raw_frame n t → ⊥)
-        (λ x. chars literal.now ≡ raw_frame x.0 (chars x.1.now)) }
-    ensures few { IfSome result (λ x. x.0 ≤ length literal.now) }
-{
-    let (hashes, rest) = behind_hashes(behind(literal, 'r')?);
-    let rest = behind(rest, '"')?;
-    let text = in_front_of(in_front_of_hashes(rest, hashes)?, '"')?;
-    Some((hashes, text))
+    text.strip_prefix(c)
 }
 
 /// How many hashes a text begins with, and what is after them.
@@ -122,24 +76,70 @@ fn in_front_of_hashes(text: &str, count: usize) -> Option<&str>
     Some(rest)
 }
 
-/// What is after this character at the front of a text, or `None` where it is not there.
-fn behind(text: &str, c: char) -> Option<&str>
-    requires { c < 128 }
-    ensures rest { MatchOption result
-        ((t : Text) → chars text.now ≡ c ∷ t → ⊥)
-        (λ t. chars text.now ≡ c ∷ chars t.now) }
-    ensures shorter { IfSome result (λ t. length t.now + 1 ≡ length text.now) }
+/// The hashes of a raw literal and its text, or `None` if it is none.
+fn raw_text(literal: &str) -> Option<(usize, &str)>
+    ensures text { MatchOption result
+        ((n : ℕ) (t : Text) → chars literal.now ≡ raw_frame n t → ⊥)
+        (λ x. chars literal.now ≡ raw_frame x.0 (chars x.1.now)) }
+    ensures few { IfSome result (λ x. x.0 ≤ length literal.now) }
 {
-    text.strip_prefix(c)
+    let (hashes, rest) = behind_hashes(behind(literal, 'r')?);
+    let rest = behind(rest, '"')?;
+    let text = in_front_of(in_front_of_hashes(rest, hashes)?, '"')?;
+    Some((hashes, text))
 }
 
-/// What is in front of this character at the end of a text, or `None` where it is not there.
-fn in_front_of(text: &str, c: char) -> Option<&str>
-    requires { c < 128 }
-    ensures front { MatchOption result
-        ((t : Text) → t ++ c ∷ [] ≡ chars text.now → ⊥)
-        (λ t. chars t.now ++ c ∷ [] ≡ chars text.now) }
-    ensures shorter { IfSome result (λ t. length t.now + 1 ≡ length text.now) }
+/// Adds a character.
+fn put(text: &mut String, c: char) -> Result<(), AllocError>
+    ensures { OnOk result (chars (string_bytes text.new) ≡ chars (string_bytes text.old) ++ c ∷ []) }
 {
-    text.strip_suffix(c)
+    text.push(c)?;
+    Ok(())
+}
+
+/// The text of characters with places.
+fn joined(alloc: Global, characters: &[(Range<usize>, char)]) -> Result<String, AllocError>
+    ensures { IfOk result (λ s. chars (string_bytes s) ≡ map (λ x. x.1) characters.now) }
+{
+    let mut text = String::new(alloc);
+    for (_, c) in characters {
+        put(&mut text, *c)?;
+    }
+    Ok(text)
+}
+
+/// What an ordinary literal stands for, or `None` if the text is none.
+fn ordinary_text(alloc: Global, literal: &str) -> Result<Option<String>, AllocError>
+    ensures found { IfOk result (λ o. MatchOption o
+        ((t : Text) → IsOrdinaryLiteral (chars literal.now) t → ⊥)
+        (λ s. IsOrdinaryLiteral (chars literal.now) (chars (string_bytes s)))) }
+    ensures empty { literal.now ≡ [] → IsOk result }
+{
+    let Some(content) = between_quotes(literal) else {
+        return Ok(None);
+    };
+    match read_content(alloc, content)? {
+        Some(characters) => Ok(Some(joined(alloc, characters.as_slice())?)),
+        None => Ok(None),
+    }
+}
+
+/// What a literal stands for, and its style, or `None` if the text is no literal.
+pub fn literal_text(
+    alloc: Global,
+    literal: &str,
+) -> Result<Option<(String, Option<usize>)>, AllocError>
+    ensures found { IfOk result (λ o. MatchOption o
+        ((style : Option ℕ) (t : Text) → IsLiteral style (chars literal.now) t → ⊥)
+        (λ x. IsLiteral x.1 (chars literal.now) (chars (string_bytes x.0)))) }
+    ensures few { IfOk result (λ o. IfSome o (λ x. hashes x.1 ≤ length literal.now)) }
+    ensures empty { literal.now ≡ [] → IsOk result }
+{
+    if let Some((hashes, text)) = raw_text(literal) {
+        return Ok(Some((String::from_str(alloc, text)?, Some(hashes))));
+    }
+    match ordinary_text(alloc, literal)? {
+        Some(text) => Ok(Some((text, None))),
+        None => Ok(None),
+    }
 }

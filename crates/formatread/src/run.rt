@@ -18,69 +18,12 @@ const LIMIT: usize = 1_048_576;
 /// How many bytes are asked for at once.
 const CHUNK: usize = 4096;
 
-/// Lists the pieces of all that the reader holds, as the words ask, and answers whether a fault
-/// was found.
-///
-/// A read or a write that fails is not tried again.
-pub fn run<R: Read, W: Write>(
-    alloc: Global,
-    reader: &mut R,
-    writer: &mut W,
-    words: &[String],
-) -> Result<bool, RunFault>
-    // The listing is what is owed, and so is the answer.
-    ensures listing { IfOk result (λ faulty. IfSome (R.remaining reader.old) (λ input. (text : List ℕ)
-        × IsOwed (map string_bytes words.now) input (Ok (text, faulty))
-        × Appends (W.contents writer.old) (W.contents writer.new) text)) }
-    // A call owes one answer.
-    ensures one_answer { (ws : List (List ℕ)) (input : List ℕ) (x y : Answer) → IsOwed ws input x → IsOwed ws input y → x ≡ y }
-    ensures words { IsErrOf result Words ↔ (asked (map string_bytes words.now) ≡ None) }
-    // Bad words are told before anything is read.
-    ensures unread { IsErrOf result Words → reader.new ≡ reader.old }
-    ensures too_long { IsErrOf result TooLong → IfSome (R.remaining reader.old)
-        (λ input. IsOwed (map string_bytes words.now) input (Err TooLong)) }
-    ensures not_text { IsErrOf result NotText → IfSome (R.remaining reader.old)
-        (λ input. IsOwed (map string_bytes words.now) input (Err NotText)) }
-    ensures not_literal { IsErrOf result NotLiteral → IfSome (R.remaining reader.old)
-        (λ input. IsOwed (map string_bytes words.now) input (Err NotLiteral)) }
-    // With nothing to read nothing is written, and the answer is known but for a read that fails.
-    ensures empty { (mode : Mode) (literal : Bool) → asked (map string_bytes words.now) ≡ Some (record { mode = mode; is_literal = literal })
-        → R.remaining reader.old ≡ Some [] → (writer.new ≡ writer.old) × ((result ≡ empty_answer literal) ⊎ (result ≡ Err ReadFault)) }
-    // Nothing is written before all is ready.
-    ensures unwritten { IfErr result (λ fault. fault ≢ WriteFault → writer.new ≡ writer.old) }
-{
-    let task = match asked(words) {
-        Some(task) => task,
-        None => return Err(RunFault::Words),
-    };
-    let input = read_input(alloc, reader)?;
-    let Ok(text) = str::from_utf8(input.as_slice()) else {
-        return Err(RunFault::NotText);
-    };
-    let (lines, faulty) = list_input(alloc, text, task.mode, task.is_literal)?;
-    write_whole(writer, lines.as_bytes())?;
-    Ok(faulty)
-}
-
 /// What the words ask for.
 #[derive(Copy, Clone, Debug, Eq, PartialEq)]
 struct Task {
     mode: ParseMode,
     /// The input is a string literal.
     is_literal: bool,
-}
-
-/// What the words ask for.
-fn asked(words: &[String]) -> Option<Task>
-    ensures { option_map seen_task result ≡ asked (map string_bytes words.now) }
-{
-    let (word, is_literal) = match words {
-        [word] => (word.as_str(), false),
-        [word, option] if option.as_str() == "--literal" => (word.as_str(), true),
-        _ => return None,
-    };
-    let mode = mode_named(word)?;
-    Some(Task { mode, is_literal })
 }
 
 /// The mode that a word names.
@@ -96,6 +39,19 @@ fn mode_named(word: &str) -> Option<ParseMode>
     } else {
         None
     }
+}
+
+/// What the words ask for.
+fn asked(words: &[String]) -> Option<Task>
+    ensures { option_map seen_task result ≡ asked (map string_bytes words.now) }
+{
+    let (word, is_literal) = match words {
+        [word] => (word.as_str(), false),
+        [word, option] if option.as_str() == "--literal" => (word.as_str(), true),
+        _ => return None,
+    };
+    let mode = mode_named(word)?;
+    Some(Task { mode, is_literal })
 }
 
 /// All bytes that the reader holds up to its end.
@@ -141,4 +97,48 @@ fn write_whole<W: Write>(writer: &mut W, bytes: &[u8]) -> Result<(), RunFault>
         }
     }
     Ok(())
+}
+
+/// Lists the pieces of all that the reader holds, as the words ask, and answers whether a fault
+/// was found.
+///
+/// A read or a write that fails is not tried again.
+pub fn run<R: Read, W: Write>(
+    alloc: Global,
+    reader: &mut R,
+    writer: &mut W,
+    words: &[String],
+) -> Result<bool, RunFault>
+    // The listing is what is owed, and so is the answer.
+    ensures listing { IfOk result (λ faulty. IfSome (R.remaining reader.old) (λ input. (text : List ℕ)
+        × IsOwed (map string_bytes words.now) input (Ok (text, faulty))
+        × Appends (W.contents writer.old) (W.contents writer.new) text)) }
+    // A call owes one answer.
+    ensures one_answer { (ws : List (List ℕ)) (input : List ℕ) (x y : Answer) → IsOwed ws input x → IsOwed ws input y → x ≡ y }
+    ensures words { IsErrOf result Words ↔ (asked (map string_bytes words.now) ≡ None) }
+    // Bad words are told before anything is read.
+    ensures unread { IsErrOf result Words → reader.new ≡ reader.old }
+    ensures too_long { IsErrOf result TooLong → IfSome (R.remaining reader.old)
+        (λ input. IsOwed (map string_bytes words.now) input (Err TooLong)) }
+    ensures not_text { IsErrOf result NotText → IfSome (R.remaining reader.old)
+        (λ input. IsOwed (map string_bytes words.now) input (Err NotText)) }
+    ensures not_literal { IsErrOf result NotLiteral → IfSome (R.remaining reader.old)
+        (λ input. IsOwed (map string_bytes words.now) input (Err NotLiteral)) }
+    // With nothing to read nothing is written, and the answer is known but for a read that fails.
+    ensures empty { (mode : Mode) (literal : Bool) → asked (map string_bytes words.now) ≡ Some (record { mode = mode; is_literal = literal })
+        → R.remaining reader.old ≡ Some [] → (writer.new ≡ writer.old) × ((result ≡ empty_answer literal) ⊎ (result ≡ Err ReadFault)) }
+    // Nothing is written before all is ready.
+    ensures unwritten { IfErr result (λ fault. fault ≢ WriteFault → writer.new ≡ writer.old) }
+{
+    let task = match asked(words) {
+        Some(task) => task,
+        None => return Err(RunFault::Words),
+    };
+    let input = read_input(alloc, reader)?;
+    let Ok(text) = str::from_utf8(input.as_slice()) else {
+        return Err(RunFault::NotText);
+    };
+    let (lines, faulty) = list_input(alloc, text, task.mode, task.is_literal)?;
+    write_whole(writer, lines.as_bytes())?;
+    Ok(faulty)
 }

@@ -5,18 +5,6 @@ ghost use Rattle.rustc_parse_format.specs.Written.{plainly_written, short_escape
 
 use std::alloc::AllocError;
 
-/// Adds a character as it is written. Out of memory, a part of it may stand.
-#[tactic(auto, unfolding(crate::specs::Written::written))]
-pub fn put_written(out: &mut String, c: char) -> Result<(), AllocError>
-    ensures { OnOk result (string_bytes out.new ≡ string_bytes out.old ++ written c) }
-{
-    match short_escape(c) {
-        Some(escape) => out.push_str(escape)?,
-        None => put_plain(out, c)?,
-    }
-    Ok(())
-}
-
 /// The escape of a character that has one of its own.
 fn short_escape(c: char) -> Option<&'static str>
     ensures { option_map (λ s. s.now) result ≡ short_escape c }
@@ -42,6 +30,18 @@ fn put_plain(out: &mut String, c: char) -> Result<(), AllocError>
         write!(out, "\\u{{{code:x}}}")?;
     } else {
         out.push(c)?;
+    }
+    Ok(())
+}
+
+/// Adds a character as it is written. Out of memory, a part of it may stand.
+#[tactic(auto, unfolding(crate::specs::Written::written))]
+pub fn put_written(out: &mut String, c: char) -> Result<(), AllocError>
+    ensures { OnOk result (string_bytes out.new ≡ string_bytes out.old ++ written c) }
+{
+    match short_escape(c) {
+        Some(escape) => out.push_str(escape)?,
+        None => put_plain(out, c)?,
     }
     Ok(())
 }
