@@ -5,6 +5,7 @@ use super::run::run;
 use super::verdict::{RunFault, verdict};
 use fakes::{Endless, Faltering, Sheet, Stuck, Stumbling};
 use std::alloc::{AllocError, Global};
+use std::process::Abort;
 use std::test::Fail;
 
 /// An input of text, an argument with a name and one without.
@@ -28,6 +29,23 @@ fn words(alloc: Global, list: &[&str]) -> Result<Vec<String>, AllocError> {
 /// So many copies of a byte.
 fn repeated(alloc: Global, byte: u8, count: usize) -> Result<Vec<u8>, AllocError> {
     vec![in alloc; byte; count]
+}
+
+/// Each of these inputs is refused, and then nothing is written.
+fn check_refusals(
+    rt: &impl Abort,
+    alloc: Global,
+    words: &[String],
+    rows: &[(&[u8], RunFault)],
+) -> Result<(), Fail> {
+    for (input, fault) in rows {
+        let mut reader = *input;
+        let mut written = Vec::new(alloc);
+        let answer = run(alloc, &mut reader, &mut written, words);
+        assert_eq!(rt; answer, Err(*fault));
+        assert!(rt; written.is_empty());
+    }
+    Ok(())
 }
 
 #[test]
@@ -124,14 +142,7 @@ fn refuses_what_is_no_literal(rt: HostRuntime) -> Result<(), Fail> {
         (b"b\"a\"", RunFault::NotLiteral),
         (b"\xFF", RunFault::NotText),
     ];
-    for (input, fault) in rows {
-        let mut reader = input;
-        let mut written = Vec::new(rt.alloc());
-        let answer = run(rt.alloc(), &mut reader, &mut written, words.as_slice());
-        assert_eq!(rt; answer, Err(fault));
-        assert!(rt; written.is_empty());
-    }
-    Ok(())
+    check_refusals(&rt, rt.alloc(), words.as_slice(), &rows)
 }
 
 #[test]
@@ -157,14 +168,7 @@ fn refuses_what_is_too_long_or_no_text(rt: HostRuntime) -> Result<(), Fail> {
         (long.as_slice(), RunFault::TooLong),
         (b"\xFF", RunFault::NotText),
     ];
-    for (input, fault) in rows {
-        let mut reader = input;
-        let mut written = Vec::new(rt.alloc());
-        let answer = run(rt.alloc(), &mut reader, &mut written, words.as_slice());
-        assert_eq!(rt; answer, Err(fault));
-        assert!(rt; written.is_empty());
-    }
-    Ok(())
+    check_refusals(&rt, rt.alloc(), words.as_slice(), &rows)
 }
 
 #[test]

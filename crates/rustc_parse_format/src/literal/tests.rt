@@ -3,33 +3,37 @@
 use super::*;
 use std::test::Fail;
 
+/// What the content stands for, read again where a request for memory was refused.
+fn read_again(
+    rt: &HostRuntime,
+    content: &str,
+) -> Result<Option<Vec<(Range<usize>, char)>>, AllocError> {
+    if let Ok(read) = read_content(rt.alloc(), content) {
+        return Ok(read);
+    }
+    let _ = println!(rt; "refused");
+    read_content(rt.alloc(), content)
+}
+
 /// Passes whether or not a request for memory is refused.
 #[test]
 fn reads_a_content_again_out_of_memory(rt: HostRuntime) -> Result<(), Fail> {
-    let content = "a\\x41\\u{1_F__600_}\\\n b";
+    let read = read_again(&rt, "a\\x41\\u{1_F__600_}\\\n b")?;
+    let found = read.unwrap_or(Vec::new(rt.alloc()));
     let wanted = [
         (0..1, 'a'),
         (1..5, 'A'),
         (5..18, '\u{1F600}'),
         (21..22, 'b'),
     ];
-    let read = match read_content(rt.alloc(), content) {
-        Ok(read) => read,
-        Err(AllocError) => {
-            println!(rt; "refused")?;
-            read_content(rt.alloc(), content)?
-        }
-    };
-    match read {
-        None => assert!(rt; false, "a content"),
-        Some(found) => {
-            assert_eq!(rt; found.len(), wanted.len());
-            for ((place, c), (wanted_place, wanted_c)) in found.iter().zip(wanted.iter()) {
-                assert_eq!(rt; *place, *wanted_place);
-                assert_eq!(rt; *c, *wanted_c);
-            }
-        }
+    assert_eq!(rt; found.len(), wanted.len());
+    for ((place, c), (wanted_place, wanted_c)) in found.iter().zip(wanted.iter()) {
+        assert_eq!(rt; *place, *wanted_place);
+        assert_eq!(rt; *c, *wanted_c);
     }
+    // So many that the list of characters has to grow.
+    let read = read_again(&rt, "0123456789abcdef\\n0123456789abcdef\\n")?;
+    assert_eq!(rt; read.map(|found| found.len()), Some(34));
     Ok(())
 }
 
