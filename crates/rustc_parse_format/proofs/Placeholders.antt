@@ -67,6 +67,9 @@ map-else : {A B : Type 0} (g : A → B) (b : Bool) (x : A) → map g (if b then 
 map-else g true x = refl
 map-else g false x = refl
 
+pub pair_same : {A B : Type 0} {a b : A} {c d : B} → a ≡ b → c ≡ d → ◌≡◌ {A = A × B} (a, c) (b, d)
+pair_same e f = cc
+
 -- what a reader stands at after the closing brace, or where its fault is noted
 abbrev pub behind_closing : Option Place → Place → Midway → Midway
 behind_closing fill opening s = record s {

@@ -10,8 +10,7 @@ use Rattle.rustc_parse_format.specs.Seen.{pair, seen_argument, seen_mode, seen_s
 use Rattle.rustc_parse_format.specs.SeenFaults.{seen_fault}
 use Rattle.rustc_parse_format.specs.State.{Midway, Unread}
 use Rattle.rustc_parse_format.specs.World.{Place, place_of}
-use Rattle.rustc_parse_format.proofs.Arguments.{pair_same}
-use Rattle.rustc_parse_format.proofs.Placeholders.{behind_closing, ending, placeholder-piece, placeholder_read, unclosed_fault_in}
+use Rattle.rustc_parse_format.proofs.Placeholders.{behind_closing, ending, pair_same, placeholder-piece, placeholder_read, unclosed_fault_in}
 use Rattle.rustc_parse_format.proofs.Readers.{midway}
 use Rattle.rustc_parse_format.proofs.call.read_placeholder.Goals as goal
 
