@@ -19,3 +19,8 @@ read_nothing s r fs e f = rw (e, f) (ap (λ (gs : List (Fault Place)). record s 
 pub read_on : (s : Midway) (r q : Text) (n m : ℕ) (fs gs : List (Fault Span)) → read_to (read_to s r n fs) q m gs ≡ read_to s q m (fs ++ gs)
 read_on s r q n m fs gs = ap (λ (hs : List (Fault Place)). record s { rest = q; next = m; faults = hs })
     (append_assoc s.faults (faults_in s.world fs) (faults_in s.world gs) ∙ ap (λ hs. s.faults ++ hs) (sym (map-append (map_fault (place_of s.world)) fs gs)))
+
+-- three parts
+pub read_three : (s : Midway) (r q o : Text) (n m k : ℕ) (fs gs hs : List (Fault Span)) →
+    read_to (read_to (read_to s r n fs) q m gs) o k hs ≡ read_to s o k (fs ++ gs ++ hs)
+read_three s r q o n m k fs gs hs = ap (λ (x : Midway). read_to x o k hs) (read_on s r q n m fs gs) ∙ read_on s q o m k (fs ++ gs) hs

@@ -189,7 +189,7 @@ fn type_part<'input, L: Ledger>(
 }
 
 /// Reads the format specification at the front.
-#[tactic(auto, using(crate::proofs::Steps::part_le), unfolding(crate::specs::Specification::format_parts, crate::specs::Meaning::format_of, crate::specs::PartFaults::format_faults))]
+#[tactic(auto, using(crate::proofs::Steps::part_le), unfolding(crate::specs::Specification::format_parts, crate::specs::Meaning::format_of))]
 fn format_parts<'input, L: Ledger>(
     reader: &mut Reader<'input>,
     trail: &mut Trail<'input, L>,

@@ -1,56 +1,42 @@
-use Rattle.std.proofs.Common.{◌++◌, ap, map, refl, ◌∙◌, append_assoc}
-use Rattle.std.specs.Prelude.{option_map}
+use Rattle.std.proofs.Common.{map, refl, ◌∙◌}
 use Rattle.rustc_parse_format.specs.Counts.{precision, width}
-use Rattle.rustc_parse_format.specs.Values.{is_padded, debug_hex_of, type_of}
-use Rattle.rustc_parse_format.specs.Meaning.{width_of, width_span, format_of, precision_of, precision_span, type_span}
-use Rattle.rustc_parse_format.specs.PartFaults.{format_faults}
-use Rattle.rustc_parse_format.specs.Pieces.{map_count}
+use Rattle.rustc_parse_format.specs.Values.{behind_precision}
+use Rattle.rustc_parse_format.specs.Meaning.{format_of}
+use Rattle.rustc_parse_format.specs.PartFaults.{precision_faults, type_faults, width_faults}
 use Rattle.rustc_parse_format.specs.SeenFaults.{seen_fault}
-use Rattle.rustc_parse_format.specs.Specification.{align, alternate, format_parts, precision_at, sign, type, type_at, width_at}
-use Rattle.rustc_parse_format.specs.State.{Midway, Unread}
-use Rattle.rustc_parse_format.specs.World.{place_of}
-use Rattle.rustc_parse_format.proofs.FormatParts.{behind_parts, same_spec}
-use Rattle.rustc_parse_format.proofs.PartPlaces.{from_precision-at, from_type-at, from_width-at, format_faults-at, in_front}
-use Rattle.rustc_parse_format.proofs.Readers.{read_on}
+use Rattle.rustc_parse_format.specs.Specification.{format_parts, precision_at, type, type_at, width_at}
+use Rattle.rustc_parse_format.proofs.PartPlaces.{from_precision-at, from_type-at, from_width-at, format_faults-at}
+use Rattle.rustc_parse_format.proofs.Readers.{midway, read_three}
 use Rattle.rustc_parse_format.proofs.format_spec.format_parts.Goals as goal
 
 pub returns-clause-value : goal.returns-clause-value
 unfolding format_parts format_of
 returns-clause-value g c =
-    let u = c.reader.inside.cursor in
-    let t = u.rest in
-    let n = c.reader.inside.curarg in
-    let at = behind_parts u c.fill-fill.new.cursor c.alignment-align.new.cursor c.sign-sign.new.cursor c.alternate-alternate.new.cursor n (map seen_fault c.reader.inside.found.items)
-    c.width.new.reader c.precision.new.reader c.type_part.new.reader c.fill-fill.ensures.rest c.alignment-align.ensures.rest c.sign-sign.ensures.rest c.alternate-alternate.ensures.rest
-    c.in_ok-width.ensures.state c.in_ok-precision.ensures.state c.in_ok-type_part.ensures.state in
-    let wide = width (width_at t) in
-    let precise = precision (precision_at t) in
-    let typed = type (type_at t) in
-    rw (← c.reader.view_is) (same_spec
-    c.fill-fill.ensures.value
-    c.fill-fill.ensures.span
-    (c.alignment-align.ensures.value ∙ ap (λ (x : Unread). (align x.rest).0) at.at_align)
-    (c.sign-sign.ensures.value ∙ ap (λ (x : Unread). (sign x.rest).0) at.at_sign)
-    (c.alternate-alternate.ensures.value ∙ ap (λ (x : Unread). (alternate x.rest).0) at.at_alternate)
-    (c.in_ok-width.ensures.zero_pad ∙ ap (λ (s : Midway). is_padded (width s.rest).0) at.at_width)
-    (c.in_ok-type_part.ensures.debug_hex ∙ ap (λ (s : Midway). debug_hex_of (type s.rest).0) at.at_type)
-    (c.in_ok-width.ensures.count ∙ (ap (λ (s : Midway). map_count (place_of s.world) (width_of s.rest (width s.rest).0 (width s.rest).1)) at.at_width
-    ∙ in_front (λ x y. map_count (place_of u.world) (width_of x wide.0 y)) (from_width-at t) (from_precision-at t)))
-    (c.in_ok-width.ensures.span ∙ (ap (λ (s : Midway). option_map (place_of s.world) (width_span s.rest (width s.rest).0 (width s.rest).1)) at.at_width
-    ∙ in_front (λ x y. option_map (place_of u.world) (width_span x wide.0 y)) (from_width-at t) (from_precision-at t)))
-    (c.in_ok-precision.ensures.value ∙ (ap (λ (s : Midway). map_count (place_of s.world) (precision_of s.next s.rest (precision s.rest).0 (precision s.rest).1)) at.at_precision
-    ∙ in_front (λ x y. map_count (place_of u.world) (precision_of n x precise.0 y)) (from_precision-at t) (from_type-at t)))
-    (c.in_ok-precision.ensures.span ∙ (ap (λ (s : Midway). option_map (place_of s.world) (precision_span s.rest (precision s.rest).0 (precision s.rest).1)) at.at_precision
-    ∙ in_front (λ x y. option_map (place_of u.world) (precision_span x precise.0 y)) (from_precision-at t) (from_type-at t)))
-    (c.in_ok-type_part.ensures.ty ∙ ap (λ (s : Midway). type_of (type s.rest).0) at.at_type)
-    (c.in_ok-type_part.ensures.span ∙ (ap (λ (s : Midway). option_map (place_of s.world) (type_span s.rest (type s.rest).0 (type s.rest).1)) at.at_type
-    ∙ in_front (λ x y. option_map (place_of u.world) (type_span x typed.0 y)) (from_type-at t) refl)))
+    let t = c.reader.inside.cursor.rest in
+    let a = c.fill-fill.ensures in
+    let b = rw a.rest at c.alignment-align.ensures in
+    let h = rw b.rest at c.sign-sign.ensures in
+    let k = rw h.rest at c.alternate-alternate.ensures in
+    let w = rw k.rest at c.in_ok-width.ensures in
+    let p = rw w.state at c.in_ok-precision.ensures in
+    let y = rw p.state at c.in_ok-type_part.ensures in
+    rw (← c.reader.view_is, from_width-at t, from_precision-at t, from_type-at t)
+    (rw (a.value, a.span, b.value, h.value, k.value, w.zero_pad, w.count, w.span, p.value, p.span, y.ty, y.debug_hex, y.span) refl)
 
 pub returns-clause-state : goal.returns-clause-state
 unfolding format_parts
 returns-clause-state g c =
-    let at = behind_parts c.reader.inside.cursor c.fill-fill.new.cursor c.alignment-align.new.cursor c.sign-sign.new.cursor c.alternate-alternate.new.cursor
-    c.reader.inside.curarg (map seen_fault c.reader.inside.found.items) c.width.new.reader c.precision.new.reader c.type_part.new.reader
-    c.fill-fill.ensures.rest c.alignment-align.ensures.rest c.sign-sign.ensures.rest c.alternate-alternate.ensures.rest
-    c.in_ok-width.ensures.state c.in_ok-precision.ensures.state c.in_ok-type_part.ensures.state in
-    rw (← c.reader.view_is, format_faults-at c.reader.inside.cursor.rest) at.at_end
+    let t = c.reader.inside.cursor.rest in
+    let n = c.reader.inside.curarg in
+    let s = midway c.reader.inside.cursor n (map seen_fault c.reader.inside.found.items) in
+    let m = behind_precision n (precision (precision_at t)).0 in
+    let ws = width_faults (width_at t) (width (width_at t)).0 in
+    let ps = precision_faults (precision_at t) (precision (precision_at t)).0 in
+    let ys = type_faults (type_at t) (type (type_at t)).0 in
+    let b = rw c.fill-fill.ensures.rest at c.alignment-align.ensures.rest in
+    let h = rw b at c.sign-sign.ensures.rest in
+    let k = rw h at c.alternate-alternate.ensures.rest in
+    let w = rw k at c.in_ok-width.ensures.state in
+    let p = rw w at c.in_ok-precision.ensures.state in
+    let y = rw p at c.in_ok-type_part.ensures.state in
+    rw (← c.reader.view_is, format_faults-at t) (y ∙ read_three s (precision_at t) (type_at t) (type (type_at t)).1 n m m ws ps ys)
