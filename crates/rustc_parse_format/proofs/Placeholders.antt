@@ -48,11 +48,11 @@ map-if : {A B : Type 0} (g : A → B) (b : Bool) (s : Option A) → option_map g
 map-if g true s = refl
 map-if g false s = refl
 
-pub brace_fill-map : {A B : Type 0} (g : A → B) (c : Option ℕ) (s : Option A) → option_map g (brace_fill c s) ≡ brace_fill c (option_map g s)
+brace_fill-map : {A B : Type 0} (g : A → B) (c : Option ℕ) (s : Option A) → option_map g (brace_fill c s) ≡ brace_fill c (option_map g s)
 brace_fill-map g None s = refl
 brace_fill-map g (Some c) s = map-if g (c == 125) s
 
-pub no_brace-map : {A B : Type 0} (g : A → B) (s : Option A) (found : Option ℕ) (a o : A) → map_fault g (no_brace s found a o) ≡ no_brace (option_map g s) found (g a) (g o)
+no_brace-map : {A B : Type 0} (g : A → B) (s : Option A) (found : Option ℕ) (a o : A) → map_fault g (no_brace s found a o) ≡ no_brace (option_map g s) found (g a) (g o)
 no_brace-map g None found a o = refl
 no_brace-map g (Some s) found a o = refl
 
@@ -63,7 +63,7 @@ unclosed_fault_in w o f r seen e =
     rw e (no_brace-map (place_of w) (brace_fill f.fill f.fill_span) (first r) (up_to r r) (over_first o) ∙
     ap (λ s. no_brace s (first r) (place_of w (up_to r r)) (place_of w (over_first o))) (brace_fill-map (place_of w) f.fill f.fill_span))
 
-pub map-else : {A B : Type 0} (g : A → B) (b : Bool) (x : A) → map g (if b then [] else x ∷ []) ≡ (if b then [] else g x ∷ [])
+map-else : {A B : Type 0} (g : A → B) (b : Bool) (x : A) → map g (if b then [] else x ∷ []) ≡ (if b then [] else g x ∷ [])
 map-else g true x = refl
 map-else g false x = refl
 
@@ -87,7 +87,7 @@ placeholder_read s mode o t fill opening e =
     (ap (λ (fs : List (Fault Place)). record s { rest = behind_brace (ending mode t); next = next_number s.next (cut mode t).field; faults = fs })
     (append_assoc s.faults (faults_in s.world cs) _ ∙ ap (λ fs. s.faults ++ fs) (sym (map-append (map_fault (place_of s.world)) cs _ ∙ ap (λ fs. faults_in s.world cs ++ fs) (map-else (map_fault (place_of s.world)) (begins_with 125 (ending mode t)) m)))))
 
-pub ruleset placeholders_by_part = (placeholder-piece, placeholder-next, placeholder-rest, placeholder-faults, no_brace-map, brace_fill-map, map-else)
+pub ruleset placeholder_parts = (placeholder-piece, placeholder-next, placeholder-rest, placeholder-faults)
 
 placeholder_boxed : (mode : Mode) (c : ℕ) (o t : Text) → GivesNoArgument (placeholder mode c o t).piece → ⊥
 placeholder_boxed mode c o t k = rw (placeholder-piece mode c o t) at k

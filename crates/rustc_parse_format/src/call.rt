@@ -120,7 +120,7 @@ fn close<'input, L: Ledger>(
 }
 
 /// Reads the placeholder at the front.
-#[tactic(auto, using(crate::proofs::Steps::part_le, crate::proofs::Placeholders::placeholders_by_part))]
+#[tactic(auto, using(crate::proofs::Steps::part_le, crate::proofs::Placeholders::placeholder_parts))]
 fn read_placeholder<'input, L: Ledger>(
     alloc: Global,
     mode: ParseMode,
