@@ -105,7 +105,7 @@ fn close<'input, L: Ledger>(
     ensures state { OnOk result (reader.new ≡ record reader.old {
       rest = behind_brace reader.old.rest;
       faults = reader.old.faults ++ (if begins_with 125 reader.old.rest then [] else no_brace (option_map pair fill)
-        (first reader.old.rest) (place_of reader.old.world (up_to reader.old.rest reader.old.rest)) (pair opening) ∷ []);
+          (first reader.old.rest) (place_of reader.old.world (up_to reader.old.rest reader.old.rest)) (pair opening) ∷ []);
     }) }
     ensures steps { OnOk result (Forward reader.old.rest trail.old reader.new.rest trail.new) }
 {

@@ -131,7 +131,10 @@ pub fn precision<'input, L: Ledger>(
     if spec::is_next(&reader.cursor, '*') {
         let number = reader.take_number();
         reader.cursor.advance(trail);
-        return Ok((Count::CountIsStar(number), Some(start..reader.cursor.start())));
+        return Ok((
+            Count::CountIsStar(number),
+            Some(start..reader.cursor.start()),
+        ));
     }
     let count = spec::count(reader, trail)?;
     Ok((count, Some(start..reader.cursor.start())))

@@ -1,7 +1,6 @@
-use Rattle.std.proofs.Common.{◌≤◌, ap, length, chars, arith, refl, ◌∙◌}
+use Rattle.std.proofs.Common.{◌≤◌, length, chars, arith, refl}
 use Rattle.std.proofs.lemmas.Str.{length-le-encodes, encodes-chars}
 use Rattle.rustc_parse_format.specs.Seen.{seen_snippet}
-use Rattle.rustc_parse_format.specs.State.{Unread, Midway}
 use Rattle.rustc_parse_format.specs.World.{world}
 use Rattle.rustc_parse_format.proofs.Sources.{has_source}
 use Rattle.rustc_parse_format.proofs.parser.Parser.new.Goals as goal

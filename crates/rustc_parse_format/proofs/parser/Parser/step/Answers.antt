@@ -1,6 +1,5 @@
-use Rattle.std.proofs.Common.{ap, arith, refl}
+use Rattle.std.proofs.Common.{arith, refl}
 use Rattle.rustc_parse_format.specs.Seen.{seen_mode}
-use Rattle.rustc_parse_format.specs.State.{Unread}
 use Rattle.rustc_parse_format.proofs.Progress.{call_next-le}
 use Rattle.rustc_parse_format.proofs.parser.Parser.step.Goals as goal
 
