@@ -4,12 +4,8 @@ use Rattle.std.proofs.lemmas.List.{append-nil, map-append}
 use Rattle.rustc_parse_format.specs.Characters.{Text}
 use Rattle.rustc_parse_format.specs.Faults.{Fault, map_fault}
 use Rattle.rustc_parse_format.specs.Marks.{Span}
-use Rattle.rustc_parse_format.specs.State.{Midway, Unread, read_to}
+use Rattle.rustc_parse_format.specs.State.{Midway, read_to}
 use Rattle.rustc_parse_format.specs.World.{Place, faults_in, place_of}
-
--- a reader at the place of a cursor
-abbrev pub midway : Unread → ℕ → List (Fault Place) → Midway
-midway u n fs = record { world = u.world; input = u.input; rest = u.rest; next = n; faults = fs }
 
 -- where nothing is read
 pub read_nothing : (s : Midway) (r : Text) (fs : List (Fault Span)) → r ≡ s.rest → fs ≡ [] → s ≡ read_to s r s.next fs

@@ -22,6 +22,10 @@ pub record Midway : Type 0 where
   pub next : ℕ
   pub faults : List (Fault Place)
 
+-- at the place of a cursor, with this number and these faults
+abbrev pub midway : Unread → ℕ → List (Fault Place) → Midway
+midway u n fs = record { world = u.world; input = u.input; rest = u.rest; next = n; faults = fs }
+
 -- read up to the rest r and the number n, with these faults found on the way
 abbrev pub read_to : Midway → Text → ℕ → List (Fault Span) → Midway
 read_to s r n fs = record s { rest = r; next = n; faults = s.faults ++ faults_in s.world fs }

@@ -1,6 +1,6 @@
-//! One call of the parser, on a cursor of its own: the piece, and the faults as they are found.
+//! One call of the parser, on a reader: the piece, and the faults as they are found.
 
-ghost use Rattle.std.specs.Prelude.{◌≡◌, ◌≢◌, ◌++◌, ◌+◌, ◌<◌, ◌^◌, ◌∷◌, [], Some, IfOk, IsOk, OnOk, chars, if◌then◌else◌, is_some, length, map, option_map, suc, unwrap_or};
+ghost use Rattle.std.specs.Prelude.{◌≡◌, ◌≢◌, ◌++◌, ◌+◌, ◌<◌, ◌^◌, ◌∷◌, [], Some, IfOk, IsOk, OnOk, chars, if◌then◌else◌, is_some, length, option_map, suc, unwrap_or};
 ghost use Rattle.rustc_parse_format.specs.Characters.{behind_brace, behind_first, begins_with, first};
 ghost use Rattle.rustc_parse_format.specs.Faults.{brace_fill, no_brace};
 ghost use Rattle.rustc_parse_format.specs.Marks.{up_to};

@@ -1,6 +1,6 @@
 //! What a colon brings: a format specification, the modifier of inline assembly, or the text of a diagnostic.
 
-ghost use Rattle.std.specs.Prelude.{◌≡◌, ◌++◌, ◌+◌, ◌<◌, ◌^◌, None, Some, IfOk, OnOk, chars, codes, if◌then◌else◌, length, map, option_map};
+ghost use Rattle.std.specs.Prelude.{◌≡◌, ◌+◌, ◌<◌, ◌^◌, None, Some, IfOk, OnOk, chars, codes, if◌then◌else◌, length, option_map};
 ghost use Rattle.rustc_parse_format.specs.Characters.{begins_with, behind, behind_first, behind_word, front, is_no_brace, word};
 ghost use Rattle.rustc_parse_format.specs.Marks.{up_to};
 ghost use Rattle.rustc_parse_format.specs.Values.{behind_precision, behind_spec, debug_hex_of, type_of};

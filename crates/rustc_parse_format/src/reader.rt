@@ -1,4 +1,4 @@
-//! A reader in the middle of a call: a cursor, the number that the next implicit argument takes, and the faults found so far.
+//! What a call reads on: a cursor, the number that the next implicit argument takes, and the faults found so far.
 
 use crate::chars::Cursor;
 use crate::faults::Fault;
@@ -6,7 +6,7 @@ use std::alloc::Global;
 use std::marker::Model;
 use std::mem;
 
-/// What a call reads on.
+/// A parser in the middle of a call.
 #[derive(Drop)]
 pub struct Reader<'input> {
     pub cursor: Cursor<'input>,
@@ -18,27 +18,22 @@ pub struct Reader<'input> {
 
 impl<'input> Model for Reader<'input> {
     ghost use Rattle.std.specs.Prelude.{map};
-    ghost use Rattle.rustc_parse_format.specs.State.{Midway};
+    ghost use Rattle.rustc_parse_format.specs.State.{Midway, midway};
     ghost use Rattle.rustc_parse_format.specs.SeenFaults.{seen_fault};
 
     ghost Value = { Midway };
 
-    ghost view = { λ r. record {
-      world = r.cursor.world;
-      input = r.cursor.input;
-      rest = r.cursor.rest;
-      next = r.curarg;
-      faults = map seen_fault r.found.items;
-    } };
+    ghost view = { λ r. midway r.cursor r.curarg (map seen_fault r.found.items) };
 }
 
 impl<'input> Reader<'input> {
     ghost use Rattle.std.specs.Prelude.{◌≡◌, ◌+◌, ◌<◌, ◌^◌, [], map};
     ghost use Rattle.rustc_parse_format.specs.SeenFaults.{seen_fault};
+    ghost use Rattle.rustc_parse_format.specs.State.{midway};
 
     /// At the place of a cursor, with the number 0 and no faults.
     pub fn new(alloc: Global, cursor: Cursor<'input>) -> Reader<'input>
-        ensures { result ≡ record { world = cursor.entry.world; input = cursor.entry.input; rest = cursor.entry.rest; next = 0; faults = [] } }
+        ensures { result ≡ midway cursor.entry 0 [] }
     {
         Reader {
             cursor,

@@ -1,6 +1,6 @@
 //! The sizes of a format specification: its width and its precision.
 
-ghost use Rattle.std.specs.Prelude.{◌≡◌, ◌++◌, ◌+◌, ◌<◌, ◌^◌, IfOk, OnOk, map, option_map};
+ghost use Rattle.std.specs.Prelude.{◌≡◌, ◌+◌, ◌<◌, ◌^◌, IfOk, OnOk, option_map};
 ghost use Rattle.rustc_parse_format.specs.Counts.{count, precision, width};
 ghost use Rattle.rustc_parse_format.specs.Values.{behind_precision, is_padded};
 ghost use Rattle.rustc_parse_format.specs.Meaning.{count_of, count_span, precision_of, precision_span, width_of, width_span};

@@ -1,6 +1,6 @@
 //! The parts of a placeholder, each read from the front of what is left.
 
-ghost use Rattle.std.specs.Prelude.{◌≡◌, ◌++◌, IfOk, OnOk, chars, if◌then◌else◌, map, option_map};
+ghost use Rattle.std.specs.Prelude.{◌≡◌, IfOk, OnOk, chars, if◌then◌else◌, option_map};
 ghost use Rattle.rustc_parse_format.specs.Characters.{begins_with, behind_digits, behind_first, behind_word, digits, number, word};
 ghost use Rattle.rustc_parse_format.specs.PartFaults.{argument_faults, number_faults, word_faults};
 ghost use Rattle.rustc_parse_format.specs.Placeholder.{position};
@@ -9,7 +9,6 @@ ghost use Rattle.rustc_parse_format.specs.Values.{given_position};
 ghost use Rattle.rustc_parse_format.specs.Meaning.{count_of};
 ghost use Rattle.rustc_parse_format.specs.Pieces.{map_count};
 ghost use Rattle.rustc_parse_format.specs.Seen.{seen_count, seen_position};
-ghost use Rattle.rustc_parse_format.specs.SeenFaults.{seen_fault};
 ghost use Rattle.rustc_parse_format.specs.State.{read_to};
 ghost use Rattle.rustc_parse_format.specs.Steps.{Forward, IsFurthest, Paid};
 ghost use Rattle.rustc_parse_format.specs.World.{place_of};

@@ -5,8 +5,9 @@ use Rattle.rustc_parse_format.specs.Meaning.{format_of}
 use Rattle.rustc_parse_format.specs.PartFaults.{precision_faults, type_faults, width_faults}
 use Rattle.rustc_parse_format.specs.SeenFaults.{seen_fault}
 use Rattle.rustc_parse_format.specs.Specification.{format_parts, precision_at, type, type_at, width_at}
+use Rattle.rustc_parse_format.specs.State.{midway}
 use Rattle.rustc_parse_format.proofs.PartPlaces.{from_precision-at, from_type-at, from_width-at, format_faults-at}
-use Rattle.rustc_parse_format.proofs.Readers.{midway, read_three}
+use Rattle.rustc_parse_format.proofs.Readers.{read_three}
 use Rattle.rustc_parse_format.proofs.format_spec.format_parts.Goals as goal
 
 pub returns-clause-value : goal.returns-clause-value
