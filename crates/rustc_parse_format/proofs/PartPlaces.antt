@@ -26,7 +26,3 @@ pub format_faults-at : (t : Text) → format_faults (format_parts t).0 (format_p
     ≡ width_faults (width_at t) (width (width_at t)).0 ++ precision_faults (precision_at t) (precision (precision_at t)).0 ++ type_faults (type_at t) (type (type_at t)).0
 unfolding format_parts format_faults
 format_faults-at t = rw (from_width-at t, from_precision-at t, from_type-at t) refl
-
--- what is said of where a part is found, said of what is written
-pub in_front : {A : Type 0} {t u r s : Text} (f : Text → Text → A) → u ≡ t → s ≡ r → f t r ≡ f u s
-in_front {t = t} {u = u} {r = r} {s = s} f e h = ap (λ x. f x r) (sym e) ∙ ap (f u) (sym h)

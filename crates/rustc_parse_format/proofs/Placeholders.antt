@@ -12,6 +12,7 @@ use Rattle.rustc_parse_format.specs.Meaning.{argument}
 use Rattle.rustc_parse_format.specs.Faults.{Fault, map_fault, brace_fill, no_brace}
 use Rattle.rustc_parse_format.specs.PartFaults.{cut_faults}
 use Rattle.rustc_parse_format.specs.Step.{Call, GivesNoArgument, IsPlain, call, placeholder, unclosed_fault}
+use Rattle.rustc_parse_format.specs.State.{Midway, read_call, read_to}
 use Rattle.rustc_parse_format.specs.World.{World, Place, place_of, faults_in}
 
 -- what stands where the closing brace should
@@ -66,17 +67,27 @@ map-else : {A B : Type 0} (g : A → B) (b : Bool) (x : A) → map g (if b then 
 map-else g true x = refl
 map-else g false x = refl
 
--- all faults of a placeholder put through a world
-pub placeholder_faults_in : (w : World) (mode : Mode) (c : ℕ) (o t : Text) (old middle new : List (Fault Place)) (f : Fault Place) →
-    middle ≡ old ++ faults_in w (cut_faults (cut mode t)) →
-    f ≡ map_fault (place_of w) (unclosed_fault o (argument c (cut mode t)).format (ending mode t)) →
-    new ≡ middle ++ (if begins_with 125 (ending mode t) then [] else f ∷ []) →
-    new ≡ old ++ faults_in w (placeholder mode c o t).faults
-placeholder_faults_in w mode c o t old middle new f a b d =
-    let m = unclosed_fault o (argument c (cut mode t)).format (ending mode t) in
+-- what a reader stands at after the closing brace, or where its fault is noted
+abbrev pub behind_closing : Option Place → Place → Midway → Midway
+behind_closing fill opening s = record s {
+  rest = behind_brace s.rest;
+  faults = s.faults ++ (if begins_with 125 s.rest then [] else no_brace fill (first s.rest) (place_of s.world (up_to s.rest s.rest)) opening ∷ []);
+}
+
+-- A placeholder is read part by part: its argument, white space, and the closing brace or the fault where none is.
+pub placeholder_read : (s : Midway) (mode : Mode) (o t : Text) (fill : Option Place) (opening : Place) →
+    no_brace fill (first (ending mode t)) (place_of s.world (up_to (ending mode t) (ending mode t))) opening
+    ≡ map_fault (place_of s.world) (unclosed_fault o (argument s.next (cut mode t)).format (ending mode t)) →
+    behind_closing fill opening (read_to s (ending mode t) (next_number s.next (cut mode t).field) (cut_faults (cut mode t)))
+    ≡ read_call s (placeholder mode s.next o t)
+placeholder_read s mode o t fill opening e =
+    let m = unclosed_fault o (argument s.next (cut mode t)).format (ending mode t) in
     let cs = cut_faults (cut mode t) in
-    rw (d, a, b, placeholder-faults mode c o t)
-    (append_assoc old (faults_in w cs) _ ∙ ap (λ fs. old ++ fs) (sym (map-append (map_fault (place_of w)) cs _ ∙ ap (λ fs. faults_in w cs ++ fs) (map-else (map_fault (place_of w)) (begins_with 125 (ending mode t)) m))))
+    rw (e, placeholder-rest mode s.next o t, placeholder-next mode s.next o t, placeholder-faults mode s.next o t)
+    (ap (λ (fs : List (Fault Place)). record s { rest = behind_brace (ending mode t); next = next_number s.next (cut mode t).field; faults = fs })
+    (append_assoc s.faults (faults_in s.world cs) _ ∙ ap (λ fs. s.faults ++ fs) (sym (map-append (map_fault (place_of s.world)) cs _ ∙ ap (λ fs. faults_in s.world cs ++ fs) (map-else (map_fault (place_of s.world)) (begins_with 125 (ending mode t)) m)))))
+
+pub ruleset placeholder_parts = (placeholder-piece, placeholder-next, placeholder-rest, placeholder-faults)
 
 placeholder_boxed : (mode : Mode) (c : ℕ) (o t : Text) → GivesNoArgument (placeholder mode c o t).piece → ⊥
 placeholder_boxed mode c o t k = rw (placeholder-piece mode c o t) at k

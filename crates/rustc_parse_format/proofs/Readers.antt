@@ -1,26 +1,22 @@
--- What the readers of words and integers note is what the definitions say, put through the world.
-use Rattle.std.proofs.Common.{◌≡◌, ◌++◌, ℕ, Bool, true, false, cond, List, [], ◌∷◌, map, length, refl, sym, ap, ◌∙◌}
-use Rattle.std.specs.Prelude.{if◌then◌else◌, bytes_eq, codes}
-use Rattle.rustc_parse_format.specs.Characters.{Text, word, behind_word, digits, behind_digits, is_over}
-use Rattle.rustc_parse_format.specs.Marks.{Start, End}
-use Rattle.rustc_parse_format.specs.Faults.{Fault, Underscore, TooLarge, map_fault}
-use Rattle.rustc_parse_format.specs.PartFaults.{word_faults, number_faults}
-use Rattle.rustc_parse_format.specs.World.{World, Place, number_of, place_of, faults_in}
+-- What a reader stands at after several parts.
+use Rattle.std.proofs.Common.{◌≡◌, ◌++◌, ℕ, List, [], sym, ap, ◌∙◌, append_assoc}
+use Rattle.std.proofs.lemmas.List.{append-nil, map-append}
+use Rattle.rustc_parse_format.specs.Characters.{Text}
+use Rattle.rustc_parse_format.specs.Faults.{Fault, map_fault}
+use Rattle.rustc_parse_format.specs.Marks.{Span}
+use Rattle.rustc_parse_format.specs.State.{Midway, read_to}
+use Rattle.rustc_parse_format.specs.World.{Place, faults_in, place_of}
 
-map-cond : {A B : Type 0} (f : A → B) (b : Bool) (x : A) → map f (cond b (x ∷ []) []) ≡ cond b (f x ∷ []) []
-map-cond f true x = refl
-map-cond f false x = refl
+-- where nothing is read
+pub read_nothing : (s : Midway) (r : Text) (fs : List (Fault Span)) → r ≡ s.rest → fs ≡ [] → s ≡ read_to s r s.next fs
+read_nothing s r fs e f = rw (e, f) (ap (λ (gs : List (Fault Place)). record s { faults = gs }) (sym (append-nil s.faults)))
 
-pub word_noted : (w : World) (t v : Text) (start stop : ℕ) (old new : List (Fault Place)) → v ≡ word t →
-    start ≡ number_of w (Start (length t)) → stop ≡ number_of w (Start (length (behind_word t))) →
-    new ≡ old ++ (if bytes_eq v (codes "_") then Underscore (start, stop) ∷ [] else []) → new ≡ old ++ faults_in w (word_faults t)
-word_noted w t v start stop old new h a b e =
-    let k : (if bytes_eq v (codes "_") then Underscore (start, stop) ∷ [] else []) ≡ faults_in w (word_faults t) = rw (h, a, b) (sym (map-cond (map_fault (place_of w)) (bytes_eq (word t) (codes "_")) _)) in
-    e ∙ ap (λ fs. old ++ fs) k
+-- two parts, one after the other
+pub read_on : (s : Midway) (r q : Text) (n m : ℕ) (fs gs : List (Fault Span)) → read_to (read_to s r n fs) q m gs ≡ read_to s q m (fs ++ gs)
+read_on s r q n m fs gs = ap (λ (hs : List (Fault Place)). record s { rest = q; next = m; faults = hs })
+    (append_assoc s.faults (faults_in s.world fs) (faults_in s.world gs) ∙ ap (λ hs. s.faults ++ hs) (sym (map-append (map_fault (place_of s.world)) fs gs)))
 
-pub number_noted : (w : World) (t ds : Text) (over : Bool) (start stop : ℕ) (old new : List (Fault Place)) → ds ≡ digits t → over ≡ is_over (digits t) →
-    start ≡ number_of w (Start (length t)) → stop ≡ number_of w (End (length (behind_digits t))) →
-    new ≡ old ++ (if over then TooLarge ds (start, stop) ∷ [] else []) → new ≡ old ++ faults_in w (number_faults t)
-number_noted w t ds over start stop old new h o a b e =
-    let k : (if over then TooLarge ds (start, stop) ∷ [] else []) ≡ faults_in w (number_faults t) = rw (h, o, a, b) (sym (map-cond (map_fault (place_of w)) (is_over (digits t)) _)) in
-    e ∙ ap (λ fs. old ++ fs) k
+-- three parts
+pub read_three : (s : Midway) (r q o : Text) (n m k : ℕ) (fs gs hs : List (Fault Span)) →
+    read_to (read_to (read_to s r n fs) q m gs) o k hs ≡ read_to s o k (fs ++ gs ++ hs)
+read_three s r q o n m k fs gs hs = ap (λ (x : Midway). read_to x o k hs) (read_on s r q n m fs gs) ∙ read_on s q o m k (fs ++ gs) hs

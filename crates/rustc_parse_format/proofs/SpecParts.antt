@@ -57,6 +57,8 @@ width_zero [] h k = cc h
 width_zero (c ∷ []) h k = rw h refl
 width_zero (c ∷ d ∷ t) h k = rw (h, k) refl
 
+pub ruleset widths_at_front = (width_elsewhere, width_zero)
+
 pub no_precision : (t : Text) → begins_with 46 t ≡ false → precision t ≡ (NoPrecision, t)
 no_precision [] h = refl
 no_precision (c ∷ t) h = rw h refl

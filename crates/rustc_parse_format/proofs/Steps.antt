@@ -1,12 +1,9 @@
 -- Steps: what one move does, where the cursor never stood further on, and that a word given back is paid.
-use Rattle.std.proofs.Common.{◌≡◌, ℕ, ◌+◌, ◌≤◌, Bool, true, false, cond, List, [], ◌∷◌, chars, length, refl, ap, ◌∙◌, arith}
+use Rattle.std.proofs.Common.{◌≡◌, ℕ, ◌+◌, ◌≤◌, Bool, true, false, cond, [], ◌∷◌, length, refl, ap, ◌∙◌, arith}
 use Rattle.std.specs.Prelude.{◌||◌, if◌then◌else◌, is_some}
 use Rattle.unicode_ident.proofs.Computing.{unicode_ident}
-use Rattle.std.proofs.lemmas.Str.{chars-nil}
 use Rattle.std.proofs.lemmas.Bool.{eqb-true}
-use Rattle.std.proofs.lemmas.List.{nil_from_length}
 use Rattle.rustc_parse_format.specs.Characters.{Text, is_id_start, is_id_continue, behind, behind_first, behind_word, begins_with, first}
-use Rattle.rustc_parse_format.proofs.Places.{Begun}
 use Rattle.rustc_parse_format.specs.Steps.{Trail, Forward, Paid, IsFurthest, is_word_part, behind_part}
 
 pub forward_then : {t u v : Text} {a b d : Trail} → Forward t a u b → Forward u b v d → Forward t a v d

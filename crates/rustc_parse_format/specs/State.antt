@@ -1,8 +1,9 @@
 -- What a caller sees of a parser between two calls.
-use Rattle.std.specs.Prelude.{◌≡◌, ℕ, ◌-◌, Bool, List, [], ◌∷◌, length, Option, Some, None, option_map}
+use Rattle.std.specs.Prelude.{◌≡◌, ◌++◌, ℕ, ◌-◌, Bool, List, [], ◌∷◌, length, Option, Some, None, option_map}
 use Rattle.rustc_parse_format.specs.Characters.{Text, byte_length}
 use Rattle.rustc_parse_format.specs.Pieces.{Mode, Piece, bare}
-use Rattle.rustc_parse_format.specs.Faults.{Message, add_errors}
+use Rattle.rustc_parse_format.specs.Faults.{Fault, Message, add_errors}
+use Rattle.rustc_parse_format.specs.Marks.{Span}
 use Rattle.rustc_parse_format.specs.World.{World, Place, place_at, world, faults_in, pieces_in}
 use Rattle.rustc_parse_format.specs.Step.{Call, call, walk, IsWalk, pieces_of}
 
@@ -11,6 +12,27 @@ pub record Unread : Type 0 where
   pub world : World
   pub input : Text
   pub rest : Text
+
+-- What a reader stands at in the middle of a call: the same, with the number that the next implicit argument takes, and the
+-- faults of the call so far.
+pub record Midway : Type 0 where
+  pub world : World
+  pub input : Text
+  pub rest : Text
+  pub next : ℕ
+  pub faults : List (Fault Place)
+
+-- at the place of a cursor, with this number and these faults
+abbrev pub midway : Unread → ℕ → List (Fault Place) → Midway
+midway u n fs = record { world = u.world; input = u.input; rest = u.rest; next = n; faults = fs }
+
+-- read up to the rest r and the number n, with these faults found on the way
+abbrev pub read_to : Midway → Text → ℕ → List (Fault Span) → Midway
+read_to s r n fs = record s { rest = r; next = n; faults = s.faults ++ faults_in s.world fs }
+
+-- after a call
+abbrev pub read_call : Midway → Call → Midway
+read_call s k = read_to s k.rest k.next k.faults
 
 -- the first character of t with its place and its byte position in the input, if there is one
 abbrev pub first_of : World → Text → Text → Option (Place × ℕ × ℕ)

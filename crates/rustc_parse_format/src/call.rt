@@ -1,6 +1,6 @@
-//! One call of the parser, on a cursor of its own: the piece, and the faults as they are found.
+//! One call of the parser, on a reader: the piece, and the faults as they are found.
 
-ghost use Rattle.std.specs.Prelude.{◌≡◌, ◌≢◌, ◌++◌, ◌+◌, ◌<◌, ◌^◌, ◌∷◌, [], Some, IfOk, IsOk, OnOk, chars, if◌then◌else◌, is_some, length, map, option_map, suc, unwrap_or};
+ghost use Rattle.std.specs.Prelude.{◌≡◌, ◌≢◌, ◌++◌, ◌+◌, ◌<◌, ◌^◌, ◌∷◌, [], Some, IfOk, IsOk, OnOk, chars, if◌then◌else◌, is_some, length, option_map, suc, unwrap_or};
 ghost use Rattle.rustc_parse_format.specs.Characters.{behind_brace, behind_first, begins_with, first};
 ghost use Rattle.rustc_parse_format.specs.Faults.{brace_fill, no_brace};
 ghost use Rattle.rustc_parse_format.specs.Marks.{up_to};
@@ -11,39 +11,35 @@ ghost use Rattle.rustc_parse_format.specs.Pieces.{Implicit, map_argument};
 ghost use Rattle.rustc_parse_format.specs.Placeholder.{cut};
 ghost use Rattle.rustc_parse_format.specs.Seen.{pair, seen, seen_argument, seen_mode, seen_position};
 ghost use Rattle.rustc_parse_format.specs.SeenFaults.{seen_fault};
+ghost use Rattle.rustc_parse_format.specs.State.{read_call, read_to};
 ghost use Rattle.rustc_parse_format.specs.Step.{IsPlain, call, placeholder};
 ghost use Rattle.rustc_parse_format.specs.Steps.{Forward, IsInWord, Paid};
-ghost use Rattle.rustc_parse_format.specs.World.{faults_in, piece_in, place_of};
+ghost use Rattle.rustc_parse_format.specs.World.{piece_in, place_of};
 
-use crate::chars::{Class, Cursor, Trail};
+use crate::chars::{Class, Trail};
 use crate::faults::Fault;
 use crate::format_spec::specification;
+use crate::reader::Reader;
 use crate::spec;
 use crate::types::{Argument, FormatSpec, ParseMode, Piece, Position};
 use std::alloc::{AllocError, Global};
 use std::ops::Range;
 use std::sync::ledger::Ledger;
 
-/// The number of the next implicit argument, which is then one more.
-fn take_number(curarg: &mut usize) -> usize
-    requires { curarg.old + 1 < 2 ^ 64 }
-    ensures value { result ≡ curarg.old }
-    ensures next { curarg.new ≡ curarg.old + 1 }
-{
-    let number = *curarg;
-    *curarg = number + 1;
-    number
-}
-
 /// The position: the given one, or else the next argument.
-fn position_of<'input>(given: Option<Position<'input>>, curarg: &mut usize) -> Position<'input>
-    requires { curarg.old + 1 < 2 ^ 64 }
-    ensures value { seen_position result ≡ unwrap_or (option_map seen_position given.entry) (Implicit curarg.old) }
-    ensures next { curarg.new ≡ (if is_some (option_map seen_position given.entry) then curarg.old else suc curarg.old) }
+fn position_of<'input>(
+    given: Option<Position<'input>>,
+    reader: &mut Reader<'input>,
+) -> Position<'input>
+    requires { reader.old.next + 1 < 2 ^ 64 }
+    ensures value { seen_position result ≡ unwrap_or (option_map seen_position given.entry) (Implicit reader.old.next) }
+    ensures state { reader.new ≡ record reader.old {
+      next = if is_some (option_map seen_position given.entry) then reader.old.next else suc reader.old.next;
+    } }
 {
     match given {
         Some(position) => position,
-        None => Position::ArgumentImplicitlyIs(take_number(curarg)),
+        None => Position::ArgumentImplicitlyIs(reader.take_number()),
     }
 }
 
@@ -51,28 +47,24 @@ fn position_of<'input>(given: Option<Position<'input>>, curarg: &mut usize) -> P
 #[tactic(auto, using(crate::proofs::Steps::part_le), unfolding(crate::specs::Placeholder::cut, crate::specs::Meaning::argument, crate::specs::Values::next_number, crate::specs::PartFaults::cut_faults))]
 fn read_argument<'input, L: Ledger>(
     mode: ParseMode,
-    cursor: &mut Cursor<'input>,
+    reader: &mut Reader<'input>,
     trail: &mut Trail<'input, L>,
-    curarg: &mut usize,
-    found: &mut Vec<Fault<'input>>,
 ) -> Result<Argument<'input>, AllocError>
-    requires numbers { curarg.old + 1 + length cursor.old.rest < 2 ^ 64 }
-    requires steps { IsInWord cursor.old.rest trail.old }
+    requires numbers { reader.old.next + 1 + length reader.old.rest < 2 ^ 64 }
+    requires steps { IsInWord reader.old.rest trail.old }
     ensures value { IfOk result (λ a. seen_argument a
-        ≡ map_argument (place_of cursor.old.world) (argument curarg.old (cut (seen_mode mode) cursor.old.rest))) }
-    ensures rest { OnOk result (cursor.new ≡ record cursor.old { rest = (cut (seen_mode mode) cursor.old.rest).rest }) }
-    ensures next { OnOk result (curarg.new ≡ next_number curarg.old (cut (seen_mode mode) cursor.old.rest).field) }
-    ensures found { OnOk result (map seen_fault found.new.items ≡ map seen_fault found.old.items
-        ++ faults_in cursor.old.world (cut_faults (cut (seen_mode mode) cursor.old.rest))) }
-    ensures steps { OnOk result (Paid cursor.old.rest trail.old cursor.new.rest trail.new) }
+        ≡ map_argument (place_of reader.old.world) (argument reader.old.next (cut (seen_mode mode) reader.old.rest))) }
+    ensures state { OnOk result (reader.new ≡ (let a = cut (seen_mode mode) reader.old.rest in
+        read_to reader.old a.rest (next_number reader.old.next a.field) (cut_faults a))) }
+    ensures steps { OnOk result (Paid reader.old.rest trail.old reader.new.rest trail.new) }
 {
-    let start = cursor.start();
-    let given = spec::position(cursor, trail, found)?;
-    cursor.skip_white(trail);
-    let position_span = start..cursor.start();
-    let format = specification(mode, cursor, trail, curarg, found)?;
+    let start = reader.cursor.start();
+    let given = spec::position(reader, trail)?;
+    reader.cursor.skip_white(trail);
+    let position_span = start..reader.cursor.start();
+    let format = specification(mode, reader, trail)?;
     Ok(Argument {
-        position: position_of(given, curarg),
+        position: position_of(given, reader),
         position_span,
         format,
     })
@@ -105,58 +97,51 @@ fn no_brace<'input>(
 
 /// Moves over the closing brace, or finds that it is missing. The placeholder opens at `opening`.
 fn close<'input, L: Ledger>(
-    cursor: &mut Cursor<'input>,
+    reader: &mut Reader<'input>,
     trail: &mut Trail<'input, L>,
-    found: &mut Vec<Fault<'input>>,
     fill: Option<Range<usize>>,
     opening: Range<usize>,
 ) -> Result<(), AllocError>
-    ensures rest { OnOk result (cursor.new ≡ record cursor.old { rest = behind_brace cursor.old.rest }) }
-    ensures found { OnOk result (map seen_fault found.new.items ≡ map seen_fault found.old.items
-        ++ (if begins_with 125 cursor.old.rest then []
-        else no_brace (option_map pair fill) (first cursor.old.rest) (place_of cursor.old.world (up_to cursor.old.rest cursor.old.rest)) (pair opening) ∷ [])) }
-    ensures steps { OnOk result (Forward cursor.old.rest trail.old cursor.new.rest trail.new) }
+    ensures state { OnOk result (reader.new ≡ record reader.old {
+      rest = behind_brace reader.old.rest;
+      faults = reader.old.faults ++ (if begins_with 125 reader.old.rest then [] else no_brace (option_map pair fill)
+          (first reader.old.rest) (place_of reader.old.world (up_to reader.old.rest reader.old.rest)) (pair opening) ∷ []);
+    }) }
+    ensures steps { OnOk result (Forward reader.old.rest trail.old reader.new.rest trail.new) }
 {
-    let next = cursor.peek();
+    let next = reader.cursor.peek();
     if next == Some('}') {
-        cursor.advance(trail);
+        reader.cursor.advance(trail);
     } else {
-        let fault = no_brace(fill, next, cursor.start(), opening);
-        found.push(fault)?;
+        let fault = no_brace(fill, next, reader.cursor.start(), opening);
+        reader.found.push(fault)?;
     }
     Ok(())
 }
 
 /// Reads the placeholder at the front.
-#[tactic(auto, using(crate::proofs::Steps::part_le))]
+#[tactic(auto, using(crate::proofs::Steps::part_le, crate::proofs::Placeholders::placeholder_parts))]
 fn read_placeholder<'input, L: Ledger>(
     alloc: Global,
     mode: ParseMode,
-    cursor: &mut Cursor<'input>,
+    reader: &mut Reader<'input>,
     trail: &mut Trail<'input, L>,
-    curarg: &mut usize,
-    found: &mut Vec<Fault<'input>>,
 ) -> Result<Piece<'input>, AllocError>
-    requires here { cursor.old.rest ≢ [] }
-    requires steps { IsInWord cursor.old.rest trail.old }
-    requires numbers { curarg.old + length cursor.old.rest < 2 ^ 64 }
-    ensures piece { IfOk result (λ p. Some (seen p) ≡ option_map (piece_in cursor.old.world)
-        (placeholder (seen_mode mode) curarg.old cursor.old.rest (behind_first cursor.old.rest)).piece) }
-    ensures rest { OnOk result (cursor.new ≡ record cursor.old {
-      rest = (placeholder (seen_mode mode) curarg.old cursor.old.rest (behind_first cursor.old.rest)).rest;
-    }) }
-    ensures next { OnOk result (curarg.new
-        ≡ (placeholder (seen_mode mode) curarg.old cursor.old.rest (behind_first cursor.old.rest)).next) }
-    ensures found { OnOk result (map seen_fault found.new.items ≡ map seen_fault found.old.items
-        ++ faults_in cursor.old.world (placeholder (seen_mode mode) curarg.old cursor.old.rest (behind_first cursor.old.rest)).faults) }
-    ensures steps { OnOk result (Paid cursor.old.rest trail.old cursor.new.rest trail.new) }
+    requires here { reader.old.rest ≢ [] }
+    requires steps { IsInWord reader.old.rest trail.old }
+    requires numbers { reader.old.next + length reader.old.rest < 2 ^ 64 }
+    ensures piece { IfOk result (λ p. Some (seen p) ≡ option_map (piece_in reader.old.world)
+        (placeholder (seen_mode mode) reader.old.next reader.old.rest (behind_first reader.old.rest)).piece) }
+    ensures state { OnOk result (reader.new
+        ≡ read_call reader.old (placeholder (seen_mode mode) reader.old.next reader.old.rest (behind_first reader.old.rest))) }
+    ensures steps { OnOk result (Paid reader.old.rest trail.old reader.new.rest trail.new) }
 {
-    let opening = cursor.start()..cursor.stop();
-    cursor.advance(trail);
-    let argument = read_argument(mode, cursor, trail, curarg, found)?;
-    cursor.skip_white(trail);
+    let opening = reader.cursor.start()..reader.cursor.stop();
+    reader.cursor.advance(trail);
+    let argument = read_argument(mode, reader, trail)?;
+    reader.cursor.skip_white(trail);
     let fill = brace_fill(&argument.format);
-    close(cursor, trail, found, fill, opening)?;
+    close(reader, trail, fill, opening)?;
     Ok(Piece::NextArgument(Box::new(alloc, argument)?))
 }
 
@@ -165,38 +150,33 @@ fn read_placeholder<'input, L: Ledger>(
 pub fn read_piece<'input, L: Ledger>(
     alloc: Global,
     mode: ParseMode,
-    cursor: &mut Cursor<'input>,
+    reader: &mut Reader<'input>,
     trail: &mut Trail<'input, L>,
-    curarg: &mut usize,
-    found: &mut Vec<Fault<'input>>,
 ) -> Result<Option<Piece<'input>>, AllocError>
-    requires numbers { curarg.old + length cursor.old.rest < 2 ^ 64 }
-    requires steps { IsInWord cursor.old.rest trail.old }
-    ensures piece { IfOk result (λ p. option_map seen p ≡ option_map (piece_in cursor.old.world)
-        (call (seen_mode mode) curarg.old cursor.old.rest).piece) }
-    ensures rest { OnOk result (cursor.new ≡ record cursor.old { rest = (call (seen_mode mode) curarg.old cursor.old.rest).rest }) }
-    ensures next { OnOk result (curarg.new ≡ (call (seen_mode mode) curarg.old cursor.old.rest).next) }
-    ensures found { OnOk result (map seen_fault found.new.items ≡ map seen_fault found.old.items
-        ++ faults_in cursor.old.world (call (seen_mode mode) curarg.old cursor.old.rest).faults) }
-    ensures spare { IsPlain (call (seen_mode mode) curarg.old cursor.old.rest) → IsOk result }
-    ensures steps { OnOk result (Paid cursor.old.rest trail.old cursor.new.rest trail.new) }
+    requires numbers { reader.old.next + length reader.old.rest < 2 ^ 64 }
+    requires steps { IsInWord reader.old.rest trail.old }
+    ensures piece { IfOk result (λ p. option_map seen p ≡ option_map (piece_in reader.old.world)
+        (call (seen_mode mode) reader.old.next reader.old.rest).piece) }
+    ensures state { OnOk result (reader.new ≡ read_call reader.old (call (seen_mode mode) reader.old.next reader.old.rest)) }
+    ensures spare { IsPlain (call (seen_mode mode) reader.old.next reader.old.rest) → IsOk result }
+    ensures steps { OnOk result (Paid reader.old.rest trail.old reader.new.rest trail.new) }
 {
-    let Some(c) = cursor.peek() else {
+    let Some(c) = reader.cursor.peek() else {
         return Ok(None);
     };
     if c != '{' && c != '}' {
-        return Ok(Some(Piece::Lit(cursor.take(Class::Text, trail))));
+        return Ok(Some(Piece::Lit(reader.cursor.take(Class::Text, trail))));
     }
-    if cursor.goes_on_with(c) {
-        cursor.advance(trail);
-        return Ok(Some(Piece::Lit(cursor.take_behind_first(Class::Text, trail))));
+    if reader.cursor.goes_on_with(c) {
+        reader.cursor.advance(trail);
+        return Ok(Some(Piece::Lit(reader.cursor.take_behind_first(Class::Text, trail))));
     }
     if c == '{' {
-        let piece = read_placeholder(alloc, mode, cursor, trail, curarg, found)?;
+        let piece = read_placeholder(alloc, mode, reader, trail)?;
         return Ok(Some(piece));
     }
-    let span = cursor.start()..cursor.stop();
-    cursor.advance(trail);
-    found.push(Fault::UnmatchedBrace(span))?;
+    let span = reader.cursor.start()..reader.cursor.stop();
+    reader.cursor.advance(trail);
+    reader.found.push(Fault::UnmatchedBrace(span))?;
     Ok(None)
 }

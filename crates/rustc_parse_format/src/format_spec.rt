@@ -1,6 +1,6 @@
 //! What a colon brings: a format specification, the modifier of inline assembly, or the text of a diagnostic.
 
-ghost use Rattle.std.specs.Prelude.{◌≡◌, ◌++◌, ◌+◌, ◌<◌, ◌^◌, None, Some, IfOk, OnOk, chars, codes, if◌then◌else◌, length, map, option_map};
+ghost use Rattle.std.specs.Prelude.{◌≡◌, ◌+◌, ◌<◌, ◌^◌, None, Some, IfOk, OnOk, chars, codes, if◌then◌else◌, length, option_map};
 ghost use Rattle.rustc_parse_format.specs.Characters.{begins_with, behind, behind_first, behind_word, front, is_no_brace, word};
 ghost use Rattle.rustc_parse_format.specs.Marks.{up_to};
 ghost use Rattle.rustc_parse_format.specs.Values.{behind_precision, behind_spec, debug_hex_of, type_of};
@@ -8,14 +8,14 @@ ghost use Rattle.rustc_parse_format.specs.Meaning.{fill_span, format_of, spec_of
 ghost use Rattle.rustc_parse_format.specs.PartFaults.{format_faults, spec_faults, type_faults, word_faults};
 ghost use Rattle.rustc_parse_format.specs.Pieces.{default_spec, map_spec};
 ghost use Rattle.rustc_parse_format.specs.Seen.{pair, seen_alignment, seen_debug_hex, seen_mode, seen_sign, seen_spec};
-ghost use Rattle.rustc_parse_format.specs.SeenFaults.{seen_fault};
+ghost use Rattle.rustc_parse_format.specs.State.{read_to};
 ghost use Rattle.rustc_parse_format.specs.Specification.{align, alternate, fill, format_parts, sign, specification, type};
 ghost use Rattle.rustc_parse_format.specs.Steps.{Forward, IsFurthest, IsInWord, Paid};
-ghost use Rattle.rustc_parse_format.specs.World.{Place, faults_in, place_of};
+ghost use Rattle.rustc_parse_format.specs.World.{Place, place_of};
 
 use crate::chars::{Class, Cursor, Trail, first};
-use crate::faults::Fault;
 use crate::laws::default_of_spec;
+use crate::reader::Reader;
 use crate::sizes::{precision, width};
 use crate::spec;
 use crate::types::{Alignment, Count, DebugHex, FormatSpec, ParseMode, Sign};
@@ -92,24 +92,21 @@ fn alternate<'input, L: Ledger>(cursor: &mut Cursor<'input>, trail: &mut Trail<'
 
 /// Reads the word at the front, and where it stands if it is not empty.
 fn spanned_word<'input, L: Ledger>(
-    cursor: &mut Cursor<'input>,
+    reader: &mut Reader<'input>,
     trail: &mut Trail<'input, L>,
-    found: &mut Vec<Fault<'input>>,
 ) -> Result<(&'input str, Option<Range<usize>>), AllocError>
-    ensures value { IfOk result (λ w. chars w.0.now ≡ word cursor.old.rest) }
-    ensures span { IfOk result (λ w. option_map pair w.1 ≡ option_map (place_of cursor.old.world)
-        (word_span cursor.old.rest (word cursor.old.rest) (behind_word cursor.old.rest))) }
-    ensures rest { OnOk result (cursor.new ≡ record cursor.old { rest = behind_word cursor.old.rest }) }
-    ensures found { OnOk result (map seen_fault found.new.items
-        ≡ map seen_fault found.old.items ++ faults_in cursor.old.world (word_faults cursor.old.rest)) }
-    ensures steps { OnOk result (Forward cursor.old.rest trail.old cursor.new.rest trail.new) }
+    ensures value { IfOk result (λ w. chars w.0.now ≡ word reader.old.rest) }
+    ensures span { IfOk result (λ w. option_map pair w.1 ≡ option_map (place_of reader.old.world)
+        (word_span reader.old.rest (word reader.old.rest) (behind_word reader.old.rest))) }
+    ensures state { OnOk result (reader.new ≡ read_to reader.old (behind_word reader.old.rest) reader.old.next (word_faults reader.old.rest)) }
+    ensures steps { OnOk result (Forward reader.old.rest trail.old reader.new.rest trail.new) }
 {
-    let start = cursor.start();
-    let word = spec::word(cursor, trail, found)?;
+    let start = reader.cursor.start();
+    let word = spec::word(reader, trail)?;
     if first(word).is_none() {
         return Ok((word, None));
     }
-    Ok((word, Some(start..cursor.start())))
+    Ok((word, Some(start..reader.cursor.start())))
 }
 
 /// A type, the case of its hexadecimal digits, and where it stands if it is a word.
@@ -162,30 +159,28 @@ fn hex_type<'input, L: Ledger>(
 /// Reads the type at the front.
 #[tactic(auto, using(crate::proofs::SpecParts::types_at_front))]
 fn type_part<'input, L: Ledger>(
-    cursor: &mut Cursor<'input>,
+    reader: &mut Reader<'input>,
     trail: &mut Trail<'input, L>,
-    found: &mut Vec<Fault<'input>>,
 ) -> Result<TypePart<'input>, AllocError>
-    ensures ty { IfOk result (λ y. chars y.ty.now ≡ type_of (type cursor.old.rest).0) }
-    ensures debug_hex { IfOk result (λ y. option_map seen_debug_hex y.debug_hex ≡ debug_hex_of (type cursor.old.rest).0) }
-    ensures span { IfOk result (λ y. option_map pair y.span ≡ option_map (place_of cursor.old.world)
-        (type_span cursor.old.rest (type cursor.old.rest).0 (type cursor.old.rest).1)) }
-    ensures rest { OnOk result (cursor.new ≡ record cursor.old { rest = (type cursor.old.rest).1 }) }
-    ensures found { OnOk result (map seen_fault found.new.items
-        ≡ map seen_fault found.old.items ++ faults_in cursor.old.world (type_faults cursor.old.rest (type cursor.old.rest).0)) }
-    ensures steps { OnOk result (Forward cursor.old.rest trail.old cursor.new.rest trail.new) }
+    ensures ty { IfOk result (λ y. chars y.ty.now ≡ type_of (type reader.old.rest).0) }
+    ensures debug_hex { IfOk result (λ y. option_map seen_debug_hex y.debug_hex ≡ debug_hex_of (type reader.old.rest).0) }
+    ensures span { IfOk result (λ y. option_map pair y.span ≡ option_map (place_of reader.old.world)
+        (type_span reader.old.rest (type reader.old.rest).0 (type reader.old.rest).1)) }
+    ensures state { OnOk result (reader.new ≡ (let y = type reader.old.rest in
+        read_to reader.old y.1 reader.old.next (type_faults reader.old.rest y.0))) }
+    ensures steps { OnOk result (Forward reader.old.rest trail.old reader.new.rest trail.new) }
 {
-    if spec::is_next(cursor, 'x') {
-        return Ok(hex_type(cursor, trail, DebugHex::Lower, "x"));
+    if spec::is_next(&reader.cursor, 'x') {
+        return Ok(hex_type(&mut reader.cursor, trail, DebugHex::Lower, "x"));
     }
-    if spec::is_next(cursor, 'X') {
-        return Ok(hex_type(cursor, trail, DebugHex::Upper, "X"));
+    if spec::is_next(&reader.cursor, 'X') {
+        return Ok(hex_type(&mut reader.cursor, trail, DebugHex::Upper, "X"));
     }
-    if spec::is_next(cursor, '?') {
-        cursor.advance(trail);
+    if spec::is_next(&reader.cursor, '?') {
+        reader.cursor.advance(trail);
         return Ok(character_type("?"));
     }
-    let (ty, span) = spanned_word(cursor, trail, found)?;
+    let (ty, span) = spanned_word(reader, trail)?;
     Ok(TypePart {
         ty,
         debug_hex: None,
@@ -194,30 +189,26 @@ fn type_part<'input, L: Ledger>(
 }
 
 /// Reads the format specification at the front.
-#[tactic(auto, using(crate::proofs::Steps::part_le), unfolding(crate::specs::Specification::format_parts, crate::specs::Meaning::format_of, crate::specs::PartFaults::format_faults))]
+#[tactic(auto, using(crate::proofs::Steps::part_le), unfolding(crate::specs::Specification::format_parts, crate::specs::Meaning::format_of))]
 fn format_parts<'input, L: Ledger>(
-    cursor: &mut Cursor<'input>,
+    reader: &mut Reader<'input>,
     trail: &mut Trail<'input, L>,
-    curarg: &mut usize,
-    found: &mut Vec<Fault<'input>>,
 ) -> Result<FormatSpec<'input>, AllocError>
-    requires numbers { curarg.old + 1 < 2 ^ 64 }
-    requires steps { IsFurthest cursor.old.rest trail.old }
-    ensures value { IfOk result (λ f. seen_spec f ≡ map_spec (place_of cursor.old.world)
-        (format_of curarg.old cursor.old.rest (format_parts cursor.old.rest).0 (format_parts cursor.old.rest).1)) }
-    ensures rest { OnOk result (cursor.new ≡ record cursor.old { rest = (format_parts cursor.old.rest).1 }) }
-    ensures next { OnOk result (curarg.new ≡ behind_precision curarg.old (format_parts cursor.old.rest).0.precision) }
-    ensures found { OnOk result (map seen_fault found.new.items
-        ≡ map seen_fault found.old.items ++ faults_in cursor.old.world (format_faults (format_parts cursor.old.rest).0 (format_parts cursor.old.rest).1)) }
-    ensures steps { OnOk result (Paid cursor.old.rest trail.old cursor.new.rest trail.new) }
+    requires numbers { reader.old.next + 1 < 2 ^ 64 }
+    requires steps { IsFurthest reader.old.rest trail.old }
+    ensures value { IfOk result (λ f. seen_spec f ≡ map_spec (place_of reader.old.world)
+        (format_of reader.old.next reader.old.rest (format_parts reader.old.rest).0 (format_parts reader.old.rest).1)) }
+    ensures state { OnOk result (reader.new ≡ (let f = format_parts reader.old.rest in
+        read_to reader.old f.1 (behind_precision reader.old.next f.0.precision) (format_faults f.0 f.1))) }
+    ensures steps { OnOk result (Paid reader.old.rest trail.old reader.new.rest trail.new) }
 {
-    let (fill, fill_span) = fill(cursor, trail);
-    let align = alignment(cursor, trail);
-    let sign = sign(cursor, trail);
-    let alternate = alternate(cursor, trail);
-    let width = width(cursor, trail, found)?;
-    let (precision, precision_span) = precision(cursor, trail, curarg, found)?;
-    let type_part = type_part(cursor, trail, found)?;
+    let (fill, fill_span) = fill(&mut reader.cursor, trail);
+    let align = alignment(&mut reader.cursor, trail);
+    let sign = sign(&mut reader.cursor, trail);
+    let alternate = alternate(&mut reader.cursor, trail);
+    let width = width(reader, trail)?;
+    let (precision, precision_span) = precision(reader, trail)?;
+    let type_part = type_part(reader, trail)?;
     Ok(FormatSpec {
         fill,
         fill_span,
@@ -237,20 +228,17 @@ fn format_parts<'input, L: Ledger>(
 
 /// Reads the modifier of inline assembly at the front.
 fn modifier<'input, L: Ledger>(
-    cursor: &mut Cursor<'input>,
+    reader: &mut Reader<'input>,
     trail: &mut Trail<'input, L>,
-    found: &mut Vec<Fault<'input>>,
 ) -> Result<FormatSpec<'input>, AllocError>
     ensures value { IfOk result (λ f. seen_spec f ≡ record (default_spec {A = Place}) {
-      ty = word cursor.old.rest;
-      ty_span = option_map (place_of cursor.old.world) (word_span cursor.old.rest (word cursor.old.rest) (behind_word cursor.old.rest));
+      ty = word reader.old.rest;
+      ty_span = option_map (place_of reader.old.world) (word_span reader.old.rest (word reader.old.rest) (behind_word reader.old.rest));
     }) }
-    ensures rest { OnOk result (cursor.new ≡ record cursor.old { rest = behind_word cursor.old.rest }) }
-    ensures found { OnOk result (map seen_fault found.new.items
-        ≡ map seen_fault found.old.items ++ faults_in cursor.old.world (word_faults cursor.old.rest)) }
-    ensures steps { OnOk result (Forward cursor.old.rest trail.old cursor.new.rest trail.new) }
+    ensures state { OnOk result (reader.new ≡ read_to reader.old (behind_word reader.old.rest) reader.old.next (word_faults reader.old.rest)) }
+    ensures steps { OnOk result (Forward reader.old.rest trail.old reader.new.rest trail.new) }
 {
-    let (ty, ty_span) = spanned_word(cursor, trail, found)?;
+    let (ty, ty_span) = spanned_word(reader, trail)?;
     Ok(FormatSpec {
         ty,
         ty_span,
@@ -281,37 +269,32 @@ fn diagnostic_text<'input, L: Ledger>(
 }
 
 /// Reads the specification at the front: a colon and what the mode has after it, or nothing.
-#[tactic(auto, using(crate::proofs::Steps::part_le))]
+#[tactic(auto, using(crate::proofs::Steps::part_le, crate::proofs::Steps::at_colon))]
 pub fn specification<'input, L: Ledger>(
     mode: ParseMode,
-    cursor: &mut Cursor<'input>,
+    reader: &mut Reader<'input>,
     trail: &mut Trail<'input, L>,
-    curarg: &mut usize,
-    found: &mut Vec<Fault<'input>>,
 ) -> Result<FormatSpec<'input>, AllocError>
-    requires numbers { curarg.old + length cursor.old.rest < 2 ^ 64 }
-    requires steps { IsInWord cursor.old.rest trail.old }
-    ensures value { IfOk result (λ f. seen_spec f ≡ map_spec (place_of cursor.old.world) (spec_of curarg.old cursor.old.rest
-        (specification (seen_mode mode) cursor.old.rest).0 (specification (seen_mode mode) cursor.old.rest).1)) }
-    ensures rest { OnOk result (cursor.new ≡ record cursor.old { rest = (specification (seen_mode mode) cursor.old.rest).1 }) }
-    ensures next { OnOk result (curarg.new ≡ behind_spec curarg.old (specification (seen_mode mode) cursor.old.rest).0) }
-    ensures found { OnOk result (map seen_fault found.new.items ≡ map seen_fault found.old.items
-        ++ faults_in cursor.old.world (spec_faults cursor.old.rest
-        (specification (seen_mode mode) cursor.old.rest).0 (specification (seen_mode mode) cursor.old.rest).1)) }
-    ensures steps { OnOk result (Paid cursor.old.rest trail.old cursor.new.rest trail.new) }
+    requires numbers { reader.old.next + length reader.old.rest < 2 ^ 64 }
+    requires steps { IsInWord reader.old.rest trail.old }
+    ensures value { IfOk result (λ f. seen_spec f ≡ map_spec (place_of reader.old.world) (spec_of reader.old.next reader.old.rest
+        (specification (seen_mode mode) reader.old.rest).0 (specification (seen_mode mode) reader.old.rest).1)) }
+    ensures state { OnOk result (reader.new ≡ (let s = specification (seen_mode mode) reader.old.rest in
+        read_to reader.old s.1 (behind_spec reader.old.next s.0) (spec_faults reader.old.rest s.0 s.1))) }
+    ensures steps { OnOk result (Paid reader.old.rest trail.old reader.new.rest trail.new) }
 {
-    if !spec::is_next(cursor, ':') {
+    if !spec::is_next(&reader.cursor, ':') {
         return Ok(default_of_spec());
     }
     match mode {
         ParseMode::Format => {
-            cursor.advance(trail);
-            format_parts(cursor, trail, curarg, found)
+            reader.cursor.advance(trail);
+            format_parts(reader, trail)
         }
         ParseMode::InlineAsm => {
-            cursor.advance(trail);
-            modifier(cursor, trail, found)
+            reader.cursor.advance(trail);
+            modifier(reader, trail)
         }
-        ParseMode::Diagnostic => Ok(diagnostic_text(cursor, trail)),
+        ParseMode::Diagnostic => Ok(diagnostic_text(&mut reader.cursor, trail)),
     }
 }

@@ -8,6 +8,7 @@ mod format_spec;
 mod laws;
 pub mod literal;
 mod parser;
+mod reader;
 mod reading;
 mod sizes;
 mod spec;

@@ -3,6 +3,7 @@
 use crate::call::read_piece;
 use crate::chars::{Cursor, StepCount, Trail};
 use crate::faults::add_errors;
+use crate::reader::Reader;
 use crate::types::{ParseError, ParseMode, Piece};
 use crate::world::{has_source, quote_offset, text_end};
 use std::alloc::{AllocError, Global};
@@ -15,14 +16,13 @@ use std::sync::ledger::{Blank, Ledger};
 pub struct Parser<'input> {
     alloc: Global,
     mode: ParseMode,
-    cursor: Cursor<'input>,
-    /// The number that the next implicit argument takes.
-    curarg: usize,
+    /// Between two calls it has found nothing.
+    reader: Reader<'input>,
     errors: Vec<ParseError>,
 }
 
 impl<'input> Model for Parser<'input> {
-    ghost use Rattle.std.specs.Prelude.{◌+◌, ◌<◌, ◌^◌, length, map};
+    ghost use Rattle.std.specs.Prelude.{◌≡◌, ◌+◌, ◌<◌, ◌^◌, [], length, map};
     ghost use Rattle.rustc_parse_format.specs.State.{State};
     ghost use Rattle.rustc_parse_format.specs.Seen.{seen_error, seen_mode};
 
@@ -30,14 +30,14 @@ impl<'input> Model for Parser<'input> {
 
     ghost view = { λ p. record {
       mode = seen_mode p.mode;
-      world = p.cursor.world;
-      input = p.cursor.input;
-      rest = p.cursor.rest;
-      next = p.curarg;
+      world = p.reader.world;
+      input = p.reader.input;
+      rest = p.reader.rest;
+      next = p.reader.next;
       errors = map seen_error p.errors.items;
     } };
 
-    ghost invariant = { λ p. p.curarg + length p.cursor.rest < 2 ^ 64 };
+    ghost invariant = { λ p. (p.reader.next + length p.reader.rest < 2 ^ 64) × (p.reader.faults ≡ []) };
 }
 
 impl<'input> Parser<'input> {
@@ -77,11 +77,11 @@ impl<'input> Parser<'input> {
     {
         let is_source = has_source(input, style, &snippet, appended_newline);
         let end = text_end(input, &snippet, appended_newline);
+        let cursor = Cursor::new(input, is_source, quote_offset(style), end);
         Ok(Parser {
             alloc,
             mode,
-            cursor: Cursor::new(input, is_source, quote_offset(style), end),
-            curarg: 0,
+            reader: Reader::new(alloc, cursor),
             errors: Vec::new(alloc),
         })
     }
@@ -98,25 +98,16 @@ impl<'input> Parser<'input> {
         ensures spare { IsPlain (next_call self.old) → IsOk result }
         ensures steps { OnOk result (Paid self.old.rest trail.old self.new.rest trail.new) }
     {
-        let front = self.cursor.duplicate();
-        let mut curarg = self.curarg;
-        let mut found = Vec::new(self.alloc);
-        let Ok(piece) = read_piece(
-            self.alloc,
-            self.mode,
-            &mut self.cursor,
-            trail,
-            &mut curarg,
-            &mut found,
-        ) else {
-            self.cursor = front;
+        let front = self.reader.duplicate(self.alloc);
+        let Ok(piece) = read_piece(self.alloc, self.mode, &mut self.reader, trail) else {
+            self.reader = front;
             return Err(AllocError);
         };
+        let found = self.reader.take_faults(self.alloc);
         if add_errors(self.alloc, &mut self.errors, found).is_err() {
-            self.cursor = front;
+            self.reader = front;
             return Err(AllocError);
         }
-        self.curarg = curarg;
         Ok(piece)
     }
 
@@ -128,7 +119,7 @@ impl<'input> Parser<'input> {
         requires three { blank.parts ≡ 3 }
         ensures { result ≡ record { steps = 0; left = length self.now.rest } }
     {
-        self.cursor.count(blank)
+        self.reader.cursor.count(blank)
     }
 
     /// The next piece, as by [`Parser::next`], with its steps counted. An error leaves the parser and the count as they were.
@@ -204,7 +195,7 @@ impl<'input> Parser<'input> {
     pub fn peek(&self) -> Option<(Range<usize>, usize, char)>
         ensures { option_map (λ x. (pair x.0, x.1, x.2)) result ≡ first_of self.now.world self.now.input self.now.rest }
     {
-        self.cursor.next_place()
+        self.reader.cursor.next_place()
     }
 
     /// The same of the character after the next one.
@@ -212,7 +203,7 @@ impl<'input> Parser<'input> {
         ensures { option_map (λ x. (pair x.0, x.1, x.2)) result
             ≡ first_of self.now.world self.now.input (behind_first self.now.rest) }
     {
-        self.cursor.place_ahead()
+        self.reader.cursor.place_ahead()
     }
 
     /// The errors of all calls so far, in their order.
@@ -226,14 +217,14 @@ impl<'input> Parser<'input> {
     pub fn is_source_literal(&self) -> bool
         ensures { result ≡ self.now.world.has_source }
     {
-        self.cursor.is_source_literal()
+        self.reader.cursor.is_source_literal()
     }
 
     /// The number that the next implicit argument takes.
     pub fn curarg(&self) -> usize
         ensures { result ≡ self.now.next }
     {
-        self.curarg
+        self.reader.curarg
     }
 }
 
@@ -245,8 +236,8 @@ mod tests {
     #[test]
     fn an_empty_input_behind_an_appended_newline_ends_at_0(rt: HostRuntime) -> Result<(), Fail> {
         let parser = Parser::new(rt.alloc(), "", None, None, true, ParseMode::Format)?;
-        assert_eq!(rt; parser.cursor.start(), 0);
-        assert_eq!(rt; parser.cursor.stop(), 0);
+        assert_eq!(rt; parser.reader.cursor.start(), 0);
+        assert_eq!(rt; parser.reader.cursor.stop(), 0);
         Ok(())
     }
 }

@@ -1,18 +1,18 @@
 //! The sizes of a format specification: its width and its precision.
 
-ghost use Rattle.std.specs.Prelude.{◌≡◌, ◌++◌, ◌+◌, ◌<◌, ◌^◌, IfOk, OnOk, map, option_map};
+ghost use Rattle.std.specs.Prelude.{◌≡◌, ◌+◌, ◌<◌, ◌^◌, IfOk, OnOk, option_map};
 ghost use Rattle.rustc_parse_format.specs.Counts.{count, precision, width};
 ghost use Rattle.rustc_parse_format.specs.Values.{behind_precision, is_padded};
 ghost use Rattle.rustc_parse_format.specs.Meaning.{count_of, count_span, precision_of, precision_span, width_of, width_span};
 ghost use Rattle.rustc_parse_format.specs.PartFaults.{argument_faults, precision_faults, width_faults};
 ghost use Rattle.rustc_parse_format.specs.Pieces.{map_count};
 ghost use Rattle.rustc_parse_format.specs.Seen.{pair, seen_count};
-ghost use Rattle.rustc_parse_format.specs.SeenFaults.{seen_fault};
+ghost use Rattle.rustc_parse_format.specs.State.{read_to};
 ghost use Rattle.rustc_parse_format.specs.Steps.{IsFurthest, IsInWord, Paid};
-ghost use Rattle.rustc_parse_format.specs.World.{faults_in, place_of};
+ghost use Rattle.rustc_parse_format.specs.World.{place_of};
 
-use crate::chars::{Cursor, Trail};
-use crate::faults::Fault;
+use crate::chars::Trail;
+use crate::reader::Reader;
 use crate::spec;
 use crate::types::Count;
 use std::alloc::AllocError;
@@ -22,25 +22,22 @@ use std::sync::ledger::Ledger;
 /// Reads the count at the front, and where it stands.
 #[tactic(auto, using(crate::proofs::Steps::part_le))]
 fn spanned_count<'input, L: Ledger>(
-    cursor: &mut Cursor<'input>,
+    reader: &mut Reader<'input>,
     trail: &mut Trail<'input, L>,
-    found: &mut Vec<Fault<'input>>,
 ) -> Result<(Count<'input>, Option<Range<usize>>), AllocError>
-    requires { IsFurthest cursor.old.rest trail.old }
+    requires { IsFurthest reader.old.rest trail.old }
     ensures value { IfOk result (λ k. seen_count k.0
-        ≡ map_count (place_of cursor.old.world) (count_of cursor.old.rest (count cursor.old.rest).0 (count cursor.old.rest).1)) }
-    ensures span { IfOk result (λ k. option_map pair k.1 ≡ option_map (place_of cursor.old.world)
-        (count_span cursor.old.rest (count cursor.old.rest).0 (count cursor.old.rest).1)) }
-    ensures rest { OnOk result (cursor.new ≡ record cursor.old { rest = (count cursor.old.rest).1 }) }
-    ensures found { OnOk result (map seen_fault found.new.items
-        ≡ map seen_fault found.old.items ++ faults_in cursor.old.world (argument_faults cursor.old.rest)) }
-    ensures steps { OnOk result (Paid cursor.old.rest trail.old cursor.new.rest trail.new) }
+        ≡ map_count (place_of reader.old.world) (count_of reader.old.rest (count reader.old.rest).0 (count reader.old.rest).1)) }
+    ensures span { IfOk result (λ k. option_map pair k.1 ≡ option_map (place_of reader.old.world)
+        (count_span reader.old.rest (count reader.old.rest).0 (count reader.old.rest).1)) }
+    ensures state { OnOk result (reader.new ≡ read_to reader.old (count reader.old.rest).1 reader.old.next (argument_faults reader.old.rest)) }
+    ensures steps { OnOk result (Paid reader.old.rest trail.old reader.new.rest trail.new) }
 {
-    let start = cursor.start();
-    let count = spec::count(cursor, trail, found)?;
+    let start = reader.cursor.start();
+    let count = spec::count(reader, trail)?;
     let span = match count {
         Count::CountImplied => None,
-        _ => Some(start..cursor.start()),
+        _ => Some(start..reader.cursor.start()),
     };
     Ok((count, span))
 }
@@ -57,22 +54,19 @@ pub struct WidthPart<'input> {
 #[tactic(auto, using(crate::proofs::Steps::part_le))]
 fn counted<'input, L: Ledger>(
     zero_pad: bool,
-    cursor: &mut Cursor<'input>,
+    reader: &mut Reader<'input>,
     trail: &mut Trail<'input, L>,
-    found: &mut Vec<Fault<'input>>,
 ) -> Result<WidthPart<'input>, AllocError>
-    requires { IsFurthest cursor.old.rest trail.old }
+    requires { IsFurthest reader.old.rest trail.old }
     ensures zero_pad { IfOk result (λ w. w.zero_pad ≡ zero_pad) }
     ensures count { IfOk result (λ w. seen_count w.count
-        ≡ map_count (place_of cursor.old.world) (count_of cursor.old.rest (count cursor.old.rest).0 (count cursor.old.rest).1)) }
-    ensures span { IfOk result (λ w. option_map pair w.span ≡ option_map (place_of cursor.old.world)
-        (count_span cursor.old.rest (count cursor.old.rest).0 (count cursor.old.rest).1)) }
-    ensures rest { OnOk result (cursor.new ≡ record cursor.old { rest = (count cursor.old.rest).1 }) }
-    ensures found { OnOk result (map seen_fault found.new.items
-        ≡ map seen_fault found.old.items ++ faults_in cursor.old.world (argument_faults cursor.old.rest)) }
-    ensures steps { OnOk result (Paid cursor.old.rest trail.old cursor.new.rest trail.new) }
+        ≡ map_count (place_of reader.old.world) (count_of reader.old.rest (count reader.old.rest).0 (count reader.old.rest).1)) }
+    ensures span { IfOk result (λ w. option_map pair w.span ≡ option_map (place_of reader.old.world)
+        (count_span reader.old.rest (count reader.old.rest).0 (count reader.old.rest).1)) }
+    ensures state { OnOk result (reader.new ≡ read_to reader.old (count reader.old.rest).1 reader.old.next (argument_faults reader.old.rest)) }
+    ensures steps { OnOk result (Paid reader.old.rest trail.old reader.new.rest trail.new) }
 {
-    let (count, span) = spanned_count(cursor, trail, found)?;
+    let (count, span) = spanned_count(reader, trail)?;
     Ok(WidthPart {
         zero_pad,
         count,
@@ -81,33 +75,31 @@ fn counted<'input, L: Ledger>(
 }
 
 /// Reads the width at the front. A `0` in front of it is a flag, unless a `$` makes it an index.
-#[tactic(auto, using(crate::proofs::Steps::part_le))]
+#[tactic(auto, using(crate::proofs::Steps::part_le, crate::proofs::SpecParts::widths_at_front))]
 pub fn width<'input, L: Ledger>(
-    cursor: &mut Cursor<'input>,
+    reader: &mut Reader<'input>,
     trail: &mut Trail<'input, L>,
-    found: &mut Vec<Fault<'input>>,
 ) -> Result<WidthPart<'input>, AllocError>
-    requires { IsFurthest cursor.old.rest trail.old }
-    ensures zero_pad { IfOk result (λ w. w.zero_pad ≡ is_padded (width cursor.old.rest).0) }
-    ensures count { IfOk result (λ w. seen_count w.count ≡ map_count (place_of cursor.old.world)
-        (width_of cursor.old.rest (width cursor.old.rest).0 (width cursor.old.rest).1)) }
-    ensures span { IfOk result (λ w. option_map pair w.span ≡ option_map (place_of cursor.old.world)
-        (width_span cursor.old.rest (width cursor.old.rest).0 (width cursor.old.rest).1)) }
-    ensures rest { OnOk result (cursor.new ≡ record cursor.old { rest = (width cursor.old.rest).1 }) }
-    ensures found { OnOk result (map seen_fault found.new.items
-        ≡ map seen_fault found.old.items ++ faults_in cursor.old.world (width_faults cursor.old.rest (width cursor.old.rest).0)) }
-    ensures steps { OnOk result (Paid cursor.old.rest trail.old cursor.new.rest trail.new) }
+    requires { IsFurthest reader.old.rest trail.old }
+    ensures zero_pad { IfOk result (λ w. w.zero_pad ≡ is_padded (width reader.old.rest).0) }
+    ensures count { IfOk result (λ w. seen_count w.count ≡ map_count (place_of reader.old.world)
+        (width_of reader.old.rest (width reader.old.rest).0 (width reader.old.rest).1)) }
+    ensures span { IfOk result (λ w. option_map pair w.span ≡ option_map (place_of reader.old.world)
+        (width_span reader.old.rest (width reader.old.rest).0 (width reader.old.rest).1)) }
+    ensures state { OnOk result (reader.new ≡ (let w = width reader.old.rest in
+        read_to reader.old w.1 reader.old.next (width_faults reader.old.rest w.0))) }
+    ensures steps { OnOk result (Paid reader.old.rest trail.old reader.new.rest trail.new) }
 {
-    if !spec::is_next(cursor, '0') {
-        return counted(false, cursor, trail, found);
+    if !spec::is_next(&reader.cursor, '0') {
+        return counted(false, reader, trail);
     }
-    let start = cursor.start();
-    cursor.advance(trail);
-    if !spec::is_next(cursor, '$') {
-        return counted(true, cursor, trail, found);
+    let start = reader.cursor.start();
+    reader.cursor.advance(trail);
+    if !spec::is_next(&reader.cursor, '$') {
+        return counted(true, reader, trail);
     }
-    let span = start..cursor.stop();
-    cursor.advance(trail);
+    let span = start..reader.cursor.stop();
+    reader.cursor.advance(trail);
     Ok(WidthPart {
         zero_pad: false,
         count: Count::CountIsParam(0),
@@ -116,36 +108,34 @@ pub fn width<'input, L: Ledger>(
 }
 
 /// Reads the precision at the front, and where it stands. A star takes the next number.
-#[tactic(auto, using(crate::proofs::Steps::part_le, crate::proofs::SpecParts::precisions_at_front))]
+#[tactic(auto, using(crate::proofs::Steps::part_le, crate::proofs::Steps::at_dot, crate::proofs::SpecParts::precisions_at_front))]
 pub fn precision<'input, L: Ledger>(
-    cursor: &mut Cursor<'input>,
+    reader: &mut Reader<'input>,
     trail: &mut Trail<'input, L>,
-    curarg: &mut usize,
-    found: &mut Vec<Fault<'input>>,
 ) -> Result<(Count<'input>, Option<Range<usize>>), AllocError>
-    requires numbers { curarg.old + 1 < 2 ^ 64 }
-    requires steps { IsInWord cursor.old.rest trail.old }
-    ensures value { IfOk result (λ k. seen_count k.0 ≡ map_count (place_of cursor.old.world)
-        (precision_of curarg.old cursor.old.rest (precision cursor.old.rest).0 (precision cursor.old.rest).1)) }
-    ensures span { IfOk result (λ k. option_map pair k.1 ≡ option_map (place_of cursor.old.world)
-        (precision_span cursor.old.rest (precision cursor.old.rest).0 (precision cursor.old.rest).1)) }
-    ensures rest { OnOk result (cursor.new ≡ record cursor.old { rest = (precision cursor.old.rest).1 }) }
-    ensures next { OnOk result (curarg.new ≡ behind_precision curarg.old (precision cursor.old.rest).0) }
-    ensures found { OnOk result (map seen_fault found.new.items
-        ≡ map seen_fault found.old.items ++ faults_in cursor.old.world (precision_faults cursor.old.rest (precision cursor.old.rest).0)) }
-    ensures steps { OnOk result (Paid cursor.old.rest trail.old cursor.new.rest trail.new) }
+    requires numbers { reader.old.next + 1 < 2 ^ 64 }
+    requires steps { IsInWord reader.old.rest trail.old }
+    ensures value { IfOk result (λ k. seen_count k.0 ≡ map_count (place_of reader.old.world)
+        (precision_of reader.old.next reader.old.rest (precision reader.old.rest).0 (precision reader.old.rest).1)) }
+    ensures span { IfOk result (λ k. option_map pair k.1 ≡ option_map (place_of reader.old.world)
+        (precision_span reader.old.rest (precision reader.old.rest).0 (precision reader.old.rest).1)) }
+    ensures state { OnOk result (reader.new ≡ (let p = precision reader.old.rest in
+        read_to reader.old p.1 (behind_precision reader.old.next p.0) (precision_faults reader.old.rest p.0))) }
+    ensures steps { OnOk result (Paid reader.old.rest trail.old reader.new.rest trail.new) }
 {
-    if !spec::is_next(cursor, '.') {
+    if !spec::is_next(&reader.cursor, '.') {
         return Ok((Count::CountImplied, None));
     }
-    let start = cursor.start();
-    cursor.advance(trail);
-    if spec::is_next(cursor, '*') {
-        let number = *curarg;
-        *curarg = number + 1;
-        cursor.advance(trail);
-        return Ok((Count::CountIsStar(number), Some(start..cursor.start())));
+    let start = reader.cursor.start();
+    reader.cursor.advance(trail);
+    if spec::is_next(&reader.cursor, '*') {
+        let number = reader.take_number();
+        reader.cursor.advance(trail);
+        return Ok((
+            Count::CountIsStar(number),
+            Some(start..reader.cursor.start()),
+        ));
     }
-    let count = spec::count(cursor, trail, found)?;
-    Ok((count, Some(start..cursor.start())))
+    let count = spec::count(reader, trail)?;
+    Ok((count, Some(start..reader.cursor.start())))
 }

@@ -1,56 +1,27 @@
-use Rattle.std.proofs.Common.{◌≡◌, ◌∙◌, ap, sym, Option, Some}
-use Rattle.rustc_parse_format.specs.Characters.{behind_white, behind_brace, behind_first, first}
-use Rattle.rustc_parse_format.specs.Marks.{up_to}
-use Rattle.rustc_parse_format.specs.Faults.{brace_fill, no_brace}
+use Rattle.std.proofs.Common.{◌∙◌, ap, map, sym}
+use Rattle.std.specs.Prelude.{option_map}
+use Rattle.rustc_parse_format.specs.Characters.{behind_white, behind_first}
 use Rattle.rustc_parse_format.specs.Meaning.{argument}
-use Rattle.rustc_parse_format.specs.Pieces.{Argument, NextArgument}
+use Rattle.rustc_parse_format.specs.Pieces.{Argument}
 use Rattle.rustc_parse_format.specs.Placeholder.{cut}
-use Rattle.rustc_parse_format.specs.Seen.{seen_argument, seen_mode, seen_spec}
-use Rattle.rustc_parse_format.specs.State.{Unread}
-use Rattle.rustc_parse_format.specs.World.{Place, place_of}
-use Rattle.rustc_parse_format.proofs.Arguments.{pair_same}
-use Rattle.rustc_parse_format.proofs.Placeholders.{ending, placeholder-piece, placeholder-rest, placeholder-next, placeholder_faults_in, unclosed_fault_in}
+use Rattle.rustc_parse_format.specs.Seen.{pair, seen_mode, seen_spec}
+use Rattle.rustc_parse_format.specs.SeenFaults.{seen_fault}
+use Rattle.rustc_parse_format.specs.State.{Midway, midway}
+use Rattle.rustc_parse_format.specs.World.{Place}
+use Rattle.rustc_parse_format.proofs.Placeholders.{behind_closing, ending, placeholder_read, unclosed_fault_in}
 use Rattle.rustc_parse_format.proofs.call.read_placeholder.Goals as goal
 
-pub returns-clause-piece : goal.returns-clause-piece
-returns-clause-piece g c =
+pub returns-clause-state : goal.returns-clause-state
+returns-clause-state g c =
     let m = seen_mode c.args.mode in
-    let t = c.args.cursor.now.rest in
-    let value = rw c.advance.ensures.rest at c.in_ok-argument.ensures.value in
-    let boxed = ap seen_argument c.in_ok-new.ensures.ok in
-    rw (placeholder-piece m c.args.curarg.now t (behind_first t)) (ap (λ (a : Argument Place). Some (NextArgument a)) (boxed ∙ value))
-
-pub returns-clause-rest : goal.returns-clause-rest
-returns-clause-rest g c =
-    let m = seen_mode c.args.mode in
-    let t = c.args.cursor.now.rest in
-    let rest = rw c.advance.ensures.rest at c.in_ok-argument.ensures.rest in
-    let at : ◌≡◌ {A = Unread} c.skip_white.new.self (record c.args.cursor.now { rest = ending m (behind_first t) }) = c.skip_white.ensures.rest ∙ ap (λ (u : Unread). record u { rest = behind_white u.rest }) rest in
-    rw (placeholder-rest m c.args.curarg.now t (behind_first t)) (c.in_ok-close.ensures.rest ∙ ap (λ (u : Unread). record u { rest = behind_brace u.rest }) at)
-
-pub returns-clause-next : goal.returns-clause-next
-returns-clause-next g c =
-    let m = seen_mode c.args.mode in
-    let t = c.args.cursor.now.rest in
-    let next = rw c.advance.ensures.rest at c.in_ok-argument.ensures.next in
-    rw (placeholder-next m c.args.curarg.now t (behind_first t)) next
-
-pub returns-clause-found : goal.returns-clause-found
-returns-clause-found g c =
-    let m = seen_mode c.args.mode in
-    let t = c.args.cursor.now.rest in
-    let rest = rw c.advance.ensures.rest at c.in_ok-argument.ensures.rest in
-    let found = rw c.advance.ensures.rest at c.in_ok-argument.ensures.found in
-    let at : ◌≡◌ {A = Unread} c.skip_white.new.self (record c.args.cursor.now { rest = ending m (behind_first t) }) = c.skip_white.ensures.rest ∙ ap (λ (u : Unread). record u { rest = behind_white u.rest }) rest in
-    let more = rw at at c.in_ok-close.ensures.found in
-    let value = rw c.advance.ensures.rest at c.in_ok-argument.ensures.value in
-    let w = c.args.cursor.now.world in
-    let format = (argument c.args.curarg.now (cut m (behind_first t))).format in
-    let seen = seen_spec c.in_ok-argument.argument.format in
-    let r = ending m (behind_first t) in
-    let here = place_of w (up_to r r) in
-    let missing =
-    ap (λ (s : Option Place). no_brace s (first r) here (c.start.result, c.stop.result)) c.brace_fill-fill.ensures ∙
-    (ap (λ (o : Place). no_brace (brace_fill seen.fill seen.fill_span) (first r) here o) (pair_same c.start.ensures c.stop.ensures) ∙
-    sym (unclosed_fault_in w t format r seen (ap (λ (a : Argument Place). a.format) value))) in
-    placeholder_faults_in w m c.args.curarg.now t (behind_first t) _ _ _ _ found missing more
+    let u = c.reader.inside.cursor in
+    let s = midway u c.reader.inside.curarg (map seen_fault c.reader.inside.found.items) in
+    let t = behind_first u.rest in
+    let given = rw c.advance.ensures.rest at c.in_ok-argument.ensures in
+    let format = ap (λ (a : Argument Place). a.format) given.value in
+    let fill = option_map pair c.brace_fill-fill.result in
+    let opening : Place = (c.start.result, c.stop.result) in
+    rw (← c.reader.view_is) (rw c.skip_white.ensures.rest at c.in_ok-close.ensures.state ∙
+    ap (λ (x : Midway). behind_closing fill opening (record x { rest = behind_white x.rest })) (c.reader-2.view_is ∙ given.state) ∙
+    placeholder_read s m u.rest t fill opening (rw (c.brace_fill-fill.ensures, c.start.ensures, c.stop.ensures)
+    (sym (unclosed_fault_in u.world u.rest (argument s.next (cut m t)).format (ending m t) (seen_spec c.in_ok-argument.argument.format) format))))

@@ -1,5 +1,4 @@
 use Rattle.std.proofs.Common.{chars}
-use Rattle.std.specs.Prelude.{if◌then◌else◌, is_some}
 use Rattle.rustc_parse_format.proofs.Steps.{moved}
 use Rattle.rustc_parse_format.proofs.chars.Cursor.advance.Goals as goal
 
