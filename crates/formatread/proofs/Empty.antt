@@ -5,8 +5,8 @@ use Rattle.std.proofs.lemmas.Option.{same_Some, none-some}
 use Rattle.std.proofs.lemmas.Str.{chars-nil}
 use Rattle.std.proofs.lemmas.List.{nil_from_length}
 use Rattle.rustc_parse_format.specs.Literal.{IsLiteral, ordinary_frame, raw_frame}
-use Rattle.rustc_parse_format.specs.Pieces.{Mode, Piece}
-use Rattle.rustc_parse_format.specs.Step.{call, pieces_of, walk}
+use Rattle.rustc_parse_format.specs.Types.{Mode, Piece}
+use Rattle.rustc_parse_format.specs.Call.{call, pieces_of, walk}
 use Rattle.rustc_parse_format.specs.State.{calls, fresh}
 use Rattle.rustc_parse_format.specs.World.{Place, World, pieces_in}
 use Rattle.formatread.specs.declared.run.Task.{Task as DeclaredTask}

@@ -1,9 +1,9 @@
 -- What the program owes for its words and for all bytes of its input.
 use Rattle.std.specs.Prelude.{◌≡◌, ◌≤◌, ◌<◌, ℕ, Bool, true, false, if◌then◌else◌, nat_lt, List, [], ◌∷◌, length, Option, Some, None, Result, Ok, Err, bytes_eq, chars, codes}
 use Rattle.std.specs.Str.{IsUtf8}
-use Rattle.rustc_parse_format.specs.Pieces.{Mode, Format, InlineAsm, Diagnostic, Piece}
+use Rattle.rustc_parse_format.specs.Types.{Mode, Format, InlineAsm, Diagnostic, Piece}
 use Rattle.rustc_parse_format.specs.World.{Place, world, pieces_in}
-use Rattle.rustc_parse_format.specs.Step.{pieces_of}
+use Rattle.rustc_parse_format.specs.Call.{pieces_of}
 use Rattle.rustc_parse_format.specs.State.{State, fresh, calls, after_all}
 use Rattle.formatread.specs.declared.verdict.RunFault.{RunFault}
 use Rattle.formatread.specs.declared.verdict.RunFault.TheVariants.{Words, Read, TooLong, NotText, NotLiteral, Memory, Write}

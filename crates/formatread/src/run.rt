@@ -1,6 +1,6 @@
 ghost use Rattle.std.specs.Prelude.{◌≡◌, ◌≢◌, ◌<◌, ◌≤◌, ◌↔◌, ◌⊎◌, ℕ, Bool, List, [], None, Some, Ok, Err, IfOk, IfErr, IfSome, IsErrOf, IsOk, IsOkUnless, OnOk, length, map, nat_lt, chars, option_map, string_bytes};
 ghost use Rattle.std.specs.Io.KnownBytes.{Appends};
-ghost use Rattle.rustc_parse_format.specs.Pieces.{Mode};
+ghost use Rattle.rustc_parse_format.specs.Types.{Mode};
 ghost use Rattle.rustc_parse_format.specs.Seen.{seen_mode};
 ghost use Rattle.formatread.specs.declared.verdict.RunFault.TheVariants.{Words, TooLong, NotText, NotLiteral, Read as ReadFault, Write as WriteFault};
 ghost use Rattle.formatread.specs.Program.{Answer, IsOwed, asked, empty_answer, limit, mode_named};

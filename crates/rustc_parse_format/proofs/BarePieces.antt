@@ -1,7 +1,7 @@
 -- Pieces without their spans do not depend on the world.
 use Rattle.std.proofs.Common.{◌≡◌, List, [], ◌∷◌, map, refl}
 use Rattle.rustc_parse_format.specs.Marks.{Span}
-use Rattle.rustc_parse_format.specs.Pieces.{Count, Is, Name, Param, Star, Implied, Piece, Lit, NextArgument, map_count, map_piece, bare_count, bare}
+use Rattle.rustc_parse_format.specs.Types.{Count, Is, Name, Param, Star, Implied, Piece, Lit, NextArgument, map_count, map_piece, bare_count, bare}
 use Rattle.rustc_parse_format.specs.World.{World, place_of, piece_in, pieces_in}
 
 bare_count-map : {A B : Type 0} (f : A → B) (k : Count A) → bare_count (map_count f k) ≡ bare_count k

@@ -1,9 +1,9 @@
 -- The argument that a cut means, without its spans, is the one that its field means.
 use Rattle.std.proofs.Common.{◌≡◌, ℕ, refl, ap}
 use Rattle.rustc_parse_format.specs.Characters.{Text}
-use Rattle.rustc_parse_format.specs.Pieces.{bare_count, bare_spec, bare_argument}
-use Rattle.rustc_parse_format.specs.Syntax.{CountText, NumberCount, IndexCount, NameCount, NoCount, WidthText, PaddedWidth, ZeroIndexWidth, PlainWidth, PrecisionText, NoPrecision, StarPrecision, DotPrecision, SpecText, Default, FormatParts, Modifier, DiagnosticText}
-use Rattle.rustc_parse_format.specs.Values.{count_value, width_value, precision_value, spec_value, behind_spec, position_of, argument_value}
+use Rattle.rustc_parse_format.specs.Types.{bare_count, bare_spec, bare_argument}
+use Rattle.rustc_parse_format.specs.Syntax.{CountText, NumberCount, IndexCount, NameCount, NoCount, WidthText, PaddedWidth, ZeroIndexWidth, PlainWidth, PrecisionText, NoPrecision, StarPrecision, DotPrecision, SpecText, Default, Formatting, Modifier, DiagnosticText}
+use Rattle.rustc_parse_format.specs.Values.{count_value, width_value, precision_value, spec_value, number_after_spec, position_of, argument_value}
 use Rattle.rustc_parse_format.specs.Placeholder.{Cut}
 use Rattle.rustc_parse_format.specs.Meaning.{count_of, width_of, precision_of, from_type, from_precision, from_width, format_of, spec_of, argument}
 use Rattle.rustc_parse_format.specs.Characters.{behind_first}
@@ -27,7 +27,7 @@ precision-bare c t (DotPrecision k) r = count-bare (behind_first t) k r
 spec-bare : (c : ℕ) (t r : Text) (k : SpecText) → bare_spec (spec_of c t k r) ≡ spec_value c k
 unfolding format_of
 spec-bare c t r Default = refl
-spec-bare c t r (FormatParts p) =
+spec-bare c t r (Formatting p) =
     rw (
       width-bare (from_width p r) p.width (from_precision p r),
       precision-bare c (from_precision p r) p.precision (from_type p r),
@@ -37,4 +37,4 @@ spec-bare c t r (DiagnosticText w) = refl
 
 pub argument-bare : (c : ℕ) (a : Cut) → bare_argument (argument c a) ≡ argument_value c a.field
 unfolding argument
-argument-bare c a = ap (λ f. record { position = position_of (behind_spec c a.field.spec) a.field.position; position_span = tt; format = f }) (spec-bare c a.spec_at a.rest a.field.spec)
+argument-bare c a = ap (λ f. record { position = position_of (number_after_spec c a.field.spec) a.field.position; position_span = tt; format = f }) (spec-bare c a.spec_at a.rest a.field.spec)

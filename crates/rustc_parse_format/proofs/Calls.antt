@@ -3,18 +3,18 @@ use Rattle.std.proofs.Common.{◌≡◌, ◌≢◌, ℕ, ◌++◌, ◌==◌, Boo
 use Rattle.std.proofs.lemmas.Bool.{cond_both, eqb-true, eq-eqb, not_from_false, not-true, false≢true}
 use Rattle.std.specs.Char.{is_whitespace}
 use Rattle.unicode_ident.proofs.Computing.{unicode_ident}
-use Rattle.rustc_parse_format.specs.Characters.{Text, is_brace, is_no_brace, front, behind, word, behind_word, digits, behind_digits, behind_white, behind_first, begins_with, starts}
+use Rattle.rustc_parse_format.specs.Characters.{Text, is_brace, is_no_brace, front, behind, word, behind_word, digits, behind_digits, behind_white, behind_first, begins_with, first_passes}
 use Rattle.rustc_parse_format.specs.Marks.{Span}
-use Rattle.rustc_parse_format.specs.Pieces.{Mode, Piece, Lit, NextArgument, bare}
+use Rattle.rustc_parse_format.specs.Types.{Mode, Piece, Lit, NextArgument, bare}
 use Rattle.rustc_parse_format.specs.Spelling.{IsPart, run, doubled}
 use Rattle.rustc_parse_format.specs.Syntax.{PieceText, RunText, DoubledText, PlaceholderText, piece_part}
 use Rattle.rustc_parse_format.specs.Placeholder.{cut}
-use Rattle.rustc_parse_format.specs.Values.{argument_value, next_number, piece_value, number_behind}
+use Rattle.rustc_parse_format.specs.Values.{argument_value, number_after_field, piece_value, number_after}
 use Rattle.rustc_parse_format.specs.Meaning.{argument}
 use Rattle.rustc_parse_format.specs.Grammar.{IsClean, IsCleanPiece, Begins}
 use Rattle.rustc_parse_format.specs.Faults.{Fault}
 use Rattle.rustc_parse_format.specs.PartFaults.{cut_faults}
-use Rattle.rustc_parse_format.specs.Step.{Call, call, placeholder, literal}
+use Rattle.rustc_parse_format.specs.Call.{Call, call, placeholder, text_call}
 use Rattle.rustc_parse_format.proofs.CleanWords.{none_right}
 use Rattle.rustc_parse_format.proofs.CleanCuts.{cut_clean, cut_faultless}
 use Rattle.rustc_parse_format.proofs.BareValues.{argument-bare}
@@ -31,14 +31,14 @@ pub record Steps (mode : Mode) (c : ℕ) (t : Text) (k : Call) : Type 0 where
 abbrev Good : Mode → ℕ → Text → Call → Type 0
 Good mode c t k = k.faults ≡ [] → Steps mode c t k
 
-text_steps : (mode : Mode) (c b : ℕ) (t : Text) → is_brace b ≡ false → Steps mode c (b ∷ t) (literal c [] (b ∷ t))
+text_steps : (mode : Mode) (c b : ℕ) (t : Text) → is_brace b ≡ false → Steps mode c (b ∷ t) (text_call c [] (b ∷ t))
 text_steps mode c b t e = record {
   piece = Lit (front is_no_brace (b ∷ t));
   given = refl;
   begins = record { text = RunText (front is_no_brace (b ∷ t)); written = some_run-sound is_no_brace b t (not_from_false _ e); clean = tt; means = refl; numbered = refl };
 }
 
-doubled_steps : (mode : Mode) (c b : ℕ) (t : Text) → is_brace b ≡ true → begins_with b t ≡ true → Steps mode c (b ∷ t) (literal c (b ∷ []) (behind_first t))
+doubled_steps : (mode : Mode) (c b : ℕ) (t : Text) → is_brace b ≡ true → begins_with b t ≡ true → Steps mode c (b ∷ t) (text_call c (b ∷ []) (behind_first t))
 doubled_steps mode c b [] e h = cc h
 doubled_steps mode c b (d ∷ t) e h =
     let two : IsPart (b ∷ d ∷ t) (doubled is_brace b) t = record { whole = ap (λ x. b ∷ x ∷ t) (eqb-true d b h); formed = e; ends = refl } in
@@ -102,7 +102,7 @@ pub record Gives (p : Piece (Unit {0})) (r : Text) (n : ℕ) (k : Call) : Type 0
 given_as : {p q : Piece (Unit {0})} {r s : Text} {n m : ℕ} {k : Call} → Gives p r n k → p ≡ q → r ≡ s → n ≡ m → Gives q s m k
 given_as g e f h = record { piece = g.piece; given = g.given; same = g.same ∙ e; faultless = g.faultless; rest = g.rest ∙ f; next = g.next ∙ h }
 
-call_run : (mode : Mode) (c : ℕ) (t : Text) → starts is_no_brace t ≡ true → Gives (Lit (front is_no_brace t)) (behind is_no_brace t) c (call mode c t)
+call_run : (mode : Mode) (c : ℕ) (t : Text) → first_passes is_no_brace t ≡ true → Gives (Lit (front is_no_brace t)) (behind is_no_brace t) c (call mode c t)
 unfolding call
 call_run mode c [] e = absurd (false≢true e)
 call_run mode c (b ∷ t) e =
@@ -139,7 +139,7 @@ opens_one mode (d ∷ t) r e = cond_free (d == 123) (λ h. again d t (eqb-true d
     again d t h e = differ r t (sym e ∙ rw h (brace_stays mode t))
 
 call_closed : (mode : Mode) (c : ℕ) (t r : Text) → behind_white (cut mode t).rest ≡ 125 ∷ r → IsClean (cut mode t).field →
-    Gives (NextArgument (argument_value c (cut mode t).field)) r (next_number c (cut mode t).field) (call mode c (123 ∷ t))
+    Gives (NextArgument (argument_value c (cut mode t).field)) r (number_after_field c (cut mode t).field) (call mode c (123 ∷ t))
 unfolding call placeholder
 call_closed mode c t r e h =
     let one = opens_one mode t r e in
@@ -149,7 +149,7 @@ call_closed mode c t r e h =
 moved : (mode : Mode) (c : ℕ) (t u : Text) (p : Piece (Unit {0})) (r : Text) (n : ℕ) → t ≡ u → Gives p r n (call mode c u) → Gives p r n (call mode c t)
 moved mode c t u p r n e g = rw e g
 
-part_call : (mode : Mode) (c : ℕ) (t : Text) (x : PieceText) (r : Text) → IsPart t (piece_part mode x) r → IsCleanPiece x → Gives (piece_value c x) r (number_behind c x) (call mode c t)
+part_call : (mode : Mode) (c : ℕ) (t : Text) (x : PieceText) (r : Text) → IsPart t (piece_part mode x) r → IsCleanPiece x → Gives (piece_value c x) r (number_after c x) (call mode c t)
 part_call mode c t (RunText u) r w h =
     let k = some_run-complete is_no_brace t u r w in
     given_as (call_run mode c t k.begins) (ap Lit k.read) k.behind refl
@@ -160,7 +160,7 @@ part_call mode c t (DoubledText b u) r w h =
 part_call mode c t (PlaceholderText a space) r w h =
     let k = by_cut mode t a space r w in
     moved mode c t (123 ∷ k.inside) _ r _ k.opens
-    (given_as (call_closed mode c k.inside r k.closes (subst IsClean k.field h)) (ap (λ x. NextArgument (argument_value c x)) (sym k.field)) refl (ap (next_number c) (sym k.field)))
+    (given_as (call_closed mode c k.inside r k.closes (subst IsClean k.field h)) (ap (λ x. NextArgument (argument_value c x)) (sym k.field)) refl (ap (number_after_field c) (sym k.field)))
 
 -- A call gives the piece that begins the text, with no fault.
 pub begins_call : (mode : Mode) (c : ℕ) (t : Text) (p : Piece (Unit {0})) (r : Text) (n : ℕ) → Begins mode c t p r n → Gives p r n (call mode c t)

@@ -3,12 +3,12 @@ use Rattle.std.proofs.Common.{◌≡◌, ◌++◌, ◌==◌, ℕ, [], ◌∷◌,
 use Rattle.std.proofs.lemmas.Bool.{cond_both}
 use Rattle.std.specs.Char.{is_ascii_digit}
 use Rattle.rustc_parse_format.specs.Characters.{Text, is_id_start, word, behind_white}
-use Rattle.rustc_parse_format.specs.Pieces.{Mode, Format, InlineAsm, Diagnostic, DebugHex, Lower, Upper}
+use Rattle.rustc_parse_format.specs.Types.{Mode, Format, InlineAsm, Diagnostic, DebugHex, Lower, Upper}
 use Rattle.rustc_parse_format.specs.Counts.{width, precision}
 use Rattle.rustc_parse_format.specs.Syntax.{SpecText}
-use Rattle.rustc_parse_format.specs.Specification.{type, behind_hex, width_at, precision_at, type_at, format_parts, specification, behind_colon}
+use Rattle.rustc_parse_format.specs.Specification.{type, behind_hex, width_at, precision_at, type_at, format_text, specification, behind_colon}
 use Rattle.rustc_parse_format.specs.Placeholder.{position, cut}
-use Rattle.rustc_parse_format.specs.Grammar.{IsClean, IsCleanPosition, IsCleanType, AreCleanParts, IsCleanSpec}
+use Rattle.rustc_parse_format.specs.Grammar.{IsClean, IsCleanPosition, IsCleanType, IsCleanFormat, IsCleanSpec}
 use Rattle.rustc_parse_format.specs.PartFaults.{number_faults, argument_faults, width_faults, precision_faults, type_faults, format_faults, spec_faults, cut_faults}
 use Rattle.rustc_parse_format.proofs.CleanWords.{none_left, none_right, none_both, named, small, unnamed, unlarge, choose, no_word, no_digits, digit_word, word_first, no_word_at_end, no_digits_at_end}
 use Rattle.rustc_parse_format.proofs.PartPlaces.{format_faults-at}
@@ -68,8 +68,8 @@ type_faultless (c ∷ t) h =
     (λ z h. unnamed (c ∷ t) h)))
     h
 
-format_clean : (t : Text) → format_faults (format_parts t).0 (format_parts t).1 ≡ [] → AreCleanParts (format_parts t).0
-unfolding format_parts
+format_clean : (t : Text) → format_faults (format_text t).0 (format_text t).1 ≡ [] → IsCleanFormat (format_text t).0
+unfolding format_text
 format_clean t e =
     let wide = width_faults (width_at t) (width (width_at t)).0 in
     let precise = precision_faults (precision_at t) (precision (precision_at t)).0 in
@@ -93,8 +93,8 @@ underscore_stays (c ∷ t) e = at c t (word_first c t e) e
     at : (c : ℕ) (t : Text) → c ≡ 95 → word (c ∷ t) ≡ codes "_" → ((precision (c ∷ t)).1 ≡ c ∷ t) × (IsCleanType (type (c ∷ t)).0 → ⊥)
     at c t h = rw h (λ e. (refl, λ named. named e))
 
-format_faultless : (t : Text) → AreCleanParts (format_parts t).0 → format_faults (format_parts t).0 (format_parts t).1 ≡ []
-unfolding format_parts
+format_faultless : (t : Text) → IsCleanFormat (format_text t).0 → format_faults (format_text t).0 (format_text t).1 ≡ []
+unfolding format_text
 format_faultless t h =
     let stays : word (precision_at t) ≡ codes "_" → ⊥ =
     λ u. (underscore_stays (precision_at t) u).1 (rw (← (underscore_stays (precision_at t) u).0) h.type) in

@@ -2,7 +2,7 @@
 use Rattle.std.proofs.Common.{◌≡◌, ◌↔◌, IsTrue, ap}
 use Rattle.std.specs.Prelude.{chars, option_map}
 use Rattle.rustc_parse_format.specs.KnownTexts.{IsTextInArgument, IsTextInPiece, IsTextInSpec}
-use Rattle.rustc_parse_format.specs.Pieces.{Argument, Lit, NextArgument, Piece, Spec}
+use Rattle.rustc_parse_format.specs.Types.{Argument, Lit, NextArgument, Piece, Spec}
 use Rattle.rustc_parse_format.specs.Seen.{pair, seen, seen_alignment, seen_argument, seen_count, seen_debug_hex, seen_sign, seen_spec}
 use Rattle.rustc_parse_format.specs.World.{Place}
 use Rattle.rustc_parse_format.specs.declared.types.Argument.{Argument as DeclaredArgument}

@@ -1,7 +1,7 @@
 -- Worked rows of faulty inputs, each by computing: which pieces come, which faults are found where, and what they say.
 use Rattle.std.proofs.Common.{◌≡◌, ◌++◌, [], ◌∷◌, refl, ap, false, arith, Some, None, codes}
 use Rattle.std.proofs.lemmas.Fmt.{hex_two_digits}
-use Rattle.rustc_parse_format.specs.Pieces.{Implicit, Index, Named, Lit}
+use Rattle.rustc_parse_format.specs.Types.{Implicit, Index, Named, Lit}
 use Rattle.rustc_parse_format.specs.Faults.{UnmatchedBrace, MissingBrace, TooLarge, message, Nothing}
 use Rattle.rustc_parse_format.specs.World.{Place}
 use Rattle.rustc_parse_format.specs.State.{next_call, after}

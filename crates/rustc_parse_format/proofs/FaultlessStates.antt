@@ -3,10 +3,10 @@ use Rattle.std.proofs.Common.{◌≡◌, ◌≢◌, suc, ◌+◌, ◌++◌, List
 use Rattle.std.proofs.lemmas.Bool.{cond_both}
 use Rattle.rustc_parse_format.specs.Characters.{Text}
 use Rattle.rustc_parse_format.specs.Marks.{Span}
-use Rattle.rustc_parse_format.specs.Pieces.{Mode, Piece, bare}
+use Rattle.rustc_parse_format.specs.Types.{Mode, Piece, bare}
 use Rattle.rustc_parse_format.specs.Grammar.{Reads, StopsInside}
 use Rattle.rustc_parse_format.specs.Faults.{Fault, Message, message, is_front, add_errors}
-use Rattle.rustc_parse_format.specs.Step.{Call, pieces_of}
+use Rattle.rustc_parse_format.specs.Call.{Call, pieces_of}
 use Rattle.rustc_parse_format.specs.World.{World, faults_in}
 use Rattle.rustc_parse_format.specs.State.{State, fresh, after, calls, after_all}
 use Rattle.rustc_parse_format.proofs.Progress.{walk-IsWalk}

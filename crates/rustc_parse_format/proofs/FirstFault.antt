@@ -2,11 +2,11 @@
 use Rattle.std.proofs.Common.{◌≡◌, ◌≢◌, ℕ, suc, ◌<◌, ◌++◌, ◌⊎◌, List, [], ◌∷◌, take, drop, length, length-append, append_assoc, refl, sym, inl, inr, ◌∙◌, ap, arith, Some}
 use Rattle.rustc_parse_format.specs.Characters.{Text}
 use Rattle.rustc_parse_format.specs.Marks.{Span}
-use Rattle.rustc_parse_format.specs.Pieces.{Mode, Piece, bare}
+use Rattle.rustc_parse_format.specs.Types.{Mode, Piece, bare}
 use Rattle.rustc_parse_format.specs.Syntax.{piece_part}
-use Rattle.rustc_parse_format.specs.Values.{piece_value, number_behind}
+use Rattle.rustc_parse_format.specs.Values.{piece_value, number_after}
 use Rattle.rustc_parse_format.specs.Grammar.{Begins, Reads, StopsInside}
-use Rattle.rustc_parse_format.specs.Step.{Call, call, IsWalk}
+use Rattle.rustc_parse_format.specs.Call.{Call, call, IsWalk}
 use Rattle.rustc_parse_format.proofs.Locality.{piece-local}
 use Rattle.rustc_parse_format.proofs.Calls.{begins_call}
 use Rattle.rustc_parse_format.proofs.Walks.{Faultless, bare_pieces, goes_on, call_same, ended}
@@ -38,7 +38,7 @@ begins_at : (mode : Mode) (c d : ℕ) (t : Text) (p : Piece (Unit {0})) (r : Tex
 begins_at mode c d t p r n b = record {
   piece = piece_value d b.text;
   rest = r;
-  next = number_behind d b.text;
+  next = number_after d b.text;
   begins = record { text = b.text; written = b.written; clean = b.clean; means = refl; numbered = refl };
 }
 

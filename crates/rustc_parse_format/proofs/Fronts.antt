@@ -2,7 +2,7 @@
 use Rattle.std.proofs.Common.{◌≡◌, ℕ, ◌++◌, Bool, true, false, cond, [], ◌∷◌, refl, ap, ◌∙◌}
 use Rattle.std.specs.List.{list_all}
 use Rattle.std.proofs.lemmas.Bool.{cond_both, cond-true, cond-false, and_parts, and_from}
-use Rattle.rustc_parse_format.specs.Characters.{Text, is_id_start, is_id_continue, front, behind, starts, word, behind_word, behind_first, with_first}
+use Rattle.rustc_parse_format.specs.Characters.{Text, is_id_start, is_id_continue, front, behind, first_passes, word, behind_word, behind_first, with_first}
 
 -- A text is such a front, and what is after it,
 pub front-behind : (p : ℕ → Bool) (t : Text) → t ≡ front p t ++ behind p t
@@ -33,20 +33,20 @@ list_all-front p [] = refl
 list_all-front p (c ∷ t) = cond_both (p c) (c ∷ front p t) [] (λ s. list_all p s ≡ true)
     (λ yes. and_from _ _ yes (list_all-front p t)) (λ no. refl)
 
-pub starts-behind : (p : ℕ → Bool) (t : Text) → starts p (behind p t) ≡ false
-starts-behind p [] = refl
-starts-behind p (c ∷ t) = cond_both (p c) (behind p t) (c ∷ t) (λ s. starts p s ≡ false)
-    (λ yes. starts-behind p t) (λ no. no)
+pub first_passes-behind : (p : ℕ → Bool) (t : Text) → first_passes p (behind p t) ≡ false
+first_passes-behind p [] = refl
+first_passes-behind p (c ∷ t) = cond_both (p c) (behind p t) (c ∷ t) (λ s. first_passes p s ≡ false)
+    (λ yes. first_passes-behind p t) (λ no. no)
 
 -- Characters that pass, where none follows, are that front.
-pub front-append : (p : ℕ → Bool) (w r : Text) → list_all p w ≡ true → starts p r ≡ false → front p (w ++ r) ≡ w
+pub front-append : (p : ℕ → Bool) (w r : Text) → list_all p w ≡ true → first_passes p r ≡ false → front p (w ++ r) ≡ w
 front-append p [] [] a b = refl
 front-append p [] (c ∷ r) a b = cond-false (p c) _ _ b
 front-append p (c ∷ w) r a b =
     let h : (p c ≡ true) × (list_all p w ≡ true) = and_parts (p c) _ a in
     cond-true (p c) _ _ h.0 ∙ ap (λ s. c ∷ s) (front-append p w r h.1 b)
 
-pub behind-append : (p : ℕ → Bool) (w r : Text) → list_all p w ≡ true → starts p r ≡ false → behind p (w ++ r) ≡ r
+pub behind-append : (p : ℕ → Bool) (w r : Text) → list_all p w ≡ true → first_passes p r ≡ false → behind p (w ++ r) ≡ r
 behind-append p [] [] a b = refl
 behind-append p [] (c ∷ r) a b = cond-false (p c) _ _ b
 behind-append p (c ∷ w) r a b =

@@ -2,24 +2,24 @@
 use Prim.Native.Char.{code}
 use Rattle.std.proofs.Common.{◌≡◌, [], ◌∷◌, List, refl, codes, Some, None, true, false, arith}
 use Rattle.std.proofs.lemmas.Bool.{false≢true}
-use Rattle.rustc_parse_format.specs.Pieces.{Format, Diagnostic, Left, Right, Unknown, Plus, Lower, Implicit, Is, Piece, NextArgument, default_spec}
+use Rattle.rustc_parse_format.specs.Types.{Format, Diagnostic, Left, Right, Unknown, Plus, Lower, Implicit, Is, Piece, NextArgument, default_spec}
 use Rattle.rustc_parse_format.specs.Spelling.{IsPart}
-use Rattle.rustc_parse_format.specs.Syntax.{Word, NoPosition, NumberCount, IndexCount, NameCount, NoCount, PaddedWidth, ZeroIndexWidth, PlainWidth, NoPrecision, DotPrecision, DebugHexType, CharacterType, WordType, Parts, Default, FormatParts, DiagnosticText, FieldText, PlaceholderText, opened_part, IsCut}
+use Rattle.rustc_parse_format.specs.Syntax.{Word, NoPosition, NumberCount, IndexCount, NameCount, NoCount, PaddedWidth, ZeroIndexWidth, PlainWidth, NoPrecision, DotPrecision, DebugHexType, CharacterType, WordType, FormatText, Default, Formatting, DiagnosticText, FieldText, PlaceholderText, opened_part, IsCut}
 use Rattle.rustc_parse_format.specs.Grammar.{Reads}
 use Rattle.rustc_parse_format.proofs.Readings.{Reads-unique}
 use Rattle.rustc_parse_format.proofs.Rows.{computing}
 
 -- a specification in which nothing is written
-abbrev nothing : Parts
+abbrev nothing : FormatText
 nothing = record { fill = None; align = Unknown; sign = None; alternate = false; width = PlainWidth NoCount; precision = NoPrecision; type = WordType [] }
 
-abbrev spec : Parts → FieldText
-spec p = record { position = NoPosition; space = []; spec = FormatParts p }
+abbrev spec : FormatText → FieldText
+spec p = record { position = NoPosition; space = []; spec = Formatting p }
 
 -- One placeholder, with what is written in it.
 all_parts-are_written :
     IsCut Format (codes "a :*>+#05$.b$x?}")
-    (record { position = Word (codes "a"); space = codes " "; spec = FormatParts (record { fill = Some (code "*"); align = Right; sign = Some Plus; alternate = true; width = PaddedWidth (IndexCount (codes "5")); precision = DotPrecision (NameCount (codes "b")); type = DebugHexType Lower }) })
+    (record { position = Word (codes "a"); space = codes " "; spec = Formatting (record { fill = Some (code "*"); align = Right; sign = Some Plus; alternate = true; width = PaddedWidth (IndexCount (codes "5")); precision = DotPrecision (NameCount (codes "b")); type = DebugHexType Lower }) })
     (codes "}")
 unfolding computing
 all_parts-are_written = record { whole = refl; formed = refl; ends = refl }

@@ -1,6 +1,6 @@
 -- Worked rows of arguments that are a name and nothing else, and of some that are not.
 use Rattle.std.proofs.Common.{◌≡◌, refl, ap, codes, Option, Some, None}
-use Rattle.rustc_parse_format.specs.Pieces.{Position, Implicit, Index, Named, Count, Is, Implied, Spec, Argument, default_spec}
+use Rattle.rustc_parse_format.specs.Types.{Position, Implicit, Index, Named, Count, Is, Implied, Spec, Argument, default_spec}
 use Rattle.rustc_parse_format.specs.Identifiers.{IsIdentifier}
 use Rattle.rustc_parse_format.specs.World.{Place}
 

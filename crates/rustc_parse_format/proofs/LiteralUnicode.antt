@@ -6,7 +6,7 @@ use Rattle.std.specs.Char.{digit_value}
 use Rattle.std.specs.Str.Parse.{digits_value_after}
 use Rattle.std.proofs.Math.Nat.{pow-suc, pow-le-pow_right}
 use Rattle.std.proofs.lemmas.Bool.{cond_both, cond-false, eqb-true, le-leb, lt-leb, lt-ltb, ltb-true, ltb-false, cases_Bool, and_left, and_right, or_right}
-use Rattle.rustc_parse_format.specs.Characters.{Text, front, behind, behind_first, begins_with, starts}
+use Rattle.rustc_parse_format.specs.Characters.{Text, front, behind, behind_first, begins_with, first_passes}
 use Rattle.rustc_parse_format.specs.LiteralUnits.{LiteralUnit, UnicodeEscape, meaning, unicode_at, at_brace, is_unicode, is_inside, is_hex, is_underscore, is_scalar, hex_digits, value}
 
 abbrev is_digit_or_underscore : ℕ → Bool
@@ -23,7 +23,7 @@ behind_digits n v (c ∷ t) =
 -- the same where the characters up to the brace are known
 abbrev is_good : ℕ → ℕ → Text → Bool
 is_good n v w =
-    (nat_lt 0 n || starts is_hex w) && (list_all is_digit_or_underscore w
+    (nat_lt 0 n || first_passes is_hex w) && (list_all is_digit_or_underscore w
     && (nat_le (n + length (hex_digits w)) 6 && is_scalar (digits_value_after 16 v (hex_digits w))))
 
 abbrev close : Bool → ℕ → Text → Option (Text × Text)
@@ -56,7 +56,7 @@ at_underscore_step n v t w b e = by_test (nat_lt 0 n) e
     remaining = list_all is_digit_or_underscore w &&
         (nat_le (n + length (hex_digits w)) 6 && is_scalar (digits_value_after 16 v (hex_digits w)))
 
-    by_test : (some : Bool) → behind_digits n v t ≡ close ((some || starts is_hex w) && remaining)
+    by_test : (some : Bool) → behind_digits n v t ≡ close ((some || first_passes is_hex w) && remaining)
         (digits_value_after 16 v (hex_digits w)) b →
         cond some (behind_digits n v t) None ≡ close ((some || false) && remaining) (digits_value_after 16 v (hex_digits w)) b
     by_test true f = f

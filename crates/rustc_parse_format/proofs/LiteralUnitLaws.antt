@@ -3,9 +3,9 @@ use Rattle.std.proofs.Common.{◌≡◌, ℕ, ◌++◌, true, false, ◌||◌, [
 use Rattle.std.specs.Prelude.{IsTrue, is_some, ⊤, ◌==◌}
 use Rattle.std.specs.List.{list_all}
 use Rattle.std.proofs.lemmas.Bool.{cond_both, cond-true, cond-false, and_parts, eqb-true, ne_eqb, not-false, not-true, not_from_false, or_parts, both_ways, false≢true}
-use Rattle.rustc_parse_format.specs.Characters.{Text, front, behind, starts}
+use Rattle.rustc_parse_format.specs.Characters.{Text, front, behind, first_passes}
 use Rattle.rustc_parse_format.specs.LiteralUnits.{LiteralUnit, Plain, SimpleEscape, ByteEscape, UnicodeEscape, Continuation, spelling, is_unit, may_precede, with_rest, at_brace, unicode_at, byte_at, escape_at, unit_at, is_skipped, is_inside, is_hex, is_underscore, is_plain, is_unicode, escaped}
-use Rattle.rustc_parse_format.proofs.Fronts.{front-behind, list_all-front, starts-behind, front-append, behind-append, list_all-weaker}
+use Rattle.rustc_parse_format.proofs.Fronts.{front-behind, list_all-front, first_passes-behind, front-append, behind-append, list_all-weaker}
 
 -- It is a unit that may stand there, and the text is it and the rest.
 pub record IsAtFront (t : Text) (u : LiteralUnit) (r : Text) : Type 0 where
@@ -27,7 +27,7 @@ byte_at-fits [] = tt
 byte_at-fits (h ∷ []) = tt
 byte_at-fits (h ∷ l ∷ r) = with_rest-fits _ (ByteEscape h l) r refl refl
 
-at_brace-fits : (t w b : Text) → t ≡ w ++ b → starts is_inside b ≡ false → Fits (92 ∷ 117 ∷ 123 ∷ t) (at_brace w b)
+at_brace-fits : (t w b : Text) → t ≡ w ++ b → first_passes is_inside b ≡ false → Fits (92 ∷ 117 ∷ 123 ∷ t) (at_brace w b)
 at_brace-fits t w [] e n = tt
 at_brace-fits t w (c ∷ r) e n =
     let brace : c ≡ 125 = eqb-true c 125 (not-false _ n) in
@@ -40,7 +40,7 @@ unicode_at-fits [] = tt
 unicode_at-fits (c ∷ t) =
     cond_both (c == 123) (at_brace (front is_inside t) (behind is_inside t)) None (Fits (92 ∷ 117 ∷ c ∷ t))
     (λ yes. rw (eqb-true c 123 yes) (at_brace-fits t (front is_inside t) (behind is_inside t) (front-behind is_inside t)
-    (starts-behind is_inside t)))
+    (first_passes-behind is_inside t)))
     (λ no. tt)
 
 escape_at-fits : (t : Text) → Fits (92 ∷ t) (escape_at t)
@@ -50,7 +50,7 @@ escape_at-fits (l ∷ t) =
     cond_both {A = Option (LiteralUnit × Text)} (l == 10) _ _ (Fits (92 ∷ l ∷ t))
     (λ yes. record {
       well_formed = list_all-front is_skipped t;
-      takes_all = not_from_false _ (starts-behind is_skipped t);
+      takes_all = not_from_false _ (first_passes-behind is_skipped t);
       split = ap (λ d. 92 ∷ d ∷ t) (eqb-true l 10 yes) ∙ ap (λ s. 92 ∷ 10 ∷ s) (front-behind is_skipped t);
     })
     (λ _. cond_both {A = Option (LiteralUnit × Text)} (l == 120) _ _ (Fits (92 ∷ l ∷ t))

@@ -6,11 +6,11 @@ use Rattle.std.specs.Prelude.{◌==◌, ◌||◌, ◌&&◌}
 use Rattle.std.proofs.lemmas.Bool.{and_parts, and_from, not_from_false, not-true}
 use Rattle.unicode_ident.proofs.Computing.{unicode_ident}
 use Rattle.std.specs.Char.{is_ascii_digit, is_whitespace}
-use Rattle.rustc_parse_format.specs.Characters.{Text, is_align, is_no_brace, is_id_start, is_id_continue, behind, behind_word, behind_first, begins_with, starts}
-use Rattle.rustc_parse_format.specs.Pieces.{Mode, Format, InlineAsm, Diagnostic, Alignment, Left, Right, Center, Unknown, Sign, Plus, Minus, Lower, Upper}
-use Rattle.rustc_parse_format.specs.Spelling.{Part, IsPart, row, fixed, unless, absent, run, integer, optional_identifier, begins}
-use Rattle.rustc_parse_format.proofs.PartNames.{begins_count, begins-count}
-use Rattle.rustc_parse_format.specs.Syntax.{PositionText, Digits, Word, NoPosition, position_part, fill_part, align_part, is_sign, sign_part, alternate_part, CountText, NumberCount, IndexCount, NameCount, NoCount, name_part, count_part, WidthText, PaddedWidth, ZeroIndexWidth, PlainWidth, width_part, PrecisionText, NoPrecision, StarPrecision, DotPrecision, precision_part, TypeText, DebugHexType, CharacterType, WordType, is_type_character, type_part, Parts, format_part, SpecText, Default, FormatParts, Modifier, DiagnosticText, spec_part, FieldText, field_part, placeholder_part, PieceText, RunText, DoubledText, PlaceholderText, piece_part}
+use Rattle.rustc_parse_format.specs.Characters.{Text, is_align, is_no_brace, is_id_start, is_id_continue, behind, behind_word, behind_first, begins_with, first_passes}
+use Rattle.rustc_parse_format.specs.Types.{Mode, Format, InlineAsm, Diagnostic, Alignment, Left, Right, Center, Unknown, Sign, Plus, Minus, Lower, Upper}
+use Rattle.rustc_parse_format.specs.Spelling.{Part, IsPart, row, fixed, unless, absent, run, integer, optional_identifier, begins_with_part}
+use Rattle.rustc_parse_format.proofs.PartNames.{begins_count, begins_with_part-count}
+use Rattle.rustc_parse_format.specs.Syntax.{PositionText, Digits, Word, NoPosition, position_part, fill_part, align_part, is_sign, sign_part, alternate_part, CountText, NumberCount, IndexCount, NameCount, NoCount, name_part, count_part, WidthText, PaddedWidth, ZeroIndexWidth, PlainWidth, width_part, PrecisionText, NoPrecision, StarPrecision, DotPrecision, precision_part, TypeText, DebugHexType, CharacterType, WordType, is_type_character, type_part, FormatText, format_part, SpecText, Default, Formatting, Modifier, DiagnosticText, spec_part, FieldText, field_part, placeholder_part, PieceText, RunText, DoubledText, PlaceholderText, piece_part}
 
 -- with z gone from after the brace, what passed still passes
 abbrev IsLocal : (Text → Bool) → Type 0
@@ -29,13 +29,13 @@ blind_not f h u q z e = ap not (h u q (q ++ z)) ∙ e
 always : IsLocal (λ t. true)
 always u q z e = refl
 
-starts-blind : (p : ℕ → Bool) → IsBlind (starts p)
-starts-blind p [] r s = refl
-starts-blind p (c ∷ u) r s = refl
+first_passes-blind : (p : ℕ → Bool) → IsBlind (first_passes p)
+first_passes-blind p [] r s = refl
+first_passes-blind p (c ∷ u) r s = refl
 
-begins-blind : (c : ℕ) → IsBlind (begins_with c)
-begins-blind c [] r s = refl
-begins-blind c (d ∷ u) r s = refl
+begins_with-blind : (c : ℕ) → IsBlind (begins_with c)
+begins_with-blind c [] r s = refl
+begins_with-blind c (d ∷ u) r s = refl
 
 -- what is left after a front that the brace ends
 abbrev IsLeft : (Text → Text) → Text → Type 0
@@ -62,10 +62,10 @@ count-blind : IsBlind begins_count
 count-blind u r s =
     let w = word-left u in
     let name : begins_with (code "$") (behind_word (u ++ 125 ∷ r)) ≡ begins_with (code "$") (behind_word (u ++ 125 ∷ s)) =
-    ap (begins_with (code "$")) (w.1 r) ∙ (begins-blind (code "$") w.0 r s ∙ ap (begins_with (code "$")) (sym (w.1 s))) in
-    ap (λ b. b || (starts is_id_start (u ++ 125 ∷ r) && begins_with (code "$") (behind_word (u ++ 125 ∷ r)))) (starts-blind is_ascii_digit u r s)
-    ∙ (ap (λ b. starts is_ascii_digit (u ++ 125 ∷ s) || (b && begins_with (code "$") (behind_word (u ++ 125 ∷ r)))) (starts-blind is_id_start u r s)
-    ∙ ap (λ b. starts is_ascii_digit (u ++ 125 ∷ s) || (starts is_id_start (u ++ 125 ∷ s) && b)) name)
+    ap (begins_with (code "$")) (w.1 r) ∙ (begins_with-blind (code "$") w.0 r s ∙ ap (begins_with (code "$")) (sym (w.1 s))) in
+    ap (λ b. b || (first_passes is_id_start (u ++ 125 ∷ r) && begins_with (code "$") (behind_word (u ++ 125 ∷ r)))) (first_passes-blind is_ascii_digit u r s)
+    ∙ (ap (λ b. first_passes is_ascii_digit (u ++ 125 ∷ s) || (b && begins_with (code "$") (behind_word (u ++ 125 ∷ r)))) (first_passes-blind is_id_start u r s)
+    ∙ ap (λ b. first_passes is_ascii_digit (u ++ 125 ∷ s) || (first_passes is_id_start (u ++ 125 ∷ s) && b)) name)
 
 abbrev PartIsLocal : Part → Type 0
 PartIsLocal p = IsLocal p.may_precede
@@ -86,26 +86,26 @@ row-local (p ∷ ps) h u q z e =
 two-local : (p q : Part) → PartIsLocal p → PartIsLocal q → PartIsLocal (row (p ∷ q ∷ []))
 two-local p q h k = row-local (p ∷ q ∷ []) (h, (k, tt))
 
-class_ends : (p : ℕ → Bool) → IsLocal (λ t. not (starts p t))
-class_ends p = blind_not (starts p) (starts-blind p)
+class_ends : (p : ℕ → Bool) → IsLocal (λ t. not (first_passes p t))
+class_ends p = blind_not (first_passes p) (first_passes-blind p)
 
 letter_ends : (c : ℕ) → IsLocal (λ t. not (begins_with c t))
-letter_ends c = blind_not (begins_with c) (begins-blind c)
+letter_ends c = blind_not (begins_with c) (begins_with-blind c)
 
-either-blind : (p q : ℕ → Bool) → IsBlind (λ t. starts p t || starts q t)
+either-blind : (p q : ℕ → Bool) → IsBlind (λ t. first_passes p t || first_passes q t)
 either-blind p q [] r s = refl
 either-blind p q (c ∷ u) r s = refl
 
 position-local : (p : PositionText) → PartIsLocal (position_part p)
 position-local (Digits ds) = class_ends is_ascii_digit
 position-local (Word w) = class_ends is_id_continue
-position-local NoPosition = blind_not (λ t. starts is_ascii_digit t || starts is_id_start t) (either-blind is_ascii_digit is_id_start)
+position-local NoPosition = blind_not (λ t. first_passes is_ascii_digit t || first_passes is_id_start t) (either-blind is_ascii_digit is_id_start)
 
 fill-local : (f : Option ℕ) → PartIsLocal (fill_part f)
-fill-local (Some c) = blind (starts is_align) (starts-blind is_align)
+fill-local (Some c) = blind (first_passes is_align) (first_passes-blind is_align)
 fill-local None = second
   where
-    second : IsLocal (λ t. not (starts is_align (behind_first t)))
+    second : IsLocal (λ t. not (first_passes is_align (behind_first t)))
     second [] [] z e = refl
     second [] (d ∷ q) z e = e
     second (c ∷ u) q z e = class_ends is_align u q z e
@@ -128,8 +128,8 @@ alternate-local false = letter_ends (code "#")
 count-local : (k : CountText) → PartIsLocal (count_part k)
 count-local (NumberCount ds) = two-local (integer ds) (absent (begins_with (code "$"))) (class_ends is_ascii_digit) (letter_ends (code "$"))
 count-local (IndexCount ds) = two-local (integer ds) (fixed (codes "$")) (class_ends is_ascii_digit) always
-count-local (NameCount w) = two-local (name_part w) (fixed (codes "$")) (blind (begins_with (code "$")) (begins-blind (code "$"))) always
-count-local NoCount = blind_not (λ t. starts is_ascii_digit t || begins name_part t) (λ u r s. begins-count (u ++ 125 ∷ r) ∙ (count-blind u r s ∙ sym (begins-count (u ++ 125 ∷ s))))
+count-local (NameCount w) = two-local (name_part w) (fixed (codes "$")) (blind (begins_with (code "$")) (begins_with-blind (code "$"))) always
+count-local NoCount = blind_not (λ t. first_passes is_ascii_digit t || begins_with_part name_part t) (λ u r s. begins_with_part-count (u ++ 125 ∷ r) ∙ (count-blind u r s ∙ sym (begins_with_part-count (u ++ 125 ∷ s))))
 
 width-local : (w : WidthText) → PartIsLocal (width_part w)
 width-local (PaddedWidth k) = two-local (unless (codes "0") (begins_with (code "$"))) (count_part k) (letter_ends (code "$")) (count-local k)
@@ -148,23 +148,23 @@ word-local (c ∷ w) = class_ends is_id_continue
 type-local : (y : TypeText) → PartIsLocal (type_part y)
 type-local (DebugHexType Lower) = always
 type-local (DebugHexType Upper) = always
-type-local (CharacterType c) = λ u q z e. ap (λ b. (c == code "?") || not b) (begins-blind (code "?") u q (q ++ z)) ∙ e
-type-local (WordType w) = two-local (absent (starts is_type_character)) (optional_identifier w) (class_ends is_type_character) (word-local w)
+type-local (CharacterType c) = λ u q z e. ap (λ b. (c == code "?") || not b) (begins_with-blind (code "?") u q (q ++ z)) ∙ e
+type-local (WordType w) = two-local (absent (first_passes is_type_character)) (optional_identifier w) (class_ends is_type_character) (word-local w)
 
-format-local : (p : Parts) → PartIsLocal (format_part p)
+format-local : (p : FormatText) → PartIsLocal (format_part p)
 format-local p =
     row-local (fill_part p.fill ∷ align_part p.align ∷ sign_part p.sign ∷ alternate_part p.alternate ∷ width_part p.width ∷ precision_part p.precision ∷ type_part p.type ∷ [])
     (fill-local p.fill, (align-local p.align, (sign-local p.sign, (alternate-local p.alternate, (width-local p.width, (precision-local p.precision, (type-local p.type, tt)))))))
 
 spec-local : (mode : Mode) (s : SpecText) → PartIsLocal (spec_part mode s)
 spec-local mode Default = letter_ends (code ":")
-spec-local Format (FormatParts p) = two-local (fixed (codes ":")) (format_part p) always (format-local p)
+spec-local Format (Formatting p) = two-local (fixed (codes ":")) (format_part p) always (format-local p)
 spec-local Format (Modifier w) = always
 spec-local Format (DiagnosticText u) = always
-spec-local InlineAsm (FormatParts p) = always
+spec-local InlineAsm (Formatting p) = always
 spec-local InlineAsm (Modifier w) = two-local (fixed (codes ":")) (optional_identifier w) always (word-local w)
 spec-local InlineAsm (DiagnosticText u) = always
-spec-local Diagnostic (FormatParts p) = always
+spec-local Diagnostic (Formatting p) = always
 spec-local Diagnostic (Modifier w) = always
 spec-local Diagnostic (DiagnosticText u) = two-local (fixed (codes ":")) (run is_no_brace u) always (class_ends is_no_brace)
 
@@ -184,7 +184,7 @@ placeholder-local mode a w t q z h =
     }
 
 -- a run ends where less follows too
-run-local : (p : ℕ → Bool) (q z : Text) → starts p (q ++ z) ≡ false → starts p q ≡ false
+run-local : (p : ℕ → Bool) (q z : Text) → first_passes p (q ++ z) ≡ false → first_passes p q ≡ false
 run-local p [] z e = refl
 run-local p (c ∷ q) z e = e
 

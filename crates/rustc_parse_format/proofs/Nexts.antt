@@ -3,9 +3,9 @@ use Rattle.std.proofs.Common.{◌≡◌, ◌≢◌, ◌<◌, ◌≤◌, ◌+◌,
 use Rattle.std.specs.Prelude.{Result, Ok, Err, IfOk, OnOk, option_map}
 use Rattle.rustc_parse_format.specs.Characters.{Text, begins_with}
 use Rattle.rustc_parse_format.specs.Grammar.{Begins}
-use Rattle.rustc_parse_format.specs.Pieces.{Mode, Piece, NextArgument, bare}
+use Rattle.rustc_parse_format.specs.Types.{Mode, Piece, NextArgument, bare}
 use Rattle.rustc_parse_format.specs.Faults.{Message, Keeps}
-use Rattle.rustc_parse_format.specs.Step.{call}
+use Rattle.rustc_parse_format.specs.Call.{call}
 use Rattle.rustc_parse_format.specs.State.{State, GivesPiece, after, next_call}
 use Rattle.rustc_parse_format.specs.World.{World, Place, faults_in, piece_in}
 use Rattle.std.proofs.lemmas.Bool.{not-true}

@@ -4,7 +4,7 @@ use Rattle.std.proofs.Common.{◌≡◌, ◌++◌, Bool, true, false, [], ◌∷
 use Rattle.std.specs.Prelude.{◌==◌, ◌||◌, ◌&&◌}
 use Rattle.std.specs.Char.{is_ascii_digit}
 use Rattle.std.proofs.lemmas.Bool.{cond_both, cond-true, cond-false, and_left, and_right, or_from, or_parts, not-true, false≢true, eqb-true}
-use Rattle.rustc_parse_format.specs.Characters.{Text, is_id_start, word, behind_word, digits, behind_digits, begins_with, starts}
+use Rattle.rustc_parse_format.specs.Characters.{Text, is_id_start, word, behind_word, digits, behind_digits, begins_with, first_passes}
 use Rattle.rustc_parse_format.specs.Spelling.{IsPart, fixed, unless, absent, integer, identifier}
 use Rattle.rustc_parse_format.specs.Syntax.{CountText, NumberCount, IndexCount, NameCount, NoCount, name_part, count_part, WidthText, PaddedWidth, ZeroIndexWidth, PlainWidth, width_part, PrecisionText, NoPrecision, StarPrecision, DotPrecision, precision_part, PositionText, Digits, Word, NoPosition, position_part}
 use Rattle.rustc_parse_format.specs.Counts.{behind_number, behind_name, count, counted, behind_zero, width, behind_dot, precision}
@@ -23,15 +23,15 @@ position-sound (c ∷ t) =
     (λ i. identifier-sound c t i)
     (λ i. absent-here (c ∷ t) _ (or_from _ _ d i)))
 
-position-digits : (t : Text) → starts is_ascii_digit t ≡ true → position t ≡ (Digits (digits t), behind_digits t)
+position-digits : (t : Text) → first_passes is_ascii_digit t ≡ true → position t ≡ (Digits (digits t), behind_digits t)
 position-digits [] e = absurd (false≢true e)
 position-digits (c ∷ t) e = cond-true (is_ascii_digit c) _ _ e
 
-position-word : (t : Text) → starts is_id_start t ≡ true → position t ≡ (Word (word t), behind_word t)
+position-word : (t : Text) → first_passes is_id_start t ≡ true → position t ≡ (Word (word t), behind_word t)
 position-word [] e = absurd (false≢true e)
 position-word (c ∷ t) e = cond-false (is_ascii_digit c) _ _ (start-no_digit c e) ∙ cond-true (is_id_start c) _ _ e
 
-position-none : (t : Text) → (starts is_ascii_digit t || starts is_id_start t) ≡ false → position t ≡ (NoPosition, t)
+position-none : (t : Text) → (first_passes is_ascii_digit t || first_passes is_id_start t) ≡ false → position t ≡ (NoPosition, t)
 position-none [] e = refl
 position-none (c ∷ t) e = cond-false (is_ascii_digit c) _ _ (or_parts _ _ e).0 ∙ cond-false (is_id_start c) _ _ (or_parts _ _ e).1
 
@@ -41,7 +41,7 @@ position-complete t (Digits ds) r h =
     position-digits t k.digit ∙ (ap (λ u. (Digits u, behind_digits t)) k.read ∙ ap (λ u. (Digits ds, u)) k.behind)
 position-complete t (Word w) r h =
     let k = identifier-complete t w r h in
-    position-word t k.starts ∙ (ap (λ u. (Word u, behind_word t)) k.read ∙ ap (λ u. (Word w, u)) k.behind)
+    position-word t k.first_passes ∙ (ap (λ u. (Word u, behind_word t)) k.read ∙ ap (λ u. (Word w, u)) k.behind)
 position-complete t NoPosition r h = ap position (absent-same t _ r h) ∙ position-none r (not-true _ h.ends)
 
 pub position-finds : Finds position_part position
@@ -72,11 +72,11 @@ count-sound (c ∷ t) =
     (λ i. name-sound (c ∷ t) _ _ (identifier-sound c t i) (λ e. or_from _ _ d (and_right _ _ e)))
     (λ i. no_count-here (c ∷ t) (or_from _ _ d (and_left _ _ i))))
 
-count-digits : (t : Text) → starts is_ascii_digit t ≡ true → count t ≡ behind_number (digits t) (behind_digits t)
+count-digits : (t : Text) → first_passes is_ascii_digit t ≡ true → count t ≡ behind_number (digits t) (behind_digits t)
 count-digits [] e = absurd (false≢true e)
 count-digits (c ∷ t) e = cond-true (is_ascii_digit c) _ _ e
 
-count-word : (t : Text) → starts is_id_start t ≡ true → count t ≡ behind_name t (word t) (behind_word t)
+count-word : (t : Text) → first_passes is_id_start t ≡ true → count t ≡ behind_name t (word t) (behind_word t)
 count-word [] e = absurd (false≢true e)
 count-word (c ∷ t) e = cond-false (is_ascii_digit c) _ _ (start-no_digit c e) ∙ cond-true (is_id_start c) _ _ e
 
@@ -113,7 +113,7 @@ count-complete t (IndexCount ds) r h =
 count-complete t (NameCount w) r h =
     let s = two-split t (name_part w) (fixed (codes "$")) r h in
     let i = identifier-complete t w s.seam (named-identifier t w s.seam s.first) in
-    count-word t i.starts ∙ (ap (λ u. behind_name t u (behind_word t)) i.read ∙ ap (behind_name t w) (i.behind ∙ s.second.whole))
+    count-word t i.first_passes ∙ (ap (λ u. behind_name t u (behind_word t)) i.read ∙ ap (behind_name t w) (i.behind ∙ s.second.whole))
 count-complete t NoCount r h = ap count h.whole ∙ count-none r (no_count-read t r h)
 
 -- widths

@@ -2,7 +2,7 @@
 use Rattle.std.proofs.Common.{◌≡◌, ◌++◌, [], ◌∷◌, sym, ◌∙◌, ap}
 use Rattle.std.specs.Char.{is_whitespace}
 use Rattle.rustc_parse_format.specs.Characters.{Text, front, behind, behind_white}
-use Rattle.rustc_parse_format.specs.Pieces.{Mode}
+use Rattle.rustc_parse_format.specs.Types.{Mode}
 use Rattle.rustc_parse_format.specs.Spelling.{run}
 use Rattle.rustc_parse_format.specs.Syntax.{SpecText, spec_part, PositionText, position_part, FieldText, field_part, IsCut, IsOnlyCut}
 use Rattle.rustc_parse_format.specs.Specification.{specification}

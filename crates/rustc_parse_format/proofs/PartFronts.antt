@@ -5,9 +5,9 @@ use Rattle.std.specs.Char.{is_ascii_digit, is_ascii_alphabetic}
 use Rattle.std.proofs.lemmas.Bool.{cond-true, cond-false, and_parts, and_from, not-true, not_from_false, false≢true, leb-true, eqb-true, false_from_ne_true, or_cases}
 use Rattle.unicode_ident.proofs.IdentLemmas.{is_xid_start-ascii}
 use Rattle.unicode_ident.specs.Ident.{is_xid_start}
-use Rattle.rustc_parse_format.specs.Characters.{Text, is_id_start, is_id_continue, front, behind, word, behind_word, digits, behind_digits, starts}
+use Rattle.rustc_parse_format.specs.Characters.{Text, is_id_start, is_id_continue, front, behind, word, behind_word, digits, behind_digits, first_passes}
 use Rattle.rustc_parse_format.specs.Spelling.{IsPart, run, some_run, integer, identifier, optional_identifier}
-use Rattle.rustc_parse_format.proofs.Fronts.{front-behind, list_all-front, starts-behind, front-append, behind-append}
+use Rattle.rustc_parse_format.proofs.Fronts.{front-behind, list_all-front, first_passes-behind, front-append, behind-append}
 use Rattle.rustc_parse_format.proofs.PartLaws.{Finds}
 
 -- each with the rest
@@ -19,9 +19,9 @@ word_at t = (word t, behind_word t)
 
 pub run-finds : (p : ℕ → Bool) → Finds (run p) (run_at p)
 run-finds p = record {
-  sound = λ t. record { whole = front-behind p t; formed = list_all-front p t; ends = not_from_false _ (starts-behind p t) };
+  sound = λ t. record { whole = front-behind p t; formed = list_all-front p t; ends = not_from_false _ (first_passes-behind p t) };
   complete = λ t u r h.
-      (let ends : starts p r ≡ false = not-true _ h.ends in
+      (let ends : first_passes p r ≡ false = not-true _ h.ends in
       ap (λ s. (front p s, behind p s)) h.whole ∙ (ap (λ s. (s, behind p (u ++ r))) (front-append p u r h.formed ends) ∙ ap (λ s. (u, s)) (behind-append p u r h.formed ends)));
 }
 
@@ -29,12 +29,12 @@ run-finds p = record {
 pub some_run-sound : (p : ℕ → Bool) (c : ℕ) (t : Text) → p c ≡ true → IsPart (c ∷ t) (some_run p (front p (c ∷ t))) (behind p (c ∷ t))
 some_run-sound p c t d = record {
   whole = front-behind p (c ∷ t);
-  formed = and_from _ _ (ap (starts p) (cond-true (p c) (c ∷ front p t) [] d) ∙ d) (list_all-front p (c ∷ t));
-  ends = not_from_false _ (starts-behind p (c ∷ t));
+  formed = and_from _ _ (ap (first_passes p) (cond-true (p c) (c ∷ front p t) [] d) ∙ d) (list_all-front p (c ∷ t));
+  ends = not_from_false _ (first_passes-behind p (c ∷ t));
 }
 
 pub record RunAt (p : ℕ → Bool) (t u r : Text) : Type 0 where
-  pub begins : starts p t ≡ true
+  pub begins : first_passes p t ≡ true
   pub read : front p t ≡ u
   pub behind : behind p t ≡ r
 
@@ -44,7 +44,7 @@ some_run-complete p t (c ∷ u) r h =
     let all = and_parts _ _ h.formed in
     let ends = not-true _ h.ends in
     record {
-      begins = ap (starts p) h.whole ∙ all.0;
+      begins = ap (first_passes p) h.whole ∙ all.0;
       read = ap (front p) h.whole ∙ front-append p (c ∷ u) r all.1 ends;
       behind = ap (behind p) h.whole ∙ behind-append p (c ∷ u) r all.1 ends;
     }
@@ -55,7 +55,7 @@ unfolding digits behind_digits
 integer-sound c t d = some_run-sound is_ascii_digit c t d
 
 pub record IntegerAt (t ds r : Text) : Type 0 where
-  pub digit : starts is_ascii_digit t ≡ true
+  pub digit : first_passes is_ascii_digit t ≡ true
   pub read : digits t ≡ ds
   pub behind : behind_digits t ≡ r
 
@@ -72,12 +72,12 @@ behind_word-start : (c : ℕ) (t : Text) → is_id_start c ≡ true → behind_w
 unfolding behind_word
 behind_word-start c t i = cond-true (is_id_start c) _ _ i
 
-word-none : (t : Text) → starts is_id_start t ≡ false → word t ≡ []
+word-none : (t : Text) → first_passes is_id_start t ≡ false → word t ≡ []
 unfolding word
 word-none [] e = refl
 word-none (c ∷ t) e = cond-false (is_id_start c) _ _ e
 
-pub behind_word-none : (t : Text) → starts is_id_start t ≡ false → behind_word t ≡ t
+pub behind_word-none : (t : Text) → first_passes is_id_start t ≡ false → behind_word t ≡ t
 unfolding behind_word
 behind_word-none [] e = refl
 behind_word-none (c ∷ t) e = cond-false (is_id_start c) _ _ e
@@ -87,11 +87,11 @@ identifier-sound c t i = record {
   whole = ap (λ u. c ∷ u) (front-behind is_id_continue t)
       ∙ (ap (λ u. u ++ behind is_id_continue t) (sym (word-start c t i)) ∙ ap (λ u. word (c ∷ t) ++ u) (sym (behind_word-start c t i)));
   formed = ap (λ w. (identifier w).is_formed) (word-start c t i) ∙ and_from _ _ i (list_all-front is_id_continue t);
-  ends = ap (λ r. not (starts is_id_continue r)) (behind_word-start c t i) ∙ not_from_false _ (starts-behind is_id_continue t);
+  ends = ap (λ r. not (first_passes is_id_continue r)) (behind_word-start c t i) ∙ not_from_false _ (first_passes-behind is_id_continue t);
 }
 
 pub record WordAt (t w r : Text) : Type 0 where
-  pub starts : starts is_id_start t ≡ true
+  pub first_passes : first_passes is_id_start t ≡ true
   pub read : word t ≡ w
   pub behind : behind_word t ≡ r
 
@@ -102,7 +102,7 @@ identifier-complete t (c ∷ w) r h =
     let all = (and_parts _ _ h.formed).1 in
     let ends = not-true _ h.ends in
     record {
-      starts = ap (starts is_id_start) h.whole ∙ i;
+      first_passes = ap (first_passes is_id_start) h.whole ∙ i;
       read = ap word h.whole ∙ (word-start c (w ++ r) i ∙ ap (λ u. c ∷ u) (front-append is_id_continue w r all ends));
       behind = ap behind_word h.whole ∙ (behind_word-start c (w ++ r) i ∙ behind-append is_id_continue w r all ends);
     }
@@ -112,13 +112,13 @@ unfolding word behind_word
 optional-sound [] = record { whole = refl; formed = refl; ends = refl }
 optional-sound (c ∷ t) =
     elim (is_id_start c) as (λ b. is_id_start c ≡ b → IsPart (c ∷ t) (optional_identifier (cond b (c ∷ front is_id_continue t) [])) (cond b (behind is_id_continue t) (c ∷ t))) [
-      | true ↦ λ i. record { whole = ap (λ u. c ∷ u) (front-behind is_id_continue t); formed = and_from _ _ i (list_all-front is_id_continue t); ends = not_from_false _ (starts-behind is_id_continue t) }
+      | true ↦ λ i. record { whole = ap (λ u. c ∷ u) (front-behind is_id_continue t); formed = and_from _ _ i (list_all-front is_id_continue t); ends = not_from_false _ (first_passes-behind is_id_continue t) }
       | false ↦ λ i. record { whole = refl; formed = refl; ends = not_from_false _ i }
     ] refl
 
 optional-complete : (t w r : Text) → IsPart t (optional_identifier w) r → word_at t ≡ (w, r)
 optional-complete t [] r h =
-    let e : starts is_id_start t ≡ false = ap (starts is_id_start) h.whole ∙ not-true _ h.ends in
+    let e : first_passes is_id_start t ≡ false = ap (first_passes is_id_start) h.whole ∙ not-true _ h.ends in
     ap (λ u. (u, behind_word t)) (word-none t e) ∙ ap (λ u. ([], u)) (behind_word-none t e ∙ h.whole)
 optional-complete t (c ∷ w) r h = let k = identifier-complete t (c ∷ w) r h in ap (λ u. (u, behind_word t)) k.read ∙ ap (λ u. (c ∷ w, u)) k.behind
 

@@ -3,30 +3,30 @@ use Prim.Native.Char.{code}
 use Rattle.std.proofs.Common.{◌≡◌, ◌++◌, ℕ, Bool, true, false, [], ◌∷◌, refl, sym, ◌∙◌, ap, subst, codes, ◌⊎◌, inl, inr, Option, Some, None}
 use Rattle.std.specs.Prelude.{◌==◌, ◌||◌, not}
 use Rattle.std.proofs.lemmas.Bool.{cond_both, cond-true, cond-false, or_from, or_parts, or_cases, or_left, or_right, not-true, false≢true, eqb-true}
-use Rattle.rustc_parse_format.specs.Characters.{Text, is_align, is_no_brace, word, behind_word, behind_first, begins_with, starts}
+use Rattle.rustc_parse_format.specs.Characters.{Text, is_align, is_no_brace, word, behind_word, behind_first, begins_with, first_passes}
 use Rattle.rustc_parse_format.specs.Spelling.{IsPart, fixed, absent, run, optional_identifier}
-use Rattle.rustc_parse_format.specs.Pieces.{Mode, Format, InlineAsm, Diagnostic, Alignment, Left, Right, Center, Unknown, Sign, Plus, Minus, DebugHex, Lower, Upper}
-use Rattle.rustc_parse_format.specs.Syntax.{WidthText, width_part, PrecisionText, precision_part, fill_part, align_part, is_sign, sign_part, alternate_part, is_type_character, TypeText, DebugHexType, CharacterType, WordType, type_part, Parts, format_part, SpecText, Default, FormatParts, Modifier, DiagnosticText, spec_part}
+use Rattle.rustc_parse_format.specs.Types.{Mode, Format, InlineAsm, Diagnostic, Alignment, Left, Right, Center, Unknown, Sign, Plus, Minus, DebugHex, Lower, Upper}
+use Rattle.rustc_parse_format.specs.Syntax.{WidthText, width_part, PrecisionText, precision_part, fill_part, align_part, is_sign, sign_part, alternate_part, is_type_character, TypeText, DebugHexType, CharacterType, WordType, type_part, FormatText, format_part, SpecText, Default, Formatting, Modifier, DiagnosticText, spec_part}
 use Rattle.rustc_parse_format.specs.Counts.{width, precision}
-use Rattle.rustc_parse_format.specs.Specification.{fill, align, sign, alternate, behind_hex, type, align_at, sign_at, alternate_at, width_at, precision_at, type_at, format_parts, behind_colon, specification}
+use Rattle.rustc_parse_format.specs.Specification.{fill, align, sign, alternate, behind_hex, type, align_at, sign_at, alternate_at, width_at, precision_at, type_at, format_text, behind_colon, specification}
 use Rattle.rustc_parse_format.proofs.PartLaws.{Finds, IsPart-moved, absent-same, absent-here, fixed-there, letter-there, row-two, two-split, IsRow, then, last, opened, only}
 use Rattle.rustc_parse_format.proofs.PartFronts.{run-finds, optional_identifier-finds}
 use Rattle.rustc_parse_format.proofs.PartCounts.{width-finds, precision-finds}
 
 -- fills
 fill-sound : (t : Text) → IsPart t (fill_part (fill t).0) (fill t).1
-fill-sound [] = absent-here [] (λ r. starts is_align (behind_first r)) refl
-fill-sound (c ∷ []) = absent-here (c ∷ []) (λ r. starts is_align (behind_first r)) refl
+fill-sound [] = absent-here [] (λ r. first_passes is_align (behind_first r)) refl
+fill-sound (c ∷ []) = absent-here (c ∷ []) (λ r. first_passes is_align (behind_first r)) refl
 fill-sound (c ∷ d ∷ t) =
     cond_both {A = Option ℕ × Text} (is_align d) _ _ (λ x. IsPart (c ∷ d ∷ t) (fill_part x.0) x.1)
     (λ e. record { whole = refl; formed = refl; ends = e })
-    (λ e. absent-here (c ∷ d ∷ t) (λ r. starts is_align (behind_first r)) e)
+    (λ e. absent-here (c ∷ d ∷ t) (λ r. first_passes is_align (behind_first r)) e)
 
-fill-some : (c : ℕ) (r : Text) → starts is_align r ≡ true → fill (c ∷ r) ≡ (Some c, r)
+fill-some : (c : ℕ) (r : Text) → first_passes is_align r ≡ true → fill (c ∷ r) ≡ (Some c, r)
 fill-some c [] e = absurd (false≢true e)
 fill-some c (d ∷ r) e = cond-true (is_align d) _ _ e
 
-fill-none : (t : Text) → starts is_align (behind_first t) ≡ false → fill t ≡ (None, t)
+fill-none : (t : Text) → first_passes is_align (behind_first t) ≡ false → fill t ≡ (None, t)
 fill-none [] e = refl
 fill-none (c ∷ []) e = refl
 fill-none (c ∷ d ∷ t) e = cond-false (is_align d) _ _ e
@@ -37,7 +37,7 @@ fill-complete t None r h = ap fill (absent-same t _ r h) ∙ fill-none r (not-tr
 
 -- alignments
 align-sound : (t : Text) → IsPart t (align_part (align t).0) (align t).1
-align-sound [] = absent-here [] (starts is_align) refl
+align-sound [] = absent-here [] (first_passes is_align) refl
 align-sound (c ∷ t) =
     cond_both {A = Alignment × Text} (c == code "<") _ _ (λ x. IsPart (c ∷ t) (align_part x.0) x.1)
     (λ e. letter-there c (code "<") t e)
@@ -45,9 +45,9 @@ align-sound (c ∷ t) =
     (λ f. letter-there c (code ">") t f)
     (λ f. cond_both {A = Alignment × Text} (c == code "^") _ _ (λ x. IsPart (c ∷ t) (align_part x.0) x.1)
     (λ g. letter-there c (code "^") t g)
-    (λ g. absent-here (c ∷ t) (starts is_align) (or_from _ _ (or_from _ _ e f) g))))
+    (λ g. absent-here (c ∷ t) (first_passes is_align) (or_from _ _ (or_from _ _ e f) g))))
 
-align-none : (t : Text) → starts is_align t ≡ false → align t ≡ (Unknown, t)
+align-none : (t : Text) → first_passes is_align t ≡ false → align t ≡ (Unknown, t)
 align-none [] e = refl
 align-none (c ∷ t) e =
     let front = or_parts _ _ (or_parts _ _ e).0 in
@@ -61,15 +61,15 @@ align-complete t Unknown r h = ap align (absent-same t _ r h) ∙ align-none r (
 
 -- signs
 sign-sound : (t : Text) → IsPart t (sign_part (sign t).0) (sign t).1
-sign-sound [] = absent-here [] (starts is_sign) refl
+sign-sound [] = absent-here [] (first_passes is_sign) refl
 sign-sound (c ∷ t) =
     cond_both {A = Option Sign × Text} (c == code "+") _ _ (λ x. IsPart (c ∷ t) (sign_part x.0) x.1)
     (λ e. letter-there c (code "+") t e)
     (λ e. cond_both {A = Option Sign × Text} (c == code "-") _ _ (λ x. IsPart (c ∷ t) (sign_part x.0) x.1)
     (λ f. letter-there c (code "-") t f)
-    (λ f. absent-here (c ∷ t) (starts is_sign) (or_from _ _ e f)))
+    (λ f. absent-here (c ∷ t) (first_passes is_sign) (or_from _ _ e f)))
 
-sign-none : (t : Text) → starts is_sign t ≡ false → sign t ≡ (None, t)
+sign-none : (t : Text) → first_passes is_sign t ≡ false → sign t ≡ (None, t)
 sign-none [] e = refl
 sign-none (c ∷ t) e = cond-false (c == code "+") _ _ (or_parts _ _ e).0 ∙ cond-false (c == code "-") _ _ (or_parts _ _ e).1
 
@@ -128,8 +128,8 @@ type-sound (c ∷ t) =
     (λ f. subst (λ d. IsPart (d ∷ t) (type_part (behind_hex Upper d t).0) (behind_hex Upper d t).1) (sym (eqb-true c (code "X") f)) (hex-sound Upper t))
     (λ f. cond_both {A = TypeText × Text} (c == code "?") _ _ (λ x. IsPart (c ∷ t) (type_part x.0) x.1)
     (λ g. record { whole = refl; formed = or_right _ _ g; ends = or_left _ _ g })
-    (λ g. row-two (c ∷ t) (c ∷ t) (absent (starts is_type_character)) (optional_identifier (word (c ∷ t))) (behind_word (c ∷ t))
-    (absent-here (c ∷ t) (starts is_type_character) (or_from _ _ (or_from _ _ e f) g)) (optional_identifier-finds.sound (c ∷ t)))))
+    (λ g. row-two (c ∷ t) (c ∷ t) (absent (first_passes is_type_character)) (optional_identifier (word (c ∷ t))) (behind_word (c ∷ t))
+    (absent-here (c ∷ t) (first_passes is_type_character) (or_from _ _ (or_from _ _ e f) g)) (optional_identifier-finds.sound (c ∷ t)))))
 
 hex-alone : (h : DebugHex) (c : ℕ) (r : Text) → begins_with (code "?") r ≡ false → behind_hex h c r ≡ (CharacterType c, r)
 hex-alone h c [] e = refl
@@ -150,7 +150,7 @@ sign-read c r e = by_sign (or_cases _ _ e)
     by_sign (inl f) = by_hex (or_cases _ _ f)
     by_sign (inr f) = subst (IsRead r) (sym (eqb-true c (code "?") f)) (λ n. refl)
 
-type-word : (t : Text) → starts is_type_character t ≡ false → type t ≡ (WordType (word t), behind_word t)
+type-word : (t : Text) → first_passes is_type_character t ≡ false → type t ≡ (WordType (word t), behind_word t)
 unfolding word behind_word
 type-word [] e = refl
 type-word (c ∷ t) e =
@@ -162,31 +162,31 @@ type-complete t (DebugHexType Lower) r h = ap type h.whole
 type-complete t (DebugHexType Upper) r h = ap type h.whole
 type-complete t (CharacterType c) r h = ap type h.whole ∙ sign-read c r h.formed h.ends
 type-complete t (WordType w) r h =
-    let s = two-split t (absent (starts is_type_character)) (optional_identifier w) r h in
+    let s = two-split t (absent (first_passes is_type_character)) (optional_identifier w) r h in
     ap type (absent-same t _ s.seam s.first)
     ∙ (type-word s.seam (not-true _ s.first.ends) ∙ ap (λ x. (WordType x.0, x.1)) (optional_identifier-finds.complete s.seam w r s.second))
 
 -- format specifications
-format-sound : (t : Text) → IsPart t (format_part (format_parts t).0) (format_parts t).1
-unfolding format_parts
+format-sound : (t : Text) → IsPart t (format_part (format_text t).0) (format_text t).1
+unfolding format_text
 format-sound t =
     (then (fill-sound t) (then (align-sound (align_at t)) (then (sign-sound (sign_at t)) (then (alternate-sound (alternate_at t))
     (then (width-finds.sound (width_at t)) (then (precision-finds.sound (precision_at t)) (last (type-sound (type_at t))))))))).part
 
-with_parts : Option ℕ → Alignment → Option Sign → Bool → WidthText → PrecisionText → TypeText → Text → Parts × Text
+with_parts : Option ℕ → Alignment → Option Sign → Bool → WidthText → PrecisionText → TypeText → Text → FormatText × Text
 with_parts f a g n w c y r = (record { fill = f; align = a; sign = g; alternate = n; width = w; precision = c; type = y }, r)
 
 same_with : (f i : Option ℕ) (a b : Alignment) (g h : Option Sign) (n m : Bool) (w x : WidthText) (c d : PrecisionText) (y z : TypeText) (r s : Text) →
     f ≡ i → a ≡ b → g ≡ h → n ≡ m → w ≡ x → c ≡ d → y ≡ z → r ≡ s → with_parts f a g n w c y r ≡ with_parts i b h m x d z s
 same_with f i a b g h n m w x c d y z r s e1 e2 e3 e4 e5 e6 e7 e8 = cc
 
-same_parts : (x : Parts × Text) (p : Parts) (r : Text) → x.0.fill ≡ p.fill → x.0.align ≡ p.align → x.0.sign ≡ p.sign → x.0.alternate ≡ p.alternate
+same_parts : (x : FormatText × Text) (p : FormatText) (r : Text) → x.0.fill ≡ p.fill → x.0.align ≡ p.align → x.0.sign ≡ p.sign → x.0.alternate ≡ p.alternate
     → x.0.width ≡ p.width → x.0.precision ≡ p.precision → x.0.type ≡ p.type → x.1 ≡ r → x ≡ (p, r)
 unfolding with_parts
 same_parts x p r = same_with x.0.fill p.fill x.0.align p.align x.0.sign p.sign x.0.alternate p.alternate x.0.width p.width x.0.precision p.precision x.0.type p.type x.1 r
 
-format-complete : (t : Text) (p : Parts) (r : Text) → IsPart t (format_part p) r → format_parts t ≡ (p, r)
-unfolding format_parts
+format-complete : (t : Text) (p : FormatText) (r : Text) → IsPart t (format_part p) r → format_text t ≡ (p, r)
+unfolding format_text
 format-complete t p r h =
     let whole : IsRow t (fill_part p.fill ∷ align_part p.align ∷ sign_part p.sign ∷ alternate_part p.alternate ∷ width_part p.width ∷ precision_part p.precision ∷ type_part p.type ∷ []) r = record { part = h } in
     let f = opened whole in
@@ -208,7 +208,7 @@ format-complete t p r h =
     let at_width : width_at t ≡ n.seam = ap (λ u. (alternate u).1) at_alternate ∙ ap (λ x. x.1) ne in
     let at_precision : precision_at t ≡ w.seam = ap (λ u. (width u).1) at_width ∙ ap (λ x. x.1) we in
     let at_type : type_at t ≡ c.seam = ap (λ u. (precision u).1) at_precision ∙ ap (λ x. x.1) ce in
-    same_parts (format_parts t) p r (ap (λ x. x.0) fe)
+    same_parts (format_text t) p r (ap (λ x. x.0) fe)
     (ap (λ u. (align u).0) at_align ∙ ap (λ x. x.0) ae)
     (ap (λ u. (sign u).0) at_sign ∙ ap (λ x. x.0) ge)
     (ap (λ u. (alternate u).0) at_alternate ∙ ap (λ x. x.0) ne)
@@ -236,9 +236,9 @@ spec-none mode (c ∷ t) e = cond-false (c == code ":") _ _ e
 
 spec-complete : (mode : Mode) (t : Text) (s : SpecText) (r : Text) → IsPart t (spec_part mode s) r → specification mode t ≡ (s, r)
 spec-complete mode t Default r h = ap (specification mode) (absent-same t _ r h) ∙ spec-none mode r (not-true _ h.ends)
-spec-complete Format t (FormatParts p) r h =
+spec-complete Format t (Formatting p) r h =
     let s = two-split t (fixed (codes ":")) (format_part p) r h in
-    ap (specification Format) s.first.whole ∙ ap (λ x. (FormatParts x.0, x.1)) (format-complete s.seam p r s.second)
+    ap (specification Format) s.first.whole ∙ ap (λ x. (Formatting x.0, x.1)) (format-complete s.seam p r s.second)
 spec-complete InlineAsm t (Modifier w) r h =
     let s = two-split t (fixed (codes ":")) (optional_identifier w) r h in
     ap (specification InlineAsm) s.first.whole ∙ ap (λ x. (Modifier x.0, x.1)) (optional_identifier-finds.complete s.seam w r s.second)
@@ -247,9 +247,9 @@ spec-complete Diagnostic t (DiagnosticText u) r h =
     ap (specification Diagnostic) s.first.whole ∙ ap (λ x. (DiagnosticText x.0, x.1)) ((run-finds is_no_brace).complete s.seam u r s.second)
 spec-complete Format t (Modifier w) r h = absurd (false≢true h.formed)
 spec-complete Format t (DiagnosticText u) r h = absurd (false≢true h.formed)
-spec-complete InlineAsm t (FormatParts p) r h = absurd (false≢true h.formed)
+spec-complete InlineAsm t (Formatting p) r h = absurd (false≢true h.formed)
 spec-complete InlineAsm t (DiagnosticText u) r h = absurd (false≢true h.formed)
-spec-complete Diagnostic t (FormatParts p) r h = absurd (false≢true h.formed)
+spec-complete Diagnostic t (Formatting p) r h = absurd (false≢true h.formed)
 spec-complete Diagnostic t (Modifier w) r h = absurd (false≢true h.formed)
 
 pub spec-finds : (mode : Mode) → Finds (spec_part mode) (specification mode)

@@ -3,7 +3,7 @@ use Rattle.std.proofs.Common.{◌≡◌, ◌++◌, [], ◌∷◌, sym, ◌∙◌
 use Rattle.std.specs.Char.{is_whitespace}
 use Rattle.rustc_parse_format.specs.Characters.{Text, front, behind_white}
 use Rattle.rustc_parse_format.specs.Spelling.{IsPart, fixed, run}
-use Rattle.rustc_parse_format.specs.Pieces.{Mode}
+use Rattle.rustc_parse_format.specs.Types.{Mode}
 use Rattle.rustc_parse_format.specs.Syntax.{FieldText, field_part, placeholder_part}
 use Rattle.rustc_parse_format.specs.Placeholder.{cut, placed}
 use Rattle.rustc_parse_format.proofs.PartLaws.{fixed-there, IsRow, then, last, opened, only}

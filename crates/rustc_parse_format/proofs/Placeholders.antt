@@ -5,13 +5,13 @@ use Rattle.std.proofs.lemmas.Bool.{cond_both}
 use Rattle.std.proofs.lemmas.List.{append-nil, map-append}
 use Rattle.rustc_parse_format.specs.Characters.{Text, behind_white, behind_brace, behind_first, begins_with, first}
 use Rattle.rustc_parse_format.specs.Marks.{Span, up_to, over_first}
-use Rattle.rustc_parse_format.specs.Pieces.{Mode, Spec, NextArgument, map_spec}
+use Rattle.rustc_parse_format.specs.Types.{Mode, Spec, NextArgument, map_spec}
 use Rattle.rustc_parse_format.specs.Placeholder.{cut}
-use Rattle.rustc_parse_format.specs.Values.{next_number}
+use Rattle.rustc_parse_format.specs.Values.{number_after_field}
 use Rattle.rustc_parse_format.specs.Meaning.{argument}
 use Rattle.rustc_parse_format.specs.Faults.{Fault, map_fault, brace_fill, no_brace}
 use Rattle.rustc_parse_format.specs.PartFaults.{cut_faults}
-use Rattle.rustc_parse_format.specs.Step.{Call, GivesNoArgument, IsPlain, call, placeholder, unclosed_fault}
+use Rattle.rustc_parse_format.specs.Call.{Call, GivesNoArgument, GivesAtMostText, call, placeholder, unclosed_fault}
 use Rattle.rustc_parse_format.specs.State.{Midway, read_call, read_to}
 use Rattle.rustc_parse_format.specs.World.{World, Place, place_of, faults_in}
 
@@ -23,9 +23,9 @@ pub placeholder-piece : (mode : Mode) (c : ℕ) (o t : Text) → (placeholder mo
 unfolding placeholder
 placeholder-piece mode c o t = cond_both {A = Call} (begins_with 125 (ending mode t)) _ _ (λ k. k.piece ≡ Some (NextArgument (argument c (cut mode t)))) (λ e. refl) (λ e. refl)
 
-pub placeholder-next : (mode : Mode) (c : ℕ) (o t : Text) → (placeholder mode c o t).next ≡ next_number c (cut mode t).field
+pub placeholder-next : (mode : Mode) (c : ℕ) (o t : Text) → (placeholder mode c o t).next ≡ number_after_field c (cut mode t).field
 unfolding placeholder
-placeholder-next mode c o t = cond_both {A = Call} (begins_with 125 (ending mode t)) _ _ (λ k. k.next ≡ next_number c (cut mode t).field) (λ e. refl) (λ e. refl)
+placeholder-next mode c o t = cond_both {A = Call} (begins_with 125 (ending mode t)) _ _ (λ k. k.next ≡ number_after_field c (cut mode t).field) (λ e. refl) (λ e. refl)
 
 same_rest : (b : Bool) (x y : Call) → (cond b x y).rest ≡ cond b x.rest y.rest
 same_rest true x y = refl
@@ -78,13 +78,13 @@ behind_closing fill opening s = record s {
 pub placeholder_read : (s : Midway) (mode : Mode) (o t : Text) (fill : Option Place) (opening : Place) →
     no_brace fill (first (ending mode t)) (place_of s.world (up_to (ending mode t) (ending mode t))) opening
     ≡ map_fault (place_of s.world) (unclosed_fault o (argument s.next (cut mode t)).format (ending mode t)) →
-    behind_closing fill opening (read_to s (ending mode t) (next_number s.next (cut mode t).field) (cut_faults (cut mode t)))
+    behind_closing fill opening (read_to s (ending mode t) (number_after_field s.next (cut mode t).field) (cut_faults (cut mode t)))
     ≡ read_call s (placeholder mode s.next o t)
 placeholder_read s mode o t fill opening e =
     let m = unclosed_fault o (argument s.next (cut mode t)).format (ending mode t) in
     let cs = cut_faults (cut mode t) in
     rw (e, placeholder-rest mode s.next o t, placeholder-next mode s.next o t, placeholder-faults mode s.next o t)
-    (ap (λ (fs : List (Fault Place)). record s { rest = behind_brace (ending mode t); next = next_number s.next (cut mode t).field; faults = fs })
+    (ap (λ (fs : List (Fault Place)). record s { rest = behind_brace (ending mode t); next = number_after_field s.next (cut mode t).field; faults = fs })
     (append_assoc s.faults (faults_in s.world cs) _ ∙ ap (λ fs. s.faults ++ fs) (sym (map-append (map_fault (place_of s.world)) cs _ ∙ ap (λ fs. faults_in s.world cs ++ fs) (map-else (map_fault (place_of s.world)) (begins_with 125 (ending mode t)) m)))))
 
 pub ruleset placeholder_parts = (placeholder-piece, placeholder-next, placeholder-rest, placeholder-faults)
@@ -97,6 +97,6 @@ unfolding call
 opened mode c b t e h k = placeholder_boxed mode c (123 ∷ t) t (rw (e, h) at k)
 
 -- a call at an opening brace that is not doubled takes memory
-pub placeholder_takes : (mode : Mode) (c : ℕ) (t : Text) → first t ≡ Some 123 → begins_with 123 (behind_first t) ≡ false → IsPlain (call mode c t) → ⊥
+pub placeholder_takes : (mode : Mode) (c : ℕ) (t : Text) → first t ≡ Some 123 → begins_with 123 (behind_first t) ≡ false → GivesAtMostText (call mode c t) → ⊥
 placeholder_takes mode c [] e h k = cc e
 placeholder_takes mode c (b ∷ t) e h k = opened mode c b t (cc) h k.0

@@ -3,11 +3,11 @@ use Rattle.std.proofs.Common.{◌≡◌, ◌≢◌, ℕ, suc, zero, ◌+◌, ◌
 use Rattle.std.proofs.lemmas.Bool.{cond_both}
 use Rattle.rustc_parse_format.specs.Characters.{Text, is_brace, is_no_brace, behind_white, behind_first, begins_with}
 use Rattle.rustc_parse_format.specs.Marks.{Span}
-use Rattle.rustc_parse_format.specs.Pieces.{Mode, Piece}
+use Rattle.rustc_parse_format.specs.Types.{Mode, Piece}
 use Rattle.rustc_parse_format.specs.Placeholder.{cut}
-use Rattle.rustc_parse_format.specs.Step.{Call, call, placeholder, literal, walk, walk_for, IsWalk, GoesOn}
+use Rattle.rustc_parse_format.specs.Call.{Call, call, placeholder, text_call, walk, walk_for, IsWalk, GoesOn}
 use Rattle.rustc_parse_format.proofs.Rests.{IsRest-le, behind_rest, behind_first_rest, behind_white_rest, cut_rest}
-use Rattle.rustc_parse_format.proofs.Numbers.{next_number-le}
+use Rattle.rustc_parse_format.proofs.Numbers.{number_after_field-le}
 
 abbrev Advances : ℕ → Text → Call → Type 0
 Advances c t k = (length k.rest < length t) × (k.next + length k.rest ≤ c + length t)
@@ -18,14 +18,14 @@ placeholder_advances mode c b t =
     let r = behind_white (cut mode t).rest in
     let fewer : length r ≤ length (cut mode t).rest = IsRest-le (behind_white_rest (cut mode t).rest) in
     cond_both {A = Call} (begins_with 125 r) _ _ (Advances c (b ∷ t))
-    (λ e. (omega (arith, IsRest-le (behind_first_rest r), fewer, IsRest-le (cut_rest mode t)), omega (arith, IsRest-le (behind_first_rest r), fewer, next_number-le mode c t)))
-    (λ e. (omega (arith, fewer, IsRest-le (cut_rest mode t)), omega (arith, fewer, next_number-le mode c t)))
+    (λ e. (omega (arith, IsRest-le (behind_first_rest r), fewer, IsRest-le (cut_rest mode t)), omega (arith, IsRest-le (behind_first_rest r), fewer, number_after_field-le mode c t)))
+    (λ e. (omega (arith, fewer, IsRest-le (cut_rest mode t)), omega (arith, fewer, number_after_field-le mode c t)))
 
-literal_advances : (c b : ℕ) (l t : Text) → Advances c (b ∷ t) (literal c l (behind_first t))
+literal_advances : (c b : ℕ) (l t : Text) → Advances c (b ∷ t) (text_call c l (behind_first t))
 literal_advances c b l t =
     (omega (arith, IsRest-le (behind_first_rest t), IsRest-le (behind_rest is_no_brace (behind_first t))), omega (arith, IsRest-le (behind_first_rest t), IsRest-le (behind_rest is_no_brace (behind_first t))))
 
-run_advances : (c b : ℕ) (t : Text) → is_brace b ≡ false → Advances c (b ∷ t) (literal c [] (b ∷ t))
+run_advances : (c b : ℕ) (t : Text) → is_brace b ≡ false → Advances c (b ∷ t) (text_call c [] (b ∷ t))
 run_advances c b t e = rw e (omega (arith, IsRest-le (behind_rest is_no_brace t)), omega (arith, IsRest-le (behind_rest is_no_brace t)))
 
 call_advances : (mode : Mode) (c b : ℕ) (t : Text) → Advances c (b ∷ t) (call mode c (b ∷ t))

@@ -5,8 +5,8 @@ use Rattle.std.proofs.lemmas.List.{append-nil}
 use Rattle.rustc_parse_format.specs.Characters.{Text}
 use Rattle.rustc_parse_format.specs.Grammar.{IsInGrammar, Reads, StopsInside}
 use Rattle.rustc_parse_format.specs.Marks.{Span}
-use Rattle.rustc_parse_format.specs.Pieces.{Mode, Piece, bare}
-use Rattle.rustc_parse_format.specs.Step.{IsPlain, call, pieces_of}
+use Rattle.rustc_parse_format.specs.Types.{Mode, Piece, bare}
+use Rattle.rustc_parse_format.specs.Call.{GivesAtMostText, call, pieces_of}
 use Rattle.rustc_parse_format.specs.State.{State, Walks, fresh, after, after_all, calls, next_call}
 use Rattle.rustc_parse_format.specs.World.{World, Place, piece_in, pieces_in}
 use Rattle.rustc_parse_format.proofs.BarePieces.{bare-pieces_in}
@@ -76,7 +76,7 @@ stops_of mode w t p new ps e f g h =
     rw (g, bare-pieces_in p.world (pieces_of (calls p)), e) r
 
 -- a call at the end takes no memory
-pub at_end-text : (mode : Mode) (c : ℕ) (t : Text) → t ≡ [] → IsPlain (call mode c t)
+pub at_end-text : (mode : Mode) (c : ℕ) (t : Text) → t ≡ [] → GivesAtMostText (call mode c t)
 unfolding call
 at_end-text mode c [] e = (tt, refl)
 at_end-text mode c (b ∷ t) e = absurd cc

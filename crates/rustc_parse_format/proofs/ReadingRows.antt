@@ -6,12 +6,12 @@ use Rattle.std.specs.List.{AllByRecursion, list_all}
 use Rattle.std.proofs.lemmas.Bool.{and_parts, not-true, false≢true}
 use Rattle.rustc_parse_format.specs.Characters.{Text}
 use Rattle.rustc_parse_format.specs.Marks.{Span}
-use Rattle.rustc_parse_format.specs.Pieces.{Mode, Format, InlineAsm, Diagnostic, Unknown, Position, Implicit, Index, Named, Star, Piece, Lit, NextArgument, default_spec}
-use Rattle.rustc_parse_format.specs.Syntax.{Word, NoPosition, NoCount, PlainWidth, StarPrecision, WordType, Parts, Default, FormatParts, FieldText, PieceText, RunText, DoubledText, PlaceholderText, piece_part}
+use Rattle.rustc_parse_format.specs.Types.{Mode, Format, InlineAsm, Diagnostic, Unknown, Position, Implicit, Index, Named, Star, Piece, Lit, NextArgument, default_spec}
+use Rattle.rustc_parse_format.specs.Syntax.{Word, NoPosition, NoCount, PlainWidth, StarPrecision, WordType, FormatText, Default, Formatting, FieldText, PieceText, RunText, DoubledText, PlaceholderText, piece_part}
 use Rattle.rustc_parse_format.specs.Spelling.{IsPart}
 use Rattle.rustc_parse_format.specs.Grammar.{Reads, IsInGrammar, spelled, piece_values}
 use Rattle.rustc_parse_format.specs.Faults.{Fault}
-use Rattle.rustc_parse_format.specs.Step.{Call, walk}
+use Rattle.rustc_parse_format.specs.Call.{Call, walk}
 use Rattle.rustc_parse_format.proofs.Progress.{walk-IsWalk}
 use Rattle.rustc_parse_format.proofs.Readings.{Reads-unique}
 use Rattle.rustc_parse_format.proofs.Rows.{computing}
@@ -194,7 +194,7 @@ doubled_braces-have_this_reading = (
 abbrev starred : List bare_piece
 starred = NextArgument (record { position = Implicit 1; position_span = tt; format = record default_spec { precision = Star 0 } }) ∷ []
 
-abbrev star : Parts
+abbrev star : FormatText
 star = record { fill = None; align = Unknown; sign = None; alternate = false; width = PlainWidth NoCount; precision = StarPrecision; type = WordType [] }
 
 star-has_this_reading : Reads Format 0 (codes "{:.*}") starred
@@ -203,7 +203,7 @@ star-has_this_reading = (
   [],
   2,
   record {
-    text = PlaceholderText (record plain_field { spec = FormatParts star }) [];
+    text = PlaceholderText (record plain_field { spec = Formatting star }) [];
     written = record { whole = refl; formed = refl; ends = refl };
     clean = record { position = tt; spec = record { width = tt; precision = tt; type = λ e. cc e } };
     means = refl;

@@ -1,10 +1,10 @@
 -- A text has at most one reading, and its pieces as written are the text.
 use Rattle.std.proofs.Common.{◌≡◌, ℕ, ◌++◌, List, [], ◌∷◌, refl, sym, ◌∙◌, ap, Some, None}
 use Rattle.rustc_parse_format.specs.Characters.{Text}
-use Rattle.rustc_parse_format.specs.Pieces.{Mode, Piece, bare}
+use Rattle.rustc_parse_format.specs.Types.{Mode, Piece, bare}
 use Rattle.rustc_parse_format.specs.Syntax.{piece_part}
 use Rattle.rustc_parse_format.specs.Grammar.{Begins, Reads, piece_values, IsSpelled}
-use Rattle.rustc_parse_format.specs.Step.{call}
+use Rattle.rustc_parse_format.specs.Call.{call}
 use Rattle.rustc_parse_format.proofs.Calls.{begins_call}
 
 record SameStep (p q : Piece (Unit {0})) (r s : Text) (n m : ℕ) : Type 0 where

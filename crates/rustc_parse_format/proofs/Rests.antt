@@ -2,10 +2,10 @@
 use Rattle.std.proofs.Common.{◌≡◌, ℕ, ◌≤◌, ◌++◌, ◌==◌, Bool, true, false, cond, [], ◌∷◌, length, length-append, append_assoc, refl, sym, ◌∙◌, ap, arith}
 use Rattle.std.specs.Char.{is_ascii_digit}
 use Rattle.rustc_parse_format.specs.Characters.{Text, is_align, is_no_brace, is_id_start, is_id_continue, behind, word, behind_word, digits, behind_digits, behind_white, behind_first}
-use Rattle.rustc_parse_format.specs.Pieces.{Mode, Format, InlineAsm, Diagnostic, DebugHex, Lower, Upper}
+use Rattle.rustc_parse_format.specs.Types.{Mode, Format, InlineAsm, Diagnostic, DebugHex, Lower, Upper}
 use Rattle.rustc_parse_format.specs.Syntax.{PaddedWidth, PlainWidth}
 use Rattle.rustc_parse_format.specs.Counts.{count, behind_number, behind_name, width, counted, behind_zero, precision, behind_dot}
-use Rattle.rustc_parse_format.specs.Specification.{fill, align, sign, alternate, type, behind_hex, align_at, sign_at, alternate_at, width_at, precision_at, type_at, format_parts, specification, behind_colon}
+use Rattle.rustc_parse_format.specs.Specification.{fill, align, sign, alternate, type, behind_hex, align_at, sign_at, alternate_at, width_at, precision_at, type_at, format_text, specification, behind_colon}
 use Rattle.rustc_parse_format.specs.Placeholder.{position, cut}
 
 -- t ends with r
@@ -131,8 +131,8 @@ pub precision_from_align : (t : Text) → IsRest (align_at t) (precision_at t)
 precision_from_align t = IsRest-trans (width_from_align t) (width_rest (width_at t))
 
 -- after the fill
-pub format_from_align : (t : Text) → IsRest (align_at t) (format_parts t).1
-unfolding format_parts
+pub format_from_align : (t : Text) → IsRest (align_at t) (format_text t).1
+unfolding format_text
 format_from_align t = IsRest-trans (precision_from_align t) (IsRest-trans (precision_rest (precision_at t)) (type_rest (type_at t)))
 
 colon_rest : (mode : Mode) (t : Text) → IsRest t (behind_colon mode t).1

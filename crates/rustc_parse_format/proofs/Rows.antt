@@ -2,21 +2,21 @@
 use Rattle.std.proofs.Common.{◌≡◌, ℕ, List, [], ◌∷◌, refl, Some, None, codes, true, false}
 use Rattle.unicode_ident.proofs.Computing.{unicode_ident}
 use Rattle.rustc_parse_format.specs.Characters.{Text, word, behind_word, digits, behind_digits, behind_white}
-use Rattle.rustc_parse_format.specs.Pieces.{Format, Position, Implicit, Index, Named, Piece, Lit, NextArgument, default_spec}
-use Rattle.rustc_parse_format.specs.Specification.{format_parts}
+use Rattle.rustc_parse_format.specs.Types.{Format, Position, Implicit, Index, Named, Piece, Lit, NextArgument, default_spec}
+use Rattle.rustc_parse_format.specs.Specification.{format_text}
 use Rattle.rustc_parse_format.specs.Placeholder.{cut}
-use Rattle.rustc_parse_format.specs.Values.{next_number}
+use Rattle.rustc_parse_format.specs.Values.{number_after_field}
 use Rattle.rustc_parse_format.specs.Meaning.{format_of, argument}
 use Rattle.rustc_parse_format.specs.Written.{written}
 use Rattle.rustc_parse_format.specs.Faults.{Fault, message}
 use Rattle.rustc_parse_format.specs.PartFaults.{argument_faults, format_faults, cut_faults}
-use Rattle.rustc_parse_format.specs.Step.{call, placeholder, walk, pieces_of, faults_of}
+use Rattle.rustc_parse_format.specs.Call.{call, placeholder, walk, pieces_of, faults_of}
 use Rattle.rustc_parse_format.specs.World.{World, Place, world, place_at, pieces_in, faults_in}
 use Rattle.rustc_parse_format.specs.State.{State, fresh, calls, after_all}
 
 -- each definition that the rows compute
 unfoldable pub computing : Unit {0}
-unfolding unicode_ident word behind_word digits behind_digits behind_white cut argument next_number argument_faults cut_faults call placeholder walk written message format_parts format_of format_faults world place_at lib.Utf8.encode
+unfolding unicode_ident word behind_word digits behind_digits behind_white cut argument number_after_field argument_faults cut_faults call placeholder walk written message format_text format_of format_faults world place_at lib.Utf8.encode
 computing = tt
 
 -- an input with no snippet

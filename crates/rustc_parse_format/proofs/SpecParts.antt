@@ -4,7 +4,7 @@ use Rattle.std.specs.Prelude.{◌==◌, if◌then◌else◌, codes}
 use Rattle.std.proofs.lemmas.Bool.{eqb-true}
 use Rattle.std.proofs.lemmas.Str.{chars-IsAscii}
 use Rattle.rustc_parse_format.specs.Characters.{Text, begins_with, behind_first, word, behind_word}
-use Rattle.rustc_parse_format.specs.Pieces.{DebugHex, Lower, Upper}
+use Rattle.rustc_parse_format.specs.Types.{DebugHex, Lower, Upper}
 use Rattle.rustc_parse_format.specs.Syntax.{PaddedWidth, PlainWidth, NoPrecision, StarPrecision, DotPrecision, TypeText, DebugHexType, CharacterType, WordType}
 use Rattle.rustc_parse_format.specs.Counts.{count, counted, width, precision}
 use Rattle.rustc_parse_format.specs.Values.{type_of}

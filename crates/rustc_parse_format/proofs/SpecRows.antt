@@ -1,9 +1,9 @@
 -- Worked rows of specifications, each by computing: what each part means, where it stands, and which number it takes.
 use Rattle.std.proofs.Common.{◌≡◌, ℕ, List, [], ◌∷◌, refl, Some, None, codes, true, false}
 use Rattle.rustc_parse_format.specs.Characters.{Text}
-use Rattle.rustc_parse_format.specs.Pieces.{Mode, Format, InlineAsm, Diagnostic, Position, Implicit, Index, Named, Is, Name, Param, Star, Left, Right, Plus, Lower, Spec, Piece, Lit, NextArgument, default_spec}
+use Rattle.rustc_parse_format.specs.Types.{Mode, Format, InlineAsm, Diagnostic, Position, Implicit, Index, Named, Is, Name, Param, Star, Left, Right, Plus, Lower, Spec, Piece, Lit, NextArgument, default_spec}
 use Rattle.rustc_parse_format.specs.Faults.{UnmatchedBrace, MissingBrace, FillBrace, Underscore, TooLarge}
-use Rattle.rustc_parse_format.specs.Step.{walk, pieces_of}
+use Rattle.rustc_parse_format.specs.Call.{walk, pieces_of}
 use Rattle.rustc_parse_format.specs.World.{Place, world, pieces_in}
 use Rattle.rustc_parse_format.proofs.Rows.{computing, behind_quote, pieces, faults, bare_at}
 

@@ -1,8 +1,8 @@
 -- What a loop over the calls of a parser needs, and what one call does to its errors.
 use Rattle.std.proofs.Common.{◌≡◌, ◌≢◌, ◌<◌, List, [], ◌∷◌, length, refl, ap, arith, Some, None}
 use Rattle.rustc_parse_format.specs.Marks.{Span}
-use Rattle.rustc_parse_format.specs.Pieces.{Piece}
-use Rattle.rustc_parse_format.specs.Step.{Call, pieces_of}
+use Rattle.rustc_parse_format.specs.Types.{Piece}
+use Rattle.rustc_parse_format.specs.Call.{Call, pieces_of}
 use Rattle.rustc_parse_format.specs.State.{State, next_call, after, calls, after_all}
 use Rattle.rustc_parse_format.proofs.Progress.{walk-none, walk-some}
 use Rattle.rustc_parse_format.proofs.FirstFault.{some_length}

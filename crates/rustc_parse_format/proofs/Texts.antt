@@ -42,26 +42,26 @@ scalars-left (x ∷ xs) ys h = both (scalar x) (scalars (xs ++ ys)) (scalars xs)
     both false b c f h = h
 
 -- the bytes of a text whose characters are u and then those of behind
-pub record Parts (text behind : List ℕ) (u : Text) : Type 0 where
+pub record FormatText (text behind : List ℕ) (u : Text) : Type 0 where
   pub bytes : text ≡ encodes u ++ behind
   pub front : chars (encodes u) ≡ u
 
-pub parts : (text behind : List ℕ) (u : Text) → IsUtf8 text → IsUtf8 behind → chars text ≡ u ++ chars behind → Parts text behind u
+pub parts : (text behind : List ℕ) (u : Text) → IsUtf8 text → IsUtf8 behind → chars text ≡ u ++ chars behind → FormatText text behind u
 parts text behind u v w e = record {
   bytes = sym (encodes-chars text v) ∙ (ap encodes e ∙ (encodes-append u (chars behind) ∙ ap (λ t. encodes u ++ t) (encodes-chars behind w)));
   front = chars-encodes u (scalars-left u (chars behind) (ap scalars (sym e) ∙ scalars-chars text v));
 }
 
-pub behind-le : (text behind : List ℕ) (u : Text) → Parts text behind u → length behind ≤ length text
+pub behind-le : (text behind : List ℕ) (u : Text) → FormatText text behind u → length behind ≤ length text
 behind-le text behind u p = omega (arith, ap length p.bytes, length-append (encodes u) behind)
 
-front_length : (text behind : List ℕ) (u : Text) → Parts text behind u → length text - length behind ≡ length (encodes u)
+front_length : (text behind : List ℕ) (u : Text) → FormatText text behind u → length text - length behind ≡ length (encodes u)
 front_length text behind u p = omega (arith, ap length p.bytes, length-append (encodes u) behind)
 
-pub cut_boundary : (text behind : List ℕ) (u : Text) → IsUtf8 behind → Parts text behind u → IsCharBoundary text (length text - length behind)
+pub cut_boundary : (text behind : List ℕ) (u : Text) → IsUtf8 behind → FormatText text behind u → IsCharBoundary text (length text - length behind)
 cut_boundary text behind u w p = rw (front_length text behind u p) (IsCharBoundary-at_seam text (encodes u) behind p.bytes w)
 
-pub chars_front : (text behind : List ℕ) (u : Text) → Parts text behind u → chars (slice_range text 0 (length text - length behind)) ≡ u
+pub chars_front : (text behind : List ℕ) (u : Text) → FormatText text behind u → chars (slice_range text 0 (length text - length behind)) ≡ u
 chars_front text behind u p =
     let n : (length text - length behind) - 0 ≡ length (encodes u) = omega (arith, front_length text behind u p) in
     let e : take (length (encodes u)) text ≡ encodes u = ap (λ t. take (length (encodes u)) t) p.bytes ∙ take-append_seam (encodes u) behind in

@@ -3,11 +3,11 @@ use Prim.Native.Char.{code}
 use Rattle.std.proofs.Common.{◌≡◌, ◌≢◌, ℕ, List, [], ◌∷◌, refl, ap, codes, map, Some, None, true, false, arith}
 use Rattle.rustc_parse_format.specs.Characters.{Text}
 use Rattle.rustc_parse_format.specs.Marks.{Span, Start}
-use Rattle.rustc_parse_format.specs.Pieces.{Format, Right, Named, Is, Piece, Lit, NextArgument, default_spec}
+use Rattle.rustc_parse_format.specs.Types.{Format, Right, Named, Is, Piece, Lit, NextArgument, default_spec}
 use Rattle.rustc_parse_format.specs.Spelling.{IsPart}
-use Rattle.rustc_parse_format.specs.Syntax.{Word, NumberCount, PlainWidth, NoPrecision, WordType, Parts, FormatParts, PieceText, DoubledText, PlaceholderText, fill_part, piece_part}
+use Rattle.rustc_parse_format.specs.Syntax.{Word, NumberCount, PlainWidth, NoPrecision, WordType, FormatText, Formatting, PieceText, DoubledText, PlaceholderText, fill_part, piece_part}
 use Rattle.rustc_parse_format.specs.Grammar.{Begins, Reads, piece_values}
-use Rattle.rustc_parse_format.specs.Step.{walk, pieces_of, faults_of}
+use Rattle.rustc_parse_format.specs.Call.{walk, pieces_of, faults_of}
 use Rattle.rustc_parse_format.proofs.Readings.{Reads-unique}
 use Rattle.std.proofs.lemmas.Bool.{false≢true}
 use Rattle.std.specs.Prelude.{is_some}
@@ -24,11 +24,11 @@ rest = codes "{x:>5}"
 abbrev braces : PieceText
 braces = DoubledText (code "{") []
 
-abbrev sized : Parts
+abbrev sized : FormatText
 sized = record { fill = None; align = Right; sign = None; alternate = false; width = PlainWidth (NumberCount (codes "5")); precision = NoPrecision; type = WordType [] }
 
 abbrev placeholder : PieceText
-placeholder = PlaceholderText (record { position = Word (codes "x"); space = []; spec = FormatParts sized }) []
+placeholder = PlaceholderText (record { position = Word (codes "x"); space = []; spec = Formatting sized }) []
 
 -- As it is read, without spans.
 abbrev bare_pieces : List (Piece (Unit {0}))

@@ -3,9 +3,9 @@ use Rattle.std.proofs.Common.{◌≡◌, ◌≢◌, ℕ, List, [], ◌∷◌, ma
 use Rattle.std.specs.List.{AllByRecursion}
 use Rattle.rustc_parse_format.specs.Characters.{Text}
 use Rattle.rustc_parse_format.specs.Marks.{Span}
-use Rattle.rustc_parse_format.specs.Pieces.{Mode, Piece, bare}
+use Rattle.rustc_parse_format.specs.Types.{Mode, Piece, bare}
 use Rattle.rustc_parse_format.specs.Grammar.{Reads}
-use Rattle.rustc_parse_format.specs.Step.{Call, call, at_end, IsWalk, GoesOn, with_piece, pieces_of}
+use Rattle.rustc_parse_format.specs.Call.{Call, call, end_call, IsWalk, GoesOn, with_piece, pieces_of}
 use Rattle.rustc_parse_format.proofs.Calls.{Steps, call_begins, Gives, begins_call}
 
 -- no call has a fault
@@ -32,7 +32,7 @@ nothing_read mode c ps = refl
 pub ended : (mode : Mode) (c : ℕ) (t : Text) (k : Call) (ks : List Call) → IsWalk mode c t (k ∷ ks) → t ≡ [] → Faultless (k ∷ ks) × (bare_pieces (k ∷ ks) ≡ [])
 unfolding call
 ended mode c t k ks w e =
-    let last : k ≡ at_end c = rw e at w.0 in
+    let last : k ≡ end_call c = rw e at w.0 in
     let none : k.piece ≡ None = ap (λ x. x.piece) last in
     let over : ks ≡ [] = rw none at w.1 in
     (((ap (λ x. x.faults) last), rw over tt), rw none refl)

@@ -76,9 +76,9 @@ begins_with c [] = false
 begins_with c (d ∷ t) = d == c
 
 -- the first character is there, and passes
-abbrev pub starts : (ℕ → Bool) → Text → Bool
-starts p [] = false
-starts p (c ∷ t) = p c
+abbrev pub first_passes : (ℕ → Bool) → Text → Bool
+first_passes p [] = false
+first_passes p (c ∷ t) = p c
 
 -- what is after a closing brace, if the text begins with one
 abbrev pub behind_brace : Text → Text

@@ -5,9 +5,9 @@ use Rattle.std.specs.List.{AllByRecursion}
 use Rattle.std.specs.Str.Parse.{digits_value}
 use Rattle.rustc_parse_format.specs.Characters.{Text}
 use Rattle.rustc_parse_format.specs.Spelling.{IsPart}
-use Rattle.rustc_parse_format.specs.Pieces.{Mode, Piece}
-use Rattle.rustc_parse_format.specs.Syntax.{CountText, NumberCount, IndexCount, NameCount, NoCount, WidthText, PaddedWidth, ZeroIndexWidth, PlainWidth, PrecisionText, NoPrecision, StarPrecision, DotPrecision, TypeText, DebugHexType, CharacterType, WordType, Parts, SpecText, Default, FormatParts, Modifier, DiagnosticText, PositionText, Digits, Word, NoPosition, FieldText, PieceText, RunText, DoubledText, PlaceholderText, piece_part}
-use Rattle.rustc_parse_format.specs.Values.{piece_value, number_behind}
+use Rattle.rustc_parse_format.specs.Types.{Mode, Piece}
+use Rattle.rustc_parse_format.specs.Syntax.{CountText, NumberCount, IndexCount, NameCount, NoCount, WidthText, PaddedWidth, ZeroIndexWidth, PlainWidth, PrecisionText, NoPrecision, StarPrecision, DotPrecision, TypeText, DebugHexType, CharacterType, WordType, FormatText, SpecText, Default, Formatting, Modifier, DiagnosticText, PositionText, Digits, Word, NoPosition, FieldText, PieceText, RunText, DoubledText, PlaceholderText, piece_part}
+use Rattle.rustc_parse_format.specs.Values.{piece_value, number_after}
 
 -- What is refused of what is well formed: the word `_`, and an integer that does not fit into 16 bits.
 
@@ -43,7 +43,7 @@ IsCleanType (DebugHexType h) = Unit {0}
 IsCleanType (CharacterType c) = Unit {0}
 IsCleanType (WordType w) = IsNamed w
 
-pub record AreCleanParts (p : Parts) : Type 0 where
+pub record IsCleanFormat (p : FormatText) : Type 0 where
   pub width : IsCleanWidth p.width
   pub precision : IsCleanPrecision p.precision
   pub type : IsCleanType p.type
@@ -51,7 +51,7 @@ pub record AreCleanParts (p : Parts) : Type 0 where
 -- the text in a diagnostic is no word
 abbrev pub IsCleanSpec : SpecText → Type 0
 IsCleanSpec Default = Unit {0}
-IsCleanSpec (FormatParts p) = AreCleanParts p
+IsCleanSpec (Formatting p) = IsCleanFormat p
 IsCleanSpec (Modifier w) = IsNamed w
 IsCleanSpec (DiagnosticText u) = Unit {0}
 
@@ -70,7 +70,7 @@ pub record Begins (mode : Mode) (c : ℕ) (t : Text) (p : Piece (Unit {0})) (r :
   pub written : IsPart t (piece_part mode text) r
   pub clean : IsCleanPiece text
   pub means : p ≡ piece_value c text
-  pub numbered : next ≡ number_behind c text
+  pub numbered : next ≡ number_after c text
 
 -- the text reads as these pieces, from the number c on
 abbrev pub Reads : Mode → ℕ → Text → List (Piece (Unit {0})) → Type 0
@@ -92,7 +92,7 @@ pub record StopsInside (mode : Mode) (c : ℕ) (t : Text) (ps : List (Piece (Uni
 -- What pieces as written mean, one after the other, from the number c on; and how they are spelled.
 abbrev pub piece_values : ℕ → List PieceText → List (Piece (Unit {0}))
 piece_values c [] = []
-piece_values c (x ∷ xs) = piece_value c x ∷ piece_values (number_behind c x) xs
+piece_values c (x ∷ xs) = piece_value c x ∷ piece_values (number_after c x) xs
 
 abbrev pub spelled : Mode → List PieceText → Text
 spelled mode [] = []

@@ -1,7 +1,7 @@
 -- An argument that is a name and nothing else.
 use Rattle.std.specs.Prelude.{◌≡◌}
 use Rattle.rustc_parse_format.specs.Characters.{Text}
-use Rattle.rustc_parse_format.specs.Pieces.{Named, Argument, default_spec}
+use Rattle.rustc_parse_format.specs.Types.{Named, Argument, default_spec}
 
 pub record IsIdentifier {A : Type 0} (a : Argument A) : Type 0 where
   pub name : Text

@@ -1,5 +1,5 @@
 pub mod Characters
-pub mod Pieces
+pub mod Types
 pub mod Spelling
 pub mod Syntax
 pub mod Values
@@ -12,7 +12,7 @@ pub mod Meaning
 pub mod Written
 pub mod Faults
 pub mod PartFaults
-pub mod Step
+pub mod Call
 pub mod Steps
 pub mod State
 pub mod Bytes

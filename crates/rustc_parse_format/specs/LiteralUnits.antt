@@ -6,7 +6,7 @@ use Rattle.std.specs.Prelude.{ℕ, Bool, true, not, ◌&&◌, ◌||◌, ◌==◌
 use Rattle.std.specs.List.{list_all, filter}
 use Rattle.std.specs.Char.{digit_value}
 use Rattle.std.specs.Str.Parse.{digits_value}
-use Rattle.rustc_parse_format.specs.Characters.{Text, front, behind, starts}
+use Rattle.rustc_parse_format.specs.Characters.{Text, front, behind, first_passes}
 
 pub data LiteralUnit : Type 0 where
   -- a character that stands for itself
@@ -82,7 +82,7 @@ is_scalar c = nat_lt c 0xD800 || (nat_lt 0xDFFF c && nat_lt c 0x11_0000)
 -- character.
 abbrev pub is_unicode : Text → Bool
 is_unicode w =
-    starts is_hex w && (list_all (λ c. is_hex c || is_underscore c) w
+    first_passes is_hex w && (list_all (λ c. is_hex c || is_underscore c) w
     && (nat_le (length (hex_digits w)) 6 && is_scalar (unicode_value w)))
 
 -- it is well formed
@@ -99,7 +99,7 @@ may_precede (Plain c) r = true
 may_precede (SimpleEscape l) r = true
 may_precede (ByteEscape h l) r = true
 may_precede (UnicodeEscape w) r = true
-may_precede (Continuation w) r = not (starts is_skipped r)
+may_precede (Continuation w) r = not (first_passes is_skipped r)
 
 -- The unit at the front of a text, by computing, and the rest.
 abbrev pub with_rest : Text → LiteralUnit → Option (LiteralUnit × Text)

@@ -1,11 +1,11 @@
 -- What a cut means where the next number is c: the argument of `Values`, with marks for its spans.
 use Rattle.std.specs.Prelude.{ℕ, ◌++◌, [], ◌∷◌, Option, Some, None, codes}
 use Rattle.rustc_parse_format.specs.Characters.{Text, behind_first, number}
-use Rattle.rustc_parse_format.specs.Pieces.{Count, Is, Name, Param, Star, Implied, Spec, Argument, default_spec}
+use Rattle.rustc_parse_format.specs.Types.{Count, Is, Name, Param, Star, Implied, Spec, Argument, default_spec}
 use Rattle.rustc_parse_format.specs.Marks.{Span, up_to, through, over_first}
 use Rattle.rustc_parse_format.specs.Placeholder.{Cut}
-use Rattle.rustc_parse_format.specs.Syntax.{CountText, NumberCount, IndexCount, NameCount, NoCount, WidthText, PaddedWidth, ZeroIndexWidth, PlainWidth, width_part, PrecisionText, NoPrecision, StarPrecision, DotPrecision, precision_part, TypeText, DebugHexType, CharacterType, WordType, type_part, Parts, SpecText, Default, FormatParts, Modifier, DiagnosticText}
-use Rattle.rustc_parse_format.specs.Values.{is_padded, type_of, debug_hex_of, behind_spec, position_of}
+use Rattle.rustc_parse_format.specs.Syntax.{CountText, NumberCount, IndexCount, NameCount, NoCount, WidthText, PaddedWidth, ZeroIndexWidth, PlainWidth, width_part, PrecisionText, NoPrecision, StarPrecision, DotPrecision, precision_part, TypeText, DebugHexType, CharacterType, WordType, type_part, FormatText, SpecText, Default, Formatting, Modifier, DiagnosticText}
+use Rattle.rustc_parse_format.specs.Values.{is_padded, type_of, debug_hex_of, number_after_spec, position_of}
 
 -- the count that stands at t, with r after it; the span of a name ends in front of its `$`
 abbrev pub count_of : Text → CountText → Text → Count Span
@@ -62,17 +62,17 @@ fill_span t None = None
 fill_span t (Some c) = Some (over_first t)
 
 -- A format specification in front of r, from its type on, from its precision on and from its width on.
-abbrev pub from_type : Parts → Text → Text
+abbrev pub from_type : FormatText → Text → Text
 from_type p r = (type_part p.type).spelling ++ r
 
-abbrev pub from_precision : Parts → Text → Text
+abbrev pub from_precision : FormatText → Text → Text
 from_precision p r = (precision_part p.precision).spelling ++ from_type p r
 
-abbrev pub from_width : Parts → Text → Text
+abbrev pub from_width : FormatText → Text → Text
 from_width p r = (width_part p.width).spelling ++ from_precision p r
 
 -- the format specification that stands at t, after its colon, with r after it
-unfoldable pub format_of : ℕ → Text → Parts → Text → Spec Span
+unfoldable pub format_of : ℕ → Text → FormatText → Text → Spec Span
 format_of c t p r = record {
   fill = p.fill;
   fill_span = fill_span t p.fill;
@@ -92,14 +92,14 @@ format_of c t p r = record {
 -- the specification that stands at t, with r after it
 abbrev pub spec_of : ℕ → Text → SpecText → Text → Spec Span
 spec_of c t Default r = default_spec
-spec_of c t (FormatParts p) r = format_of c (behind_first t) p r
+spec_of c t (Formatting p) r = format_of c (behind_first t) p r
 spec_of c t (Modifier w) r = record default_spec { ty = w; ty_span = word_span (behind_first t) w r }
 spec_of c t (DiagnosticText u) r = record default_spec { ty = u; ty_span = Some (up_to t r) }
 
 -- the argument that a cut means
 unfoldable pub argument : ℕ → Cut → Argument Span
 argument c a = record {
-  position = position_of (behind_spec c a.field.spec) a.field.position;
+  position = position_of (number_after_spec c a.field.spec) a.field.position;
   position_span = up_to a.position_at a.spec_at;
   format = spec_of c a.spec_at a.field.spec a.rest;
 }

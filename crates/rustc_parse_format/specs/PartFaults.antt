@@ -3,7 +3,7 @@ use Rattle.std.specs.Prelude.{◌++◌, if◌then◌else◌, List, [], ◌∷◌
 use Rattle.rustc_parse_format.specs.Characters.{Text, word, behind_word, digits, behind_digits, behind_first, is_over}
 use Rattle.rustc_parse_format.specs.Marks.{Span, up_to, through}
 use Rattle.rustc_parse_format.specs.Placeholder.{Cut}
-use Rattle.rustc_parse_format.specs.Syntax.{WidthText, PaddedWidth, ZeroIndexWidth, PlainWidth, PrecisionText, NoPrecision, StarPrecision, DotPrecision, TypeText, DebugHexType, CharacterType, WordType, Parts, SpecText, Default, FormatParts, Modifier, DiagnosticText}
+use Rattle.rustc_parse_format.specs.Syntax.{WidthText, PaddedWidth, ZeroIndexWidth, PlainWidth, PrecisionText, NoPrecision, StarPrecision, DotPrecision, TypeText, DebugHexType, CharacterType, WordType, FormatText, SpecText, Default, Formatting, Modifier, DiagnosticText}
 use Rattle.rustc_parse_format.specs.Meaning.{from_width, from_precision, from_type}
 use Rattle.rustc_parse_format.specs.Faults.{Fault, Underscore, TooLarge}
 
@@ -36,13 +36,13 @@ type_faults t (CharacterType c) = []
 type_faults t (WordType w) = word_faults t
 
 -- the format specification in front of r
-unfoldable pub format_faults : Parts → Text → List (Fault Span)
+unfoldable pub format_faults : FormatText → Text → List (Fault Span)
 format_faults p r = width_faults (from_width p r) p.width ++ precision_faults (from_precision p r) p.precision ++ type_faults (from_type p r) p.type
 
 -- the specification that stands at t, with r after it
 abbrev pub spec_faults : Text → SpecText → Text → List (Fault Span)
 spec_faults t Default r = []
-spec_faults t (FormatParts p) r = format_faults p r
+spec_faults t (Formatting p) r = format_faults p r
 spec_faults t (Modifier w) r = word_faults (behind_first t)
 spec_faults t (DiagnosticText u) r = []
 

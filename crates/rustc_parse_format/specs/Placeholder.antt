@@ -2,7 +2,7 @@
 use Rattle.std.specs.Prelude.{if◌then◌else◌, ◌++◌, [], ◌∷◌}
 use Rattle.std.specs.Char.{is_ascii_digit, is_whitespace}
 use Rattle.rustc_parse_format.specs.Characters.{Text, is_id_start, front, word, behind_word, digits, behind_digits, behind_white}
-use Rattle.rustc_parse_format.specs.Pieces.{Mode}
+use Rattle.rustc_parse_format.specs.Types.{Mode}
 use Rattle.rustc_parse_format.specs.Syntax.{PositionText, Digits, Word, NoPosition, FieldText, field_part, spec_part}
 use Rattle.rustc_parse_format.specs.Specification.{specification}
 

@@ -23,7 +23,7 @@ use Rattle.rustc_parse_format.specs.declared.types.ParseError.{ParseError}
 use Rattle.rustc_parse_format.specs.declared.types.Suggestion.{Suggestion as DeclaredSuggestion}
 use Rattle.rustc_parse_format.specs.declared.types.Suggestion.TheVariants.{None as NoSuggestion, UsePositional as Positional, RemoveRawIdent as RemoveRaw, ReorderFormatParameter as Reorder, AddMissingColon as AddColon, UseRustDebugPrintingMacro as UseDebugMacro}
 use Rattle.rustc_parse_format.specs.Characters.{Text}
-use Rattle.rustc_parse_format.specs.Pieces.{Mode, Format, InlineAsm, Diagnostic, Alignment, Left, Right, Center, Unknown, Sign, Plus, Minus, DebugHex, Lower, Upper, Position, Implicit, Index, Named, Count, Is, Name, Param, Star, Implied, Spec, Argument, Piece, Lit, NextArgument}
+use Rattle.rustc_parse_format.specs.Types.{Mode, Format, InlineAsm, Diagnostic, Alignment, Left, Right, Center, Unknown, Sign, Plus, Minus, DebugHex, Lower, Upper, Position, Implicit, Index, Named, Count, Is, Name, Param, Star, Implied, Spec, Argument, Piece, Lit, NextArgument}
 use Rattle.rustc_parse_format.specs.Faults.{Message, Suggestion, Nothing, UsePositional, RemoveRawIdent, ReorderFormatParameter, AddMissingColon, UseRustDebugPrintingMacro}
 use Rattle.rustc_parse_format.specs.World.{Place}
 

@@ -2,8 +2,8 @@
 use Prim.Native.Char.{code}
 use Rattle.std.specs.Prelude.{ℕ, Bool, true, false, if◌then◌else◌, ◌==◌, [], ◌∷◌, Option, Some, None}
 use Rattle.rustc_parse_format.specs.Characters.{Text, is_align, is_no_brace, front, behind, word, behind_word}
-use Rattle.rustc_parse_format.specs.Pieces.{Mode, Format, InlineAsm, Diagnostic, Alignment, Left, Right, Center, Unknown, Sign, Plus, Minus, DebugHex, Lower, Upper}
-use Rattle.rustc_parse_format.specs.Syntax.{TypeText, DebugHexType, CharacterType, WordType, Parts, SpecText, Default, FormatParts, Modifier, DiagnosticText}
+use Rattle.rustc_parse_format.specs.Types.{Mode, Format, InlineAsm, Diagnostic, Alignment, Left, Right, Center, Unknown, Sign, Plus, Minus, DebugHex, Lower, Upper}
+use Rattle.rustc_parse_format.specs.Syntax.{TypeText, DebugHexType, CharacterType, WordType, FormatText, SpecText, Default, Formatting, Modifier, DiagnosticText}
 use Rattle.rustc_parse_format.specs.Counts.{width, precision}
 
 -- Each part of a format specification at the front of a text, and the rest after it.
@@ -56,8 +56,8 @@ abbrev pub type_at : Text → Text
 type_at t = (precision (precision_at t)).1
 
 -- the format specification at the front, and the rest after it
-unfoldable pub format_parts : Text → Parts × Text
-format_parts t = (
+unfoldable pub format_text : Text → FormatText × Text
+format_text t = (
   record {
     fill = (fill t).0;
     align = (align (align_at t)).0;
@@ -72,7 +72,7 @@ format_parts t = (
 
 -- with t after the colon
 abbrev pub behind_colon : Mode → Text → SpecText × Text
-behind_colon Format t = (FormatParts (format_parts t).0, (format_parts t).1)
+behind_colon Format t = (Formatting (format_text t).0, (format_text t).1)
 behind_colon InlineAsm t = (Modifier (word t), behind_word t)
 behind_colon Diagnostic t = (DiagnosticText (front is_no_brace t), behind is_no_brace t)
 

@@ -3,7 +3,7 @@
 use Rattle.std.specs.Prelude.{◌≡◌, ℕ, Bool, true, false, not, ◌&&◌, ◌||◌, ◌++◌, IsTrue, List, [], ◌∷◌}
 use Rattle.std.specs.List.{list_all}
 use Rattle.std.specs.Char.{is_ascii_digit}
-use Rattle.rustc_parse_format.specs.Characters.{Text, is_id_start, is_id_continue, starts}
+use Rattle.rustc_parse_format.specs.Characters.{Text, is_id_start, is_id_continue, first_passes}
 
 pub record Part : Type 0 where
   -- as it is written
@@ -41,11 +41,11 @@ never = record { spelling = []; is_formed = false; may_precede = λ r. true }
 
 -- characters that pass, as many as stand there
 abbrev pub run : (ℕ → Bool) → Text → Part
-run p u = record { spelling = u; is_formed = list_all p u; may_precede = λ r. not (starts p r) }
+run p u = record { spelling = u; is_formed = list_all p u; may_precede = λ r. not (first_passes p r) }
 
 -- the same, at least one
 abbrev pub some_run : (ℕ → Bool) → Text → Part
-some_run p u = record (run p u) { is_formed = starts p u && list_all p u }
+some_run p u = record (run p u) { is_formed = first_passes p u && list_all p u }
 
 -- a character that passes, twice
 abbrev pub doubled : (ℕ → Bool) → ℕ → Part
@@ -60,7 +60,7 @@ is_word [] = false
 is_word (c ∷ w) = is_id_start c && list_all is_id_continue w
 
 abbrev pub identifier : Text → Part
-identifier w = record { spelling = w; is_formed = is_word w; may_precede = λ r. not (starts is_id_continue r) }
+identifier w = record { spelling = w; is_formed = is_word w; may_precede = λ r. not (first_passes is_id_continue r) }
 
 -- a word in front of what passes
 abbrev pub identifier_before : (Text → Bool) → Text → Part
@@ -68,7 +68,7 @@ identifier_before p w = record { spelling = w; is_formed = is_word w; may_preced
 
 -- a word, or nothing where none begins
 abbrev pub optional_identifier : Text → Part
-optional_identifier [] = absent (starts is_id_start)
+optional_identifier [] = absent (first_passes is_id_start)
 optional_identifier (c ∷ w) = identifier (c ∷ w)
 
 -- some front of the text passes, with what is after it
@@ -77,8 +77,8 @@ some_front [] p = p [] []
 some_front (c ∷ t) p = p [] (c ∷ t) || some_front t (λ u r. p (c ∷ u) r)
 
 -- the text begins with such a part, each spelled as the text that it is made of
-abbrev pub begins : (Text → Part) → Text → Bool
-begins part t = some_front t (λ u r. (part u).is_formed && (part u).may_precede r)
+abbrev pub begins_with_part : (Text → Part) → Text → Bool
+begins_with_part part t = some_front t (λ u r. (part u).is_formed && (part u).may_precede r)
 
 -- parts one after the other, each in front of the next
 abbrev pub row : List Part → Part

@@ -1,11 +1,11 @@
 -- What a caller sees of a parser between two calls.
 use Rattle.std.specs.Prelude.{◌≡◌, ◌++◌, ℕ, ◌-◌, Bool, List, [], ◌∷◌, length, Option, Some, None, option_map}
 use Rattle.rustc_parse_format.specs.Characters.{Text, byte_length}
-use Rattle.rustc_parse_format.specs.Pieces.{Mode, Piece, bare}
+use Rattle.rustc_parse_format.specs.Types.{Mode, Piece, bare}
 use Rattle.rustc_parse_format.specs.Faults.{Fault, Message, add_errors}
 use Rattle.rustc_parse_format.specs.Marks.{Span}
 use Rattle.rustc_parse_format.specs.World.{World, Place, place_at, world, faults_in, pieces_in}
-use Rattle.rustc_parse_format.specs.Step.{Call, call, walk, IsWalk, pieces_of}
+use Rattle.rustc_parse_format.specs.Call.{Call, call, walk, IsWalk, pieces_of}
 
 -- What a cursor stands at: the rest of an input, in its world.
 pub record Unread : Type 0 where

@@ -4,9 +4,9 @@
 use Prim.Native.Char.{code}
 use Rattle.std.specs.Prelude.{◌≡◌, ℕ, Bool, true, false, not, ◌||◌, ◌==◌, [], ◌∷◌, Option, Some, None, codes}
 use Rattle.std.specs.Char.{is_ascii_digit, is_whitespace}
-use Rattle.rustc_parse_format.specs.Characters.{Text, is_align, is_brace, is_id_start, is_no_brace, behind_first, begins_with, starts}
-use Rattle.rustc_parse_format.specs.Pieces.{Mode, Format, InlineAsm, Diagnostic, Alignment, Left, Right, Center, Unknown, Sign, Plus, Minus, DebugHex, Lower, Upper}
-use Rattle.rustc_parse_format.specs.Spelling.{Part, IsPart, before, fixed, unless, absent, never, run, some_run, doubled, integer, identifier, identifier_before, optional_identifier, begins, row}
+use Rattle.rustc_parse_format.specs.Characters.{Text, is_align, is_brace, is_id_start, is_no_brace, behind_first, begins_with, first_passes}
+use Rattle.rustc_parse_format.specs.Types.{Mode, Format, InlineAsm, Diagnostic, Alignment, Left, Right, Center, Unknown, Sign, Plus, Minus, DebugHex, Lower, Upper}
+use Rattle.rustc_parse_format.specs.Spelling.{Part, IsPart, before, fixed, unless, absent, never, run, some_run, doubled, integer, identifier, identifier_before, optional_identifier, begins_with_part, row}
 
 pub data PositionText : Type 0 where
   Digits : Text → PositionText
@@ -17,19 +17,19 @@ pub data PositionText : Type 0 where
 abbrev pub position_part : PositionText → Part
 position_part (Digits ds) = integer ds
 position_part (Word w) = identifier w
-position_part NoPosition = absent (λ t. starts is_ascii_digit t || starts is_id_start t)
+position_part NoPosition = absent (λ t. first_passes is_ascii_digit t || first_passes is_id_start t)
 
 -- fill := character, which an align follows
 abbrev pub fill_part : Option ℕ → Part
-fill_part (Some c) = before (c ∷ []) (starts is_align)
-fill_part None = absent (λ t. starts is_align (behind_first t))
+fill_part (Some c) = before (c ∷ []) (first_passes is_align)
+fill_part None = absent (λ t. first_passes is_align (behind_first t))
 
 -- align := '<' | '^' | '>'
 abbrev pub align_part : Alignment → Part
 align_part Left = fixed (codes "<")
 align_part Right = fixed (codes ">")
 align_part Center = fixed (codes "^")
-align_part Unknown = absent (starts is_align)
+align_part Unknown = absent (first_passes is_align)
 
 abbrev pub is_sign : ℕ → Bool
 is_sign c = (c == code "+") || (c == code "-")
@@ -38,7 +38,7 @@ is_sign c = (c == code "+") || (c == code "-")
 abbrev pub sign_part : Option Sign → Part
 sign_part (Some Plus) = fixed (codes "+")
 sign_part (Some Minus) = fixed (codes "-")
-sign_part None = absent (starts is_sign)
+sign_part None = absent (first_passes is_sign)
 
 -- ['#']
 abbrev pub alternate_part : Bool → Part
@@ -63,7 +63,7 @@ abbrev pub count_part : CountText → Part
 count_part (NumberCount ds) = row (integer ds ∷ absent (begins_with (code "$")) ∷ [])
 count_part (IndexCount ds) = row (integer ds ∷ fixed (codes "$") ∷ [])
 count_part (NameCount w) = row (name_part w ∷ fixed (codes "$") ∷ [])
-count_part NoCount = absent (λ t. starts is_ascii_digit t || begins name_part t)
+count_part NoCount = absent (λ t. first_passes is_ascii_digit t || begins_with_part name_part t)
 
 pub data WidthText : Type 0 where
   -- the flag `0` and a count
@@ -108,9 +108,9 @@ abbrev pub type_part : TypeText → Part
 type_part (DebugHexType Lower) = fixed (codes "x?")
 type_part (DebugHexType Upper) = fixed (codes "X?")
 type_part (CharacterType c) = record { spelling = c ∷ []; is_formed = is_type_character c; may_precede = λ t. (c == code "?") || not (begins_with (code "?") t) }
-type_part (WordType w) = row (absent (starts is_type_character) ∷ optional_identifier w ∷ [])
+type_part (WordType w) = row (absent (first_passes is_type_character) ∷ optional_identifier w ∷ [])
 
-pub record Parts : Type 0 where
+pub record FormatText : Type 0 where
   pub fill : Option ℕ
   pub align : Alignment
   pub sign : Option Sign
@@ -120,7 +120,7 @@ pub record Parts : Type 0 where
   pub type : TypeText
 
 -- format_spec := [[fill]align][sign]['#']['0'][width]['.' precision]type
-abbrev pub format_part : Parts → Part
+abbrev pub format_part : FormatText → Part
 format_part p = row (fill_part p.fill ∷ align_part p.align ∷ sign_part p.sign ∷ alternate_part p.alternate
     ∷ width_part p.width ∷ precision_part p.precision ∷ type_part p.type ∷ [])
 
@@ -128,7 +128,7 @@ format_part p = row (fill_part p.fill ∷ align_part p.align ∷ sign_part p.sig
 pub data SpecText : Type 0 where
   -- no colon
   Default : SpecText
-  FormatParts : Parts → SpecText
+  Formatting : FormatText → SpecText
   -- the modifier of inline assembly
   Modifier : Text → SpecText
   -- the text in a diagnostic
@@ -137,13 +137,13 @@ pub data SpecText : Type 0 where
 -- [ ':' format_spec ], and in the other modes another thing after the colon
 abbrev pub spec_part : Mode → SpecText → Part
 spec_part mode Default = absent (begins_with (code ":"))
-spec_part Format (FormatParts p) = row (fixed (codes ":") ∷ format_part p ∷ [])
+spec_part Format (Formatting p) = row (fixed (codes ":") ∷ format_part p ∷ [])
 spec_part Format (Modifier w) = never
 spec_part Format (DiagnosticText u) = never
-spec_part InlineAsm (FormatParts p) = never
+spec_part InlineAsm (Formatting p) = never
 spec_part InlineAsm (Modifier w) = row (fixed (codes ":") ∷ optional_identifier w ∷ [])
 spec_part InlineAsm (DiagnosticText u) = never
-spec_part Diagnostic (FormatParts p) = never
+spec_part Diagnostic (Formatting p) = never
 spec_part Diagnostic (Modifier w) = never
 spec_part Diagnostic (DiagnosticText u) = row (fixed (codes ":") ∷ run is_no_brace u ∷ [])
 

@@ -2,8 +2,8 @@
 -- The public rule is `std::fmt`, of positional parameters, widths and precisions.
 use Rattle.std.specs.Prelude.{ℕ, Bool, true, false, suc, if◌then◌else◌, [], ◌∷◌, Option, Some, None, codes, is_some, unwrap_or}
 use Rattle.rustc_parse_format.specs.Characters.{Text, number}
-use Rattle.rustc_parse_format.specs.Pieces.{DebugHex, Position, Implicit, Index, Named, Count, Is, Name, Param, Star, Implied, Spec, Argument, Piece, Lit, NextArgument, default_spec}
-use Rattle.rustc_parse_format.specs.Syntax.{PositionText, Digits, Word, NoPosition, CountText, NumberCount, IndexCount, NameCount, NoCount, WidthText, PaddedWidth, ZeroIndexWidth, PlainWidth, PrecisionText, NoPrecision, StarPrecision, DotPrecision, TypeText, DebugHexType, CharacterType, WordType, Parts, SpecText, Default, FormatParts, Modifier, DiagnosticText, FieldText, PieceText, RunText, DoubledText, PlaceholderText}
+use Rattle.rustc_parse_format.specs.Types.{DebugHex, Position, Implicit, Index, Named, Count, Is, Name, Param, Star, Implied, Spec, Argument, Piece, Lit, NextArgument, default_spec}
+use Rattle.rustc_parse_format.specs.Syntax.{PositionText, Digits, Word, NoPosition, CountText, NumberCount, IndexCount, NameCount, NoCount, WidthText, PaddedWidth, ZeroIndexWidth, PlainWidth, PrecisionText, NoPrecision, StarPrecision, DotPrecision, TypeText, DebugHexType, CharacterType, WordType, FormatText, SpecText, Default, Formatting, Modifier, DiagnosticText, FieldText, PieceText, RunText, DoubledText, PlaceholderText}
 
 abbrev pub count_value : CountText → Count (Unit {0})
 count_value (NumberCount ds) = Is (number ds)
@@ -37,7 +37,7 @@ debug_hex_of (DebugHexType h) = Some h
 debug_hex_of (CharacterType c) = None
 debug_hex_of (WordType w) = None
 
-abbrev pub format_value : ℕ → Parts → Spec (Unit {0})
+abbrev pub format_value : ℕ → FormatText → Spec (Unit {0})
 format_value c p = record default_spec {
   fill = p.fill;
   align = p.align;
@@ -52,22 +52,22 @@ format_value c p = record default_spec {
 
 abbrev pub spec_value : ℕ → SpecText → Spec (Unit {0})
 spec_value c Default = default_spec
-spec_value c (FormatParts p) = format_value c p
+spec_value c (Formatting p) = format_value c p
 spec_value c (Modifier w) = record default_spec { ty = w }
 spec_value c (DiagnosticText u) = record default_spec { ty = u }
 
 -- a star takes the next number
-abbrev pub behind_precision : ℕ → PrecisionText → ℕ
-behind_precision c NoPrecision = c
-behind_precision c StarPrecision = suc c
-behind_precision c (DotPrecision k) = c
+abbrev pub number_after_precision : ℕ → PrecisionText → ℕ
+number_after_precision c NoPrecision = c
+number_after_precision c StarPrecision = suc c
+number_after_precision c (DotPrecision k) = c
 
 -- the next number after the specification
-abbrev pub behind_spec : ℕ → SpecText → ℕ
-behind_spec c Default = c
-behind_spec c (FormatParts p) = behind_precision c p.precision
-behind_spec c (Modifier w) = c
-behind_spec c (DiagnosticText u) = c
+abbrev pub number_after_spec : ℕ → SpecText → ℕ
+number_after_spec c Default = c
+number_after_spec c (Formatting p) = number_after_precision c p.precision
+number_after_spec c (Modifier w) = c
+number_after_spec c (DiagnosticText u) = c
 
 -- a position that is not implicit
 abbrev pub given_position : PositionText → Option Position
@@ -79,16 +79,16 @@ given_position NoPosition = None
 abbrev pub position_of : ℕ → PositionText → Position
 position_of c p = unwrap_or (given_position p) (Implicit c)
 
-abbrev pub behind_position : ℕ → PositionText → ℕ
-behind_position c p = if is_some (given_position p) then c else suc c
+abbrev pub number_after_position : ℕ → PositionText → ℕ
+number_after_position c p = if is_some (given_position p) then c else suc c
 
 -- the argument that a field means
 abbrev pub argument_value : ℕ → FieldText → Argument (Unit {0})
-argument_value c a = record { position = position_of (behind_spec c a.spec) a.position; position_span = tt; format = spec_value c a.spec }
+argument_value c a = record { position = position_of (number_after_spec c a.spec) a.position; position_span = tt; format = spec_value c a.spec }
 
 -- and the next number after it
-unfoldable pub next_number : ℕ → FieldText → ℕ
-next_number c a = behind_position (behind_spec c a.spec) a.position
+unfoldable pub number_after_field : ℕ → FieldText → ℕ
+number_after_field c a = number_after_position (number_after_spec c a.spec) a.position
 
 -- A run is itself, a doubled brace stands for one brace in front of its run, and a placeholder for an argument.
 abbrev pub piece_value : ℕ → PieceText → Piece (Unit {0})
@@ -97,7 +97,7 @@ piece_value c (DoubledText b u) = Lit (b ∷ u)
 piece_value c (PlaceholderText a space) = NextArgument (argument_value c a)
 
 -- the next number after the piece
-abbrev pub number_behind : ℕ → PieceText → ℕ
-number_behind c (RunText u) = c
-number_behind c (DoubledText b u) = c
-number_behind c (PlaceholderText a space) = next_number c a
+abbrev pub number_after : ℕ → PieceText → ℕ
+number_after c (RunText u) = c
+number_after c (DoubledText b u) = c
+number_after c (PlaceholderText a space) = number_after_field c a

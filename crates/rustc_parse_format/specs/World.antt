@@ -2,7 +2,7 @@
 use Rattle.std.specs.Prelude.{ℕ, ◌+◌, ◌-◌, Bool, if◌then◌else◌, List, [], ◌∷◌, length, map, Option, Some, None, slice_index_or}
 use Rattle.std.specs.Char.{len_utf8}
 use Rattle.rustc_parse_format.specs.Characters.{Text, byte_length}
-use Rattle.rustc_parse_format.specs.Pieces.{Piece, map_piece}
+use Rattle.rustc_parse_format.specs.Types.{Piece, map_piece}
 use Rattle.rustc_parse_format.specs.Source.{is_source}
 use Rattle.rustc_parse_format.specs.Marks.{Mark, Start, End, Span}
 use Rattle.rustc_parse_format.specs.Faults.{Fault, map_fault}

@@ -4,15 +4,15 @@ ghost use Rattle.std.specs.Prelude.{◌≡◌, ◌≢◌, ◌++◌, ◌+◌, ◌
 ghost use Rattle.rustc_parse_format.specs.Characters.{behind_brace, behind_first, begins_with, first};
 ghost use Rattle.rustc_parse_format.specs.Faults.{brace_fill, no_brace};
 ghost use Rattle.rustc_parse_format.specs.Marks.{up_to};
-ghost use Rattle.rustc_parse_format.specs.Values.{next_number};
+ghost use Rattle.rustc_parse_format.specs.Values.{number_after_field};
 ghost use Rattle.rustc_parse_format.specs.Meaning.{argument};
 ghost use Rattle.rustc_parse_format.specs.PartFaults.{cut_faults};
-ghost use Rattle.rustc_parse_format.specs.Pieces.{Implicit, map_argument};
+ghost use Rattle.rustc_parse_format.specs.Types.{Implicit, map_argument};
 ghost use Rattle.rustc_parse_format.specs.Placeholder.{cut};
 ghost use Rattle.rustc_parse_format.specs.Seen.{pair, seen, seen_argument, seen_mode, seen_position};
 ghost use Rattle.rustc_parse_format.specs.SeenFaults.{seen_fault};
 ghost use Rattle.rustc_parse_format.specs.State.{read_call, read_to};
-ghost use Rattle.rustc_parse_format.specs.Step.{IsPlain, call, placeholder};
+ghost use Rattle.rustc_parse_format.specs.Call.{GivesAtMostText, call, placeholder};
 ghost use Rattle.rustc_parse_format.specs.Steps.{Forward, IsInWord, Paid};
 ghost use Rattle.rustc_parse_format.specs.World.{piece_in, place_of};
 
@@ -44,7 +44,7 @@ fn position_of<'input>(
 }
 
 /// Reads a position, white space and a specification.
-#[tactic(auto, using(crate::proofs::Steps::part_le), unfolding(crate::specs::Placeholder::cut, crate::specs::Meaning::argument, crate::specs::Values::next_number, crate::specs::PartFaults::cut_faults))]
+#[tactic(auto, using(crate::proofs::Steps::part_le), unfolding(crate::specs::Placeholder::cut, crate::specs::Meaning::argument, crate::specs::Values::number_after_field, crate::specs::PartFaults::cut_faults))]
 fn read_argument<'input, L: Ledger>(
     mode: ParseMode,
     reader: &mut Reader<'input>,
@@ -55,7 +55,7 @@ fn read_argument<'input, L: Ledger>(
     ensures value { IfOk result (λ a. seen_argument a
         ≡ map_argument (place_of reader.old.world) (argument reader.old.next (cut (seen_mode mode) reader.old.rest))) }
     ensures state { OnOk result (reader.new ≡ (let a = cut (seen_mode mode) reader.old.rest in
-        read_to reader.old a.rest (next_number reader.old.next a.field) (cut_faults a))) }
+        read_to reader.old a.rest (number_after_field reader.old.next a.field) (cut_faults a))) }
     ensures steps { OnOk result (Paid reader.old.rest trail.old reader.new.rest trail.new) }
 {
     let start = reader.cursor.start();
@@ -146,7 +146,7 @@ fn read_placeholder<'input, L: Ledger>(
 }
 
 /// Reads the next piece, or None at the end and over a closing brace that closes nothing.
-#[tactic(auto, using(crate::proofs::Steps::part_le), unfolding(crate::specs::Step::call))]
+#[tactic(auto, using(crate::proofs::Steps::part_le), unfolding(crate::specs::Call::call))]
 pub fn read_piece<'input, L: Ledger>(
     alloc: Global,
     mode: ParseMode,
@@ -158,7 +158,7 @@ pub fn read_piece<'input, L: Ledger>(
     ensures piece { IfOk result (λ p. option_map seen p ≡ option_map (piece_in reader.old.world)
         (call (seen_mode mode) reader.old.next reader.old.rest).piece) }
     ensures state { OnOk result (reader.new ≡ read_call reader.old (call (seen_mode mode) reader.old.next reader.old.rest)) }
-    ensures spare { IsPlain (call (seen_mode mode) reader.old.next reader.old.rest) → IsOk result }
+    ensures spare { GivesAtMostText (call (seen_mode mode) reader.old.next reader.old.rest) → IsOk result }
     ensures steps { OnOk result (Paid reader.old.rest trail.old reader.new.rest trail.new) }
 {
     let Some(c) = reader.cursor.peek() else {

@@ -119,7 +119,7 @@ impl<'input> Model for Cursor<'input> {
 
 impl<'input> Cursor<'input> {
     ghost use Rattle.std.specs.Prelude.{◌≡◌, ◌-◌, ◌+◌, ◌<◌, ◌^◌, chars, length, option_map};
-    ghost use Rattle.rustc_parse_format.specs.Characters.{begins_with, first, behind_first, with_first, byte_length, front, behind, behind_white, word, behind_word, digits, behind_digits, number, is_id_start, is_over, starts};
+    ghost use Rattle.rustc_parse_format.specs.Characters.{begins_with, first, behind_first, with_first, byte_length, front, behind, behind_white, word, behind_word, digits, behind_digits, number, is_id_start, is_over, first_passes};
     ghost use Rattle.std.specs.Char.{is_ascii_digit};
     ghost use Rattle.rustc_parse_format.specs.Classes.{passes};
     ghost use Rattle.rustc_parse_format.specs.Marks.{Start, End};
@@ -273,14 +273,14 @@ impl<'input> Cursor<'input> {
 
     /// The next character is a digit.
     pub fn starts_digit(&self) -> bool
-        ensures { result ≡ starts is_ascii_digit self.now.rest }
+        ensures { result ≡ first_passes is_ascii_digit self.now.rest }
     {
         self.peek().is_some_and(|c| c.is_ascii_digit())
     }
 
     /// The next character may begin a word.
     pub fn starts_word(&self) -> bool
-        ensures { result ≡ starts is_id_start self.now.rest }
+        ensures { result ≡ first_passes is_id_start self.now.rest }
     {
         self.peek().is_some_and(is_id_start)
     }

@@ -3,13 +3,13 @@
 ghost use Rattle.std.specs.Prelude.{◌≡◌, ◌+◌, ◌<◌, ◌^◌, None, Some, IfOk, OnOk, chars, codes, if◌then◌else◌, length, option_map};
 ghost use Rattle.rustc_parse_format.specs.Characters.{begins_with, behind, behind_first, behind_word, front, is_no_brace, word};
 ghost use Rattle.rustc_parse_format.specs.Marks.{up_to};
-ghost use Rattle.rustc_parse_format.specs.Values.{behind_precision, behind_spec, debug_hex_of, type_of};
+ghost use Rattle.rustc_parse_format.specs.Values.{number_after_precision, number_after_spec, debug_hex_of, type_of};
 ghost use Rattle.rustc_parse_format.specs.Meaning.{fill_span, format_of, spec_of, type_span, word_span};
 ghost use Rattle.rustc_parse_format.specs.PartFaults.{format_faults, spec_faults, type_faults, word_faults};
-ghost use Rattle.rustc_parse_format.specs.Pieces.{default_spec, map_spec};
+ghost use Rattle.rustc_parse_format.specs.Types.{default_spec, map_spec};
 ghost use Rattle.rustc_parse_format.specs.Seen.{pair, seen_alignment, seen_debug_hex, seen_mode, seen_sign, seen_spec};
 ghost use Rattle.rustc_parse_format.specs.State.{read_to};
-ghost use Rattle.rustc_parse_format.specs.Specification.{align, alternate, fill, format_parts, sign, specification, type};
+ghost use Rattle.rustc_parse_format.specs.Specification.{align, alternate, fill, format_text, sign, specification, type};
 ghost use Rattle.rustc_parse_format.specs.Steps.{Forward, IsFurthest, IsInWord, Paid};
 ghost use Rattle.rustc_parse_format.specs.World.{Place, place_of};
 
@@ -189,17 +189,17 @@ fn type_part<'input, L: Ledger>(
 }
 
 /// Reads the format specification at the front.
-#[tactic(auto, using(crate::proofs::Steps::part_le), unfolding(crate::specs::Specification::format_parts, crate::specs::Meaning::format_of))]
-fn format_parts<'input, L: Ledger>(
+#[tactic(auto, using(crate::proofs::Steps::part_le), unfolding(crate::specs::Specification::format_text, crate::specs::Meaning::format_of))]
+fn format_text<'input, L: Ledger>(
     reader: &mut Reader<'input>,
     trail: &mut Trail<'input, L>,
 ) -> Result<FormatSpec<'input>, AllocError>
     requires numbers { reader.old.next + 1 < 2 ^ 64 }
     requires steps { IsFurthest reader.old.rest trail.old }
     ensures value { IfOk result (λ f. seen_spec f ≡ map_spec (place_of reader.old.world)
-        (format_of reader.old.next reader.old.rest (format_parts reader.old.rest).0 (format_parts reader.old.rest).1)) }
-    ensures state { OnOk result (reader.new ≡ (let f = format_parts reader.old.rest in
-        read_to reader.old f.1 (behind_precision reader.old.next f.0.precision) (format_faults f.0 f.1))) }
+        (format_of reader.old.next reader.old.rest (format_text reader.old.rest).0 (format_text reader.old.rest).1)) }
+    ensures state { OnOk result (reader.new ≡ (let f = format_text reader.old.rest in
+        read_to reader.old f.1 (number_after_precision reader.old.next f.0.precision) (format_faults f.0 f.1))) }
     ensures steps { OnOk result (Paid reader.old.rest trail.old reader.new.rest trail.new) }
 {
     let (fill, fill_span) = fill(&mut reader.cursor, trail);
@@ -280,7 +280,7 @@ pub fn specification<'input, L: Ledger>(
     ensures value { IfOk result (λ f. seen_spec f ≡ map_spec (place_of reader.old.world) (spec_of reader.old.next reader.old.rest
         (specification (seen_mode mode) reader.old.rest).0 (specification (seen_mode mode) reader.old.rest).1)) }
     ensures state { OnOk result (reader.new ≡ (let s = specification (seen_mode mode) reader.old.rest in
-        read_to reader.old s.1 (behind_spec reader.old.next s.0) (spec_faults reader.old.rest s.0 s.1))) }
+        read_to reader.old s.1 (number_after_spec reader.old.next s.0) (spec_faults reader.old.rest s.0 s.1))) }
     ensures steps { OnOk result (Paid reader.old.rest trail.old reader.new.rest trail.new) }
 {
     if !spec::is_next(&reader.cursor, ':') {
@@ -289,7 +289,7 @@ pub fn specification<'input, L: Ledger>(
     match mode {
         ParseMode::Format => {
             reader.cursor.advance(trail);
-            format_parts(reader, trail)
+            format_text(reader, trail)
         }
         ParseMode::InlineAsm => {
             reader.cursor.advance(trail);

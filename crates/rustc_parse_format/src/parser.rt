@@ -46,12 +46,12 @@ impl<'input> Parser<'input> {
     ghost use Rattle.rustc_parse_format.specs.Faults.{Keeps};
     ghost use Rattle.rustc_parse_format.specs.Grammar.{Begins};
     ghost use Rattle.rustc_parse_format.specs.Meaning.{argument};
-    ghost use Rattle.rustc_parse_format.specs.Pieces.{NextArgument, Piece as BarePiece, bare};
+    ghost use Rattle.rustc_parse_format.specs.Types.{NextArgument, Piece as BarePiece, bare};
     ghost use Rattle.rustc_parse_format.specs.Seen.{pair, seen, seen_error, seen_mode, seen_snippet};
     ghost use Rattle.rustc_parse_format.specs.Source.{HasSource};
     ghost use Rattle.rustc_parse_format.specs.State.{GivesPiece, after, first_of, first_state, next_call};
     ghost use Rattle.rustc_parse_format.specs.Spelling.{IsPart};
-    ghost use Rattle.rustc_parse_format.specs.Step.{IsPlain};
+    ghost use Rattle.rustc_parse_format.specs.Call.{GivesAtMostText};
     ghost use Rattle.rustc_parse_format.specs.Steps.{IsInWord, Paid};
     ghost use Rattle.rustc_parse_format.specs.Placeholder.{placed};
     ghost use Rattle.rustc_parse_format.specs.Syntax.{FieldText, opened_part};
@@ -95,7 +95,7 @@ impl<'input> Parser<'input> {
         ensures piece { IfOk result (λ p. option_map seen p ≡ option_map (piece_in self.old.world) (next_call self.old).piece) }
         ensures state { OnOk result (self.new ≡ after self.old (next_call self.old)) }
         ensures err { OnErr result (self.new ≡ self.old) }
-        ensures spare { IsPlain (next_call self.old) → IsOk result }
+        ensures spare { GivesAtMostText (next_call self.old) → IsOk result }
         ensures steps { OnOk result (Paid self.old.rest trail.old self.new.rest trail.new) }
     {
         let front = self.reader.duplicate(self.alloc);
@@ -131,7 +131,7 @@ impl<'input> Parser<'input> {
         ensures piece { IfOk result (λ p. option_map seen p ≡ option_map (piece_in self.old.world) (next_call self.old).piece) }
         ensures state { OnOk result (self.new ≡ after self.old (next_call self.old)) }
         ensures err { OnErr result (self.new ≡ self.old) }
-        ensures spare { IsPlain (next_call self.old) → IsOk result }
+        ensures spare { GivesAtMostText (next_call self.old) → IsOk result }
         ensures steps { Paid self.old.rest count.old self.new.rest count.new }
         ensures refused { OnErr result (count.new ≡ count.old) }
     {
@@ -155,7 +155,7 @@ impl<'input> Parser<'input> {
         ensures piece { IfOk result (λ p. option_map seen p ≡ option_map (piece_in self.old.world) (next_call self.old).piece) }
         ensures state { OnOk result (self.new ≡ after self.old (next_call self.old)) }
         ensures err { OnErr result (self.new ≡ self.old) }
-        ensures spare { IsPlain (next_call self.old) → IsOk result }
+        ensures spare { GivesAtMostText (next_call self.old) → IsOk result }
     {
         let mut count = self.count::<L>(blank);
         self.next_counted(&mut count)
@@ -168,7 +168,7 @@ impl<'input> Parser<'input> {
         ensures piece { IfOk result (λ p. option_map seen p ≡ option_map (piece_in self.old.world) (next_call self.old).piece) }
         ensures state { OnOk result (self.new ≡ after self.old (next_call self.old)) }
         ensures err { OnErr result (self.new ≡ self.old) }
-        ensures spare { IsPlain (next_call self.old) → IsOk result }
+        ensures spare { GivesAtMostText (next_call self.old) → IsOk result }
 
         // A piece that begins the rest is the one that is given, and then nothing is a fault.
         ensures reads { IfOk result (λ p. (q : BarePiece (Unit {0})) (r : Text) (n : ℕ)

@@ -2,10 +2,10 @@
 
 ghost use Rattle.std.specs.Prelude.{◌≡◌, ◌+◌, ◌<◌, ◌^◌, IfOk, OnOk, option_map};
 ghost use Rattle.rustc_parse_format.specs.Counts.{count, precision, width};
-ghost use Rattle.rustc_parse_format.specs.Values.{behind_precision, is_padded};
+ghost use Rattle.rustc_parse_format.specs.Values.{number_after_precision, is_padded};
 ghost use Rattle.rustc_parse_format.specs.Meaning.{count_of, count_span, precision_of, precision_span, width_of, width_span};
 ghost use Rattle.rustc_parse_format.specs.PartFaults.{argument_faults, precision_faults, width_faults};
-ghost use Rattle.rustc_parse_format.specs.Pieces.{map_count};
+ghost use Rattle.rustc_parse_format.specs.Types.{map_count};
 ghost use Rattle.rustc_parse_format.specs.Seen.{pair, seen_count};
 ghost use Rattle.rustc_parse_format.specs.State.{read_to};
 ghost use Rattle.rustc_parse_format.specs.Steps.{IsFurthest, IsInWord, Paid};
@@ -120,7 +120,7 @@ pub fn precision<'input, L: Ledger>(
     ensures span { IfOk result (λ k. option_map pair k.1 ≡ option_map (place_of reader.old.world)
         (precision_span reader.old.rest (precision reader.old.rest).0 (precision reader.old.rest).1)) }
     ensures state { OnOk result (reader.new ≡ (let p = precision reader.old.rest in
-        read_to reader.old p.1 (behind_precision reader.old.next p.0) (precision_faults reader.old.rest p.0))) }
+        read_to reader.old p.1 (number_after_precision reader.old.next p.0) (precision_faults reader.old.rest p.0))) }
     ensures steps { OnOk result (Paid reader.old.rest trail.old reader.new.rest trail.new) }
 {
     if !spec::is_next(&reader.cursor, '.') {

@@ -7,7 +7,7 @@ ghost use Rattle.rustc_parse_format.specs.Placeholder.{position};
 ghost use Rattle.rustc_parse_format.specs.Counts.{behind_name, count};
 ghost use Rattle.rustc_parse_format.specs.Values.{given_position};
 ghost use Rattle.rustc_parse_format.specs.Meaning.{count_of};
-ghost use Rattle.rustc_parse_format.specs.Pieces.{map_count};
+ghost use Rattle.rustc_parse_format.specs.Types.{map_count};
 ghost use Rattle.rustc_parse_format.specs.Seen.{seen_count, seen_position};
 ghost use Rattle.rustc_parse_format.specs.State.{read_to};
 ghost use Rattle.rustc_parse_format.specs.Steps.{Forward, IsFurthest, Paid};

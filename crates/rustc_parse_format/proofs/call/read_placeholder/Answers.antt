@@ -2,7 +2,7 @@ use Rattle.std.proofs.Common.{◌∙◌, ap, map, sym}
 use Rattle.std.specs.Prelude.{option_map}
 use Rattle.rustc_parse_format.specs.Characters.{behind_white, behind_first}
 use Rattle.rustc_parse_format.specs.Meaning.{argument}
-use Rattle.rustc_parse_format.specs.Pieces.{Argument}
+use Rattle.rustc_parse_format.specs.Types.{Argument}
 use Rattle.rustc_parse_format.specs.Placeholder.{cut}
 use Rattle.rustc_parse_format.specs.Seen.{pair, seen_mode, seen_spec}
 use Rattle.rustc_parse_format.specs.SeenFaults.{seen_fault}

@@ -1,7 +1,7 @@
 use Rattle.std.proofs.Common.{◌≡◌, ◌∙◌, [], None, ap, false, rules}
 use Rattle.std.proofs.lemmas.Str.{chars-nil}
 use Rattle.std.specs.Prelude.{chars, option_map}
-use Rattle.rustc_parse_format.specs.Pieces.{Implied, Unknown, default_spec}
+use Rattle.rustc_parse_format.specs.Types.{Implied, Unknown, default_spec}
 use Rattle.rustc_parse_format.specs.Seen.{pair, seen_alignment, seen_count, seen_debug_hex, seen_sign, seen_spec}
 use Rattle.rustc_parse_format.specs.World.{Place}
 use Rattle.rustc_parse_format.specs.declared.types.FormatSpec.{FormatSpec}

@@ -1,7 +1,7 @@
 use Rattle.std.proofs.Common.{◌≡◌, ◌++◌, [], length, map}
 use Rattle.rustc_parse_format.specs.Seen.{seen}
 use Rattle.rustc_parse_format.specs.State.{calls, after_all}
-use Rattle.rustc_parse_format.specs.Step.{pieces_of}
+use Rattle.rustc_parse_format.specs.Call.{pieces_of}
 use Rattle.rustc_parse_format.specs.Steps.{Paid}
 use Rattle.rustc_parse_format.specs.World.{pieces_in}
 use Rattle.rustc_parse_format.proofs.reading.read_pieces.Given as goal

@@ -3,10 +3,10 @@
 use Prim.Native.Char.{code}
 use Rattle.std.specs.Prelude.{◌≡◌, ℕ, suc, zero, ◌++◌, ◌==◌, if◌then◌else◌, List, [], ◌∷◌, length, Option, Some, None}
 use Rattle.rustc_parse_format.specs.Characters.{Text, is_brace, is_no_brace, front, behind, behind_white, first, behind_first, begins_with}
-use Rattle.rustc_parse_format.specs.Pieces.{Mode, Spec, Piece, Lit, NextArgument}
+use Rattle.rustc_parse_format.specs.Types.{Mode, Spec, Piece, Lit, NextArgument}
 use Rattle.rustc_parse_format.specs.Marks.{Span, up_to, over_first}
 use Rattle.rustc_parse_format.specs.Placeholder.{cut, Cut}
-use Rattle.rustc_parse_format.specs.Values.{next_number}
+use Rattle.rustc_parse_format.specs.Values.{number_after_field}
 use Rattle.rustc_parse_format.specs.Meaning.{argument}
 use Rattle.rustc_parse_format.specs.Faults.{Fault, UnmatchedBrace, no_brace, brace_fill}
 use Rattle.rustc_parse_format.specs.PartFaults.{cut_faults}
@@ -23,18 +23,18 @@ abbrev pub unclosed_fault : Text → Spec Span → Text → Fault Span
 unclosed_fault opening f r = no_brace (brace_fill f.fill f.fill_span) (first r) (up_to r r) (over_first opening)
 
 -- the characters of l, and the longest run without braces at the front of t
-abbrev pub literal : ℕ → Text → Text → Call
-literal c l t = record { piece = Some (Lit (l ++ front is_no_brace t)); faults = []; rest = behind is_no_brace t; next = c }
+abbrev pub text_call : ℕ → Text → Text → Call
+text_call c l t = record { piece = Some (Lit (l ++ front is_no_brace t)); faults = []; rest = behind is_no_brace t; next = c }
 
-abbrev pub closed : ℕ → Cut → Text → Call
-closed c a r = record { piece = Some (NextArgument (argument c a)); faults = cut_faults a; rest = r; next = next_number c a.field }
+abbrev pub closed_call : ℕ → Cut → Text → Call
+closed_call c a r = record { piece = Some (NextArgument (argument c a)); faults = cut_faults a; rest = r; next = number_after_field c a.field }
 
-abbrev pub unclosed : ℕ → Text → Cut → Text → Call
-unclosed c opening a r = record {
+abbrev pub unclosed_call : ℕ → Text → Cut → Text → Call
+unclosed_call c opening a r = record {
   piece = Some (NextArgument (argument c a));
   faults = cut_faults a ++ unclosed_fault opening (argument c a).format r ∷ [];
   rest = r;
-  next = next_number c a.field;
+  next = number_after_field c a.field;
 }
 
 -- the placeholder at opening, with t after its brace
@@ -42,21 +42,21 @@ unfoldable pub placeholder : Mode → ℕ → Text → Text → Call
 placeholder mode c opening t =
     let a = cut mode t in
     let r = behind_white a.rest in
-    if begins_with (code "}") r then closed c a (behind_first r) else unclosed c opening a r
+    if begins_with (code "}") r then closed_call c a (behind_first r) else unclosed_call c opening a r
 
-abbrev pub unmatched : ℕ → Text → Text → Call
-unmatched c at t = record { piece = None; faults = UnmatchedBrace (over_first at) ∷ []; rest = t; next = c }
+abbrev pub unmatched_call : ℕ → Text → Text → Call
+unmatched_call c at t = record { piece = None; faults = UnmatchedBrace (over_first at) ∷ []; rest = t; next = c }
 
-abbrev pub at_end : ℕ → Call
-at_end c = record { piece = None; faults = []; rest = []; next = c }
+abbrev pub end_call : ℕ → Call
+end_call c = record { piece = None; faults = []; rest = []; next = c }
 
 -- the call on the rest t, where the next number is c
 unfoldable pub call : Mode → ℕ → Text → Call
-call mode c [] = at_end c
+call mode c [] = end_call c
 call mode c (b ∷ t) =
     if is_brace b
-    then (if begins_with b t then literal c (b ∷ []) (behind_first t) else (if b == code "{" then placeholder mode c (b ∷ t) t else unmatched c (b ∷ t) t))
-    else literal c [] (b ∷ t)
+    then (if begins_with b t then text_call c (b ∷ []) (behind_first t) else (if b == code "{" then placeholder mode c (b ∷ t) t else unmatched_call c (b ∷ t) t))
+    else text_call c [] (b ∷ t)
 
 -- text, or no piece
 abbrev pub GivesNoArgument : Option (Piece Span) → Type 0
@@ -65,8 +65,8 @@ GivesNoArgument (Some (Lit t)) = Unit {0}
 GivesNoArgument (Some (NextArgument a)) = ⊥
 
 -- a call that gives this and finds no fault
-abbrev pub IsPlain : Call → Type 0
-IsPlain k = GivesNoArgument k.piece × (k.faults ≡ [])
+abbrev pub GivesAtMostText : Call → Type 0
+GivesAtMostText k = GivesNoArgument k.piece × (k.faults ≡ [])
 
 -- Each call goes on where the one before it stopped, and the first with no piece is the last.
 abbrev pub GoesOn : Option (Piece Span) → List Call → Type 0 → Type 0
