@@ -1,8 +1,8 @@
 -- The classes whose longest fronts the code reads, each as its test.
 use Rattle.std.specs.Prelude.{ℕ, Bool}
 use Rattle.std.specs.Char.{is_whitespace, is_ascii_digit}
-use Rattle.rustc_parse_format.specs.declared.chars.Class.{Class}
-use Rattle.rustc_parse_format.specs.declared.chars.Class.TheVariants.{Continue, Digit, White, Text}
+use Rattle.rustc_parse_format.specs.declared.characters.Class.{Class}
+use Rattle.rustc_parse_format.specs.declared.characters.Class.TheVariants.{Continue, Digit, White, Text}
 use Rattle.rustc_parse_format.specs.Characters.{is_id_continue, is_no_brace}
 
 abbrev pub passes : Class → ℕ → Bool

@@ -1,74 +1,26 @@
 //! One call of the parser, on a reader: the piece, and the faults as they are found.
 
-ghost use Rattle.std.specs.Prelude.{◌≡◌, ◌≢◌, ◌++◌, ◌+◌, ◌<◌, ◌^◌, ◌∷◌, [], Some, IfOk, IsOk, OnOk, chars, if◌then◌else◌, is_some, length, option_map, suc, unwrap_or};
-ghost use Rattle.rustc_parse_format.specs.Characters.{behind_brace, behind_first, begins_with, first};
+ghost use Rattle.std.specs.Prelude.{[], ◌++◌, ◌+◌, ◌<◌, ◌^◌, ◌∷◌, ◌≡◌, ◌≢◌, IfOk, if◌then◌else◌, IsOk, length, OnOk, option_map, Some};
+ghost use Rattle.rustc_parse_format.specs.Call.{call, GivesAtMostText, placeholder};
+ghost use Rattle.rustc_parse_format.specs.Characters.{begins_with, behind_brace, behind_first, first};
 ghost use Rattle.rustc_parse_format.specs.Faults.{brace_fill, no_brace};
 ghost use Rattle.rustc_parse_format.specs.Marks.{up_to};
-ghost use Rattle.rustc_parse_format.specs.Values.{number_after_field};
 ghost use Rattle.rustc_parse_format.specs.Meaning.{argument};
-ghost use Rattle.rustc_parse_format.specs.PartFaults.{cut_faults};
-ghost use Rattle.rustc_parse_format.specs.Types.{Implicit, map_argument};
-ghost use Rattle.rustc_parse_format.specs.Placeholder.{cut};
-ghost use Rattle.rustc_parse_format.specs.Seen.{pair, seen, seen_argument, seen_mode, seen_position};
+ghost use Rattle.rustc_parse_format.specs.Seen.{pair, seen, seen_mode};
 ghost use Rattle.rustc_parse_format.specs.SeenFaults.{seen_fault};
-ghost use Rattle.rustc_parse_format.specs.State.{read_call, read_to};
-ghost use Rattle.rustc_parse_format.specs.Call.{GivesAtMostText, call, placeholder};
+ghost use Rattle.rustc_parse_format.specs.State.{read_call};
 ghost use Rattle.rustc_parse_format.specs.Steps.{Forward, IsInWord, Paid};
 ghost use Rattle.rustc_parse_format.specs.World.{piece_in, place_of};
 
-use crate::chars::{Class, Trail};
+use crate::characters::Class;
+use crate::cursor::Trail;
 use crate::faults::Fault;
-use crate::format_spec::specification;
+use crate::placeholder::read_argument;
 use crate::reader::Reader;
-use crate::spec;
-use crate::types::{Argument, FormatSpec, ParseMode, Piece, Position};
+use crate::types::{FormatSpec, ParseMode, Piece};
 use std::alloc::{AllocError, Global};
 use std::ops::Range;
 use std::sync::ledger::Ledger;
-
-/// The position: the given one, or else the next argument.
-fn position_of<'input>(
-    given: Option<Position<'input>>,
-    reader: &mut Reader<'input>,
-) -> Position<'input>
-    requires { reader.old.next + 1 < 2 ^ 64 }
-    ensures value { seen_position result ≡ unwrap_or (option_map seen_position given.entry) (Implicit reader.old.next) }
-    ensures state { reader.new ≡ record reader.old {
-      next = if is_some (option_map seen_position given.entry) then reader.old.next else suc reader.old.next;
-    } }
-{
-    match given {
-        Some(position) => position,
-        None => Position::ArgumentImplicitlyIs(reader.take_number()),
-    }
-}
-
-/// Reads a position, white space and a specification.
-#[tactic(auto, using(crate::proofs::Steps::part_le), unfolding(crate::specs::Placeholder::cut, crate::specs::Meaning::argument, crate::specs::Values::number_after_field, crate::specs::PartFaults::cut_faults))]
-fn read_argument<'input, L: Ledger>(
-    mode: ParseMode,
-    reader: &mut Reader<'input>,
-    trail: &mut Trail<'input, L>,
-) -> Result<Argument<'input>, AllocError>
-    requires numbers { reader.old.next + 1 + length reader.old.rest < 2 ^ 64 }
-    requires steps { IsInWord reader.old.rest trail.old }
-    ensures value { IfOk result (λ a. seen_argument a
-        ≡ map_argument (place_of reader.old.world) (argument reader.old.next (cut (seen_mode mode) reader.old.rest))) }
-    ensures state { OnOk result (reader.new ≡ (let a = cut (seen_mode mode) reader.old.rest in
-        read_to reader.old a.rest (number_after_field reader.old.next a.field) (cut_faults a))) }
-    ensures steps { OnOk result (Paid reader.old.rest trail.old reader.new.rest trail.new) }
-{
-    let start = reader.cursor.start();
-    let given = spec::position(reader, trail)?;
-    reader.cursor.skip_white(trail);
-    let position_span = start..reader.cursor.start();
-    let format = specification(mode, reader, trail)?;
-    Ok(Argument {
-        position: position_of(given, reader),
-        position_span,
-        format,
-    })
-}
 
 /// The span of the fill, where the fill is a closing brace.
 fn brace_fill(format: &FormatSpec<'_>) -> Option<Range<usize>>

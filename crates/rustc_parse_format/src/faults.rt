@@ -6,7 +6,7 @@ ghost use Rattle.rustc_parse_format.specs.Written.{written};
 ghost use Rattle.rustc_parse_format.specs.Seen.{pair, seen_error};
 ghost use Rattle.rustc_parse_format.specs.SeenFaults.{seen_fault};
 
-use crate::chars::is_underscore;
+use crate::characters::is_underscore;
 use crate::types::{ParseError, Suggestion};
 use crate::written::put_written;
 use std::alloc::{AllocError, Global};

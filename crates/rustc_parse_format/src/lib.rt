@@ -2,21 +2,22 @@
 #![tactic(auto)]
 
 mod call;
-mod chars;
+mod characters;
+mod counts;
+mod cursor;
 mod faults;
-mod format_spec;
 mod laws;
 pub mod literal;
 mod parser;
+mod placeholder;
 mod reader;
 mod reading;
-mod sizes;
-mod spec;
+mod specification;
 mod types;
 mod world;
 mod written;
 
-pub use chars::StepCount;
+pub use cursor::StepCount;
 pub use parser::Parser;
 pub use reading::{read_all, steps_are_few};
 pub use types::Alignment::{AlignCenter, AlignLeft, AlignRight, AlignUnknown};

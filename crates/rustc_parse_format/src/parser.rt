@@ -1,7 +1,7 @@
 //! The parser: one call after another, up to the end of the input.
 
 use crate::call::read_piece;
-use crate::chars::{Cursor, StepCount, Trail};
+use crate::cursor::{Cursor, StepCount, Trail};
 use crate::faults::add_errors;
 use crate::reader::Reader;
 use crate::types::{ParseError, ParseMode, Piece};

@@ -1,6 +1,6 @@
 //! What a call reads on: a cursor, the number that the next implicit argument takes, and the faults found so far.
 
-use crate::chars::Cursor;
+use crate::cursor::Cursor;
 use crate::faults::Fault;
 use std::alloc::Global;
 use std::marker::Model;

@@ -12,7 +12,7 @@ ghost use Rattle.rustc_parse_format.specs.Steps.{AreFew, IsInWord, IsStart};
 ghost use Rattle.rustc_parse_format.specs.Syntax.{FieldText, IsOnlyCut};
 ghost use Rattle.rustc_parse_format.specs.World.{hashes, pieces_in};
 
-use crate::chars::StepCount;
+use crate::cursor::StepCount;
 use crate::parser::Parser;
 use crate::types::{ParseMode, Piece};
 use std::alloc::{AllocError, Global};

@@ -4,7 +4,7 @@ ghost use Rattle.std.specs.Prelude.{◌≡◌, ◌↔◌, List, ℕ, [], chars, 
 ghost use Rattle.rustc_parse_format.specs.Characters.{begins_with, behind, behind_first, first, byte_length};
 ghost use Rattle.rustc_parse_format.specs.LiteralUnits.{is_skipped};
 
-use crate::chars::{behind_first, first};
+use crate::characters::{behind_first, first};
 use std::marker::Model;
 
 /// What is left of a text.

@@ -1,0 +1,43 @@
+use Rattle.std.proofs.Common.{map, refl, ◌∙◌}
+use Rattle.rustc_parse_format.specs.Counts.{precision, width}
+use Rattle.rustc_parse_format.specs.Values.{number_after_precision}
+use Rattle.rustc_parse_format.specs.Meaning.{format_of}
+use Rattle.rustc_parse_format.specs.PartFaults.{precision_faults, type_faults, width_faults}
+use Rattle.rustc_parse_format.specs.SeenFaults.{seen_fault}
+use Rattle.rustc_parse_format.specs.Specification.{format_text, precision_at, type, type_at, width_at}
+use Rattle.rustc_parse_format.specs.State.{midway}
+use Rattle.rustc_parse_format.proofs.PartPlaces.{from_precision-at, from_type-at, from_width-at, format_faults-at}
+use Rattle.rustc_parse_format.proofs.Readers.{read_three}
+use Rattle.rustc_parse_format.proofs.specification.format_text.Goals as goal
+
+pub returns-clause-value : goal.returns-clause-value
+unfolding format_text format_of
+returns-clause-value g c =
+    let t = c.reader.inside.cursor.rest in
+    let a = c.fill-fill.ensures in
+    let b = rw a.rest at c.alignment-align.ensures in
+    let h = rw b.rest at c.sign-sign.ensures in
+    let k = rw h.rest at c.alternate-alternate.ensures in
+    let w = rw k.rest at c.in_ok-width.ensures in
+    let p = rw w.state at c.in_ok-precision.ensures in
+    let y = rw p.state at c.in_ok-type_part.ensures in
+    rw (← c.reader.view_is, from_width-at t, from_precision-at t, from_type-at t)
+    (rw (a.value, a.span, b.value, h.value, k.value, w.zero_pad, w.count, w.span, p.value, p.span, y.ty, y.debug_hex, y.span) refl)
+
+pub returns-clause-state : goal.returns-clause-state
+unfolding format_text
+returns-clause-state g c =
+    let t = c.reader.inside.cursor.rest in
+    let n = c.reader.inside.curarg in
+    let s = midway c.reader.inside.cursor n (map seen_fault c.reader.inside.found.items) in
+    let m = number_after_precision n (precision (precision_at t)).0 in
+    let ws = width_faults (width_at t) (width (width_at t)).0 in
+    let ps = precision_faults (precision_at t) (precision (precision_at t)).0 in
+    let ys = type_faults (type_at t) (type (type_at t)).0 in
+    let b = rw c.fill-fill.ensures.rest at c.alignment-align.ensures.rest in
+    let h = rw b at c.sign-sign.ensures.rest in
+    let k = rw h at c.alternate-alternate.ensures.rest in
+    let w = rw k at c.in_ok-width.ensures.state in
+    let p = rw w at c.in_ok-precision.ensures.state in
+    let y = rw p at c.in_ok-type_part.ensures.state in
+    rw (← c.reader.view_is, format_faults-at t) (y ∙ read_three s (precision_at t) (type_at t) (type (type_at t)).1 n m m ws ps ys)

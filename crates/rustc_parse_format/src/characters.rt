@@ -1,0 +1,84 @@
+//! Characters: their classes, and what stands at the front of a text. With `cursor` the only place where bytes and UTF-8 occur.
+
+ghost use Rattle.std.specs.Char.{digit_value, is_ascii_digit};
+ghost use Rattle.std.specs.Prelude.{◌%◌, ◌*◌, ◌++◌, ◌+◌, ◌<◌, ◌≡◌, bytes_eq, chars, codes, IsTrue, List, nat_lt, ℕ};
+ghost use Rattle.rustc_parse_format.specs.Bytes.{IsLeft};
+ghost use Rattle.rustc_parse_format.specs.Characters.{behind_first, first, is_id_start, Text};
+
+/// A class of characters whose longest front is read.
+#[derive(Clone, Copy)]
+pub enum Class {
+    /// What may go on with a word.
+    Continue,
+    /// `0` to `9`.
+    Digit,
+    /// White space.
+    White,
+    /// All but braces.
+    Text,
+}
+
+impl Class {
+    ghost use Rattle.rustc_parse_format.specs.Classes.{passes};
+
+    /// The character is of the class.
+    pub fn passes(self, c: char) -> bool
+        ensures { result ≡ passes self c }
+    {
+        match self {
+            Class::Continue => unicode_ident::is_xid_continue(c),
+            Class::Digit => c.is_ascii_digit(),
+            Class::White => c.is_whitespace(),
+            Class::Text => c != '{' && c != '}',
+        }
+    }
+}
+
+/// The first character.
+pub fn first(text: &str) -> Option<char>
+    ensures { result ≡ first (chars text.now) }
+{
+    text.chars().next()
+}
+
+/// What is after the first character.
+pub fn behind_first(text: &str) -> &str
+    ensures rest { chars result.now ≡ behind_first (chars text.now) }
+    ensures left { (input : List ℕ) → IsLeft input text.now → IsLeft input result.now }
+{
+    let mut rest = text.chars();
+    rest.next();
+    rest.as_str()
+}
+
+/// The text in front of `behind`, with which the text ends.
+pub fn before<'a>(text: &'a str, behind: &str) -> &'a str
+    requires { (u : Text) × (chars text.now ≡ u ++ chars behind.now) }
+    ensures { (u : Text) → chars text.now ≡ u ++ chars behind.now → chars result.now ≡ u }
+{
+    &text[..text.len() - behind.len()]
+}
+
+/// The character may begin a word.
+pub fn is_id_start(c: char) -> bool
+    ensures { result ≡ is_id_start c }
+{
+    c == '_' || unicode_ident::is_xid_start(c)
+}
+
+/// The text is the word `_`.
+pub fn is_underscore(text: &str) -> bool
+    ensures { result ≡ bytes_eq (chars text.now) (codes "_") }
+{
+    first(text) == Some('_') && first(behind_first(text)).is_none()
+}
+
+/// The number with one more digit, modulo 65536, and whether that is above 65535.
+pub fn with_digit(number: u16, digit: char) -> (u16, bool)
+    requires { IsTrue (is_ascii_digit digit) }
+    ensures value { result.0 ≡ (number * 10 + digit_value digit) % 65536 }
+    ensures over { result.1 ≡ nat_lt 65535 (number * 10 + digit_value digit) }
+{
+    let value = u32::from(number) * 10 + (u32::from(digit) - 48);
+    ((value % 65536) as u16, value > 65535)
+}

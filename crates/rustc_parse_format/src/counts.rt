@@ -1,0 +1,221 @@
+//! Integers, words and counts, and the sizes of a format specification that are made of them: its width and its precision.
+
+ghost use Rattle.std.specs.Prelude.{◌+◌, ◌<◌, ◌^◌, ◌≡◌, chars, IfOk, OnOk, option_map};
+ghost use Rattle.rustc_parse_format.specs.Characters.{behind_digits, behind_word, digits, number, word};
+ghost use Rattle.rustc_parse_format.specs.Counts.{behind_name, count, precision, width};
+ghost use Rattle.rustc_parse_format.specs.Meaning.{count_of, count_span, precision_of, precision_span, width_of, width_span};
+ghost use Rattle.rustc_parse_format.specs.PartFaults.{argument_faults, number_faults, precision_faults, width_faults, word_faults};
+ghost use Rattle.rustc_parse_format.specs.Seen.{pair, seen_count};
+ghost use Rattle.rustc_parse_format.specs.State.{read_to};
+ghost use Rattle.rustc_parse_format.specs.Steps.{Forward, IsFurthest, IsInWord, Paid};
+ghost use Rattle.rustc_parse_format.specs.Types.{map_count};
+ghost use Rattle.rustc_parse_format.specs.Values.{is_padded, number_after_precision};
+ghost use Rattle.rustc_parse_format.specs.World.{place_of};
+
+use crate::cursor::Trail;
+use crate::faults::{note_number, note_word};
+use crate::reader::Reader;
+use crate::types::Count;
+use std::alloc::AllocError;
+use std::ops::Range;
+use std::sync::ledger::Ledger;
+
+/// Reads the integer at the front, where there is one: its number modulo 65536. One above 65535 is a fault.
+pub fn integer<'input, L: Ledger>(
+    reader: &mut Reader<'input>,
+    trail: &mut Trail<'input, L>,
+) -> Result<u16, AllocError>
+    ensures value { IfOk result (λ n. n ≡ number (digits reader.old.rest)) }
+    ensures state { OnOk result (reader.new ≡ read_to reader.old (behind_digits reader.old.rest) reader.old.next (number_faults reader.old.rest)) }
+    ensures steps { OnOk result (Forward reader.old.rest trail.old reader.new.rest trail.new) }
+{
+    let start = reader.cursor.start();
+    let (digits, number, over) = reader.cursor.number(trail);
+    note_number(&mut reader.found, digits, over, start..reader.cursor.stop())?;
+    Ok(number)
+}
+
+/// Reads the word at the front, which may be empty. The word `_` is a fault.
+pub fn word<'input, L: Ledger>(
+    reader: &mut Reader<'input>,
+    trail: &mut Trail<'input, L>,
+) -> Result<&'input str, AllocError>
+    ensures value { IfOk result (λ w. chars w.now ≡ word reader.old.rest) }
+    ensures state { OnOk result (reader.new ≡ read_to reader.old (behind_word reader.old.rest) reader.old.next (word_faults reader.old.rest)) }
+    ensures steps { OnOk result (Forward reader.old.rest trail.old reader.new.rest trail.new) }
+{
+    let start = reader.cursor.start();
+    let word = reader.cursor.word(trail);
+    note_word(&mut reader.found, word, start..reader.cursor.start())?;
+    Ok(word)
+}
+
+/// Reads the name at the front, with its `$`. Without a `$` the word is left, and looked at all the same.
+#[tactic(auto, using(crate::proofs::Steps::part_le))]
+fn name_count<'input, L: Ledger>(
+    reader: &mut Reader<'input>,
+    trail: &mut Trail<'input, L>,
+) -> Result<Count<'input>, AllocError>
+    requires { IsFurthest reader.old.rest trail.old }
+    ensures value { IfOk result (λ k. seen_count k ≡ map_count (place_of reader.old.world)
+        (let k = behind_name reader.old.rest (word reader.old.rest) (behind_word reader.old.rest) in count_of reader.old.rest k.0 k.1)) }
+    ensures state { OnOk result (reader.new ≡ (let k = behind_name reader.old.rest (word reader.old.rest) (behind_word reader.old.rest) in
+        read_to reader.old k.1 reader.old.next (word_faults reader.old.rest))) }
+    ensures steps { OnOk result (Paid reader.old.rest trail.old reader.new.rest trail.new) }
+{
+    let front = reader.cursor.duplicate();
+    let start = reader.cursor.start();
+    let name = word(reader, trail)?;
+    let span = start..reader.cursor.start();
+    if reader.cursor.take_char('$', trail) {
+        return Ok(Count::CountIsName(name, span));
+    }
+    reader.cursor.go_back(front, trail);
+    Ok(Count::CountImplied)
+}
+
+/// Reads the count at the front: a number, a number of an argument, a name of one, or none.
+#[tactic(auto, using(crate::proofs::Steps::part_le, crate::proofs::TriedParts::tried_parts, crate::proofs::Readers::read_nothing))]
+pub fn count<'input, L: Ledger>(
+    reader: &mut Reader<'input>,
+    trail: &mut Trail<'input, L>,
+) -> Result<Count<'input>, AllocError>
+    requires { IsFurthest reader.old.rest trail.old }
+    ensures value { IfOk result (λ k. seen_count k
+        ≡ map_count (place_of reader.old.world) (count_of reader.old.rest (count reader.old.rest).0 (count reader.old.rest).1)) }
+    ensures state { OnOk result (reader.new ≡ read_to reader.old (count reader.old.rest).1 reader.old.next (argument_faults reader.old.rest)) }
+    ensures steps { OnOk result (Paid reader.old.rest trail.old reader.new.rest trail.new) }
+{
+    if reader.cursor.starts_digit() {
+        let number = integer(reader, trail)?;
+        if reader.cursor.take_char('$', trail) {
+            return Ok(Count::CountIsParam(usize::from(number)));
+        }
+        return Ok(Count::CountIs(number));
+    }
+    if reader.cursor.starts_word() {
+        return name_count(reader, trail);
+    }
+    Ok(Count::CountImplied)
+}
+
+/// Reads the count at the front, and where it stands.
+#[tactic(auto, using(crate::proofs::Steps::part_le))]
+fn spanned_count<'input, L: Ledger>(
+    reader: &mut Reader<'input>,
+    trail: &mut Trail<'input, L>,
+) -> Result<(Count<'input>, Option<Range<usize>>), AllocError>
+    requires { IsFurthest reader.old.rest trail.old }
+    ensures value { IfOk result (λ k. seen_count k.0
+        ≡ map_count (place_of reader.old.world) (count_of reader.old.rest (count reader.old.rest).0 (count reader.old.rest).1)) }
+    ensures span { IfOk result (λ k. option_map pair k.1 ≡ option_map (place_of reader.old.world)
+        (count_span reader.old.rest (count reader.old.rest).0 (count reader.old.rest).1)) }
+    ensures state { OnOk result (reader.new ≡ read_to reader.old (count reader.old.rest).1 reader.old.next (argument_faults reader.old.rest)) }
+    ensures steps { OnOk result (Paid reader.old.rest trail.old reader.new.rest trail.new) }
+{
+    let start = reader.cursor.start();
+    let count = count(reader, trail)?;
+    let span = match count {
+        Count::CountImplied => None,
+        _ => Some(start..reader.cursor.start()),
+    };
+    Ok((count, span))
+}
+
+/// A width: whether the flag `0` stands in front of its count, and where the count stands.
+#[derive(Drop)]
+pub struct WidthPart<'input> {
+    pub zero_pad: bool,
+    pub count: Count<'input>,
+    pub span: Option<Range<usize>>,
+}
+
+/// Reads the count of a width, which has the flag `0` or not.
+#[tactic(auto, using(crate::proofs::Steps::part_le))]
+fn counted<'input, L: Ledger>(
+    zero_pad: bool,
+    reader: &mut Reader<'input>,
+    trail: &mut Trail<'input, L>,
+) -> Result<WidthPart<'input>, AllocError>
+    requires { IsFurthest reader.old.rest trail.old }
+    ensures zero_pad { IfOk result (λ w. w.zero_pad ≡ zero_pad) }
+    ensures count { IfOk result (λ w. seen_count w.count
+        ≡ map_count (place_of reader.old.world) (count_of reader.old.rest (count reader.old.rest).0 (count reader.old.rest).1)) }
+    ensures span { IfOk result (λ w. option_map pair w.span ≡ option_map (place_of reader.old.world)
+        (count_span reader.old.rest (count reader.old.rest).0 (count reader.old.rest).1)) }
+    ensures state { OnOk result (reader.new ≡ read_to reader.old (count reader.old.rest).1 reader.old.next (argument_faults reader.old.rest)) }
+    ensures steps { OnOk result (Paid reader.old.rest trail.old reader.new.rest trail.new) }
+{
+    let (count, span) = spanned_count(reader, trail)?;
+    Ok(WidthPart {
+        zero_pad,
+        count,
+        span,
+    })
+}
+
+/// Reads the width at the front. A `0` in front of it is a flag, unless a `$` makes it an index.
+#[tactic(auto, using(crate::proofs::Steps::part_le, crate::proofs::SpecParts::widths_at_front))]
+pub fn width<'input, L: Ledger>(
+    reader: &mut Reader<'input>,
+    trail: &mut Trail<'input, L>,
+) -> Result<WidthPart<'input>, AllocError>
+    requires { IsFurthest reader.old.rest trail.old }
+    ensures zero_pad { IfOk result (λ w. w.zero_pad ≡ is_padded (width reader.old.rest).0) }
+    ensures count { IfOk result (λ w. seen_count w.count ≡ map_count (place_of reader.old.world)
+        (width_of reader.old.rest (width reader.old.rest).0 (width reader.old.rest).1)) }
+    ensures span { IfOk result (λ w. option_map pair w.span ≡ option_map (place_of reader.old.world)
+        (width_span reader.old.rest (width reader.old.rest).0 (width reader.old.rest).1)) }
+    ensures state { OnOk result (reader.new ≡ (let w = width reader.old.rest in
+        read_to reader.old w.1 reader.old.next (width_faults reader.old.rest w.0))) }
+    ensures steps { OnOk result (Paid reader.old.rest trail.old reader.new.rest trail.new) }
+{
+    if !reader.cursor.is_next('0') {
+        return counted(false, reader, trail);
+    }
+    let start = reader.cursor.start();
+    reader.cursor.advance(trail);
+    if !reader.cursor.is_next('$') {
+        return counted(true, reader, trail);
+    }
+    let span = start..reader.cursor.stop();
+    reader.cursor.advance(trail);
+    Ok(WidthPart {
+        zero_pad: false,
+        count: Count::CountIsParam(0),
+        span: Some(span),
+    })
+}
+
+/// Reads the precision at the front, and where it stands. A star takes the next number.
+#[tactic(auto, using(crate::proofs::Steps::part_le, crate::proofs::Steps::at_dot, crate::proofs::SpecParts::precisions_at_front))]
+pub fn precision<'input, L: Ledger>(
+    reader: &mut Reader<'input>,
+    trail: &mut Trail<'input, L>,
+) -> Result<(Count<'input>, Option<Range<usize>>), AllocError>
+    requires numbers { reader.old.next + 1 < 2 ^ 64 }
+    requires steps { IsInWord reader.old.rest trail.old }
+    ensures value { IfOk result (λ k. seen_count k.0 ≡ map_count (place_of reader.old.world)
+        (precision_of reader.old.next reader.old.rest (precision reader.old.rest).0 (precision reader.old.rest).1)) }
+    ensures span { IfOk result (λ k. option_map pair k.1 ≡ option_map (place_of reader.old.world)
+        (precision_span reader.old.rest (precision reader.old.rest).0 (precision reader.old.rest).1)) }
+    ensures state { OnOk result (reader.new ≡ (let p = precision reader.old.rest in
+        read_to reader.old p.1 (number_after_precision reader.old.next p.0) (precision_faults reader.old.rest p.0))) }
+    ensures steps { OnOk result (Paid reader.old.rest trail.old reader.new.rest trail.new) }
+{
+    if !reader.cursor.is_next('.') {
+        return Ok((Count::CountImplied, None));
+    }
+    let start = reader.cursor.start();
+    reader.cursor.advance(trail);
+    if reader.cursor.is_next('*') {
+        let number = reader.take_number();
+        reader.cursor.advance(trail);
+        return Ok((
+            Count::CountIsStar(number),
+            Some(start..reader.cursor.start()),
+        ));
+    }
+    let count = count(reader, trail)?;
+    Ok((count, Some(start..reader.cursor.start())))
+}

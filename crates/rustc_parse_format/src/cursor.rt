@@ -1,0 +1,333 @@
+//! A cursor over the input.
+
+mod steps;
+
+use crate::characters::{Class, before, behind_first, first, is_id_start, with_digit};
+use std::marker::Model;
+use std::ops::Range;
+use std::sync::ledger::{Blank, Ledger};
+pub use steps::{StepCount, Trail};
+
+/// A place in the input: what is left of it, and where that stands in the source.
+#[derive(Drop)]
+pub struct Cursor<'input> {
+    input: &'input str,
+    rest: &'input str,
+    /// Where the input starts in the source.
+    offset: usize,
+    /// Where it ends there.
+    end: usize,
+    /// The snippet is the source literal of the input.
+    is_source_literal: bool,
+}
+
+impl<'input> Model for Cursor<'input> {
+    ghost use Rattle.std.specs.Prelude.{◌+◌, ◌<◌, ◌^◌, chars, length};
+    ghost use Rattle.rustc_parse_format.specs.State.{Unread};
+    ghost use Rattle.rustc_parse_format.specs.World.{plain_world};
+    ghost use Rattle.rustc_parse_format.specs.Bytes.{IsLeft};
+
+    ghost Value = { Unread };
+
+    ghost view = { λ c. record { world = plain_world c.is_source_literal c.offset (chars c.input.now) c.end; input = chars c.input.now; rest = chars c.rest.now } };
+
+    ghost invariant = { λ c. IsLeft c.input.now c.rest.now × (c.offset + length c.input.now < 2 ^ 64) };
+}
+
+impl<'input> Cursor<'input> {
+    ghost use Rattle.std.specs.Prelude.{◌≡◌, ◌-◌, ◌+◌, ◌<◌, ◌^◌, chars, if◌then◌else◌, length, option_map};
+    ghost use Rattle.rustc_parse_format.specs.Characters.{begins_with, first, behind_first, with_first, byte_length, front, behind, behind_white, word, behind_word, digits, behind_digits, number, is_id_start, is_over, first_passes};
+    ghost use Rattle.std.specs.Char.{is_ascii_digit};
+    ghost use Rattle.rustc_parse_format.specs.Classes.{passes};
+    ghost use Rattle.rustc_parse_format.specs.Marks.{Start, End};
+    ghost use Rattle.rustc_parse_format.specs.Seen.{pair};
+    ghost use Rattle.rustc_parse_format.specs.State.{first_of};
+    ghost use Rattle.rustc_parse_format.specs.Steps.{Forward};
+    ghost use Rattle.rustc_parse_format.specs.World.{plain_world, number_of};
+
+    /// At the start of an input that starts and ends at these bytes of the source.
+    pub fn new(
+        input: &'input str,
+        is_source_literal: bool,
+        offset: usize,
+        end: usize,
+    ) -> Cursor<'input>
+        requires { offset + length input.now < 2 ^ 64 }
+        ensures { result ≡ record { world = plain_world is_source_literal offset (chars input.now) end; input = chars input.now; rest = chars input.now } }
+    {
+        Cursor {
+            input,
+            rest: input,
+            offset,
+            end,
+            is_source_literal,
+        }
+    }
+
+    /// Another cursor at the same place.
+    pub fn duplicate(&self) -> Cursor<'input>
+        ensures { result ≡ self.now }
+    {
+        Cursor {
+            input: self.input,
+            rest: self.rest,
+            offset: self.offset,
+            end: self.end,
+            is_source_literal: self.is_source_literal,
+        }
+    }
+
+    /// A count of the steps from here on.
+    pub fn count<L: Ledger>(&self, blank: Blank) -> StepCount<'input, L>
+        requires name { blank.name ≡ L.name }
+        requires parts { blank.parts ≡ L.parts }
+        requires three { blank.parts ≡ 3 }
+        ensures { result ≡ record { steps = 0; left = length self.now.rest } }
+    {
+        StepCount::new(blank, self.rest)
+    }
+
+    /// What is left.
+    fn rest(&self) -> &'input str
+        ensures { chars result.now ≡ self.now.rest }
+    {
+        self.rest
+    }
+
+    /// The next character, or None at the end.
+    pub fn peek(&self) -> Option<char>
+        ensures { result ≡ first self.now.rest }
+    {
+        first(self.rest)
+    }
+
+    /// The character after the next one.
+    pub fn peek_ahead(&self) -> Option<char>
+        ensures { result ≡ first (behind_first self.now.rest) }
+    {
+        first(behind_first(self.rest))
+    }
+
+    /// Moves over the next character, if there is one: the only move forward.
+    pub fn advance<L: Ledger>(&mut self, trail: &mut Trail<'input, L>)
+        ensures rest { self.new ≡ record self.old { rest = behind_first self.old.rest } }
+        ensures steps { Forward self.old.rest trail.old self.new.rest trail.new }
+    {
+        trail.step(first(self.rest));
+        self.rest = behind_first(self.rest);
+    }
+
+    /// Goes back to an earlier place.
+    pub fn go_back<L: Ledger>(&mut self, place: Cursor<'input>, trail: &mut Trail<'input, L>)
+        ensures place { self.new ≡ place.entry }
+        ensures steps { trail.new ≡ record trail.old { left = length self.old.rest } }
+    {
+        trail.go_back(self.rest);
+        *self = place;
+    }
+
+    /// The byte position of the next character in the input, or of its end.
+    pub fn position(&self) -> usize
+        ensures { result ≡ byte_length self.now.input - byte_length self.now.rest }
+    {
+        self.input.len() - self.rest.len()
+    }
+
+    /// Where the next character starts in the source, or where the text ends.
+    pub fn start(&self) -> usize
+        ensures { result ≡ number_of self.now.world (Start (length self.now.rest)) }
+    {
+        if self.rest.is_empty() {
+            self.end
+        } else {
+            self.offset + (self.input.len() - self.rest.len())
+        }
+    }
+
+    /// Where the next character ends in the source, or where the text ends.
+    pub fn stop(&self) -> usize
+        ensures { result ≡ number_of self.now.world (End (length self.now.rest)) }
+    {
+        if self.rest.is_empty() {
+            self.end
+        } else {
+            self.offset + (self.input.len() - behind_first(self.rest).len())
+        }
+    }
+
+    /// The snippet is the source literal of the input.
+    pub fn is_source_literal(&self) -> bool
+        ensures { result ≡ self.now.world.has_source }
+    {
+        self.is_source_literal
+    }
+
+    /// The place of the next character, its byte position in the input, and itself, or None at the end.
+    pub fn next_place(&self) -> Option<(Range<usize>, usize, char)>
+        ensures { option_map (λ x. (pair x.0, x.1, x.2)) result
+            ≡ first_of self.now.world self.now.input self.now.rest }
+    {
+        let c = self.peek()?;
+        Some((self.start()..self.stop(), self.position(), c))
+    }
+
+    /// The same of the character after the next one.
+    pub fn place_ahead(&self) -> Option<(Range<usize>, usize, char)>
+        ensures { option_map (λ x. (pair x.0, x.1, x.2)) result
+            ≡ first_of self.now.world self.now.input (behind_first self.now.rest) }
+    {
+        let mut ahead = self.duplicate();
+        ahead.rest = behind_first(ahead.rest);
+        ahead.next_place()
+    }
+
+    /// The next character is this one.
+    pub fn is_next(&self, c: char) -> bool
+        ensures { result ≡ begins_with c self.now.rest }
+    {
+        self.peek() == Some(c)
+    }
+
+    /// Moves over the character, and answers whether it is there.
+    pub fn take_char<L: Ledger>(&mut self, c: char, trail: &mut Trail<'input, L>) -> bool
+        ensures value { result ≡ begins_with c self.old.rest }
+        ensures rest { self.new ≡ record self.old {
+          rest = if begins_with c self.old.rest then behind_first self.old.rest else self.old.rest;
+        } }
+        ensures steps { Forward self.old.rest trail.old self.new.rest trail.new }
+    {
+        let is_there = self.is_next(c);
+        if is_there {
+            self.advance(trail);
+        }
+        is_there
+    }
+
+    /// The character after the next one is c.
+    pub fn goes_on_with(&self, c: char) -> bool
+        ensures { result ≡ begins_with c (behind_first self.now.rest) }
+    {
+        self.peek_ahead() == Some(c)
+    }
+
+    /// The next character is a digit.
+    pub fn starts_digit(&self) -> bool
+        ensures { result ≡ first_passes is_ascii_digit self.now.rest }
+    {
+        self.peek().is_some_and(|c| c.is_ascii_digit())
+    }
+
+    /// The next character may begin a word.
+    pub fn starts_word(&self) -> bool
+        ensures { result ≡ first_passes is_id_start self.now.rest }
+    {
+        self.peek().is_some_and(is_id_start)
+    }
+
+    /// Moves over the longest front of the class.
+    pub fn skip<L: Ledger>(&mut self, class: Class, trail: &mut Trail<'input, L>)
+        ensures rest { self.new ≡ record self.old { rest = behind (passes class) self.old.rest } }
+        ensures steps { Forward self.old.rest trail.old self.new.rest trail.new }
+    {
+        while let Some(c) = self.peek() {
+            if !class.passes(c) {
+                break;
+            }
+            self.advance(trail);
+        }
+    }
+
+    /// Moves over the white space at the front.
+    #[tactic(auto, unfolding(crate::specs::Characters::behind_white))]
+    pub fn skip_white<L: Ledger>(&mut self, trail: &mut Trail<'input, L>)
+        ensures rest { self.new ≡ record self.old { rest = behind_white self.old.rest } }
+        ensures steps { Forward self.old.rest trail.old self.new.rest trail.new }
+    {
+        self.skip(Class::White, trail);
+    }
+
+    /// Reads the longest front of the class.
+    pub fn take<L: Ledger>(&mut self, class: Class, trail: &mut Trail<'input, L>) -> &'input str
+        ensures value { chars result.now ≡ front (passes class) self.old.rest }
+        ensures rest { self.new ≡ record self.old { rest = behind (passes class) self.old.rest } }
+        ensures steps { Forward self.old.rest trail.old self.new.rest trail.new }
+    {
+        let text = self.rest();
+        self.skip(class, trail);
+        before(text, self.rest())
+    }
+
+    /// Reads the next character, and the longest front of the class after it.
+    pub fn take_behind_first<L: Ledger>(
+        &mut self,
+        class: Class,
+        trail: &mut Trail<'input, L>,
+    ) -> &'input str
+        ensures value { chars result.now ≡ with_first self.old.rest (front (passes class) (behind_first self.old.rest)) }
+        ensures rest { self.new ≡ record self.old { rest = behind (passes class) (behind_first self.old.rest) } }
+        ensures steps { Forward self.old.rest trail.old self.new.rest trail.new }
+    {
+        let text = self.rest();
+        self.advance(trail);
+        self.skip(class, trail);
+        before(text, self.rest())
+    }
+
+    /// Moves over the word at the front.
+    #[tactic(auto, unfolding(crate::specs::Characters::behind_word))]
+    fn skip_word<L: Ledger>(&mut self, trail: &mut Trail<'input, L>)
+        ensures rest { self.new ≡ record self.old { rest = behind_word self.old.rest } }
+        ensures steps { Forward self.old.rest trail.old self.new.rest trail.new }
+    {
+        if self.starts_word() {
+            self.advance(trail);
+            self.skip(Class::Continue, trail);
+        }
+    }
+
+    /// Reads the word at the front, which may be empty.
+    pub fn word<L: Ledger>(&mut self, trail: &mut Trail<'input, L>) -> &'input str
+        ensures value { chars result.now ≡ word self.old.rest }
+        ensures rest { self.new ≡ record self.old { rest = behind_word self.old.rest } }
+        ensures steps { Forward self.old.rest trail.old self.new.rest trail.new }
+    {
+        let text = self.rest();
+        self.skip_word(trail);
+        before(text, self.rest())
+    }
+
+    /// Moves over the digits at the front: their number modulo 65536, and whether it is above 65535.
+    #[tactic(auto, unfolding(crate::specs::Characters::digits, crate::specs::Characters::behind_digits))]
+    fn skip_number<L: Ledger>(&mut self, trail: &mut Trail<'input, L>) -> (u16, bool)
+        ensures value { result.0 ≡ number (digits self.old.rest) }
+        ensures over { result.1 ≡ is_over (digits self.old.rest) }
+        ensures rest { self.new ≡ record self.old { rest = behind_digits self.old.rest } }
+        ensures steps { Forward self.old.rest trail.old self.new.rest trail.new }
+    {
+        let mut value = 0;
+        let mut over = false;
+        while let Some(c) = self.peek() {
+            if !c.is_ascii_digit() {
+                break;
+            }
+            let more = with_digit(value, c);
+            value = more.0;
+            over |= more.1;
+            self.advance(trail);
+        }
+        (value, over)
+    }
+
+    /// Reads the digits at the front: their number modulo 65536, and whether it is above 65535.
+    pub fn number<L: Ledger>(&mut self, trail: &mut Trail<'input, L>) -> (&'input str, u16, bool)
+        ensures text { chars result.0.now ≡ digits self.old.rest }
+        ensures value { result.1 ≡ number (digits self.old.rest) }
+        ensures over { result.2 ≡ is_over (digits self.old.rest) }
+        ensures rest { self.new ≡ record self.old { rest = behind_digits self.old.rest } }
+        ensures steps { Forward self.old.rest trail.old self.new.rest trail.new }
+    {
+        let text = self.rest();
+        let (value, over) = self.skip_number(trail);
+        (before(text, self.rest()), value, over)
+    }
+}

@@ -1,0 +1,86 @@
+//! A placeholder after its opening brace: its position and its specification.
+
+ghost use Rattle.std.specs.Prelude.{◌+◌, ◌<◌, ◌^◌, ◌≡◌, IfOk, if◌then◌else◌, is_some, length, OnOk, option_map, Some, suc, unwrap_or};
+ghost use Rattle.rustc_parse_format.specs.Characters.{number, word};
+ghost use Rattle.rustc_parse_format.specs.Meaning.{argument};
+ghost use Rattle.rustc_parse_format.specs.PartFaults.{argument_faults, cut_faults};
+ghost use Rattle.rustc_parse_format.specs.Placeholder.{cut, position};
+ghost use Rattle.rustc_parse_format.specs.Seen.{seen_argument, seen_mode, seen_position};
+ghost use Rattle.rustc_parse_format.specs.State.{read_to};
+ghost use Rattle.rustc_parse_format.specs.Steps.{Forward, IsInWord, Paid};
+ghost use Rattle.rustc_parse_format.specs.Types.{Implicit, map_argument};
+ghost use Rattle.rustc_parse_format.specs.Values.{given_position, number_after_field};
+ghost use Rattle.rustc_parse_format.specs.World.{place_of};
+
+use crate::counts::{integer, word};
+use crate::cursor::Trail;
+use crate::reader::Reader;
+use crate::specification::specification;
+use crate::types::{Argument, ParseMode, Position};
+use std::alloc::AllocError;
+use std::sync::ledger::Ledger;
+
+/// Reads the position at the front: an integer, else a word, else none.
+#[tactic(auto, using(crate::proofs::TriedParts::tried_parts, crate::proofs::Readers::read_nothing))]
+fn position<'input, L: Ledger>(
+    reader: &mut Reader<'input>,
+    trail: &mut Trail<'input, L>,
+) -> Result<Option<Position<'input>>, AllocError>
+    ensures value { IfOk result (λ p. option_map seen_position p ≡ given_position (position reader.old.rest).0) }
+    ensures state { OnOk result (reader.new ≡ read_to reader.old (position reader.old.rest).1 reader.old.next (argument_faults reader.old.rest)) }
+    ensures steps { OnOk result (Forward reader.old.rest trail.old reader.new.rest trail.new) }
+{
+    if reader.cursor.starts_digit() {
+        let number = integer(reader, trail)?;
+        return Ok(Some(Position::ArgumentIs(usize::from(number))));
+    }
+    if reader.cursor.starts_word() {
+        let name = word(reader, trail)?;
+        return Ok(Some(Position::ArgumentNamed(name)));
+    }
+    Ok(None)
+}
+
+/// The position: the given one, or else the next argument.
+fn position_of<'input>(
+    given: Option<Position<'input>>,
+    reader: &mut Reader<'input>,
+) -> Position<'input>
+    requires { reader.old.next + 1 < 2 ^ 64 }
+    ensures value { seen_position result ≡ unwrap_or (option_map seen_position given.entry) (Implicit reader.old.next) }
+    ensures state { reader.new ≡ record reader.old {
+      next = if is_some (option_map seen_position given.entry) then reader.old.next else suc reader.old.next;
+    } }
+{
+    match given {
+        Some(position) => position,
+        None => Position::ArgumentImplicitlyIs(reader.take_number()),
+    }
+}
+
+/// Reads a position, white space and a specification.
+#[tactic(auto, using(crate::proofs::Steps::part_le), unfolding(crate::specs::Placeholder::cut, crate::specs::Meaning::argument, crate::specs::Values::number_after_field, crate::specs::PartFaults::cut_faults))]
+pub fn read_argument<'input, L: Ledger>(
+    mode: ParseMode,
+    reader: &mut Reader<'input>,
+    trail: &mut Trail<'input, L>,
+) -> Result<Argument<'input>, AllocError>
+    requires numbers { reader.old.next + 1 + length reader.old.rest < 2 ^ 64 }
+    requires steps { IsInWord reader.old.rest trail.old }
+    ensures value { IfOk result (λ a. seen_argument a
+        ≡ map_argument (place_of reader.old.world) (argument reader.old.next (cut (seen_mode mode) reader.old.rest))) }
+    ensures state { OnOk result (reader.new ≡ (let a = cut (seen_mode mode) reader.old.rest in
+        read_to reader.old a.rest (number_after_field reader.old.next a.field) (cut_faults a))) }
+    ensures steps { OnOk result (Paid reader.old.rest trail.old reader.new.rest trail.new) }
+{
+    let start = reader.cursor.start();
+    let given = position(reader, trail)?;
+    reader.cursor.skip_white(trail);
+    let position_span = start..reader.cursor.start();
+    let format = specification(mode, reader, trail)?;
+    Ok(Argument {
+        position: position_of(given, reader),
+        position_span,
+        format,
+    })
+}

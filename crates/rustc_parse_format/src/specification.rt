@@ -1,0 +1,300 @@
+//! What a colon brings: a format specification, the modifier of inline assembly, or the text of a diagnostic.
+
+ghost use Rattle.std.specs.Prelude.{◌+◌, ◌<◌, ◌^◌, ◌≡◌, chars, codes, IfOk, if◌then◌else◌, length, None, OnOk, option_map, Some};
+ghost use Rattle.rustc_parse_format.specs.Characters.{begins_with, behind, behind_first, behind_word, front, is_no_brace, word};
+ghost use Rattle.rustc_parse_format.specs.Marks.{up_to};
+ghost use Rattle.rustc_parse_format.specs.Meaning.{fill_span, format_of, spec_of, type_span, word_span};
+ghost use Rattle.rustc_parse_format.specs.PartFaults.{format_faults, spec_faults, type_faults, word_faults};
+ghost use Rattle.rustc_parse_format.specs.Seen.{pair, seen_alignment, seen_debug_hex, seen_mode, seen_sign, seen_spec};
+ghost use Rattle.rustc_parse_format.specs.Specification.{align, alternate, fill, format_text, sign, specification, type};
+ghost use Rattle.rustc_parse_format.specs.State.{read_to};
+ghost use Rattle.rustc_parse_format.specs.Steps.{Forward, IsFurthest, IsInWord, Paid};
+ghost use Rattle.rustc_parse_format.specs.Types.{default_spec, map_spec};
+ghost use Rattle.rustc_parse_format.specs.Values.{debug_hex_of, number_after_precision, number_after_spec, type_of};
+ghost use Rattle.rustc_parse_format.specs.World.{Place, place_of};
+
+use crate::characters::{Class, first};
+use crate::counts::{precision, width, word};
+use crate::cursor::{Cursor, Trail};
+use crate::laws::default_of_spec;
+use crate::reader::Reader;
+use crate::types::{Alignment, DebugHex, FormatSpec, ParseMode, Sign};
+use std::alloc::AllocError;
+use std::ops::Range;
+use std::sync::ledger::Ledger;
+
+/// Reads the fill at the front: a character with an alignment after it.
+fn fill<'input, L: Ledger>(
+    cursor: &mut Cursor<'input>,
+    trail: &mut Trail<'input, L>,
+) -> (Option<char>, Option<Range<usize>>)
+    ensures value { result.0 ≡ (fill cursor.old.rest).0 }
+    ensures span { option_map pair result.1
+        ≡ option_map (place_of cursor.old.world) (fill_span cursor.old.rest (fill cursor.old.rest).0) }
+    ensures rest { cursor.new ≡ record cursor.old { rest = (fill cursor.old.rest).1 } }
+    ensures steps { Forward cursor.old.rest trail.old cursor.new.rest trail.new }
+{
+    match (cursor.peek(), cursor.peek_ahead()) {
+        (Some(c), Some('<' | '>' | '^')) => {
+            let span = cursor.start()..cursor.stop();
+            cursor.advance(trail);
+            (Some(c), Some(span))
+        }
+        _ => (None, None),
+    }
+}
+
+/// Reads the alignment at the front.
+fn alignment<'input, L: Ledger>(
+    cursor: &mut Cursor<'input>,
+    trail: &mut Trail<'input, L>,
+) -> Alignment
+    ensures value { seen_alignment result ≡ (align cursor.old.rest).0 }
+    ensures rest { cursor.new ≡ record cursor.old { rest = (align cursor.old.rest).1 } }
+    ensures steps { Forward cursor.old.rest trail.old cursor.new.rest trail.new }
+{
+    let alignment = match cursor.peek() {
+        Some('<') => Alignment::AlignLeft,
+        Some('>') => Alignment::AlignRight,
+        Some('^') => Alignment::AlignCenter,
+        _ => return Alignment::AlignUnknown,
+    };
+    cursor.advance(trail);
+    alignment
+}
+
+/// Reads the sign flag at the front.
+fn sign<'input, L: Ledger>(
+    cursor: &mut Cursor<'input>,
+    trail: &mut Trail<'input, L>,
+) -> Option<Sign>
+    ensures value { option_map seen_sign result ≡ (sign cursor.old.rest).0 }
+    ensures rest { cursor.new ≡ record cursor.old { rest = (sign cursor.old.rest).1 } }
+    ensures steps { Forward cursor.old.rest trail.old cursor.new.rest trail.new }
+{
+    let sign = match cursor.peek() {
+        Some('+') => Sign::Plus,
+        Some('-') => Sign::Minus,
+        _ => return None,
+    };
+    cursor.advance(trail);
+    Some(sign)
+}
+
+/// Reads the flag `#` at the front.
+fn alternate<'input, L: Ledger>(cursor: &mut Cursor<'input>, trail: &mut Trail<'input, L>) -> bool
+    ensures value { result ≡ (alternate cursor.old.rest).0 }
+    ensures rest { cursor.new ≡ record cursor.old { rest = (alternate cursor.old.rest).1 } }
+    ensures steps { Forward cursor.old.rest trail.old cursor.new.rest trail.new }
+{
+    cursor.take_char('#', trail)
+}
+
+/// Reads the word at the front, and where it stands if it is not empty.
+fn spanned_word<'input, L: Ledger>(
+    reader: &mut Reader<'input>,
+    trail: &mut Trail<'input, L>,
+) -> Result<(&'input str, Option<Range<usize>>), AllocError>
+    ensures value { IfOk result (λ w. chars w.0.now ≡ word reader.old.rest) }
+    ensures span { IfOk result (λ w. option_map pair w.1 ≡ option_map (place_of reader.old.world)
+        (word_span reader.old.rest (word reader.old.rest) (behind_word reader.old.rest))) }
+    ensures state { OnOk result (reader.new ≡ read_to reader.old (behind_word reader.old.rest) reader.old.next (word_faults reader.old.rest)) }
+    ensures steps { OnOk result (Forward reader.old.rest trail.old reader.new.rest trail.new) }
+{
+    let start = reader.cursor.start();
+    let word = word(reader, trail)?;
+    if first(word).is_none() {
+        return Ok((word, None));
+    }
+    Ok((word, Some(start..reader.cursor.start())))
+}
+
+/// A type, the case of its hexadecimal digits, and where it stands if it is a word.
+#[derive(Drop)]
+struct TypePart<'input> {
+    ty: &'input str,
+    debug_hex: Option<DebugHex>,
+    span: Option<Range<usize>>,
+}
+
+/// A type that is a sign.
+fn character_type<'input>(ty: &'input str) -> TypePart<'input>
+    ensures ty { result.ty.now ≡ ty.entry.now }
+    ensures debug_hex { result.debug_hex ≡ None }
+    ensures span { result.span ≡ None }
+{
+    TypePart {
+        ty,
+        debug_hex: None,
+        span: None,
+    }
+}
+
+/// Reads the letter `x` or `X`. With a `?` after it the letter is a case of the type `?`, else it is the type.
+fn hex_type<'input, L: Ledger>(
+    cursor: &mut Cursor<'input>,
+    trail: &mut Trail<'input, L>,
+    case: DebugHex,
+    letter: &'input str,
+) -> TypePart<'input>
+    ensures ty { result.ty.now ≡ (if begins_with 63 (behind_first cursor.old.rest) then codes "?" else letter.entry.now) }
+    ensures debug_hex { result.debug_hex ≡ (if begins_with 63 (behind_first cursor.old.rest) then Some case else None) }
+    ensures span { result.span ≡ None }
+    ensures rest { cursor.new ≡ record cursor.old {
+      rest = if begins_with 63 (behind_first cursor.old.rest) then behind_first (behind_first cursor.old.rest) else behind_first cursor.old.rest;
+    } }
+    ensures steps { Forward cursor.old.rest trail.old cursor.new.rest trail.new }
+{
+    cursor.advance(trail);
+    if cursor.take_char('?', trail) {
+        return TypePart {
+            ty: "?",
+            debug_hex: Some(case),
+            span: None,
+        };
+    }
+    character_type(letter)
+}
+
+/// Reads the type at the front.
+#[tactic(auto, using(crate::proofs::SpecParts::types_at_front))]
+fn type_part<'input, L: Ledger>(
+    reader: &mut Reader<'input>,
+    trail: &mut Trail<'input, L>,
+) -> Result<TypePart<'input>, AllocError>
+    ensures ty { IfOk result (λ y. chars y.ty.now ≡ type_of (type reader.old.rest).0) }
+    ensures debug_hex { IfOk result (λ y. option_map seen_debug_hex y.debug_hex ≡ debug_hex_of (type reader.old.rest).0) }
+    ensures span { IfOk result (λ y. option_map pair y.span ≡ option_map (place_of reader.old.world)
+        (type_span reader.old.rest (type reader.old.rest).0 (type reader.old.rest).1)) }
+    ensures state { OnOk result (reader.new ≡ (let y = type reader.old.rest in
+        read_to reader.old y.1 reader.old.next (type_faults reader.old.rest y.0))) }
+    ensures steps { OnOk result (Forward reader.old.rest trail.old reader.new.rest trail.new) }
+{
+    if reader.cursor.is_next('x') {
+        return Ok(hex_type(&mut reader.cursor, trail, DebugHex::Lower, "x"));
+    }
+    if reader.cursor.is_next('X') {
+        return Ok(hex_type(&mut reader.cursor, trail, DebugHex::Upper, "X"));
+    }
+    if reader.cursor.is_next('?') {
+        reader.cursor.advance(trail);
+        return Ok(character_type("?"));
+    }
+    let (ty, span) = spanned_word(reader, trail)?;
+    Ok(TypePart {
+        ty,
+        debug_hex: None,
+        span,
+    })
+}
+
+/// Reads the format specification at the front.
+#[tactic(auto, using(crate::proofs::Steps::part_le), unfolding(crate::specs::Specification::format_text, crate::specs::Meaning::format_of))]
+fn format_text<'input, L: Ledger>(
+    reader: &mut Reader<'input>,
+    trail: &mut Trail<'input, L>,
+) -> Result<FormatSpec<'input>, AllocError>
+    requires numbers { reader.old.next + 1 < 2 ^ 64 }
+    requires steps { IsFurthest reader.old.rest trail.old }
+    ensures value { IfOk result (λ f. seen_spec f ≡ map_spec (place_of reader.old.world)
+        (format_of reader.old.next reader.old.rest (format_text reader.old.rest).0 (format_text reader.old.rest).1)) }
+    ensures state { OnOk result (reader.new ≡ (let f = format_text reader.old.rest in
+        read_to reader.old f.1 (number_after_precision reader.old.next f.0.precision) (format_faults f.0 f.1))) }
+    ensures steps { OnOk result (Paid reader.old.rest trail.old reader.new.rest trail.new) }
+{
+    let (fill, fill_span) = fill(&mut reader.cursor, trail);
+    let align = alignment(&mut reader.cursor, trail);
+    let sign = sign(&mut reader.cursor, trail);
+    let alternate = alternate(&mut reader.cursor, trail);
+    let width = width(reader, trail)?;
+    let (precision, precision_span) = precision(reader, trail)?;
+    let type_part = type_part(reader, trail)?;
+    Ok(FormatSpec {
+        fill,
+        fill_span,
+        align,
+        sign,
+        alternate,
+        zero_pad: width.zero_pad,
+        debug_hex: type_part.debug_hex,
+        precision,
+        precision_span,
+        width: width.count,
+        width_span: width.span,
+        ty: type_part.ty,
+        ty_span: type_part.span,
+    })
+}
+
+/// Reads the modifier of inline assembly at the front.
+fn modifier<'input, L: Ledger>(
+    reader: &mut Reader<'input>,
+    trail: &mut Trail<'input, L>,
+) -> Result<FormatSpec<'input>, AllocError>
+    ensures value { IfOk result (λ f. seen_spec f ≡ record (default_spec {A = Place}) {
+      ty = word reader.old.rest;
+      ty_span = option_map (place_of reader.old.world) (word_span reader.old.rest (word reader.old.rest) (behind_word reader.old.rest));
+    }) }
+    ensures state { OnOk result (reader.new ≡ read_to reader.old (behind_word reader.old.rest) reader.old.next (word_faults reader.old.rest)) }
+    ensures steps { OnOk result (Forward reader.old.rest trail.old reader.new.rest trail.new) }
+{
+    let (ty, ty_span) = spanned_word(reader, trail)?;
+    Ok(FormatSpec {
+        ty,
+        ty_span,
+        ..default_of_spec()
+    })
+}
+
+/// Reads a colon and the text of a diagnostic, whose span takes in the colon.
+fn diagnostic_text<'input, L: Ledger>(
+    cursor: &mut Cursor<'input>,
+    trail: &mut Trail<'input, L>,
+) -> FormatSpec<'input>
+    ensures value { seen_spec result ≡ record (default_spec {A = Place}) {
+      ty = front is_no_brace (behind_first cursor.old.rest);
+      ty_span = Some (place_of cursor.old.world (up_to cursor.old.rest (behind is_no_brace (behind_first cursor.old.rest))));
+    } }
+    ensures rest { cursor.new ≡ record cursor.old { rest = behind is_no_brace (behind_first cursor.old.rest) } }
+    ensures steps { Forward cursor.old.rest trail.old cursor.new.rest trail.new }
+{
+    let start = cursor.start();
+    cursor.advance(trail);
+    let ty = cursor.take(Class::Text, trail);
+    FormatSpec {
+        ty,
+        ty_span: Some(start..cursor.start()),
+        ..default_of_spec()
+    }
+}
+
+/// Reads the specification at the front: a colon and what the mode has after it, or nothing.
+#[tactic(auto, using(crate::proofs::Steps::part_le, crate::proofs::Steps::at_colon))]
+pub fn specification<'input, L: Ledger>(
+    mode: ParseMode,
+    reader: &mut Reader<'input>,
+    trail: &mut Trail<'input, L>,
+) -> Result<FormatSpec<'input>, AllocError>
+    requires numbers { reader.old.next + length reader.old.rest < 2 ^ 64 }
+    requires steps { IsInWord reader.old.rest trail.old }
+    ensures value { IfOk result (λ f. seen_spec f ≡ map_spec (place_of reader.old.world) (spec_of reader.old.next reader.old.rest
+        (specification (seen_mode mode) reader.old.rest).0 (specification (seen_mode mode) reader.old.rest).1)) }
+    ensures state { OnOk result (reader.new ≡ (let s = specification (seen_mode mode) reader.old.rest in
+        read_to reader.old s.1 (number_after_spec reader.old.next s.0) (spec_faults reader.old.rest s.0 s.1))) }
+    ensures steps { OnOk result (Paid reader.old.rest trail.old reader.new.rest trail.new) }
+{
+    if !reader.cursor.is_next(':') {
+        return Ok(default_of_spec());
+    }
+    match mode {
+        ParseMode::Format => {
+            reader.cursor.advance(trail);
+            format_text(reader, trail)
+        }
+        ParseMode::InlineAsm => {
+            reader.cursor.advance(trail);
+            modifier(reader, trail)
+        }
+        ParseMode::Diagnostic => Ok(diagnostic_text(&mut reader.cursor, trail)),
+    }
+}
