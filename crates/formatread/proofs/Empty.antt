@@ -1,5 +1,6 @@
 -- What an empty input gives.
-use Rattle.std.proofs.Common.{◌≡◌, ◌≤◌, ℕ, ◌++◌, Bool, true, false, List, [], ◌∷◌, Option, None, Some, Result, Ok, Err, String, Global, string_bytes, replicate, refl, sym, ap, ◌∙◌, option_map, map, chars, length, arith}
+use Rattle.std.proofs.Common.{◌≡◌, ◌≤◌, ℕ, ◌++◌, Bool, true, false, List, [], ◌∷◌, Option, None, Some, Result, Ok, Err, String, Global, string_bytes, replicate}
+use Rattle.std.proofs.Common.{refl, sym, ap, ◌∙◌, option_map, map, chars, length, arith}
 use Rattle.std.specs.Prelude.{IfSome, MatchOption}
 use Rattle.std.proofs.lemmas.Option.{same_Some, none-some}
 use Rattle.std.proofs.lemmas.Str.{chars-nil}

@@ -1,5 +1,6 @@
 -- An input is a literal in at most one way, and gives one source.
-use Rattle.std.proofs.Common.{◌≡◌, ◌≢◌, ℕ, zero, suc, ◌++◌, Bool, true, false, [], ◌∷◌, Option, Some, None, refl, sym, ap, ◌∙◌, subst, append_assoc, append-nil, add-one, arith, replicate, get_or}
+use Rattle.std.proofs.Common.{◌≡◌, ◌≢◌, ℕ, zero, suc, ◌++◌, Bool, true, false, [], ◌∷◌, Option, Some, None, refl, sym, ap, ◌∙◌, subst, append_assoc, append-nil}
+use Rattle.std.proofs.Common.{add-one, arith, replicate, get_or}
 use Rattle.std.proofs.lemmas.List.{append_cancel_right, replicate_more, same_from_push}
 use Rattle.std.proofs.lemmas.Option.{same_Some}
 use Rattle.rustc_parse_format.specs.Characters.{Text}

@@ -1,5 +1,6 @@
 -- Laws of written texts.
-use Rattle.std.proofs.Common.{◌≡◌, ℕ, ◌++◌, ◌==◌, [], ◌∷◌, List, Option, Some, None, option_map, is_some, true, false, sym, ap, ◌∙◌, append_assoc, append-nil, encode_utf8_all, flat_map, chars, codes, length, refl, arith}
+use Rattle.std.proofs.Common.{◌≡◌, ℕ, ◌++◌, ◌==◌, [], ◌∷◌, List, Option, Some, None, option_map, is_some, true, false, sym, ap, ◌∙◌, append_assoc, append-nil}
+use Rattle.std.proofs.Common.{encode_utf8_all, flat_map, chars, codes, length, refl, arith}
 use Rattle.std.specs.declared.ops.Range.{Range}
 use Rattle.std.specs.Str.{IsUtf8}
 use Rattle.std.proofs.lemmas.Bool.Decides.{nat_tests}
@@ -18,7 +19,8 @@ written-push out t c =
     ∙ ap (λ x. out ++ x) (sym (flat_map-append written t (c ∷ [])))
 
 -- a type that was not written leaves nothing
-pub type_entry-absent : (out : List ℕ) (s : Option (Range ℕ)) (bs : List ℕ) → is_some s ≡ false → true ≡ (length bs == 0) → out ≡ out ++ type_entry (option_map pair s) (chars bs)
+pub type_entry-absent : (out : List ℕ) (s : Option (Range ℕ)) (bs : List ℕ) → is_some s ≡ false → true ≡ (length bs == 0) → out
+    ≡ out ++ type_entry (option_map pair s) (chars bs)
 type_entry-absent out None [] e h = sym (ap (λ t. out ++ type_entry None t) chars-nil ∙ append-nil out)
 type_entry-absent out None (b ∷ bs) e h = grind (arith, nat_tests)
 type_entry-absent out (Some r) bs e h = cc
@@ -29,10 +31,13 @@ type_entry-given None t e = cc
 type_entry-given (Some r) t e = refl
 
 -- one that is not empty is shown
-type_entry-cons : (s : Option (Range ℕ)) (bs : List ℕ) (t : Text) → encode_utf8_all t ≡ bs → is_some s ≡ false → false ≡ (length bs == 0) → type_entry (option_map pair s) t ≡ codes " ty=" ++ quoted t
-type_entry-cons None bs [] w e h = absurd (elim bs as (λ x. [] ≡ x → false ≡ (length x == 0) → ⊥) [ [] ↦ λ p q. grind (arith, nat_tests) | b ∷ bs ↦ λ p q. cc ] w h)
+type_entry-cons : (s : Option (Range ℕ)) (bs : List ℕ) (t : Text) → encode_utf8_all t ≡ bs → is_some s ≡ false → false ≡ (length bs == 0) →
+    type_entry (option_map pair s) t ≡ codes " ty=" ++ quoted t
+type_entry-cons None bs [] w e h = absurd (elim bs as (λ x. [] ≡ x → false ≡ (length x == 0) →
+    ⊥) [ [] ↦ λ p q. grind (arith, nat_tests) | b ∷ bs ↦ λ p q. cc ] w h)
 type_entry-cons None bs (c ∷ t) w e h = refl
 type_entry-cons (Some r) bs t w e h = cc
 
-pub type_entry-chars : (s : Option (Range ℕ)) (bs : List ℕ) → IsUtf8 bs → is_some s ≡ false → false ≡ (length bs == 0) → type_entry (option_map pair s) (chars bs) ≡ codes " ty=" ++ quoted (chars bs)
+pub type_entry-chars : (s : Option (Range ℕ)) (bs : List ℕ) → IsUtf8 bs → is_some s ≡ false → false ≡ (length bs == 0) →
+    type_entry (option_map pair s) (chars bs) ≡ codes " ty=" ++ quoted (chars bs)
 type_entry-chars s bs u e h = type_entry-cons s bs (chars bs) (encodes-chars bs u) e h

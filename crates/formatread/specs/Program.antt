@@ -1,5 +1,6 @@
 -- What the program owes for its words and for all bytes of its input.
-use Rattle.std.specs.Prelude.{◌≡◌, ◌≤◌, ◌<◌, ℕ, Bool, true, false, if◌then◌else◌, nat_lt, List, [], ◌∷◌, length, Option, Some, None, Result, Ok, Err, bytes_eq, chars, codes}
+use Rattle.std.specs.Prelude.{◌≡◌, ◌≤◌, ◌<◌, ℕ, Bool, true, false, if◌then◌else◌, nat_lt, List, [], ◌∷◌, length, Option, Some, None, Result, Ok, Err, bytes_eq}
+use Rattle.std.specs.Prelude.{chars, codes}
 use Rattle.std.specs.Str.{IsUtf8}
 use Rattle.rustc_parse_format.specs.Types.{Mode, Format, InlineAsm, Diagnostic, Piece}
 use Rattle.rustc_parse_format.specs.World.{Place, world, pieces_in}

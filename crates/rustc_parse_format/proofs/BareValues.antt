@@ -2,7 +2,8 @@
 use Rattle.std.proofs.Common.{◌≡◌, ℕ, refl, ap}
 use Rattle.rustc_parse_format.specs.Characters.{Text}
 use Rattle.rustc_parse_format.specs.Types.{bare_count, bare_spec, bare_argument}
-use Rattle.rustc_parse_format.specs.Syntax.{CountText, NumberCount, IndexCount, NameCount, NoCount, WidthText, PaddedWidth, ZeroIndexWidth, PlainWidth, PrecisionText, NoPrecision, StarPrecision, DotPrecision, SpecText, Default, Formatting, Modifier, DiagnosticText}
+use Rattle.rustc_parse_format.specs.Syntax.{CountText, NumberCount, IndexCount, NameCount, NoCount, WidthText, PaddedWidth, ZeroIndexWidth, PlainWidth}
+use Rattle.rustc_parse_format.specs.Syntax.{PrecisionText, NoPrecision, StarPrecision, DotPrecision, SpecText, Default, Formatting, Modifier, DiagnosticText}
 use Rattle.rustc_parse_format.specs.Values.{count_value, width_value, precision_value, spec_value, number_after_spec, position_of, argument_value}
 use Rattle.rustc_parse_format.specs.Placeholder.{Cut}
 use Rattle.rustc_parse_format.specs.Meaning.{count_of, width_of, precision_of, from_type, from_precision, from_width, format_of, spec_of, argument}
@@ -37,4 +38,5 @@ spec-bare c t r (DiagnosticText w) = refl
 
 pub argument-bare : (c : ℕ) (a : Cut) → bare_argument (argument c a) ≡ argument_value c a.field
 unfolding argument
-argument-bare c a = ap (λ f. record { position = position_of (number_after_spec c a.field.spec) a.field.position; position_span = tt; format = f }) (spec-bare c a.spec_at a.rest a.field.spec)
+argument-bare c a = ap (λ f. record { position = position_of (number_after_spec c a.field.spec) a.field.position; position_span = tt; format = f })
+    (spec-bare c a.spec_at a.rest a.field.spec)

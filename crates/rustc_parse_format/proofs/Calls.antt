@@ -3,7 +3,8 @@ use Rattle.std.proofs.Common.{◌≡◌, ◌≢◌, ℕ, ◌++◌, ◌==◌, Boo
 use Rattle.std.proofs.lemmas.Bool.{cond_both, eqb-true, eq-eqb, not_from_false, not-true, false≢true}
 use Rattle.std.specs.Char.{is_whitespace}
 use Rattle.unicode_ident.proofs.Computing.{unicode_ident}
-use Rattle.rustc_parse_format.specs.Characters.{Text, is_brace, is_no_brace, front, behind, word, behind_word, digits, behind_digits, behind_white, behind_first, begins_with, first_passes}
+use Rattle.rustc_parse_format.specs.Characters.{Text, is_brace, is_no_brace, front, behind, word, behind_word, digits, behind_digits, behind_white}
+use Rattle.rustc_parse_format.specs.Characters.{behind_first, begins_with, first_passes}
 use Rattle.rustc_parse_format.specs.Marks.{Span}
 use Rattle.rustc_parse_format.specs.Types.{Mode, Piece, Lit, NextArgument, bare}
 use Rattle.rustc_parse_format.specs.Spelling.{IsPart, run, doubled}
@@ -35,7 +36,8 @@ text_steps : (mode : Mode) (c b : ℕ) (t : Text) → is_brace b ≡ false → S
 text_steps mode c b t e = record {
   piece = Lit (front is_no_brace (b ∷ t));
   given = refl;
-  begins = record { text = RunText (front is_no_brace (b ∷ t)); written = some_run-sound is_no_brace b t (not_from_false _ e); clean = tt; means = refl; numbered = refl };
+  begins = record { text = RunText (front is_no_brace (b ∷ t)); written = some_run-sound is_no_brace b t (not_from_false _ e); clean = tt; means = refl;
+      numbered = refl };
 }
 
 doubled_steps : (mode : Mode) (c b : ℕ) (t : Text) → is_brace b ≡ true → begins_with b t ≡ true → Steps mode c (b ∷ t) (text_call c (b ∷ []) (behind_first t))
@@ -45,7 +47,8 @@ doubled_steps mode c b (d ∷ t) e h =
     record {
       piece = Lit (b ∷ front is_no_brace t);
       given = refl;
-      begins = record { text = DoubledText b (front is_no_brace t); written = (then two (last ((run-finds is_no_brace).sound t))).part; clean = tt; means = refl; numbered = refl };
+      begins = record { text = DoubledText b (front is_no_brace t); written = (then two (last ((run-finds is_no_brace).sound t))).part; clean = tt;
+          means = refl; numbered = refl };
     }
 
 closes_with : (r : Text) → begins_with 125 r ≡ true → r ≡ 125 ∷ behind_first r
@@ -144,23 +147,27 @@ unfolding call placeholder
 call_closed mode c t r e h =
     let one = opens_one mode t r e in
     let none = cut_faultless mode t h in
-    rw (one, e) (record { piece = NextArgument (argument c (cut mode t)); given = refl; same = ap NextArgument (argument-bare c (cut mode t)); faultless = none; rest = refl; next = refl })
+    rw (one, e) (record { piece = NextArgument (argument c (cut mode t)); given = refl; same = ap NextArgument (argument-bare c (cut mode t));
+        faultless = none; rest = refl; next = refl })
 
 moved : (mode : Mode) (c : ℕ) (t u : Text) (p : Piece (Unit {0})) (r : Text) (n : ℕ) → t ≡ u → Gives p r n (call mode c u) → Gives p r n (call mode c t)
 moved mode c t u p r n e g = rw e g
 
-part_call : (mode : Mode) (c : ℕ) (t : Text) (x : PieceText) (r : Text) → IsPart t (piece_part mode x) r → IsCleanPiece x → Gives (piece_value c x) r (number_after c x) (call mode c t)
+part_call : (mode : Mode) (c : ℕ) (t : Text) (x : PieceText) (r : Text) → IsPart t (piece_part mode x) r → IsCleanPiece x →
+    Gives (piece_value c x) r (number_after c x) (call mode c t)
 part_call mode c t (RunText u) r w h =
     let k = some_run-complete is_no_brace t u r w in
     given_as (call_run mode c t k.begins) (ap Lit k.read) k.behind refl
 part_call mode c t (DoubledText b u) r w h =
     let s = two-split t (doubled is_brace b) (run is_no_brace u) r w in
     let e = (run-finds is_no_brace).complete s.seam u r s.second in
-    moved mode c t (b ∷ b ∷ s.seam) _ r _ s.first.whole (given_as (call_doubled mode c b s.seam s.first.formed) (ap (λ x. Lit (b ∷ x.0)) e) (ap (λ x. x.1) e) refl)
+    moved mode c t (b ∷ b ∷ s.seam) _ r _ s.first.whole (given_as (call_doubled mode c b s.seam s.first.formed) (ap (λ x. Lit (b ∷ x.0)) e)
+        (ap (λ x. x.1) e) refl)
 part_call mode c t (PlaceholderText a space) r w h =
     let k = by_cut mode t a space r w in
     moved mode c t (123 ∷ k.inside) _ r _ k.opens
-    (given_as (call_closed mode c k.inside r k.closes (subst IsClean k.field h)) (ap (λ x. NextArgument (argument_value c x)) (sym k.field)) refl (ap (number_after_field c) (sym k.field)))
+    (given_as (call_closed mode c k.inside r k.closes (subst IsClean k.field h)) (ap (λ x. NextArgument (argument_value c x)) (sym k.field)) refl
+        (ap (number_after_field c) (sym k.field)))
 
 -- A call gives the piece that begins the text, with no fault.
 pub begins_call : (mode : Mode) (c : ℕ) (t : Text) (p : Piece (Unit {0})) (r : Text) (n : ℕ) → Begins mode c t p r n → Gives p r n (call mode c t)

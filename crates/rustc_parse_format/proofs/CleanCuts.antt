@@ -9,8 +9,10 @@ use Rattle.rustc_parse_format.specs.Syntax.{SpecText}
 use Rattle.rustc_parse_format.specs.Specification.{type, behind_hex, width_at, precision_at, type_at, format_text, specification, behind_colon}
 use Rattle.rustc_parse_format.specs.Placeholder.{position, cut}
 use Rattle.rustc_parse_format.specs.Grammar.{IsClean, IsCleanPosition, IsCleanType, IsCleanFormat, IsCleanSpec}
-use Rattle.rustc_parse_format.specs.PartFaults.{number_faults, argument_faults, width_faults, precision_faults, type_faults, format_faults, spec_faults, cut_faults}
-use Rattle.rustc_parse_format.proofs.CleanWords.{none_left, none_right, none_both, named, small, unnamed, unlarge, choose, no_word, no_digits, digit_word, word_first, no_word_at_end, no_digits_at_end}
+use Rattle.rustc_parse_format.specs.PartFaults.{number_faults, argument_faults, width_faults, precision_faults, type_faults, format_faults, spec_faults}
+use Rattle.rustc_parse_format.specs.PartFaults.{cut_faults}
+use Rattle.rustc_parse_format.proofs.CleanWords.{none_left, none_right, none_both, named, small, unnamed, unlarge, choose, no_word, no_digits, digit_word}
+use Rattle.rustc_parse_format.proofs.CleanWords.{word_first, no_word_at_end, no_digits_at_end}
 use Rattle.rustc_parse_format.proofs.PartPlaces.{format_faults-at}
 use Rattle.rustc_parse_format.proofs.CleanCounts.{width_clean, precision_clean}
 use Rattle.rustc_parse_format.proofs.FaultlessCounts.{tried_named, width_faultless, precision_faultless}
@@ -119,7 +121,8 @@ specification_clean mode [] e = tt
 specification_clean mode (c ∷ t) e =
     cond_both {A = SpecText × Text} (c == 58) _ _ (SpecClean (c ∷ t)) (λ z h. colon_clean mode c t h) (λ z h. tt) e
 
-colon_faultless : (mode : Mode) (c : ℕ) (t : Text) → IsCleanSpec (behind_colon mode t).0 → spec_faults (c ∷ t) (behind_colon mode t).0 (behind_colon mode t).1 ≡ []
+colon_faultless : (mode : Mode) (c : ℕ) (t : Text) → IsCleanSpec (behind_colon mode t).0 → spec_faults (c ∷ t) (behind_colon mode t).0 (behind_colon mode t).1
+    ≡ []
 colon_faultless Format c t h = format_faultless t h
 colon_faultless InlineAsm c t h = unnamed t h
 colon_faultless Diagnostic c t h = refl

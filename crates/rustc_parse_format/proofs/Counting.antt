@@ -39,7 +39,8 @@ counted-digit value d over left all k = record {
   more = k.more;
 }
 
-pub counted-first : (value : ℕ) (over : Bool) (t r all : Text) (x : ℕ) → first t ≡ Some x → is_ascii_digit x ≡ true → r ≡ behind_first t → Counted value over (front is_ascii_digit t) all →
+pub counted-first : (value : ℕ) (over : Bool) (t r all : Text) (x : ℕ) → first t ≡ Some x → is_ascii_digit x ≡ true → r ≡ behind_first t →
+    Counted value over (front is_ascii_digit t) all →
     Counted ((value * 10 + digit_value x) % 65536) (over || nat_lt 65535 (value * 10 + digit_value x)) (front is_ascii_digit r) all
 counted-first value over [] r all x f d e k = absurd (none-some x f)
 counted-first value over (c ∷ t) r all x f d e k =

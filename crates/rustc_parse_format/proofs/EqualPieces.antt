@@ -12,7 +12,8 @@ use Rattle.rustc_parse_format.specs.declared.types.Piece.TheVariants.{Lit as Lit
 use Rattle.rustc_parse_format.specs.contracts.types.ArgumentPartialEq.TheImpl as argument_eq
 use Rattle.rustc_parse_format.specs.contracts.types.FormatSpecPartialEq.TheImpl as spec_eq
 use Rattle.rustc_parse_format.specs.contracts.types.PiecePartialEq.TheImpl as piece_eq
-use Rattle.rustc_parse_format.proofs.Equality.{both, both_same, differ, flag_same, number_same, option_same, plain_option_same, range_same, same_along, text_same}
+use Rattle.rustc_parse_format.proofs.Equality.{both, both_same, differ, flag_same, number_same, option_same, plain_option_same, range_same, same_along}
+use Rattle.rustc_parse_format.proofs.Equality.{text_same}
 use Rattle.rustc_parse_format.proofs.EqualParts.{alignment_same, count_same, debug_hex_same, position_same, sign_same}
 
 -- from a fact about each field, in the order in which `==` compares them

@@ -95,13 +95,15 @@ wide_character-is_a_piece : pieces (codes "{a" ++ 8364 ∷ codes "}") ≡ bare_a
 unfolding computing
 wide_character-is_a_piece = refl
 
-wide_character-is_written_as_itself : (message {A = Place} (MissingBrace (Some 8364) (3, 3) (1, 2))).description ≡ codes "expected `}`, found `" ++ 226 ∷ 130 ∷ 172 ∷ codes "`"
+wide_character-is_written_as_itself : (message {A = Place} (MissingBrace (Some 8364) (3, 3) (1, 2))).description
+    ≡ codes "expected `}`, found `" ++ 226 ∷ 130 ∷ 172 ∷ codes "`"
 unfolding computing
 wide_character-is_written_as_itself = refl
 
 control_character-is_escaped : (message {A = Place} (MissingBrace (Some 27) (3, 3) (1, 2))).description ≡ codes "expected `}`, found `\\u{1b}`"
 unfolding computing
-control_character-is_escaped = ap (λ h. codes "expected `}`, found `" ++ (codes "\\u{" ++ h ++ codes "}") ++ codes "`") (hex_two_digits false 27 (omega arith) (omega arith))
+control_character-is_escaped = ap (λ h. codes "expected `}`, found `" ++ (codes "\\u{" ++ h ++ codes "}") ++ codes "`")
+    (hex_two_digits false 27 (omega arith) (omega arith))
 
 control_character-has_one_place : faults (codes "{a" ++ 1 ∷ codes "}") ≡ MissingBrace (Some 1) (3, 3) (1, 2) ∷ UnmatchedBrace (4, 5) ∷ []
 unfolding computing

@@ -20,7 +20,8 @@ number_small ds (c ∷ r) h = choose {B = Text} (λ k. IsCleanCount k → IsSmal
 abbrev Faultless : Text → CountText × Text → Type 0
 Faultless t k = IsCleanCount k.0 → IsTriedNamed k.0 k.1 → argument_faults t ≡ []
 
-name_named : (t r : Text) → IsCleanCount (behind_name t (word t) r).0 → IsTriedNamed (behind_name t (word t) r).0 (behind_name t (word t) r).1 → IsNamed (word t)
+name_named : (t r : Text) → IsCleanCount (behind_name t (word t) r).0 → IsTriedNamed (behind_name t (word t) r).0 (behind_name t (word t) r).1 →
+    IsNamed (word t)
 name_named t [] h f = f refl
 name_named t (c ∷ r) h f =
     cond_both {A = CountText × Text} (c == 36) _ _ (λ k. IsCleanCount k.0 → IsTriedNamed k.0 k.1 → IsNamed (word t)) (λ z h f. h) (λ z h f. f refl) h f

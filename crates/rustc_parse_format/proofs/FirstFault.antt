@@ -1,5 +1,6 @@
 -- A walk with a fault reads its text up to a character from which on nothing begins it.
-use Rattle.std.proofs.Common.{◌≡◌, ◌≢◌, ℕ, suc, ◌<◌, ◌++◌, ◌⊎◌, List, [], ◌∷◌, take, drop, length, length-append, append_assoc, refl, sym, inl, inr, ◌∙◌, ap, arith, Some}
+use Rattle.std.proofs.Common.{◌≡◌, ◌≢◌, ℕ, suc, ◌<◌, ◌++◌, ◌⊎◌, List, [], ◌∷◌, take, drop, length, length-append, append_assoc, refl, sym, inl, inr, ◌∙◌, ap}
+use Rattle.std.proofs.Common.{arith, Some}
 use Rattle.rustc_parse_format.specs.Characters.{Text}
 use Rattle.rustc_parse_format.specs.Marks.{Span}
 use Rattle.rustc_parse_format.specs.Types.{Mode, Piece, bare}
@@ -64,7 +65,8 @@ stops_here mode c t k ps e f = record {
   whole = refl;
   some = λ h. f (ap (λ x. x.faults) (e ∙ ap (call mode c) h) ∙ at_end_none mode c);
   reads = refl;
-  stops = λ n p r next b. (let s = begins_at mode n c t p r next b in f (ap (λ x. x.faults) e ∙ (begins_call mode c t s.piece s.rest s.next s.begins).faultless));
+  stops = λ n p r next b. (let s = begins_at mode n c t p r next b in f
+      (ap (λ x. x.faults) e ∙ (begins_call mode c t s.piece s.rest s.next s.begins).faultless));
 }
 
 stops_later : (mode : Mode) (c : ℕ) (t : Text) (p : Piece (Unit {0})) (r : Text) (n : ℕ) (ps : List (Piece (Unit {0}))) →

@@ -4,7 +4,9 @@ use Rattle.std.proofs.Common.{◌≡◌, [], ◌∷◌, List, refl, codes, Some,
 use Rattle.std.proofs.lemmas.Bool.{false≢true}
 use Rattle.rustc_parse_format.specs.Types.{Format, Diagnostic, Left, Right, Unknown, Plus, Lower, Implicit, Is, Piece, NextArgument, default_spec}
 use Rattle.rustc_parse_format.specs.Spelling.{IsPart}
-use Rattle.rustc_parse_format.specs.Syntax.{Word, NoPosition, NumberCount, IndexCount, NameCount, NoCount, PaddedWidth, ZeroIndexWidth, PlainWidth, NoPrecision, DotPrecision, DebugHexType, CharacterType, WordType, FormatText, Default, Formatting, DiagnosticText, FieldText, PlaceholderText, opened_part, IsCut}
+use Rattle.rustc_parse_format.specs.Syntax.{Word, NoPosition, NumberCount, IndexCount, NameCount, NoCount, PaddedWidth, ZeroIndexWidth, PlainWidth, NoPrecision}
+use Rattle.rustc_parse_format.specs.Syntax.{DotPrecision, DebugHexType, CharacterType, WordType, FormatText, Default, Formatting, DiagnosticText, FieldText}
+use Rattle.rustc_parse_format.specs.Syntax.{PlaceholderText, opened_part, IsCut}
 use Rattle.rustc_parse_format.specs.Grammar.{Reads}
 use Rattle.rustc_parse_format.proofs.Readings.{Reads-unique}
 use Rattle.rustc_parse_format.proofs.Rows.{computing}
@@ -19,7 +21,9 @@ spec p = record { position = NoPosition; space = []; spec = Formatting p }
 -- One placeholder, with what is written in it.
 all_parts-are_written :
     IsCut Format (codes "a :*>+#05$.b$x?}")
-    (record { position = Word (codes "a"); space = codes " "; spec = Formatting (record { fill = Some (code "*"); align = Right; sign = Some Plus; alternate = true; width = PaddedWidth (IndexCount (codes "5")); precision = DotPrecision (NameCount (codes "b")); type = DebugHexType Lower }) })
+    (record { position = Word (codes "a"); space = codes " "; spec = Formatting
+        (record { fill = Some (code "*"); align = Right; sign = Some Plus; alternate = true; width = PaddedWidth (IndexCount (codes "5"));
+        precision = DotPrecision (NameCount (codes "b")); type = DebugHexType Lower }) })
     (codes "}")
 unfolding computing
 all_parts-are_written = record { whole = refl; formed = refl; ends = refl }
@@ -40,7 +44,8 @@ hexadecimal_letter-leaves_the_word : IsCut Format (codes ":xyz}") (spec (record 
 unfolding computing
 hexadecimal_letter-leaves_the_word = record { whole = refl; formed = refl; ends = refl }
 
-diagnostic_text-is_no_specification : IsCut Diagnostic (codes "a:08 b}") (record { position = Word (codes "a"); space = []; spec = DiagnosticText (codes "08 b") }) (codes "}")
+diagnostic_text-is_no_specification : IsCut Diagnostic (codes "a:08 b}")
+    (record { position = Word (codes "a"); space = []; spec = DiagnosticText (codes "08 b") }) (codes "}")
 unfolding computing
 diagnostic_text-is_no_specification = record { whole = refl; formed = refl; ends = refl }
 

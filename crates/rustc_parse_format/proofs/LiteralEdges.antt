@@ -1,8 +1,10 @@
 -- The first and the last character of a text, by its bytes and by its characters.
-use Rattle.std.proofs.Common.{◌≡◌, ◌≢◌, ℕ, zero, suc, ◌++◌, ◌<◌, List, [], ◌∷◌, length, take, sym, ap, ◌∙◌, subst, arith, Option, Some, None, MatchOption, chars, IsUtf8, Bor}
+use Rattle.std.proofs.Common.{◌≡◌, ◌≢◌, ℕ, zero, suc, ◌++◌, ◌<◌, List, [], ◌∷◌, length, take, sym, ap, ◌∙◌, subst, arith, Option, Some, None, MatchOption}
+use Rattle.std.proofs.Common.{chars, IsUtf8, Bor}
 use Rattle.std.specs.Prelude.{encode_utf8, encode_utf8_all}
 use Rattle.std.proofs.Math.Seq.{take-append_seam}
-use Rattle.std.proofs.lemmas.Str.{chars-append, chars_past_char, chars-IsAscii, encodes-append, encodes-chars, encode_ascii, IsUtf8-from_ascii, IsUtf8-take, IsUtf8-past_char, IsCharBoundary-at_seam}
+use Rattle.std.proofs.lemmas.Str.{chars-append, chars_past_char, chars-IsAscii, encodes-append, encodes-chars, encode_ascii, IsUtf8-from_ascii, IsUtf8-take}
+use Rattle.std.proofs.lemmas.Str.{IsUtf8-past_char, IsCharBoundary-at_seam}
 use Rattle.std.specs.Str.{IsAscii}
 use Rattle.rustc_parse_format.specs.Characters.{Text}
 

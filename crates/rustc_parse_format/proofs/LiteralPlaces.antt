@@ -1,5 +1,6 @@
 -- The characters of a content with their places, by the unit at its front.
-use Rattle.std.proofs.Common.{◌≡◌, ◌≢◌, ℕ, ◌+◌, ◌++◌, List, [], ◌∷◌, refl, sym, ap, ◌∙◌, arith, Option, Some, None, option_map, append-nil, Result, Ok, Err, IfOk, IfSome, IfNone}
+use Rattle.std.proofs.Common.{◌≡◌, ◌≢◌, ℕ, ◌+◌, ◌++◌, List, [], ◌∷◌, refl, sym, ap, ◌∙◌, arith, Option, Some, None, option_map, append-nil, Result, Ok, Err}
+use Rattle.std.proofs.Common.{IfOk, IfSome, IfNone}
 use Rattle.std.specs.declared.ops.Range.{Range}
 use Rattle.std.proofs.lemmas.Option.{same_Some, none-some}
 use Rattle.rustc_parse_format.specs.Characters.{Text, byte_length}

@@ -1,5 +1,6 @@
 -- A Unicode escape, read a character at a time.
-use Rattle.std.proofs.Common.{◌≡◌, ℕ, suc, ◌+◌, ◌*◌, ◌^◌, ◌<◌, ◌≤◌, Bool, true, false, cond, ◌&&◌, ◌||◌, [], ◌∷◌, length, refl, sym, ◌∙◌, arith, Option, Some, None, ◌⊎◌, inl, inr}
+use Rattle.std.proofs.Common.{◌≡◌, ℕ, suc, ◌+◌, ◌*◌, ◌^◌, ◌<◌, ◌≤◌, Bool, true, false, cond, ◌&&◌, ◌||◌, [], ◌∷◌, length, refl, sym, ◌∙◌, arith, Option, Some}
+use Rattle.std.proofs.Common.{None, ◌⊎◌, inl, inr}
 use Rattle.std.specs.Prelude.{◌==◌, nat_lt, nat_le}
 use Rattle.std.specs.List.{list_all}
 use Rattle.std.specs.Char.{digit_value}
@@ -7,7 +8,8 @@ use Rattle.std.specs.Str.Parse.{digits_value_after}
 use Rattle.std.proofs.Math.Nat.{pow-suc, pow-le-pow_right}
 use Rattle.std.proofs.lemmas.Bool.{cond_both, cond-false, eqb-true, le-leb, lt-leb, lt-ltb, ltb-true, ltb-false, cases_Bool, and_left, and_right, or_right}
 use Rattle.rustc_parse_format.specs.Characters.{Text, front, behind, behind_first, begins_with, first_passes}
-use Rattle.rustc_parse_format.specs.LiteralUnits.{LiteralUnit, UnicodeEscape, meaning, unicode_at, at_brace, is_unicode, is_inside, is_hex, is_underscore, is_scalar, hex_digits, value}
+use Rattle.rustc_parse_format.specs.LiteralUnits.{LiteralUnit, UnicodeEscape, meaning, unicode_at, at_brace, is_unicode, is_inside, is_hex, is_underscore}
+use Rattle.rustc_parse_format.specs.LiteralUnits.{is_scalar, hex_digits, value}
 
 abbrev is_digit_or_underscore : ℕ → Bool
 is_digit_or_underscore c = is_hex c || is_underscore c

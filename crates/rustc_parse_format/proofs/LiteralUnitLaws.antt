@@ -2,9 +2,12 @@
 use Rattle.std.proofs.Common.{◌≡◌, ℕ, ◌++◌, true, false, ◌||◌, [], ◌∷◌, refl, sym, ap, subst, ◌∙◌, Option, Some, None, append_assoc}
 use Rattle.std.specs.Prelude.{IsTrue, is_some, ⊤, ◌==◌}
 use Rattle.std.specs.List.{list_all}
-use Rattle.std.proofs.lemmas.Bool.{cond_both, cond-true, cond-false, and_parts, eqb-true, ne_eqb, not-false, not-true, not_from_false, or_parts, both_ways, false≢true}
+use Rattle.std.proofs.lemmas.Bool.{cond_both, cond-true, cond-false, and_parts, eqb-true, ne_eqb, not-false, not-true, not_from_false, or_parts, both_ways}
+use Rattle.std.proofs.lemmas.Bool.{false≢true}
 use Rattle.rustc_parse_format.specs.Characters.{Text, front, behind, first_passes}
-use Rattle.rustc_parse_format.specs.LiteralUnits.{LiteralUnit, Plain, SimpleEscape, ByteEscape, UnicodeEscape, Continuation, spelling, is_unit, may_precede, with_rest, at_brace, unicode_at, byte_at, escape_at, unit_at, is_skipped, is_inside, is_hex, is_underscore, is_plain, is_unicode, escaped}
+use Rattle.rustc_parse_format.specs.LiteralUnits.{LiteralUnit, Plain, SimpleEscape, ByteEscape, UnicodeEscape, Continuation, spelling, is_unit, may_precede}
+use Rattle.rustc_parse_format.specs.LiteralUnits.{with_rest, at_brace, unicode_at, byte_at, escape_at, unit_at, is_skipped, is_inside, is_hex, is_underscore}
+use Rattle.rustc_parse_format.specs.LiteralUnits.{is_plain, is_unicode, escaped}
 use Rattle.rustc_parse_format.proofs.Fronts.{front-behind, list_all-front, first_passes-behind, front-append, behind-append, list_all-weaker}
 
 -- It is a unit that may stand there, and the text is it and the rest.

@@ -6,11 +6,17 @@ use Rattle.std.specs.Prelude.{◌==◌, ◌||◌, ◌&&◌}
 use Rattle.std.proofs.lemmas.Bool.{and_parts, and_from, not_from_false, not-true}
 use Rattle.unicode_ident.proofs.Computing.{unicode_ident}
 use Rattle.std.specs.Char.{is_ascii_digit, is_whitespace}
-use Rattle.rustc_parse_format.specs.Characters.{Text, is_align, is_no_brace, is_id_start, is_id_continue, behind, behind_word, behind_first, begins_with, first_passes}
+use Rattle.rustc_parse_format.specs.Characters.{Text, is_align, is_no_brace, is_id_start, is_id_continue, behind, behind_word, behind_first, begins_with}
+use Rattle.rustc_parse_format.specs.Characters.{first_passes}
 use Rattle.rustc_parse_format.specs.Types.{Mode, Format, InlineAsm, Diagnostic, Alignment, Left, Right, Center, Unknown, Sign, Plus, Minus, Lower, Upper}
 use Rattle.rustc_parse_format.specs.Spelling.{Part, IsPart, row, fixed, unless, absent, run, integer, optional_identifier, begins_with_part}
 use Rattle.rustc_parse_format.proofs.PartNames.{begins_count, begins_with_part-count}
-use Rattle.rustc_parse_format.specs.Syntax.{PositionText, Digits, Word, NoPosition, position_part, fill_part, align_part, is_sign, sign_part, alternate_part, CountText, NumberCount, IndexCount, NameCount, NoCount, name_part, count_part, WidthText, PaddedWidth, ZeroIndexWidth, PlainWidth, width_part, PrecisionText, NoPrecision, StarPrecision, DotPrecision, precision_part, TypeText, DebugHexType, CharacterType, WordType, is_type_character, type_part, FormatText, format_part, SpecText, Default, Formatting, Modifier, DiagnosticText, spec_part, FieldText, field_part, placeholder_part, PieceText, RunText, DoubledText, PlaceholderText, piece_part}
+use Rattle.rustc_parse_format.specs.Syntax.{PositionText, Digits, Word, NoPosition, position_part, fill_part, align_part, is_sign, sign_part, alternate_part}
+use Rattle.rustc_parse_format.specs.Syntax.{CountText, NumberCount, IndexCount, NameCount, NoCount, name_part, count_part, WidthText, PaddedWidth}
+use Rattle.rustc_parse_format.specs.Syntax.{ZeroIndexWidth, PlainWidth, width_part, PrecisionText, NoPrecision, StarPrecision, DotPrecision, precision_part}
+use Rattle.rustc_parse_format.specs.Syntax.{TypeText, DebugHexType, CharacterType, WordType, is_type_character, type_part, FormatText, format_part, SpecText}
+use Rattle.rustc_parse_format.specs.Syntax.{Default, Formatting, Modifier, DiagnosticText, spec_part, FieldText, field_part, placeholder_part, PieceText}
+use Rattle.rustc_parse_format.specs.Syntax.{RunText, DoubledText, PlaceholderText, piece_part}
 
 -- with z gone from after the brace, what passed still passes
 abbrev IsLocal : (Text → Bool) → Type 0
@@ -129,7 +135,8 @@ count-local : (k : CountText) → PartIsLocal (count_part k)
 count-local (NumberCount ds) = two-local (integer ds) (absent (begins_with (code "$"))) (class_ends is_ascii_digit) (letter_ends (code "$"))
 count-local (IndexCount ds) = two-local (integer ds) (fixed (codes "$")) (class_ends is_ascii_digit) always
 count-local (NameCount w) = two-local (name_part w) (fixed (codes "$")) (blind (begins_with (code "$")) (begins_with-blind (code "$"))) always
-count-local NoCount = blind_not (λ t. first_passes is_ascii_digit t || begins_with_part name_part t) (λ u r s. begins_with_part-count (u ++ 125 ∷ r) ∙ (count-blind u r s ∙ sym (begins_with_part-count (u ++ 125 ∷ s))))
+count-local NoCount = blind_not (λ t. first_passes is_ascii_digit t || begins_with_part name_part t)
+    (λ u r s. begins_with_part-count (u ++ 125 ∷ r) ∙ (count-blind u r s ∙ sym (begins_with_part-count (u ++ 125 ∷ s))))
 
 width-local : (w : WidthText) → PartIsLocal (width_part w)
 width-local (PaddedWidth k) = two-local (unless (codes "0") (begins_with (code "$"))) (count_part k) (letter_ends (code "$")) (count-local k)
@@ -153,8 +160,10 @@ type-local (WordType w) = two-local (absent (first_passes is_type_character)) (o
 
 format-local : (p : FormatText) → PartIsLocal (format_part p)
 format-local p =
-    row-local (fill_part p.fill ∷ align_part p.align ∷ sign_part p.sign ∷ alternate_part p.alternate ∷ width_part p.width ∷ precision_part p.precision ∷ type_part p.type ∷ [])
-    (fill-local p.fill, (align-local p.align, (sign-local p.sign, (alternate-local p.alternate, (width-local p.width, (precision-local p.precision, (type-local p.type, tt)))))))
+    row-local (fill_part p.fill ∷ align_part p.align ∷ sign_part p.sign ∷ alternate_part p.alternate ∷ width_part p.width ∷ precision_part p.precision ∷
+        type_part p.type ∷ [])
+    (fill-local p.fill, (align-local p.align, (sign-local p.sign, (alternate-local p.alternate,
+        (width-local p.width, (precision-local p.precision, (type-local p.type, tt)))))))
 
 spec-local : (mode : Mode) (s : SpecText) → PartIsLocal (spec_part mode s)
 spec-local mode Default = letter_ends (code ":")
@@ -170,7 +179,8 @@ spec-local Diagnostic (DiagnosticText u) = two-local (fixed (codes ":")) (run is
 
 field-local : (mode : Mode) (a : FieldText) → PartIsLocal (field_part mode a)
 field-local mode a =
-    row-local (position_part a.position ∷ run is_whitespace a.space ∷ spec_part mode a.spec ∷ []) (position-local a.position, (class_ends is_whitespace, (spec-local mode a.spec, tt)))
+    row-local (position_part a.position ∷ run is_whitespace a.space ∷ spec_part mode a.spec ∷ [])
+        (position-local a.position, (class_ends is_whitespace, (spec-local mode a.spec, tt)))
 
 placeholder-local : (mode : Mode) (a : FieldText) (w t q z : Text) → IsPart t (placeholder_part mode a w) (q ++ z) →
     IsPart ((placeholder_part mode a w).spelling ++ q) (placeholder_part mode a w) q
@@ -194,5 +204,6 @@ pub piece-local : (mode : Mode) (x : PieceText) (t q z : Text) → IsPart t (pie
 piece-local mode (RunText u) t q z h = record { whole = refl; formed = h.formed; ends = not_from_false _ (run-local is_no_brace q z (not-true _ h.ends)) }
 piece-local mode (DoubledText b u) t q z h =
     let p = and_parts _ _ (and_parts true _ h.ends).1 in
-    record { whole = refl; formed = h.formed; ends = and_from true _ refl (and_from _ true (not_from_false _ (run-local is_no_brace q z (not-true _ p.0))) refl) }
+    record { whole = refl; formed = h.formed; ends = and_from true _ refl
+        (and_from _ true (not_from_false _ (run-local is_no_brace q z (not-true _ p.0))) refl) }
 piece-local mode (PlaceholderText a w) t q z h = placeholder-local mode a w t q z h

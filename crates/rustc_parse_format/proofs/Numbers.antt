@@ -8,7 +8,8 @@ use Rattle.rustc_parse_format.specs.Counts.{precision, behind_dot}
 use Rattle.rustc_parse_format.specs.Specification.{align_at, precision_at, type_at, format_text, specification, behind_colon}
 use Rattle.rustc_parse_format.specs.Placeholder.{position, cut}
 use Rattle.rustc_parse_format.specs.Values.{number_after_precision, number_after_spec, number_after_position, number_after_field}
-use Rattle.rustc_parse_format.proofs.Rests.{IsRest-le, position_rest, behind_white_rest, count_rest, align_at_rest, precision_from_align, type_rest, specification_rest}
+use Rattle.rustc_parse_format.proofs.Rests.{IsRest-le, position_rest, behind_white_rest, count_rest, align_at_rest, precision_from_align, type_rest}
+use Rattle.rustc_parse_format.proofs.Rests.{specification_rest}
 
 dot_number : (c : ℕ) (t : Text) → number_after_precision c (behind_dot t).0 + length (behind_dot t).1 ≤ c + 1 + length t
 dot_number c [] = omega arith
@@ -50,4 +51,5 @@ unfolding cut number_after_field
 number_after_field-le mode c t =
     let u = behind_white (position t).1 in
     let s = specification mode u in
-    omega (arith, number_after_position-le (number_after_spec c s.0) (position t).0, specification_number mode c u, IsRest-le (position_rest t), IsRest-le (behind_white_rest (position t).1))
+    omega (arith, number_after_position-le (number_after_spec c s.0) (position t).0, specification_number mode c u, IsRest-le (position_rest t), IsRest-le
+        (behind_white_rest (position t).1))

@@ -6,7 +6,9 @@ use Rattle.std.specs.Char.{is_ascii_digit}
 use Rattle.std.proofs.lemmas.Bool.{cond_both, cond-true, cond-false, and_left, and_right, or_from, or_parts, not-true, false≢true, eqb-true}
 use Rattle.rustc_parse_format.specs.Characters.{Text, is_id_start, word, behind_word, digits, behind_digits, begins_with, first_passes}
 use Rattle.rustc_parse_format.specs.Spelling.{IsPart, fixed, unless, absent, integer, identifier}
-use Rattle.rustc_parse_format.specs.Syntax.{CountText, NumberCount, IndexCount, NameCount, NoCount, name_part, count_part, WidthText, PaddedWidth, ZeroIndexWidth, PlainWidth, width_part, PrecisionText, NoPrecision, StarPrecision, DotPrecision, precision_part, PositionText, Digits, Word, NoPosition, position_part}
+use Rattle.rustc_parse_format.specs.Syntax.{CountText, NumberCount, IndexCount, NameCount, NoCount, name_part, count_part, WidthText, PaddedWidth}
+use Rattle.rustc_parse_format.specs.Syntax.{ZeroIndexWidth, PlainWidth, width_part, PrecisionText, NoPrecision, StarPrecision, DotPrecision, precision_part}
+use Rattle.rustc_parse_format.specs.Syntax.{PositionText, Digits, Word, NoPosition, position_part}
 use Rattle.rustc_parse_format.specs.Counts.{behind_number, behind_name, count, counted, behind_zero, width, behind_dot, precision}
 use Rattle.rustc_parse_format.specs.Placeholder.{position}
 use Rattle.rustc_parse_format.proofs.PartLaws.{Finds, IsPart-moved, unless-there, absent-same, absent-here, fixed-there, letter-there, row-two, two-split}
@@ -164,7 +166,8 @@ width-finds = record { sound = width-sound; complete = width-complete }
 
 -- precisions
 dotted : (t : Text) → begins_with (code "*") t ≡ false → IsPart (codes "." ++ t) (precision_part (DotPrecision (count t).0)) (count t).1
-dotted t e = row-two (codes "." ++ t) t (unless (codes ".") (begins_with (code "*"))) (count_part (count t).0) (count t).1 (unless-there (begins_with (code "*")) (codes ".") t e) (count-sound t)
+dotted t e = row-two (codes "." ++ t) t (unless (codes ".") (begins_with (code "*"))) (count_part (count t).0) (count t).1
+    (unless-there (begins_with (code "*")) (codes ".") t e) (count-sound t)
 
 dot-sound : (t : Text) → IsPart (codes "." ++ t) (precision_part (behind_dot t).0) (behind_dot t).1
 dot-sound [] = dotted [] refl

@@ -2,7 +2,8 @@
 use Rattle.std.proofs.Common.{◌≡◌, ◌≤◌, ◌<◌, ◌⊎◌, inl, inr, ◌++◌, ℕ, Bool, true, false, not, cond, [], ◌∷◌, refl, sym, ◌∙◌, ap, arith}
 use Rattle.std.specs.Prelude.{◌&&◌, ◌==◌, nat_le}
 use Rattle.std.specs.Char.{is_ascii_digit, is_ascii_alphabetic}
-use Rattle.std.proofs.lemmas.Bool.{cond-true, cond-false, and_parts, and_from, not-true, not_from_false, false≢true, leb-true, eqb-true, false_from_ne_true, or_cases}
+use Rattle.std.proofs.lemmas.Bool.{cond-true, cond-false, and_parts, and_from, not-true, not_from_false, false≢true, leb-true, eqb-true, false_from_ne_true}
+use Rattle.std.proofs.lemmas.Bool.{or_cases}
 use Rattle.unicode_ident.proofs.IdentLemmas.{is_xid_start-ascii}
 use Rattle.unicode_ident.specs.Ident.{is_xid_start}
 use Rattle.rustc_parse_format.specs.Characters.{Text, is_id_start, is_id_continue, front, behind, word, behind_word, digits, behind_digits, first_passes}
@@ -22,7 +23,8 @@ run-finds p = record {
   sound = λ t. record { whole = front-behind p t; formed = list_all-front p t; ends = not_from_false _ (first_passes-behind p t) };
   complete = λ t u r h.
       (let ends : first_passes p r ≡ false = not-true _ h.ends in
-      ap (λ s. (front p s, behind p s)) h.whole ∙ (ap (λ s. (s, behind p (u ++ r))) (front-append p u r h.formed ends) ∙ ap (λ s. (u, s)) (behind-append p u r h.formed ends)));
+      ap (λ s. (front p s, behind p s)) h.whole ∙ (ap (λ s. (s, behind p (u ++ r))) (front-append p u r h.formed ends)
+          ∙ ap (λ s. (u, s)) (behind-append p u r h.formed ends)));
 }
 
 -- a run at the front that is not empty
@@ -111,8 +113,10 @@ optional-sound : (t : Text) → IsPart t (optional_identifier (word t)) (behind_
 unfolding word behind_word
 optional-sound [] = record { whole = refl; formed = refl; ends = refl }
 optional-sound (c ∷ t) =
-    elim (is_id_start c) as (λ b. is_id_start c ≡ b → IsPart (c ∷ t) (optional_identifier (cond b (c ∷ front is_id_continue t) [])) (cond b (behind is_id_continue t) (c ∷ t))) [
-      | true ↦ λ i. record { whole = ap (λ u. c ∷ u) (front-behind is_id_continue t); formed = and_from _ _ i (list_all-front is_id_continue t); ends = not_from_false _ (first_passes-behind is_id_continue t) }
+    elim (is_id_start c) as (λ b. is_id_start c ≡ b → IsPart (c ∷ t) (optional_identifier (cond b (c ∷ front is_id_continue t) []))
+        (cond b (behind is_id_continue t) (c ∷ t))) [
+      | true ↦ λ i. record { whole = ap (λ u. c ∷ u) (front-behind is_id_continue t); formed = and_from _ _ i (list_all-front is_id_continue t);
+          ends = not_from_false _ (first_passes-behind is_id_continue t) }
       | false ↦ λ i. record { whole = refl; formed = refl; ends = not_from_false _ i }
     ] refl
 

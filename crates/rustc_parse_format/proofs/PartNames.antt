@@ -24,7 +24,8 @@ front_there (c ∷ t) p e = by_first (or_cases _ _ e) (front_there t (λ u r. p 
     further : SomeFront t (λ u r. p (c ∷ u) r) → SomeFront (c ∷ t) p
     further s = record { front = c ∷ s.front; rest = s.rest; whole = ap (λ u. c ∷ u) s.whole; passes = s.passes }
 
-    by_first : (p [] (c ∷ t) ≡ true) ⊎ (some_front t (λ u r. p (c ∷ u) r) ≡ true) → (some_front t (λ u r. p (c ∷ u) r) ≡ true → SomeFront t (λ u r. p (c ∷ u) r)) →
+    by_first : (p [] (c ∷ t) ≡ true) ⊎ (some_front t (λ u r. p (c ∷ u) r) ≡ true) →
+        (some_front t (λ u r. p (c ∷ u) r) ≡ true → SomeFront t (λ u r. p (c ∷ u) r)) →
         SomeFront (c ∷ t) p
     by_first (inl f) later = record { front = []; rest = c ∷ t; whole = refl; passes = f }
     by_first (inr f) later = further (later f)
@@ -64,7 +65,8 @@ read_name [] e = absurd (false≢true e)
 read_name (c ∷ t) e =
     let both = and_parts _ _ e in
     let w = identifier-sound c t both.0 in
-    ap (begins_with_part name_part) w.whole ∙ there_front (word (c ∷ t)) (behind_word (c ∷ t)) (λ u r. (name_part u).is_formed && (name_part u).may_precede r) (and_from _ _ w.formed both.1)
+    ap (begins_with_part name_part) w.whole ∙ there_front (word (c ∷ t)) (behind_word (c ∷ t)) (λ u r. (name_part u).is_formed && (name_part u).may_precede r)
+        (and_from _ _ w.formed both.1)
 
 begins_with_part-name : (t : Text) → begins_with_part name_part t ≡ (first_passes is_id_start t && begins_with (code "$") (behind_word t))
 begins_with_part-name t = same_test _ _ (name_read t) (read_name t)

@@ -5,11 +5,16 @@ use Rattle.std.specs.Prelude.{◌==◌, ◌||◌, not}
 use Rattle.std.proofs.lemmas.Bool.{cond_both, cond-true, cond-false, or_from, or_parts, or_cases, or_left, or_right, not-true, false≢true, eqb-true}
 use Rattle.rustc_parse_format.specs.Characters.{Text, is_align, is_no_brace, word, behind_word, behind_first, begins_with, first_passes}
 use Rattle.rustc_parse_format.specs.Spelling.{IsPart, fixed, absent, run, optional_identifier}
-use Rattle.rustc_parse_format.specs.Types.{Mode, Format, InlineAsm, Diagnostic, Alignment, Left, Right, Center, Unknown, Sign, Plus, Minus, DebugHex, Lower, Upper}
-use Rattle.rustc_parse_format.specs.Syntax.{WidthText, width_part, PrecisionText, precision_part, fill_part, align_part, is_sign, sign_part, alternate_part, is_type_character, TypeText, DebugHexType, CharacterType, WordType, type_part, FormatText, format_part, SpecText, Default, Formatting, Modifier, DiagnosticText, spec_part}
+use Rattle.rustc_parse_format.specs.Types.{Mode, Format, InlineAsm, Diagnostic, Alignment, Left, Right, Center, Unknown, Sign, Plus, Minus, DebugHex, Lower}
+use Rattle.rustc_parse_format.specs.Types.{Upper}
+use Rattle.rustc_parse_format.specs.Syntax.{WidthText, width_part, PrecisionText, precision_part, fill_part, align_part, is_sign, sign_part, alternate_part}
+use Rattle.rustc_parse_format.specs.Syntax.{is_type_character, TypeText, DebugHexType, CharacterType, WordType, type_part, FormatText, format_part, SpecText}
+use Rattle.rustc_parse_format.specs.Syntax.{Default, Formatting, Modifier, DiagnosticText, spec_part}
 use Rattle.rustc_parse_format.specs.Counts.{width, precision}
-use Rattle.rustc_parse_format.specs.Specification.{fill, align, sign, alternate, behind_hex, type, align_at, sign_at, alternate_at, width_at, precision_at, type_at, format_text, behind_colon, specification}
-use Rattle.rustc_parse_format.proofs.PartLaws.{Finds, IsPart-moved, absent-same, absent-here, fixed-there, letter-there, row-two, two-split, IsRow, then, last, opened, only}
+use Rattle.rustc_parse_format.specs.Specification.{fill, align, sign, alternate, behind_hex, type, align_at, sign_at, alternate_at, width_at, precision_at}
+use Rattle.rustc_parse_format.specs.Specification.{type_at, format_text, behind_colon, specification}
+use Rattle.rustc_parse_format.proofs.PartLaws.{Finds, IsPart-moved, absent-same, absent-here, fixed-there, letter-there, row-two, two-split, IsRow, then, last}
+use Rattle.rustc_parse_format.proofs.PartLaws.{opened, only}
 use Rattle.rustc_parse_format.proofs.PartFronts.{run-finds, optional_identifier-finds}
 use Rattle.rustc_parse_format.proofs.PartCounts.{width-finds, precision-finds}
 
@@ -183,12 +188,14 @@ same_with f i a b g h n m w x c d y z r s e1 e2 e3 e4 e5 e6 e7 e8 = cc
 same_parts : (x : FormatText × Text) (p : FormatText) (r : Text) → x.0.fill ≡ p.fill → x.0.align ≡ p.align → x.0.sign ≡ p.sign → x.0.alternate ≡ p.alternate
     → x.0.width ≡ p.width → x.0.precision ≡ p.precision → x.0.type ≡ p.type → x.1 ≡ r → x ≡ (p, r)
 unfolding with_parts
-same_parts x p r = same_with x.0.fill p.fill x.0.align p.align x.0.sign p.sign x.0.alternate p.alternate x.0.width p.width x.0.precision p.precision x.0.type p.type x.1 r
+same_parts x p r = same_with x.0.fill p.fill x.0.align p.align x.0.sign p.sign x.0.alternate p.alternate x.0.width p.width x.0.precision p.precision x.0.type
+    p.type x.1 r
 
 format-complete : (t : Text) (p : FormatText) (r : Text) → IsPart t (format_part p) r → format_text t ≡ (p, r)
 unfolding format_text
 format-complete t p r h =
-    let whole : IsRow t (fill_part p.fill ∷ align_part p.align ∷ sign_part p.sign ∷ alternate_part p.alternate ∷ width_part p.width ∷ precision_part p.precision ∷ type_part p.type ∷ []) r = record { part = h } in
+    let whole : IsRow t (fill_part p.fill ∷ align_part p.align ∷ sign_part p.sign ∷ alternate_part p.alternate ∷ width_part p.width ∷ precision_part
+        p.precision ∷ type_part p.type ∷ []) r = record { part = h } in
     let f = opened whole in
     let a = opened f.others in
     let g = opened a.others in

@@ -21,11 +21,13 @@ ending mode t = behind_white (cut mode t).rest
 
 pub placeholder-piece : (mode : Mode) (c : ℕ) (o t : Text) → (placeholder mode c o t).piece ≡ Some (NextArgument (argument c (cut mode t)))
 unfolding placeholder
-placeholder-piece mode c o t = cond_both {A = Call} (begins_with 125 (ending mode t)) _ _ (λ k. k.piece ≡ Some (NextArgument (argument c (cut mode t)))) (λ e. refl) (λ e. refl)
+placeholder-piece mode c o t = cond_both {A = Call} (begins_with 125 (ending mode t)) _ _ (λ k. k.piece ≡ Some (NextArgument (argument c (cut mode t))))
+    (λ e. refl) (λ e. refl)
 
 pub placeholder-next : (mode : Mode) (c : ℕ) (o t : Text) → (placeholder mode c o t).next ≡ number_after_field c (cut mode t).field
 unfolding placeholder
-placeholder-next mode c o t = cond_both {A = Call} (begins_with 125 (ending mode t)) _ _ (λ k. k.next ≡ number_after_field c (cut mode t).field) (λ e. refl) (λ e. refl)
+placeholder-next mode c o t = cond_both {A = Call} (begins_with 125 (ending mode t)) _ _ (λ k. k.next ≡ number_after_field c (cut mode t).field) (λ e. refl)
+    (λ e. refl)
 
 same_rest : (b : Bool) (x y : Call) → (cond b x y).rest ≡ cond b x.rest y.rest
 same_rest true x y = refl
@@ -35,7 +37,8 @@ pub placeholder-rest : (mode : Mode) (c : ℕ) (o t : Text) → (placeholder mod
 unfolding placeholder
 placeholder-rest mode c o t = same_rest (begins_with 125 (ending mode t)) _ _
 
-same_faults : (b : Bool) (x y : Call) (fs : List (Fault Span)) (f : Fault Span) → x.faults ≡ fs → y.faults ≡ fs ++ f ∷ [] → (cond b x y).faults ≡ fs ++ (if b then [] else f ∷ [])
+same_faults : (b : Bool) (x y : Call) (fs : List (Fault Span)) (f : Fault Span) → x.faults ≡ fs → y.faults ≡ fs ++ f ∷ [] → (cond b x y).faults
+    ≡ fs ++ (if b then [] else f ∷ [])
 same_faults true x y fs f e h = e ∙ sym (append-nil fs)
 same_faults false x y fs f e h = h
 
@@ -52,13 +55,15 @@ brace_fill-map : {A B : Type 0} (g : A → B) (c : Option ℕ) (s : Option A) �
 brace_fill-map g None s = refl
 brace_fill-map g (Some c) s = map-if g (c == 125) s
 
-no_brace-map : {A B : Type 0} (g : A → B) (s : Option A) (found : Option ℕ) (a o : A) → map_fault g (no_brace s found a o) ≡ no_brace (option_map g s) found (g a) (g o)
+no_brace-map : {A B : Type 0} (g : A → B) (s : Option A) (found : Option ℕ) (a o : A) → map_fault g (no_brace s found a o)
+    ≡ no_brace (option_map g s) found (g a) (g o)
 no_brace-map g None found a o = refl
 no_brace-map g (Some s) found a o = refl
 
 -- the missing brace put through a world
 pub unclosed_fault_in : (w : World) (o : Text) (f : Spec Span) (r : Text) (seen : Spec Place) → seen ≡ map_spec (place_of w) f →
-    map_fault (place_of w) (unclosed_fault o f r) ≡ no_brace (brace_fill seen.fill seen.fill_span) (first r) (place_of w (up_to r r)) (place_of w (over_first o))
+    map_fault (place_of w) (unclosed_fault o f r) ≡ no_brace (brace_fill seen.fill seen.fill_span) (first r) (place_of w (up_to r r))
+        (place_of w (over_first o))
 unclosed_fault_in w o f r seen e =
     rw e (no_brace-map (place_of w) (brace_fill f.fill f.fill_span) (first r) (up_to r r) (over_first o) ∙
     ap (λ s. no_brace s (first r) (place_of w (up_to r r)) (place_of w (over_first o))) (brace_fill-map (place_of w) f.fill f.fill_span))
@@ -85,7 +90,9 @@ placeholder_read s mode o t fill opening e =
     let cs = cut_faults (cut mode t) in
     rw (e, placeholder-rest mode s.next o t, placeholder-next mode s.next o t, placeholder-faults mode s.next o t)
     (ap (λ (fs : List (Fault Place)). record s { rest = behind_brace (ending mode t); next = number_after_field s.next (cut mode t).field; faults = fs })
-    (append_assoc s.faults (faults_in s.world cs) _ ∙ ap (λ fs. s.faults ++ fs) (sym (map-append (map_fault (place_of s.world)) cs _ ∙ ap (λ fs. faults_in s.world cs ++ fs) (map-else (map_fault (place_of s.world)) (begins_with 125 (ending mode t)) m)))))
+    (append_assoc s.faults (faults_in s.world cs) _ ∙ ap (λ fs. s.faults ++ fs)
+        (sym (map-append (map_fault (place_of s.world)) cs _ ∙ ap (λ fs. faults_in s.world cs ++ fs)
+        (map-else (map_fault (place_of s.world)) (begins_with 125 (ending mode t)) m)))))
 
 pub ruleset placeholder_parts = (placeholder-piece, placeholder-next, placeholder-rest, placeholder-faults)
 

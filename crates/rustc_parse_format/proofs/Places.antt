@@ -1,5 +1,6 @@
 -- The places of the characters of a text that is no source literal, from the bytes of what is left of it.
-use Rattle.std.proofs.Common.{◌≡◌, ◌++◌, ◌+◌, ◌-◌, List, ℕ, suc, Bool, [], ◌∷◌, length, chars, IsUtf8, take, drop, get_or, refl, ap, sym, subst, ◌∙◌, arith, length-append}
+use Rattle.std.proofs.Common.{◌≡◌, ◌++◌, ◌+◌, ◌-◌, List, ℕ, suc, Bool, [], ◌∷◌, length, chars, IsUtf8, take, drop, get_or, refl, ap, sym, subst, ◌∙◌, arith}
+use Rattle.std.proofs.Common.{length-append}
 use Rattle.std.specs.Prelude.{encode_utf8}
 use Rattle.std.specs.Char.{len_utf8}
 use Rattle.std.proofs.lemmas.Str.{IsUtf8-from_is_utf8, length-encode, encodes-chars, IsUtf8-take, IsCharBoundary-from_drop, chars-append, chars-nil}
@@ -12,7 +13,8 @@ use Rattle.rustc_parse_format.specs.Bytes.{IsLeft}
 
 width_encodes : (t : Text) → length (encodes t) ≡ byte_length t
 width_encodes [] = refl
-width_encodes (c ∷ t) = length-append (encode_utf8 c) (encodes t) ∙ (ap (λ k. k + length (encodes t)) (length-encode c) ∙ (ap (λ k. len_utf8 c + k) (width_encodes t) ∙ sym (sum_by-cons len_utf8 c t)))
+width_encodes (c ∷ t) = length-append (encode_utf8 c) (encodes t) ∙ (ap (λ k. k + length (encodes t)) (length-encode c)
+    ∙ (ap (λ k. len_utf8 c + k) (width_encodes t) ∙ sym (sum_by-cons len_utf8 c t)))
 
 pub width_chars : (s : List ℕ) → IsUtf8 s → byte_length (chars s) ≡ length s
 width_chars s u = sym (width_encodes (chars s)) ∙ ap length (encodes-chars s u)
@@ -21,16 +23,19 @@ length-plain_places : (q : ℕ) (t : Text) → length (plain_places q t) ≡ len
 length-plain_places q [] = refl
 length-plain_places q (c ∷ t) = ap suc (length-plain_places (q + len_utf8 c) t)
 
-get_plain : (q : ℕ) (pre t : Text) (c : ℕ) (d : Place) → get_or (plain_places q (pre ++ c ∷ t)) (length pre) d ≡ (q + byte_length pre, (q + byte_length pre) + len_utf8 c)
+get_plain : (q : ℕ) (pre t : Text) (c : ℕ) (d : Place) → get_or (plain_places q (pre ++ c ∷ t)) (length pre) d
+    ≡ (q + byte_length pre, (q + byte_length pre) + len_utf8 c)
 get_plain q [] t c d = let e : q + 0 ≡ q = omega arith in rw e refl
 get_plain q (b ∷ pre) t c d =
     let e : (q + len_utf8 b) + byte_length pre ≡ q + byte_length (b ∷ pre) = omega (arith, sum_by-cons len_utf8 b pre) in
     subst (λ k. get_or (plain_places (q + len_utf8 b) (pre ++ c ∷ t)) (length pre) d ≡ (k, k + len_utf8 c)) e (get_plain (q + len_utf8 b) pre t c d)
 
-pub place_inside : (b : Bool) (q e : ℕ) (pre t : Text) (c : ℕ) → place_at (plain_world b q (pre ++ c ∷ t) e) (length (c ∷ t)) ≡ (q + byte_length pre, (q + byte_length pre) + len_utf8 c)
+pub place_inside : (b : Bool) (q e : ℕ) (pre t : Text) (c : ℕ) → place_at (plain_world b q (pre ++ c ∷ t) e) (length (c ∷ t))
+    ≡ (q + byte_length pre, (q + byte_length pre) + len_utf8 c)
 unfolding place_at
 place_inside b q e pre t c =
-    let n : length (plain_places q (pre ++ c ∷ t)) - length (c ∷ t) ≡ length pre = omega (arith, length-plain_places q (pre ++ c ∷ t), length-append pre (c ∷ t)) in
+    let n : length (plain_places q (pre ++ c ∷ t)) - length (c ∷ t) ≡ length pre = omega
+        (arith, length-plain_places q (pre ++ c ∷ t), length-append pre (c ∷ t)) in
     ap (λ k. get_or (plain_places q (pre ++ c ∷ t)) k (e, e)) n ∙ get_plain q pre t c (e, e)
 
 get_past : {A : Type 0} (l : List A) (d : A) → get_or l (length l) d ≡ d
@@ -74,7 +79,8 @@ place_left b q e input rest l c t h =
     rw (whole, h, ← k.bytes) (place_inside b q e k.pre t c)
 
 -- what is after the first character of a text starts where that character ends
-pub behind_width : (rest behind : List ℕ) (c : ℕ) (t : Text) → IsUtf8 rest → IsUtf8 behind → chars rest ≡ c ∷ t → chars behind ≡ behind_first (chars rest) → length rest ≡ len_utf8 c + length behind
+pub behind_width : (rest behind : List ℕ) (c : ℕ) (t : Text) → IsUtf8 rest → IsUtf8 behind → chars rest ≡ c ∷ t → chars behind ≡ behind_first (chars rest) →
+    length rest ≡ len_utf8 c + length behind
 behind_width rest behind c t u v h e =
     let b : chars behind ≡ t = e ∙ ap behind_first h in
     sym (width_chars rest u) ∙ (ap byte_length h ∙ (sum_by-cons len_utf8 c t ∙ ap (λ k. len_utf8 c + k) (ap byte_length (sym b) ∙ width_chars behind v)))
@@ -105,7 +111,8 @@ pub start_left : (b : Bool) (q e : ℕ) (input rest : List ℕ) → IsLeft input
     (place_at (plain_world b q (chars input) e) (length (chars rest))).0 ≡ q + (length input - length rest)
 start_left b q e input rest l h = ap (λ (p : Place). p.0) (place_begun b q e input rest l (begun rest (IsUtf8-from_is_utf8 rest l.valid_rest) h))
 
-pub stop_left : (b : Bool) (q e : ℕ) (input rest behind : List ℕ) → IsLeft input rest → IsUtf8 behind → (length rest ≡ 0 → ⊥) → chars behind ≡ behind_first (chars rest) →
+pub stop_left : (b : Bool) (q e : ℕ) (input rest behind : List ℕ) → IsLeft input rest → IsUtf8 behind → (length rest ≡ 0 → ⊥) → chars behind
+    ≡ behind_first (chars rest) →
     (place_at (plain_world b q (chars input) e) (length (chars rest))).1 ≡ q + (length input - length behind)
 stop_left b q e input rest behind l v h k =
     let u = IsUtf8-from_is_utf8 rest l.valid_rest in

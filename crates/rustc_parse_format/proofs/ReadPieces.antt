@@ -45,7 +45,8 @@ state_more s new x e f =
 
 pub pieces_end : (s : State) (w : World) (done all : List (Piece Place)) → None ≡ option_map (piece_in s.world) (next_call s).piece →
     done ++ pieces_in w (pieces_of (calls s)) ≡ all → done ≡ all
-pieces_end s w done all e d = sym (append-nil done) ∙ (ap (λ ps. done ++ pieces_in w ps) (sym (pieces_of-none s (none_given s.world (next_call s).piece e))) ∙ d)
+pieces_end s w done all e d = sym (append-nil done) ∙ (ap (λ ps. done ++ pieces_in w ps) (sym (pieces_of-none s (none_given s.world (next_call s).piece e)))
+    ∙ d)
 
 pub state_end : (s new last : State) → None ≡ option_map (piece_in s.world) (next_call s).piece → new ≡ after s (next_call s) →
     after_all s (calls s) ≡ last → new ≡ last

@@ -6,8 +6,10 @@ use Rattle.std.specs.List.{AllByRecursion, list_all}
 use Rattle.std.proofs.lemmas.Bool.{and_parts, not-true, false≢true}
 use Rattle.rustc_parse_format.specs.Characters.{Text}
 use Rattle.rustc_parse_format.specs.Marks.{Span}
-use Rattle.rustc_parse_format.specs.Types.{Mode, Format, InlineAsm, Diagnostic, Unknown, Position, Implicit, Index, Named, Star, Piece, Lit, NextArgument, default_spec}
-use Rattle.rustc_parse_format.specs.Syntax.{Word, NoPosition, NoCount, PlainWidth, StarPrecision, WordType, FormatText, Default, Formatting, FieldText, PieceText, RunText, DoubledText, PlaceholderText, piece_part}
+use Rattle.rustc_parse_format.specs.Types.{Mode, Format, InlineAsm, Diagnostic, Unknown, Position, Implicit, Index, Named, Star, Piece, Lit, NextArgument}
+use Rattle.rustc_parse_format.specs.Types.{default_spec}
+use Rattle.rustc_parse_format.specs.Syntax.{Word, NoPosition, NoCount, PlainWidth, StarPrecision, WordType, FormatText, Default, Formatting, FieldText}
+use Rattle.rustc_parse_format.specs.Syntax.{PieceText, RunText, DoubledText, PlaceholderText, piece_part}
 use Rattle.rustc_parse_format.specs.Spelling.{IsPart}
 use Rattle.rustc_parse_format.specs.Grammar.{Reads, IsInGrammar, spelled, piece_values}
 use Rattle.rustc_parse_format.specs.Faults.{Fault}
@@ -89,7 +91,8 @@ no_positions-are_not_in = are_not_in Format no_positions refl
 
 -- format_spec := [[fill]align][sign]['#']['0'][width]['.' precision]type, its flags
 abbrev flags : List Text
-flags = codes "{:}" ∷ codes "{:>}" ∷ codes "{:*<}" ∷ codes "{:}^}" ∷ codes "{:<<}" ∷ codes "{:+}" ∷ codes "{:-#}" ∷ codes "{:#}" ∷ codes "{:0}" ∷ codes "{:{<}" ∷ []
+flags = codes "{:}" ∷ codes "{:>}" ∷ codes "{:*<}" ∷ codes "{:}^}" ∷ codes "{:<<}" ∷ codes "{:+}" ∷ codes "{:-#}" ∷ codes "{:#}" ∷ codes "{:0}" ∷ codes "{:{<}"
+    ∷ []
 
 flags-are_in : AreIn Format flags
 unfolding computing
@@ -104,14 +107,16 @@ no_flags-are_not_in = are_not_in Format no_flags refl
 
 -- width := count, precision := count | '*', count := parameter | integer, parameter := argument '$'
 abbrev sizes : List Text
-sizes = codes "{:5}" ∷ codes "{:05}" ∷ codes "{:1$}" ∷ codes "{:0$}" ∷ codes "{:00$}" ∷ codes "{:a$}" ∷ codes "{:0a$}" ∷ codes "{:.3}" ∷ codes "{:.1$}" ∷ codes "{:.a$}" ∷ codes "{:.*}" ∷ codes "{:.}" ∷ codes "{:a$.b$}" ∷ []
+sizes = codes "{:5}" ∷ codes "{:05}" ∷ codes "{:1$}" ∷ codes "{:0$}" ∷ codes "{:00$}" ∷ codes "{:a$}" ∷ codes "{:0a$}" ∷ codes "{:.3}" ∷ codes "{:.1$}" ∷ codes
+    "{:.a$}" ∷ codes "{:.*}" ∷ codes "{:.}" ∷ codes "{:a$.b$}" ∷ []
 
 sizes-are_in : AreIn Format sizes
 unfolding computing
 sizes-are_in = are_in Format sizes refl
 
 abbrev no_sizes : List Text
-no_sizes = codes "{:$}" ∷ codes "{:0$$}" ∷ codes "{:5 5}" ∷ codes "{:a$$}" ∷ codes "{:*}" ∷ codes "{:.**}" ∷ codes "{:..3}" ∷ codes "{:65536}" ∷ codes "{:.65536$}" ∷ codes "{:_$}" ∷ codes "{:._$}" ∷ []
+no_sizes = codes "{:$}" ∷ codes "{:0$$}" ∷ codes "{:5 5}" ∷ codes "{:a$$}" ∷ codes "{:*}" ∷ codes "{:.**}" ∷ codes "{:..3}" ∷ codes "{:65536}" ∷ codes
+    "{:.65536$}" ∷ codes "{:_$}" ∷ codes "{:._$}" ∷ []
 
 no_sizes-are_not_in : AreNotIn Format no_sizes
 unfolding computing
@@ -178,7 +183,8 @@ text_and_placeholder-have_this_reading = (
   codes "{}",
   0,
   record { text = RunText (codes "a"); written = record { whole = refl; formed = refl; ends = refl }; clean = tt; means = refl; numbered = refl },
-  ([], 1, record { text = PlaceholderText plain_field []; written = record { whole = refl; formed = refl; ends = refl }; clean = record { position = tt; spec = tt }; means = refl; numbered = refl }, refl),
+  ([], 1, record { text = PlaceholderText plain_field []; written = record { whole = refl; formed = refl; ends = refl };
+      clean = record { position = tt; spec = tt }; means = refl; numbered = refl }, refl),
 )
 
 doubled_braces-have_this_reading : Reads Format 0 (codes "{{a}}b") (Lit (codes "{a") ∷ Lit (codes "}b") ∷ [])
@@ -186,8 +192,10 @@ unfolding computing
 doubled_braces-have_this_reading = (
   codes "}}b",
   0,
-  record { text = DoubledText (code "{") (codes "a"); written = record { whole = refl; formed = refl; ends = refl }; clean = tt; means = refl; numbered = refl },
-  ([], 0, record { text = DoubledText (code "}") (codes "b"); written = record { whole = refl; formed = refl; ends = refl }; clean = tt; means = refl; numbered = refl }, refl),
+  record { text = DoubledText (code "{") (codes "a"); written = record { whole = refl; formed = refl; ends = refl }; clean = tt; means = refl;
+      numbered = refl },
+  ([], 0, record { text = DoubledText (code "}") (codes "b"); written = record { whole = refl; formed = refl; ends = refl }; clean = tt; means = refl;
+      numbered = refl }, refl),
 )
 
 -- A star takes its number before the position does.
@@ -230,7 +238,8 @@ first_number (Lit l ∷ ps) = 0
 first_number (NextArgument a ∷ ps) = number_in a.position
 
 star-takes_no_later_number : ¬ (Reads Format 0 (codes "{:.*}") star_later)
-star-takes_no_later_number = no_other Format (codes "{:.*}") starred star_later star-has_this_reading (λ e. (let h : ◌≡◌ {A = ℕ} 1 0 = ap first_number e in omega arith))
+star-takes_no_later_number = no_other Format (codes "{:.*}") starred star_later star-has_this_reading
+    (λ e. (let h : ◌≡◌ {A = ℕ} 1 0 = ap first_number e in omega arith))
 
 abbrev one_run : List bare_piece
 one_run = Lit (codes "a{}") ∷ []
@@ -242,7 +251,8 @@ abbrev two_braces : List bare_piece
 two_braces = Lit (codes "{{a") ∷ Lit (codes "}}b") ∷ []
 
 doubled_braces-are_one_brace : ¬ (Reads Format 0 (codes "{{a}}b") two_braces)
-doubled_braces-are_one_brace = no_other Format (codes "{{a}}b") (Lit (codes "{a") ∷ Lit (codes "}b") ∷ []) two_braces doubled_braces-have_this_reading (λ e. cc e)
+doubled_braces-are_one_brace = no_other Format (codes "{{a}}b") (Lit (codes "{a") ∷ Lit (codes "}b") ∷ []) two_braces doubled_braces-have_this_reading
+    (λ e. cc e)
 
 run-is_not_cut : ¬ (IsPart (codes "ab") (piece_part Format (RunText (codes "a"))) (codes "b"))
 run-is_not_cut h = false≢true h.ends
@@ -252,12 +262,14 @@ run-has_a_character h = false≢true h.formed
 
 -- Pieces as written, with what they mean and how they are spelled.
 abbrev written_pieces : List PieceText
-written_pieces = DoubledText (code "{") (codes "a") ∷ PlaceholderText (record plain_field { position = Word (codes "b"); space = codes " " }) [] ∷ RunText (codes "c") ∷ []
+written_pieces = DoubledText (code "{") (codes "a") ∷ PlaceholderText (record plain_field { position = Word (codes "b"); space = codes " " }) [] ∷ RunText
+    (codes "c") ∷ []
 
 pieces-are_spelled : spelled Format written_pieces ≡ codes "{{a{b }c"
 pieces-are_spelled = refl
 
 pieces-have_these_values :
-    piece_values 0 written_pieces ≡ Lit (codes "{a") ∷ NextArgument (record { position = Named (codes "b"); position_span = tt; format = default_spec }) ∷ Lit (codes "c") ∷ []
+    piece_values 0 written_pieces ≡ Lit (codes "{a") ∷ NextArgument (record { position = Named (codes "b"); position_span = tt; format = default_spec }) ∷ Lit
+        (codes "c") ∷ []
 unfolding computing
 pieces-have_these_values = refl

@@ -1,11 +1,13 @@
 -- What a part leaves is a rest of what it was given.
 use Rattle.std.proofs.Common.{◌≡◌, ℕ, ◌≤◌, ◌++◌, ◌==◌, Bool, true, false, cond, [], ◌∷◌, length, length-append, append_assoc, refl, sym, ◌∙◌, ap, arith}
 use Rattle.std.specs.Char.{is_ascii_digit}
-use Rattle.rustc_parse_format.specs.Characters.{Text, is_align, is_no_brace, is_id_start, is_id_continue, behind, word, behind_word, digits, behind_digits, behind_white, behind_first}
+use Rattle.rustc_parse_format.specs.Characters.{Text, is_align, is_no_brace, is_id_start, is_id_continue, behind, word, behind_word, digits, behind_digits}
+use Rattle.rustc_parse_format.specs.Characters.{behind_white, behind_first}
 use Rattle.rustc_parse_format.specs.Types.{Mode, Format, InlineAsm, Diagnostic, DebugHex, Lower, Upper}
 use Rattle.rustc_parse_format.specs.Syntax.{PaddedWidth, PlainWidth}
 use Rattle.rustc_parse_format.specs.Counts.{count, behind_number, behind_name, width, counted, behind_zero, precision, behind_dot}
-use Rattle.rustc_parse_format.specs.Specification.{fill, align, sign, alternate, type, behind_hex, align_at, sign_at, alternate_at, width_at, precision_at, type_at, format_text, specification, behind_colon}
+use Rattle.rustc_parse_format.specs.Specification.{fill, align, sign, alternate, type, behind_hex, align_at, sign_at, alternate_at, width_at, precision_at}
+use Rattle.rustc_parse_format.specs.Specification.{type_at, format_text, specification, behind_colon}
 use Rattle.rustc_parse_format.specs.Placeholder.{position, cut}
 
 -- t ends with r
@@ -40,7 +42,8 @@ behind_rest p (c ∷ t) = rest_text (p c) (behind p t) (c ∷ t) (c ∷ t) (IsRe
 behind_word_rest : (t : Text) → IsRest t (behind_word t)
 unfolding behind_word
 behind_word_rest [] = IsRest-self []
-behind_word_rest (c ∷ t) = rest_text (is_id_start c) (behind is_id_continue t) (c ∷ t) (c ∷ t) (IsRest-cons c (behind_rest is_id_continue t)) (IsRest-self (c ∷ t))
+behind_word_rest (c ∷ t) = rest_text (is_id_start c) (behind is_id_continue t) (c ∷ t) (c ∷ t) (IsRest-cons c (behind_rest is_id_continue t))
+    (IsRest-self (c ∷ t))
 
 behind_digits_rest : (t : Text) → IsRest t (behind_digits t)
 unfolding behind_digits

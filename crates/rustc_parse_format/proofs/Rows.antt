@@ -16,7 +16,8 @@ use Rattle.rustc_parse_format.specs.State.{State, fresh, calls, after_all}
 
 -- each definition that the rows compute
 unfoldable pub computing : Unit {0}
-unfolding unicode_ident word behind_word digits behind_digits behind_white cut argument number_after_field argument_faults cut_faults call placeholder walk written message format_text format_of format_faults world place_at lib.Utf8.encode
+unfolding unicode_ident word behind_word digits behind_digits behind_white cut argument number_after_field argument_faults cut_faults call placeholder walk
+    written message format_text format_of format_faults world place_at lib.Utf8.encode
 computing = tt
 
 -- an input with no snippet
@@ -73,11 +74,13 @@ largest_number-and_one_more : pieces (codes "{65535}{65536}") ≡ bare_at (Index
 unfolding computing
 largest_number-and_one_more = refl
 
-white_space-belongs_to_the_position : pieces (codes "{ }{  }{a\t}") ≡ bare_at (Implicit 0) 2 3 ∷ bare_at (Implicit 1) 5 7 ∷ bare_at (Named (codes "a")) 9 11 ∷ []
+white_space-belongs_to_the_position : pieces (codes "{ }{  }{a\t}") ≡ bare_at (Implicit 0) 2 3 ∷ bare_at (Implicit 1) 5 7 ∷ bare_at
+    (Named (codes "a")) 9 11 ∷ []
 unfolding computing
 white_space-belongs_to_the_position = refl
 
-only_implicit_positions-take_a_number : pieces (codes "{}{7}{a}{}") ≡ bare_at (Implicit 0) 2 2 ∷ bare_at (Index 7) 4 5 ∷ bare_at (Named (codes "a")) 7 8 ∷ bare_at (Implicit 1) 10 10 ∷ []
+only_implicit_positions-take_a_number : pieces (codes "{}{7}{a}{}") ≡ bare_at (Implicit 0) 2 2 ∷ bare_at (Index 7) 4 5 ∷ bare_at
+    (Named (codes "a")) 7 8 ∷ bare_at (Implicit 1) 10 10 ∷ []
 unfolding computing
 only_implicit_positions-take_a_number = refl
 

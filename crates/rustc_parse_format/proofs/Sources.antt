@@ -1,5 +1,6 @@
 -- The test of a source literal decides what one is.
-use Rattle.std.proofs.Common.{◌≡◌, ◌++◌, ◌-◌, ◌&&◌, ℕ, Bool, true, false, [], ◌∷◌, length, take, Option, Some, None, IsTrue, refl, sym, ap, ◌∙◌, arith, length-append, ◌↔◌}
+use Rattle.std.proofs.Common.{◌≡◌, ◌++◌, ◌-◌, ◌&&◌, ℕ, Bool, true, false, [], ◌∷◌, length, take, Option, Some, None, IsTrue, refl, sym, ap, ◌∙◌, arith}
+use Rattle.std.proofs.Common.{length-append, ◌↔◌}
 use Rattle.std.specs.Prelude.{bytes_eq}
 use Rattle.std.proofs.lemmas.Slice.Eq.{bytes_eq-Decides}
 use Rattle.std.proofs.Math.Seq.{take-append_seam}
@@ -50,13 +51,15 @@ of_literal None snippet t (content, us, e, h, v) =
     (ap (λ s. spells s t) b ∙ spells-from content t us h v)
 of_literal (Some n) snippet t e = test (raw_frame n t) snippet (sym e)
 
-pub source-found : (input : Text) (style : Option ℕ) (snippet : Text) (b : Bool) → IsTrue (is_source input style (Some snippet) b) → IsSource input style snippet b
+pub source-found : (input : Text) (style : Option ℕ) (snippet : Text) (b : Bool) → IsTrue (is_source input style (Some snippet) b) →
+    IsSource input style snippet b
 unfolding is_source
 source-found input style snippet b h =
     let k = both (bytes_eq (unappended b input ++ newline b) input) (is_literal_of style snippet (unappended b input)) h in
     (unappended b input, literal_of style snippet (unappended b input) k.1, same (unappended b input ++ newline b) input k.0)
 
-pub found-source : (input : Text) (style : Option ℕ) (snippet : Text) (b : Bool) → IsSource input style snippet b → IsTrue (is_source input style (Some snippet) b)
+pub found-source : (input : Text) (style : Option ℕ) (snippet : Text) (b : Bool) → IsSource input style snippet b →
+    IsTrue (is_source input style (Some snippet) b)
 unfolding is_source
 found-source input style snippet b (t, l, e) =
     let u : unappended b input ≡ t = ap (unappended b) (sym e) ∙ unappended-append b t in
@@ -65,7 +68,8 @@ found-source input style snippet b (t, l, e) =
     (rw u (of_literal style snippet t l))
 
 -- whether or not a snippet was given
-pub has_source : (input : Text) (style : Option ℕ) (snippet : Option Text) (b : Bool) → IsTrue (is_source input style snippet b) ↔ HasSource input style snippet b
+pub has_source : (input : Text) (style : Option ℕ) (snippet : Option Text) (b : Bool) →
+    IsTrue (is_source input style snippet b) ↔ HasSource input style snippet b
 unfolding is_source
 has_source input style None b = ((λ h. cc h), (λ h. absurd h))
 has_source input style (Some snippet) b = (source-found input style snippet b, found-source input style snippet b)

@@ -38,10 +38,12 @@ hex_text h c (d ∷ t) w q k e = at (d == 63) e
     at false e = ap chars e ∙ k
 
 pub lower_text : (t w : Text) → begins_with 120 t ≡ true → w ≡ (if begins_with 63 (behind_first t) then codes "?" else codes "x") → chars w ≡ type_of (type t).0
-lower_text t w h e = rw (type_lower t h) (hex_text Lower 120 (behind_first t) w (chars-IsAscii (codes "?") (search rules)) (chars-IsAscii (codes "x") (search rules)) e)
+lower_text t w h e = rw (type_lower t h) (hex_text Lower 120 (behind_first t) w (chars-IsAscii (codes "?") (search rules))
+    (chars-IsAscii (codes "x") (search rules)) e)
 
 pub upper_text : (t w : Text) → begins_with 88 t ≡ true → w ≡ (if begins_with 63 (behind_first t) then codes "?" else codes "X") → chars w ≡ type_of (type t).0
-upper_text t w h e = rw (type_upper t h) (hex_text Upper 88 (behind_first t) w (chars-IsAscii (codes "?") (search rules)) (chars-IsAscii (codes "X") (search rules)) e)
+upper_text t w h e = rw (type_upper t h) (hex_text Upper 88 (behind_first t) w (chars-IsAscii (codes "?") (search rules))
+    (chars-IsAscii (codes "X") (search rules)) e)
 
 pub question_text : (t w : Text) → begins_with 63 t ≡ true → w ≡ codes "?" → chars w ≡ type_of (type t).0
 question_text t w h e = rw (type_question t h) (ap chars e ∙ chars-IsAscii (codes "?") (search rules))

@@ -1,7 +1,8 @@
 -- Worked rows of specifications, each by computing: what each part means, where it stands, and which number it takes.
 use Rattle.std.proofs.Common.{◌≡◌, ℕ, List, [], ◌∷◌, refl, Some, None, codes, true, false}
 use Rattle.rustc_parse_format.specs.Characters.{Text}
-use Rattle.rustc_parse_format.specs.Types.{Mode, Format, InlineAsm, Diagnostic, Position, Implicit, Index, Named, Is, Name, Param, Star, Left, Right, Plus, Lower, Spec, Piece, Lit, NextArgument, default_spec}
+use Rattle.rustc_parse_format.specs.Types.{Mode, Format, InlineAsm, Diagnostic, Position, Implicit, Index, Named, Is, Name, Param, Star, Left, Right, Plus}
+use Rattle.rustc_parse_format.specs.Types.{Lower, Spec, Piece, Lit, NextArgument, default_spec}
 use Rattle.rustc_parse_format.specs.Faults.{UnmatchedBrace, MissingBrace, FillBrace, Underscore, TooLarge}
 use Rattle.rustc_parse_format.specs.Call.{walk, pieces_of}
 use Rattle.rustc_parse_format.specs.World.{Place, world, pieces_in}
@@ -15,7 +16,8 @@ at p from to s = NextArgument (record { position = p; position_span = (from, to)
 abbrev pieces_by : Mode → Text → List (Piece Place)
 pieces_by mode t = pieces_in (behind_quote t) (pieces_of (walk mode 0 t))
 
-closing_brace-is_a_fill : pieces (codes "{:}>5}") ≡ at (Implicit 0) 2 2 (record default_spec { fill = Some 125; fill_span = Some (3, 4); align = Right; width = Is 5; width_span = Some (5, 6) }) ∷ []
+closing_brace-is_a_fill : pieces (codes "{:}>5}") ≡ at (Implicit 0) 2 2
+    (record default_spec { fill = Some 125; fill_span = Some (3, 4); align = Right; width = Is 5; width_span = Some (5, 6) }) ∷ []
 unfolding computing
 closing_brace-is_a_fill = refl
 
@@ -50,7 +52,8 @@ underscore_width-is_told_once : faults (codes "{:_$}") ≡ Underscore (3, 4) ∷
 unfolding computing
 underscore_width-is_told_once = refl
 
-underscore_width-is_a_name : pieces (codes "{:_$}") ≡ at (Implicit 0) 2 2 (record default_spec { width = Name (codes "_") (3, 4); width_span = Some (3, 5) }) ∷ []
+underscore_width-is_a_name : pieces (codes "{:_$}") ≡ at (Implicit 0) 2 2
+    (record default_spec { width = Name (codes "_") (3, 4); width_span = Some (3, 5) }) ∷ []
 unfolding computing
 underscore_width-is_a_name = refl
 
@@ -94,7 +97,8 @@ named_counts-have_the_spans_of_their_names :
 unfolding computing
 named_counts-have_the_spans_of_their_names = refl
 
-fill_word_and_type : pieces (codes "{3:*<abcd}") ≡ at (Index 3) 2 3 (record default_spec { fill = Some 42; fill_span = Some (4, 5); align = Left; ty = codes "abcd"; ty_span = Some (6, 10) }) ∷ []
+fill_word_and_type : pieces (codes "{3:*<abcd}") ≡ at (Index 3) 2 3 (record default_spec { fill = Some 42; fill_span = Some (4, 5); align = Left;
+    ty = codes "abcd"; ty_span = Some (6, 10) }) ∷ []
 unfolding computing
 fill_word_and_type = refl
 
@@ -114,7 +118,8 @@ large_parameter-is_told_with_its_dollar : faults (codes "{:70000$}") ≡ TooLarg
 unfolding computing
 large_parameter-is_told_with_its_dollar = refl
 
-diagnostic_text-begins_at_its_colon : pieces_by Diagnostic (codes "{foo:bar}") ≡ at (Named (codes "foo")) 2 5 (record default_spec { ty = codes "bar"; ty_span = Some (5, 9) }) ∷ []
+diagnostic_text-begins_at_its_colon : pieces_by Diagnostic (codes "{foo:bar}")
+    ≡ at (Named (codes "foo")) 2 5 (record default_spec { ty = codes "bar"; ty_span = Some (5, 9) }) ∷ []
 unfolding computing
 diagnostic_text-begins_at_its_colon = refl
 

@@ -1,8 +1,10 @@
 -- Texts as bytes: after a first character, in front of a rest, and the place of a rest.
-use Rattle.std.proofs.Common.{◌≡◌, ◌++◌, ◌≤◌, ◌+◌, ◌-◌, List, ℕ, Bool, true, false, [], ◌∷◌, length, chars, Some, None, Option, MatchOption, IsUtf8, take, drop, refl, ap, sym, ◌∙◌, arith, length-append, IsCharBoundary}
+use Rattle.std.proofs.Common.{◌≡◌, ◌++◌, ◌≤◌, ◌+◌, ◌-◌, List, ℕ, Bool, true, false, [], ◌∷◌, length, chars, Some, None, Option, MatchOption, IsUtf8, take, drop}
+use Rattle.std.proofs.Common.{refl, ap, sym, ◌∙◌, arith, length-append, IsCharBoundary}
 use Rattle.std.specs.Prelude.{encode_utf8, ◌&&◌, slice_range}
 use Rattle.std.specs.Char.{len_utf8}
-use Rattle.std.proofs.lemmas.Str.{chars_past_char, chars-nil, IsUtf8-from_is_utf8, is_utf8-from_IsUtf8, IsUtf8-past_char, drop_past_char, length-encode, encodes-chars, encodes-append, chars-encodes, scalars-chars, IsCharBoundary-at_seam}
+use Rattle.std.proofs.lemmas.Str.{chars_past_char, chars-nil, IsUtf8-from_is_utf8, is_utf8-from_IsUtf8, IsUtf8-past_char, drop_past_char, length-encode}
+use Rattle.std.proofs.lemmas.Str.{encodes-chars, encodes-append, chars-encodes, scalars-chars, IsCharBoundary-at_seam}
 use Rattle.std.proofs.lemmas.List.{nil_from_length}
 use Rattle.std.proofs.Math.Utf8.{scalars, scalar, encodes}
 use Rattle.std.proofs.Math.Seq.{take-append_seam}

@@ -5,7 +5,8 @@ use Rattle.rustc_parse_format.specs.Characters.{Text}
 use Rattle.rustc_parse_format.specs.Marks.{Span, Start}
 use Rattle.rustc_parse_format.specs.Types.{Format, Right, Named, Is, Piece, Lit, NextArgument, default_spec}
 use Rattle.rustc_parse_format.specs.Spelling.{IsPart}
-use Rattle.rustc_parse_format.specs.Syntax.{Word, NumberCount, PlainWidth, NoPrecision, WordType, FormatText, Formatting, PieceText, DoubledText, PlaceholderText, fill_part, piece_part}
+use Rattle.rustc_parse_format.specs.Syntax.{Word, NumberCount, PlainWidth, NoPrecision, WordType, FormatText, Formatting, PieceText, DoubledText}
+use Rattle.rustc_parse_format.specs.Syntax.{PlaceholderText, fill_part, piece_part}
 use Rattle.rustc_parse_format.specs.Grammar.{Begins, Reads, piece_values}
 use Rattle.rustc_parse_format.specs.Call.{walk, pieces_of, faults_of}
 use Rattle.rustc_parse_format.proofs.Readings.{Reads-unique}
@@ -25,7 +26,8 @@ abbrev braces : PieceText
 braces = DoubledText (code "{") []
 
 abbrev sized : FormatText
-sized = record { fill = None; align = Right; sign = None; alternate = false; width = PlainWidth (NumberCount (codes "5")); precision = NoPrecision; type = WordType [] }
+sized = record { fill = None; align = Right; sign = None; alternate = false; width = PlainWidth (NumberCount (codes "5")); precision = NoPrecision;
+    type = WordType [] }
 
 abbrev placeholder : PieceText
 placeholder = PlaceholderText (record { position = Word (codes "x"); space = []; spec = Formatting sized }) []
@@ -118,7 +120,8 @@ calls-give_marks = refl
 placed : List (Piece Place)
 placed =
     Lit (codes "{")
-    ∷ NextArgument (record { position = Named (codes "x"); position_span = (4, 5); format = record (default_spec {A = Place}) { align = Right; width = Is 5; width_span = Some (7, 8) } })
+    ∷ NextArgument (record { position = Named (codes "x"); position_span = (4, 5);
+        format = record (default_spec {A = Place}) { align = Right; width = Is 5; width_span = Some (7, 8) } })
     ∷ []
 
 world-makes_them_bytes : pieces input ≡ placed

@@ -37,7 +37,8 @@ ended mode c t k ks w e =
     let over : ks ≡ [] = rw none at w.1 in
     (((ap (λ x. x.faults) last), rw over tt), rw none refl)
 
-pub one_more : (k : Call) (ks : List Call) (q : Piece Span) (p : Piece (Unit {0})) (ps : List (Piece (Unit {0}))) → k.piece ≡ Some q → bare q ≡ p → bare_pieces ks ≡ ps →
+pub one_more : (k : Call) (ks : List Call) (q : Piece Span) (p : Piece (Unit {0})) (ps : List (Piece (Unit {0}))) → k.piece ≡ Some q → bare q ≡ p →
+    bare_pieces ks ≡ ps →
     map bare (with_piece k.piece (pieces_of ks)) ≡ p ∷ ps
 one_more k ks q p ps e f g = rw e cc
 

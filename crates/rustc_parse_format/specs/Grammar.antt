@@ -6,7 +6,10 @@ use Rattle.std.specs.Str.Parse.{digits_value}
 use Rattle.rustc_parse_format.specs.Characters.{Text}
 use Rattle.rustc_parse_format.specs.Spelling.{IsPart}
 use Rattle.rustc_parse_format.specs.Types.{Mode, Piece}
-use Rattle.rustc_parse_format.specs.Syntax.{CountText, NumberCount, IndexCount, NameCount, NoCount, WidthText, PaddedWidth, ZeroIndexWidth, PlainWidth, PrecisionText, NoPrecision, StarPrecision, DotPrecision, TypeText, DebugHexType, CharacterType, WordType, FormatText, SpecText, Default, Formatting, Modifier, DiagnosticText, PositionText, Digits, Word, NoPosition, FieldText, PieceText, RunText, DoubledText, PlaceholderText, piece_part}
+use Rattle.rustc_parse_format.specs.Syntax.{CountText, NumberCount, IndexCount, NameCount, NoCount, WidthText, PaddedWidth, ZeroIndexWidth, PlainWidth}
+use Rattle.rustc_parse_format.specs.Syntax.{PrecisionText, NoPrecision, StarPrecision, DotPrecision, TypeText, DebugHexType, CharacterType, WordType}
+use Rattle.rustc_parse_format.specs.Syntax.{FormatText, SpecText, Default, Formatting, Modifier, DiagnosticText, PositionText, Digits, Word, NoPosition}
+use Rattle.rustc_parse_format.specs.Syntax.{FieldText, PieceText, RunText, DoubledText, PlaceholderText, piece_part}
 use Rattle.rustc_parse_format.specs.Values.{piece_value, number_after}
 
 -- What is refused of what is well formed: the word `_`, and an integer that does not fit into 16 bits.

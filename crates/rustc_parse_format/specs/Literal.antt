@@ -3,7 +3,8 @@
 -- literals and raw string literals. It differs in that the text of a raw literal may hold anything, its closing sequence
 -- or a CR too. In an ordinary content a CR stands in continuations alone.
 use Prim.Native.Char.{code}
-use Rattle.std.specs.Prelude.{◌≡◌, ℕ, suc, zero, ◌+◌, ◌++◌, Bool, if◌then◌else◌, List, [], ◌∷◌, length, map, Option, Some, None, IsTrue, replicate, flat_map, codes}
+use Rattle.std.specs.Prelude.{◌≡◌, ℕ, suc, zero, ◌+◌, ◌++◌, Bool, if◌then◌else◌, List, [], ◌∷◌, length, map, Option, Some, None, IsTrue, replicate, flat_map}
+use Rattle.std.specs.Prelude.{codes}
 use Rattle.rustc_parse_format.specs.Characters.{Text, byte_length}
 use Rattle.rustc_parse_format.specs.LiteralUnits.{LiteralUnit, spelling, value, is_unit, may_precede, unit_at}
 

@@ -4,7 +4,9 @@ use Rattle.rustc_parse_format.specs.Characters.{Text, behind_first, number}
 use Rattle.rustc_parse_format.specs.Types.{Count, Is, Name, Param, Star, Implied, Spec, Argument, default_spec}
 use Rattle.rustc_parse_format.specs.Marks.{Span, up_to, through, over_first}
 use Rattle.rustc_parse_format.specs.Placeholder.{Cut}
-use Rattle.rustc_parse_format.specs.Syntax.{CountText, NumberCount, IndexCount, NameCount, NoCount, WidthText, PaddedWidth, ZeroIndexWidth, PlainWidth, width_part, PrecisionText, NoPrecision, StarPrecision, DotPrecision, precision_part, TypeText, DebugHexType, CharacterType, WordType, type_part, FormatText, SpecText, Default, Formatting, Modifier, DiagnosticText}
+use Rattle.rustc_parse_format.specs.Syntax.{CountText, NumberCount, IndexCount, NameCount, NoCount, WidthText, PaddedWidth, ZeroIndexWidth, PlainWidth}
+use Rattle.rustc_parse_format.specs.Syntax.{width_part, PrecisionText, NoPrecision, StarPrecision, DotPrecision, precision_part, TypeText, DebugHexType}
+use Rattle.rustc_parse_format.specs.Syntax.{CharacterType, WordType, type_part, FormatText, SpecText, Default, Formatting, Modifier, DiagnosticText}
 use Rattle.rustc_parse_format.specs.Values.{is_padded, type_of, debug_hex_of, number_after_spec, position_of}
 
 -- the count that stands at t, with r after it; the span of a name ends in front of its `$`

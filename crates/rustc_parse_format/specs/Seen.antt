@@ -21,10 +21,15 @@ use Rattle.rustc_parse_format.specs.declared.types.Count.{Count as DeclaredCount
 use Rattle.rustc_parse_format.specs.declared.types.Count.TheVariants.{CountIs, CountIsName, CountIsParam, CountIsStar, CountImplied}
 use Rattle.rustc_parse_format.specs.declared.types.ParseError.{ParseError}
 use Rattle.rustc_parse_format.specs.declared.types.Suggestion.{Suggestion as DeclaredSuggestion}
-use Rattle.rustc_parse_format.specs.declared.types.Suggestion.TheVariants.{None as NoSuggestion, UsePositional as Positional, RemoveRawIdent as RemoveRaw, ReorderFormatParameter as Reorder, AddMissingColon as AddColon, UseRustDebugPrintingMacro as UseDebugMacro}
+use Rattle.rustc_parse_format.specs.declared.types.Suggestion.TheVariants.{None as NoSuggestion, UsePositional as Positional, RemoveRawIdent as RemoveRaw}
+use Rattle.rustc_parse_format.specs.declared.types.Suggestion.TheVariants.{ReorderFormatParameter as Reorder, AddMissingColon as AddColon}
+use Rattle.rustc_parse_format.specs.declared.types.Suggestion.TheVariants.{UseRustDebugPrintingMacro as UseDebugMacro}
 use Rattle.rustc_parse_format.specs.Characters.{Text}
-use Rattle.rustc_parse_format.specs.Types.{Mode, Format, InlineAsm, Diagnostic, Alignment, Left, Right, Center, Unknown, Sign, Plus, Minus, DebugHex, Lower, Upper, Position, Implicit, Index, Named, Count, Is, Name, Param, Star, Implied, Spec, Argument, Piece, Lit, NextArgument}
-use Rattle.rustc_parse_format.specs.Faults.{Message, Suggestion, Nothing, UsePositional, RemoveRawIdent, ReorderFormatParameter, AddMissingColon, UseRustDebugPrintingMacro}
+use Rattle.rustc_parse_format.specs.Types.{Mode, Format, InlineAsm, Diagnostic, Alignment, Left, Right, Center, Unknown, Sign, Plus, Minus, DebugHex, Lower}
+use Rattle.rustc_parse_format.specs.Types.{Upper, Position, Implicit, Index, Named, Count, Is, Name, Param, Star, Implied, Spec, Argument, Piece, Lit}
+use Rattle.rustc_parse_format.specs.Types.{NextArgument}
+use Rattle.rustc_parse_format.specs.Faults.{Message, Suggestion, Nothing, UsePositional, RemoveRawIdent, ReorderFormatParameter, AddMissingColon}
+use Rattle.rustc_parse_format.specs.Faults.{UseRustDebugPrintingMacro}
 use Rattle.rustc_parse_format.specs.World.{Place}
 
 abbrev pub pair : Range ℕ → Place

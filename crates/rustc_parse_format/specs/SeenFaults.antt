@@ -1,7 +1,8 @@
 -- What a contract sees of a fault that was found.
 use Rattle.std.specs.Prelude.{chars}
 use Rattle.rustc_parse_format.specs.declared.faults.Fault.{Fault as DeclaredFault}
-use Rattle.rustc_parse_format.specs.declared.faults.Fault.TheVariants.{UnmatchedBrace as LoneBrace, MissingBrace as NoBrace, FillBrace as BraceAsFill, Underscore as LoneUnderscore, TooLarge as LargeNumber}
+use Rattle.rustc_parse_format.specs.declared.faults.Fault.TheVariants.{UnmatchedBrace as LoneBrace, MissingBrace as NoBrace, FillBrace as BraceAsFill}
+use Rattle.rustc_parse_format.specs.declared.faults.Fault.TheVariants.{Underscore as LoneUnderscore, TooLarge as LargeNumber}
 use Rattle.rustc_parse_format.specs.Faults.{Fault, UnmatchedBrace, MissingBrace, FillBrace, Underscore, TooLarge}
 use Rattle.rustc_parse_format.specs.Seen.{pair}
 use Rattle.rustc_parse_format.specs.World.{Place}

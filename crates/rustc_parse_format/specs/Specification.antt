@@ -2,8 +2,10 @@
 use Prim.Native.Char.{code}
 use Rattle.std.specs.Prelude.{ℕ, Bool, true, false, if◌then◌else◌, ◌==◌, [], ◌∷◌, Option, Some, None}
 use Rattle.rustc_parse_format.specs.Characters.{Text, is_align, is_no_brace, front, behind, word, behind_word}
-use Rattle.rustc_parse_format.specs.Types.{Mode, Format, InlineAsm, Diagnostic, Alignment, Left, Right, Center, Unknown, Sign, Plus, Minus, DebugHex, Lower, Upper}
-use Rattle.rustc_parse_format.specs.Syntax.{TypeText, DebugHexType, CharacterType, WordType, FormatText, SpecText, Default, Formatting, Modifier, DiagnosticText}
+use Rattle.rustc_parse_format.specs.Types.{Mode, Format, InlineAsm, Diagnostic, Alignment, Left, Right, Center, Unknown, Sign, Plus, Minus, DebugHex, Lower}
+use Rattle.rustc_parse_format.specs.Types.{Upper}
+use Rattle.rustc_parse_format.specs.Syntax.{TypeText, DebugHexType, CharacterType, WordType, FormatText, SpecText, Default, Formatting, Modifier}
+use Rattle.rustc_parse_format.specs.Syntax.{DiagnosticText}
 use Rattle.rustc_parse_format.specs.Counts.{width, precision}
 
 -- Each part of a format specification at the front of a text, and the rest after it.

@@ -1,12 +1,15 @@
 -- A format string as it is written: its pieces and their parts, how each is spelled and what may follow it.
 -- The public rule is the grammar of format strings in the documentation of `std::fmt`; what is quoted from it stands in front of
--- its row, with what this language adds after it in words. Parts take what they can from the front on: one that may be left out is absent only where it does not begin.
+-- its row, with what this language adds after it in words. Parts take what they can from the front on: one that may be left out is absent only where it does
+-- not begin.
 use Prim.Native.Char.{code}
 use Rattle.std.specs.Prelude.{◌≡◌, ℕ, Bool, true, false, not, ◌||◌, ◌==◌, [], ◌∷◌, Option, Some, None, codes}
 use Rattle.std.specs.Char.{is_ascii_digit, is_whitespace}
 use Rattle.rustc_parse_format.specs.Characters.{Text, is_align, is_brace, is_id_start, is_no_brace, behind_first, begins_with, first_passes}
-use Rattle.rustc_parse_format.specs.Types.{Mode, Format, InlineAsm, Diagnostic, Alignment, Left, Right, Center, Unknown, Sign, Plus, Minus, DebugHex, Lower, Upper}
-use Rattle.rustc_parse_format.specs.Spelling.{Part, IsPart, before, fixed, unless, absent, never, run, some_run, doubled, integer, identifier, identifier_before, optional_identifier, begins_with_part, row}
+use Rattle.rustc_parse_format.specs.Types.{Mode, Format, InlineAsm, Diagnostic, Alignment, Left, Right, Center, Unknown, Sign, Plus, Minus, DebugHex, Lower}
+use Rattle.rustc_parse_format.specs.Types.{Upper}
+use Rattle.rustc_parse_format.specs.Spelling.{Part, IsPart, before, fixed, unless, absent, never, run, some_run, doubled, integer, identifier}
+use Rattle.rustc_parse_format.specs.Spelling.{identifier_before, optional_identifier, begins_with_part, row}
 
 pub data PositionText : Type 0 where
   Digits : Text → PositionText
@@ -107,7 +110,8 @@ is_type_character c = (c == code "x") || (c == code "X") || (c == code "?")
 abbrev pub type_part : TypeText → Part
 type_part (DebugHexType Lower) = fixed (codes "x?")
 type_part (DebugHexType Upper) = fixed (codes "X?")
-type_part (CharacterType c) = record { spelling = c ∷ []; is_formed = is_type_character c; may_precede = λ t. (c == code "?") || not (begins_with (code "?") t) }
+type_part (CharacterType c) = record { spelling = c ∷ []; is_formed = is_type_character c;
+    may_precede = λ t. (c == code "?") || not (begins_with (code "?") t) }
 type_part (WordType w) = row (absent (first_passes is_type_character) ∷ optional_identifier w ∷ [])
 
 pub record FormatText : Type 0 where

@@ -2,8 +2,12 @@
 -- The public rule is `std::fmt`, of positional parameters, widths and precisions.
 use Rattle.std.specs.Prelude.{ℕ, Bool, true, false, suc, if◌then◌else◌, [], ◌∷◌, Option, Some, None, codes, is_some, unwrap_or}
 use Rattle.rustc_parse_format.specs.Characters.{Text, number}
-use Rattle.rustc_parse_format.specs.Types.{DebugHex, Position, Implicit, Index, Named, Count, Is, Name, Param, Star, Implied, Spec, Argument, Piece, Lit, NextArgument, default_spec}
-use Rattle.rustc_parse_format.specs.Syntax.{PositionText, Digits, Word, NoPosition, CountText, NumberCount, IndexCount, NameCount, NoCount, WidthText, PaddedWidth, ZeroIndexWidth, PlainWidth, PrecisionText, NoPrecision, StarPrecision, DotPrecision, TypeText, DebugHexType, CharacterType, WordType, FormatText, SpecText, Default, Formatting, Modifier, DiagnosticText, FieldText, PieceText, RunText, DoubledText, PlaceholderText}
+use Rattle.rustc_parse_format.specs.Types.{DebugHex, Position, Implicit, Index, Named, Count, Is, Name, Param, Star, Implied, Spec, Argument, Piece, Lit}
+use Rattle.rustc_parse_format.specs.Types.{NextArgument, default_spec}
+use Rattle.rustc_parse_format.specs.Syntax.{PositionText, Digits, Word, NoPosition, CountText, NumberCount, IndexCount, NameCount, NoCount, WidthText}
+use Rattle.rustc_parse_format.specs.Syntax.{PaddedWidth, ZeroIndexWidth, PlainWidth, PrecisionText, NoPrecision, StarPrecision, DotPrecision, TypeText}
+use Rattle.rustc_parse_format.specs.Syntax.{DebugHexType, CharacterType, WordType, FormatText, SpecText, Default, Formatting, Modifier, DiagnosticText}
+use Rattle.rustc_parse_format.specs.Syntax.{FieldText, PieceText, RunText, DoubledText, PlaceholderText}
 
 abbrev pub count_value : CountText → Count (Unit {0})
 count_value (NumberCount ds) = Is (number ds)

@@ -34,7 +34,8 @@ abbrev pub quote_offset : Option ℕ → ℕ
 quote_offset None = 1
 quote_offset (Some n) = n + 2
 
--- Where the text ends (with a source literal too it is the whole snippet, closing quote and hashes included): with the snippet, or else with the input, without its appended newline.
+-- Where the text ends (with a source literal too it is the whole snippet, closing quote and hashes included): with the snippet, or else with the input, without
+-- its appended newline.
 abbrev pub text_end : Text → Option Text → Bool → ℕ
 text_end input (Some snippet) newline = byte_length snippet
 text_end input None newline = byte_length input - (if newline then 1 else 0)
