@@ -12,7 +12,8 @@ invariant_of-result c =
 
 pub returns-clause-start : goal.returns-clause-start
 unfolding world
-returns-clause-start c = rw (c.new.ensures, c.new-cursor.ensures, c.quote_offset.ensures, c.text_end-end.ensures, c.has_source-is_source.ensures, c.new-2.ensures.items) refl
+returns-clause-start c =
+    rw (c.new.ensures, c.new-cursor.ensures, c.quote_offset.ensures, c.text_end-end.ensures, c.has_source-is_source.ensures, c.new-2.ensures.items) refl
 
 pub returns-clause-source : goal.returns-clause-source
 returns-clause-source c =
