@@ -86,13 +86,14 @@ pub placeholder_read : (s : Midway) (mode : Mode) (o t : Text) (fill : Option Pl
     behind_closing fill opening (read_to s (ending mode t) (number_after_field s.next (cut mode t).field) (cut_faults (cut mode t)))
     ≡ read_call s (placeholder mode s.next o t)
 placeholder_read s mode o t fill opening e =
-    let m = unclosed_fault o (argument s.next (cut mode t)).format (ending mode t) in
+    let r = ending mode t in
+    let seen = map_fault (place_of s.world) in
+    let m = unclosed_fault o (argument s.next (cut mode t)).format r in
     let cs = cut_faults (cut mode t) in
+    let all = map-append seen cs _ ∙ ap (λ fs. faults_in s.world cs ++ fs) (map-else seen (begins_with 125 r) m) in
     rw (e, placeholder-rest mode s.next o t, placeholder-next mode s.next o t, placeholder-faults mode s.next o t)
-    (ap (λ (fs : List (Fault Place)). record s { rest = behind_brace (ending mode t); next = number_after_field s.next (cut mode t).field; faults = fs })
-    (append_assoc s.faults (faults_in s.world cs) _ ∙ ap (λ fs. s.faults ++ fs)
-        (sym (map-append (map_fault (place_of s.world)) cs _ ∙ ap (λ fs. faults_in s.world cs ++ fs)
-        (map-else (map_fault (place_of s.world)) (begins_with 125 (ending mode t)) m)))))
+    (ap (λ (fs : List (Fault Place)). record s { rest = behind_brace r; next = number_after_field s.next (cut mode t).field; faults = fs })
+    (append_assoc s.faults (faults_in s.world cs) _ ∙ ap (λ fs. s.faults ++ fs) (sym all)))
 
 pub ruleset placeholder_parts = (placeholder-piece, placeholder-next, placeholder-rest, placeholder-faults)
 
