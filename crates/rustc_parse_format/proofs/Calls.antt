@@ -36,8 +36,13 @@ text_steps : (mode : Mode) (c b : ℕ) (t : Text) → is_brace b ≡ false → S
 text_steps mode c b t e = record {
   piece = Lit (front is_no_brace (b ∷ t));
   given = refl;
-  begins = record { text = RunText (front is_no_brace (b ∷ t)); written = some_run-sound is_no_brace b t (not_from_false _ e); clean = tt; means = refl;
-      numbered = refl };
+  begins = record {
+    text = RunText (front is_no_brace (b ∷ t));
+    written = some_run-sound is_no_brace b t (not_from_false _ e);
+    clean = tt;
+    means = refl;
+    numbered = refl;
+  };
 }
 
 doubled_steps : (mode : Mode) (c b : ℕ) (t : Text) → is_brace b ≡ true → begins_with b t ≡ true → Steps mode c (b ∷ t) (text_call c (b ∷ []) (behind_first t))
@@ -47,8 +52,13 @@ doubled_steps mode c b (d ∷ t) e h =
     record {
       piece = Lit (b ∷ front is_no_brace t);
       given = refl;
-      begins = record { text = DoubledText b (front is_no_brace t); written = (then two (last ((run-finds is_no_brace).sound t))).part; clean = tt;
-          means = refl; numbered = refl };
+      begins = record {
+        text = DoubledText b (front is_no_brace t);
+        written = (then two (last ((run-finds is_no_brace).sound t))).part;
+        clean = tt;
+        means = refl;
+        numbered = refl;
+      };
     }
 
 closes_with : (r : Text) → begins_with 125 r ≡ true → r ≡ 125 ∷ behind_first r
@@ -147,8 +157,14 @@ unfolding call placeholder
 call_closed mode c t r e h =
     let one = opens_one mode t r e in
     let none = cut_faultless mode t h in
-    rw (one, e) (record { piece = NextArgument (argument c (cut mode t)); given = refl; same = ap NextArgument (argument-bare c (cut mode t));
-        faultless = none; rest = refl; next = refl })
+    rw (one, e) (record {
+      piece = NextArgument (argument c (cut mode t));
+      given = refl;
+      same = ap NextArgument (argument-bare c (cut mode t));
+      faultless = none;
+      rest = refl;
+      next = refl;
+    })
 
 moved : (mode : Mode) (c : ℕ) (t u : Text) (p : Piece (Unit {0})) (r : Text) (n : ℕ) → t ≡ u → Gives p r n (call mode c u) → Gives p r n (call mode c t)
 moved mode c t u p r n e g = rw e g
@@ -162,12 +178,12 @@ part_call mode c t (DoubledText b u) r w h =
     let s = two-split t (doubled is_brace b) (run is_no_brace u) r w in
     let e = (run-finds is_no_brace).complete s.seam u r s.second in
     moved mode c t (b ∷ b ∷ s.seam) _ r _ s.first.whole (given_as (call_doubled mode c b s.seam s.first.formed) (ap (λ x. Lit (b ∷ x.0)) e)
-        (ap (λ x. x.1) e) refl)
+    (ap (λ x. x.1) e) refl)
 part_call mode c t (PlaceholderText a space) r w h =
     let k = by_cut mode t a space r w in
     moved mode c t (123 ∷ k.inside) _ r _ k.opens
     (given_as (call_closed mode c k.inside r k.closes (subst IsClean k.field h)) (ap (λ x. NextArgument (argument_value c x)) (sym k.field)) refl
-        (ap (number_after_field c) (sym k.field)))
+    (ap (number_after_field c) (sym k.field)))
 
 -- A call gives the piece that begins the text, with no fault.
 pub begins_call : (mode : Mode) (c : ℕ) (t : Text) (p : Piece (Unit {0})) (r : Text) (n : ℕ) → Begins mode c t p r n → Gives p r n (call mode c t)

@@ -21,9 +21,20 @@ spec p = record { position = NoPosition; space = []; spec = Formatting p }
 -- One placeholder, with what is written in it.
 all_parts-are_written :
     IsCut Format (codes "a :*>+#05$.b$x?}")
-    (record { position = Word (codes "a"); space = codes " "; spec = Formatting
-        (record { fill = Some (code "*"); align = Right; sign = Some Plus; alternate = true; width = PaddedWidth (IndexCount (codes "5"));
-        precision = DotPrecision (NameCount (codes "b")); type = DebugHexType Lower }) })
+    (record {
+      position = Word (codes "a");
+      space = codes " ";
+      spec = Formatting
+          (record {
+            fill = Some (code "*");
+            align = Right;
+            sign = Some Plus;
+            alternate = true;
+            width = PaddedWidth (IndexCount (codes "5"));
+            precision = DotPrecision (NameCount (codes "b"));
+            type = DebugHexType Lower;
+          });
+    })
     (codes "}")
 unfolding computing
 all_parts-are_written = record { whole = refl; formed = refl; ends = refl }

@@ -161,9 +161,19 @@ type-local (WordType w) = two-local (absent (first_passes is_type_character)) (o
 format-local : (p : FormatText) → PartIsLocal (format_part p)
 format-local p =
     row-local (fill_part p.fill ∷ align_part p.align ∷ sign_part p.sign ∷ alternate_part p.alternate ∷ width_part p.width ∷ precision_part p.precision ∷
-        type_part p.type ∷ [])
-    (fill-local p.fill, (align-local p.align, (sign-local p.sign, (alternate-local p.alternate,
-        (width-local p.width, (precision-local p.precision, (type-local p.type, tt)))))))
+    type_part p.type ∷ []) (
+      fill-local p.fill,
+      (
+        align-local p.align,
+        (
+          sign-local p.sign,
+          (
+            alternate-local p.alternate,
+            (width-local p.width, (precision-local p.precision, (type-local p.type, tt))),
+          ),
+        ),
+      ),
+    )
 
 spec-local : (mode : Mode) (s : SpecText) → PartIsLocal (spec_part mode s)
 spec-local mode Default = letter_ends (code ":")
@@ -180,7 +190,7 @@ spec-local Diagnostic (DiagnosticText u) = two-local (fixed (codes ":")) (run is
 field-local : (mode : Mode) (a : FieldText) → PartIsLocal (field_part mode a)
 field-local mode a =
     row-local (position_part a.position ∷ run is_whitespace a.space ∷ spec_part mode a.spec ∷ [])
-        (position-local a.position, (class_ends is_whitespace, (spec-local mode a.spec, tt)))
+    (position-local a.position, (class_ends is_whitespace, (spec-local mode a.spec, tt)))
 
 placeholder-local : (mode : Mode) (a : FieldText) (w t q z : Text) → IsPart t (placeholder_part mode a w) (q ++ z) →
     IsPart ((placeholder_part mode a w).spelling ++ q) (placeholder_part mode a w) q
@@ -204,6 +214,10 @@ pub piece-local : (mode : Mode) (x : PieceText) (t q z : Text) → IsPart t (pie
 piece-local mode (RunText u) t q z h = record { whole = refl; formed = h.formed; ends = not_from_false _ (run-local is_no_brace q z (not-true _ h.ends)) }
 piece-local mode (DoubledText b u) t q z h =
     let p = and_parts _ _ (and_parts true _ h.ends).1 in
-    record { whole = refl; formed = h.formed; ends = and_from true _ refl
-        (and_from _ true (not_from_false _ (run-local is_no_brace q z (not-true _ p.0))) refl) }
+    record {
+      whole = refl;
+      formed = h.formed;
+      ends = and_from true _ refl
+          (and_from _ true (not_from_false _ (run-local is_no_brace q z (not-true _ p.0))) refl);
+    }
 piece-local mode (PlaceholderText a w) t q z h = placeholder-local mode a w t q z h

@@ -51,5 +51,11 @@ unfolding cut number_after_field
 number_after_field-le mode c t =
     let u = behind_white (position t).1 in
     let s = specification mode u in
-    omega (arith, number_after_position-le (number_after_spec c s.0) (position t).0, specification_number mode c u, IsRest-le (position_rest t), IsRest-le
-        (behind_white_rest (position t).1))
+    omega (
+      arith,
+      number_after_position-le (number_after_spec c s.0) (position t).0,
+      specification_number mode c u,
+      IsRest-le (position_rest t),
+      IsRest-le
+          (behind_white_rest (position t).1),
+    )

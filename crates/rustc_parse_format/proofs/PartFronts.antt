@@ -24,7 +24,7 @@ run-finds p = record {
   complete = λ t u r h.
       (let ends : first_passes p r ≡ false = not-true _ h.ends in
       ap (λ s. (front p s, behind p s)) h.whole ∙ (ap (λ s. (s, behind p (u ++ r))) (front-append p u r h.formed ends)
-          ∙ ap (λ s. (u, s)) (behind-append p u r h.formed ends)));
+      ∙ ap (λ s. (u, s)) (behind-append p u r h.formed ends)));
 }
 
 -- a run at the front that is not empty
@@ -114,9 +114,12 @@ unfolding word behind_word
 optional-sound [] = record { whole = refl; formed = refl; ends = refl }
 optional-sound (c ∷ t) =
     elim (is_id_start c) as (λ b. is_id_start c ≡ b → IsPart (c ∷ t) (optional_identifier (cond b (c ∷ front is_id_continue t) []))
-        (cond b (behind is_id_continue t) (c ∷ t))) [
-      | true ↦ λ i. record { whole = ap (λ u. c ∷ u) (front-behind is_id_continue t); formed = and_from _ _ i (list_all-front is_id_continue t);
-          ends = not_from_false _ (first_passes-behind is_id_continue t) }
+    (cond b (behind is_id_continue t) (c ∷ t))) [
+      | true ↦ λ i. record {
+        whole = ap (λ u. c ∷ u) (front-behind is_id_continue t);
+        formed = and_from _ _ i (list_all-front is_id_continue t);
+        ends = not_from_false _ (first_passes-behind is_id_continue t);
+      }
       | false ↦ λ i. record { whole = refl; formed = refl; ends = not_from_false _ i }
     ] refl
 

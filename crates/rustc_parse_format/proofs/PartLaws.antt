@@ -58,8 +58,12 @@ row-split t p ps r h = record {
 pub row-only : (t : Text) (p : Part) (r : Text) → IsPart t (row (p ∷ [])) r → IsPart t p r
 row-only t p r h =
     let s = row-split t p [] r h in
-    record { whole = s.first.whole ∙ ap (λ u. p.spelling ++ u) s.others.whole; formed = s.first.formed; ends = ap p.may_precede (sym s.others.whole)
-        ∙ s.first.ends }
+    record {
+      whole = s.first.whole ∙ ap (λ u. p.spelling ++ u) s.others.whole;
+      formed = s.first.formed;
+      ends = ap p.may_precede (sym s.others.whole)
+          ∙ s.first.ends;
+    }
 
 -- two parts
 pub row-two : (t s : Text) (p q : Part) (r : Text) → IsPart t p s → IsPart s q r → IsPart t (row (p ∷ q ∷ [])) r

@@ -66,7 +66,7 @@ read_name (c ∷ t) e =
     let both = and_parts _ _ e in
     let w = identifier-sound c t both.0 in
     ap (begins_with_part name_part) w.whole ∙ there_front (word (c ∷ t)) (behind_word (c ∷ t)) (λ u r. (name_part u).is_formed && (name_part u).may_precede r)
-        (and_from _ _ w.formed both.1)
+    (and_from _ _ w.formed both.1)
 
 begins_with_part-name : (t : Text) → begins_with_part name_part t ≡ (first_passes is_id_start t && begins_with (code "$") (behind_word t))
 begins_with_part-name t = same_test _ _ (name_read t) (read_name t)

@@ -24,6 +24,6 @@ from_width-at t = ap (λ u. (width_part (width (width_at t)).0).spelling ++ u) (
 
 pub format_faults-at : (t : Text) → format_faults (format_text t).0 (format_text t).1
     ≡ width_faults (width_at t) (width (width_at t)).0 ++ precision_faults (precision_at t) (precision (precision_at t)).0 ++ type_faults (type_at t)
-        (type (type_at t)).0
+    (type (type_at t)).0
 unfolding format_text format_faults
 format_faults-at t = rw (from_width-at t, from_precision-at t, from_type-at t) refl

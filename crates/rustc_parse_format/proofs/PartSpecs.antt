@@ -195,7 +195,7 @@ format-complete : (t : Text) (p : FormatText) (r : Text) → IsPart t (format_pa
 unfolding format_text
 format-complete t p r h =
     let whole : IsRow t (fill_part p.fill ∷ align_part p.align ∷ sign_part p.sign ∷ alternate_part p.alternate ∷ width_part p.width ∷ precision_part
-        p.precision ∷ type_part p.type ∷ []) r = record { part = h } in
+    p.precision ∷ type_part p.type ∷ []) r = record { part = h } in
     let f = opened whole in
     let a = opened f.others in
     let g = opened a.others in

@@ -43,5 +43,5 @@ from_cut mode inside r closes =
     let x = cut mode inside in
     let w = front is_whitespace x.rest in
     let white : IsPart x.rest (run is_whitespace w) (codes "}" ++ r) = subst (IsPart x.rest (run is_whitespace w)) closes
-        ((run-finds is_whitespace).sound x.rest) in
+    ((run-finds is_whitespace).sound x.rest) in
     (then (fixed-there (codes "{") inside) (then (cut-sound mode inside) (then white (last (fixed-there (codes "}") r))))).part

@@ -63,7 +63,7 @@ no_brace-map g (Some s) found a o = refl
 -- the missing brace put through a world
 pub unclosed_fault_in : (w : World) (o : Text) (f : Spec Span) (r : Text) (seen : Spec Place) → seen ≡ map_spec (place_of w) f →
     map_fault (place_of w) (unclosed_fault o f r) ≡ no_brace (brace_fill seen.fill seen.fill_span) (first r) (place_of w (up_to r r))
-        (place_of w (over_first o))
+    (place_of w (over_first o))
 unclosed_fault_in w o f r seen e =
     rw e (no_brace-map (place_of w) (brace_fill f.fill f.fill_span) (first r) (up_to r r) (over_first o) ∙
     ap (λ s. no_brace s (first r) (place_of w (up_to r r)) (place_of w (over_first o))) (brace_fill-map (place_of w) f.fill f.fill_span))

@@ -35,7 +35,7 @@ pub place_inside : (b : Bool) (q e : ℕ) (pre t : Text) (c : ℕ) → place_at 
 unfolding place_at
 place_inside b q e pre t c =
     let n : length (plain_places q (pre ++ c ∷ t)) - length (c ∷ t) ≡ length pre = omega
-        (arith, length-plain_places q (pre ++ c ∷ t), length-append pre (c ∷ t)) in
+    (arith, length-plain_places q (pre ++ c ∷ t), length-append pre (c ∷ t)) in
     ap (λ k. get_or (plain_places q (pre ++ c ∷ t)) k (e, e)) n ∙ get_plain q pre t c (e, e)
 
 get_past : {A : Type 0} (l : List A) (d : A) → get_or l (length l) d ≡ d

@@ -18,14 +18,19 @@ placeholder_advances mode c b t =
     let r = behind_white (cut mode t).rest in
     let fewer : length r ≤ length (cut mode t).rest = IsRest-le (behind_white_rest (cut mode t).rest) in
     cond_both {A = Call} (begins_with 125 r) _ _ (Advances c (b ∷ t))
-    (λ e. (omega (arith, IsRest-le (behind_first_rest r), fewer, IsRest-le (cut_rest mode t)), omega
-        (arith, IsRest-le (behind_first_rest r), fewer, number_after_field-le mode c t)))
+    (λ e. (
+      omega (arith, IsRest-le (behind_first_rest r), fewer, IsRest-le (cut_rest mode t)),
+      omega
+          (arith, IsRest-le (behind_first_rest r), fewer, number_after_field-le mode c t),
+    ))
     (λ e. (omega (arith, fewer, IsRest-le (cut_rest mode t)), omega (arith, fewer, number_after_field-le mode c t)))
 
 literal_advances : (c b : ℕ) (l t : Text) → Advances c (b ∷ t) (text_call c l (behind_first t))
-literal_advances c b l t =
-    (omega (arith, IsRest-le (behind_first_rest t), IsRest-le (behind_rest is_no_brace (behind_first t))), omega
-        (arith, IsRest-le (behind_first_rest t), IsRest-le (behind_rest is_no_brace (behind_first t))))
+literal_advances c b l t = (
+  omega (arith, IsRest-le (behind_first_rest t), IsRest-le (behind_rest is_no_brace (behind_first t))),
+  omega
+      (arith, IsRest-le (behind_first_rest t), IsRest-le (behind_rest is_no_brace (behind_first t))),
+)
 
 run_advances : (c b : ℕ) (t : Text) → is_brace b ≡ false → Advances c (b ∷ t) (text_call c [] (b ∷ t))
 run_advances c b t e = rw e (omega (arith, IsRest-le (behind_rest is_no_brace t)), omega (arith, IsRest-le (behind_rest is_no_brace t)))

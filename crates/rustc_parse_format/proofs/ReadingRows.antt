@@ -183,8 +183,18 @@ text_and_placeholder-have_this_reading = (
   codes "{}",
   0,
   record { text = RunText (codes "a"); written = record { whole = refl; formed = refl; ends = refl }; clean = tt; means = refl; numbered = refl },
-  ([], 1, record { text = PlaceholderText plain_field []; written = record { whole = refl; formed = refl; ends = refl };
-      clean = record { position = tt; spec = tt }; means = refl; numbered = refl }, refl),
+  (
+    [],
+    1,
+    record {
+      text = PlaceholderText plain_field [];
+      written = record { whole = refl; formed = refl; ends = refl };
+      clean = record { position = tt; spec = tt };
+      means = refl;
+      numbered = refl;
+    },
+    refl,
+  ),
 )
 
 doubled_braces-have_this_reading : Reads Format 0 (codes "{{a}}b") (Lit (codes "{a") ∷ Lit (codes "}b") ∷ [])
@@ -192,10 +202,25 @@ unfolding computing
 doubled_braces-have_this_reading = (
   codes "}}b",
   0,
-  record { text = DoubledText (code "{") (codes "a"); written = record { whole = refl; formed = refl; ends = refl }; clean = tt; means = refl;
-      numbered = refl },
-  ([], 0, record { text = DoubledText (code "}") (codes "b"); written = record { whole = refl; formed = refl; ends = refl }; clean = tt; means = refl;
-      numbered = refl }, refl),
+  record {
+    text = DoubledText (code "{") (codes "a");
+    written = record { whole = refl; formed = refl; ends = refl };
+    clean = tt;
+    means = refl;
+    numbered = refl;
+  },
+  (
+    [],
+    0,
+    record {
+      text = DoubledText (code "}") (codes "b");
+      written = record { whole = refl; formed = refl; ends = refl };
+      clean = tt;
+      means = refl;
+      numbered = refl;
+    },
+    refl,
+  ),
 )
 
 -- A star takes its number before the position does.
@@ -270,6 +295,6 @@ pieces-are_spelled = refl
 
 pieces-have_these_values :
     piece_values 0 written_pieces ≡ Lit (codes "{a") ∷ NextArgument (record { position = Named (codes "b"); position_span = tt; format = default_spec }) ∷ Lit
-        (codes "c") ∷ []
+    (codes "c") ∷ []
 unfolding computing
 pieces-have_these_values = refl

@@ -97,8 +97,13 @@ named_counts-have_the_spans_of_their_names :
 unfolding computing
 named_counts-have_the_spans_of_their_names = refl
 
-fill_word_and_type : pieces (codes "{3:*<abcd}") ≡ at (Index 3) 2 3 (record default_spec { fill = Some 42; fill_span = Some (4, 5); align = Left;
-    ty = codes "abcd"; ty_span = Some (6, 10) }) ∷ []
+fill_word_and_type : pieces (codes "{3:*<abcd}") ≡ at (Index 3) 2 3 (record default_spec {
+  fill = Some 42;
+  fill_span = Some (4, 5);
+  align = Left;
+  ty = codes "abcd";
+  ty_span = Some (6, 10);
+}) ∷ []
 unfolding computing
 fill_word_and_type = refl
 

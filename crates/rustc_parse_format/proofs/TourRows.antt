@@ -26,8 +26,15 @@ abbrev braces : PieceText
 braces = DoubledText (code "{") []
 
 abbrev sized : FormatText
-sized = record { fill = None; align = Right; sign = None; alternate = false; width = PlainWidth (NumberCount (codes "5")); precision = NoPrecision;
-    type = WordType [] }
+sized = record {
+  fill = None;
+  align = Right;
+  sign = None;
+  alternate = false;
+  width = PlainWidth (NumberCount (codes "5"));
+  precision = NoPrecision;
+  type = WordType [];
+}
 
 abbrev placeholder : PieceText
 placeholder = PlaceholderText (record { position = Word (codes "x"); space = []; spec = Formatting sized }) []
@@ -120,8 +127,11 @@ calls-give_marks = refl
 placed : List (Piece Place)
 placed =
     Lit (codes "{")
-    ∷ NextArgument (record { position = Named (codes "x"); position_span = (4, 5);
-        format = record (default_spec {A = Place}) { align = Right; width = Is 5; width_span = Some (7, 8) } })
+    ∷ NextArgument (record {
+      position = Named (codes "x");
+      position_span = (4, 5);
+      format = record (default_spec {A = Place}) { align = Right; width = Is 5; width_span = Some (7, 8) };
+    })
     ∷ []
 
 world-makes_them_bytes : pieces input ≡ placed

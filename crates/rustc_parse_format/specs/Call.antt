@@ -56,7 +56,7 @@ call mode c [] = end_call c
 call mode c (b ∷ t) =
     if is_brace b
     then (if begins_with b t then text_call c (b ∷ []) (behind_first t) else
-        (if b == code "{" then placeholder mode c (b ∷ t) t else unmatched_call c (b ∷ t) t))
+    (if b == code "{" then placeholder mode c (b ∷ t) t else unmatched_call c (b ∷ t) t))
     else text_call c [] (b ∷ t)
 
 -- text, or no piece

@@ -32,7 +32,7 @@ spelling (Continuation w) = codes "\\\n" ++ w
 abbrev pub escaped : ℕ → Option ℕ
 escaped l =
     if l == code "n" then Some (code "\n") else (if l == code "r" then Some (code "\r") else
-        (if l == code "t" then Some (code "\t") else (if l == code "0" then Some (code "\0")
+    (if l == code "t" then Some (code "\t") else (if l == code "0" then Some (code "\0")
     else (if (l == code "'" || l == code "\"") || l == code "\\" then Some l else None))))
 
 abbrev pub is_underscore : ℕ → Bool

@@ -110,8 +110,11 @@ is_type_character c = (c == code "x") || (c == code "X") || (c == code "?")
 abbrev pub type_part : TypeText → Part
 type_part (DebugHexType Lower) = fixed (codes "x?")
 type_part (DebugHexType Upper) = fixed (codes "X?")
-type_part (CharacterType c) = record { spelling = c ∷ []; is_formed = is_type_character c;
-    may_precede = λ t. (c == code "?") || not (begins_with (code "?") t) }
+type_part (CharacterType c) = record {
+  spelling = c ∷ [];
+  is_formed = is_type_character c;
+  may_precede = λ t. (c == code "?") || not (begins_with (code "?") t);
+}
 type_part (WordType w) = row (absent (first_passes is_type_character) ∷ optional_identifier w ∷ [])
 
 pub record FormatText : Type 0 where

@@ -14,20 +14,7 @@ use std::alloc::{AllocError, Global};
 use std::ops::Range;
 use unit::read_unit;
 
-/// The characters that the content of an ordinary string literal stands for, each with the bytes of the content that it
-/// comes from, or `None` if the text is no content.
-pub fn read_content(
-    alloc: Global,
-    content: &str,
-) -> Result<Option<Vec<(Range<usize>, char)>>, AllocError>
-    ensures found { IfOk result (λ o. IfSome o (λ v. IsReadAs (chars content.now) (seen_characters v.items))) }
-    ensures none { IfOk result (λ o. IfNone o (IsNoContent (chars content.now))) }
-    ensures empty { content.now ≡ [] → IsOk result }
-{
-    read_characters(alloc, content)
-}
-
-/// The same, by computing.
+/// The characters that a content stands for, each with its bytes, by computing.
 fn read_characters(
     alloc: Global,
     content: &str,
@@ -52,22 +39,26 @@ fn read_characters(
     Ok(Some(found))
 }
 
-/// Whether the snippet is the source literal of the input. A raw literal is named by the number of its hashes.
-pub fn is_source_literal(
-    input: &str,
-    style: Option<usize>,
-    snippet: &str,
-    appended_newline: bool,
-) -> bool
-    ensures { IsTrue result ↔ IsSource (chars input.now) style (chars snippet.now) appended_newline }
+/// The characters that the content of an ordinary string literal stands for, each with the bytes of the content that it
+/// comes from, or `None` if the text is no content.
+pub fn read_content(
+    alloc: Global,
+    content: &str,
+) -> Result<Option<Vec<(Range<usize>, char)>>, AllocError>
+    ensures found { IfOk result (λ o. IfSome o (λ v. IsReadAs (chars content.now) (seen_characters v.items))) }
+    ensures none { IfOk result (λ o. IfNone o (IsNoContent (chars content.now))) }
+    ensures empty { content.now ≡ [] → IsOk result }
 {
-    let Some(text) = without_newline(input, appended_newline) else {
-        return false;
-    };
-    match style {
-        None => is_ordinary_literal(snippet, text),
-        Some(hashes) => is_raw_literal(snippet, hashes, text),
-    }
+    read_characters(alloc, content)
+}
+
+/// What stands in front of the newline at the end, or `None` if the text does not end with one.
+fn before_newline(text: &str) -> Option<&str>
+    ensures { MatchOption result
+        ((t : List ℕ) → t ++ newline true ≡ chars text.now → ⊥)
+        (λ t. chars t.now ++ newline true ≡ chars text.now) }
+{
+    text.strip_suffix('\n')
 }
 
 /// The input without the newline that a macro has appended to it, or `None` if there is no such newline.
@@ -80,25 +71,6 @@ fn without_newline(input: &str, appended: bool) -> Option<&str>
         before_newline(input)
     } else {
         Some(input)
-    }
-}
-
-/// What stands in front of the newline at the end, or `None` if the text does not end with one.
-fn before_newline(text: &str) -> Option<&str>
-    ensures { MatchOption result
-        ((t : List ℕ) → t ++ newline true ≡ chars text.now → ⊥)
-        (λ t. chars t.now ++ newline true ≡ chars text.now) }
-{
-    text.strip_suffix('\n')
-}
-
-/// Whether the snippet is an ordinary literal that stands for the text.
-fn is_ordinary_literal(snippet: &str, text: &str) -> bool
-    ensures { IsTrue result ↔ IsOrdinaryLiteral (chars snippet.now) (chars text.now) }
-{
-    match between_quotes(snippet) {
-        Some(content) => stands_for(content, text),
-        None => false,
     }
 }
 
@@ -134,40 +106,14 @@ fn stands_for(content: &str, text: &str) -> bool
     wanted.is_empty()
 }
 
-/// Whether the snippet is a raw literal with so many hashes that stands for the text.
-fn is_raw_literal(snippet: &str, hashes: usize, text: &str) -> bool
-    ensures { IsTrue result ↔ (chars snippet.now ≡ raw_frame hashes (chars text.now)) }
+/// Whether the snippet is an ordinary literal that stands for the text.
+fn is_ordinary_literal(snippet: &str, text: &str) -> bool
+    ensures { IsTrue result ↔ IsOrdinaryLiteral (chars snippet.now) (chars text.now) }
 {
-    let mut rest = Rest::new(snippet);
-    if !takes_opening(&mut rest, hashes) {
-        return false;
+    match between_quotes(snippet) {
+        Some(content) => stands_for(content, text),
+        None => false,
     }
-    if !takes_text(&mut rest, text) {
-        return false;
-    }
-    takes_closing(&mut rest, hashes) && rest.is_empty()
-}
-
-/// Takes what stands in front of the text of a raw literal, and says whether it was there.
-#[tactic(auto, using(crate::proofs::LiteralPrefixes::prefix_steps))]
-fn takes_opening(rest: &mut Rest<'_>, hashes: usize) -> bool
-    ensures { IsTaken (raw_opening hashes) rest.old result rest.new }
-{
-    if !rest.next_is('r') {
-        return false;
-    }
-    if !takes_hashes(rest, hashes) {
-        return false;
-    }
-    rest.next_is('"')
-}
-
-/// Takes what comes after the text of a raw literal, and says whether it was there.
-#[tactic(auto, using(crate::proofs::LiteralPrefixes::prefix_steps))]
-fn takes_closing(rest: &mut Rest<'_>, hashes: usize) -> bool
-    ensures { IsTaken (raw_closing hashes) rest.old result rest.new }
-{
-    rest.next_is('"') && takes_hashes(rest, hashes)
 }
 
 /// Takes so many hashes, and says whether they were there.
@@ -184,6 +130,20 @@ fn takes_hashes(rest: &mut Rest<'_>, hashes: usize) -> bool
     true
 }
 
+/// Takes what stands in front of the text of a raw literal, and says whether it was there.
+#[tactic(auto, using(crate::proofs::LiteralPrefixes::prefix_steps))]
+fn takes_opening(rest: &mut Rest<'_>, hashes: usize) -> bool
+    ensures { IsTaken (raw_opening hashes) rest.old result rest.new }
+{
+    if !rest.next_is('r') {
+        return false;
+    }
+    if !takes_hashes(rest, hashes) {
+        return false;
+    }
+    rest.next_is('"')
+}
+
 /// Takes a text, and says whether it was there.
 fn takes_text(rest: &mut Rest<'_>, text: &str) -> bool
     ensures { IsTaken (chars text.now) rest.old result rest.new }
@@ -195,6 +155,46 @@ fn takes_text(rest: &mut Rest<'_>, text: &str) -> bool
         }
     }
     true
+}
+
+/// Takes what comes after the text of a raw literal, and says whether it was there.
+#[tactic(auto, using(crate::proofs::LiteralPrefixes::prefix_steps))]
+fn takes_closing(rest: &mut Rest<'_>, hashes: usize) -> bool
+    ensures { IsTaken (raw_closing hashes) rest.old result rest.new }
+{
+    rest.next_is('"') && takes_hashes(rest, hashes)
+}
+
+/// Whether the snippet is a raw literal with so many hashes that stands for the text.
+fn is_raw_literal(snippet: &str, hashes: usize, text: &str) -> bool
+    ensures { IsTrue result ↔ (chars snippet.now ≡ raw_frame hashes (chars text.now)) }
+{
+    let mut rest = Rest::new(snippet);
+    if !takes_opening(&mut rest, hashes) {
+        return false;
+    }
+    if !takes_text(&mut rest, text) {
+        return false;
+    }
+    takes_closing(&mut rest, hashes) && rest.is_empty()
+}
+
+/// Whether the snippet is the source literal of the input. A raw literal is named by the number of its hashes.
+pub fn is_source_literal(
+    input: &str,
+    style: Option<usize>,
+    snippet: &str,
+    appended_newline: bool,
+) -> bool
+    ensures { IsTrue result ↔ IsSource (chars input.now) style (chars snippet.now) appended_newline }
+{
+    let Some(text) = without_newline(input, appended_newline) else {
+        return false;
+    };
+    match style {
+        None => is_ordinary_literal(snippet, text),
+        Some(hashes) => is_raw_literal(snippet, hashes, text),
+    }
 }
 
 #[cfg(test)]

@@ -5,49 +5,6 @@ ghost use Rattle.rustc_parse_format.specs.LiteralUnits.{at_most_one, byte_at, es
 
 use super::rest::Rest;
 
-/// Takes the unit at the front, and gives what it stands for, which may be nothing. It gives `None` if no unit stands
-/// there.
-#[tactic(auto, unfolding(crate::specs::LiteralUnits::unit_at))]
-pub fn read_unit(rest: &mut Rest<'_>) -> Option<Option<char>>
-    ensures { meaning (unit_at rest.old) ≡ option_map (λ v. (at_most_one v, rest.new)) result }
-{
-    match rest.next()? {
-        '\\' => read_escape(rest),
-        '"' | '\r' => None,
-        c => Some(Some(c)),
-    }
-}
-
-/// Takes what is after a backslash.
-#[tactic(auto, unfolding(crate::specs::LiteralUnits::escape_at))]
-fn read_escape(rest: &mut Rest<'_>) -> Option<Option<char>>
-    ensures { meaning (escape_at rest.old) ≡ option_map (λ v. (at_most_one v, rest.new)) result }
-{
-    match rest.next()? {
-        '\n' => {
-            rest.skip_white();
-            Some(None)
-        }
-        'x' => Some(Some(read_byte(rest)?)),
-        'u' => Some(Some(read_unicode(rest)?)),
-        letter => Some(Some(escaped(letter)?)),
-    }
-}
-
-/// What a backslash and this letter stand for.
-fn escaped(letter: char) -> Option<char>
-    ensures { result ≡ escaped letter }
-{
-    match letter {
-        'n' => Some('\n'),
-        'r' => Some('\r'),
-        't' => Some('\t'),
-        '0' => Some('\0'),
-        '\'' | '"' | '\\' => Some(letter),
-        _ => None,
-    }
-}
-
 /// Takes what is after `\x`.
 #[tactic(auto, unfolding(crate::specs::LiteralUnits::byte_at))]
 fn read_byte(rest: &mut Rest<'_>) -> Option<char>
@@ -80,4 +37,47 @@ fn read_unicode(rest: &mut Rest<'_>) -> Option<char>
         }
     }
     None
+}
+
+/// What a backslash and this letter stand for.
+fn escaped(letter: char) -> Option<char>
+    ensures { result ≡ escaped letter }
+{
+    match letter {
+        'n' => Some('\n'),
+        'r' => Some('\r'),
+        't' => Some('\t'),
+        '0' => Some('\0'),
+        '\'' | '"' | '\\' => Some(letter),
+        _ => None,
+    }
+}
+
+/// Takes what is after a backslash.
+#[tactic(auto, unfolding(crate::specs::LiteralUnits::escape_at))]
+fn read_escape(rest: &mut Rest<'_>) -> Option<Option<char>>
+    ensures { meaning (escape_at rest.old) ≡ option_map (λ v. (at_most_one v, rest.new)) result }
+{
+    match rest.next()? {
+        '\n' => {
+            rest.skip_white();
+            Some(None)
+        }
+        'x' => Some(Some(read_byte(rest)?)),
+        'u' => Some(Some(read_unicode(rest)?)),
+        letter => Some(Some(escaped(letter)?)),
+    }
+}
+
+/// Takes the unit at the front, and gives what it stands for, which may be nothing. It gives `None` if no unit stands
+/// there.
+#[tactic(auto, unfolding(crate::specs::LiteralUnits::unit_at))]
+pub fn read_unit(rest: &mut Rest<'_>) -> Option<Option<char>>
+    ensures { meaning (unit_at rest.old) ≡ option_map (λ v. (at_most_one v, rest.new)) result }
+{
+    match rest.next()? {
+        '\\' => read_escape(rest),
+        '"' | '\r' => None,
+        c => Some(Some(c)),
+    }
 }

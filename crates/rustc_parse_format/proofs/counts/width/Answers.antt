@@ -8,4 +8,4 @@ pub returns-then-not-is_next-2-clause-span : goal.returns-then-not-is_next-2-cla
 returns-then-not-is_next-2-clause-span g c =
     let no_index = sym (c.if-not-is_next-2.ensures ∙ ap (λ (u : Unread). begins_with 36 u.rest) c.advance.ensures.rest) in
     rw (← c.reader.view_is, width_zero c.reader.inside.cursor.rest (sym c.if-not-is_next.ensures) no_index)
-        (rw c.advance.ensures.rest at c.counted-then-not-is_next-2.ensures.span)
+    (rw c.advance.ensures.rest at c.counted-then-not-is_next-2.ensures.span)

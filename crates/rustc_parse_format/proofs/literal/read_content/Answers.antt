@@ -8,7 +8,7 @@ use Rattle.rustc_parse_format.proofs.literal.read_content.Goals as goal
 pub returns-clause-found : goal.returns-clause-found
 returns-clause-found c =
     read-found c.read_characters.result (λ (v : Vec (Range ℕ × ℕ) Global). seen_characters v.items)
-        (chars c.args.content.now) c.read_characters.ensures.computed
+    (chars c.args.content.now) c.read_characters.ensures.computed
 
 pub returns-clause-none : goal.returns-clause-none
 returns-clause-none c =

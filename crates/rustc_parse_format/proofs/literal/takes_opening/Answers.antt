@@ -10,5 +10,5 @@ returns c =
     let hashes : IsTaken (replicate c.args.hashes 35)
     (behind_first c.args.rest.now) c.takes_hashes.result c.takes_hashes.new.rest = rw c.next_is.ensures.rest at c.takes_hashes.ensures in
     opened c.args.hashes c.args.rest.now c.takes_hashes.new.rest c.next_is-2.new.self c.takes_hashes.result c.next_is-2.result first hashes
-        c.if-not-takes_hashes.false
+    c.if-not-takes_hashes.false
     c.next_is-2.ensures.value c.next_is-2.ensures.rest

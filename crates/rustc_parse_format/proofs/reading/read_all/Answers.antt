@@ -30,9 +30,11 @@ returns-in_err-pieces-clause-empty c e =
 pub returns-clause-clean : goal.returns-clause-clean
 returns-clause-clean c =
     let s = first_state (seen_mode c.args.mode) (chars c.args.input.now) c.args.style (seen_snippet c.args.snippet) c.args.appended_newline in
-    let e : ◌≡◌ {A = State} c.in_ok-parser.parser s = c.in_ok-parser.ensures.start in
-    (clean_in (seen_mode c.args.mode) s.world (chars c.args.input.now) _ _ e c.in_ok-pieces.ensures.state, in_clean (seen_mode c.args.mode) s.world
-        (chars c.args.input.now) _ _ e c.in_ok-pieces.ensures.state)
+    let e : ◌≡◌ {A = State} c.in_ok-parser.parser s = c.in_ok-parser.ensures.start in (
+      clean_in (seen_mode c.args.mode) s.world (chars c.args.input.now) _ _ e c.in_ok-pieces.ensures.state,
+      in_clean (seen_mode c.args.mode) s.world
+          (chars c.args.input.now) _ _ e c.in_ok-pieces.ensures.state,
+    )
 
 pub returns-clause-reading : goal.returns-clause-reading
 returns-clause-reading c =
@@ -56,5 +58,8 @@ returns-clause-first_fault c =
 
 pub returns-clause-source : goal.returns-clause-source
 returns-clause-source c =
-    rw (ap (λ (s : State). s.world.has_source) c.in_ok-pieces.ensures.state, after_all-world c.in_ok-parser.parser
-        (calls c.in_ok-parser.parser)) c.in_ok-parser.ensures.source
+    rw (
+      ap (λ (s : State). s.world.has_source) c.in_ok-pieces.ensures.state,
+      after_all-world c.in_ok-parser.parser
+          (calls c.in_ok-parser.parser),
+    ) c.in_ok-parser.ensures.source

@@ -14,8 +14,8 @@ use Rattle.rustc_parse_format.proofs.reading.read_pieces.Goals as goal
 pub loop-pieces-preserved : goal.loop-pieces-preserved
 loop-pieces-preserved g c =
     let given : ◌≡◌ {A = Option (Piece Place)} (Some (seen c.in-Some.piece))
-        (option_map (piece_in c.loop-pieces.parser.world) (next_call c.loop-pieces.parser).piece) = ap (option_map seen) (sym c.in-Some.is)
-        ∙ c.in_ok-piece.ensures.piece in
+    (option_map (piece_in c.loop-pieces.parser.world) (next_call c.loop-pieces.parser).piece) = ap (option_map seen) (sym c.in-Some.is)
+    ∙ c.in_ok-piece.ensures.piece in
     let pushed = ap (map seen) c.in_ok-push.ensures.items ∙ map-append seen c.loop-pieces.pieces.items (c.in-Some.piece ∷ []) in
     record {
       world = ap (λ (s : State). s.world) c.in_ok-piece.ensures.state ∙ c.loop-pieces.invariant.world;
@@ -35,19 +35,19 @@ returns-in_err-piece-clause-empty g c e =
 pub returns-in_err-push-clause-empty : goal.returns-in_err-push-clause-empty
 returns-in_err-push-clause-empty g c e =
     let none = rw c.in-Some.is at (next_ends seen c.loop-pieces.parser c.next_counted.new.self _ c.in_ok-piece.ensures.piece c.in_ok-piece.ensures.state
-        (c.loop-pieces.invariant.empty e)).0 in
+    (c.loop-pieces.invariant.empty e)).0 in
     absurd (false≢true (sym none))
 
 pub returns-clause-pieces : goal.returns-clause-pieces
 returns-clause-pieces g c =
     let none : ◌≡◌ {A = Option (Piece Place)} None (option_map (piece_in c.loop-pieces.parser.world) (next_call c.loop-pieces.parser).piece) = ap
-        (option_map seen) (sym c.in_default.is) ∙ c.in_ok-piece.ensures.piece in
+    (option_map seen) (sym c.in_default.is) ∙ c.in_ok-piece.ensures.piece in
     pieces_end c.loop-pieces.parser c.args.parser.now.world _ _ none c.loop-pieces.invariant.pieces
 
 pub returns-clause-state : goal.returns-clause-state
 returns-clause-state g c =
     let none : ◌≡◌ {A = Option (Piece Place)} None (option_map (piece_in c.loop-pieces.parser.world) (next_call c.loop-pieces.parser).piece) = ap
-        (option_map seen) (sym c.in_default.is) ∙ c.in_ok-piece.ensures.piece in
+    (option_map seen) (sym c.in_default.is) ∙ c.in_ok-piece.ensures.piece in
     state_end c.loop-pieces.parser c.next_counted.new.self _ none c.in_ok-piece.ensures.state c.loop-pieces.invariant.state
 
 pub loop-pieces-smaller : goal.loop-pieces-smaller

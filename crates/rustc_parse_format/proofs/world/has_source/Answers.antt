@@ -7,7 +7,7 @@ pub returns-in-Some : goal.returns-in-Some
 returns-in-Some c =
     let e : chars c.as_str.result.now ≡ chars (string_bytes c.in-Some.text) = ap chars c.as_str.ensures.value in
     rw c.in-Some.is (source_test c.is_source_literal.result (chars c.args.input.now) c.args.style (chars (string_bytes c.in-Some.text)) c.args.appended_newline
-        (rw e at c.is_source_literal.ensures))
+    (rw e at c.is_source_literal.ensures))
 
 pub returns-in-None : goal.returns-in-None
 unfolding is_source

@@ -7,11 +7,11 @@ pub returns-then-is_empty : goal.returns-then-is_empty
 returns-then-is_empty c =
     let z : length c.self.inside.rest.now ≡ 0 = search rules in
     rw (← c.self.view_is) (sym (ap (λ (p : Place). p.1) (place_over c.self.inside.is_source_literal c.self.inside.offset c.self.inside.end
-        c.self.inside.input.now c.self.inside.rest.now z)))
+    c.self.inside.input.now c.self.inside.rest.now z)))
 
 pub returns-else-is_empty : goal.returns-else-is_empty
 returns-else-is_empty c =
     let z : length c.self.inside.rest.now ≡ 0 → ⊥ = search rules in
     rw (← c.self.view_is) (sym (stop_left
     c.self.inside.is_source_literal c.self.inside.offset c.self.inside.end c.self.inside.input.now c.self.inside.rest.now c.behind_first.result.now
-        c.self.invariant.0 c.behind_first.utf8 z c.behind_first.ensures.rest))
+    c.self.invariant.0 c.behind_first.utf8 z c.behind_first.ensures.rest))
