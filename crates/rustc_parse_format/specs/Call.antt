@@ -4,7 +4,8 @@ use Prim.Native.Char.{code}
 use Rattle.std.specs.Prelude.{◌≡◌, ℕ, suc, zero, ◌++◌, ◌==◌, if◌then◌else◌, List, [], ◌∷◌, length, Option, Some, None}
 use Rattle.rustc_parse_format.specs.Characters.{Text, is_brace, is_no_brace, front, behind, behind_white, first, behind_first, begins_with}
 use Rattle.rustc_parse_format.specs.Types.{Mode, Spec, Piece, Lit, NextArgument}
-use Rattle.rustc_parse_format.specs.Marks.{Span, up_to, over_first}
+use Rattle.rustc_parse_format.specs.Marks.{Span, up_to, through, over_first}
+use Rattle.rustc_parse_format.specs.Syntax.{SpecText, Default, Formatting, Modifier, DiagnosticText}
 use Rattle.rustc_parse_format.specs.Placeholder.{cut, Cut}
 use Rattle.rustc_parse_format.specs.Values.{number_after_field}
 use Rattle.rustc_parse_format.specs.Meaning.{argument}
@@ -17,17 +18,48 @@ pub record Call : Type 0 where
   pub faults : List (Fault Span)
   pub rest : Text
   pub next : ℕ
+  -- the characters that it reads as text, each by how many are left from it on
+  pub texts : List (ℕ × ℕ)
+  -- the placeholder that it closes, from brace to brace
+  pub closes : Option Span
 
 -- r stands where the closing brace of the placeholder at opening, with the specification f, should
 abbrev pub unclosed_fault : Text → Spec Span → Text → Fault Span
 unclosed_fault opening f r = no_brace (brace_fill f.fill f.fill_span) (first r) (up_to r r) (over_first opening)
 
+-- a run of text with r after it, each character by how many are left from it on
+abbrev pub marked : Text → Text → List (ℕ × ℕ)
+marked [] r = []
+marked (c ∷ u) r = (c, length (c ∷ u ++ r)) ∷ marked u r
+
+-- the text that is read in a specification with r after it: of a diagnostic one, all after its colon
+abbrev pub spec_texts : SpecText → Text → List (ℕ × ℕ)
+spec_texts Default r = []
+spec_texts (Formatting p) r = []
+spec_texts (Modifier w) r = []
+spec_texts (DiagnosticText u) r = marked u r
+
 -- the characters of l, and the longest run without braces at the front of t
 abbrev pub text_call : ℕ → Text → Text → Call
-text_call c l t = record { piece = Some (Lit (l ++ front is_no_brace t)); faults = []; rest = behind is_no_brace t; next = c }
+text_call c l t = record {
+  piece = Some (Lit (l ++ front is_no_brace t));
+  faults = [];
+  rest = behind is_no_brace t;
+  next = c;
+  texts = marked (front is_no_brace t) (behind is_no_brace t);
+  closes = None;
+}
 
-abbrev pub closed_call : ℕ → Cut → Text → Call
-closed_call c a r = record { piece = Some (NextArgument (argument c a)); faults = cut_faults a; rest = r; next = number_after_field c a.field }
+-- the placeholder at opening, closed by the brace in front of r
+abbrev pub closed_call : ℕ → Text → Cut → Text → Call
+closed_call c opening a r = record {
+  piece = Some (NextArgument (argument c a));
+  faults = cut_faults a;
+  rest = behind_first r;
+  next = number_after_field c a.field;
+  texts = spec_texts a.field.spec a.rest;
+  closes = Some (through opening r);
+}
 
 abbrev pub unclosed_call : ℕ → Text → Cut → Text → Call
 unclosed_call c opening a r = record {
@@ -35,6 +67,8 @@ unclosed_call c opening a r = record {
   faults = cut_faults a ++ unclosed_fault opening (argument c a).format r ∷ [];
   rest = r;
   next = number_after_field c a.field;
+  texts = spec_texts a.field.spec a.rest;
+  closes = None;
 }
 
 -- the placeholder at opening, with t after its brace
@@ -42,13 +76,13 @@ unfoldable pub placeholder : Mode → ℕ → Text → Text → Call
 placeholder mode c opening t =
     let a = cut mode t in
     let r = behind_white a.rest in
-    if begins_with (code "}") r then closed_call c a (behind_first r) else unclosed_call c opening a r
+    if begins_with (code "}") r then closed_call c opening a r else unclosed_call c opening a r
 
 abbrev pub unmatched_call : ℕ → Text → Text → Call
-unmatched_call c at t = record { piece = None; faults = UnmatchedBrace (over_first at) ∷ []; rest = t; next = c }
+unmatched_call c at t = record { piece = None; faults = UnmatchedBrace (over_first at) ∷ []; rest = t; next = c; texts = []; closes = None }
 
 abbrev pub end_call : ℕ → Call
-end_call c = record { piece = None; faults = []; rest = []; next = c }
+end_call c = record { piece = None; faults = []; rest = []; next = c; texts = []; closes = None }
 
 -- the call on the rest t, where the next number is c
 unfoldable pub call : Mode → ℕ → Text → Call

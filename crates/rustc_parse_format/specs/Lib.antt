@@ -24,5 +24,8 @@ pub mod LiteralUnits
 pub mod Literal
 pub mod Source
 pub mod World
+pub mod SeenSource
+pub mod Lines
+pub mod ReadBack
 pub mod LiteralReading
 pub mod KnownTexts

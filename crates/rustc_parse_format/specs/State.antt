@@ -1,11 +1,16 @@
 -- What a caller sees of a parser between two calls.
-use Rattle.std.specs.Prelude.{◌≡◌, ◌++◌, ℕ, ◌-◌, Bool, List, [], ◌∷◌, length, Option, Some, None, option_map}
+use Rattle.std.specs.Prelude.{◌≡◌, ◌++◌, ◌&&◌, ℕ, ◌-◌, Bool, true, false, if◌then◌else◌, List, [], ◌∷◌, length, Option, Some, None, option_map}
 use Rattle.rustc_parse_format.specs.Characters.{Text, byte_length}
 use Rattle.rustc_parse_format.specs.Types.{Mode, Piece, bare}
 use Rattle.rustc_parse_format.specs.Faults.{Fault, Message, add_errors}
 use Rattle.rustc_parse_format.specs.Marks.{Span}
-use Rattle.rustc_parse_format.specs.World.{World, Place, place_at, world, faults_in, pieces_in}
+use Rattle.rustc_parse_format.specs.World.{World, Place, place_at, world, quote_offset, faults_in, pieces_in}
+use Rattle.rustc_parse_format.specs.Lines.{lines_in, closed_in, with_last}
 use Rattle.rustc_parse_format.specs.Call.{Call, call, walk, IsWalk, pieces_of}
+
+abbrev pub is_nil : Text → Bool
+is_nil [] = true
+is_nil (c ∷ t) = false
 
 -- What a cursor stands at: the rest of an input, in its world.
 pub record Unread : Type 0 where
@@ -13,26 +18,47 @@ pub record Unread : Type 0 where
   pub input : Text
   pub rest : Text
 
--- What a reader stands at in the middle of a call: the same, with the number that the next implicit argument takes, and the
--- faults of the call so far.
+-- What a reader stands at in the middle of a call: the same, with the number that the next implicit argument takes, and what the
+-- call has found so far.
 pub record Midway : Type 0 where
   pub world : World
   pub input : Text
   pub rest : Text
   pub next : ℕ
   pub faults : List (Fault Place)
+  -- where the line starts that is read, and the lines in front of it
+  pub line_start : ℕ
+  pub lines : List Place
+  -- the placeholder that was closed
+  pub closed : List Place
 
--- at the place of a cursor, with this number and these faults
-abbrev pub midway : Unread → ℕ → List (Fault Place) → Midway
-midway u n fs = record { world = u.world; input = u.input; rest = u.rest; next = n; faults = fs }
+-- at the place of a cursor, with this number and in this line, where nothing was found yet
+abbrev pub midway : Unread → ℕ → ℕ → Midway
+midway u n start =
+    record { world = u.world; input = u.input; rest = u.rest; next = n; faults = []; line_start = start; lines = []; closed = [] }
 
 -- read up to the rest r and the number n, with these faults found on the way
 abbrev pub read_to : Midway → Text → ℕ → List (Fault Span) → Midway
 read_to s r n fs = record s { rest = r; next = n; faults = s.faults ++ faults_in s.world fs }
 
+-- with these characters read as text: where there is a source literal they are read line by line
+abbrev pub read_texts : Midway → List (ℕ × ℕ) → Midway
+read_texts s cs =
+    let lines = lines_in s.world s.line_start cs in
+    record s { line_start = lines.0; lines = s.lines ++ lines.1 }
+
 -- after a call
 abbrev pub read_call : Midway → Call → Midway
-read_call s k = read_to s k.rest k.next k.faults
+read_call s k =
+    let lines = lines_in s.world s.line_start k.texts in
+    record s {
+      rest = k.rest;
+      next = k.next;
+      faults = s.faults ++ faults_in s.world k.faults;
+      line_start = lines.0;
+      lines = s.lines ++ lines.1;
+      closed = s.closed ++ closed_in s.world k.closes;
+    }
 
 -- the first character of t with its place and its byte position in the input, if there is one
 abbrev pub first_of : World → Text → Text → Option (Place × ℕ × ℕ)
@@ -48,22 +74,51 @@ pub record State : Type 0 where
   -- the number that the next implicit argument takes
   pub next : ℕ
   pub errors : List (Message Place)
+  -- of the placeholders that were closed, in a source literal
+  pub arg_places : List Place
+  -- where the line starts that is read
+  pub line_start : ℕ
+  -- the lines in front of it, in a source literal
+  pub line_spans : List Place
 
--- at the start of an input
-abbrev pub fresh : Mode → World → Text → State
-fresh mode w input = record { mode = mode; world = w; input = input; rest = input; next = 0; errors = [] }
+-- at the start of an input, whose first line starts at a byte
+abbrev pub fresh : Mode → World → Text → ℕ → State
+fresh mode w input start = record {
+  mode = mode;
+  world = w;
+  input = input;
+  rest = input;
+  next = 0;
+  errors = [];
+  arg_places = [];
+  line_start = start;
+  line_spans = [];
+}
 
 -- the same for what a parser is given: an input, the style of its literal, a snippet, and whether a newline was appended
 abbrev pub first_state : Mode → Text → Option ℕ → Option Text → Bool → State
-first_state mode input style snippet appended = fresh mode (world input style snippet appended) input
+first_state mode input style snippet appended = fresh mode (world input style snippet appended) input (quote_offset style)
 
 -- the call that comes next
 abbrev pub next_call : State → Call
 next_call s = call s.mode s.next s.rest
 
+-- The last line goes up to the end of the text, and comes with a call at the end.
+abbrev pub last_lines : State → List Place → List Place
+last_lines s ls = if s.world.has_source && is_nil s.rest then with_last (s.line_start, s.world.end) ls else ls
+
 -- after that call
 abbrev pub after : State → Call → State
-after s k = record s { rest = k.rest; next = k.next; errors = add_errors s.errors (faults_in s.world k.faults) }
+after s k =
+    let lines = lines_in s.world s.line_start k.texts in
+    record s {
+      rest = k.rest;
+      next = k.next;
+      errors = add_errors s.errors (faults_in s.world k.faults);
+      arg_places = s.arg_places ++ closed_in s.world k.closes;
+      line_start = lines.0;
+      line_spans = last_lines s (s.line_spans ++ lines.1);
+    }
 
 -- a call gave the piece q up to the rest r, with the next number n and no fault
 pub record GivesPiece (given : Option (Piece Place)) (q : Piece (Unit {0})) (r : Text) (n : ℕ) (old new : State) : Type 0 where

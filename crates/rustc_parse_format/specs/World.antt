@@ -1,9 +1,12 @@
 -- A world gives each character of the input its place, a range of bytes, and so each mark its number.
-use Rattle.std.specs.Prelude.{ℕ, ◌+◌, ◌-◌, Bool, if◌then◌else◌, List, [], ◌∷◌, length, map, Option, Some, None, slice_index_or}
+use Rattle.std.specs.Prelude.{ℕ, suc, ◌+◌, ◌-◌, ◌++◌, Bool, true, false, if◌then◌else◌, List, [], ◌∷◌, length, map, Option, Some, None, slice_index_or}
+use Rattle.std.specs.Prelude.{unwrap_or}
 use Rattle.std.specs.Char.{len_utf8}
 use Rattle.rustc_parse_format.specs.Characters.{Text, byte_length}
 use Rattle.rustc_parse_format.specs.Types.{Piece, map_piece}
-use Rattle.rustc_parse_format.specs.Source.{is_source}
+use Rattle.rustc_parse_format.specs.LiteralUnits.{LiteralUnit}
+use Rattle.rustc_parse_format.specs.Literal.{placed_characters, units}
+use Rattle.rustc_parse_format.specs.Source.{between, is_source}
 use Rattle.rustc_parse_format.specs.Marks.{Mark, Start, End, Span}
 use Rattle.rustc_parse_format.specs.Faults.{Fault, map_fault}
 
@@ -34,18 +37,54 @@ abbrev pub quote_offset : Option ℕ → ℕ
 quote_offset None = 1
 quote_offset (Some n) = n + 2
 
--- Where the text ends (with a source literal too it is the whole snippet, closing quote and hashes included): with the snippet, or else with the input, without
--- its appended newline.
-abbrev pub text_end : Text → Option Text → Bool → ℕ
-text_end input (Some snippet) newline = byte_length snippet
-text_end input None newline = byte_length input - (if newline then 1 else 0)
-
 -- a text that starts at a byte and ends at another, and whether it has a source literal
 abbrev pub plain_world : Bool → ℕ → Text → ℕ → World
 plain_world literal at input end = record { has_source = literal; places = plain_places at input; end = end }
 
+-- the places of the characters of a content that starts at a byte
+abbrev pub content_places : ℕ → List LiteralUnit → List Place
+content_places at us = map (λ (x : Place × ℕ). x.0) (placed_characters at us)
+
+-- where the last of these places ends; where there is none, it is e
+abbrev pub last_stop : ℕ → List Place → ℕ
+last_stop e [] = e
+last_stop e (p ∷ ps) = last_stop p.1 ps
+
+-- an appended newline has its place at the end of the text
+abbrev pub newline_places : ℕ → Bool → List Place
+newline_places e appended = if appended then (e, suc e) ∷ [] else []
+
+-- The end of the text, in four cases. Without a snippet the text ends with the input, without its appended newline;
+abbrev pub input_end : Text → Bool → ℕ
+input_end input appended = byte_length input - (if appended then 1 else 0)
+
+-- with a snippet that is not its source literal, it ends with the snippet;
+abbrev pub foreign_end : Text → ℕ
+foreign_end snippet = byte_length snippet
+
+-- in a raw literal, in front of the closing quote and its hashes;
+abbrev pub raw_end : ℕ → Text → ℕ
+raw_end n snippet = byte_length snippet - (n + 1)
+
+-- in an ordinary literal, where the last character of its content ends: in front of a continuation there.
+abbrev pub ordinary_end : List LiteralUnit → ℕ
+ordinary_end us = last_stop 1 (content_places 1 us)
+
+-- an ordinary source literal with these units
+abbrev pub ordinary_world : List LiteralUnit → Bool → World
+ordinary_world us appended =
+    record { has_source = true; places = content_places 1 us ++ newline_places (ordinary_end us) appended; end = ordinary_end us }
+
+-- a source literal of that style
+abbrev pub literal_world : Text → Option ℕ → Text → Bool → World
+literal_world input None snippet appended = ordinary_world (unwrap_or (units (between snippet)) []) appended
+literal_world input (Some n) snippet appended = plain_world true (n + 2) input (raw_end n snippet)
+
 unfoldable pub world : Text → Option ℕ → Option Text → Bool → World
-world input style snippet newline = plain_world (is_source input style snippet newline) (quote_offset style) input (text_end input snippet newline)
+world input style None appended = plain_world false (quote_offset style) input (input_end input appended)
+world input style (Some snippet) appended =
+    if is_source input style (Some snippet) appended then literal_world input style snippet appended
+    else plain_world false (quote_offset style) input (foreign_end snippet)
 
 -- the place of the character from which k are left, or of the end of the text
 unfoldable pub place_at : World → ℕ → Place

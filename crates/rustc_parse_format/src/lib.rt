@@ -12,6 +12,7 @@ mod parser;
 mod placeholder;
 mod reader;
 mod reading;
+mod source;
 mod specification;
 mod types;
 mod world;

@@ -1,0 +1,62 @@
+-- Reading a range of a source literal back, through its escapes. The units of an ordinary literal are those of its content; of a
+-- raw one each character of its text stands for itself. The rule is the Rust Reference, string literals and raw string literals.
+use Rattle.std.specs.Prelude.{◌≡◌, ℕ, suc, ◌+◌, ◌-◌, ◌≤◌, ◌<◌, ◌&&◌, ◌++◌, Bool, if◌then◌else◌, nat_le, List, [], ◌∷◌, length, map, take, drop, Option, Some, None}
+use Rattle.std.specs.Prelude.{unwrap_or}
+use Rattle.rustc_parse_format.specs.Characters.{Text, byte_length}
+use Rattle.rustc_parse_format.specs.LiteralUnits.{LiteralUnit, Plain, spelling, value}
+use Rattle.rustc_parse_format.specs.Literal.{units}
+use Rattle.rustc_parse_format.specs.Source.{between, unappended}
+use Rattle.rustc_parse_format.specs.Marks.{Mark, Start, End, Span}
+use Rattle.rustc_parse_format.specs.Types.{Count, Name, Spec, Argument, Piece, Lit, NextArgument}
+use Rattle.rustc_parse_format.specs.World.{Place, quote_offset}
+
+-- the units of a source literal of an input, from the byte at `quote_offset` on
+abbrev pub source_units : Text → Option ℕ → Text → Bool → List LiteralUnit
+source_units input None snippet appended = unwrap_or (units (between snippet)) []
+source_units input (Some n) snippet appended = map Plain (unappended appended input)
+
+-- The characters of the units that end at byte s or before, where the first unit starts at a byte.
+abbrev pub before : ℕ → ℕ → List LiteralUnit → Text
+before s at [] = []
+before s at (u ∷ us) =
+    (if nat_le (at + byte_length (spelling u)) s then value u else []) ++ before s (at + byte_length (spelling u)) us
+
+-- The characters of the units that lie in a range of bytes.
+abbrev pub inside : Place → ℕ → List LiteralUnit → Text
+inside p at [] = []
+inside p at (u ∷ us) =
+    (if nat_le p.0 at && nat_le (at + byte_length (spelling u)) p.1 then value u else []) ++ inside p (at + byte_length (spelling u)) us
+
+-- How many characters of n are in front of a mark: those before its character, and with it where the mark is its end.
+abbrev pub count_before : ℕ → Mark → ℕ
+count_before n (Start k) = n - k
+count_before n (End k) = suc n - k
+
+-- the characters of a text up to a mark in it
+abbrev pub up_to_mark : Text → Mark → Text
+up_to_mark t m = take (count_before (length t) m) t
+
+-- A range reads back to the characters between two marks of the input, and what is before it to those before the first mark. An
+-- appended newline has no unit, and is left out of both.
+pub record ReadsBack (input : Text) (style : Option ℕ) (snippet : Text) (appended : Bool) (s : Span) (p : Place) : Type 0 where
+  pub before : before p.0 (quote_offset style) (source_units input style snippet appended)
+      ≡ take (count_before (length input) s.from) (unappended appended input)
+  pub inside : inside p (quote_offset style) (source_units input style snippet appended)
+      ≡ drop (count_before (length input) s.from) (take (count_before (length input) s.to) (unappended appended input))
+
+abbrev pub optional : {A : Type 0} → Option A → List A
+optional None = []
+optional (Some x) = x ∷ []
+
+abbrev pub spans_of_count : {A : Type 0} → Count A → List A
+spans_of_count (Name w s) = s ∷ []
+spans_of_count k = []
+
+abbrev pub spans_of_spec : {A : Type 0} → Spec A → List A
+spans_of_spec f = optional f.fill_span ++ spans_of_count f.width ++ optional f.width_span ++ spans_of_count f.precision
+    ++ optional f.precision_span ++ optional f.ty_span
+
+-- all spans in a piece
+abbrev pub spans_of : {A : Type 0} → Piece A → List A
+spans_of (Lit t) = []
+spans_of (NextArgument a) = a.position_span ∷ spans_of_spec a.format
