@@ -1,11 +1,12 @@
 //! Where the input stands in the source.
 
-ghost use Rattle.std.specs.Prelude.{◌≡◌, ◌+◌, ◌<◌, ◌^◌, chars};
+ghost use Rattle.std.specs.Prelude.{◌≡◌, ◌+◌, ◌<◌, ◌^◌, chars, length};
 ghost use Rattle.rustc_parse_format.specs.Seen.{seen_snippet};
-ghost use Rattle.rustc_parse_format.specs.Source.{is_source};
-ghost use Rattle.rustc_parse_format.specs.World.{hashes, quote_offset, text_end};
+ghost use Rattle.rustc_parse_format.specs.SeenSource.{IsKept, IsPlaced, seen_world};
+ghost use Rattle.rustc_parse_format.specs.World.{hashes, quote_offset, world};
 
 use crate::literal::is_source_literal;
+use crate::source::Source;
 
 /// What stands in front of the text, in bytes: a quote, or `r`, the hashes and a quote.
 pub fn quote_offset(style: Option<usize>) -> usize
@@ -18,30 +19,26 @@ pub fn quote_offset(style: Option<usize>) -> usize
     }
 }
 
-/// Where the text ends: with the snippet, or else with the input, without its appended newline.
-pub fn text_end(input: &str, snippet: &Option<String>, appended_newline: bool) -> usize
-    ensures { result
-        ≡ text_end (chars input.now) (seen_snippet snippet.now) appended_newline }
+/// Where an input stands in its source.
+pub fn source_of<'input>(
+    input: &'input str,
+    style: Option<usize>,
+    snippet: Option<String>,
+    appended_newline: bool,
+) -> Source<'input>
+    requires { hashes style + length input.now + 2 < 2 ^ 64 }
+    ensures input { result.input.now ≡ input.now }
+    ensures world { seen_world result ≡ world (chars input.now) style (seen_snippet snippet.entry) appended_newline }
+    ensures fits { result.offset + length input.now < 2 ^ 64 }
+    ensures kept { IsKept result }
 {
-    match snippet {
-        Some(text) => text.as_str().len(),
-        None if appended_newline => input.len().saturating_sub(1),
-        None => input.len(),
-    }
+    Source { input, is_literal: false, offset: quote_offset(style), end: input.len(), kept: None, appended: appended_newline }
 }
 
-/// Whether a snippet was given and is the source literal of the input.
-pub fn has_source(
-    input: &str,
-    style: Option<usize>,
-    snippet: &Option<String>,
-    appended_newline: bool,
-) -> bool
-    ensures { result ≡ is_source (chars input.now) style
-        (seen_snippet snippet.now) appended_newline }
+/// Where the first character stands in the snippet, if that is kept.
+pub fn first_byte(source: &Source<'_>) -> usize
+    requires { IsKept source.now }
+    ensures { IsPlaced source.now.kept (seen_world source.now) (chars source.now.input.now) result }
 {
-    match snippet {
-        Some(text) => is_source_literal(input, style, text.as_str(), appended_newline),
-        None => false,
-    }
+    0
 }
