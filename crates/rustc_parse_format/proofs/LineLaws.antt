@@ -1,0 +1,149 @@
+-- Laws of lines: reading goes on where it stopped, the computing form is the cut at the newlines and the only one, and what
+-- one character does.
+use Prim.Native.Char.{code}
+use Rattle.std.proofs.Common.{◌≡◌, ◌≢◌, ℕ, ◌++◌, ◌&&◌, ◌==◌, Bool, true, false, not, cond, List, [], ◌∷◌, length, map, IsTrue, refl, sym, ap, subst, ◌∙◌}
+use Rattle.std.proofs.Common.{append_assoc, if◌then◌else◌}
+use Rattle.std.specs.List.{list_all}
+use Rattle.std.specs.Char.{is_whitespace}
+use Rattle.std.proofs.lemmas.List.{map-append}
+use Rattle.std.proofs.lemmas.Bool.{and_parts, and_from}
+use Rattle.rustc_parse_format.specs.Characters.{Text}
+use Rattle.rustc_parse_format.specs.World.{World, Place, place_at}
+use Rattle.rustc_parse_format.specs.Call.{marked}
+use Rattle.rustc_parse_format.specs.Lines.{Noted, noted, is_newline, is_indent, indented, IsLines, read_lines, lines_in}
+
+-- Reading from a line start on, and then more from where that stopped.
+abbrev pub Reading : Type 0
+Reading = ℕ × List Place
+
+abbrev pub then_read : Reading → Reading → Reading
+then_read r q = (q.0, r.1 ++ q.1)
+
+pub read_lines-append : (start : ℕ) (xs ys : List Noted) →
+    read_lines start (xs ++ ys) ≡ then_read (read_lines start xs) (read_lines (read_lines start xs).0 ys)
+read_lines-append start [] ys = refl
+read_lines-append start (x ∷ xs) ys =
+    by_test (is_newline x) (read_lines-append x.1.1 xs ys) (read_lines-append (if is_indent start x then x.1.1 else start) xs ys)
+  where
+    by_test : (b : Bool) →
+        read_lines x.1.1 (xs ++ ys) ≡ then_read (read_lines x.1.1 xs) (read_lines (read_lines x.1.1 xs).0 ys) →
+        read_lines (if is_indent start x then x.1.1 else start) (xs ++ ys)
+        ≡ then_read (read_lines (if is_indent start x then x.1.1 else start) xs)
+        (read_lines (read_lines (if is_indent start x then x.1.1 else start) xs).0 ys) →
+        cond b ((read_lines x.1.1 (xs ++ ys)).0, (start, x.1.0) ∷ (read_lines x.1.1 (xs ++ ys)).1)
+        (read_lines (if is_indent start x then x.1.1 else start) (xs ++ ys))
+        ≡ then_read (cond b ((read_lines x.1.1 xs).0, (start, x.1.0) ∷ (read_lines x.1.1 xs).1) (read_lines (if is_indent start x then x.1.1 else start) xs))
+        (read_lines (cond b ((read_lines x.1.1 xs).0, (start, x.1.0) ∷ (read_lines x.1.1 xs).1)
+        (read_lines (if is_indent start x then x.1.1 else start) xs)).0 ys)
+    by_test true newline other = ap (λ (r : Reading). (r.0, (start, x.1.0) ∷ r.1)) newline
+    by_test false newline other = other
+
+-- Characters and their places.
+pub noted-append : (w : World) (cs ds : List (ℕ × ℕ)) → noted w (cs ++ ds) ≡ noted w cs ++ noted w ds
+noted-append w cs ds = map-append (λ (x : ℕ × ℕ). (x.0, place_at w x.1)) cs ds
+
+pub marked-append : (u v r : Text) → marked (u ++ v) r ≡ marked u (v ++ r) ++ marked v r
+marked-append [] v r = refl
+marked-append (c ∷ u) v r =
+    ap (λ (t : Text). (c, length (c ∷ t)) ∷ marked (u ++ v) r) (append_assoc u v r)
+    ∙ ap (λ (cs : List (ℕ × ℕ)). (c, length (c ∷ (u ++ (v ++ r)))) ∷ cs) (marked-append u v r)
+
+-- The same in a world, whether or not it has a source literal.
+pub lines_in-append : (w : World) (start : ℕ) (cs ds : List (ℕ × ℕ)) →
+    lines_in w start (cs ++ ds) ≡ then_read (lines_in w start cs) (lines_in w (lines_in w start cs).0 ds)
+lines_in-append w start cs ds =
+    by_test w.has_source (ap (read_lines start) (noted-append w cs ds) ∙ read_lines-append start (noted w cs) (noted w ds))
+  where
+    by_test : (b : Bool) →
+        read_lines start (noted w (cs ++ ds)) ≡ then_read (read_lines start (noted w cs)) (read_lines (read_lines start (noted w cs)).0 (noted w ds)) →
+        cond b (read_lines start (noted w (cs ++ ds))) (start, [])
+        ≡ then_read (cond b (read_lines start (noted w cs)) (start, []))
+        (cond b (read_lines (cond b (read_lines start (noted w cs)) (start, [])).0 (noted w ds)) ((cond b (read_lines start (noted w cs)) (start, [])).0, []))
+    by_test true e = e
+    by_test false e = refl
+
+-- One character at a time: a newline ends the line,
+pub read_lines-newline : (start : ℕ) (x : Noted) (xs : List Noted) → is_newline x ≡ true →
+    read_lines start (x ∷ xs) ≡ ((read_lines x.1.1 xs).0, (start, x.1.0) ∷ (read_lines x.1.1 xs).1)
+read_lines-newline start x xs e =
+    ap (λ b. cond b ((read_lines x.1.1 xs).0, (start, x.1.0) ∷ (read_lines x.1.1 xs).1)
+    (read_lines (if is_indent start x then x.1.1 else start) xs)) e
+
+-- and no other character does. White space at the start of the line moves that start behind itself,
+pub read_lines-step : (start : ℕ) (x : Noted) (xs : List Noted) → is_newline x ≡ false →
+    read_lines start (x ∷ xs) ≡ read_lines (if is_indent start x then x.1.1 else start) xs
+read_lines-step start x xs e =
+    ap (λ b. cond b ((read_lines x.1.1 xs).0, (start, x.1.0) ∷ (read_lines x.1.1 xs).1)
+    (read_lines (if is_indent start x then x.1.1 else start) xs)) e
+
+pub read_lines-indent : (start : ℕ) (x : Noted) (xs : List Noted) → is_newline x ≡ false → is_indent start x ≡ true →
+    read_lines start (x ∷ xs) ≡ read_lines x.1.1 xs
+read_lines-indent start x xs e f = read_lines-step start x xs e ∙ ap (λ b. read_lines (cond b x.1.1 start) xs) f
+
+-- and any other character moves nothing.
+pub read_lines-other : (start : ℕ) (x : Noted) (xs : List Noted) → is_newline x ≡ false → is_indent start x ≡ false →
+    read_lines start (x ∷ xs) ≡ read_lines start xs
+read_lines-other start x xs e f = read_lines-step start x xs e ∙ ap (λ b. read_lines (cond b x.1.1 start) xs) f
+
+-- no newline among them
+abbrev pub has_no_newline : List Noted → Bool
+has_no_newline xs = list_all (λ x. not (is_newline x)) xs
+
+-- none of them is white space that starts at start
+abbrev pub has_no_indent : ℕ → List Noted → Bool
+has_no_indent start xs = list_all (λ x. not (is_indent start x)) xs
+
+not-back : (b : Bool) → not b ≡ true → b ≡ false
+not-back true e = sym e
+not-back false e = refl
+
+-- Characters with no newline give no line,
+pub read_lines-one_line : (start : ℕ) (xs : List Noted) → has_no_newline xs ≡ true → read_lines start xs ≡ (indented start xs, [])
+read_lines-one_line start [] a = refl
+read_lines-one_line start (x ∷ xs) a =
+    let h : (not (is_newline x) ≡ true) × (has_no_newline xs ≡ true) = and_parts (not (is_newline x)) _ a in
+    read_lines-step start x xs (not-back (is_newline x) h.0) ∙ read_lines-one_line (if is_indent start x then x.1.1 else start) xs h.1
+
+-- and where none of them is white space at the start of the line, that start stays.
+pub read_lines-skip : (start : ℕ) (xs : List Noted) → has_no_newline xs ≡ true → has_no_indent start xs ≡ true → read_lines start xs ≡ (start, [])
+read_lines-skip start [] a b = refl
+read_lines-skip start (x ∷ xs) a b =
+    let h : (not (is_newline x) ≡ true) × (has_no_newline xs ≡ true) = and_parts (not (is_newline x)) _ a in
+    let k : (not (is_indent start x) ≡ true) × (has_no_indent start xs ≡ true) = and_parts (not (is_indent start x)) _ b in
+    read_lines-other start x xs (not-back (is_newline x) h.0) (not-back (is_indent start x) k.0) ∙ read_lines-skip start xs h.1 k.1
+
+-- The lines that are read are those of the cut,
+cut-further : (start : ℕ) (x : Noted) (xs : List Noted) (ls : List Place) (next : ℕ) → is_newline x ≡ false →
+    IsLines (if is_indent start x then x.1.1 else start) xs ls next → IsLines start (x ∷ xs) ls next
+cut-further start x xs [] next e h = (and_from (not (is_newline x)) _ (ap not e) h.0, h.1)
+cut-further start x xs (line ∷ lines) next e (front, behind, newline, split, none, is, l, rest) =
+    (x ∷ front, behind, newline, ap (λ (ys : List Noted). x ∷ ys) split, and_from (not (is_newline x)) _ (ap not e) none, is, l, rest)
+
+pub read_lines-cut : (start : ℕ) (xs : List Noted) → IsLines start xs (read_lines start xs).1 (read_lines start xs).0
+read_lines-cut start [] = (refl, refl)
+read_lines-cut start (x ∷ xs) =
+    by_test (is_newline x) refl (read_lines-cut x.1.1 xs) (read_lines-cut (if is_indent start x then x.1.1 else start) xs)
+  where
+    by_test : (b : Bool) → is_newline x ≡ b →
+        IsLines x.1.1 xs (read_lines x.1.1 xs).1 (read_lines x.1.1 xs).0 →
+        IsLines (if is_indent start x then x.1.1 else start) xs (read_lines (if is_indent start x then x.1.1 else start) xs).1
+        (read_lines (if is_indent start x then x.1.1 else start) xs).0 →
+        IsLines start (x ∷ xs)
+        (cond b ((read_lines x.1.1 xs).0, (start, x.1.0) ∷ (read_lines x.1.1 xs).1) (read_lines (if is_indent start x then x.1.1 else start) xs)).1
+        (cond b ((read_lines x.1.1 xs).0, (start, x.1.0) ∷ (read_lines x.1.1 xs).1) (read_lines (if is_indent start x then x.1.1 else start) xs)).0
+    by_test true e newline other = ([], xs, x, refl, refl, e, refl, newline)
+    by_test false e newline other = cut-further start x xs _ _ e other
+
+-- and no others are.
+pub cut-only : (start : ℕ) (xs : List Noted) (ls : List Place) (next : ℕ) → IsLines start xs ls next → (next, ls) ≡ read_lines start xs
+cut-only start xs [] next h = ap (λ (n : ℕ). (n, [])) h.1 ∙ sym (read_lines-one_line start xs h.0)
+cut-only start xs (line ∷ lines) next (front, behind, newline, split, none, is, l, rest) =
+    let first : read_lines start front ≡ (indented start front, []) = read_lines-one_line start front none in
+    let ended : read_lines (indented start front) (newline ∷ behind)
+        ≡ ((read_lines newline.1.1 behind).0, (indented start front, newline.1.0) ∷ (read_lines newline.1.1 behind).1) =
+        read_lines-newline (indented start front) newline behind is in
+    let later : (next, lines) ≡ read_lines newline.1.1 behind = cut-only newline.1.1 behind lines next rest in
+    sym (ap (read_lines start) split ∙ (read_lines-append start front (newline ∷ behind)
+    ∙ (ap (λ (r : Reading). then_read r (read_lines r.0 (newline ∷ behind))) first ∙ (ended
+    ∙ (ap (λ (r : Reading). (r.0, (indented start front, newline.1.0) ∷ r.1)) (sym later)
+    ∙ ap (λ (p : Place). (next, p ∷ lines)) (sym l))))))

@@ -1,0 +1,1 @@
+-- The places of a world with a source literal stand in order.
