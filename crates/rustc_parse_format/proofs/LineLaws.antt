@@ -6,7 +6,7 @@ use Rattle.std.proofs.Common.{append_assoc, if◌then◌else◌}
 use Rattle.std.specs.List.{list_all}
 use Rattle.std.specs.Char.{is_whitespace}
 use Rattle.std.proofs.lemmas.List.{map-append}
-use Rattle.std.proofs.lemmas.Bool.{and_parts, and_from}
+use Rattle.std.proofs.lemmas.Bool.{and_parts, and_from, not-true, ne_eqb, eq-eqb}
 use Rattle.rustc_parse_format.specs.Characters.{Text}
 use Rattle.rustc_parse_format.specs.World.{World, Place, place_at}
 use Rattle.rustc_parse_format.specs.Call.{marked}
@@ -85,6 +85,35 @@ pub read_lines-other : (start : ℕ) (x : Noted) (xs : List Noted) → is_newlin
     read_lines start (x ∷ xs) ≡ read_lines start xs
 read_lines-other start x xs e f = read_lines-step start x xs e ∙ ap (λ b. read_lines (cond b x.1.1 start) xs) f
 
+-- The same of a character, by how many are left from it on, in a world.
+newline-yes : (w : World) (c k : ℕ) → c ≡ code "\n" → is_newline (c, place_at w k) ≡ true
+newline-yes w c k e = eq-eqb c (code "\n") e
+
+newline-no : (w : World) (c k : ℕ) → c ≢ code "\n" → is_newline (c, place_at w k) ≡ false
+newline-no w c k h = ne_eqb c (code "\n") h
+
+pub indent-yes : (w : World) (start c k : ℕ) → is_whitespace c ≡ true → (place_at w k).0 ≡ start → is_indent start (c, place_at w k) ≡ true
+indent-yes w start c k white here = and_from (is_whitespace c) _ white (eq-eqb (place_at w k).0 start here)
+
+pub indent-no : (w : World) (start c k : ℕ) → (is_whitespace c ≡ true → (place_at w k).0 ≢ start) → is_indent start (c, place_at w k) ≡ false
+indent-no w start c k h = by_test (is_whitespace c) (λ white. ne_eqb (place_at w k).0 start (h white))
+  where
+    by_test : (b : Bool) → (b ≡ true → ((place_at w k).0 == start) ≡ false) → (b && (place_at w k).0 == start) ≡ false
+    by_test true f = f refl
+    by_test false f = refl
+
+pub note-newline : (w : World) (start c k : ℕ) → c ≡ code "\n" →
+    read_lines start (noted w ((c, k) ∷ [])) ≡ ((place_at w k).1, (start, (place_at w k).0) ∷ [])
+note-newline w start c k e = read_lines-newline start (c, place_at w k) [] (newline-yes w c k e)
+
+pub note-indent : (w : World) (start c k : ℕ) → c ≢ code "\n" → is_whitespace c ≡ true → (place_at w k).0 ≡ start →
+    read_lines start (noted w ((c, k) ∷ [])) ≡ ((place_at w k).1, [])
+note-indent w start c k h white here = read_lines-indent start (c, place_at w k) [] (newline-no w c k h) (indent-yes w start c k white here)
+
+pub note-other : (w : World) (start c k : ℕ) → c ≢ code "\n" → (is_whitespace c ≡ true → (place_at w k).0 ≢ start) →
+    read_lines start (noted w ((c, k) ∷ [])) ≡ (start, [])
+note-other w start c k h other = read_lines-other start (c, place_at w k) [] (newline-no w c k h) (indent-no w start c k other)
+
 -- no newline among them
 abbrev pub has_no_newline : List Noted → Bool
 has_no_newline xs = list_all (λ x. not (is_newline x)) xs
@@ -93,16 +122,12 @@ has_no_newline xs = list_all (λ x. not (is_newline x)) xs
 abbrev pub has_no_indent : ℕ → List Noted → Bool
 has_no_indent start xs = list_all (λ x. not (is_indent start x)) xs
 
-not-back : (b : Bool) → not b ≡ true → b ≡ false
-not-back true e = sym e
-not-back false e = refl
-
 -- Characters with no newline give no line,
 pub read_lines-one_line : (start : ℕ) (xs : List Noted) → has_no_newline xs ≡ true → read_lines start xs ≡ (indented start xs, [])
 read_lines-one_line start [] a = refl
 read_lines-one_line start (x ∷ xs) a =
     let h : (not (is_newline x) ≡ true) × (has_no_newline xs ≡ true) = and_parts (not (is_newline x)) _ a in
-    read_lines-step start x xs (not-back (is_newline x) h.0) ∙ read_lines-one_line (if is_indent start x then x.1.1 else start) xs h.1
+    read_lines-step start x xs (not-true (is_newline x) h.0) ∙ read_lines-one_line (if is_indent start x then x.1.1 else start) xs h.1
 
 -- and where none of them is white space at the start of the line, that start stays.
 pub read_lines-skip : (start : ℕ) (xs : List Noted) → has_no_newline xs ≡ true → has_no_indent start xs ≡ true → read_lines start xs ≡ (start, [])
@@ -110,7 +135,7 @@ read_lines-skip start [] a b = refl
 read_lines-skip start (x ∷ xs) a b =
     let h : (not (is_newline x) ≡ true) × (has_no_newline xs ≡ true) = and_parts (not (is_newline x)) _ a in
     let k : (not (is_indent start x) ≡ true) × (has_no_indent start xs ≡ true) = and_parts (not (is_indent start x)) _ b in
-    read_lines-other start x xs (not-back (is_newline x) h.0) (not-back (is_indent start x) k.0) ∙ read_lines-skip start xs h.1 k.1
+    read_lines-other start x xs (not-true (is_newline x) h.0) (not-true (is_indent start x) k.0) ∙ read_lines-skip start xs h.1 k.1
 
 -- The lines that are read are those of the cut,
 cut-further : (start : ℕ) (x : Noted) (xs : List Noted) (ls : List Place) (next : ℕ) → is_newline x ≡ false →
