@@ -1,16 +1,16 @@
 -- Laws of lines: reading goes on where it stopped, the computing form is the cut at the newlines and the only one, and what
 -- one character does.
 use Prim.Native.Char.{code}
-use Rattle.std.proofs.Common.{◌≡◌, ◌≢◌, ℕ, ◌++◌, ◌&&◌, ◌==◌, Bool, true, false, not, cond, List, [], ◌∷◌, length, map, IsTrue, refl, sym, ap, subst, ◌∙◌}
+use Rattle.std.proofs.Common.{◌≡◌, ◌≢◌, ℕ, ◌++◌, ◌&&◌, ◌==◌, Bool, true, false, not, cond, List, [], ◌∷◌, length, refl, sym, ap, ◌∙◌}
 use Rattle.std.proofs.Common.{append_assoc, if◌then◌else◌}
 use Rattle.std.specs.List.{list_all}
 use Rattle.std.specs.Char.{is_whitespace}
 use Rattle.std.proofs.lemmas.List.{map-append}
-use Rattle.std.proofs.lemmas.Bool.{and_parts, and_from, not-true, ne_eqb, eq-eqb}
+use Rattle.std.proofs.lemmas.Bool.{cond_both, cond-true, and_parts, and_from, not-true, ne_eqb, eq-eqb}
 use Rattle.rustc_parse_format.specs.Characters.{Text}
 use Rattle.rustc_parse_format.specs.World.{World, Place, place_at}
 use Rattle.rustc_parse_format.specs.Call.{marked}
-use Rattle.rustc_parse_format.specs.Lines.{Noted, noted, is_newline, is_indent, indented, IsLines, read_lines, lines_in}
+use Rattle.rustc_parse_format.specs.Lines.{Noted, noted, is_newline, is_indent, indented, IsLines, read_lines, lines_in, ends_with, with_last}
 
 -- Reading from a line start on, and then more from where that stopped.
 abbrev pub Reading : Type 0
@@ -165,10 +165,22 @@ cut-only start xs [] next h = ap (λ (n : ℕ). (n, [])) h.1 ∙ sym (read_lines
 cut-only start xs (line ∷ lines) next (front, behind, newline, split, none, is, l, rest) =
     let first : read_lines start front ≡ (indented start front, []) = read_lines-one_line start front none in
     let ended : read_lines (indented start front) (newline ∷ behind)
-        ≡ ((read_lines newline.1.1 behind).0, (indented start front, newline.1.0) ∷ (read_lines newline.1.1 behind).1) =
-        read_lines-newline (indented start front) newline behind is in
+    ≡ ((read_lines newline.1.1 behind).0, (indented start front, newline.1.0) ∷ (read_lines newline.1.1 behind).1) =
+    read_lines-newline (indented start front) newline behind is in
     let later : (next, lines) ≡ read_lines newline.1.1 behind = cut-only newline.1.1 behind lines next rest in
     sym (ap (read_lines start) split ∙ (read_lines-append start front (newline ∷ behind)
     ∙ (ap (λ (r : Reading). then_read r (read_lines r.0 (newline ∷ behind))) first ∙ (ended
     ∙ (ap (λ (r : Reading). (r.0, (indented start front, newline.1.0) ∷ r.1)) (sym later)
     ∙ ap (λ (p : Place). (next, p ∷ lines)) (sym l))))))
+
+-- The last line stands there once: lines that end with it stay as they are.
+ends_with-last : (line : Place) (ls : List Place) → ends_with line (ls ++ line ∷ []) ≡ true
+ends_with-last line [] = and_from (line.0 == line.0) _ (eq-eqb line.0 line.0 refl) (eq-eqb line.1 line.1 refl)
+ends_with-last line (l ∷ []) = ends_with-last line []
+ends_with-last line (l ∷ m ∷ ls) = ends_with-last line (m ∷ ls)
+
+pub with_last-ends : (line : Place) (ls : List Place) → ends_with line (with_last line ls) ≡ true
+with_last-ends line ls = cond_both (ends_with line ls) ls (ls ++ line ∷ []) (λ ms. ends_with line ms ≡ true) (λ yes. yes) (λ no. ends_with-last line ls)
+
+pub with_last-once : (line : Place) (ls : List Place) → with_last line (with_last line ls) ≡ with_last line ls
+with_last-once line ls = cond-true (ends_with line (with_last line ls)) _ _ (with_last-ends line ls)

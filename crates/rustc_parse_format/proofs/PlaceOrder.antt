@@ -1,26 +1,26 @@
 -- The places of a text stand in order, in each world, and there are as many as characters. So a run of text without newlines
 -- moves the start of the line at most at its first character.
 use Prim.Native.Char.{code}
-use Rattle.std.proofs.Common.{◌≡◌, ◌≢◌, ℕ, suc, zero, ◌+◌, ◌-◌, ◌<◌, ◌≤◌, ◌++◌, ◌==◌, Bool, true, false, not, cond, List, [], ◌∷◌, length, map, get_or}
-use Rattle.std.proofs.Common.{Option, Some, None, IsTrue, unwrap_or, refl, sym, ap, subst, ◌∙◌, arith, length-append}
+use Rattle.std.proofs.Common.{◌≡◌, ◌≢◌, ℕ, suc, zero, ◌+◌, ◌-◌, ◌<◌, ◌≤◌, ◌++◌, ◌==◌, Bool, true, false, not, List, [], ◌∷◌, length, map, get_or}
+use Rattle.std.proofs.Common.{Option, Some, None, unwrap_or, refl, sym, ap, ◌∙◌, arith, length-append}
 use Rattle.std.specs.List.{list_all}
 use Rattle.std.specs.Char.{len_utf8, is_whitespace}
 use Rattle.std.proofs.lemmas.Str.{len_utf8_bounds}
 use Rattle.std.proofs.lemmas.List.{length-map}
-use Rattle.std.proofs.lemmas.Bool.{cond_both, and_parts, and_from, not-true, ne_eqb}
-use Rattle.rustc_parse_format.specs.Characters.{Text, byte_length}
+use Rattle.std.proofs.lemmas.Bool.{cond_both, and_parts, and_from, true≢false}
+use Rattle.rustc_parse_format.specs.Characters.{Text, byte_length, first_passes}
 use Rattle.rustc_parse_format.specs.LiteralUnits.{LiteralUnit, Plain, SimpleEscape, ByteEscape, UnicodeEscape, Continuation, spelling, value, escaped, at_most_one}
-use Rattle.rustc_parse_format.specs.Literal.{placed_characters, content_value, units, newline, IsSource, IsLiteral}
+use Rattle.rustc_parse_format.specs.Literal.{placed_characters, content_value, units, newline, IsSource}
 use Rattle.rustc_parse_format.specs.Source.{between, is_source}
 use Rattle.rustc_parse_format.specs.World.{World, Place, plain_places, content_places, last_stop, newline_places, ordinary_end, ordinary_world}
-use Rattle.rustc_parse_format.specs.World.{literal_world, plain_world, raw_end, foreign_end, input_end, quote_offset, world, place_at}
+use Rattle.rustc_parse_format.specs.World.{literal_world, quote_offset, world, place_at}
 use Rattle.rustc_parse_format.specs.Call.{marked}
-use Rattle.rustc_parse_format.specs.Lines.{Noted, noted, is_newline, is_indent, read_lines}
+use Rattle.rustc_parse_format.specs.Lines.{noted, is_indent, read_lines}
 use Rattle.rustc_parse_format.proofs.LiteralWidths.{width-cons}
 use Rattle.rustc_parse_format.proofs.LiteralContents.{some_length, units-complete}
 use Rattle.rustc_parse_format.proofs.Places.{length-plain_places}
 use Rattle.rustc_parse_format.proofs.Sources.{source-found, between-frame}
-use Rattle.rustc_parse_format.proofs.LineLaws.{has_no_newline, has_no_indent, indent-no, read_lines-skip}
+use Rattle.rustc_parse_format.proofs.LineLaws.{has_no_newline, has_no_indent, indent-yes, indent-no, read_lines-skip}
 
 -- From a byte on, each place starts no earlier than where the one before it ended, and ends after it starts.
 abbrev pub InOrder : ℕ → List Place → Type 0
@@ -152,9 +152,17 @@ pub run-no_line : (b : ℕ) (w : World) (start c : ℕ) (u r : Text) → InOrder
 run-no_line b w start c u r o n a s h =
     let bytes = place-bytes b w (length (c ∷ (u ++ r))) o (omega arith) n in
     let later : (k : ℕ) → 0 < k → k ≤ length (u ++ r) → start < (place_at w k).0 =
-        λ k p q. let order = place-before b w (length (c ∷ (u ++ r))) k o p (omega arith) n in omega arith in
+    λ k p q. let order = place-before b w (length (c ∷ (u ++ r))) k o p (omega arith) n in omega arith in
     read_lines-skip start (noted w (marked (c ∷ u) r)) (noted-no_newline w (c ∷ u) r a)
     (and_from _ _ (ap not (indent-no w start c (length (c ∷ (u ++ r))) h)) (behind-no_indent w start u r later))
+
+-- The same of a run that may be empty.
+pub run-no_lines : (b : ℕ) (w : World) (start : ℕ) (u r : Text) → InOrder b w.places → length (u ++ r) ≤ length w.places →
+    no_newline u ≡ true → start ≤ (place_at w (length (u ++ r))).0 →
+    first_passes (λ c. is_indent start (c, place_at w (length (u ++ r)))) u ≡ false → read_lines start (noted w (marked u r)) ≡ (start, [])
+run-no_lines b w start [] r o n a s h = refl
+run-no_lines b w start (c ∷ u) r o n a s h =
+    run-no_line b w start c u r o n a s (λ white here. true≢false (sym (indent-yes w start c (length (c ∷ (u ++ r))) white here) ∙ h))
 
 -- There are as many places as characters.
 length-content_places : (q : ℕ) (us : List LiteralUnit) → length (content_places q us) ≡ length (content_value us)
@@ -193,7 +201,7 @@ length-literal : (input : Text) (style : Option ℕ) (snippet : Text) (appended 
     length (literal_world input style snippet appended).places ≡ length input
 length-literal input None snippet appended (t, (content, us, framed, is, stands), whole) =
     let found : units (between snippet) ≡ Some us =
-        ap (λ s. units (between s)) framed ∙ (ap units (between-frame content) ∙ units-complete content us is) in
+    ap (λ s. units (between s)) framed ∙ (ap units (between-frame content) ∙ units-complete content us is) in
     ap (λ (o : Option (List LiteralUnit)). length (ordinary_world (unwrap_or o []) appended).places) found
     ∙ (length-ordinary us appended ∙ ap length (ap (λ s. s ++ newline appended) stands ∙ whole))
 length-literal input (Some n) snippet appended h = length-plain_places (n + 2) input
