@@ -1,9 +1,9 @@
 -- Worked rows of lines: the lines of whole texts, by a walk, and where texts end. Places are ranges of bytes in the snippet.
-use Rattle.std.proofs.Common.{◌≡◌, ℕ, Bool, true, false, List, [], ◌∷◌, refl, codes, Option, Some, None}
+use Rattle.std.proofs.Common.{◌≡◌, ℕ, Bool, true, false, [], ◌∷◌, refl, codes, Option, Some, None}
 use Rattle.rustc_parse_format.specs.Characters.{Text}
 use Rattle.rustc_parse_format.specs.Types.{Format}
 use Rattle.rustc_parse_format.specs.Source.{is_source}
-use Rattle.rustc_parse_format.specs.World.{World, Place, world, place_at}
+use Rattle.rustc_parse_format.specs.World.{World, world, place_at}
 use Rattle.rustc_parse_format.specs.Call.{call, walk, marked}
 use Rattle.rustc_parse_format.specs.Lines.{noted, read_lines, with_last}
 use Rattle.rustc_parse_format.specs.State.{State, first_state, calls, after, after_all, next_call}

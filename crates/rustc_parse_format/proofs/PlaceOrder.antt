@@ -9,7 +9,8 @@ use Rattle.std.proofs.lemmas.Str.{len_utf8_bounds}
 use Rattle.std.proofs.lemmas.List.{length-map}
 use Rattle.std.proofs.lemmas.Bool.{cond_both, and_parts, and_from, true≢false}
 use Rattle.rustc_parse_format.specs.Characters.{Text, byte_length, first_passes}
-use Rattle.rustc_parse_format.specs.LiteralUnits.{LiteralUnit, Plain, SimpleEscape, ByteEscape, UnicodeEscape, Continuation, spelling, value, escaped, at_most_one}
+use Rattle.rustc_parse_format.specs.LiteralUnits.{LiteralUnit, Plain, SimpleEscape, ByteEscape, UnicodeEscape, Continuation}
+use Rattle.rustc_parse_format.specs.LiteralUnits.{spelling, value, escaped, at_most_one}
 use Rattle.rustc_parse_format.specs.Literal.{placed_characters, content_value, units, newline, IsSource}
 use Rattle.rustc_parse_format.specs.Source.{between, is_source}
 use Rattle.rustc_parse_format.specs.World.{World, Place, plain_places, content_places, last_stop, newline_places, ordinary_end, ordinary_world}
