@@ -31,7 +31,7 @@ unappended-append true t =
     ap (λ k. take k (t ++ 10 ∷ [])) n ∙ take-append_seam t (10 ∷ [])
 unappended-append false t = append-nil t
 
-between-frame : (t : Text) → between (ordinary_frame t) ≡ t
+pub between-frame : (t : Text) → between (ordinary_frame t) ≡ t
 between-frame t =
     let n : length (34 ∷ t ++ 34 ∷ []) - 2 ≡ length t = omega (arith, length-append t (34 ∷ [])) in
     ap (λ k. take k (t ++ 34 ∷ [])) n ∙ take-append_seam t (34 ∷ [])

@@ -23,5 +23,6 @@ closed_in-none w = same_either w.has_source None
 -- at the end
 pub at_end : (s : State) → s.rest ≡ [] →
     ((next_call s).piece ≡ None) × (after s (next_call s) ≡ record s { line_spans = last_lines s s.line_spans })
+unfolding call
 at_end s e =
     rw (e, lines_in-nil s.world s.line_start, closed_in-none s.world, append-nil s.line_spans, append-nil s.arg_places) (refl, refl)

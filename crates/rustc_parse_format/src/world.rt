@@ -28,7 +28,7 @@ pub fn source_of<'input>(
 ) -> Source<'input>
     requires { hashes style + length input.now + 2 < 2 ^ 64 }
     ensures input { result.input.now ≡ input.now }
-    ensures world { seen_world result ≡ world (chars input.now) style (seen_snippet snippet.entry) appended_newline }
+    ensures world { seen_world result ≡ world (chars input.now) style (seen_snippet snippet) appended_newline }
     ensures fits { result.offset + length input.now < 2 ^ 64 }
     ensures kept { IsKept result }
 {
