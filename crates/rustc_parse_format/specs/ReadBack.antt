@@ -36,6 +36,21 @@ count_before n (End k) = suc n - k
 abbrev pub up_to_mark : Text → Mark → Text
 up_to_mark t m = take (count_before (length t) m) t
 
+-- A span in a text of n characters that starts where a character does, or at the end of the text, and goes to a mark that is no
+-- earlier. Each mark is told by how many characters are left from it on.
+abbrev pub left_at : Mark → ℕ
+left_at (Start k) = k
+left_at (End k) = k
+
+abbrev pub IsStart : Mark → Type 0
+IsStart (Start k) = Unit {0}
+IsStart (End k) = ⊥
+
+pub record IsForward (n : ℕ) (s : Span) : Type 0 where
+  pub from_start : IsStart s.from
+  pub in_order : left_at s.to ≤ left_at s.from
+  pub within : left_at s.from ≤ n
+
 -- A range reads back to the characters between two marks of the input, and what is before it to those before the first mark. An
 -- appended newline has no unit, and is left out of both.
 pub record ReadsBack (input : Text) (style : Option ℕ) (snippet : Text) (appended : Bool) (s : Span) (p : Place) : Type 0 where
