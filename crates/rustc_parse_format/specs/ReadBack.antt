@@ -8,6 +8,7 @@ use Rattle.rustc_parse_format.specs.Literal.{units}
 use Rattle.rustc_parse_format.specs.Source.{between, unappended}
 use Rattle.rustc_parse_format.specs.Marks.{Mark, Start, End, Span}
 use Rattle.rustc_parse_format.specs.Types.{Count, Name, Spec, Argument, Piece, Lit, NextArgument}
+use Rattle.rustc_parse_format.specs.Faults.{Fault, UnmatchedBrace, MissingBrace, FillBrace, Underscore, TooLarge}
 use Rattle.rustc_parse_format.specs.World.{Place, quote_offset}
 
 -- the units of a source literal of an input, from the byte at `quote_offset` on
@@ -75,3 +76,11 @@ spans_of_spec f = optional f.fill_span ++ spans_of_count f.width ++ optional f.w
 abbrev pub spans_of : {A : Type 0} → Piece A → List A
 spans_of (Lit t) = []
 spans_of (NextArgument a) = a.position_span ∷ spans_of_spec a.format
+
+-- all spans in a fault
+abbrev pub spans_of_fault : {A : Type 0} → Fault A → List A
+spans_of_fault (UnmatchedBrace s) = s ∷ []
+spans_of_fault (MissingBrace c s o) = s ∷ o ∷ []
+spans_of_fault (FillBrace c s o) = s ∷ o ∷ []
+spans_of_fault (Underscore s) = s ∷ []
+spans_of_fault (TooLarge ds s) = s ∷ []
