@@ -110,3 +110,176 @@ type_span-forward n t (WordType w) r k l = word_span-forward n t w r k l
 fill_span-forward : (n : ℕ) (t : Text) (f : Option ℕ) → length t ≤ n → AreForward n (optional (fill_span t f))
 fill_span-forward n t None l = tt
 fill_span-forward n t (Some c) l = (through-forward n t t (omega arith) l, tt)
+
+-- Where the parts of a format specification stand: no more is left from each of them on than from the one before it.
+record FormatFits (t : Text) (p : FormatText) (r : Text) : Type 0 where
+  width : length (from_width p r) ≤ length t
+  precision : length (from_precision p r) ≤ length t
+  type : length (from_type p r) ≤ length t
+  width_fits : Fits (from_width p r) (width_part p.width).spelling (from_precision p r)
+  precision_fits : Fits (from_precision p r) (precision_part p.precision).spelling (from_type p r)
+  type_fits : length r ≤ length (from_type p r)
+
+part-length : (t : Text) (u s : Text) → t ≡ u ++ s → length s ≤ length t
+part-length t u s e = omega (arith, ap length e, length-append u s)
+
+format-fits : (t : Text) (p : FormatText) (r : Text) → IsPart t (format_part p) r → FormatFits t p r
+format-fits t p r h =
+    let whole : IsRow t (fill_part p.fill ∷ align_part p.align ∷ sign_part p.sign ∷ alternate_part p.alternate ∷ width_part p.width ∷ precision_part
+    p.precision ∷ type_part p.type ∷ []) r = record { part = h } in
+    let f = opened whole in
+    let a = opened f.others in
+    let g = opened a.others in
+    let n = opened g.others in
+    let w = opened n.others in
+    let c = opened w.others in
+    let y = only c.others in
+    let at_precision : w.seam ≡ from_precision p r = c.first.whole ∙ ap (λ u. (precision_part p.precision).spelling ++ u) y.whole in
+    let at_width : n.seam ≡ from_width p r = w.first.whole ∙ ap (λ u. (width_part p.width).spelling ++ u) at_precision in
+    let to_width : length (from_width p r) ≤ length t = omega (
+      arith,
+      ap length at_width,
+      part-length t (fill_part p.fill).spelling f.seam f.first.whole,
+      part-length f.seam (align_part p.align).spelling a.seam a.first.whole,
+      part-length a.seam (sign_part p.sign).spelling g.seam g.first.whole,
+      part-length g.seam (alternate_part p.alternate).spelling n.seam n.first.whole,
+    ) in
+    let widths = length-append (width_part p.width).spelling (from_precision p r) in
+    let precisions = length-append (precision_part p.precision).spelling (from_type p r) in
+    record {
+      width = to_width;
+      precision = omega (arith, to_width, widths);
+      type = omega (arith, to_width, widths, precisions);
+      width_fits = omega (arith, widths);
+      precision_fits = omega (arith, precisions);
+      type_fits = omega (arith, length-append (type_part p.type).spelling r);
+    }
+
+format_of-forward : (n c : ℕ) (t : Text) (p : FormatText) (r : Text) → IsPart t (format_part p) r → length t ≤ n →
+    AreForward n (spans_of_spec (format_of c t p r))
+unfolding format_of
+format_of-forward n c t p r h l =
+    let k = format-fits t p r h in
+    let w : length (from_width p r) ≤ n = omega (arith, l, k.width) in
+    let d : length (from_precision p r) ≤ n = omega (arith, l, k.precision) in
+    let y : length (from_type p r) ≤ n = omega (arith, l, k.type) in
+    all-append (IsForward n) _ _ (all-append (IsForward n) _ _ (all-append (IsForward n) _ _ (all-append (IsForward n) _ _ (all-append (IsForward n) _ _
+    (fill_span-forward n t p.fill l)
+    (width_of-forward n (from_width p r) p.width (from_precision p r) k.width_fits w))
+    (width_span-forward n (from_width p r) p.width (from_precision p r) k.width_fits w))
+    (precision_of-forward n c (from_precision p r) p.precision (from_type p r) k.precision_fits d))
+    (precision_span-forward n (from_precision p r) p.precision (from_type p r) k.precision_fits d))
+    (type_span-forward n (from_type p r) p.type r k.type_fits y)
+
+-- The same of a specification, with its colon.
+spec_of-forward : (n c : ℕ) (mode : Mode) (t : Text) (s : SpecText) (r : Text) → IsPart t (spec_part mode s) r → length t ≤ n →
+    AreForward n (spans_of_spec (spec_of c t s r))
+spec_of-forward n c mode t Default r h l = tt
+spec_of-forward n c Format t (Formatting p) r h l =
+    let s = two-split t (fixed (codes ":")) (format_part p) r h in
+    let seam : behind_first t ≡ s.seam = ap behind_first s.first.whole in
+    let here : IsPart (behind_first t) (format_part p) r = rw seam s.second in
+    format_of-forward n c (behind_first t) p r here (omega (arith, l, behind_first-length t))
+spec_of-forward n c InlineAsm t (Modifier w) r h l =
+    let s = two-split t (fixed (codes ":")) (optional_identifier w) r h in
+    let seam : behind_first t ≡ s.seam = ap behind_first s.first.whole in
+    let rest : length r ≤ length (behind_first t) = omega (arith, ap length seam, part-length s.seam (optional_identifier w).spelling r s.second.whole) in
+    word_span-forward n (behind_first t) w r rest (omega (arith, l, behind_first-length t))
+spec_of-forward n c Diagnostic t (DiagnosticText u) r h l =
+    (up_to-forward n t r (part-length t (spec_part Diagnostic (DiagnosticText u)).spelling r h.whole) l, tt)
+spec_of-forward n c Format t (Modifier w) r h l = absurd (false≢true h.formed)
+spec_of-forward n c Format t (DiagnosticText u) r h l = absurd (false≢true h.formed)
+spec_of-forward n c InlineAsm t (Formatting p) r h l = absurd (false≢true h.formed)
+spec_of-forward n c InlineAsm t (DiagnosticText u) r h l = absurd (false≢true h.formed)
+spec_of-forward n c Diagnostic t (Formatting p) r h l = absurd (false≢true h.formed)
+spec_of-forward n c Diagnostic t (Modifier w) r h l = absurd (false≢true h.formed)
+
+-- the specification of a cut, and where it stands
+cut-spec : (mode : Mode) (t : Text) → IsPart (cut mode t).spec_at (spec_part mode (cut mode t).field.spec) (cut mode t).rest
+unfolding cut
+cut-spec mode t = (spec-finds mode).sound (behind_white (position t).1)
+
+cut-spec_at : (mode : Mode) (t : Text) → length (cut mode t).spec_at ≤ length t
+unfolding cut
+cut-spec_at mode t = IsRest-le (IsRest-trans (position_rest t) (behind_white_rest (position t).1))
+
+cut-position_at : (mode : Mode) (t : Text) → (cut mode t).position_at ≡ t
+unfolding cut
+cut-position_at mode t = refl
+
+pub argument-forward : (n c : ℕ) (mode : Mode) (t : Text) → length t ≤ n → AreForward n (spans_of (NextArgument (argument c (cut mode t))))
+unfolding argument
+argument-forward n c mode t l =
+    let a = cut mode t in
+    let here : length a.position_at ≡ length t = ap length (cut-position_at mode t) in
+    let later = cut-spec_at mode t in
+    (
+      up_to-forward n a.position_at a.spec_at (omega (arith, here, later)) (omega (arith, here, l)),
+      spec_of-forward n c mode a.spec_at a.field.spec a.rest (cut-spec mode t) (omega (arith, l, later)),
+    )
+
+-- The faults of a cut.
+fault_either : (n : ℕ) (b : Bool) (f : Fault Span) → AreForward n (spans_of_fault f) → AreFaultsForward n (cond b (f ∷ []) [])
+fault_either n true f h = (h, tt)
+fault_either n false f h = tt
+
+word_faults-forward : (n : ℕ) (t : Text) → length t ≤ n → AreFaultsForward n (word_faults t)
+word_faults-forward n t l =
+    fault_either n (bytes_eq (word t) (codes "_")) (Underscore (up_to t (behind_word t)))
+    (up_to-forward n t (behind_word t) (IsRest-le (behind_word_rest t)) l, tt)
+
+number_faults-forward : (n : ℕ) (t : Text) → length t ≤ n → AreFaultsForward n (number_faults t)
+number_faults-forward n t l =
+    fault_either n (is_over (digits t)) (TooLarge (digits t) (through t (behind_digits t)))
+    (through-forward n t (behind_digits t) (IsRest-le (behind_digits_rest t)) l, tt)
+
+argument_faults-forward : (n : ℕ) (t : Text) → length t ≤ n → AreFaultsForward n (argument_faults t)
+unfolding argument_faults
+argument_faults-forward n t l = all-append _ _ _ (number_faults-forward n t l) (word_faults-forward n t l)
+
+width_faults-forward : (n : ℕ) (t : Text) (w : WidthText) → length t ≤ n → AreFaultsForward n (width_faults t w)
+width_faults-forward n t (PaddedWidth k) l = argument_faults-forward n (behind_first t) (omega (arith, l, behind_first-length t))
+width_faults-forward n t ZeroIndexWidth l = tt
+width_faults-forward n t (PlainWidth k) l = argument_faults-forward n t l
+
+precision_faults-forward : (n : ℕ) (t : Text) (p : PrecisionText) → length t ≤ n → AreFaultsForward n (precision_faults t p)
+precision_faults-forward n t NoPrecision l = tt
+precision_faults-forward n t StarPrecision l = tt
+precision_faults-forward n t (DotPrecision k) l = argument_faults-forward n (behind_first t) (omega (arith, l, behind_first-length t))
+
+type_faults-forward : (n : ℕ) (t : Text) (y : TypeText) → length t ≤ n → AreFaultsForward n (type_faults t y)
+type_faults-forward n t (DebugHexType h) l = tt
+type_faults-forward n t (CharacterType c) l = tt
+type_faults-forward n t (WordType w) l = word_faults-forward n t l
+
+format_faults-forward : (n : ℕ) (t : Text) (p : FormatText) (r : Text) → IsPart t (format_part p) r → length t ≤ n → AreFaultsForward n (format_faults p r)
+unfolding format_faults
+format_faults-forward n t p r h l =
+    let k = format-fits t p r h in
+    all-append _ _ _ (all-append _ _ _
+    (width_faults-forward n (from_width p r) p.width (omega (arith, l, k.width)))
+    (precision_faults-forward n (from_precision p r) p.precision (omega (arith, l, k.precision))))
+    (type_faults-forward n (from_type p r) p.type (omega (arith, l, k.type)))
+
+spec_faults-forward : (n : ℕ) (mode : Mode) (t : Text) (s : SpecText) (r : Text) → IsPart t (spec_part mode s) r → length t ≤ n →
+    AreFaultsForward n (spec_faults t s r)
+spec_faults-forward n mode t Default r h l = tt
+spec_faults-forward n Format t (Formatting p) r h l =
+    let s = two-split t (fixed (codes ":")) (format_part p) r h in
+    format_faults-forward n s.seam p r s.second (omega (arith, l, part-length t (codes ":") s.seam s.first.whole))
+spec_faults-forward n InlineAsm t (Modifier w) r h l = word_faults-forward n (behind_first t) (omega (arith, l, behind_first-length t))
+spec_faults-forward n Diagnostic t (DiagnosticText u) r h l = tt
+spec_faults-forward n Format t (Modifier w) r h l = absurd (false≢true h.formed)
+spec_faults-forward n Format t (DiagnosticText u) r h l = absurd (false≢true h.formed)
+spec_faults-forward n InlineAsm t (Formatting p) r h l = absurd (false≢true h.formed)
+spec_faults-forward n InlineAsm t (DiagnosticText u) r h l = absurd (false≢true h.formed)
+spec_faults-forward n Diagnostic t (Formatting p) r h l = absurd (false≢true h.formed)
+spec_faults-forward n Diagnostic t (Modifier w) r h l = absurd (false≢true h.formed)
+
+pub cut_faults-forward : (n : ℕ) (mode : Mode) (t : Text) → length t ≤ n → AreFaultsForward n (cut_faults (cut mode t))
+unfolding cut_faults
+cut_faults-forward n mode t l =
+    let a = cut mode t in
+    all-append _ _ _
+    (argument_faults-forward n a.position_at (omega (arith, l, ap length (cut-position_at mode t))))
+    (spec_faults-forward n mode a.spec_at a.field.spec a.rest (cut-spec mode t) (omega (arith, l, cut-spec_at mode t)))
