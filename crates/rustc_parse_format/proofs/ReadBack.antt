@@ -1,15 +1,14 @@
 -- A span of marks that is forward reads back, in an ordinary source literal and in a raw one, and its place lies in order inside the snippet.
-use Rattle.std.proofs.Common.{◌≡◌, ℕ, suc, zero, ◌+◌, ◌-◌, ◌≤◌, ◌<◌, ◌++◌, ◌⊎◌, inl, inr, Bool, true, false, List, [], ◌∷◌, length, map, take, drop, get_or}
-use Rattle.std.proofs.Common.{refl, sym, ap, ◌∙◌, subst, arith, Option, Some, None, length-append, take_all}
+use Rattle.std.proofs.Common.{◌≡◌, ℕ, suc, zero, ◌+◌, ◌-◌, ◌≤◌, ◌++◌, ◌⊎◌, inl, inr, Bool, true, false, List, [], ◌∷◌, length, map, take, drop, get_or}
+use Rattle.std.proofs.Common.{refl, sym, ap, ◌∙◌, subst, arith, Option, Some, length-append, take_all}
 use Rattle.rustc_parse_format.specs.Characters.{Text, byte_length}
-use Rattle.rustc_parse_format.specs.LiteralUnits.{LiteralUnit, spelling, value}
+use Rattle.rustc_parse_format.specs.LiteralUnits.{LiteralUnit, spelling}
 use Rattle.rustc_parse_format.specs.Literal.{content_value, newline, placed_characters, IsSource}
-use Rattle.rustc_parse_format.specs.Source.{unappended}
 use Rattle.rustc_parse_format.specs.Marks.{Mark, Start, End, Span}
-use Rattle.rustc_parse_format.specs.World.{World, Place, world, quote_offset, content_places, last_stop, newline_places, place_at, number_of, place_of}
-use Rattle.rustc_parse_format.specs.ReadBack.{before, inside, count_before, left_at, IsStart, IsForward, ReadsBack, source_units}
-use Rattle.rustc_parse_format.proofs.ReadBackUnits.{one_or_none, past, IsOrdered, start, stop, content-ordered, ordered-end, start-stop, stop-end}
-use Rattle.rustc_parse_format.proofs.ReadBackUnits.{start-start, before-all, before-start, before-stop, start-apart, before-inside, IsApart}
+use Rattle.rustc_parse_format.specs.World.{Place, world, quote_offset, content_places, last_stop, newline_places, place_at, number_of, place_of}
+use Rattle.rustc_parse_format.specs.ReadBack.{before, inside, count_before, left_at, IsStart, IsForward, IsInside, ReadsBack, source_units}
+use Rattle.rustc_parse_format.proofs.ReadBackUnits.{one_or_none, past, start, stop, content-ordered, start-stop, stop-end, start-start, before-all}
+use Rattle.rustc_parse_format.proofs.ReadBackUnits.{before-start, before-stop, start-apart, before-inside, IsApart}
 use Rattle.rustc_parse_format.proofs.ReadBackWorlds.{unit_world, known, Known}
 
 -- There are as many places as characters.
@@ -28,7 +27,13 @@ newline-length e false = refl
 world-length : (q : ℕ) (us : List LiteralUnit) (b : Bool) → length (unit_world q us b).places ≡ length (content_value us ++ newline b)
 world-length q us b =
     let e = last_stop q (content_places q us) in
-    omega (arith, length-append (content_places q us) (newline_places e b), length-append (content_value us) (newline b), content-length q us, newline-length e b)
+    omega (
+      arith,
+      length-append (content_places q us) (newline_places e b),
+      length-append (content_value us) (newline b),
+      content-length q us,
+      newline-length e b,
+    )
 
 -- An appended newline starts where the text ends.
 newline-start : (ps : List Place) (e a : ℕ) (b : Bool) → (get_or (ps ++ newline_places e b) a (e, e)).0 ≡ start ps e a
@@ -180,11 +185,7 @@ pub forward-reads_back : (input : Text) (style : Option ℕ) (snippet : Text) (b
 forward-reads_back input style snippet b s h f =
     marks-read_back input style snippet b s.from s.to (known input style snippet b h) f.from_start f.in_order f.within
 
--- It goes from a byte of the snippet to a later one or the same.
-pub record IsInside (snippet : Text) (p : Place) : Type 0 where
-  pub in_order : p.0 ≤ p.1
-  pub within : p.1 ≤ byte_length snippet
-
+-- And its place lies in order inside the snippet.
 marks-inside : (input : Text) (style : Option ℕ) (snippet : Text) (b : Bool) (m r : Mark) → Known input style snippet b → IsStart m →
     left_at r ≤ left_at m → IsInside snippet (place_of (world input style (Some snippet) b) (record { from = m; to = r }))
 marks-inside input style snippet b (End i) r k st l = absurd st

@@ -1,27 +1,27 @@
 -- Each span of an argument, of its faults and of a placeholder that is closed is forward in the text that is read.
-use Rattle.std.proofs.Common.{◌≡◌, ℕ, suc, zero, ◌+◌, ◌-◌, ◌≤◌, ◌<◌, ◌++◌, Bool, true, false, List, [], ◌∷◌, length, refl, sym, ap, ◌∙◌, subst, arith, Option, Some, None}
+use Rattle.std.proofs.Common.{◌≡◌, ℕ, ◌+◌, ◌-◌, ◌≤◌, ◌++◌, Bool, true, false, List, [], ◌∷◌, length, refl, ap, ◌∙◌, arith, Option, Some, None}
 use Rattle.std.proofs.Common.{length-append, codes, cond}
 use Rattle.std.specs.Prelude.{bytes_eq}
 use Rattle.std.specs.List.{AllByRecursion}
 use Rattle.std.proofs.lemmas.Bool.{false≢true}
-use Rattle.rustc_parse_format.specs.Characters.{Text, word, behind_word, digits, behind_digits, behind_first, behind_white, is_over, is_no_brace}
-use Rattle.rustc_parse_format.specs.Spelling.{IsPart, fixed, run, optional_identifier}
-use Rattle.rustc_parse_format.specs.Types.{Mode, Format, InlineAsm, Diagnostic, Spec, Argument, NextArgument}
-use Rattle.rustc_parse_format.specs.Syntax.{CountText, NumberCount, IndexCount, NameCount, NoCount, count_part, WidthText, PaddedWidth, ZeroIndexWidth, PlainWidth}
-use Rattle.rustc_parse_format.specs.Syntax.{width_part, PrecisionText, NoPrecision, StarPrecision, DotPrecision, precision_part, TypeText, DebugHexType, CharacterType}
-use Rattle.rustc_parse_format.specs.Syntax.{WordType, type_part, FormatText, format_part, SpecText, Default, Formatting, Modifier, DiagnosticText, spec_part}
-use Rattle.rustc_parse_format.specs.Syntax.{fill_part, align_part, sign_part, alternate_part}
-use Rattle.rustc_parse_format.specs.Placeholder.{Cut, cut, position}
-use Rattle.rustc_parse_format.specs.Marks.{Span, up_to, through, over_first}
-use Rattle.rustc_parse_format.specs.Meaning.{count_of, count_span, width_of, width_span, precision_of, precision_span, word_span, type_span, fill_span, from_type}
-use Rattle.rustc_parse_format.specs.Meaning.{from_precision, from_width, format_of, spec_of, argument}
+use Rattle.rustc_parse_format.specs.Characters.{Text, word, behind_word, digits, behind_digits, behind_first, behind_white, is_over}
+use Rattle.rustc_parse_format.specs.Spelling.{IsPart, fixed, optional_identifier}
+use Rattle.rustc_parse_format.specs.Types.{Mode, Format, InlineAsm, Diagnostic, NextArgument}
+use Rattle.rustc_parse_format.specs.Syntax.{CountText, NumberCount, IndexCount, NameCount, NoCount, count_part, WidthText, PaddedWidth, ZeroIndexWidth}
+use Rattle.rustc_parse_format.specs.Syntax.{PlainWidth, width_part, PrecisionText, NoPrecision, StarPrecision, DotPrecision, precision_part, TypeText}
+use Rattle.rustc_parse_format.specs.Syntax.{DebugHexType, CharacterType, WordType, type_part, FormatText, format_part, SpecText, Default, Formatting}
+use Rattle.rustc_parse_format.specs.Syntax.{Modifier, DiagnosticText, spec_part, fill_part, align_part, sign_part, alternate_part}
+use Rattle.rustc_parse_format.specs.Placeholder.{cut, position}
+use Rattle.rustc_parse_format.specs.Marks.{Span, up_to, through}
+use Rattle.rustc_parse_format.specs.Meaning.{count_of, count_span, width_of, width_span, precision_of, precision_span, word_span, type_span, fill_span}
+use Rattle.rustc_parse_format.specs.Meaning.{from_type, from_precision, from_width, format_of, spec_of, argument}
 use Rattle.rustc_parse_format.specs.Faults.{Fault, Underscore, TooLarge}
-use Rattle.rustc_parse_format.specs.PartFaults.{word_faults, number_faults, argument_faults, width_faults, precision_faults, type_faults, format_faults, spec_faults}
-use Rattle.rustc_parse_format.specs.PartFaults.{cut_faults}
+use Rattle.rustc_parse_format.specs.PartFaults.{word_faults, number_faults, argument_faults, width_faults, precision_faults, type_faults, format_faults}
+use Rattle.rustc_parse_format.specs.PartFaults.{spec_faults, cut_faults}
 use Rattle.rustc_parse_format.specs.ReadBack.{IsForward, optional, spans_of_count, spans_of_spec, spans_of, spans_of_fault}
 use Rattle.rustc_parse_format.proofs.PartLaws.{IsRow, opened, only, two-split}
 use Rattle.rustc_parse_format.proofs.PartSpecs.{spec-finds}
-use Rattle.rustc_parse_format.proofs.Rests.{IsRest, IsRest-le, IsRest-trans, position_rest, behind_white_rest, behind_first_rest, behind_word_rest, behind_digits_rest}
+use Rattle.rustc_parse_format.proofs.Rests.{IsRest-le, IsRest-trans, position_rest, behind_white_rest, behind_word_rest, behind_digits_rest}
 
 -- all of a list, or of an option
 abbrev pub AreForward : ℕ → List Span → Type 0
@@ -90,7 +90,8 @@ precision_of-forward : (n c : ℕ) (t : Text) (p : PrecisionText) (r : Text) →
 precision_of-forward n c t NoPrecision r h l = tt
 precision_of-forward n c t StarPrecision r h l = tt
 precision_of-forward n c t (DotPrecision k) r h l =
-    count_of-forward n (behind_first t) k r (omega (arith, h, behind_first-length t, length-append (count_part k).spelling [])) (omega (arith, l, behind_first-length t))
+    let fits : Fits (behind_first t) (count_part k).spelling r = omega (arith, h, behind_first-length t, length-append (count_part k).spelling []) in
+    count_of-forward n (behind_first t) k r fits (omega (arith, l, behind_first-length t))
 
 precision_span-forward : (n : ℕ) (t : Text) (p : PrecisionText) (r : Text) → Fits t (precision_part p).spelling r → length t ≤ n →
     AreForward n (optional (precision_span t p r))

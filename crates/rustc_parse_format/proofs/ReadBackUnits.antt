@@ -1,13 +1,12 @@
 -- The places of the characters of a content stand in order, and what its units hold in front of one of them and in a range is read back.
-use Rattle.std.proofs.Common.{◌≡◌, ℕ, suc, zero, ◌+◌, ◌≤◌, ◌<◌, ◌++◌, ◌&&◌, ◌⊎◌, inl, inr, Bool, true, false, if◌then◌else◌, List, [], ◌∷◌, length, take, drop}
-use Rattle.std.proofs.Common.{get_or, refl, sym, ap, ◌∙◌, subst, arith, Option, Some, None, append_assoc}
+use Rattle.std.proofs.Common.{◌≡◌, ℕ, suc, zero, ◌+◌, ◌≤◌, ◌<◌, ◌++◌, ◌&&◌, ◌⊎◌, inl, inr, Bool, true, false, if◌then◌else◌, List, [], ◌∷◌, take, get_or}
+use Rattle.std.proofs.Common.{refl, sym, ap, ◌∙◌, arith, Option, Some, None}
 use Rattle.std.specs.Prelude.{nat_le, ⊤}
-use Rattle.std.specs.List.{AllByRecursion}
-use Rattle.std.specs.Char.{len_utf8}
 use Rattle.std.proofs.lemmas.Str.{len_utf8_bounds}
 use Rattle.std.proofs.lemmas.Bool.{le-leb, lt-leb}
 use Rattle.rustc_parse_format.specs.Characters.{Text, byte_length}
-use Rattle.rustc_parse_format.specs.LiteralUnits.{LiteralUnit, Plain, SimpleEscape, ByteEscape, UnicodeEscape, Continuation, spelling, value, escaped, at_most_one}
+use Rattle.rustc_parse_format.specs.LiteralUnits.{LiteralUnit, Plain, SimpleEscape, ByteEscape, UnicodeEscape, Continuation, spelling, value, escaped}
+use Rattle.rustc_parse_format.specs.LiteralUnits.{at_most_one}
 use Rattle.rustc_parse_format.specs.Literal.{content_value}
 use Rattle.rustc_parse_format.specs.World.{Place, content_places, last_stop}
 use Rattle.rustc_parse_format.specs.ReadBack.{before, inside}
@@ -142,7 +141,8 @@ before-start lo at (u ∷ us) e a s o p =
         at_character s at c u us e a z k.2 q (λ b h. before-start (past at u) (past at u) us e b s k.2 h) ∙ rw z refl)
     ]
   where
-    at_character : (s at c : ℕ) (u : LiteralUnit) (us : List LiteralUnit) (e a : ℕ) → value u ≡ c ∷ [] → IsOrdered (past at u) (content_places (past at u) us) e →
+    at_character : (s at c : ℕ) (u : LiteralUnit) (us : List LiteralUnit) (e a : ℕ) → value u ≡ c ∷ [] →
+        IsOrdered (past at u) (content_places (past at u) us) e →
         s ≡ start ((at, past at u) ∷ content_places (past at u) us) e a →
         ((b : ℕ) → s ≡ start (content_places (past at u) us) e b → before s (past at u) us ≡ take b (content_value us)) →
         before s at (u ∷ us) ≡ take a (c ∷ content_value us)
@@ -167,7 +167,8 @@ before-stop lo at (u ∷ us) e a s o p =
         at_character s at c u us e a z k.2 q (λ b h. before-stop (past at u) (past at u) us e b s k.2 h) ∙ rw z refl)
     ]
   where
-    at_character : (s at c : ℕ) (u : LiteralUnit) (us : List LiteralUnit) (e a : ℕ) → value u ≡ c ∷ [] → IsOrdered (past at u) (content_places (past at u) us) e →
+    at_character : (s at c : ℕ) (u : LiteralUnit) (us : List LiteralUnit) (e a : ℕ) → value u ≡ c ∷ [] →
+        IsOrdered (past at u) (content_places (past at u) us) e →
         s ≡ stop ((at, past at u) ∷ content_places (past at u) us) e a →
         ((b : ℕ) → s ≡ stop (content_places (past at u) us) e b → before s (past at u) us ≡ take (suc b) (content_value us)) →
         before s at (u ∷ us) ≡ take (suc a) (c ∷ content_value us)

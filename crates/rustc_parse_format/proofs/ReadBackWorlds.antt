@@ -1,20 +1,20 @@
 -- The world of a source literal, ordinary or raw, by its units: where each character stands, and where the text ends.
-use Rattle.std.proofs.Common.{◌≡◌, ℕ, suc, zero, ◌+◌, ◌-◌, ◌≤◌, ◌<◌, ◌++◌, ◌⊎◌, inl, inr, Bool, true, false, if◌then◌else◌, List, [], ◌∷◌, length, map, take, drop}
-use Rattle.std.proofs.Common.{get_or, refl, sym, ap, ◌∙◌, subst, arith, Option, Some, None, append_assoc, length-append, cond}
-use Rattle.std.specs.Prelude.{replicate, unwrap_or, IsTrue}
+use Rattle.std.proofs.Common.{◌≡◌, ℕ, suc, zero, ◌+◌, ◌-◌, ◌≤◌, ◌<◌, ◌++◌, inl, inr, Bool, true, false, List, [], ◌∷◌, map, refl, sym, ap, ◌∙◌, arith}
+use Rattle.std.proofs.Common.{Option, Some, None, cond}
+use Rattle.std.specs.Prelude.{replicate, unwrap_or}
 use Rattle.std.specs.Char.{len_utf8}
-use Rattle.std.proofs.lemmas.Bool.{cond-true, cond_both}
+use Rattle.std.proofs.lemmas.Bool.{cond-true}
 use Rattle.rustc_parse_format.specs.Characters.{Text, byte_length}
-use Rattle.rustc_parse_format.specs.LiteralUnits.{LiteralUnit, Plain, spelling, value}
+use Rattle.rustc_parse_format.specs.LiteralUnits.{LiteralUnit, Plain, spelling}
 use Rattle.rustc_parse_format.specs.Literal.{IsContent, content_value, units, ordinary_frame, raw_frame, raw_opening, raw_closing, newline, IsSource}
 use Rattle.rustc_parse_format.specs.Source.{between, unappended, is_source}
-use Rattle.rustc_parse_format.specs.World.{World, Place, world, plain_world, plain_places, quote_offset, content_places, last_stop, newline_places, raw_end}
+use Rattle.rustc_parse_format.specs.World.{World, world, plain_world, plain_places, quote_offset, content_places, last_stop, newline_places, raw_end}
 use Rattle.rustc_parse_format.specs.World.{ordinary_world, literal_world}
 use Rattle.rustc_parse_format.specs.ReadBack.{source_units}
 use Rattle.rustc_parse_format.proofs.LiteralWidths.{width-cons, width-append}
 use Rattle.rustc_parse_format.proofs.LiteralContents.{units-complete}
 use Rattle.rustc_parse_format.proofs.Sources.{found-source, unappended-append, between-frame}
-use Rattle.rustc_parse_format.proofs.ReadBackUnits.{one_or_none, past, IsOrdered, content-ordered, ordered-end}
+use Rattle.rustc_parse_format.proofs.ReadBackUnits.{one_or_none, past}
 
 -- There is a source literal where the test says so.
 has_source-world : (input : Text) (style : Option ℕ) (snippet : Text) (b : Bool) → (literal_world input style snippet b).has_source ≡ true
@@ -77,7 +77,8 @@ width-raw n t =
     let hs : Text = replicate n 35 in
     let opening : byte_length (raw_opening n) ≡ n + 2 = width-cons 114 (hs ++ 34 ∷ []) ∙ omega (arith, width-append hs (34 ∷ []), width-hashes n) in
     let closing : byte_length (raw_closing n) ≡ suc n = width-cons 34 hs ∙ omega (arith, width-hashes n) in
-    let whole : byte_length (raw_frame n t) ≡ byte_length (raw_opening n ++ t) + byte_length (raw_closing n) = width-append (raw_opening n ++ t) (raw_closing n) in
+    let whole : byte_length (raw_frame n t) ≡ byte_length (raw_opening n ++ t) + byte_length (raw_closing n)
+        = width-append (raw_opening n ++ t) (raw_closing n) in
     omega (arith, whole, opening, closing, width-append (raw_opening n) t)
 
 raw_end-is : (n : ℕ) (t : Text) → raw_end n (raw_frame n t) ≡ (n + 2) + byte_length t

@@ -1,13 +1,13 @@
 -- Reading a range of a source literal back, through its escapes. The units of an ordinary literal are those of its content; of a
 -- raw one each character of its text stands for itself. The rule is the Rust Reference, string literals and raw string literals.
-use Rattle.std.specs.Prelude.{◌≡◌, ℕ, suc, ◌+◌, ◌-◌, ◌≤◌, ◌<◌, ◌&&◌, ◌++◌, Bool, if◌then◌else◌, nat_le, List, [], ◌∷◌, length, map, take, drop, Option, Some, None}
-use Rattle.std.specs.Prelude.{unwrap_or}
+use Rattle.std.specs.Prelude.{◌≡◌, ℕ, suc, ◌+◌, ◌-◌, ◌≤◌, ◌&&◌, ◌++◌, Bool, if◌then◌else◌, nat_le, List, [], ◌∷◌, length, map, take, drop, Option, Some}
+use Rattle.std.specs.Prelude.{None, unwrap_or}
 use Rattle.rustc_parse_format.specs.Characters.{Text, byte_length}
 use Rattle.rustc_parse_format.specs.LiteralUnits.{LiteralUnit, Plain, spelling, value}
 use Rattle.rustc_parse_format.specs.Literal.{units}
 use Rattle.rustc_parse_format.specs.Source.{between, unappended}
 use Rattle.rustc_parse_format.specs.Marks.{Mark, Start, End, Span}
-use Rattle.rustc_parse_format.specs.Types.{Count, Name, Spec, Argument, Piece, Lit, NextArgument}
+use Rattle.rustc_parse_format.specs.Types.{Count, Name, Spec, Piece, Lit, NextArgument}
 use Rattle.rustc_parse_format.specs.Faults.{Fault, UnmatchedBrace, MissingBrace, FillBrace, Underscore, TooLarge}
 use Rattle.rustc_parse_format.specs.World.{Place, quote_offset}
 
@@ -59,6 +59,11 @@ pub record ReadsBack (input : Text) (style : Option ℕ) (snippet : Text) (appen
       ≡ take (count_before (length input) s.from) (unappended appended input)
   pub inside : inside p (quote_offset style) (source_units input style snippet appended)
       ≡ drop (count_before (length input) s.from) (take (count_before (length input) s.to) (unappended appended input))
+
+-- It goes from a byte of the snippet, or its end, to one that is no earlier.
+pub record IsInside (snippet : Text) (p : Place) : Type 0 where
+  pub in_order : p.0 ≤ p.1
+  pub within : p.1 ≤ byte_length snippet
 
 abbrev pub optional : {A : Type 0} → Option A → List A
 optional None = []
