@@ -148,7 +148,7 @@ inside-marks q us b n i m h l k =
     let r = number_of (unit_world q us b) m in
     let o = content-ordered q q us (omega arith) in
     let apart : IsApart s (content_places q us)
-        = subst (λ x. IsApart x (content_places q us)) (sym (start-number q us b n i h)) (start-apart q (content_places q us) (ends q us) (n - i) o) in
+    = subst (λ x. IsApart x (content_places q us)) (sym (start-number q us b n i h)) (start-apart q (content_places q us) (ends q us) (n - i) o) in
     let all = before-inside s r q us (mark-order q us b n i m h l) apart in
     let front = before-mark q us b n (Start i) h k in
     let whole = before-mark q us b n m h (omega arith) in

@@ -139,6 +139,6 @@ pub closed-reads_back : (mode : Mode) (c : ℕ) (input t : Text) (style : Option
     ReadsBack input style snippet appended s (place_of (world input style (Some snippet) appended) s)
 closed-reads_back mode c input t style snippet appended s h k e =
     let all : AllByRecursion (λ x. ReadsBack input style snippet appended x (place_of (world input style (Some snippet) appended) x)) (optional (Some s))
-        = subst (λ o. AllByRecursion (λ x. ReadsBack input style snippet appended x (place_of (world input style (Some snippet) appended) x)) (optional o)) e
-        (rest-reads_back mode c input t style snippet appended h k).closes in
+    = subst (λ o. AllByRecursion (λ x. ReadsBack input style snippet appended x (place_of (world input style (Some snippet) appended) x)) (optional o)) e
+    (rest-reads_back mode c input t style snippet appended h k).closes in
     all.0

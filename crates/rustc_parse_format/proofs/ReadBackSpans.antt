@@ -23,7 +23,7 @@ use Rattle.rustc_parse_format.proofs.PartLaws.{IsRow, opened, only, two-split}
 use Rattle.rustc_parse_format.proofs.PartSpecs.{spec-finds}
 use Rattle.rustc_parse_format.proofs.Rests.{IsRest-le, IsRest-trans, position_rest, behind_white_rest, behind_word_rest, behind_digits_rest}
 
--- all of a list, or of an option
+-- all of these spans are forward
 abbrev pub AreForward : ℕ → List Span → Type 0
 AreForward n ss = AllByRecursion (IsForward n) ss
 
@@ -49,7 +49,7 @@ behind_first-length : (t : Text) → length (behind_first t) ≡ length t - 1
 behind_first-length [] = refl
 behind_first-length (c ∷ t) = omega arith
 
--- A count that stands at t, with r after it: no more is left of t than what is spelled.
+-- What is spelled as u and r after it are together no longer than t.
 abbrev Fits : Text → Text → Text → Type 0
 Fits t u r = length u + length r ≤ length t
 
@@ -112,7 +112,7 @@ fill_span-forward : (n : ℕ) (t : Text) (f : Option ℕ) → length t ≤ n →
 fill_span-forward n t None l = tt
 fill_span-forward n t (Some c) l = (through-forward n t t (omega arith) l, tt)
 
--- Where the parts of a format specification stand: no more is left from each of them on than from the one before it.
+-- The parts of a format specification that stands at t, with r after it, have room there.
 record FormatFits (t : Text) (p : FormatText) (r : Text) : Type 0 where
   width : length (from_width p r) ≤ length t
   precision : length (from_precision p r) ≤ length t
@@ -213,8 +213,7 @@ unfolding argument
 argument-forward n c mode t l =
     let a = cut mode t in
     let here : length a.position_at ≡ length t = ap length (cut-position_at mode t) in
-    let later = cut-spec_at mode t in
-    (
+    let later = cut-spec_at mode t in (
       up_to-forward n a.position_at a.spec_at (omega (arith, here, later)) (omega (arith, here, l)),
       spec_of-forward n c mode a.spec_at a.field.spec a.rest (cut-spec mode t) (omega (arith, l, later)),
     )

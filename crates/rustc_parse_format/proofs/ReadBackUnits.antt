@@ -1,4 +1,4 @@
--- The places of the characters of a content stand in order, and what its units hold in front of one of them and in a range is read back.
+-- The places of the characters of a content stand in order. What is read in front of one of them, and in a range of bytes.
 use Rattle.std.proofs.Common.{◌≡◌, ℕ, suc, zero, ◌+◌, ◌≤◌, ◌<◌, ◌++◌, ◌&&◌, ◌⊎◌, inl, inr, Bool, true, false, if◌then◌else◌, List, [], ◌∷◌, take, get_or}
 use Rattle.std.proofs.Common.{refl, sym, ap, ◌∙◌, arith, Option, Some, None}
 use Rattle.std.specs.Prelude.{nat_le, ⊤}
@@ -116,12 +116,12 @@ before-all lo at [] e s o h = refl
 before-all lo at (u ∷ us) e s o h =
     elim (one_or_none u) [
       | inl z ↦
-        (let k : IsOrdered lo (content_places (past at u) us) e = rw z at o in
-        before-nothing s at u us z ∙ (before-all lo (past at u) us e s k h ∙ rw z refl))
+          (let k : IsOrdered lo (content_places (past at u) us) e = rw z at o in
+          before-nothing s at u us z ∙ (before-all lo (past at u) us e s k h ∙ rw z refl))
       | inr (c, z) ↦
-        (let k : IsOrdered lo ((at, past at u) ∷ content_places (past at u) us) e = rw z at o in
-        let l : past at u ≤ s = omega (arith, ordered-end (past at u) (content_places (past at u) us) e k.2) in
-        before-character s at c u us z l ∙ (ap (λ t. c ∷ t) (before-all (past at u) (past at u) us e s k.2 h) ∙ rw z refl))
+          (let k : IsOrdered lo ((at, past at u) ∷ content_places (past at u) us) e = rw z at o in
+          let l : past at u ≤ s = omega (arith, ordered-end (past at u) (content_places (past at u) us) e k.2) in
+          before-character s at c u us z l ∙ (ap (λ t. c ∷ t) (before-all (past at u) (past at u) us e s k.2 h) ∙ rw z refl))
     ]
 
 -- Before the start of a character stand those in front of it.
@@ -132,13 +132,13 @@ before-start lo at [] e (suc a) s o p = refl
 before-start lo at (u ∷ us) e a s o p =
     elim (one_or_none u) [
       | inl z ↦
-        (let k : IsOrdered lo (content_places (past at u) us) e = rw z at o in
-        let q : s ≡ start (content_places (past at u) us) e a = rw z at p in
-        before-nothing s at u us z ∙ (before-start lo (past at u) us e a s k q ∙ rw z refl))
+          (let k : IsOrdered lo (content_places (past at u) us) e = rw z at o in
+          let q : s ≡ start (content_places (past at u) us) e a = rw z at p in
+          before-nothing s at u us z ∙ (before-start lo (past at u) us e a s k q ∙ rw z refl))
       | inr (c, z) ↦
-        (let k : IsOrdered lo ((at, past at u) ∷ content_places (past at u) us) e = rw z at o in
-        let q : s ≡ start ((at, past at u) ∷ content_places (past at u) us) e a = rw z at p in
-        at_character s at c u us e a z k.2 q (λ b h. before-start (past at u) (past at u) us e b s k.2 h) ∙ rw z refl)
+          (let k : IsOrdered lo ((at, past at u) ∷ content_places (past at u) us) e = rw z at o in
+          let q : s ≡ start ((at, past at u) ∷ content_places (past at u) us) e a = rw z at p in
+          at_character s at c u us e a z k.2 q (λ b h. before-start (past at u) (past at u) us e b s k.2 h) ∙ rw z refl)
     ]
   where
     at_character : (s at c : ℕ) (u : LiteralUnit) (us : List LiteralUnit) (e a : ℕ) → value u ≡ c ∷ [] →
@@ -158,13 +158,13 @@ before-stop lo at [] e a s o p = refl
 before-stop lo at (u ∷ us) e a s o p =
     elim (one_or_none u) [
       | inl z ↦
-        (let k : IsOrdered lo (content_places (past at u) us) e = rw z at o in
-        let q : s ≡ stop (content_places (past at u) us) e a = rw z at p in
-        before-nothing s at u us z ∙ (before-stop lo (past at u) us e a s k q ∙ rw z refl))
+          (let k : IsOrdered lo (content_places (past at u) us) e = rw z at o in
+          let q : s ≡ stop (content_places (past at u) us) e a = rw z at p in
+          before-nothing s at u us z ∙ (before-stop lo (past at u) us e a s k q ∙ rw z refl))
       | inr (c, z) ↦
-        (let k : IsOrdered lo ((at, past at u) ∷ content_places (past at u) us) e = rw z at o in
-        let q : s ≡ stop ((at, past at u) ∷ content_places (past at u) us) e a = rw z at p in
-        at_character s at c u us e a z k.2 q (λ b h. before-stop (past at u) (past at u) us e b s k.2 h) ∙ rw z refl)
+          (let k : IsOrdered lo ((at, past at u) ∷ content_places (past at u) us) e = rw z at o in
+          let q : s ≡ stop ((at, past at u) ∷ content_places (past at u) us) e a = rw z at p in
+          at_character s at c u us e a z k.2 q (λ b h. before-stop (past at u) (past at u) us e b s k.2 h) ∙ rw z refl)
     ]
   where
     at_character : (s at c : ℕ) (u : LiteralUnit) (us : List LiteralUnit) (e a : ℕ) → value u ≡ c ∷ [] →
@@ -204,11 +204,11 @@ before-inside s r at [] h c = refl
 before-inside s r at (u ∷ us) h c =
     elim (one_or_none u) [
       | inl z ↦
-        (let k : IsApart s (content_places (past at u) us) = rw z at c in
-        rw (before-nothing s at u us z, inside-nothing (s, r) at u us z, before-nothing r at u us z) (before-inside s r (past at u) us h k))
+          (let k : IsApart s (content_places (past at u) us) = rw z at c in
+          rw (before-nothing s at u us z, inside-nothing (s, r) at u us z, before-nothing r at u us z) (before-inside s r (past at u) us h k))
       | inr (d, z) ↦
-        (let k : IsApart s ((at, past at u) ∷ content_places (past at u) us) = rw z at c in
-        at_character s r at d u us h z k.0 (before-inside s r (past at u) us h k.1))
+          (let k : IsApart s ((at, past at u) ∷ content_places (past at u) us) = rw z at c in
+          at_character s r at d u us h z k.0 (before-inside s r (past at u) us h k.1))
     ]
   where
     at_character : (s r at d : ℕ) (u : LiteralUnit) (us : List LiteralUnit) → s ≤ r → value u ≡ d ∷ [] → (past at u ≤ s) ⊎ (s ≤ at) →
@@ -219,5 +219,5 @@ before-inside s r at (u ∷ us) h c =
         rw (z, le-leb (past at u) s l, le-leb (past at u) r (omega arith), lt-leb s at late) (ap (λ t. d ∷ t) ih)
     at_character s r at d u us h z (inr l) ih =
         let same : inside (s, r) (past at u) us ≡ before r (past at u) us
-            = ap (λ t. t ++ inside (s, r) (past at u) us) (sym (before-none s (past at u) us (omega (arith, past-lt at u)))) ∙ ih in
+        = ap (λ t. t ++ inside (s, r) (past at u) us) (sym (before-none s (past at u) us (omega (arith, past-lt at u)))) ∙ ih in
         rw (before-none s at (u ∷ us) l, le-leb s at l, same) refl

@@ -78,7 +78,7 @@ width-raw n t =
     let opening : byte_length (raw_opening n) ≡ n + 2 = width-cons 114 (hs ++ 34 ∷ []) ∙ omega (arith, width-append hs (34 ∷ []), width-hashes n) in
     let closing : byte_length (raw_closing n) ≡ suc n = width-cons 34 hs ∙ omega (arith, width-hashes n) in
     let whole : byte_length (raw_frame n t) ≡ byte_length (raw_opening n ++ t) + byte_length (raw_closing n)
-        = width-append (raw_opening n ++ t) (raw_closing n) in
+    = width-append (raw_opening n ++ t) (raw_closing n) in
     omega (arith, whole, opening, closing, width-append (raw_opening n) t)
 
 raw_end-is : (n : ℕ) (t : Text) → raw_end n (raw_frame n t) ≡ (n + 2) + byte_length t
@@ -132,7 +132,7 @@ known input None snippet b (t, (content, us, e, c, v), whole) =
 known input (Some n) snippet b (t, e, whole) =
     let text : unappended b input ≡ t = ap (unappended b) (sym whole) ∙ unappended-append b t in
     let last : last_stop (n + 2) (content_places (n + 2) (map Plain t)) ≡ (n + 2) + byte_length t
-        = ap (last_stop (n + 2)) (plain_content (n + 2) t) ∙ plain_last (n + 2) t in
+    = ap (last_stop (n + 2)) (plain_content (n + 2) t) ∙ plain_last (n + 2) t in
     record {
       units = map Plain t;
       world_is = source_world input (Some n) snippet b (t, e, whole) ∙ (rw (e, ← whole) (raw_world n t b));
