@@ -39,13 +39,13 @@ pub behind_rest : (p : ℕ → Bool) (t : Text) → IsRest t (behind p t)
 behind_rest p [] = IsRest-self []
 behind_rest p (c ∷ t) = rest_text (p c) (behind p t) (c ∷ t) (c ∷ t) (IsRest-cons c (behind_rest p t)) (IsRest-self (c ∷ t))
 
-behind_word_rest : (t : Text) → IsRest t (behind_word t)
+pub behind_word_rest : (t : Text) → IsRest t (behind_word t)
 unfolding behind_word
 behind_word_rest [] = IsRest-self []
 behind_word_rest (c ∷ t) = rest_text (is_id_start c) (behind is_id_continue t) (c ∷ t) (c ∷ t) (IsRest-cons c (behind_rest is_id_continue t))
     (IsRest-self (c ∷ t))
 
-behind_digits_rest : (t : Text) → IsRest t (behind_digits t)
+pub behind_digits_rest : (t : Text) → IsRest t (behind_digits t)
 unfolding behind_digits
 behind_digits_rest t = behind_rest is_ascii_digit t
 

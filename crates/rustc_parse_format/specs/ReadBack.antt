@@ -1,13 +1,14 @@
 -- Reading a range of a source literal back, through its escapes. The units of an ordinary literal are those of its content; of a
 -- raw one each character of its text stands for itself. The rule is the Rust Reference, string literals and raw string literals.
-use Rattle.std.specs.Prelude.{◌≡◌, ℕ, suc, ◌+◌, ◌-◌, ◌≤◌, ◌<◌, ◌&&◌, ◌++◌, Bool, if◌then◌else◌, nat_le, List, [], ◌∷◌, length, map, take, drop, Option, Some, None}
-use Rattle.std.specs.Prelude.{unwrap_or}
+use Rattle.std.specs.Prelude.{◌≡◌, ℕ, suc, ◌+◌, ◌-◌, ◌≤◌, ◌&&◌, ◌++◌, Bool, if◌then◌else◌, nat_le, List, [], ◌∷◌, length, map, take, drop, Option, Some}
+use Rattle.std.specs.Prelude.{None, unwrap_or}
 use Rattle.rustc_parse_format.specs.Characters.{Text, byte_length}
 use Rattle.rustc_parse_format.specs.LiteralUnits.{LiteralUnit, Plain, spelling, value}
 use Rattle.rustc_parse_format.specs.Literal.{units}
 use Rattle.rustc_parse_format.specs.Source.{between, unappended}
 use Rattle.rustc_parse_format.specs.Marks.{Mark, Start, End, Span}
-use Rattle.rustc_parse_format.specs.Types.{Count, Name, Spec, Argument, Piece, Lit, NextArgument}
+use Rattle.rustc_parse_format.specs.Types.{Count, Name, Spec, Piece, Lit, NextArgument}
+use Rattle.rustc_parse_format.specs.Faults.{Fault, UnmatchedBrace, MissingBrace, FillBrace, Underscore, TooLarge}
 use Rattle.rustc_parse_format.specs.World.{Place, quote_offset}
 
 -- the units of a source literal of an input, from the byte at `quote_offset` on
@@ -36,6 +37,21 @@ count_before n (End k) = suc n - k
 abbrev pub up_to_mark : Text → Mark → Text
 up_to_mark t m = take (count_before (length t) m) t
 
+-- A span in a text of n characters that starts where a character does, or at the end of the text, and goes to a mark that is no
+-- earlier. Each mark is told by how many characters are left from it on.
+abbrev pub left_at : Mark → ℕ
+left_at (Start k) = k
+left_at (End k) = k
+
+abbrev pub IsStart : Mark → Type 0
+IsStart (Start k) = Unit {0}
+IsStart (End k) = ⊥
+
+pub record IsForward (n : ℕ) (s : Span) : Type 0 where
+  pub from_start : IsStart s.from
+  pub in_order : left_at s.to ≤ left_at s.from
+  pub within : left_at s.from ≤ n
+
 -- A range reads back to the characters between two marks of the input, and what is before it to those before the first mark. An
 -- appended newline has no unit, and is left out of both.
 pub record ReadsBack (input : Text) (style : Option ℕ) (snippet : Text) (appended : Bool) (s : Span) (p : Place) : Type 0 where
@@ -43,6 +59,11 @@ pub record ReadsBack (input : Text) (style : Option ℕ) (snippet : Text) (appen
       ≡ take (count_before (length input) s.from) (unappended appended input)
   pub inside : inside p (quote_offset style) (source_units input style snippet appended)
       ≡ drop (count_before (length input) s.from) (take (count_before (length input) s.to) (unappended appended input))
+
+-- It goes from a byte of the snippet, or its end, to one that is no earlier.
+pub record IsInside (snippet : Text) (p : Place) : Type 0 where
+  pub in_order : p.0 ≤ p.1
+  pub within : p.1 ≤ byte_length snippet
 
 abbrev pub optional : {A : Type 0} → Option A → List A
 optional None = []
@@ -60,3 +81,11 @@ spans_of_spec f = optional f.fill_span ++ spans_of_count f.width ++ optional f.w
 abbrev pub spans_of : {A : Type 0} → Piece A → List A
 spans_of (Lit t) = []
 spans_of (NextArgument a) = a.position_span ∷ spans_of_spec a.format
+
+-- all spans in a fault
+abbrev pub spans_of_fault : {A : Type 0} → Fault A → List A
+spans_of_fault (UnmatchedBrace s) = s ∷ []
+spans_of_fault (MissingBrace c s o) = s ∷ o ∷ []
+spans_of_fault (FillBrace c s o) = s ∷ o ∷ []
+spans_of_fault (Underscore s) = s ∷ []
+spans_of_fault (TooLarge ds s) = s ∷ []

@@ -1,0 +1,144 @@
+-- Each span of a call is forward: so in a source literal it reads back, and its place lies in order inside the snippet.
+use Rattle.std.proofs.Common.{◌≡◌, ℕ, ◌≤◌, ◌++◌, Bool, [], ◌∷◌, length, subst, arith, Option, Some, None}
+use Prim.Native.Char.{code}
+use Rattle.std.specs.Prelude.{List, ◌==◌}
+use Rattle.std.specs.List.{AllByRecursion}
+use Rattle.std.proofs.lemmas.Bool.{cond_both}
+use Rattle.rustc_parse_format.specs.Characters.{Text, is_brace, behind_first, behind_white, begins_with, first}
+use Rattle.rustc_parse_format.specs.Types.{Mode, Spec, Piece}
+use Rattle.rustc_parse_format.specs.Placeholder.{cut}
+use Rattle.rustc_parse_format.specs.Marks.{Span, up_to, over_first}
+use Rattle.rustc_parse_format.specs.Meaning.{argument}
+use Rattle.rustc_parse_format.specs.Faults.{no_brace, brace_fill}
+use Rattle.rustc_parse_format.specs.Literal.{IsSource}
+use Rattle.rustc_parse_format.specs.World.{world, place_of}
+use Rattle.rustc_parse_format.specs.Call.{Call, call, placeholder, closed_call, unclosed_call, text_call, unclosed_fault}
+use Rattle.rustc_parse_format.specs.ReadBack.{IsForward, IsInside, ReadsBack, optional, spans_of, spans_of_spec, spans_of_fault}
+use Rattle.rustc_parse_format.proofs.Rests.{IsRest, IsRest-le, IsRest-trans, cut_rest, behind_white_rest}
+use Rattle.rustc_parse_format.proofs.ReadBackSpans.{AreForward, all-append, all-weaker, up_to-forward, through-forward, argument-forward}
+use Rattle.rustc_parse_format.proofs.ReadBackSpans.{cut_faults-forward}
+use Rattle.rustc_parse_format.proofs.ReadBack.{forward-reads_back, forward-inside}
+
+-- the spans of a piece, where there is one
+abbrev pub piece_spans : {A : Type 0} → Option (Piece A) → List A
+piece_spans None = []
+piece_spans (Some p) = spans_of p
+
+-- All spans of a call pass.
+pub record AllSpans (P : Span → Type 0) (k : Call) : Type 0 where
+  pub piece : AllByRecursion P (piece_spans k.piece)
+  pub closes : AllByRecursion P (optional k.closes)
+  pub faults : AllByRecursion (λ f. AllByRecursion P (spans_of_fault f)) k.faults
+
+-- The spans of the fault where no brace closes a placeholder.
+brace-forward : (n : ℕ) (fill : Option ℕ) (s : Option Span) → AreForward n (optional s) → AreForward n (optional (brace_fill fill s))
+brace-forward n None s h = tt
+brace-forward n (Some c) s h = cond_both {A = Option Span} (c == code "}") s None (λ o. AreForward n (optional o)) (λ yes. h) (λ no. tt)
+
+no_brace-forward : (n : ℕ) (f : Option Span) (c : Option ℕ) (s o : Span) → AreForward n (optional f) → IsForward n s → IsForward n o →
+    AreForward n (spans_of_fault (no_brace f c s o))
+no_brace-forward n None c s o h k l = (k, (l, tt))
+no_brace-forward n (Some f) c s o h k l = (k, (h.0, tt))
+
+-- A list of spans put together of six has its first part in front.
+first-part : (n : ℕ) (a b c d e f : List Span) → AreForward n (a ++ b ++ c ++ d ++ e ++ f) → AreForward n a
+first-part n [] b c d e f h = tt
+first-part n (x ∷ a) b c d e f h = (h.0, first-part n a b c d e f h.1)
+
+unclosed-forward : (n : ℕ) (opening : Text) (f : Spec Span) (r : Text) → AreForward n (spans_of_spec f) → length r ≤ n → length opening ≤ n →
+    AreForward n (spans_of_fault (unclosed_fault opening f r))
+unclosed-forward n opening f r h k l =
+    no_brace-forward n (brace_fill f.fill f.fill_span) (first r) (up_to r r) (over_first opening)
+    (brace-forward n f.fill f.fill_span (first-part n (optional f.fill_span) _ _ _ _ _ h))
+    (up_to-forward n r r (omega arith) k)
+    (through-forward n opening opening (omega arith) l)
+
+placeholder-forward : (mode : Mode) (c b : ℕ) (t : Text) → AllSpans (IsForward (length (b ∷ t))) (placeholder mode c (b ∷ t) t)
+unfolding placeholder
+placeholder-forward mode c b t =
+    let n : ℕ = length (b ∷ t) in
+    let inside : length t ≤ n = omega arith in
+    let a = cut mode t in
+    let r : Text = behind_white a.rest in
+    let rest : length r ≤ length t = IsRest-le (IsRest-trans (cut_rest mode t) (behind_white_rest a.rest)) in
+    let spans = argument-forward n c mode t inside in
+    cond_both {A = Call} (begins_with 125 r) (closed_call c (b ∷ t) a r) (unclosed_call c (b ∷ t) a r) (AllSpans (IsForward n))
+    (λ yes. record {
+      piece = spans;
+      closes = (through-forward n (b ∷ t) r (omega (arith, rest)) (omega arith), tt);
+      faults = cut_faults-forward n mode t inside;
+    })
+    (λ no. record {
+      piece = spans;
+      closes = tt;
+      faults = all-append _ _ _ (cut_faults-forward n mode t inside)
+          (unclosed-forward n (b ∷ t) (argument c a).format r spans.1 (omega (arith, rest)) (omega arith), tt);
+    })
+
+text-forward : (n c : ℕ) (l t : Text) → AllSpans (IsForward n) (text_call c l t)
+text-forward n c l t = record { piece = tt; closes = tt; faults = tt }
+
+-- Each span of a call is forward in the text that it is given.
+pub call-forward : (mode : Mode) (c : ℕ) (t : Text) → AllSpans (IsForward (length t)) (call mode c t)
+unfolding call
+call-forward mode c [] = record { piece = tt; closes = tt; faults = tt }
+call-forward mode c (b ∷ t) =
+    let n : ℕ = length (b ∷ t) in
+    cond_both {A = Call} (is_brace b) _ _ (AllSpans (IsForward n))
+    (λ e. cond_both {A = Call} (begins_with b t) _ _ (AllSpans (IsForward n))
+    (λ d. text-forward n c (b ∷ []) (behind_first t))
+    (λ d. cond_both {A = Call} (b == 123) _ _ (AllSpans (IsForward n))
+    (λ o. placeholder-forward mode c b t)
+    (λ o. record { piece = tt; closes = tt; faults = ((through-forward n (b ∷ t) (b ∷ t) (omega arith) (omega arith), tt), tt) })))
+    (λ e. text-forward n c [] (b ∷ t))
+
+pub all_spans-weaker : (P Q : Span → Type 0) (k : Call) → ((s : Span) → P s → Q s) → AllSpans P k → AllSpans Q k
+all_spans-weaker P Q k f h = record {
+  piece = all-weaker P Q (piece_spans k.piece) f h.piece;
+  closes = all-weaker P Q (optional k.closes) f h.closes;
+  faults = all-weaker (λ x. AllByRecursion P (spans_of_fault x)) (λ x. AllByRecursion Q (spans_of_fault x)) k.faults
+      (λ x. all-weaker P Q (spans_of_fault x) f) h.faults;
+}
+
+forward-longer : (n m : ℕ) (s : Span) → n ≤ m → IsForward n s → IsForward m s
+forward-longer n m s h f = let w = f.within in record { from_start = f.from_start; in_order = f.in_order; within = omega arith }
+
+-- and so in each text of which that is a rest.
+pub rest-forward : (mode : Mode) (c : ℕ) (input t : Text) → IsRest input t → AllSpans (IsForward (length input)) (call mode c t)
+rest-forward mode c input t h =
+    all_spans-weaker (IsForward (length t)) (IsForward (length input)) (call mode c t)
+    (λ s. forward-longer (length t) (length input) s (IsRest-le h)) (call-forward mode c t)
+
+-- In a source literal of the input each of them reads back,
+pub rest-reads_back : (mode : Mode) (c : ℕ) (input t : Text) (style : Option ℕ) (snippet : Text) (appended : Bool) → IsRest input t →
+    IsSource input style snippet appended →
+    AllSpans (λ s. ReadsBack input style snippet appended s (place_of (world input style (Some snippet) appended) s)) (call mode c t)
+rest-reads_back mode c input t style snippet appended h k =
+    all_spans-weaker (IsForward (length input))
+    (λ s. ReadsBack input style snippet appended s (place_of (world input style (Some snippet) appended) s)) (call mode c t)
+    (λ s. forward-reads_back input style snippet appended s k) (rest-forward mode c input t h)
+
+-- and has its place in order inside the snippet.
+pub rest-inside : (mode : Mode) (c : ℕ) (input t : Text) (style : Option ℕ) (snippet : Text) (appended : Bool) → IsRest input t →
+    IsSource input style snippet appended →
+    AllSpans (λ s. IsInside snippet (place_of (world input style (Some snippet) appended) s)) (call mode c t)
+rest-inside mode c input t style snippet appended h k =
+    all_spans-weaker (IsForward (length input)) (λ s. IsInside snippet (place_of (world input style (Some snippet) appended) s)) (call mode c t)
+    (λ s. forward-inside input style snippet appended s k) (rest-forward mode c input t h)
+
+-- The same of the piece that a call gives, and of the placeholder that it closes.
+pub piece-reads_back : (mode : Mode) (c : ℕ) (input t : Text) (style : Option ℕ) (snippet : Text) (appended : Bool) (p : Piece Span) →
+    IsRest input t → IsSource input style snippet appended → (call mode c t).piece ≡ Some p →
+    AllByRecursion (λ s. ReadsBack input style snippet appended s (place_of (world input style (Some snippet) appended) s)) (spans_of p)
+piece-reads_back mode c input t style snippet appended p h k e =
+    subst (λ o. AllByRecursion (λ s. ReadsBack input style snippet appended s (place_of (world input style (Some snippet) appended) s)) (piece_spans o)) e
+    (rest-reads_back mode c input t style snippet appended h k).piece
+
+pub closed-reads_back : (mode : Mode) (c : ℕ) (input t : Text) (style : Option ℕ) (snippet : Text) (appended : Bool) (s : Span) →
+    IsRest input t → IsSource input style snippet appended → (call mode c t).closes ≡ Some s →
+    ReadsBack input style snippet appended s (place_of (world input style (Some snippet) appended) s)
+closed-reads_back mode c input t style snippet appended s h k e =
+    let all : AllByRecursion (λ x. ReadsBack input style snippet appended x (place_of (world input style (Some snippet) appended) x)) (optional (Some s))
+    = subst (λ o. AllByRecursion (λ x. ReadsBack input style snippet appended x (place_of (world input style (Some snippet) appended) x)) (optional o)) e
+    (rest-reads_back mode c input t style snippet appended h k).closes in
+    all.0

@@ -1,0 +1,223 @@
+-- The places of the characters of a content stand in order. What is read in front of one of them, and in a range of bytes.
+use Rattle.std.proofs.Common.{◌≡◌, ℕ, suc, zero, ◌+◌, ◌≤◌, ◌<◌, ◌++◌, ◌&&◌, ◌⊎◌, inl, inr, Bool, true, false, if◌then◌else◌, List, [], ◌∷◌, take, get_or}
+use Rattle.std.proofs.Common.{refl, sym, ap, ◌∙◌, arith, Option, Some, None}
+use Rattle.std.specs.Prelude.{nat_le, ⊤}
+use Rattle.std.proofs.lemmas.Str.{len_utf8_bounds}
+use Rattle.std.proofs.lemmas.Bool.{le-leb, lt-leb}
+use Rattle.rustc_parse_format.specs.Characters.{Text, byte_length}
+use Rattle.rustc_parse_format.specs.LiteralUnits.{LiteralUnit, Plain, SimpleEscape, ByteEscape, UnicodeEscape, Continuation, spelling, value, escaped}
+use Rattle.rustc_parse_format.specs.LiteralUnits.{at_most_one}
+use Rattle.rustc_parse_format.specs.Literal.{content_value}
+use Rattle.rustc_parse_format.specs.World.{Place, content_places, last_stop}
+use Rattle.rustc_parse_format.specs.ReadBack.{before, inside}
+use Rattle.rustc_parse_format.proofs.LiteralWidths.{width-cons}
+
+-- where a unit at a byte ends
+abbrev pub past : ℕ → LiteralUnit → ℕ
+past at u = at + byte_length (spelling u)
+
+-- a text that is not empty takes at least a byte
+some_width : (c : ℕ) (t : Text) → 0 < byte_length (c ∷ t)
+some_width c t = omega (arith, width-cons c t, (len_utf8_bounds c).0)
+
+pub past-lt : (at : ℕ) (u : LiteralUnit) → at < past at u
+past-lt at (Plain c) = omega (arith, some_width c [])
+past-lt at (SimpleEscape l) = omega (arith, some_width 92 (l ∷ []))
+past-lt at (ByteEscape h l) = omega (arith, some_width 92 (120 ∷ h ∷ l ∷ []))
+past-lt at (UnicodeEscape w) = omega (arith, some_width 92 (117 ∷ 123 ∷ w ++ 125 ∷ []))
+past-lt at (Continuation w) = omega (arith, some_width 92 (10 ∷ w))
+
+-- A unit stands for one character or for none.
+abbrev pub IsOneOrNone : Text → Type 0
+IsOneOrNone t = (t ≡ []) ⊎ ((c : ℕ) × (t ≡ c ∷ []))
+
+option-one : (o : Option ℕ) → IsOneOrNone (at_most_one o)
+option-one None = inl refl
+option-one (Some c) = inr (c, refl)
+
+pub one_or_none : (u : LiteralUnit) → IsOneOrNone (value u)
+one_or_none (Plain c) = inr (c, refl)
+one_or_none (SimpleEscape l) = option-one (escaped l)
+one_or_none (ByteEscape h l) = inr (_, refl)
+one_or_none (UnicodeEscape w) = inr (_, refl)
+one_or_none (Continuation w) = inl refl
+
+-- Places in order, from a byte to another.
+abbrev pub IsOrdered : ℕ → List Place → ℕ → Type 0
+IsOrdered lo [] e = lo ≤ e
+IsOrdered lo (p ∷ ps) e = (lo ≤ p.0) × (p.0 ≤ p.1) × IsOrdered p.1 ps e
+
+-- where the character behind a of them starts, and where it ends; behind all of them that is e
+abbrev pub start : List Place → ℕ → ℕ → ℕ
+start ps e a = (get_or ps a (e, e)).0
+
+abbrev pub stop : List Place → ℕ → ℕ → ℕ
+stop ps e a = (get_or ps a (e, e)).1
+
+pub ordered-end : (lo : ℕ) (ps : List Place) (e : ℕ) → IsOrdered lo ps e → lo ≤ e
+ordered-end lo [] e o = o
+ordered-end lo (p ∷ ps) e o = omega (arith, o.0, o.1, ordered-end p.1 ps e o.2)
+
+pub start-after : (lo : ℕ) (ps : List Place) (e a : ℕ) → IsOrdered lo ps e → lo ≤ start ps e a
+start-after lo [] e a o = o
+start-after lo (p ∷ ps) e zero o = o.0
+start-after lo (p ∷ ps) e (suc a) o = let h : p.1 ≤ start ps e a = start-after p.1 ps e a o.2 in omega (arith, o.0, o.1)
+
+pub start-stop : (lo : ℕ) (ps : List Place) (e a : ℕ) → IsOrdered lo ps e → start ps e a ≤ stop ps e a
+start-stop lo [] e a o = omega arith
+start-stop lo (p ∷ ps) e zero o = o.1
+start-stop lo (p ∷ ps) e (suc a) o = start-stop p.1 ps e a o.2
+
+pub stop-end : (lo : ℕ) (ps : List Place) (e a : ℕ) → IsOrdered lo ps e → stop ps e a ≤ e
+stop-end lo [] e a o = omega arith
+stop-end lo (p ∷ ps) e zero o = ordered-end p.1 ps e o.2
+stop-end lo (p ∷ ps) e (suc a) o = stop-end p.1 ps e a o.2
+
+-- a character starts before one behind it does
+pub start-start : (lo : ℕ) (ps : List Place) (e a b : ℕ) → a ≤ b → IsOrdered lo ps e → start ps e a ≤ start ps e b
+start-start lo [] e a b h o = omega arith
+start-start lo (p ∷ ps) e zero zero h o = omega arith
+start-start lo (p ∷ ps) e zero (suc b) h o = let k : p.1 ≤ start ps e b = start-after p.1 ps e b o.2 in omega (arith, o.1)
+start-start lo (p ∷ ps) e (suc a) zero h o = absurd (omega arith)
+start-start lo (p ∷ ps) e (suc a) (suc b) h o = start-start p.1 ps e a b (omega arith) o.2
+
+-- The places of a content are in order, up to where the last one ends.
+pub content-ordered : (lo at : ℕ) (us : List LiteralUnit) → lo ≤ at → IsOrdered lo (content_places at us) (last_stop lo (content_places at us))
+content-ordered lo at [] h = omega arith
+content-ordered lo at (u ∷ us) h =
+    elim (one_or_none u) [
+      | inl z ↦ rw z (content-ordered lo (past at u) us (omega (arith, past-lt at u)))
+      | inr (c, z) ↦ rw z (h, omega (arith, past-lt at u), content-ordered (past at u) (past at u) us (omega arith))
+    ]
+
+-- what is held or not, where nothing is
+nothing_either : (b : Bool) (t : Text) → (if b then [] else []) ++ t ≡ t
+nothing_either true t = refl
+nothing_either false t = refl
+
+-- A unit that stands for nothing, and one in front of s that stands for a character.
+before-nothing : (s at : ℕ) (u : LiteralUnit) (us : List LiteralUnit) → value u ≡ [] → before s at (u ∷ us) ≡ before s (past at u) us
+before-nothing s at u us z = rw z (nothing_either (nat_le (past at u) s) (before s (past at u) us))
+
+before-character : (s at c : ℕ) (u : LiteralUnit) (us : List LiteralUnit) → value u ≡ c ∷ [] → past at u ≤ s →
+    before s at (u ∷ us) ≡ c ∷ before s (past at u) us
+before-character s at c u us z l = rw (z, le-leb (past at u) s l) refl
+
+-- No unit that starts at s or later ends by s.
+pub before-none : (s at : ℕ) (us : List LiteralUnit) → s ≤ at → before s at us ≡ []
+before-none s at [] h = refl
+before-none s at (u ∷ us) h =
+    let late : s < past at u = omega (arith, past-lt at u) in
+    rw (lt-leb (past at u) s late) (before-none s (past at u) us (omega arith))
+
+-- Behind the end stand all characters.
+pub before-all : (lo at : ℕ) (us : List LiteralUnit) (e s : ℕ) → IsOrdered lo (content_places at us) e → e ≤ s → before s at us ≡ content_value us
+before-all lo at [] e s o h = refl
+before-all lo at (u ∷ us) e s o h =
+    elim (one_or_none u) [
+      | inl z ↦
+          (let k : IsOrdered lo (content_places (past at u) us) e = rw z at o in
+          before-nothing s at u us z ∙ (before-all lo (past at u) us e s k h ∙ rw z refl))
+      | inr (c, z) ↦
+          (let k : IsOrdered lo ((at, past at u) ∷ content_places (past at u) us) e = rw z at o in
+          let l : past at u ≤ s = omega (arith, ordered-end (past at u) (content_places (past at u) us) e k.2) in
+          before-character s at c u us z l ∙ (ap (λ t. c ∷ t) (before-all (past at u) (past at u) us e s k.2 h) ∙ rw z refl))
+    ]
+
+-- Before the start of a character stand those in front of it.
+pub before-start : (lo at : ℕ) (us : List LiteralUnit) (e a s : ℕ) → IsOrdered lo (content_places at us) e → s ≡ start (content_places at us) e a →
+    before s at us ≡ take a (content_value us)
+before-start lo at [] e zero s o p = refl
+before-start lo at [] e (suc a) s o p = refl
+before-start lo at (u ∷ us) e a s o p =
+    elim (one_or_none u) [
+      | inl z ↦
+          (let k : IsOrdered lo (content_places (past at u) us) e = rw z at o in
+          let q : s ≡ start (content_places (past at u) us) e a = rw z at p in
+          before-nothing s at u us z ∙ (before-start lo (past at u) us e a s k q ∙ rw z refl))
+      | inr (c, z) ↦
+          (let k : IsOrdered lo ((at, past at u) ∷ content_places (past at u) us) e = rw z at o in
+          let q : s ≡ start ((at, past at u) ∷ content_places (past at u) us) e a = rw z at p in
+          at_character s at c u us e a z k.2 q (λ b h. before-start (past at u) (past at u) us e b s k.2 h) ∙ rw z refl)
+    ]
+  where
+    at_character : (s at c : ℕ) (u : LiteralUnit) (us : List LiteralUnit) (e a : ℕ) → value u ≡ c ∷ [] →
+        IsOrdered (past at u) (content_places (past at u) us) e →
+        s ≡ start ((at, past at u) ∷ content_places (past at u) us) e a →
+        ((b : ℕ) → s ≡ start (content_places (past at u) us) e b → before s (past at u) us ≡ take b (content_value us)) →
+        before s at (u ∷ us) ≡ take a (c ∷ content_value us)
+    at_character s at c u us e zero z o p ih = before-none s at (u ∷ us) (omega (arith, p))
+    at_character s at c u us e (suc a) z o p ih =
+        let l : past at u ≤ start (content_places (past at u) us) e a = start-after (past at u) (content_places (past at u) us) e a o in
+        before-character s at c u us z (omega (arith, p, l)) ∙ ap (λ t. c ∷ t) (ih a p)
+
+-- Before the end of a character stand those in front of it, and it.
+pub before-stop : (lo at : ℕ) (us : List LiteralUnit) (e a s : ℕ) → IsOrdered lo (content_places at us) e → s ≡ stop (content_places at us) e a →
+    before s at us ≡ take (suc a) (content_value us)
+before-stop lo at [] e a s o p = refl
+before-stop lo at (u ∷ us) e a s o p =
+    elim (one_or_none u) [
+      | inl z ↦
+          (let k : IsOrdered lo (content_places (past at u) us) e = rw z at o in
+          let q : s ≡ stop (content_places (past at u) us) e a = rw z at p in
+          before-nothing s at u us z ∙ (before-stop lo (past at u) us e a s k q ∙ rw z refl))
+      | inr (c, z) ↦
+          (let k : IsOrdered lo ((at, past at u) ∷ content_places (past at u) us) e = rw z at o in
+          let q : s ≡ stop ((at, past at u) ∷ content_places (past at u) us) e a = rw z at p in
+          at_character s at c u us e a z k.2 q (λ b h. before-stop (past at u) (past at u) us e b s k.2 h) ∙ rw z refl)
+    ]
+  where
+    at_character : (s at c : ℕ) (u : LiteralUnit) (us : List LiteralUnit) (e a : ℕ) → value u ≡ c ∷ [] →
+        IsOrdered (past at u) (content_places (past at u) us) e →
+        s ≡ stop ((at, past at u) ∷ content_places (past at u) us) e a →
+        ((b : ℕ) → s ≡ stop (content_places (past at u) us) e b → before s (past at u) us ≡ take (suc b) (content_value us)) →
+        before s at (u ∷ us) ≡ take (suc a) (c ∷ content_value us)
+    at_character s at c u us e zero z o p ih =
+        before-character s at c u us z (omega (arith, p)) ∙ ap (λ t. c ∷ t) (before-none s (past at u) us (omega (arith, p)))
+    at_character s at c u us e (suc a) z o p ih =
+        let ps = content_places (past at u) us in
+        let l : past at u ≤ stop ps e a = omega (arith, start-after (past at u) ps e a o, start-stop (past at u) ps e a o) in
+        before-character s at c u us z (omega (arith, p, l)) ∙ ap (λ t. c ∷ t) (ih a p)
+
+-- A byte that lies inside no place.
+abbrev pub IsApart : ℕ → List Place → Type 0
+IsApart s [] = ⊤
+IsApart s (p ∷ ps) = ((p.1 ≤ s) ⊎ (s ≤ p.0)) × IsApart s ps
+
+-- What comes later is apart, and so is where a character starts.
+apart-later : (s lo : ℕ) (ps : List Place) (e : ℕ) → s ≤ lo → IsOrdered lo ps e → IsApart s ps
+apart-later s lo [] e h o = tt
+apart-later s lo (p ∷ ps) e h o = (inr (omega (arith, o.0)), apart-later s p.1 ps e (omega (arith, o.0, o.1)) o.2)
+
+pub start-apart : (lo : ℕ) (ps : List Place) (e a : ℕ) → IsOrdered lo ps e → IsApart (start ps e a) ps
+start-apart lo [] e a o = tt
+start-apart lo (p ∷ ps) e zero o = (inr (omega arith), apart-later p.0 p.1 ps e o.1 o.2)
+start-apart lo (p ∷ ps) e (suc a) o = (inl (start-after p.1 ps e a o.2), start-apart p.1 ps e a o.2)
+
+inside-nothing : (p : Place) (at : ℕ) (u : LiteralUnit) (us : List LiteralUnit) → value u ≡ [] → inside p at (u ∷ us) ≡ inside p (past at u) us
+inside-nothing p at u us z = rw z (nothing_either (nat_le p.0 at && nat_le (past at u) p.1) (inside p (past at u) us))
+
+-- Where s lies inside no place, what is before a later byte is what is before s, and then what is in the range.
+pub before-inside : (s r at : ℕ) (us : List LiteralUnit) → s ≤ r → IsApart s (content_places at us) →
+    before s at us ++ inside (s, r) at us ≡ before r at us
+before-inside s r at [] h c = refl
+before-inside s r at (u ∷ us) h c =
+    elim (one_or_none u) [
+      | inl z ↦
+          (let k : IsApart s (content_places (past at u) us) = rw z at c in
+          rw (before-nothing s at u us z, inside-nothing (s, r) at u us z, before-nothing r at u us z) (before-inside s r (past at u) us h k))
+      | inr (d, z) ↦
+          (let k : IsApart s ((at, past at u) ∷ content_places (past at u) us) = rw z at c in
+          at_character s r at d u us h z k.0 (before-inside s r (past at u) us h k.1))
+    ]
+  where
+    at_character : (s r at d : ℕ) (u : LiteralUnit) (us : List LiteralUnit) → s ≤ r → value u ≡ d ∷ [] → (past at u ≤ s) ⊎ (s ≤ at) →
+        before s (past at u) us ++ inside (s, r) (past at u) us ≡ before r (past at u) us →
+        before s at (u ∷ us) ++ inside (s, r) at (u ∷ us) ≡ before r at (u ∷ us)
+    at_character s r at d u us h z (inl l) ih =
+        let late : at < s = omega (arith, past-lt at u) in
+        rw (z, le-leb (past at u) s l, le-leb (past at u) r (omega arith), lt-leb s at late) (ap (λ t. d ∷ t) ih)
+    at_character s r at d u us h z (inr l) ih =
+        let same : inside (s, r) (past at u) us ≡ before r (past at u) us
+        = ap (λ t. t ++ inside (s, r) (past at u) us) (sym (before-none s (past at u) us (omega (arith, past-lt at u)))) ∙ ih in
+        rw (before-none s at (u ∷ us) l, le-leb s at l, same) refl
