@@ -49,15 +49,6 @@ def without_faults(lines):
     return [line for line in lines if not line.startswith(b"fault ")]
 
 
-QUOTED_OR_SPAN = re.compile(rb'"(?:[^"\\]|\\.)*"|@\d+\.\.\d+')
-
-
-def without_spans(lines):
-    """Pieces are listed without spans."""
-    lines = [re.sub(rb"^(arg \S+ \S+) \d+\.\.\d+", rb"\1", line) for line in lines]
-    return [QUOTED_OR_SPAN.sub(lambda found: b"" if found[0].startswith(b"@") else found[0], line) for line in lines]
-
-
 def case(whole):
     """A case of the whole program as this stage answers it, or None where it is left out."""
     name, words, given, refusal, wanted, status = whole
@@ -66,7 +57,7 @@ def case(whole):
     lines = wanted.split(b"\n")[:-1]
     if recovers(lines, None if b"--literal" in words else given):
         return None
-    lines = without_spans(without_faults(lines))
+    lines = without_faults(lines)
     return name, words, given, refusal, b"".join(line + b"\n" for line in lines), status
 
 

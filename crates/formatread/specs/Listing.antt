@@ -11,6 +11,19 @@ use Rattle.rustc_parse_format.specs.World.{Place}
 abbrev pub quoted : Text → List ℕ
 quoted t = codes "\"" ++ (flat_map written t ++ codes "\"")
 
+-- a span
+abbrev pub span_text : Place → List ℕ
+span_text s = decimal s.0 ++ (codes ".." ++ decimal s.1)
+
+-- behind the part that it is of
+abbrev pub at_span : Place → List ℕ
+at_span s = codes "@" ++ span_text s
+
+-- and nothing behind a part that has none
+abbrev pub at_entry : Option Place → List ℕ
+at_entry None = []
+at_entry (Some s) = at_span s
+
 abbrev pub position_text : Position → List ℕ
 position_text (Implicit n) = codes "implicit " ++ decimal n
 position_text (Index n) = codes "index " ++ decimal n
@@ -18,15 +31,15 @@ position_text (Named w) = codes "name " ++ encode_utf8_all w
 
 abbrev pub count_text : Count Place → List ℕ
 count_text (Is n) = codes "is:" ++ decimal n
-count_text (Name w s) = codes "name:" ++ encode_utf8_all w
+count_text (Name w s) = codes "name:" ++ (encode_utf8_all w ++ at_span s)
 count_text (Param n) = codes "param:" ++ decimal n
 count_text (Star n) = codes "star:" ++ decimal n
 count_text Implied = codes "implied"
 
 -- Each entry of a specification has a space before it, and leaves nothing where it is not there.
-abbrev pub fill_entry : Option ℕ → List ℕ
-fill_entry None = []
-fill_entry (Some c) = codes " fill=" ++ quoted (c ∷ [])
+abbrev pub fill_entry : Option ℕ → Option Place → List ℕ
+fill_entry None s = []
+fill_entry (Some c) s = codes " fill=" ++ (quoted (c ∷ []) ++ at_entry s)
 
 abbrev pub align_entry : Alignment → List ℕ
 align_entry Left = codes " align=left"
@@ -43,17 +56,21 @@ abbrev pub flag_entry : Bool → List ℕ → List ℕ
 flag_entry true name = name
 flag_entry false name = []
 
-abbrev pub width_entry : Count Place → List ℕ
-width_entry Implied = []
-width_entry (Is n) = codes " width=" ++ count_text (Is n)
-width_entry (Name w s) = codes " width=" ++ count_text (Name w s)
-width_entry (Param n) = codes " width=" ++ count_text (Param n)
-width_entry (Star n) = codes " width=" ++ count_text (Star n)
+-- a count with the span of its part
+abbrev pub count_entry : List ℕ → Count Place → Option Place → List ℕ
+count_entry name k s = name ++ (count_text k ++ at_entry s)
+
+abbrev pub width_entry : Count Place → Option Place → List ℕ
+width_entry Implied s = []
+width_entry (Is n) s = count_entry (codes " width=") (Is n) s
+width_entry (Name w r) s = count_entry (codes " width=") (Name w r) s
+width_entry (Param n) s = count_entry (codes " width=") (Param n) s
+width_entry (Star n) s = count_entry (codes " width=") (Star n) s
 
 -- a precision that was written may be implied
 abbrev pub precision_entry : Option Place → Count Place → List ℕ
 precision_entry None k = []
-precision_entry (Some s) k = codes " precision=" ++ count_text k
+precision_entry (Some s) k = count_entry (codes " precision=") k (Some s)
 
 abbrev pub hex_entry : Option DebugHex → List ℕ
 hex_entry None = []
@@ -63,23 +80,25 @@ hex_entry (Some Upper) = codes " hex=upper"
 abbrev pub type_entry : Option Place → Text → List ℕ
 type_entry None [] = []
 type_entry None (c ∷ t) = codes " ty=" ++ quoted (c ∷ t)
-type_entry (Some s) t = codes " ty=" ++ quoted t
+type_entry (Some s) t = codes " ty=" ++ (quoted t ++ at_span s)
 
 -- fill, alignment and flags
 unfoldable pub flag_entries : Spec Place → List ℕ
 flag_entries s =
-    fill_entry s.fill ++ (align_entry s.align ++ (sign_entry s.sign
+    fill_entry s.fill s.fill_span ++ (align_entry s.align ++ (sign_entry s.sign
     ++ (flag_entry s.alternate (codes " alt") ++ flag_entry s.zero_pad (codes " zero"))))
 
 -- counts and type
 unfoldable pub value_entries : Spec Place → List ℕ
 value_entries s =
-    width_entry s.width ++ (precision_entry s.precision_span s.precision
+    width_entry s.width s.width_span ++ (precision_entry s.precision_span s.precision
     ++ (hex_entry s.debug_hex ++ type_entry s.ty_span s.ty))
 
 abbrev pub line : Piece Place → List ℕ
 line (Lit t) = codes "lit " ++ (quoted t ++ codes "\n")
-line (NextArgument a) = codes "arg " ++ (position_text a.position ++ (flag_entries a.format ++ (value_entries a.format ++ codes "\n")))
+line (NextArgument a) =
+    codes "arg " ++ (position_text a.position ++ (codes " " ++ (span_text a.position_span
+    ++ (flag_entries a.format ++ (value_entries a.format ++ codes "\n")))))
 
 -- a line for each piece
 abbrev pub listing : List (Piece Place) → List ℕ

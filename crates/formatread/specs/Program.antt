@@ -3,9 +3,9 @@ use Rattle.std.specs.Prelude.{◌≡◌, ◌≤◌, ◌<◌, ℕ, Bool, true, fa
 use Rattle.std.specs.Prelude.{chars, codes}
 use Rattle.std.specs.Str.{IsUtf8}
 use Rattle.rustc_parse_format.specs.Types.{Mode, Format, InlineAsm, Diagnostic, Piece}
-use Rattle.rustc_parse_format.specs.World.{Place, world, pieces_in}
+use Rattle.rustc_parse_format.specs.World.{Place, pieces_in}
 use Rattle.rustc_parse_format.specs.Call.{pieces_of}
-use Rattle.rustc_parse_format.specs.State.{State, fresh, calls, after_all}
+use Rattle.rustc_parse_format.specs.State.{State, first_state, calls, after_all}
 use Rattle.formatread.specs.declared.verdict.RunFault.{RunFault}
 use Rattle.formatread.specs.declared.verdict.RunFault.TheVariants.{Words, Read, TooLong, NotText, NotLiteral, Memory, Write}
 use Rattle.formatread.specs.Listing.{listing}
@@ -41,7 +41,7 @@ asked (w ∷ v ∷ u ∷ ws) = None
 
 -- a parser at the start of what it is given
 abbrev pub start : Mode → Source → State
-start mode s = fresh mode (world s.text s.style s.snippet false) s.text
+start mode s = first_state mode s.text s.style s.snippet false
 
 -- the pieces of what the parser is given
 unfoldable pub pieces : Mode → Source → List (Piece Place)

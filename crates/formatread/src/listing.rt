@@ -1,7 +1,7 @@
 ghost use Rattle.std.specs.Prelude.{◌≡◌, ◌++◌, [], IfOk, IsOk, OnOk, map, chars, codes, encode_utf8_all, flat_map, option_map, string_bytes};
 ghost use Rattle.rustc_parse_format.specs.Written.{written};
 ghost use Rattle.rustc_parse_format.specs.Seen.{pair, seen, seen_alignment, seen_count, seen_debug_hex, seen_position, seen_sign, seen_spec};
-ghost use Rattle.formatread.specs.Listing.{align_entry, count_text, fill_entry, flag_entry, flag_entries, hex_entry, line, listing, position_text, precision_entry, quoted, sign_entry, type_entry, value_entries, width_entry};
+ghost use Rattle.formatread.specs.Listing.{align_entry, at_entry, count_entry, count_text, fill_entry, flag_entry, flag_entries, hex_entry, line, listing, position_text, precision_entry, quoted, sign_entry, span_text, type_entry, value_entries, width_entry};
 
 use rustc_parse_format::{
     Alignment, Argument, Count, DebugHex, FormatSpec, Piece, Position, Sign, put_written,
@@ -51,6 +51,26 @@ fn put_name(out: &mut String, label: &str, name: &str) -> Result<(), AllocError>
     Ok(())
 }
 
+/// Adds a span after a mark.
+fn put_span(out: &mut String, mark: &str, span: &Range<usize>) -> Result<(), AllocError>
+    ensures { OnOk result (string_bytes out.new ≡ string_bytes out.old ++
+        (mark.now ++ span_text (pair span.now))) }
+{
+    write!(out, "{mark}{}..{}", span.start, span.end)?;
+    Ok(())
+}
+
+/// Adds the span of the part in front, if it has one.
+fn put_at(out: &mut String, span: &Option<Range<usize>>) -> Result<(), AllocError>
+    ensures { OnOk result (string_bytes out.new ≡ string_bytes out.old ++
+        at_entry (option_map pair span.now)) }
+{
+    if let Some(span) = span {
+        put_span(out, "@", span)?;
+    }
+    Ok(())
+}
+
 /// Adds a position.
 fn put_position(out: &mut String, position: &Position<'_>) -> Result<(), AllocError>
     ensures { OnOk result (string_bytes out.new ≡ string_bytes out.old ++
@@ -65,13 +85,19 @@ fn put_position(out: &mut String, position: &Position<'_>) -> Result<(), AllocEr
 }
 
 /// Adds a fill.
-fn put_fill(out: &mut String, fill: Option<char>) -> Result<(), AllocError>
-    ensures { OnOk result (string_bytes out.new ≡ string_bytes out.old ++ fill_entry fill) }
+fn put_fill(
+    out: &mut String,
+    fill: Option<char>,
+    span: &Option<Range<usize>>,
+) -> Result<(), AllocError>
+    ensures { OnOk result (string_bytes out.new ≡ string_bytes out.old ++
+        fill_entry fill (option_map pair span.now)) }
 {
     if let Some(c) = fill {
         out.push_str(" fill=\"")?;
         put_written(out, c)?;
         out.push_str("\"")?;
+        put_at(out, span)?;
     }
     Ok(())
 }
@@ -121,7 +147,7 @@ fn put_flags(out: &mut String, spec: &FormatSpec<'_>) -> Result<(), AllocError>
     ensures { OnOk result (string_bytes out.new ≡ string_bytes out.old ++
         flag_entries (seen_spec spec.now)) }
 {
-    put_fill(out, spec.fill)?;
+    put_fill(out, spec.fill, &spec.fill_span)?;
     put_alignment(out, spec.align)?;
     put_sign(out, spec.sign)?;
     put_flag(out, " alt", spec.alternate)?;
@@ -136,7 +162,10 @@ fn put_count(out: &mut String, count: &Count<'_>) -> Result<(), AllocError>
 {
     match count {
         Count::CountIs(n) => write!(out, "is:{n}")?,
-        Count::CountIsName(name, _) => put_name(out, "name:", name)?,
+        Count::CountIsName(name, span) => {
+            put_name(out, "name:", name)?;
+            put_span(out, "@", span)?;
+        }
         Count::CountIsParam(n) => write!(out, "param:{n}")?,
         Count::CountIsStar(n) => write!(out, "star:{n}")?,
         Count::CountImplied => out.push_str("implied")?,
@@ -144,31 +173,49 @@ fn put_count(out: &mut String, count: &Count<'_>) -> Result<(), AllocError>
     Ok(())
 }
 
-/// Adds a width, unless it is implied.
-fn put_width(out: &mut String, width: &Count<'_>) -> Result<(), AllocError>
+/// Adds a part that is a count: its name, the count and its span.
+fn put_named_count(
+    out: &mut String,
+    name: &str,
+    count: &Count<'_>,
+    span: &Option<Range<usize>>,
+) -> Result<(), AllocError>
     ensures { OnOk result (string_bytes out.new ≡ string_bytes out.old ++
-        width_entry (seen_count width.now)) }
+        count_entry name.now (seen_count count.now) (option_map pair span.now)) }
+{
+    out.push_str(name)?;
+    put_count(out, count)?;
+    put_at(out, span)?;
+    Ok(())
+}
+
+/// Adds a width, unless it is implied.
+fn put_width(
+    out: &mut String,
+    width: &Count<'_>,
+    span: &Option<Range<usize>>,
+) -> Result<(), AllocError>
+    ensures { OnOk result (string_bytes out.new ≡ string_bytes out.old ++
+        width_entry (seen_count width.now) (option_map pair span.now)) }
 {
     if matches!(width, Count::CountImplied) {
         return Ok(());
     }
-    out.push_str(" width=")?;
-    put_count(out, width)?;
+    put_named_count(out, " width=", width, span)?;
     Ok(())
 }
 
 /// Adds a precision that was written.
 fn put_precision(
     out: &mut String,
-    span: &Option<Range<usize>>,
     precision: &Count<'_>,
+    span: &Option<Range<usize>>,
 ) -> Result<(), AllocError>
     ensures { OnOk result (string_bytes out.new ≡ string_bytes out.old ++
         precision_entry (option_map pair span.now) (seen_count precision.now)) }
 {
     if let Some(_) = span {
-        out.push_str(" precision=")?;
-        put_count(out, precision)?;
+        put_named_count(out, " precision=", precision, span)?;
     }
     Ok(())
 }
@@ -188,7 +235,7 @@ fn put_hex(out: &mut String, hex: Option<DebugHex>) -> Result<(), AllocError>
 }
 
 /// Adds a type that was written.
-fn put_type(out: &mut String, span: &Option<Range<usize>>, ty: &str) -> Result<(), AllocError>
+fn put_type(out: &mut String, ty: &str, span: &Option<Range<usize>>) -> Result<(), AllocError>
     ensures { OnOk result (string_bytes out.new ≡ string_bytes out.old ++
         type_entry (option_map pair span.now) (chars ty.now)) }
 {
@@ -197,6 +244,7 @@ fn put_type(out: &mut String, span: &Option<Range<usize>>, ty: &str) -> Result<(
     }
     out.push_str(" ty=")?;
     put_quoted(out, ty)?;
+    put_at(out, span)?;
     Ok(())
 }
 
@@ -206,10 +254,10 @@ fn put_values(out: &mut String, spec: &FormatSpec<'_>) -> Result<(), AllocError>
     ensures { OnOk result (string_bytes out.new ≡ string_bytes out.old ++
         value_entries (seen_spec spec.now)) }
 {
-    put_width(out, &spec.width)?;
-    put_precision(out, &spec.precision_span, &spec.precision)?;
+    put_width(out, &spec.width, &spec.width_span)?;
+    put_precision(out, &spec.precision, &spec.precision_span)?;
     put_hex(out, spec.debug_hex)?;
-    put_type(out, &spec.ty_span, spec.ty)?;
+    put_type(out, spec.ty, &spec.ty_span)?;
     Ok(())
 }
 
@@ -217,11 +265,13 @@ fn put_values(out: &mut String, spec: &FormatSpec<'_>) -> Result<(), AllocError>
 fn put_argument(out: &mut String, argument: &Argument<'_>) -> Result<(), AllocError>
     ensures { OnOk result (string_bytes out.new ≡ string_bytes out.old ++
         (codes "arg " ++ (position_text (seen_position argument.now.position)
+        ++ (codes " " ++ (span_text (pair argument.now.position_span)
         ++ (flag_entries (seen_spec argument.now.format)
-        ++ (value_entries (seen_spec argument.now.format) ++ codes "\n"))))) }
+        ++ (value_entries (seen_spec argument.now.format) ++ codes "\n"))))))) }
 {
     out.push_str("arg ")?;
     put_position(out, &argument.position)?;
+    put_span(out, " ", &argument.position_span)?;
     put_flags(out, &argument.format)?;
     put_values(out, &argument.format)?;
     out.push_str("\n")?;
