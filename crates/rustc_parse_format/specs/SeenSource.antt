@@ -16,7 +16,7 @@ use Rattle.rustc_parse_format.specs.World.{World, Place, plain_world, ordinary_w
 -- the world of a source, which keeps the snippet only where its places are not those of a plain text
 abbrev pub world_with : Option (String Global) → Source → World
 world_with None s = plain_world s.is_literal s.offset (chars s.input.now) s.end
-world_with (Some snippet) s = ordinary_world (unwrap_or (units (between (chars (string_bytes snippet)))) []) s.appended
+world_with (Some snippet) s = record (ordinary_world (unwrap_or (units (between (chars (string_bytes snippet)))) []) s.appended) { has_source = s.is_literal }
 
 abbrev pub seen_world : Source → World
 seen_world s = world_with s.kept s

@@ -118,7 +118,7 @@ impl<'source, 'input> Cursor<'source, 'input> {
         ensures rest { self.new ≡ record self.old { rest = behind_first self.old.rest } }
         ensures steps { Forward self.old.rest trail.old self.new.rest trail.new }
     {
-        trail.step(first(self.spot.rest));
+        trail.step(self.peek());
         self.pass();
     }
 

@@ -1,0 +1,95 @@
+-- Where a cursor stands in its source: in a plain world by the bytes of what is left, else by the byte in the kept snippet.
+use Rattle.std.proofs.Common.{◌≡◌, ◌+◌, ◌-◌, ℕ, Bool, true, false, List, [], ◌∷◌, length, chars, refl, ap, sym, ◌∙◌, Option, Some, None, IsUtf8, arith, string_bytes}
+use Rattle.std.specs.Prelude.{is_some}
+use Rattle.std.proofs.lemmas.Str.{IsUtf8-from_is_utf8, chars-nil}
+use Rattle.std.proofs.lemmas.List.{nil_from_length}
+use Rattle.std.proofs.lemmas.Bool.{false≢true}
+use Rattle.rustc_parse_format.specs.Bytes.{IsLeft}
+use Rattle.rustc_parse_format.proofs.SourceSteps.{here_start, here_end}
+use Rattle.std.specs.declared.string.String.{String}
+use Rattle.std.specs.declared.alloc.Global.{Global}
+use Rattle.rustc_parse_format.specs.declared.source.Source.{Source}
+use Rattle.rustc_parse_format.specs.Characters.{Text, behind_first}
+use Rattle.rustc_parse_format.specs.World.{World, Place, place_at}
+use Rattle.rustc_parse_format.specs.SeenSource.{IsHere, IsPlaced, IsSpot, seen_world, world_with}
+use Rattle.rustc_parse_format.proofs.Places.{begun, place_over, start_left, stop_left}
+
+-- the kept snippet of a source, if there is one, is what decides
+pub plain_source : (s : Source) → s.kept ≡ None → seen_world s ≡ world_with None s
+plain_source s e = ap (λ (o : Option (String Global)). world_with o s) e
+
+placed_by : (o : Option (String Global)) (w : World) (rest : Text) (at : ℕ) (snippet : String Global) → IsPlaced o w rest at → o ≡ Some snippet →
+    IsHere (string_bytes snippet) w rest at
+placed_by o w rest at snippet h e = rw e at h
+
+pub placed_in : (s : Source) (rest : List ℕ) (at : ℕ) (snippet : String Global) → IsSpot s rest at → s.kept ≡ Some snippet →
+    IsHere (string_bytes snippet) (seen_world s) (chars rest) at
+placed_in s rest at snippet h e = placed_by s.kept (seen_world s) (chars rest) at snippet h.is_placed e
+
+literal_in : (o : Option (String Global)) (s : Source) → s.is_literal ≡ (world_with o s).has_source
+literal_in None s = refl
+literal_in (Some snippet) s = refl
+
+pub source_literal : (s : Source) → s.is_literal ≡ (seen_world s).has_source
+source_literal s = literal_in s.kept s
+
+-- in a plain world
+pub plain_start : (s : Source) (rest : List ℕ) (at : ℕ) → IsSpot s rest at → s.kept ≡ None → (length rest ≡ 0 → ⊥) →
+    s.offset + (length s.input.now - length rest) ≡ (place_at (seen_world s) (length (chars rest))).0
+plain_start s rest at h e some = rw e (sym (start_left s.is_literal s.offset s.end s.input.now rest h.is_left some))
+
+pub plain_stop : (s : Source) (rest behind : List ℕ) (at : ℕ) → IsSpot s rest at → s.kept ≡ None → IsUtf8 behind → (length rest ≡ 0 → ⊥) →
+    chars behind ≡ behind_first (chars rest) → s.offset + (length s.input.now - length behind) ≡ (place_at (seen_world s) (length (chars rest))).1
+plain_stop s rest behind at h e u some b = rw e (sym (stop_left s.is_literal s.offset s.end s.input.now rest behind h.is_left u some b))
+
+pub plain_end : (s : Source) (rest : List ℕ) → s.kept ≡ None → length rest ≡ 0 → place_at (seen_world s) (length (chars rest)) ≡ (s.end, s.end)
+plain_end s rest e none = rw e (place_over s.is_literal s.offset s.end s.input.now rest none)
+
+-- in a kept snippet
+some_snippet : (o : Option (String Global)) → is_some o ≡ true → (snippet : String Global) × (o ≡ Some snippet)
+some_snippet None e = absurd (false≢true e)
+some_snippet (Some snippet) e = (snippet, refl)
+
+none_snippet : (o : Option (String Global)) → is_some o ≡ false → o ≡ None
+none_snippet None e = refl
+none_snippet (Some snippet) e = absurd (false≢true (sym e))
+
+pub kept_start : (s : Source) (rest : List ℕ) (at : ℕ) → IsSpot s rest at → is_some s.kept ≡ true → at ≡ (place_at (seen_world s) (length (chars rest))).0
+kept_start s rest at h e =
+    let k = some_snippet s.kept e in
+    sym (here_start (string_bytes k.0) (seen_world s) (chars rest) at (placed_in s rest at k.0 h k.1))
+
+pub not_kept : (s : Source) → is_some s.kept ≡ false → s.kept ≡ None
+not_kept s e = none_snippet s.kept e
+
+pub kept_end : (s : Source) (rest : List ℕ) (at : ℕ) (snippet : String Global) → IsSpot s rest at → s.kept ≡ Some snippet → length rest ≡ 0 →
+    at ≡ (place_at (seen_world s) (length (chars rest))).1
+kept_end s rest at snippet h e none =
+    let nil : chars rest ≡ [] = ap chars (nil_from_length rest none) ∙ chars-nil in
+    let here = placed_in s rest at snippet h e in
+    rw nil (here_end (string_bytes snippet) (seen_world s) at (rw nil at here))
+
+pub kept_stop : (s : Source) (rest : List ℕ) (at stop : ℕ) (snippet : String Global) → IsSpot s rest at → s.kept ≡ Some snippet → (length rest ≡ 0 → ⊥) →
+    ((w : World) (c : ℕ) (t : Text) → IsHere (string_bytes snippet) w (c ∷ t) at → stop ≡ (place_at w (length (c ∷ t))).1) →
+    stop ≡ (place_at (seen_world s) (length (chars rest))).1
+kept_stop s rest at stop snippet h e some f =
+    let b = begun rest (IsUtf8-from_is_utf8 rest h.is_left.valid_rest) some in
+    let here = placed_in s rest at snippet h e in
+    rw b.chars_are (f (seen_world s) b.head b.tail (rw b.chars_are at here))
+
+-- a place passed
+pub passed_plain : (s : Source) (rest behind : List ℕ) (at : ℕ) → IsSpot s rest at → s.kept ≡ None → IsLeft s.input.now behind → IsSpot s behind at
+passed_plain s rest behind at h e l = record { is_left = l; is_placed = rw e tt; fits = h.fits }
+
+pub passed_kept : (s : Source) (rest behind : List ℕ) (at to : ℕ) (snippet : String Global) → IsSpot s rest at → s.kept ≡ Some snippet →
+    IsLeft s.input.now behind → chars behind ≡ behind_first (chars rest) →
+    ((w : World) (t : Text) → IsHere (string_bytes snippet) w t at → IsHere (string_bytes snippet) w (behind_first t) to) → IsSpot s behind to
+passed_kept s rest behind at to snippet h e l b f = record {
+  is_left = l;
+  is_placed = of_kept s.kept (seen_world s) (chars behind) to snippet e (rw b (f (seen_world s) (chars rest) (placed_in s rest at snippet h e)));
+  fits = h.fits;
+}
+  where
+    of_kept : (o : Option (String Global)) (w : World) (t : Text) (to : ℕ) (snippet : String Global) → o ≡ Some snippet →
+        IsHere (string_bytes snippet) w t to → IsPlaced o w t to
+    of_kept o w t to snippet e k = rw e k
