@@ -15,7 +15,11 @@ pub returns-clause-state : goal.returns-clause-state
 returns-clause-state g c =
     let m = seen_mode c.args.mode in
     let u = c.reader.inside.cursor in
-    let s = midway u c.reader.inside.curarg (map seen_fault c.reader.inside.found.items) in
+    let s = record (midway u c.reader.inside.curarg c.reader.inside.line_start) {
+      faults = map seen_fault c.reader.inside.found.items;
+      lines = map pair c.reader.inside.lines.items;
+      closed = option_map pair c.reader.inside.closed;
+    } in
     let t = behind_first u.rest in
     let given = rw c.advance.ensures.rest at c.in_ok-argument.ensures in
     let format = ap (λ (a : Argument Place). a.format) given.value in
@@ -23,5 +27,5 @@ returns-clause-state g c =
     let opening : Place = (c.start.result, c.stop.result) in
     rw (← c.reader.view_is) (rw c.skip_white.ensures.rest at c.in_ok-close.ensures.state ∙
     ap (λ (x : Midway). behind_closing fill opening (record x { rest = behind_white x.rest })) (c.reader-2.view_is ∙ given.state) ∙
-    placeholder_read s m u.rest t fill opening (rw (c.brace_fill-fill.ensures, c.start.ensures, c.stop.ensures)
+    placeholder_read s m u.rest t fill opening c.start.ensures (rw (c.brace_fill-fill.ensures, c.start.ensures, c.stop.ensures)
     (sym (unclosed_fault_in u.world u.rest (argument s.next (cut m t)).format (ending m t) (seen_spec c.in_ok-argument.argument.format) format))))

@@ -3,6 +3,8 @@ use Rattle.rustc_parse_format.specs.Counts.{precision, width}
 use Rattle.rustc_parse_format.specs.Values.{number_after_precision}
 use Rattle.rustc_parse_format.specs.Meaning.{format_of}
 use Rattle.rustc_parse_format.specs.PartFaults.{precision_faults, type_faults, width_faults}
+use Rattle.std.specs.Prelude.{option_map}
+use Rattle.rustc_parse_format.specs.Seen.{pair}
 use Rattle.rustc_parse_format.specs.SeenFaults.{seen_fault}
 use Rattle.rustc_parse_format.specs.Specification.{format_text, precision_at, type, type_at, width_at}
 use Rattle.rustc_parse_format.specs.Midway.{midway}
@@ -29,7 +31,11 @@ unfolding format_text
 returns-clause-state g c =
     let t = c.reader.inside.cursor.rest in
     let n = c.reader.inside.curarg in
-    let s = midway c.reader.inside.cursor n (map seen_fault c.reader.inside.found.items) in
+    let s = record (midway c.reader.inside.cursor n c.reader.inside.line_start) {
+      faults = map seen_fault c.reader.inside.found.items;
+      lines = map pair c.reader.inside.lines.items;
+      closed = option_map pair c.reader.inside.closed;
+    } in
     let m = number_after_precision n (precision (precision_at t)).0 in
     let ws = width_faults (width_at t) (width (width_at t)).0 in
     let ps = precision_faults (precision_at t) (precision (precision_at t)).0 in
