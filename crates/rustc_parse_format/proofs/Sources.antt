@@ -25,13 +25,13 @@ test : (s t : Text) → s ≡ t → IsTrue (bytes_eq s t)
 test s t e = (bytes_eq-Decides s t).1 e
 
 -- a text in front of its newline
-unappended-append : (b : Bool) (t : Text) → unappended b (t ++ newline b) ≡ t
+pub unappended-append : (b : Bool) (t : Text) → unappended b (t ++ newline b) ≡ t
 unappended-append true t =
     let n : length (t ++ 10 ∷ []) - 1 ≡ length t = omega (arith, length-append t (10 ∷ [])) in
     ap (λ k. take k (t ++ 10 ∷ [])) n ∙ take-append_seam t (10 ∷ [])
 unappended-append false t = append-nil t
 
-between-frame : (t : Text) → between (ordinary_frame t) ≡ t
+pub between-frame : (t : Text) → between (ordinary_frame t) ≡ t
 between-frame t =
     let n : length (34 ∷ t ++ 34 ∷ []) - 2 ≡ length t = omega (arith, length-append t (34 ∷ [])) in
     ap (λ k. take k (t ++ 34 ∷ [])) n ∙ take-append_seam t (34 ∷ [])

@@ -1,9 +1,11 @@
 -- Literals by computing, as the functions that read them go: what a content gives, and what is after a prefix.
-use Rattle.std.specs.Prelude.{◌≡◌, ℕ, Bool, ◌==◌, if◌then◌else◌, List, [], ◌∷◌, map, Option, Some, None, option_map}
+use Rattle.std.specs.Prelude.{◌≡◌, ℕ, Bool, ◌==◌, if◌then◌else◌, List, [], ◌∷◌, map, Option, Some, None, option_map, unwrap_or, bytes_eq}
 use Rattle.std.specs.declared.ops.Range.{Range}
 use Rattle.rustc_parse_format.specs.Characters.{Text}
-use Rattle.rustc_parse_format.specs.World.{Place}
-use Rattle.rustc_parse_format.specs.Literal.{units, placed_characters}
+use Rattle.rustc_parse_format.specs.World.{Place, content_places, last_stop, ordinary_end, raw_end}
+use Rattle.rustc_parse_format.specs.LiteralUnits.{LiteralUnit}
+use Rattle.rustc_parse_format.specs.Literal.{units, content_value, placed_characters, IsSource}
+use Rattle.rustc_parse_format.specs.Source.{between}
 use Rattle.rustc_parse_format.specs.Seen.{pair}
 
 -- what a contract sees of characters with their places
@@ -23,3 +25,25 @@ after_prefix (c ∷ p) (d ∷ t) = if d == c then after_prefix p t else None
 -- p stands in front of the text, as the flag says, and r is after it
 abbrev pub IsTaken : Text → Text → Bool → Text → Type 0
 IsTaken p t b r = after_prefix p t ≡ (if b then Some r else None)
+
+-- Where the text ends for which units stand, if they are there and do: they start at a byte, and of no character the end is e.
+abbrev pub end_of : ℕ → ℕ → Option (List LiteralUnit) → Text → Option ℕ
+end_of at e None t = None
+end_of at e (Some us) t = if bytes_eq t (content_value us) then Some (last_stop e (content_places at us)) else None
+
+-- the same of a content
+unfoldable pub spelled_end : ℕ → ℕ → Text → Text → Option ℕ
+spelled_end at e content t = end_of at e (units content) t
+
+-- the units between the quotes of a snippet
+abbrev pub units_between : Text → List LiteralUnit
+units_between snippet = unwrap_or (units (between snippet)) []
+
+-- where the text of a literal of that style ends
+abbrev pub literal_end : Option ℕ → Text → ℕ
+literal_end None snippet = ordinary_end (units_between snippet)
+literal_end (Some n) snippet = raw_end n snippet
+
+-- the snippet is the source literal of the input, and the text ends there
+abbrev pub IsSourceTo : Text → Option ℕ → Text → Bool → ℕ → Type 0
+IsSourceTo input style snippet appended e = IsSource input style snippet appended × (e ≡ literal_end style snippet)

@@ -1,19 +1,19 @@
 -- What a contract sees of where an input stands in its source. Only private contracts use it.
-use Rattle.std.specs.Prelude.{◌≡◌, ℕ, ◌≤◌, ◌++◌, Bool, true, List, [], ◌∷◌, length, drop, Option, Some, None, unwrap_or, chars, codes, string_bytes}
+use Rattle.std.specs.Prelude.{◌≡◌, ℕ, ◌≤◌, ◌++◌, Bool, true, List, [], ◌∷◌, length, drop, Option, Some, None, chars, codes, string_bytes}
 use Rattle.std.specs.Str.{is_utf8}
 use Rattle.std.specs.declared.string.String.{String}
 use Rattle.std.specs.declared.alloc.Global.{Global}
 use Rattle.rustc_parse_format.specs.declared.source.Source.{Source}
 use Rattle.rustc_parse_format.specs.Characters.{Text}
 use Rattle.rustc_parse_format.specs.LiteralUnits.{LiteralUnit, value}
-use Rattle.rustc_parse_format.specs.Literal.{IsContent, content_value, newline, units}
-use Rattle.rustc_parse_format.specs.Source.{between}
-use Rattle.rustc_parse_format.specs.World.{World, Place, plain_world, ordinary_world, content_places, newline_places}
+use Rattle.rustc_parse_format.specs.Literal.{IsContent, content_value, newline, ordinary_frame}
+use Rattle.rustc_parse_format.specs.LiteralReading.{units_between}
+use Rattle.rustc_parse_format.specs.World.{World, Place, plain_world, ordinary_world, ordinary_end, content_places, newline_places}
 
 -- the world of a source, which keeps the snippet only where its places are not those of a plain text
 abbrev pub world_with : Option (String Global) → Source → World
 world_with None s = plain_world s.is_literal s.offset (chars s.input.now) s.end
-world_with (Some snippet) s = ordinary_world (unwrap_or (units (between (chars (string_bytes snippet)))) []) s.appended
+world_with (Some snippet) s = ordinary_world (units_between (chars (string_bytes snippet))) s.appended
 
 abbrev pub seen_world : Source → World
 seen_world s = world_with s.kept s
@@ -43,3 +43,21 @@ pub record IsHere (snippet : List ℕ) (w : World) (rest : Text) (at : ℕ) : Ty
 abbrev pub IsPlaced : Option (String Global) → World → Text → ℕ → Type 0
 IsPlaced None w rest at = Unit {0}
 IsPlaced (Some snippet) w rest at = IsHere (string_bytes snippet) w rest at
+
+-- What is kept is an ordinary literal that stands for the input, whose text ends where the source says.
+pub record IsKeptLiteral (snippet : List ℕ) (s : Source) : Type 0 where
+  pub content : Text
+  pub units : List LiteralUnit
+  pub frame : chars snippet ≡ ordinary_frame content
+  pub is_content : IsContent content units
+  pub input_is : content_value units ++ newline s.appended ≡ chars s.input.now
+  pub end_is : s.end ≡ ordinary_end units
+  pub found : units_between (chars snippet) ≡ units
+
+-- the same where anything is kept
+abbrev pub IsKeptAs : Option (String Global) → Source → Type 0
+IsKeptAs None s = Unit {0}
+IsKeptAs (Some snippet) s = IsKeptLiteral (string_bytes snippet) s
+
+abbrev pub IsKept : Source → Type 0
+IsKept s = IsKeptAs s.kept s
