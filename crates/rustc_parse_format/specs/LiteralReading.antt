@@ -1,11 +1,11 @@
 -- Literals by computing, as the functions that read them go: what a content gives, and what is after a prefix.
-use Rattle.std.specs.Prelude.{◌≡◌, ℕ, Bool, ◌==◌, if◌then◌else◌, List, [], ◌∷◌, map, Option, Some, None, option_map, unwrap_or, bytes_eq}
+use Rattle.std.specs.Prelude.{◌≡◌, ℕ, Bool, ◌==◌, if◌then◌else◌, List, [], ◌∷◌, map, Option, Some, None, option_map, unwrap_or, bytes_eq, not, ◌+◌, false}
 use Rattle.std.specs.declared.ops.Range.{Range}
-use Rattle.rustc_parse_format.specs.Characters.{Text}
-use Rattle.rustc_parse_format.specs.World.{Place, content_places, last_stop, ordinary_end, raw_end}
+use Rattle.rustc_parse_format.specs.Characters.{Text, byte_length}
+use Rattle.rustc_parse_format.specs.World.{Place, content_places, last_stop, ordinary_end, raw_end, input_end, foreign_end}
 use Rattle.rustc_parse_format.specs.LiteralUnits.{LiteralUnit}
 use Rattle.rustc_parse_format.specs.Literal.{units, content_value, placed_characters, IsSource}
-use Rattle.rustc_parse_format.specs.Source.{between}
+use Rattle.rustc_parse_format.specs.Source.{between, HasSource}
 use Rattle.rustc_parse_format.specs.Seen.{pair}
 
 -- what a contract sees of characters with their places
@@ -47,3 +47,20 @@ literal_end (Some n) snippet = raw_end n snippet
 -- the snippet is the source literal of the input, and the text ends there
 abbrev pub IsSourceTo : Text → Option ℕ → Text → Bool → ℕ → Type 0
 IsSourceTo input style snippet appended e = IsSource input style snippet appended × (e ≡ literal_end style snippet)
+
+-- what is found of the source literal of an input, if a snippet is given: where its text ends
+abbrev pub IsFound : Text → Option ℕ → Option Text → Bool → Option ℕ → Type 0
+IsFound input style snippet appended None = HasSource input style snippet appended → ⊥
+IsFound input style None appended (Some e) = ⊥
+IsFound input style (Some snippet) appended (Some e) = IsSourceTo input style snippet appended e
+
+-- an ordinary source literal is not as long as what it stands for in two quotes, which an appended newline does not belong to
+abbrev pub is_longer : Text → Option ℕ → Option Text → Bool → Bool
+is_longer input (Some n) snippet appended = false
+is_longer input None None appended = false
+is_longer input None (Some snippet) appended = not (byte_length snippet == byte_length input + (if appended then 1 else 2))
+
+-- where a text ends that has no source literal
+abbrev pub plain_end : Text → Option Text → Bool → ℕ
+plain_end input None appended = input_end input appended
+plain_end input (Some snippet) appended = foreign_end snippet

@@ -1,5 +1,5 @@
 -- What a contract sees of where an input stands in its source. Only private contracts use it.
-use Rattle.std.specs.Prelude.{◌≡◌, ℕ, ◌≤◌, ◌++◌, Bool, true, List, [], ◌∷◌, length, drop, Option, Some, None, chars, codes, string_bytes}
+use Rattle.std.specs.Prelude.{◌≡◌, ℕ, ◌≤◌, ◌++◌, ◌⊎◌, Bool, true, List, [], ◌∷◌, length, drop, Option, Some, None, chars, codes, string_bytes}
 use Rattle.std.specs.Str.{is_utf8}
 use Rattle.std.specs.declared.string.String.{String}
 use Rattle.std.specs.declared.alloc.Global.{Global}
