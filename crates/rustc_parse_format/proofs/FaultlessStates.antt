@@ -1,5 +1,5 @@
 -- A parser has no error exactly where no call had a fault, and so where the text is in the grammar.
-use Rattle.std.proofs.Common.{◌≡◌, ◌≢◌, suc, ◌+◌, ◌++◌, List, [], ◌∷◌, map, length, length-append, refl, ◌∙◌, ap, arith}
+use Rattle.std.proofs.Common.{◌≡◌, ◌≢◌, ℕ, suc, ◌+◌, ◌++◌, List, [], ◌∷◌, map, length, length-append, refl, ◌∙◌, ap, arith}
 use Rattle.std.proofs.lemmas.Bool.{cond_both}
 use Rattle.rustc_parse_format.specs.Characters.{Text}
 use Rattle.rustc_parse_format.specs.Marks.{Span}
@@ -58,20 +58,20 @@ no_errors-after_all s [] e f = e
 no_errors-after_all s (k ∷ ks) e f = no_errors-after_all (after s k) ks (no_errors-after s k e f.0) f.1
 
 -- A parser that ends with no error has given the reading of its text,
-pub walk_reads : (mode : Mode) (w : World) (t : Text) → (after_all (fresh mode w t) (calls (fresh mode w t))).errors ≡ [] →
-    Reads mode 0 t (map bare (pieces_of (calls (fresh mode w t))))
-walk_reads mode w t e =
-    faultless-reads mode 0 t (calls (fresh mode w t)) (walk-IsWalk mode 0 t) (after_all-no_errors (fresh mode w t) (calls (fresh mode w t)) e).1
+pub walk_reads : (mode : Mode) (w : World) (t : Text) (at : ℕ) → (after_all (fresh mode w t at) (calls (fresh mode w t at))).errors ≡ [] →
+    Reads mode 0 t (map bare (pieces_of (calls (fresh mode w t at))))
+walk_reads mode w t at e =
+    faultless-reads mode 0 t (calls (fresh mode w t at)) (walk-IsWalk mode 0 t) (after_all-no_errors (fresh mode w t at) (calls (fresh mode w t at)) e).1
 
 -- and so it does wherever there is one.
-pub reads_walk : (mode : Mode) (w : World) (t : Text) (ps : List (Piece (Unit {0}))) → Reads mode 0 t ps →
-    ((after_all (fresh mode w t) (calls (fresh mode w t))).errors ≡ []) × (map bare (pieces_of (calls (fresh mode w t))) ≡ ps)
-reads_walk mode w t ps r =
-    let both = reads-faultless mode 0 t (calls (fresh mode w t)) ps (walk-IsWalk mode 0 t) r in
-    (no_errors-after_all (fresh mode w t) (calls (fresh mode w t)) refl both.0, both.1)
+pub reads_walk : (mode : Mode) (w : World) (t : Text) (at : ℕ) (ps : List (Piece (Unit {0}))) → Reads mode 0 t ps →
+    ((after_all (fresh mode w t at) (calls (fresh mode w t at))).errors ≡ []) × (map bare (pieces_of (calls (fresh mode w t at))) ≡ ps)
+reads_walk mode w t at ps r =
+    let both = reads-faultless mode 0 t (calls (fresh mode w t at)) ps (walk-IsWalk mode 0 t) r in
+    (no_errors-after_all (fresh mode w t at) (calls (fresh mode w t at)) refl both.0, both.1)
 
 -- Where there is an error, its first pieces are the reading of the text up to a character from which on nothing begins it.
-pub errors_stop : (mode : Mode) (w : World) (t : Text) → (after_all (fresh mode w t) (calls (fresh mode w t))).errors ≢ [] →
-    StopsInside mode 0 t (map bare (pieces_of (calls (fresh mode w t))))
-errors_stop mode w t e =
-    faulty-stops mode 0 t (calls (fresh mode w t)) (walk-IsWalk mode 0 t) (λ f. e (no_errors-after_all (fresh mode w t) (calls (fresh mode w t)) refl f))
+pub errors_stop : (mode : Mode) (w : World) (t : Text) (at : ℕ) → (after_all (fresh mode w t at) (calls (fresh mode w t at))).errors ≢ [] →
+    StopsInside mode 0 t (map bare (pieces_of (calls (fresh mode w t at))))
+errors_stop mode w t at e =
+    faulty-stops mode 0 t (calls (fresh mode w t at)) (walk-IsWalk mode 0 t) (λ f. e (no_errors-after_all (fresh mode w t at) (calls (fresh mode w t at)) refl f))

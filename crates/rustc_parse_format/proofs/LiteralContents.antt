@@ -6,7 +6,7 @@ use Rattle.rustc_parse_format.specs.LiteralUnits.{LiteralUnit, Plain, SimpleEsca
 use Rattle.rustc_parse_format.specs.Literal.{IsContent, IsOnlyContent, more, first_and_rest, units_within, units}
 use Rattle.rustc_parse_format.proofs.LiteralUnitLaws.{IsAtFront, unit_at-nil, unit_at-front, unit_at-complete}
 
-some_length : (u : LiteralUnit) → 0 < length (spelling u)
+pub some_length : (u : LiteralUnit) → 0 < length (spelling u)
 some_length (Plain c) = omega arith
 some_length (SimpleEscape l) = omega arith
 some_length (ByteEscape h l) = omega arith

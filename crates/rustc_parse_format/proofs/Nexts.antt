@@ -6,7 +6,7 @@ use Rattle.rustc_parse_format.specs.Grammar.{Begins}
 use Rattle.rustc_parse_format.specs.Types.{Mode, Piece, NextArgument, bare}
 use Rattle.rustc_parse_format.specs.Faults.{Message, Keeps}
 use Rattle.rustc_parse_format.specs.Call.{call}
-use Rattle.rustc_parse_format.specs.State.{State, GivesPiece, after, next_call}
+use Rattle.rustc_parse_format.specs.State.{State, GivesPiece, after, last_lines, next_call}
 use Rattle.rustc_parse_format.specs.World.{World, Place, faults_in, piece_in}
 use Rattle.std.proofs.lemmas.Bool.{not-true}
 use Rattle.rustc_parse_format.specs.Spelling.{IsPart, unless}
@@ -21,6 +21,7 @@ use Rattle.rustc_parse_format.proofs.Errors.{add_errors-keeps}
 use Rattle.rustc_parse_format.proofs.Calls.{begins_call, call_faults}
 use Rattle.rustc_parse_format.proofs.Progress.{call-lt, call_next-le}
 use Rattle.rustc_parse_format.proofs.StateWalks.{after-same, after-more}
+use Rattle.rustc_parse_format.proofs.StateLines.{at_end}
 
 -- what holds of a result where two facts do
 pub if_ok : {A E : Type 0} {P Q : A → Type 0} {X : Type 0} (r : Result A E) → IfOk r P → OnOk r X → ((a : A) → P a → X → Q a) → IfOk r Q
@@ -65,20 +66,14 @@ next_moves s new f some = rw f (call-lt s.mode s.next s.rest some)
 pub next_numbers : (s new : State) → new ≡ after s (next_call s) → new.next + length new.rest ≤ s.next + length s.rest
 next_numbers s new f = rw f (call_next-le s.mode s.next s.rest)
 
-at_end_same : (mode : Mode) (w : World) (input t : Text) (n : ℕ) (es : List (Message Place)) → t ≡ [] →
-    let s : State = record { mode = mode; world = w; input = input; rest = t; next = n; errors = es } in
-    ((next_call s).piece ≡ None) × (after s (next_call s) ≡ s)
-unfolding call
-at_end_same mode w input t n es e = rw e (refl, refl)
-
 none_given : {A B : Type 0} (f : A → B) (o : Option A) → option_map f o ≡ None → IsNone o
 none_given f None e = refl
 none_given f (Some a) e = cc e
 
 pub next_ends : {A : Type 0} (f : A → Piece Place) (s new : State) (o : Option A) → option_map f o ≡ option_map (piece_in s.world) (next_call s).piece →
-    new ≡ after s (next_call s) → s.rest ≡ [] → IsNone o × (new ≡ s)
+    new ≡ after s (next_call s) → s.rest ≡ [] → IsNone o × (new ≡ record s { line_spans = last_lines s s.line_spans })
 next_ends f s new o e h end =
-    let both = at_end_same s.mode s.world s.input s.rest s.next s.errors end in
+    let both = at_end s end in
     (none_given f o (e ∙ ap (option_map (piece_in s.world)) both.0), h ∙ both.1)
 
 -- a call that gives a piece moves on

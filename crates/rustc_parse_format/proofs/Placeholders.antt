@@ -12,7 +12,7 @@ use Rattle.rustc_parse_format.specs.Meaning.{argument}
 use Rattle.rustc_parse_format.specs.Faults.{Fault, map_fault, brace_fill, no_brace}
 use Rattle.rustc_parse_format.specs.PartFaults.{cut_faults}
 use Rattle.rustc_parse_format.specs.Call.{Call, GivesNoArgument, GivesAtMostText, call, placeholder, unclosed_fault}
-use Rattle.rustc_parse_format.specs.State.{Midway, read_call, read_to}
+use Rattle.rustc_parse_format.specs.Midway.{Midway, read_call, read_to}
 use Rattle.rustc_parse_format.specs.World.{World, Place, place_of, faults_in}
 
 -- what stands where the closing brace should

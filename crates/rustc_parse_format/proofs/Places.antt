@@ -19,7 +19,7 @@ width_encodes (c ∷ t) = length-append (encode_utf8 c) (encodes t) ∙ (ap (λ 
 pub width_chars : (s : List ℕ) → IsUtf8 s → byte_length (chars s) ≡ length s
 width_chars s u = sym (width_encodes (chars s)) ∙ ap length (encodes-chars s u)
 
-length-plain_places : (q : ℕ) (t : Text) → length (plain_places q t) ≡ length t
+pub length-plain_places : (q : ℕ) (t : Text) → length (plain_places q t) ≡ length t
 length-plain_places q [] = refl
 length-plain_places q (c ∷ t) = ap suc (length-plain_places (q + len_utf8 c) t)
 

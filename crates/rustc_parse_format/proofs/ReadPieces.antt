@@ -58,22 +58,22 @@ walks_of s p new ps e f g =
     subst (λ u. Walks u ps new) e walked
 
 -- A fresh parser p, and the parser new after its last call.
-pub clean_in : (mode : Mode) (w : World) (t : Text) (p new : State) → p ≡ fresh mode w t → new ≡ after_all p (calls p) → new.errors ≡ [] → IsInGrammar mode t
-clean_in mode w t p new e f h = (_, walk_reads mode w t (sym (ap (λ (s : State). s.errors) (rw e at f)) ∙ h))
+pub clean_in : (mode : Mode) (w : World) (t : Text) (at : ℕ) (p new : State) → p ≡ fresh mode w t at → new ≡ after_all p (calls p) → new.errors ≡ [] → IsInGrammar mode t
+clean_in mode w t at p new e f h = (_, walk_reads mode w t at (sym (ap (λ (s : State). s.errors) (rw e at f)) ∙ h))
 
-pub in_clean : (mode : Mode) (w : World) (t : Text) (p new : State) → p ≡ fresh mode w t → new ≡ after_all p (calls p) → IsInGrammar mode t → new.errors ≡ []
-in_clean mode w t p new e f r = ap (λ (s : State). s.errors) (rw e at f) ∙ (reads_walk mode w t r.0 r.1).0
+pub in_clean : (mode : Mode) (w : World) (t : Text) (at : ℕ) (p new : State) → p ≡ fresh mode w t at → new ≡ after_all p (calls p) → IsInGrammar mode t → new.errors ≡ []
+in_clean mode w t at p new e f r = ap (λ (s : State). s.errors) (rw e at f) ∙ (reads_walk mode w t at r.0 r.1).0
 
-pub reading_of : (mode : Mode) (w : World) (t : Text) (p new : State) (ps : List (Piece Place)) → p ≡ fresh mode w t → new ≡ after_all p (calls p) →
+pub reading_of : (mode : Mode) (w : World) (t : Text) (at : ℕ) (p new : State) (ps : List (Piece Place)) → p ≡ fresh mode w t at → new ≡ after_all p (calls p) →
     ps ≡ pieces_in p.world (pieces_of (calls p)) → new.errors ≡ [] → Reads mode 0 t (map bare ps)
-reading_of mode w t p new ps e f g h =
-    let r = walk_reads mode w t (sym (ap (λ (s : State). s.errors) (rw e at f)) ∙ h) in
+reading_of mode w t at p new ps e f g h =
+    let r = walk_reads mode w t at (sym (ap (λ (s : State). s.errors) (rw e at f)) ∙ h) in
     rw (g, bare-pieces_in p.world (pieces_of (calls p)), e) r
 
-pub stops_of : (mode : Mode) (w : World) (t : Text) (p new : State) (ps : List (Piece Place)) → p ≡ fresh mode w t → new ≡ after_all p (calls p) →
+pub stops_of : (mode : Mode) (w : World) (t : Text) (at : ℕ) (p new : State) (ps : List (Piece Place)) → p ≡ fresh mode w t at → new ≡ after_all p (calls p) →
     ps ≡ pieces_in p.world (pieces_of (calls p)) → new.errors ≢ [] → StopsInside mode 0 t (map bare ps)
-stops_of mode w t p new ps e f g h =
-    let r = errors_stop mode w t (λ k. h (ap (λ (s : State). s.errors) (rw e at f) ∙ k)) in
+stops_of mode w t at p new ps e f g h =
+    let r = errors_stop mode w t at (λ k. h (ap (λ (s : State). s.errors) (rw e at f) ∙ k)) in
     rw (g, bare-pieces_in p.world (pieces_of (calls p)), e) r
 
 -- a call at the end takes no memory

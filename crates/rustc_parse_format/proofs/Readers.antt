@@ -4,7 +4,7 @@ use Rattle.std.proofs.lemmas.List.{append-nil, map-append}
 use Rattle.rustc_parse_format.specs.Characters.{Text}
 use Rattle.rustc_parse_format.specs.Faults.{Fault, map_fault}
 use Rattle.rustc_parse_format.specs.Marks.{Span}
-use Rattle.rustc_parse_format.specs.State.{Midway, read_to}
+use Rattle.rustc_parse_format.specs.Midway.{Midway, read_to}
 use Rattle.rustc_parse_format.specs.World.{Place, faults_in, place_of}
 
 -- where nothing is read

@@ -33,7 +33,7 @@ faults t = faults_in (behind_quote t) (faults_of (walk Format 0 t))
 
 -- a parser before its first call, and after all
 abbrev pub start : Text → State
-start t = fresh Format (behind_quote t) t
+start t = fresh Format (behind_quote t) t 1
 
 abbrev pub ended : Text → State
 ended t = after_all (start t) (calls (start t))

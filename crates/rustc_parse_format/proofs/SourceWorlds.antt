@@ -12,7 +12,7 @@ use Rattle.rustc_parse_format.specs.Source.{is_source, HasSource, between}
 use Rattle.rustc_parse_format.specs.Seen.{seen_snippet}
 use Rattle.rustc_parse_format.specs.World.{World, world, literal_world, plain_world, ordinary_world, ordinary_end, quote_offset, foreign_end}
 use Rattle.rustc_parse_format.specs.LiteralReading.{IsFound, IsSourceTo, is_longer, plain_end, literal_end, units_between}
-use Rattle.rustc_parse_format.specs.SeenSource.{IsKeptLiteral, IsKeptAs, world_with}
+use Rattle.rustc_parse_format.specs.SeenSource.{IsOrdinary, IsKeptIn, world_with}
 use Rattle.rustc_parse_format.proofs.LiteralContents.{units-complete}
 use Rattle.rustc_parse_format.proofs.LiteralWidths.{width-append, width-cons}
 use Rattle.rustc_parse_format.proofs.Sources.{has_source}
@@ -34,19 +34,17 @@ world-foreign input style s appended h =
     none false h = refl
     none true h = absurd (h refl)
 
--- an ordinary literal with its units, in the words of what is kept
-pub kept-literal : (source : Source) (bs : List ℕ) → IsSourceTo (chars source.input.now) None (chars bs) source.appended source.end → IsKeptLiteral bs source
-kept-literal source bs ((t, (content, us, frame, is_content, value), e), f) =
-    let found = units_between-frame (chars bs) content us frame (units-complete content us is_content) in
-    record {
-      content = content;
-      units = us;
-      frame = frame;
-      is_content = is_content;
-      input_is = ap (λ x. x ++ newline source.appended) value ∙ e;
-      end_is = f ∙ ap ordinary_end found;
-      found = found;
-    }
+-- an ordinary literal, in the words of what is kept
+pub kept-literal : (source : Source) (s : Text) → IsSourceTo (chars source.input.now) None s source.appended source.end →
+    IsOrdinary (chars source.input.now) s source.appended source.end
+kept-literal source s ((t, (content, us, frame, is_content, value), e), f) = record {
+  content = content;
+  units = us;
+  is_literal = frame;
+  is_content = is_content;
+  stands_for = ap (λ x. x ++ newline source.appended) value ∙ e;
+  ending = f ∙ ap ordinary_end (units_between-frame s content us frame (units-complete content us is_content));
+}
 
 -- a literal that is not longer than what it stands for
 width-frame : (q : Text) → byte_length (ordinary_frame q) ≡ byte_length q + 2
@@ -72,11 +70,13 @@ as_long q v s input false e f n = omega (
   width-append v [],
 )
 
-kept-plain : (source : Source) (bs : List ℕ) (k : IsKeptLiteral bs source) → is_longer (chars source.input.now) None (Some (chars bs)) source.appended ≡ false →
-    plain_world true 1 (chars source.input.now) source.end ≡ ordinary_world (units_between (chars bs)) source.appended
-kept-plain source bs k n =
-    let long = as_long k.content (content_value k.units) (chars bs) (chars source.input.now) source.appended k.frame k.input_is n in
-    rw (k.found, k.end_is, ← k.input_is) (sym (ordinary-plain k.content k.units source.appended k.is_content long))
+kept-plain : (source : Source) (s : Text) (k : IsOrdinary (chars source.input.now) s source.appended source.end) →
+    is_longer (chars source.input.now) None (Some s) source.appended ≡ false →
+    plain_world true 1 (chars source.input.now) source.end ≡ ordinary_world (units_between s) source.appended
+kept-plain source s k n =
+    let found = units_between-frame s k.content k.units k.is_literal (units-complete k.content k.units k.is_content) in
+    let long = as_long k.content (content_value k.units) s (chars source.input.now) source.appended k.is_literal k.stands_for n in
+    rw (found, k.ending, ← k.stands_for) (sym (ordinary-plain k.content k.units source.appended k.is_content long))
 
 -- what is kept
 abbrev pub kept_of : Option ℕ → Text → Option ℕ → Option (String Global) → Bool → Option (String Global)
@@ -89,8 +89,9 @@ pub record IsSourceWith (source : Source) (style : Option ℕ) (snippet : Option
   pub end : source.end ≡ unwrap_or o (plain_end (chars source.input.now) (seen_snippet snippet) source.appended)
   pub found : IsFound (chars source.input.now) style (seen_snippet snippet) source.appended o
 
-kept : (source : Source) (s : String Global) (e : ℕ) → IsSourceWith source None (Some s) (Some e) → IsKeptLiteral (string_bytes s) source
-kept source s e k = kept-literal source (string_bytes s) (k.found.0, k.end ∙ k.found.1)
+kept : (source : Source) (s : String Global) (e : ℕ) → IsSourceWith source None (Some s) (Some e) →
+    IsOrdinary (chars source.input.now) (chars (string_bytes s)) source.appended source.end
+kept source s e k = kept-literal source (chars (string_bytes s)) (k.found.0, k.end ∙ k.found.1)
 
 pub source-world : (source : Source) (style : Option ℕ) (snippet : Option (String Global)) (o : Option ℕ) → IsSourceWith source style snippet o →
     world_with (kept_of o (chars source.input.now) style snippet source.appended) source
@@ -106,15 +107,15 @@ source-world source None (Some s) (Some e) k =
     cond_both (is_longer (chars source.input.now) None (Some (chars (string_bytes s))) source.appended) (Some s) None
     (λ o. world_with o source ≡ ordinary_world (units_between (chars (string_bytes s))) source.appended)
     (λ yes. refl)
-    (λ none. rw (k.offset, k.is_literal) (kept-plain source (string_bytes s) (kept source s e k) none))
+    (λ none. rw (k.offset, k.is_literal) (kept-plain source (chars (string_bytes s)) (kept source s e k) none))
     ∙ sym (world-found (chars source.input.now) None (chars (string_bytes s)) source.appended k.found.0)
 
 pub source-kept : (source : Source) (style : Option ℕ) (snippet : Option (String Global)) (o : Option ℕ) → IsSourceWith source style snippet o →
-    IsKeptAs (kept_of o (chars source.input.now) style snippet source.appended) source
+    IsKeptIn (kept_of o (chars source.input.now) style snippet source.appended) source
 source-kept source style None None k = tt
 source-kept source style None (Some e) k = absurd k.found
 source-kept source style (Some s) None k = tt
 source-kept source (Some n) (Some s) (Some e) k = tt
 source-kept source None (Some s) (Some e) k =
     cond_both (is_longer (chars source.input.now) None (Some (chars (string_bytes s))) source.appended) (Some s) None
-    (λ o. IsKeptAs o source) (λ yes. kept source s e k) (λ none. tt)
+    (λ o. IsKeptIn o source) (λ yes. kept source s e k) (λ none. tt)

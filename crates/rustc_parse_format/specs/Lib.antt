@@ -24,8 +24,9 @@ pub mod LiteralUnits
 pub mod Literal
 pub mod Source
 pub mod World
-pub mod SeenSource
 pub mod Lines
+pub mod SeenSource
+pub mod Midway
 pub mod ReadBack
 pub mod LiteralReading
 pub mod KnownTexts

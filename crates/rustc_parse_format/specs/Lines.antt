@@ -1,7 +1,7 @@
 -- The lines of a source literal, as the spans of what is read as text, and the places of its arguments. The rule is this
 -- project's: the Rust crate says it by its code.
 use Prim.Native.Char.{code}
-use Rattle.std.specs.Prelude.{◌≡◌, ℕ, Bool, false, not, ◌&&◌, ◌++◌, ◌==◌, if◌then◌else◌, List, [], ◌∷◌, map, Option, Some, None, IsTrue}
+use Rattle.std.specs.Prelude.{◌≡◌, ℕ, Bool, false, not, ◌&&◌, ◌++◌, ◌==◌, if◌then◌else◌, List, [], ◌∷◌, map, Option, Some, None, option_map, IsTrue}
 use Rattle.std.specs.List.{list_all}
 use Rattle.std.specs.Char.{is_whitespace}
 use Rattle.rustc_parse_format.specs.Marks.{Span}
@@ -48,12 +48,16 @@ abbrev pub lines_in : World → ℕ → List (ℕ × ℕ) → ℕ × List Place
 lines_in w start cs = if w.has_source then read_lines start (noted w cs) else (start, [])
 
 -- the place of a placeholder that was closed, if one was, in a source literal
-abbrev pub closed_place : World → Option Span → List Place
-closed_place w None = []
-closed_place w (Some s) = place_of w s ∷ []
+abbrev pub closed_in : World → Option Span → Option Place
+closed_in w s = if w.has_source then option_map (place_of w) s else None
 
-abbrev pub closed_in : World → Option Span → List Place
-closed_in w s = if w.has_source then closed_place w s else []
+-- as a list
+abbrev pub listed : Option Place → List Place
+listed None = []
+listed (Some p) = p ∷ []
+
+abbrev pub closed_places : World → Option Span → List Place
+closed_places w s = listed (closed_in w s)
 
 -- the last of the lines is this one
 abbrev pub ends_with : Place → List Place → Bool

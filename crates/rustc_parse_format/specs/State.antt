@@ -5,60 +5,12 @@ use Rattle.rustc_parse_format.specs.Types.{Mode, Piece, bare}
 use Rattle.rustc_parse_format.specs.Faults.{Fault, Message, add_errors}
 use Rattle.rustc_parse_format.specs.Marks.{Span}
 use Rattle.rustc_parse_format.specs.World.{World, Place, place_at, world, quote_offset, faults_in, pieces_in}
-use Rattle.rustc_parse_format.specs.Lines.{lines_in, closed_in, with_last}
-use Rattle.rustc_parse_format.specs.Call.{Call, call, walk, IsWalk, pieces_of}
+use Rattle.rustc_parse_format.specs.Lines.{lines_in, closed_places, with_last}
+use Rattle.rustc_parse_format.specs.Call.{Call, GivesAtMostText, call, walk, IsWalk, pieces_of}
 
 abbrev pub is_nil : Text → Bool
 is_nil [] = true
 is_nil (c ∷ t) = false
-
--- What a cursor stands at: the rest of an input, in its world.
-pub record Unread : Type 0 where
-  pub world : World
-  pub input : Text
-  pub rest : Text
-
--- What a reader stands at in the middle of a call: the same, with the number that the next implicit argument takes, and what the
--- call has found so far.
-pub record Midway : Type 0 where
-  pub world : World
-  pub input : Text
-  pub rest : Text
-  pub next : ℕ
-  pub faults : List (Fault Place)
-  -- where the line starts that is read, and the lines in front of it
-  pub line_start : ℕ
-  pub lines : List Place
-  -- the placeholder that was closed
-  pub closed : List Place
-
--- at the place of a cursor, with this number and in this line, where nothing was found yet
-abbrev pub midway : Unread → ℕ → ℕ → Midway
-midway u n start =
-    record { world = u.world; input = u.input; rest = u.rest; next = n; faults = []; line_start = start; lines = []; closed = [] }
-
--- read up to the rest r and the number n, with these faults found on the way
-abbrev pub read_to : Midway → Text → ℕ → List (Fault Span) → Midway
-read_to s r n fs = record s { rest = r; next = n; faults = s.faults ++ faults_in s.world fs }
-
--- with these characters read as text: where there is a source literal they are read line by line
-abbrev pub read_texts : Midway → List (ℕ × ℕ) → Midway
-read_texts s cs =
-    let lines = lines_in s.world s.line_start cs in
-    record s { line_start = lines.0; lines = s.lines ++ lines.1 }
-
--- after a call
-abbrev pub read_call : Midway → Call → Midway
-read_call s k =
-    let lines = lines_in s.world s.line_start k.texts in
-    record s {
-      rest = k.rest;
-      next = k.next;
-      faults = s.faults ++ faults_in s.world k.faults;
-      line_start = lines.0;
-      lines = s.lines ++ lines.1;
-      closed = s.closed ++ closed_in s.world k.closes;
-    }
 
 -- the first character of t with its place and its byte position in the input, if there is one
 abbrev pub first_of : World → Text → Text → Option (Place × ℕ × ℕ)
@@ -115,10 +67,14 @@ after s k =
       rest = k.rest;
       next = k.next;
       errors = add_errors s.errors (faults_in s.world k.faults);
-      arg_places = s.arg_places ++ closed_in s.world k.closes;
+      arg_places = s.arg_places ++ closed_places s.world k.closes;
       line_start = lines.0;
       line_spans = last_lines s (s.line_spans ++ lines.1);
     }
+
+-- What such a call gives and keeps needs no memory: it gives at most text, finds no fault, and ends no line of a source literal.
+abbrev pub NeedsNoMemory : State → Call → Type 0
+NeedsNoMemory s k = GivesAtMostText k × ((after s k).line_spans ≡ s.line_spans)
 
 -- a call gave the piece q up to the rest r, with the next number n and no fault
 pub record GivesPiece (given : Option (Piece Place)) (q : Piece (Unit {0})) (r : Text) (n : ℕ) (old new : State) : Type 0 where

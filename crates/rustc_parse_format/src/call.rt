@@ -1,18 +1,17 @@
 //! One call of the parser, on a reader: the piece, and the faults as they are found.
 
-ghost use Rattle.std.specs.Prelude.{[], ◌++◌, ◌+◌, ◌<◌, ◌^◌, ◌∷◌, ◌≡◌, ◌≢◌, IfOk, if◌then◌else◌, IsOk, length, OnOk, option_map, Some};
+ghost use Rattle.std.specs.Prelude.{[], ◌&&◌, ◌++◌, ◌+◌, ◌<◌, ◌^◌, ◌∷◌, ◌≡◌, ◌≢◌, IfOk, if◌then◌else◌, IsOk, length, OnOk, option_map, Some};
 ghost use Rattle.rustc_parse_format.specs.Call.{call, GivesAtMostText, placeholder};
 ghost use Rattle.rustc_parse_format.specs.Characters.{begins_with, behind_brace, behind_first, first};
 ghost use Rattle.rustc_parse_format.specs.Faults.{brace_fill, no_brace};
-ghost use Rattle.rustc_parse_format.specs.Marks.{up_to};
+ghost use Rattle.rustc_parse_format.specs.Marks.{End, up_to};
 ghost use Rattle.rustc_parse_format.specs.Meaning.{argument};
 ghost use Rattle.rustc_parse_format.specs.Seen.{pair, seen, seen_mode};
 ghost use Rattle.rustc_parse_format.specs.SeenFaults.{seen_fault};
-ghost use Rattle.rustc_parse_format.specs.State.{read_call};
+ghost use Rattle.rustc_parse_format.specs.Midway.{read_call};
 ghost use Rattle.rustc_parse_format.specs.Steps.{Forward, IsInWord, Paid};
-ghost use Rattle.rustc_parse_format.specs.World.{piece_in, place_of};
+ghost use Rattle.rustc_parse_format.specs.World.{number_of, piece_in, place_of};
 
-use crate::characters::Class;
 use crate::cursor::Trail;
 use crate::faults::Fault;
 use crate::placeholder::read_argument;
@@ -49,13 +48,15 @@ fn no_brace<'input>(
 
 /// Moves over the closing brace, or finds that it is missing. The placeholder opens at `opening`.
 fn close<'input, L: Ledger>(
-    reader: &mut Reader<'input>,
+    reader: &mut Reader<'_, 'input>,
     trail: &mut Trail<'input, L>,
     fill: Option<Range<usize>>,
     opening: Range<usize>,
 ) -> Result<(), AllocError>
     ensures state { OnOk result (reader.new ≡ record reader.old {
       rest = behind_brace reader.old.rest;
+      closed = if begins_with 125 reader.old.rest && reader.old.world.has_source
+          then Some ((pair opening).0, number_of reader.old.world (End (length reader.old.rest))) else reader.old.closed;
       faults = reader.old.faults ++ (if begins_with 125 reader.old.rest then [] else no_brace (option_map pair fill)
           (first reader.old.rest) (place_of reader.old.world (up_to reader.old.rest reader.old.rest)) (pair opening) ∷ []);
     }) }
@@ -63,6 +64,9 @@ fn close<'input, L: Ledger>(
 {
     let next = reader.cursor.peek();
     if next == Some('}') {
+        if reader.cursor.is_source_literal() {
+            reader.closed = Some(opening.start..reader.cursor.stop());
+        }
         reader.cursor.advance(trail);
     } else {
         let fault = no_brace(fill, next, reader.cursor.start(), opening);
@@ -76,7 +80,7 @@ fn close<'input, L: Ledger>(
 fn read_placeholder<'input, L: Ledger>(
     alloc: Global,
     mode: ParseMode,
-    reader: &mut Reader<'input>,
+    reader: &mut Reader<'_, 'input>,
     trail: &mut Trail<'input, L>,
 ) -> Result<Piece<'input>, AllocError>
     requires here { reader.old.rest ≢ [] }
@@ -102,7 +106,7 @@ fn read_placeholder<'input, L: Ledger>(
 pub fn read_piece<'input, L: Ledger>(
     alloc: Global,
     mode: ParseMode,
-    reader: &mut Reader<'input>,
+    reader: &mut Reader<'_, 'input>,
     trail: &mut Trail<'input, L>,
 ) -> Result<Option<Piece<'input>>, AllocError>
     requires numbers { reader.old.next + length reader.old.rest < 2 ^ 64 }
@@ -110,18 +114,21 @@ pub fn read_piece<'input, L: Ledger>(
     ensures piece { IfOk result (λ p. option_map seen p ≡ option_map (piece_in reader.old.world)
         (call (seen_mode mode) reader.old.next reader.old.rest).piece) }
     ensures state { OnOk result (reader.new ≡ read_call reader.old (call (seen_mode mode) reader.old.next reader.old.rest)) }
-    ensures spare { GivesAtMostText (call (seen_mode mode) reader.old.next reader.old.rest) → IsOk result }
+    ensures spare { (let k = call (seen_mode mode) reader.old.next reader.old.rest in
+        GivesAtMostText k → (read_call reader.old k).lines ≡ reader.old.lines → IsOk result) }
     ensures steps { OnOk result (Paid reader.old.rest trail.old reader.new.rest trail.new) }
 {
     let Some(c) = reader.cursor.peek() else {
         return Ok(None);
     };
     if c != '{' && c != '}' {
-        return Ok(Some(Piece::Lit(reader.cursor.take(Class::Text, trail))));
+        let text = reader.take_text(trail)?;
+        return Ok(Some(Piece::Lit(text)));
     }
     if reader.cursor.goes_on_with(c) {
         reader.cursor.advance(trail);
-        return Ok(Some(Piece::Lit(reader.cursor.take_behind_first(Class::Text, trail))));
+        let text = reader.take_text_behind_first(trail)?;
+        return Ok(Some(Piece::Lit(text)));
     }
     if c == '{' {
         let piece = read_placeholder(alloc, mode, reader, trail)?;

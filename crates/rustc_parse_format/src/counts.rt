@@ -6,7 +6,7 @@ ghost use Rattle.rustc_parse_format.specs.Counts.{behind_name, count, precision,
 ghost use Rattle.rustc_parse_format.specs.Meaning.{count_of, count_span, precision_of, precision_span, width_of, width_span};
 ghost use Rattle.rustc_parse_format.specs.PartFaults.{argument_faults, number_faults, precision_faults, width_faults, word_faults};
 ghost use Rattle.rustc_parse_format.specs.Seen.{pair, seen_count};
-ghost use Rattle.rustc_parse_format.specs.State.{read_to};
+ghost use Rattle.rustc_parse_format.specs.Midway.{read_to};
 ghost use Rattle.rustc_parse_format.specs.Steps.{Forward, IsFurthest, IsInWord, Paid};
 ghost use Rattle.rustc_parse_format.specs.Types.{map_count};
 ghost use Rattle.rustc_parse_format.specs.Values.{is_padded, number_after_precision};
@@ -22,7 +22,7 @@ use std::sync::ledger::Ledger;
 
 /// Reads the integer at the front, where there is one: its number modulo 65536. One above 65535 is a fault.
 pub fn integer<'input, L: Ledger>(
-    reader: &mut Reader<'input>,
+    reader: &mut Reader<'_, 'input>,
     trail: &mut Trail<'input, L>,
 ) -> Result<u16, AllocError>
     ensures value { IfOk result (λ n. n ≡ number (digits reader.old.rest)) }
@@ -37,7 +37,7 @@ pub fn integer<'input, L: Ledger>(
 
 /// Reads the word at the front, which may be empty. The word `_` is a fault.
 pub fn word<'input, L: Ledger>(
-    reader: &mut Reader<'input>,
+    reader: &mut Reader<'_, 'input>,
     trail: &mut Trail<'input, L>,
 ) -> Result<&'input str, AllocError>
     ensures value { IfOk result (λ w. chars w.now ≡ word reader.old.rest) }
@@ -53,7 +53,7 @@ pub fn word<'input, L: Ledger>(
 /// Reads the name at the front, with its `$`. Without a `$` the word is left, and looked at all the same.
 #[tactic(auto, using(crate::proofs::Steps::part_le))]
 fn name_count<'input, L: Ledger>(
-    reader: &mut Reader<'input>,
+    reader: &mut Reader<'_, 'input>,
     trail: &mut Trail<'input, L>,
 ) -> Result<Count<'input>, AllocError>
     requires { IsFurthest reader.old.rest trail.old }
@@ -77,7 +77,7 @@ fn name_count<'input, L: Ledger>(
 /// Reads the count at the front: a number, a number of an argument, a name of one, or none.
 #[tactic(auto, using(crate::proofs::Steps::part_le, crate::proofs::TriedParts::tried_parts, crate::proofs::Readers::read_nothing))]
 pub fn count<'input, L: Ledger>(
-    reader: &mut Reader<'input>,
+    reader: &mut Reader<'_, 'input>,
     trail: &mut Trail<'input, L>,
 ) -> Result<Count<'input>, AllocError>
     requires { IsFurthest reader.old.rest trail.old }
@@ -102,7 +102,7 @@ pub fn count<'input, L: Ledger>(
 /// Reads the count at the front, and where it stands.
 #[tactic(auto, using(crate::proofs::Steps::part_le))]
 fn spanned_count<'input, L: Ledger>(
-    reader: &mut Reader<'input>,
+    reader: &mut Reader<'_, 'input>,
     trail: &mut Trail<'input, L>,
 ) -> Result<(Count<'input>, Option<Range<usize>>), AllocError>
     requires { IsFurthest reader.old.rest trail.old }
@@ -134,7 +134,7 @@ pub struct WidthPart<'input> {
 #[tactic(auto, using(crate::proofs::Steps::part_le))]
 fn counted<'input, L: Ledger>(
     zero_pad: bool,
-    reader: &mut Reader<'input>,
+    reader: &mut Reader<'_, 'input>,
     trail: &mut Trail<'input, L>,
 ) -> Result<WidthPart<'input>, AllocError>
     requires { IsFurthest reader.old.rest trail.old }
@@ -157,7 +157,7 @@ fn counted<'input, L: Ledger>(
 /// Reads the width at the front. A `0` in front of it is a flag, unless a `$` makes it an index.
 #[tactic(auto, using(crate::proofs::Steps::part_le, crate::proofs::SpecParts::widths_at_front))]
 pub fn width<'input, L: Ledger>(
-    reader: &mut Reader<'input>,
+    reader: &mut Reader<'_, 'input>,
     trail: &mut Trail<'input, L>,
 ) -> Result<WidthPart<'input>, AllocError>
     requires { IsFurthest reader.old.rest trail.old }
@@ -190,7 +190,7 @@ pub fn width<'input, L: Ledger>(
 /// Reads the precision at the front, and where it stands. A star takes the next number.
 #[tactic(auto, using(crate::proofs::Steps::part_le, crate::proofs::Steps::at_dot, crate::proofs::SpecParts::precisions_at_front))]
 pub fn precision<'input, L: Ledger>(
-    reader: &mut Reader<'input>,
+    reader: &mut Reader<'_, 'input>,
     trail: &mut Trail<'input, L>,
 ) -> Result<(Count<'input>, Option<Range<usize>>), AllocError>
     requires numbers { reader.old.next + 1 < 2 ^ 64 }

@@ -2,6 +2,7 @@
 
 mod steps;
 
+use crate::source::{Source, Spot, byte_after, byte_through};
 use crate::characters::{Class, before, behind_first, first, is_id_start, with_digit};
 use std::marker::Model;
 use std::ops::Range;
@@ -10,70 +11,74 @@ pub use steps::{StepCount, Trail};
 
 /// A place in the input: what is left of it, and where that stands in the source.
 #[derive(Drop)]
-pub struct Cursor<'input> {
-    input: &'input str,
-    rest: &'input str,
-    /// Where the input starts in the source.
-    offset: usize,
-    /// Where it ends there.
-    end: usize,
-    /// The snippet is the source literal of the input.
-    is_source_literal: bool,
+pub struct Cursor<'source, 'input> {
+    source: &'source Source<'input>,
+    spot: Spot<'input>,
 }
 
-impl<'input> Model for Cursor<'input> {
-    ghost use Rattle.std.specs.Prelude.{◌+◌, ◌<◌, ◌^◌, chars, length};
-    ghost use Rattle.rustc_parse_format.specs.State.{Unread};
-    ghost use Rattle.rustc_parse_format.specs.World.{plain_world};
-    ghost use Rattle.rustc_parse_format.specs.Bytes.{IsLeft};
+impl<'source, 'input> Model for Cursor<'source, 'input> {
+    ghost use Rattle.std.specs.Prelude.{chars};
+    ghost use Rattle.rustc_parse_format.specs.Midway.{Unread};
+    ghost use Rattle.rustc_parse_format.specs.SeenSource.{IsSpot, seen_world};
 
     ghost Value = { Unread };
 
-    ghost view = { λ c. record { world = plain_world c.is_source_literal c.offset (chars c.input.now) c.end; input = chars c.input.now; rest = chars c.rest.now } };
+    ghost view = { λ c. record {
+      source = c.source.now;
+      world = seen_world c.source.now;
+      input = chars c.source.now.input.now;
+      rest = chars c.spot.rest.now;
+    } };
 
-    ghost invariant = { λ c. IsLeft c.input.now c.rest.now × (c.offset + length c.input.now < 2 ^ 64) };
+    ghost invariant = { λ c. IsSpot c.source.now c.spot.rest.now c.spot.at };
 }
 
-impl<'input> Cursor<'input> {
+impl<'source, 'input> Cursor<'source, 'input> {
     ghost use Rattle.std.specs.Prelude.{◌≡◌, ◌-◌, ◌+◌, ◌<◌, ◌^◌, chars, if◌then◌else◌, length, option_map};
     ghost use Rattle.rustc_parse_format.specs.Characters.{begins_with, first, behind_first, with_first, byte_length, front, behind, behind_white, word, behind_word, digits, behind_digits, number, is_id_start, is_over, first_passes};
     ghost use Rattle.std.specs.Char.{is_ascii_digit};
     ghost use Rattle.rustc_parse_format.specs.Classes.{passes};
     ghost use Rattle.rustc_parse_format.specs.Marks.{Start, End};
     ghost use Rattle.rustc_parse_format.specs.Seen.{pair};
+    ghost use Rattle.rustc_parse_format.specs.SeenSource.{IsSpot, seen_world};
     ghost use Rattle.rustc_parse_format.specs.State.{first_of};
     ghost use Rattle.rustc_parse_format.specs.Steps.{Forward};
-    ghost use Rattle.rustc_parse_format.specs.World.{plain_world, number_of};
+    ghost use Rattle.rustc_parse_format.specs.World.{number_of};
 
-    /// At the start of an input that starts and ends at these bytes of the source.
-    pub fn new(
-        input: &'input str,
-        is_source_literal: bool,
-        offset: usize,
-        end: usize,
-    ) -> Cursor<'input>
-        requires { offset + length input.now < 2 ^ 64 }
-        ensures { result ≡ record { world = plain_world is_source_literal offset (chars input.now) end; input = chars input.now; rest = chars input.now } }
+    /// At a spot of a source.
+    pub fn new(source: &'source Source<'input>, spot: Spot<'input>) -> Cursor<'source, 'input>
+        requires { IsSpot source.now spot.rest.now spot.at }
+        ensures { result ≡ record {
+          source = source.now;
+          world = seen_world source.now;
+          input = chars source.now.input.now;
+          rest = chars spot.entry.rest.now;
+        } }
     {
-        Cursor {
-            input,
-            rest: input,
-            offset,
-            end,
-            is_source_literal,
+        Cursor { source, spot }
+    }
+
+    /// The spot where it stands.
+    pub fn spot(&self) -> Spot<'input>
+        ensures rest { chars result.rest.now ≡ self.now.rest }
+        ensures spot { IsSpot self.now.source result.rest.now result.at }
+    {
+        Spot {
+            rest: self.spot.rest,
+            at: self.spot.at,
         }
     }
 
     /// Another cursor at the same place.
-    pub fn duplicate(&self) -> Cursor<'input>
+    pub fn duplicate(&self) -> Cursor<'source, 'input>
         ensures { result ≡ self.now }
     {
         Cursor {
-            input: self.input,
-            rest: self.rest,
-            offset: self.offset,
-            end: self.end,
-            is_source_literal: self.is_source_literal,
+            source: self.source,
+            spot: Spot {
+                rest: self.spot.rest,
+                at: self.spot.at,
+            },
         }
     }
 
@@ -84,28 +89,28 @@ impl<'input> Cursor<'input> {
         requires three { blank.parts ≡ 3 }
         ensures { result ≡ record { steps = 0; left = length self.now.rest } }
     {
-        StepCount::new(blank, self.rest)
+        StepCount::new(blank, self.spot.rest)
     }
 
     /// What is left.
-    fn rest(&self) -> &'input str
+    pub fn rest(&self) -> &'input str
         ensures { chars result.now ≡ self.now.rest }
     {
-        self.rest
+        self.spot.rest
     }
 
     /// The next character, or None at the end.
     pub fn peek(&self) -> Option<char>
         ensures { result ≡ first self.now.rest }
     {
-        first(self.rest)
+        first(self.spot.rest)
     }
 
     /// The character after the next one.
     pub fn peek_ahead(&self) -> Option<char>
         ensures { result ≡ first (behind_first self.now.rest) }
     {
-        first(behind_first(self.rest))
+        first(behind_first(self.spot.rest))
     }
 
     /// Moves over the next character, if there is one: the only move forward.
@@ -113,16 +118,30 @@ impl<'input> Cursor<'input> {
         ensures rest { self.new ≡ record self.old { rest = behind_first self.old.rest } }
         ensures steps { Forward self.old.rest trail.old self.new.rest trail.new }
     {
-        trail.step(first(self.rest));
-        self.rest = behind_first(self.rest);
+        trail.step(first(self.spot.rest));
+        self.pass();
+    }
+
+    /// Passes the next character, if there is one. Outside of `advance` only a cursor that looks ahead does so.
+    fn pass(&mut self)
+        ensures { self.new ≡ record self.old { rest = behind_first self.old.rest } }
+    {
+        if let Some(snippet) = &self.source.kept {
+            self.spot.at = byte_after(snippet.as_str(), self.spot.at);
+        }
+        self.spot.rest = behind_first(self.spot.rest);
     }
 
     /// Goes back to an earlier place.
-    pub fn go_back<L: Ledger>(&mut self, place: Cursor<'input>, trail: &mut Trail<'input, L>)
+    pub fn go_back<L: Ledger>(
+        &mut self,
+        place: Cursor<'source, 'input>,
+        trail: &mut Trail<'input, L>,
+    )
         ensures place { self.new ≡ place.entry }
         ensures steps { trail.new ≡ record trail.old { left = length self.old.rest } }
     {
-        trail.go_back(self.rest);
+        trail.go_back(self.spot.rest);
         *self = place;
     }
 
@@ -130,17 +149,19 @@ impl<'input> Cursor<'input> {
     pub fn position(&self) -> usize
         ensures { result ≡ byte_length self.now.input - byte_length self.now.rest }
     {
-        self.input.len() - self.rest.len()
+        self.source.input.len() - self.spot.rest.len()
     }
 
     /// Where the next character starts in the source, or where the text ends.
     pub fn start(&self) -> usize
         ensures { result ≡ number_of self.now.world (Start (length self.now.rest)) }
     {
-        if self.rest.is_empty() {
-            self.end
+        if self.source.kept.is_some() {
+            self.spot.at
+        } else if self.spot.rest.is_empty() {
+            self.source.end
         } else {
-            self.offset + (self.input.len() - self.rest.len())
+            self.source.offset + (self.source.input.len() - self.spot.rest.len())
         }
     }
 
@@ -148,10 +169,17 @@ impl<'input> Cursor<'input> {
     pub fn stop(&self) -> usize
         ensures { result ≡ number_of self.now.world (End (length self.now.rest)) }
     {
-        if self.rest.is_empty() {
-            self.end
+        if let Some(snippet) = &self.source.kept {
+            return if self.spot.rest.is_empty() {
+                self.spot.at
+            } else {
+                byte_through(snippet.as_str(), self.spot.at)
+            };
+        }
+        if self.spot.rest.is_empty() {
+            self.source.end
         } else {
-            self.offset + (self.input.len() - behind_first(self.rest).len())
+            self.source.offset + (self.source.input.len() - behind_first(self.spot.rest).len())
         }
     }
 
@@ -159,7 +187,7 @@ impl<'input> Cursor<'input> {
     pub fn is_source_literal(&self) -> bool
         ensures { result ≡ self.now.world.has_source }
     {
-        self.is_source_literal
+        self.source.is_literal
     }
 
     /// The place of the next character, its byte position in the input, and itself, or None at the end.
@@ -177,7 +205,7 @@ impl<'input> Cursor<'input> {
             ≡ first_of self.now.world self.now.input (behind_first self.now.rest) }
     {
         let mut ahead = self.duplicate();
-        ahead.rest = behind_first(ahead.rest);
+        ahead.pass();
         ahead.next_place()
     }
 
@@ -244,33 +272,6 @@ impl<'input> Cursor<'input> {
         ensures steps { Forward self.old.rest trail.old self.new.rest trail.new }
     {
         self.skip(Class::White, trail);
-    }
-
-    /// Reads the longest front of the class.
-    pub fn take<L: Ledger>(&mut self, class: Class, trail: &mut Trail<'input, L>) -> &'input str
-        ensures value { chars result.now ≡ front (passes class) self.old.rest }
-        ensures rest { self.new ≡ record self.old { rest = behind (passes class) self.old.rest } }
-        ensures steps { Forward self.old.rest trail.old self.new.rest trail.new }
-    {
-        let text = self.rest();
-        self.skip(class, trail);
-        before(text, self.rest())
-    }
-
-    /// Reads the next character, and the longest front of the class after it.
-    pub fn take_behind_first<L: Ledger>(
-        &mut self,
-        class: Class,
-        trail: &mut Trail<'input, L>,
-    ) -> &'input str
-        ensures value { chars result.now ≡ with_first self.old.rest (front (passes class) (behind_first self.old.rest)) }
-        ensures rest { self.new ≡ record self.old { rest = behind (passes class) (behind_first self.old.rest) } }
-        ensures steps { Forward self.old.rest trail.old self.new.rest trail.new }
-    {
-        let text = self.rest();
-        self.advance(trail);
-        self.skip(class, trail);
-        before(text, self.rest())
     }
 
     /// Moves over the word at the front.

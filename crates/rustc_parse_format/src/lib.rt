@@ -7,6 +7,7 @@ mod counts;
 mod cursor;
 mod faults;
 mod laws;
+mod lists;
 pub mod literal;
 mod parser;
 mod placeholder;

@@ -8,10 +8,10 @@ ghost use Rattle.rustc_parse_format.specs.LiteralReading.{IsSourceTo, IsTaken, l
 mod rest;
 mod unit;
 
-use rest::Rest;
+pub(crate) use rest::Rest;
 use std::alloc::{AllocError, Global};
 use std::ops::Range;
-use unit::read_unit;
+pub(crate) use unit::read_unit;
 
 /// The characters that a content stands for, each with its bytes, by computing.
 fn read_characters(

@@ -2,10 +2,11 @@
 
 use crate::call::read_piece;
 use crate::cursor::{Cursor, StepCount, Trail};
-use crate::faults::add_errors;
+use crate::lists::{Lists, ends_with};
 use crate::reader::Reader;
 use crate::types::{ParseError, ParseMode, Piece};
-use crate::world::{has_source, quote_offset, text_end};
+use crate::source::{Source, Spot};
+use crate::world::{first_byte, quote_offset, source_of};
 use std::alloc::{AllocError, Global};
 use std::marker::{Brand, Model};
 use std::ops::Range;
@@ -16,28 +17,34 @@ use std::sync::ledger::{Blank, Ledger};
 pub struct Parser<'input> {
     alloc: Global,
     mode: ParseMode,
-    /// Between two calls it has found nothing.
-    reader: Reader<'input>,
-    errors: Vec<ParseError>,
+    source: Source<'input>,
+    spot: Spot<'input>,
+    curarg: usize,
+    line_start: usize,
+    lists: Lists,
 }
 
 impl<'input> Model for Parser<'input> {
-    ghost use Rattle.std.specs.Prelude.{◌≡◌, ◌+◌, ◌<◌, ◌^◌, [], length, map};
+    ghost use Rattle.std.specs.Prelude.{◌+◌, ◌<◌, ◌^◌, chars, length, map};
     ghost use Rattle.rustc_parse_format.specs.State.{State};
-    ghost use Rattle.rustc_parse_format.specs.Seen.{seen_error, seen_mode};
+    ghost use Rattle.rustc_parse_format.specs.Seen.{pair, seen_error, seen_mode};
+    ghost use Rattle.rustc_parse_format.specs.SeenSource.{IsSpot, seen_world};
 
     ghost Value = { State };
 
     ghost view = { λ p. record {
       mode = seen_mode p.mode;
-      world = p.reader.world;
-      input = p.reader.input;
-      rest = p.reader.rest;
-      next = p.reader.next;
-      errors = map seen_error p.errors.items;
+      world = seen_world p.source;
+      input = chars p.source.input.now;
+      rest = chars p.spot.rest.now;
+      next = p.curarg;
+      errors = map seen_error p.lists.errors.items;
+      arg_places = map pair p.lists.arg_places.items;
+      line_start = p.line_start;
+      line_spans = map pair p.lists.line_spans.items;
     } };
 
-    ghost invariant = { λ p. (p.reader.next + length p.reader.rest < 2 ^ 64) × (p.reader.faults ≡ []) };
+    ghost invariant = { λ p. IsSpot p.source p.spot.rest.now p.spot.at × (p.curarg + length (chars p.spot.rest.now) < 2 ^ 64) };
 }
 
 impl<'input> Parser<'input> {
@@ -49,9 +56,9 @@ impl<'input> Parser<'input> {
     ghost use Rattle.rustc_parse_format.specs.Types.{NextArgument, Piece as BarePiece, bare};
     ghost use Rattle.rustc_parse_format.specs.Seen.{pair, seen, seen_error, seen_mode, seen_snippet};
     ghost use Rattle.rustc_parse_format.specs.Source.{HasSource};
-    ghost use Rattle.rustc_parse_format.specs.State.{GivesPiece, after, first_of, first_state, next_call};
+    ghost use Rattle.rustc_parse_format.specs.State.{GivesPiece, after, first_of, first_state, last_lines, next_call};
     ghost use Rattle.rustc_parse_format.specs.Spelling.{IsPart};
-    ghost use Rattle.rustc_parse_format.specs.Call.{GivesAtMostText};
+    ghost use Rattle.rustc_parse_format.specs.State.{NeedsNoMemory};
     ghost use Rattle.rustc_parse_format.specs.Steps.{IsInWord, Paid};
     ghost use Rattle.rustc_parse_format.specs.Placeholder.{placed};
     ghost use Rattle.rustc_parse_format.specs.Syntax.{FieldText, opened_part};
@@ -75,14 +82,16 @@ impl<'input> Parser<'input> {
         ensures source { IfOk result (λ p. IsTrue p.world.has_source
             ↔ HasSource (chars input.now) style (seen_snippet snippet) appended_newline) }
     {
-        let is_source = has_source(input, style, &snippet, appended_newline);
-        let end = text_end(input, &snippet, appended_newline);
-        let cursor = Cursor::new(input, is_source, quote_offset(style), end);
+        let source = source_of(input, style, snippet, appended_newline);
+        let at = first_byte(&source);
         Ok(Parser {
             alloc,
             mode,
-            reader: Reader::new(alloc, cursor),
-            errors: Vec::new(alloc),
+            source,
+            spot: Spot { rest: input, at },
+            curarg: 0,
+            line_start: quote_offset(style),
+            lists: Lists::new(alloc),
         })
     }
 
@@ -95,20 +104,55 @@ impl<'input> Parser<'input> {
         ensures piece { IfOk result (λ p. option_map seen p ≡ option_map (piece_in self.old.world) (next_call self.old).piece) }
         ensures state { OnOk result (self.new ≡ after self.old (next_call self.old)) }
         ensures err { OnErr result (self.new ≡ self.old) }
-        ensures spare { GivesAtMostText (next_call self.old) → IsOk result }
+        ensures spare { NeedsNoMemory self.old (next_call self.old) → IsOk result }
         ensures steps { OnOk result (Paid self.old.rest trail.old self.new.rest trail.new) }
     {
-        let front = self.reader.duplicate(self.alloc);
-        let Ok(piece) = read_piece(self.alloc, self.mode, &mut self.reader, trail) else {
-            self.reader = front;
-            return Err(AllocError);
-        };
-        let found = self.reader.take_faults(self.alloc);
-        if add_errors(self.alloc, &mut self.errors, found).is_err() {
-            self.reader = front;
-            return Err(AllocError);
+        if self.spot.rest.is_empty() {
+            self.end_line()?;
+            return Ok(None);
         }
+        let cursor = Cursor::new(&self.source, self.spot.again());
+        let mut reader = Reader::new(self.alloc, cursor, self.curarg, self.line_start);
+        let piece = read_piece(self.alloc, self.mode, &mut reader, trail)?;
+        let Reader {
+            cursor,
+            curarg,
+            found,
+            line_start,
+            lines,
+            closed,
+        } = reader;
+        let spot = cursor.spot();
+        self.lists.add(self.alloc, found, lines, closed)?;
+        self.spot = spot;
+        self.curarg = curarg;
+        self.line_start = line_start;
         Ok(piece)
+    }
+
+    /// Adds the last line of a source literal at its end, unless it is there.
+    fn end_line(&mut self) -> Result<(), AllocError>
+        requires { self.old.rest ≡ [] }
+        ensures state { OnOk result (self.new ≡ record self.old { line_spans = last_lines self.old self.old.line_spans }) }
+        ensures err { OnErr result (self.new ≡ self.old) }
+        ensures spare { last_lines self.old self.old.line_spans ≡ self.old.line_spans → IsOk result }
+    {
+        if self.source.is_literal {
+            let last = self.line_start..self.cursor().start();
+            if !ends_with(self.lists.line_spans.as_slice(), &last) {
+                self.lists.line_spans.push(last)?;
+            }
+        }
+        Ok(())
+    }
+
+    /// Where it stands.
+    fn cursor(&self) -> Cursor<'_, 'input>
+        ensures world { result.world ≡ self.now.world }
+        ensures input { result.input ≡ self.now.input }
+        ensures rest { result.rest ≡ self.now.rest }
+    {
+        Cursor::new(&self.source, self.spot.again())
     }
 
     /// A count of the steps from here on, which contracts see and no code: it is nothing when the program runs. A step is a
@@ -119,7 +163,7 @@ impl<'input> Parser<'input> {
         requires three { blank.parts ≡ 3 }
         ensures { result ≡ record { steps = 0; left = length self.now.rest } }
     {
-        self.reader.cursor.count(blank)
+        self.cursor().count(blank)
     }
 
     /// The next piece, as by [`Parser::next`], with its steps counted. An error leaves the parser and the count as they were.
@@ -131,7 +175,7 @@ impl<'input> Parser<'input> {
         ensures piece { IfOk result (λ p. option_map seen p ≡ option_map (piece_in self.old.world) (next_call self.old).piece) }
         ensures state { OnOk result (self.new ≡ after self.old (next_call self.old)) }
         ensures err { OnErr result (self.new ≡ self.old) }
-        ensures spare { GivesAtMostText (next_call self.old) → IsOk result }
+        ensures spare { NeedsNoMemory self.old (next_call self.old) → IsOk result }
         ensures steps { Paid self.old.rest count.old self.new.rest count.new }
         ensures refused { OnErr result (count.new ≡ count.old) }
     {
@@ -155,7 +199,7 @@ impl<'input> Parser<'input> {
         ensures piece { IfOk result (λ p. option_map seen p ≡ option_map (piece_in self.old.world) (next_call self.old).piece) }
         ensures state { OnOk result (self.new ≡ after self.old (next_call self.old)) }
         ensures err { OnErr result (self.new ≡ self.old) }
-        ensures spare { GivesAtMostText (next_call self.old) → IsOk result }
+        ensures spare { NeedsNoMemory self.old (next_call self.old) → IsOk result }
     {
         let mut count = self.count::<L>(blank);
         self.next_counted(&mut count)
@@ -168,7 +212,7 @@ impl<'input> Parser<'input> {
         ensures piece { IfOk result (λ p. option_map seen p ≡ option_map (piece_in self.old.world) (next_call self.old).piece) }
         ensures state { OnOk result (self.new ≡ after self.old (next_call self.old)) }
         ensures err { OnErr result (self.new ≡ self.old) }
-        ensures spare { GivesAtMostText (next_call self.old) → IsOk result }
+        ensures spare { NeedsNoMemory self.old (next_call self.old) → IsOk result }
 
         // A piece that begins the rest is the one that is given, and then nothing is a fault.
         ensures reads { IfOk result (λ p. (q : BarePiece (Unit {0})) (r : Text) (n : ℕ)
@@ -176,7 +220,8 @@ impl<'input> Parser<'input> {
         ensures faulty { OnOk result (self.old.rest ≢ []
             → ((q : BarePiece (Unit {0})) (r : Text) (n : ℕ) → ¬ (Begins self.old.mode self.old.next self.old.rest q r n))
             → length self.old.errors < length self.new.errors) }
-        ensures end { IfOk result (λ p. self.old.rest ≡ [] → IsNone p × (self.new ≡ self.old)) }
+        ensures end { IfOk result (λ p. self.old.rest ≡ [] → IsNone p
+            × (self.new ≡ record self.old { line_spans = last_lines self.old self.old.line_spans })) }
         ensures keeps { OnOk result (Keeps self.old.errors self.new.errors) }
 
         // After a single opening brace it is the argument of the one cut, whether a brace closes it or not.
@@ -195,7 +240,7 @@ impl<'input> Parser<'input> {
     pub fn peek(&self) -> Option<(Range<usize>, usize, char)>
         ensures { option_map (λ x. (pair x.0, x.1, x.2)) result ≡ first_of self.now.world self.now.input self.now.rest }
     {
-        self.reader.cursor.next_place()
+        self.cursor().next_place()
     }
 
     /// The same of the character after the next one.
@@ -203,28 +248,43 @@ impl<'input> Parser<'input> {
         ensures { option_map (λ x. (pair x.0, x.1, x.2)) result
             ≡ first_of self.now.world self.now.input (behind_first self.now.rest) }
     {
-        self.reader.cursor.place_ahead()
+        self.cursor().place_ahead()
     }
 
     /// The errors of all calls so far, in their order.
     pub fn errors(&self) -> &[ParseError]
         ensures { map seen_error result.now ≡ self.now.errors }
     {
-        self.errors.as_slice()
+        self.lists.errors.as_slice()
+    }
+
+    /// In a source literal the places of the placeholders that a brace closed, from brace to brace, in bytes of the snippet.
+    pub fn arg_places(&self) -> &[Range<usize>]
+        ensures { map pair result.now ≡ self.now.arg_places }
+    {
+        self.lists.arg_places.as_slice()
+    }
+
+    /// In a source literal the lines of what was read as text, each without the white space at its very start and without its
+    /// newline, in bytes of the snippet; the last one comes with a call at the end.
+    pub fn line_spans(&self) -> &[Range<usize>]
+        ensures { map pair result.now ≡ self.now.line_spans }
+    {
+        self.lists.line_spans.as_slice()
     }
 
     /// The snippet is the source literal of the input.
     pub fn is_source_literal(&self) -> bool
         ensures { result ≡ self.now.world.has_source }
     {
-        self.reader.cursor.is_source_literal()
+        self.source.is_literal
     }
 
     /// The number that the next implicit argument takes.
     pub fn curarg(&self) -> usize
         ensures { result ≡ self.now.next }
     {
-        self.reader.curarg
+        self.curarg
     }
 }
 
@@ -236,8 +296,8 @@ mod tests {
     #[test]
     fn an_empty_input_behind_an_appended_newline_ends_at_0(rt: HostRuntime) -> Result<(), Fail> {
         let parser = Parser::new(rt.alloc(), "", None, None, true, ParseMode::Format)?;
-        assert_eq!(rt; parser.reader.cursor.start(), 0);
-        assert_eq!(rt; parser.reader.cursor.stop(), 0);
+        assert_eq!(rt; parser.cursor().start(), 0);
+        assert_eq!(rt; parser.cursor().stop(), 0);
         Ok(())
     }
 }

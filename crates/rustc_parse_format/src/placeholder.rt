@@ -1,12 +1,13 @@
 //! A placeholder after its opening brace: its position and its specification.
 
 ghost use Rattle.std.specs.Prelude.{◌+◌, ◌<◌, ◌^◌, ◌≡◌, IfOk, if◌then◌else◌, is_some, length, OnOk, option_map, Some, suc, unwrap_or};
+ghost use Rattle.rustc_parse_format.specs.Call.{spec_texts};
 ghost use Rattle.rustc_parse_format.specs.Characters.{number, word};
 ghost use Rattle.rustc_parse_format.specs.Meaning.{argument};
 ghost use Rattle.rustc_parse_format.specs.PartFaults.{argument_faults, cut_faults};
 ghost use Rattle.rustc_parse_format.specs.Placeholder.{cut, position};
 ghost use Rattle.rustc_parse_format.specs.Seen.{seen_argument, seen_mode, seen_position};
-ghost use Rattle.rustc_parse_format.specs.State.{read_to};
+ghost use Rattle.rustc_parse_format.specs.Midway.{read_texts, read_to};
 ghost use Rattle.rustc_parse_format.specs.Steps.{Forward, IsInWord, Paid};
 ghost use Rattle.rustc_parse_format.specs.Types.{Implicit, map_argument};
 ghost use Rattle.rustc_parse_format.specs.Values.{given_position, number_after_field};
@@ -23,7 +24,7 @@ use std::sync::ledger::Ledger;
 /// Reads the position at the front: an integer, else a word, else none.
 #[tactic(auto, using(crate::proofs::TriedParts::tried_parts, crate::proofs::Readers::read_nothing))]
 fn position<'input, L: Ledger>(
-    reader: &mut Reader<'input>,
+    reader: &mut Reader<'_, 'input>,
     trail: &mut Trail<'input, L>,
 ) -> Result<Option<Position<'input>>, AllocError>
     ensures value { IfOk result (λ p. option_map seen_position p ≡ given_position (position reader.old.rest).0) }
@@ -44,7 +45,7 @@ fn position<'input, L: Ledger>(
 /// The position: the given one, or else the next argument.
 fn position_of<'input>(
     given: Option<Position<'input>>,
-    reader: &mut Reader<'input>,
+    reader: &mut Reader<'_, 'input>,
 ) -> Position<'input>
     requires { reader.old.next + 1 < 2 ^ 64 }
     ensures value { seen_position result ≡ unwrap_or (option_map seen_position given.entry) (Implicit reader.old.next) }
@@ -62,7 +63,7 @@ fn position_of<'input>(
 #[tactic(auto, using(crate::proofs::Steps::part_le), unfolding(crate::specs::Placeholder::cut, crate::specs::Meaning::argument, crate::specs::Values::number_after_field, crate::specs::PartFaults::cut_faults))]
 pub fn read_argument<'input, L: Ledger>(
     mode: ParseMode,
-    reader: &mut Reader<'input>,
+    reader: &mut Reader<'_, 'input>,
     trail: &mut Trail<'input, L>,
 ) -> Result<Argument<'input>, AllocError>
     requires numbers { reader.old.next + 1 + length reader.old.rest < 2 ^ 64 }
@@ -70,7 +71,7 @@ pub fn read_argument<'input, L: Ledger>(
     ensures value { IfOk result (λ a. seen_argument a
         ≡ map_argument (place_of reader.old.world) (argument reader.old.next (cut (seen_mode mode) reader.old.rest))) }
     ensures state { OnOk result (reader.new ≡ (let a = cut (seen_mode mode) reader.old.rest in
-        read_to reader.old a.rest (number_after_field reader.old.next a.field) (cut_faults a))) }
+        read_texts (read_to reader.old a.rest (number_after_field reader.old.next a.field) (cut_faults a)) (spec_texts a.field.spec a.rest))) }
     ensures steps { OnOk result (Paid reader.old.rest trail.old reader.new.rest trail.new) }
 {
     let start = reader.cursor.start();

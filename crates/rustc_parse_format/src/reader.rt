@@ -1,55 +1,69 @@
-//! What a call reads on: a cursor, the number that the next implicit argument takes, and the faults found so far.
+//! What a call reads on: a cursor, the number that the next implicit argument takes, and what it has found so far.
 
-use crate::cursor::Cursor;
+ghost use Rattle.std.specs.Prelude.{◌≡◌, ◌≢◌, ◌++◌, ◌+◌, ◌<◌, ◌^◌, ◌∷◌, [], IfOk, IsOk, IsTrue, OnOk, chars, length, map};
+ghost use Rattle.rustc_parse_format.specs.Characters.{front, behind_first, is_no_brace, with_first};
+ghost use Rattle.rustc_parse_format.specs.Midway.{IsInOneLine, midway, noted_next, read_run};
+ghost use Rattle.rustc_parse_format.specs.SeenFaults.{seen_fault};
+ghost use Rattle.rustc_parse_format.specs.Seen.{pair};
+ghost use Rattle.rustc_parse_format.specs.Steps.{Forward};
+
+use crate::characters::{Class, before};
+use crate::cursor::{Cursor, Trail};
 use crate::faults::Fault;
-use std::alloc::Global;
+use std::alloc::{AllocError, Global};
 use std::marker::Model;
 use std::mem;
+use std::ops::Range;
+use std::sync::ledger::Ledger;
 
 /// A parser in the middle of a call.
 #[derive(Drop)]
-pub struct Reader<'input> {
-    pub cursor: Cursor<'input>,
+pub struct Reader<'source, 'input> {
+    pub cursor: Cursor<'source, 'input>,
     /// The number that the next implicit argument takes.
     pub curarg: usize,
     /// The faults of this call, as they are found.
     pub found: Vec<Fault<'input>>,
+    /// Where the line starts that is read.
+    pub line_start: usize,
+    /// The lines that ended in this call.
+    pub lines: Vec<Range<usize>>,
+    /// The placeholder that was closed.
+    pub closed: Option<Range<usize>>,
 }
 
-impl<'input> Model for Reader<'input> {
-    ghost use Rattle.std.specs.Prelude.{map};
-    ghost use Rattle.rustc_parse_format.specs.State.{Midway, midway};
+impl<'source, 'input> Model for Reader<'source, 'input> {
+    ghost use Rattle.std.specs.Prelude.{map, option_map};
+    ghost use Rattle.rustc_parse_format.specs.Midway.{Midway, midway};
+    ghost use Rattle.rustc_parse_format.specs.Seen.{pair};
     ghost use Rattle.rustc_parse_format.specs.SeenFaults.{seen_fault};
 
     ghost Value = { Midway };
 
-    ghost view = { λ r. midway r.cursor r.curarg (map seen_fault r.found.items) };
+    ghost view = { λ r. record (midway r.cursor r.curarg r.line_start) {
+      faults = map seen_fault r.found.items;
+      lines = map pair r.lines.items;
+      closed = option_map pair r.closed;
+    } };
 }
 
-impl<'input> Reader<'input> {
-    ghost use Rattle.std.specs.Prelude.{◌≡◌, ◌+◌, ◌<◌, ◌^◌, [], map};
-    ghost use Rattle.rustc_parse_format.specs.SeenFaults.{seen_fault};
-    ghost use Rattle.rustc_parse_format.specs.State.{midway};
-
-    /// At the place of a cursor, with the number 0 and no faults.
-    pub fn new(alloc: Global, cursor: Cursor<'input>) -> Reader<'input>
-        ensures { result ≡ midway cursor.entry 0 [] }
+impl<'source, 'input> Reader<'source, 'input> {
+    /// At the place of a cursor, with this number and in the line that starts at a byte, where nothing was found yet.
+    pub fn new(
+        alloc: Global,
+        cursor: Cursor<'source, 'input>,
+        curarg: usize,
+        line_start: usize,
+    ) -> Reader<'source, 'input>
+        ensures { result ≡ midway cursor.entry curarg line_start }
     {
         Reader {
             cursor,
-            curarg: 0,
+            curarg,
             found: Vec::new(alloc),
-        }
-    }
-
-    /// Another reader at the same place, with the same number and no faults.
-    pub fn duplicate(&self, alloc: Global) -> Reader<'input>
-        ensures { result ≡ record self.now { faults = [] } }
-    {
-        Reader {
-            cursor: self.cursor.duplicate(),
-            curarg: self.curarg,
-            found: Vec::new(alloc),
+            line_start,
+            lines: Vec::new(alloc),
+            closed: None,
         }
     }
 
@@ -70,5 +84,85 @@ impl<'input> Reader<'input> {
         ensures state { self.new ≡ record self.old { faults = [] } }
     {
         mem::replace(&mut self.found, Vec::new(alloc))
+    }
+
+    /// Reads the run of text at the front.
+    pub fn take_text<L: Ledger>(
+        &mut self,
+        trail: &mut Trail<'input, L>,
+    ) -> Result<&'input str, AllocError>
+        ensures value { IfOk result (λ t. chars t.now ≡ front is_no_brace self.old.rest) }
+        ensures state { OnOk result (self.new ≡ read_run self.old) }
+        ensures spare { IsInOneLine self.old → IsOk result }
+        ensures steps { OnOk result (Forward self.old.rest trail.old self.new.rest trail.new) }
+    {
+        let text = self.cursor.rest();
+        self.skip_text(trail)?;
+        Ok(before(text, self.cursor.rest()))
+    }
+
+    /// Reads the next character, and the run of text after it, which alone counts as text for the lines.
+    pub fn take_text_behind_first<L: Ledger>(
+        &mut self,
+        trail: &mut Trail<'input, L>,
+    ) -> Result<&'input str, AllocError>
+        ensures value { IfOk result (λ t. chars t.now ≡ with_first self.old.rest (front is_no_brace (behind_first self.old.rest))) }
+        ensures state { OnOk result (self.new ≡ read_run (record self.old { rest = behind_first self.old.rest })) }
+        ensures spare { IsInOneLine (record self.old { rest = behind_first self.old.rest }) → IsOk result }
+        ensures steps { OnOk result (Forward self.old.rest trail.old self.new.rest trail.new) }
+    {
+        let text = self.cursor.rest();
+        self.cursor.advance(trail);
+        self.skip_text(trail)?;
+        Ok(before(text, self.cursor.rest()))
+    }
+
+    /// Moves over the run of text at the front, in a source literal line by line.
+    fn skip_text<L: Ledger>(&mut self, trail: &mut Trail<'input, L>) -> Result<(), AllocError>
+        ensures state { OnOk result (self.new ≡ read_run self.old) }
+        ensures spare { IsInOneLine self.old → IsOk result }
+        ensures steps { OnOk result (Forward self.old.rest trail.old self.new.rest trail.new) }
+    {
+        if self.cursor.is_source_literal() {
+            return self.skip_lines(trail);
+        }
+        self.cursor.skip(Class::Text, trail);
+        Ok(())
+    }
+
+    /// Moves over the run of text at the front of a source literal, line by line.
+    fn skip_lines<L: Ledger>(
+        &mut self,
+        trail: &mut Trail<'input, L>,
+    ) -> Result<(), AllocError>
+        requires { IsTrue self.old.world.has_source }
+        ensures state { OnOk result (self.new ≡ read_run self.old) }
+        ensures spare { IsInOneLine self.old → IsOk result }
+        ensures steps { OnOk result (Forward self.old.rest trail.old self.new.rest trail.new) }
+    {
+        while let Some(c) = self.cursor.peek() {
+            if !Class::Text.passes(c) {
+                break;
+            }
+            self.note(c)?;
+            self.cursor.advance(trail);
+        }
+        Ok(())
+    }
+
+    /// Notes the next character as read in a source literal: a newline ends the line that is read, and white space where the line
+    /// starts is left out of it.
+    fn note(&mut self, c: char) -> Result<(), AllocError>
+        ensures state { OnOk result (self.new ≡ noted_next c self.old) }
+        ensures spare { c ≢ 10 → IsOk result }
+    {
+        if c == '\n' {
+            let line = self.line_start..self.cursor.start();
+            self.lines.push(line)?;
+            self.line_start = self.cursor.stop();
+        } else if self.cursor.start() == self.line_start && c.is_whitespace() {
+            self.line_start = self.cursor.stop();
+        }
+        Ok(())
     }
 }

@@ -1,4 +1,15 @@
-//! Where an input stands in its source.
+//! Where an input stands in its source, and how a place in a snippet goes on from character to character.
+
+ghost use Rattle.std.specs.Prelude.{◌≡◌, ◌≤◌, ◌-◌, ◌∷◌, List, ℕ, chars, drop, length, true};
+ghost use Rattle.std.specs.Str.{is_utf8};
+ghost use Rattle.rustc_parse_format.specs.Characters.{Text, behind_first};
+ghost use Rattle.rustc_parse_format.specs.Literal.{IsContent};
+ghost use Rattle.rustc_parse_format.specs.LiteralUnits.{LiteralUnit};
+ghost use Rattle.rustc_parse_format.specs.SeenSource.{IsHere, character_width, closed_by_quote, gap};
+ghost use Rattle.rustc_parse_format.specs.World.{World, place_at};
+
+use crate::characters::first;
+use crate::literal::{Rest, read_unit};
 
 /// Where an input stands in its source.
 #[derive(Drop)]
@@ -13,4 +24,77 @@ pub struct Source<'input> {
     pub kept: Option<String>,
     /// A newline was appended to the text of the literal that is kept.
     pub appended: bool,
+}
+
+/// A spot in a source: what is left of the input, and where the next character starts in the snippet, if that is kept.
+#[derive(Drop)]
+pub struct Spot<'input> {
+    pub rest: &'input str,
+    pub at: usize,
+}
+
+impl<'input> Spot<'input> {
+    /// The same spot again.
+    pub fn again(&self) -> Spot<'input>
+        ensures { result ≡ self.now }
+    {
+        Spot {
+            rest: self.rest,
+            at: self.at,
+        }
+    }
+}
+
+/// How many bytes the unit at the front takes, or 0 where none stands there that is a character.
+#[tactic(auto, unfolding(crate::specs::SeenSource::character_width, crate::specs::LiteralUnits::unit_at))]
+fn character_width(text: &str) -> usize
+    ensures { result ≡ character_width (chars text.now) }
+{
+    match first(text) {
+        Some('\\') => {
+            let mut rest = Rest::new(text);
+            match read_unit(&mut rest) {
+                Some(Some(_)) => text.len() - rest.len(),
+                _ => 0,
+            }
+        }
+        Some('"' | '\r') | None => 0,
+        Some(c) => c.len_utf8(),
+    }
+}
+
+/// How many bytes the continuations at the front take, where a character comes after them, or else 0.
+pub fn continuations_width(text: &str) -> usize
+    ensures { (q : Text) (us : List LiteralUnit) → IsContent q us → chars text.now ≡ closed_by_quote q → result ≡ gap us }
+{
+    let mut rest = Rest::new(text);
+    rest.skip_continuations();
+    match rest.peek() {
+        Some('"') | None => 0,
+        _ => text.len() - rest.len(),
+    }
+}
+
+/// Where the character after the next one starts in a snippet that is kept, if the next one starts at a byte.
+pub fn byte_after(snippet: &str, at: usize) -> usize
+    requires within { at ≤ length snippet.now }
+    requires valid { is_utf8 (drop at snippet.now) ≡ true }
+    ensures { (w : World) (rest : Text) → IsHere snippet.now w rest at → IsHere snippet.now w (behind_first rest) result }
+{
+    let text = &snippet[at..];
+    let width = character_width(text);
+    if width == 0 {
+        return at;
+    }
+    at + width + continuations_width(&text[width..])
+}
+
+/// Where the next character ends in a snippet that is kept, if it starts at a byte. An appended newline takes a byte.
+pub fn byte_through(snippet: &str, at: usize) -> usize
+    requires within { at ≤ length snippet.now }
+    requires valid { is_utf8 (drop at snippet.now) ≡ true }
+    ensures { (w : World) (c : ℕ) (rest : Text) → IsHere snippet.now w (c ∷ rest) at → result ≡ (place_at w (length (c ∷ rest))).1 }
+{
+    let width = character_width(&snippet[at..]);
+    if width == 0 { at + 1 } else { at + width }
 }

@@ -1,19 +1,20 @@
 //! What a colon brings: a format specification, the modifier of inline assembly, or the text of a diagnostic.
 
 ghost use Rattle.std.specs.Prelude.{◌+◌, ◌<◌, ◌^◌, ◌≡◌, chars, codes, IfOk, if◌then◌else◌, length, None, OnOk, option_map, Some};
+ghost use Rattle.rustc_parse_format.specs.Call.{spec_texts};
 ghost use Rattle.rustc_parse_format.specs.Characters.{begins_with, behind, behind_first, behind_word, front, is_no_brace, word};
 ghost use Rattle.rustc_parse_format.specs.Marks.{up_to};
 ghost use Rattle.rustc_parse_format.specs.Meaning.{fill_span, format_of, spec_of, type_span, word_span};
 ghost use Rattle.rustc_parse_format.specs.PartFaults.{format_faults, spec_faults, type_faults, word_faults};
 ghost use Rattle.rustc_parse_format.specs.Seen.{pair, seen_alignment, seen_debug_hex, seen_mode, seen_sign, seen_spec};
 ghost use Rattle.rustc_parse_format.specs.Specification.{align, alternate, fill, format_text, sign, specification, type};
-ghost use Rattle.rustc_parse_format.specs.State.{read_to};
+ghost use Rattle.rustc_parse_format.specs.Midway.{read_run, read_texts, read_to};
 ghost use Rattle.rustc_parse_format.specs.Steps.{Forward, IsFurthest, IsInWord, Paid};
 ghost use Rattle.rustc_parse_format.specs.Types.{default_spec, map_spec};
 ghost use Rattle.rustc_parse_format.specs.Values.{debug_hex_of, number_after_precision, number_after_spec, type_of};
 ghost use Rattle.rustc_parse_format.specs.World.{Place, place_of};
 
-use crate::characters::{Class, first};
+use crate::characters::first;
 use crate::counts::{precision, width, word};
 use crate::cursor::{Cursor, Trail};
 use crate::laws::default_of_spec;
@@ -25,7 +26,7 @@ use std::sync::ledger::Ledger;
 
 /// Reads the fill at the front: a character with an alignment after it.
 fn fill<'input, L: Ledger>(
-    cursor: &mut Cursor<'input>,
+    cursor: &mut Cursor<'_, 'input>,
     trail: &mut Trail<'input, L>,
 ) -> (Option<char>, Option<Range<usize>>)
     ensures value { result.0 ≡ (fill cursor.old.rest).0 }
@@ -46,7 +47,7 @@ fn fill<'input, L: Ledger>(
 
 /// Reads the alignment at the front.
 fn alignment<'input, L: Ledger>(
-    cursor: &mut Cursor<'input>,
+    cursor: &mut Cursor<'_, 'input>,
     trail: &mut Trail<'input, L>,
 ) -> Alignment
     ensures value { seen_alignment result ≡ (align cursor.old.rest).0 }
@@ -65,7 +66,7 @@ fn alignment<'input, L: Ledger>(
 
 /// Reads the sign flag at the front.
 fn sign<'input, L: Ledger>(
-    cursor: &mut Cursor<'input>,
+    cursor: &mut Cursor<'_, 'input>,
     trail: &mut Trail<'input, L>,
 ) -> Option<Sign>
     ensures value { option_map seen_sign result ≡ (sign cursor.old.rest).0 }
@@ -82,7 +83,7 @@ fn sign<'input, L: Ledger>(
 }
 
 /// Reads the flag `#` at the front.
-fn alternate<'input, L: Ledger>(cursor: &mut Cursor<'input>, trail: &mut Trail<'input, L>) -> bool
+fn alternate<'input, L: Ledger>(cursor: &mut Cursor<'_, 'input>, trail: &mut Trail<'input, L>) -> bool
     ensures value { result ≡ (alternate cursor.old.rest).0 }
     ensures rest { cursor.new ≡ record cursor.old { rest = (alternate cursor.old.rest).1 } }
     ensures steps { Forward cursor.old.rest trail.old cursor.new.rest trail.new }
@@ -92,7 +93,7 @@ fn alternate<'input, L: Ledger>(cursor: &mut Cursor<'input>, trail: &mut Trail<'
 
 /// Reads the word at the front, and where it stands if it is not empty.
 fn spanned_word<'input, L: Ledger>(
-    reader: &mut Reader<'input>,
+    reader: &mut Reader<'_, 'input>,
     trail: &mut Trail<'input, L>,
 ) -> Result<(&'input str, Option<Range<usize>>), AllocError>
     ensures value { IfOk result (λ w. chars w.0.now ≡ word reader.old.rest) }
@@ -132,7 +133,7 @@ fn character_type<'input>(ty: &'input str) -> TypePart<'input>
 
 /// Reads the letter `x` or `X`. With a `?` after it the letter is a case of the type `?`, else it is the type.
 fn hex_type<'input, L: Ledger>(
-    cursor: &mut Cursor<'input>,
+    cursor: &mut Cursor<'_, 'input>,
     trail: &mut Trail<'input, L>,
     case: DebugHex,
     letter: &'input str,
@@ -159,7 +160,7 @@ fn hex_type<'input, L: Ledger>(
 /// Reads the type at the front.
 #[tactic(auto, using(crate::proofs::SpecParts::types_at_front))]
 fn type_part<'input, L: Ledger>(
-    reader: &mut Reader<'input>,
+    reader: &mut Reader<'_, 'input>,
     trail: &mut Trail<'input, L>,
 ) -> Result<TypePart<'input>, AllocError>
     ensures ty { IfOk result (λ y. chars y.ty.now ≡ type_of (type reader.old.rest).0) }
@@ -191,7 +192,7 @@ fn type_part<'input, L: Ledger>(
 /// Reads the format specification at the front.
 #[tactic(auto, using(crate::proofs::Steps::part_le), unfolding(crate::specs::Specification::format_text, crate::specs::Meaning::format_of))]
 fn format_text<'input, L: Ledger>(
-    reader: &mut Reader<'input>,
+    reader: &mut Reader<'_, 'input>,
     trail: &mut Trail<'input, L>,
 ) -> Result<FormatSpec<'input>, AllocError>
     requires numbers { reader.old.next + 1 < 2 ^ 64 }
@@ -228,7 +229,7 @@ fn format_text<'input, L: Ledger>(
 
 /// Reads the modifier of inline assembly at the front.
 fn modifier<'input, L: Ledger>(
-    reader: &mut Reader<'input>,
+    reader: &mut Reader<'_, 'input>,
     trail: &mut Trail<'input, L>,
 ) -> Result<FormatSpec<'input>, AllocError>
     ensures value { IfOk result (λ f. seen_spec f ≡ record (default_spec {A = Place}) {
@@ -248,31 +249,31 @@ fn modifier<'input, L: Ledger>(
 
 /// Reads a colon and the text of a diagnostic, whose span takes in the colon.
 fn diagnostic_text<'input, L: Ledger>(
-    cursor: &mut Cursor<'input>,
+    reader: &mut Reader<'_, 'input>,
     trail: &mut Trail<'input, L>,
-) -> FormatSpec<'input>
-    ensures value { seen_spec result ≡ record (default_spec {A = Place}) {
-      ty = front is_no_brace (behind_first cursor.old.rest);
-      ty_span = Some (place_of cursor.old.world (up_to cursor.old.rest (behind is_no_brace (behind_first cursor.old.rest))));
-    } }
-    ensures rest { cursor.new ≡ record cursor.old { rest = behind is_no_brace (behind_first cursor.old.rest) } }
-    ensures steps { Forward cursor.old.rest trail.old cursor.new.rest trail.new }
+) -> Result<FormatSpec<'input>, AllocError>
+    ensures value { IfOk result (λ f. seen_spec f ≡ record (default_spec {A = Place}) {
+      ty = front is_no_brace (behind_first reader.old.rest);
+      ty_span = Some (place_of reader.old.world (up_to reader.old.rest (behind is_no_brace (behind_first reader.old.rest))));
+    }) }
+    ensures state { OnOk result (reader.new ≡ read_run (record reader.old { rest = behind_first reader.old.rest })) }
+    ensures steps { OnOk result (Forward reader.old.rest trail.old reader.new.rest trail.new) }
 {
-    let start = cursor.start();
-    cursor.advance(trail);
-    let ty = cursor.take(Class::Text, trail);
-    FormatSpec {
+    let start = reader.cursor.start();
+    reader.cursor.advance(trail);
+    let ty = reader.take_text(trail)?;
+    Ok(FormatSpec {
         ty,
-        ty_span: Some(start..cursor.start()),
+        ty_span: Some(start..reader.cursor.start()),
         ..default_of_spec()
-    }
+    })
 }
 
 /// Reads the specification at the front: a colon and what the mode has after it, or nothing.
 #[tactic(auto, using(crate::proofs::Steps::part_le, crate::proofs::Steps::at_colon))]
 pub fn specification<'input, L: Ledger>(
     mode: ParseMode,
-    reader: &mut Reader<'input>,
+    reader: &mut Reader<'_, 'input>,
     trail: &mut Trail<'input, L>,
 ) -> Result<FormatSpec<'input>, AllocError>
     requires numbers { reader.old.next + length reader.old.rest < 2 ^ 64 }
@@ -280,7 +281,7 @@ pub fn specification<'input, L: Ledger>(
     ensures value { IfOk result (λ f. seen_spec f ≡ map_spec (place_of reader.old.world) (spec_of reader.old.next reader.old.rest
         (specification (seen_mode mode) reader.old.rest).0 (specification (seen_mode mode) reader.old.rest).1)) }
     ensures state { OnOk result (reader.new ≡ (let s = specification (seen_mode mode) reader.old.rest in
-        read_to reader.old s.1 (number_after_spec reader.old.next s.0) (spec_faults reader.old.rest s.0 s.1))) }
+        read_texts (read_to reader.old s.1 (number_after_spec reader.old.next s.0) (spec_faults reader.old.rest s.0 s.1)) (spec_texts s.0 s.1))) }
     ensures steps { OnOk result (Paid reader.old.rest trail.old reader.new.rest trail.new) }
 {
     if !reader.cursor.is_next(':') {
@@ -295,6 +296,6 @@ pub fn specification<'input, L: Ledger>(
             reader.cursor.advance(trail);
             modifier(reader, trail)
         }
-        ParseMode::Diagnostic => Ok(diagnostic_text(&mut reader.cursor, trail)),
+        ParseMode::Diagnostic => diagnostic_text(reader, trail),
     }
 }

@@ -3,14 +3,14 @@
 ghost use Rattle.std.specs.Prelude.{◌≡◌, ◌+◌, ◌<◌, ◌^◌, chars, length, if◌then◌else◌, None};
 ghost use Rattle.rustc_parse_format.specs.LiteralReading.{IsFound, is_longer, plain_end};
 ghost use Rattle.rustc_parse_format.specs.Seen.{seen_snippet};
-ghost use Rattle.rustc_parse_format.specs.SeenSource.{IsKept, seen_world};
+ghost use Rattle.rustc_parse_format.specs.SeenSource.{IsKept, IsPlaced, seen_world};
 ghost use Rattle.rustc_parse_format.specs.World.{hashes, quote_offset, world};
 
 use crate::literal::source_end;
-use crate::source::Source;
+use crate::source::{Source, continuations_width};
 
 /// What stands in front of the text, in bytes: a quote, or `r`, the hashes and a quote.
-fn quote_offset(style: Option<usize>) -> usize
+pub fn quote_offset(style: Option<usize>) -> usize
     requires { hashes style + 2 < 2 ^ 64 }
     ensures { result ≡ quote_offset style }
 {
@@ -106,5 +106,17 @@ pub fn source_of<'input>(
         end,
         kept,
         appended: appended_newline,
+    }
+}
+
+/// Where the first character stands in the snippet, if that is kept.
+pub fn first_byte(source: &Source<'_>) -> usize
+    requires { IsKept source.now }
+    ensures { IsPlaced source.now.kept
+        (seen_world source.now) (chars source.now.input.now) result }
+{
+    match &source.kept {
+        Some(snippet) => 1 + continuations_width(&snippet.as_str()[1..]),
+        None => 0,
     }
 }

@@ -1,8 +1,10 @@
 //! What is left of a text, from which characters are taken one at a time.
 
 ghost use Rattle.std.specs.Prelude.{◌≡◌, ◌↔◌, List, ℕ, [], chars, IsTrue};
-ghost use Rattle.rustc_parse_format.specs.Characters.{begins_with, behind, behind_first, first, byte_length};
-ghost use Rattle.rustc_parse_format.specs.LiteralUnits.{is_skipped};
+ghost use Rattle.rustc_parse_format.specs.Characters.{Text, begins_with, behind, behind_first, first, byte_length};
+ghost use Rattle.rustc_parse_format.specs.Literal.{IsContent};
+ghost use Rattle.rustc_parse_format.specs.LiteralUnits.{LiteralUnit, is_skipped};
+ghost use Rattle.rustc_parse_format.specs.SeenSource.{after_continuations, begins_continuation, closed_by_quote, spelled_units};
 
 use crate::characters::{behind_first, first};
 use std::marker::Model;
@@ -64,6 +66,24 @@ impl<'a> Rest<'a> {
         ensures rest { self.new ≡ behind_first self.old }
     {
         self.next() == Some(c)
+    }
+
+    /// Whether a continuation is at the front.
+    pub fn begins_continuation(&self) -> bool
+        ensures { result ≡ begins_continuation self.now }
+    {
+        self.peek() == Some('\\') && first(behind_first(self.text)) == Some('\n')
+    }
+
+    /// Takes all continuations at the front of a content that a quote closes.
+    pub fn skip_continuations(&mut self)
+        ensures { (q : Text) (us : List LiteralUnit) → IsContent q us → self.old ≡ closed_by_quote q
+            → self.new ≡ closed_by_quote (spelled_units (after_continuations us)) }
+    {
+        while self.begins_continuation() {
+            self.text = behind_first(behind_first(self.text));
+            self.skip_white();
+        }
     }
 
     /// Takes the white space that belongs to a continuation.

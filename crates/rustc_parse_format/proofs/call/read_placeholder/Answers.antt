@@ -6,7 +6,7 @@ use Rattle.rustc_parse_format.specs.Types.{Argument}
 use Rattle.rustc_parse_format.specs.Placeholder.{cut}
 use Rattle.rustc_parse_format.specs.Seen.{pair, seen_mode, seen_spec}
 use Rattle.rustc_parse_format.specs.SeenFaults.{seen_fault}
-use Rattle.rustc_parse_format.specs.State.{Midway, midway}
+use Rattle.rustc_parse_format.specs.Midway.{Midway, midway}
 use Rattle.rustc_parse_format.specs.World.{Place}
 use Rattle.rustc_parse_format.proofs.Placeholders.{behind_closing, ending, placeholder_read, unclosed_fault_in}
 use Rattle.rustc_parse_format.proofs.call.read_placeholder.Goals as goal

@@ -1,6 +1,6 @@
 use Rattle.std.proofs.Common.{◌≡◌, ◌∙◌, ap, sym, if◌then◌else◌}
 use Rattle.rustc_parse_format.specs.Characters.{Text, begins_with, behind_first, behind_word}
-use Rattle.rustc_parse_format.specs.State.{Midway, Unread}
+use Rattle.rustc_parse_format.specs.Midway.{Midway, Unread}
 use Rattle.rustc_parse_format.proofs.Steps.{paid_back, forward_then}
 use Rattle.rustc_parse_format.proofs.counts.name_count.Goals as goal
 

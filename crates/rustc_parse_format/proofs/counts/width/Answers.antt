@@ -1,6 +1,6 @@
 use Rattle.std.proofs.Common.{sym, ap, ◌∙◌}
 use Rattle.rustc_parse_format.specs.Characters.{begins_with}
-use Rattle.rustc_parse_format.specs.State.{Unread}
+use Rattle.rustc_parse_format.specs.Midway.{Unread}
 use Rattle.rustc_parse_format.proofs.SpecParts.{width_zero}
 use Rattle.rustc_parse_format.proofs.counts.width.Goals as goal
 

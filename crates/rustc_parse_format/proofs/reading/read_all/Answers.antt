@@ -31,16 +31,16 @@ pub returns-clause-clean : goal.returns-clause-clean
 returns-clause-clean c =
     let s = first_state (seen_mode c.args.mode) (chars c.args.input.now) c.args.style (seen_snippet c.args.snippet) c.args.appended_newline in
     let e : ◌≡◌ {A = State} c.in_ok-parser.parser s = c.in_ok-parser.ensures.start in (
-      clean_in (seen_mode c.args.mode) s.world (chars c.args.input.now) _ _ e c.in_ok-pieces.ensures.state,
+      clean_in (seen_mode c.args.mode) s.world (chars c.args.input.now) _ _ _ e c.in_ok-pieces.ensures.state,
       in_clean (seen_mode c.args.mode) s.world
-          (chars c.args.input.now) _ _ e c.in_ok-pieces.ensures.state,
+          (chars c.args.input.now) _ _ _ e c.in_ok-pieces.ensures.state,
     )
 
 pub returns-clause-reading : goal.returns-clause-reading
 returns-clause-reading c =
     let s = first_state (seen_mode c.args.mode) (chars c.args.input.now) c.args.style (seen_snippet c.args.snippet) c.args.appended_newline in
     let e : ◌≡◌ {A = State} c.in_ok-parser.parser s = c.in_ok-parser.ensures.start in
-    reading_of (seen_mode c.args.mode) s.world (chars c.args.input.now) _ _ _ e c.in_ok-pieces.ensures.state c.in_ok-pieces.ensures.pieces
+    reading_of (seen_mode c.args.mode) s.world (chars c.args.input.now) _ _ _ _ e c.in_ok-pieces.ensures.state c.in_ok-pieces.ensures.pieces
 
 pub returns-clause-walks : goal.returns-clause-walks
 returns-clause-walks c =
@@ -54,7 +54,7 @@ pub returns-clause-first_fault : goal.returns-clause-first_fault
 returns-clause-first_fault c =
     let s = first_state (seen_mode c.args.mode) (chars c.args.input.now) c.args.style (seen_snippet c.args.snippet) c.args.appended_newline in
     let e : ◌≡◌ {A = State} c.in_ok-parser.parser s = c.in_ok-parser.ensures.start in
-    stops_of (seen_mode c.args.mode) s.world (chars c.args.input.now) _ _ _ e c.in_ok-pieces.ensures.state c.in_ok-pieces.ensures.pieces
+    stops_of (seen_mode c.args.mode) s.world (chars c.args.input.now) _ _ _ _ e c.in_ok-pieces.ensures.state c.in_ok-pieces.ensures.pieces
 
 pub returns-clause-source : goal.returns-clause-source
 returns-clause-source c =

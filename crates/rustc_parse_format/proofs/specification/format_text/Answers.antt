@@ -5,7 +5,7 @@ use Rattle.rustc_parse_format.specs.Meaning.{format_of}
 use Rattle.rustc_parse_format.specs.PartFaults.{precision_faults, type_faults, width_faults}
 use Rattle.rustc_parse_format.specs.SeenFaults.{seen_fault}
 use Rattle.rustc_parse_format.specs.Specification.{format_text, precision_at, type, type_at, width_at}
-use Rattle.rustc_parse_format.specs.State.{midway}
+use Rattle.rustc_parse_format.specs.Midway.{midway}
 use Rattle.rustc_parse_format.proofs.PartPlaces.{from_precision-at, from_type-at, from_width-at, format_faults-at}
 use Rattle.rustc_parse_format.proofs.Readers.{read_three}
 use Rattle.rustc_parse_format.proofs.specification.format_text.Goals as goal

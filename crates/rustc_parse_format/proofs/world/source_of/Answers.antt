@@ -2,7 +2,7 @@ use Rattle.std.proofs.Common.{◌≡◌, ◌&&◌, ◌∙◌, ap, sym, subst, if
 use Rattle.std.specs.Prelude.{is_some, unwrap_or}
 use Rattle.rustc_parse_format.specs.declared.source.Source.{Source}
 use Rattle.rustc_parse_format.specs.Seen.{seen_snippet}
-use Rattle.rustc_parse_format.specs.SeenSource.{IsKeptAs, world_with}
+use Rattle.rustc_parse_format.specs.SeenSource.{IsKeptIn, world_with}
 use Rattle.rustc_parse_format.specs.LiteralReading.{is_longer}
 use Rattle.rustc_parse_format.proofs.SourceWorlds.{IsSourceWith, kept_of, source-world, source-kept}
 use Rattle.rustc_parse_format.proofs.world.source_of.Goals.{then-is_literal, else-is_literal}
@@ -56,4 +56,4 @@ returns-clause-kept c =
     ] in
     let kept : c.kept_if-kept.result ≡ kept_of c.found_end-found.result (chars c.args.input.now) c.args.style c.args.snippet c.args.appended_newline =
     c.kept_if-kept.ensures ∙ ap (λ b. if b then c.args.snippet else None) is_kept in
-    subst (λ o. IsKeptAs o source) (sym kept) (source-kept source c.args.style c.args.snippet c.found_end-found.result k)
+    subst (λ o. IsKeptIn o source) (sym kept) (source-kept source c.args.style c.args.snippet c.found_end-found.result k)

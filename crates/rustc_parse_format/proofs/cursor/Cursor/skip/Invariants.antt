@@ -1,7 +1,7 @@
 use Rattle.std.proofs.Common.{◌≡◌, length}
 use Rattle.rustc_parse_format.specs.Characters.{behind}
 use Rattle.rustc_parse_format.specs.Classes.{passes}
-use Rattle.rustc_parse_format.specs.State.{Unread}
+use Rattle.rustc_parse_format.specs.Midway.{Unread}
 use Rattle.rustc_parse_format.specs.Steps.{Forward}
 use Rattle.rustc_parse_format.proofs.cursor.Cursor.skip.Given as goal
 

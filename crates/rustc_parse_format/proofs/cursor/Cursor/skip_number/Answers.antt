@@ -1,5 +1,5 @@
 use Rattle.std.proofs.Common.{rules, sym, ap, ◌∙◌}
-use Rattle.rustc_parse_format.specs.State.{Unread}
+use Rattle.rustc_parse_format.specs.Midway.{Unread}
 use Rattle.rustc_parse_format.proofs.Counting.{counted-first}
 use Rattle.rustc_parse_format.proofs.Steps.{forward_then}
 use Rattle.rustc_parse_format.proofs.cursor.Cursor.skip_number.Goals as goal

@@ -1,7 +1,7 @@
 use Rattle.std.proofs.Common.{◌≡◌, length}
 use Rattle.std.specs.Char.{is_ascii_digit}
 use Rattle.rustc_parse_format.specs.Characters.{front, behind}
-use Rattle.rustc_parse_format.specs.State.{Unread}
+use Rattle.rustc_parse_format.specs.Midway.{Unread}
 use Rattle.rustc_parse_format.specs.Steps.{Forward}
 use Rattle.rustc_parse_format.proofs.Counting.{Counted}
 use Rattle.rustc_parse_format.proofs.cursor.Cursor.skip_number.Given as goal

@@ -1,5 +1,5 @@
 use Rattle.std.proofs.Common.{◌++◌, ◌∙◌, ap, sym}
-use Rattle.rustc_parse_format.specs.State.{Unread}
+use Rattle.rustc_parse_format.specs.Midway.{Unread}
 use Rattle.rustc_parse_format.specs.Characters.{word}
 use Rattle.rustc_parse_format.proofs.Fronts.{word-behind}
 use Rattle.rustc_parse_format.proofs.cursor.Cursor.word.Goals as goal

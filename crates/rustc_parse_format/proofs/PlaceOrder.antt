@@ -1,0 +1,217 @@
+-- The places of a text stand in order, in each world, and there are as many as characters. So a run of text without newlines
+-- moves the start of the line at most at its first character.
+use Prim.Native.Char.{code}
+use Rattle.std.proofs.Common.{◌≡◌, ◌≢◌, ℕ, suc, zero, ◌+◌, ◌-◌, ◌<◌, ◌≤◌, ◌++◌, ◌==◌, Bool, true, false, not, List, [], ◌∷◌, length, map, get_or}
+use Rattle.std.proofs.Common.{Option, Some, None, unwrap_or, refl, sym, ap, ◌∙◌, arith, length-append}
+use Rattle.std.specs.List.{list_all}
+use Rattle.std.specs.Char.{len_utf8, is_whitespace}
+use Rattle.std.proofs.lemmas.Str.{len_utf8_bounds}
+use Rattle.std.proofs.lemmas.List.{length-map}
+use Rattle.std.proofs.lemmas.Bool.{cond_both, and_parts, and_from, true≢false}
+use Rattle.rustc_parse_format.specs.Characters.{Text, byte_length, first_passes}
+use Rattle.rustc_parse_format.specs.LiteralUnits.{LiteralUnit, Plain, SimpleEscape, ByteEscape, UnicodeEscape, Continuation}
+use Rattle.rustc_parse_format.specs.LiteralUnits.{spelling, value, escaped, at_most_one}
+use Rattle.rustc_parse_format.specs.Literal.{placed_characters, content_value, units, newline, IsSource}
+use Rattle.rustc_parse_format.specs.Source.{between, is_source}
+use Rattle.rustc_parse_format.specs.World.{World, Place, plain_places, content_places, last_stop, newline_places, ordinary_end, ordinary_world}
+use Rattle.rustc_parse_format.specs.World.{literal_world, quote_offset, world, place_at}
+use Rattle.rustc_parse_format.specs.Call.{marked}
+use Rattle.rustc_parse_format.specs.Lines.{noted, is_indent, read_lines}
+use Rattle.rustc_parse_format.proofs.LiteralWidths.{width-cons}
+use Rattle.rustc_parse_format.proofs.LiteralContents.{some_length, units-complete}
+use Rattle.rustc_parse_format.proofs.Places.{length-plain_places}
+use Rattle.rustc_parse_format.proofs.Sources.{source-found, between-frame}
+use Rattle.rustc_parse_format.proofs.LineLaws.{has_no_newline, has_no_indent, indent-yes, indent-no, read_lines-skip}
+
+-- From a byte on, each place starts no earlier than where the one before it ended, and ends after it starts.
+abbrev pub InOrder : ℕ → List Place → Type 0
+InOrder b [] = Unit {0}
+InOrder b (p ∷ ps) = (b ≤ p.0) × (p.0 < p.1) × InOrder p.1 ps
+
+in_order-earlier : (a b : ℕ) (ps : List Place) → a ≤ b → InOrder b ps → InOrder a ps
+in_order-earlier a b [] h o = tt
+in_order-earlier a b (p ∷ ps) h (starts, ends, rest) = (omega arith, ends, rest)
+
+-- The places of a text that are plain,
+pub plain-in_order : (q : ℕ) (t : Text) → InOrder q (plain_places q t)
+plain-in_order q [] = tt
+plain-in_order q (c ∷ t) = let width = len_utf8_bounds c in (omega arith, omega arith, plain-in_order (q + len_utf8 c) t)
+
+-- those of a content, whose units have a byte and stand for a character at most,
+some_bytes : (t : Text) → 0 < length t → 0 < byte_length t
+some_bytes [] h = absurd (omega arith)
+some_bytes (c ∷ t) h = let width = len_utf8_bounds c in omega (arith, width-cons c t)
+
+unit_bytes : (u : LiteralUnit) → 0 < byte_length (spelling u)
+unit_bytes u = some_bytes (spelling u) (some_length u)
+
+at_most_one-length : (o : Option ℕ) → length (at_most_one o) ≤ 1
+at_most_one-length None = omega arith
+at_most_one-length (Some c) = omega arith
+
+value-length : (u : LiteralUnit) → length (value u) ≤ 1
+value-length (Plain c) = omega arith
+value-length (SimpleEscape l) = at_most_one-length (escaped l)
+value-length (ByteEscape h l) = omega arith
+value-length (UnicodeEscape w) = omega arith
+value-length (Continuation w) = omega arith
+
+unit-in_order : (q e : ℕ) (v : Text) (ps : List (Place × ℕ)) → q < e → length v ≤ 1 → InOrder e (map (λ (x : Place × ℕ). x.0) ps) →
+    InOrder q (map (λ (x : Place × ℕ). x.0) (map (λ c. ((q, e), c)) v ++ ps))
+unit-in_order q e [] ps h n o = in_order-earlier q e (map (λ (x : Place × ℕ). x.0) ps) (omega arith) o
+unit-in_order q e (c ∷ []) ps h n o = (omega arith, h, o)
+unit-in_order q e (c ∷ d ∷ v) ps h n o = absurd (omega arith)
+
+pub content-in_order : (q : ℕ) (us : List LiteralUnit) → InOrder q (content_places q us)
+content-in_order q [] = tt
+content-in_order q (u ∷ us) =
+    let bytes = unit_bytes u in
+    unit-in_order q (q + byte_length (spelling u)) (value u) (placed_characters (q + byte_length (spelling u)) us) (omega arith) (value-length u)
+    (content-in_order (q + byte_length (spelling u)) us)
+
+-- and those with an appended newline stand in order.
+newline-in_order : (q : ℕ) (appended : Bool) → InOrder q (newline_places q appended)
+newline-in_order q true = (omega arith, omega arith, tt)
+newline-in_order q false = tt
+
+pub appended-in_order : (q : ℕ) (ps : List Place) (appended : Bool) → InOrder q ps → InOrder q (ps ++ newline_places (last_stop q ps) appended)
+appended-in_order q [] appended o = newline-in_order q appended
+appended-in_order q (p ∷ ps) appended (starts, ends, rest) = (starts, ends, appended-in_order p.1 ps appended rest)
+
+pub ordinary-in_order : (us : List LiteralUnit) (appended : Bool) → InOrder 1 (ordinary_world us appended).places
+ordinary-in_order us appended = appended-in_order 1 (content_places 1 us) appended (content-in_order 1 us)
+
+literal-in_order : (input : Text) (style : Option ℕ) (snippet : Text) (appended : Bool) →
+    InOrder (quote_offset style) (literal_world input style snippet appended).places
+literal-in_order input None snippet appended = ordinary-in_order (unwrap_or (units (between snippet)) []) appended
+literal-in_order input (Some n) snippet appended = plain-in_order (n + 2) input
+
+-- So do those of each world.
+pub world-in_order : (input : Text) (style : Option ℕ) (snippet : Option Text) (appended : Bool) →
+    InOrder (quote_offset style) (world input style snippet appended).places
+unfolding world
+world-in_order input style None appended = plain-in_order (quote_offset style) input
+world-in_order input style (Some snippet) appended =
+    cond_both (is_source input style (Some snippet) appended) _ _ (λ (w : World). InOrder (quote_offset style) w.places)
+    (λ yes. literal-in_order input style snippet appended) (λ no. plain-in_order (quote_offset style) input)
+
+-- Two places that stand in order, by index,
+get-from : (b : ℕ) (ps : List Place) (d : Place) (j : ℕ) → InOrder b ps → j < length ps → b ≤ (get_or ps j d).0
+get-from b [] d j o h = absurd (omega arith)
+get-from b (p ∷ ps) d zero (starts, ends, rest) h = starts
+get-from b (p ∷ ps) d (suc j) (starts, ends, rest) h =
+    let later : p.1 ≤ (get_or ps j d).0 = get-from p.1 ps d j rest (omega arith) in omega arith
+
+get-before : (b : ℕ) (ps : List Place) (d : Place) (i j : ℕ) → InOrder b ps → i < j → j < length ps → (get_or ps i d).1 ≤ (get_or ps j d).0
+get-before b [] d i j o h k = absurd (omega arith)
+get-before b (p ∷ ps) d i zero o h k = absurd (omega arith)
+get-before b (p ∷ ps) d zero (suc j) (starts, ends, rest) h k = get-from p.1 ps d j rest (omega arith)
+get-before b (p ∷ ps) d (suc i) (suc j) (starts, ends, rest) h k = get-before p.1 ps d i j rest (omega arith) (omega arith)
+
+get-bytes : (b : ℕ) (ps : List Place) (d : Place) (i : ℕ) → InOrder b ps → i < length ps → (get_or ps i d).0 < (get_or ps i d).1
+get-bytes b [] d i o h = absurd (omega arith)
+get-bytes b (p ∷ ps) d zero (starts, ends, rest) h = ends
+get-bytes b (p ∷ ps) d (suc i) (starts, ends, rest) h = get-bytes p.1 ps d i rest (omega arith)
+
+-- and by how many characters are left.
+pub place-from : (b : ℕ) (w : World) (k : ℕ) → InOrder b w.places → 0 < k → k ≤ length w.places → b ≤ (place_at w k).0
+unfolding place_at
+place-from b w k o h n = get-from b w.places (w.end, w.end) (length w.places - k) o (omega arith)
+
+pub place-before : (b : ℕ) (w : World) (k j : ℕ) → InOrder b w.places → 0 < j → j < k → k ≤ length w.places → (place_at w k).1 ≤ (place_at w j).0
+unfolding place_at
+place-before b w k j o h l n =
+    get-before b w.places (w.end, w.end) (length w.places - k) (length w.places - j) o (omega arith) (omega arith)
+
+pub place-bytes : (b : ℕ) (w : World) (k : ℕ) → InOrder b w.places → 0 < k → k ≤ length w.places → (place_at w k).0 < (place_at w k).1
+unfolding place_at
+place-bytes b w k o h n = get-bytes b w.places (w.end, w.end) (length w.places - k) o (omega arith)
+
+-- no newline in a text
+abbrev pub no_newline : Text → Bool
+no_newline t = list_all (λ c. not (c == code "\n")) t
+
+pub noted-no_newline : (w : World) (u r : Text) → no_newline u ≡ true → has_no_newline (noted w (marked u r)) ≡ true
+noted-no_newline w [] r a = refl
+noted-no_newline w (c ∷ u) r a =
+    let h : (not (c == code "\n") ≡ true) × (no_newline u ≡ true) = and_parts (not (c == code "\n")) _ a in
+    and_from (not (c == code "\n")) _ h.0 (noted-no_newline w u r h.1)
+
+-- Where each character of a run starts behind the start of the line, none is white space there.
+behind-no_indent : (w : World) (start : ℕ) (u r : Text) →
+    ((k : ℕ) → 0 < k → k ≤ length (u ++ r) → start < (place_at w k).0) → has_no_indent start (noted w (marked u r)) ≡ true
+behind-no_indent w start [] r h = refl
+behind-no_indent w start (c ∷ u) r h =
+    let first : start < (place_at w (length (c ∷ (u ++ r)))).0 = h (length (c ∷ (u ++ r))) (omega arith) (omega arith) in
+    and_from _ _ (ap not (indent-no w start c (length (c ∷ (u ++ r))) (λ white. omega arith)))
+    (behind-no_indent w start u r (λ k p q. h k p (omega arith)))
+
+-- A run of text without newlines moves the start of the line at most at its first character.
+pub run-no_line : (b : ℕ) (w : World) (start c : ℕ) (u r : Text) → InOrder b w.places → length (c ∷ (u ++ r)) ≤ length w.places →
+    no_newline (c ∷ u) ≡ true → start ≤ (place_at w (length (c ∷ (u ++ r)))).0 →
+    (is_whitespace c ≡ true → (place_at w (length (c ∷ (u ++ r)))).0 ≢ start) → read_lines start (noted w (marked (c ∷ u) r)) ≡ (start, [])
+run-no_line b w start c u r o n a s h =
+    let bytes = place-bytes b w (length (c ∷ (u ++ r))) o (omega arith) n in
+    let later : (k : ℕ) → 0 < k → k ≤ length (u ++ r) → start < (place_at w k).0 =
+    λ k p q. let order = place-before b w (length (c ∷ (u ++ r))) k o p (omega arith) n in omega arith in
+    read_lines-skip start (noted w (marked (c ∷ u) r)) (noted-no_newline w (c ∷ u) r a)
+    (and_from _ _ (ap not (indent-no w start c (length (c ∷ (u ++ r))) h)) (behind-no_indent w start u r later))
+
+-- The same of a run that may be empty.
+pub run-no_lines : (b : ℕ) (w : World) (start : ℕ) (u r : Text) → InOrder b w.places → length (u ++ r) ≤ length w.places →
+    no_newline u ≡ true → start ≤ (place_at w (length (u ++ r))).0 →
+    first_passes (λ c. is_indent start (c, place_at w (length (u ++ r)))) u ≡ false → read_lines start (noted w (marked u r)) ≡ (start, [])
+run-no_lines b w start [] r o n a s h = refl
+run-no_lines b w start (c ∷ u) r o n a s h =
+    run-no_line b w start c u r o n a s (λ white here. true≢false (sym (indent-yes w start c (length (c ∷ (u ++ r))) white here) ∙ h))
+
+-- There are as many places as characters.
+length-content_places : (q : ℕ) (us : List LiteralUnit) → length (content_places q us) ≡ length (content_value us)
+length-content_places q [] = refl
+length-content_places q (u ∷ us) =
+    let e = q + byte_length (spelling u) in
+    let place : ℕ → Place × ℕ = λ c. ((q, e), c) in
+    let placed : List (Place × ℕ) = map place (value u) in
+    let rest : List (Place × ℕ) = placed_characters e us in
+    omega (
+      arith,
+      length-map (placed ++ rest) (λ (x : Place × ℕ). x.0),
+      length-append placed rest,
+      length-map (value u) place,
+      length-map rest (λ (x : Place × ℕ). x.0),
+      length-content_places e us,
+      length-append (value u) (content_value us),
+    )
+
+length-newline : (e : ℕ) (appended : Bool) → length (newline_places e appended) ≡ length (newline appended)
+length-newline e true = refl
+length-newline e false = refl
+
+length-ordinary : (us : List LiteralUnit) (appended : Bool) →
+    length (ordinary_world us appended).places ≡ length (content_value us ++ newline appended)
+length-ordinary us appended =
+    omega (
+      arith,
+      length-append (content_places 1 us) (newline_places (ordinary_end us) appended),
+      length-content_places 1 us,
+      length-newline (ordinary_end us) appended,
+      length-append (content_value us) (newline appended),
+    )
+
+length-literal : (input : Text) (style : Option ℕ) (snippet : Text) (appended : Bool) → IsSource input style snippet appended →
+    length (literal_world input style snippet appended).places ≡ length input
+length-literal input None snippet appended (t, (content, us, framed, is, stands), whole) =
+    let found : units (between snippet) ≡ Some us =
+    ap (λ s. units (between s)) framed ∙ (ap units (between-frame content) ∙ units-complete content us is) in
+    ap (λ (o : Option (List LiteralUnit)). length (ordinary_world (unwrap_or o []) appended).places) found
+    ∙ (length-ordinary us appended ∙ ap length (ap (λ s. s ++ newline appended) stands ∙ whole))
+length-literal input (Some n) snippet appended h = length-plain_places (n + 2) input
+
+pub length-world : (input : Text) (style : Option ℕ) (snippet : Option Text) (appended : Bool) →
+    length (world input style snippet appended).places ≡ length input
+unfolding world
+length-world input style None appended = length-plain_places (quote_offset style) input
+length-world input style (Some snippet) appended =
+    cond_both (is_source input style (Some snippet) appended) _ _ (λ (w : World). length w.places ≡ length input)
+    (λ yes. length-literal input style snippet appended (source-found input style snippet appended yes))
+    (λ no. length-plain_places (quote_offset style) input)

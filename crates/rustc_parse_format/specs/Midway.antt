@@ -1,0 +1,76 @@
+-- What contracts of readers see in the middle of a call. Only private contracts use it.
+use Rattle.std.specs.Prelude.{◌≡◌, ℕ, ◌++◌, List, [], ◌∷◌, length, Option, Some, None}
+use Rattle.rustc_parse_format.specs.declared.source.Source.{Source}
+use Rattle.rustc_parse_format.specs.Characters.{Text, front, behind, is_no_brace}
+use Rattle.rustc_parse_format.specs.Marks.{Span}
+use Rattle.rustc_parse_format.specs.Faults.{Fault}
+use Rattle.rustc_parse_format.specs.World.{World, Place, faults_in, place_at}
+use Rattle.rustc_parse_format.specs.Call.{Call, marked}
+use Rattle.rustc_parse_format.specs.Lines.{lines_in, closed_in, read_lines}
+
+-- What a cursor stands at: the rest of an input, in its world, which its source gives.
+pub record Unread : Type 0 where
+  pub source : Source
+  pub world : World
+  pub input : Text
+  pub rest : Text
+
+-- What a reader stands at: the same, with the number that the next implicit argument takes, and what the call has found so far.
+pub record Midway : Type 0 where
+  pub source : Source
+  pub world : World
+  pub input : Text
+  pub rest : Text
+  pub next : ℕ
+  pub faults : List (Fault Place)
+  -- where the line starts that is read, and the lines in front of it that ended in this call
+  pub line_start : ℕ
+  pub lines : List Place
+  -- the placeholder that was closed
+  pub closed : Option Place
+
+-- at the place of a cursor, with this number and in this line, where nothing was found yet
+abbrev pub midway : Unread → ℕ → ℕ → Midway
+midway u n start = record {
+  source = u.source;
+  world = u.world;
+  input = u.input;
+  rest = u.rest;
+  next = n;
+  faults = [];
+  line_start = start;
+  lines = [];
+  closed = None;
+}
+
+-- read up to the rest r and the number n, with these faults found on the way
+abbrev pub read_to : Midway → Text → ℕ → List (Fault Span) → Midway
+read_to s r n fs = record s { rest = r; next = n; faults = s.faults ++ faults_in s.world fs }
+
+-- with these characters read as text
+abbrev pub read_texts : Midway → List (ℕ × ℕ) → Midway
+read_texts s cs =
+    record s { line_start = (lines_in s.world s.line_start cs).0; lines = s.lines ++ (lines_in s.world s.line_start cs).1 }
+
+-- the run of text at the front read
+abbrev pub read_run : Midway → Midway
+read_run s = record (read_texts s (marked (front is_no_brace s.rest) (behind is_no_brace s.rest))) { rest = behind is_no_brace s.rest }
+
+-- with the next character c of a source literal noted
+abbrev pub noted_next : ℕ → Midway → Midway
+noted_next c s =
+    let next = read_lines s.line_start ((c, place_at s.world (length s.rest)) ∷ []) in
+    record s { line_start = next.0; lines = s.lines ++ next.1 }
+
+-- the run of text at the front ends no line
+abbrev pub IsInOneLine : Midway → Type 0
+IsInOneLine s = (read_run s).lines ≡ s.lines
+
+-- what was closed first, or then
+abbrev pub closed_then : Option Place → Option Place → Option Place
+closed_then old None = old
+closed_then old (Some p) = Some p
+
+-- after a call
+abbrev pub read_call : Midway → Call → Midway
+read_call s k = record (read_texts (read_to s k.rest k.next k.faults) k.texts) { closed = closed_then s.closed (closed_in s.world k.closes) }
