@@ -33,7 +33,7 @@ Ends style s t o = MatchOption o (IsLiteral style s t → ⊥) (λ e. IsLiteral 
 pub ordinary-ends : (s q t : Text) → s ≡ ordinary_frame q → (o : Option ℕ) → o ≡ spelled_end 1 1 q t → Ends None s t o
 ordinary-ends s q t f None g =
     λ l. let same : l.0 ≡ q = same_content s l.0 q l.2 f in
-        none-some _ (g ∙ end-from 1 1 q t l.1 (ap units (sym same) ∙ units-complete l.0 l.1 l.3) l.4)
+    none-some _ (g ∙ end-from 1 1 q t l.1 (ap units (sym same) ∙ units-complete l.0 l.1 l.3) l.4)
 ordinary-ends s q t f (Some e) g =
     let parts = end-parts 1 1 e q t (sym g) in
     ((q, parts.0, f, units-content q parts.0 parts.1, parts.2), parts.3 ∙ ap ordinary_end (sym (units_between-frame s q parts.0 f parts.1)))
@@ -65,7 +65,7 @@ pub source-ends : (input : Text) (style : Option ℕ) (s : Text) (appended : Boo
     Ends style s t o → EndsSource input style s appended o
 source-ends input style s appended t None f h =
     λ l. let same : l.0 ≡ t = append_cancel_right l.0 t (newline appended) (l.2 ∙ sym f) in
-        h (subst (IsLiteral style s) same l.1)
+    h (subst (IsLiteral style s) same l.1)
 source-ends input style s appended t (Some e) f h = ((t, h.0, f), h.1)
 
 pub no-source : (input : Text) (style : Option ℕ) (s : Text) (appended : Bool) →

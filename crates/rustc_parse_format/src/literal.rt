@@ -106,11 +106,7 @@ fn spelled_end(content: &str, text: &str) -> Option<usize>
             end = total - rest.len();
         }
     }
-    if wanted.is_empty() {
-        Some(end)
-    } else {
-        None
-    }
+    if wanted.is_empty() { Some(end) } else { None }
 }
 
 /// Where the text ends for which an ordinary literal stands, or `None` if the snippet is no such literal.
@@ -118,7 +114,7 @@ fn ordinary_end(snippet: &str, text: &str) -> Option<usize>
     ensures { MatchOption result
         (IsOrdinaryLiteral (chars snippet.now) (chars text.now) → ⊥)
         (λ e. IsOrdinaryLiteral (chars snippet.now) (chars text.now)
-            × (e ≡ literal_end None (chars snippet.now))) }
+        × (e ≡ literal_end None (chars snippet.now))) }
 {
     match between_quotes(snippet) {
         Some(content) => spelled_end(content, text),
@@ -194,7 +190,7 @@ fn raw_end(snippet: &str, hashes: usize, text: &str) -> Option<usize>
     ensures { MatchOption result
         (chars snippet.now ≡ raw_frame hashes (chars text.now) → ⊥)
         (λ e. (chars snippet.now ≡ raw_frame hashes (chars text.now))
-            × (e ≡ literal_end (Some hashes) (chars snippet.now))) }
+        × (e ≡ literal_end (Some hashes) (chars snippet.now))) }
 {
     if is_raw_literal(snippet, hashes, text) {
         Some(snippet.len() - hashes - 1)

@@ -72,11 +72,7 @@ fn is_longer(
 fn kept_if(is_kept: bool, snippet: Option<String>) -> Option<String>
     ensures { result ≡ (if is_kept then snippet else None) }
 {
-    if is_kept {
-        snippet
-    } else {
-        None
-    }
+    if is_kept { snippet } else { None }
 }
 
 /// Where an input stands in its source, by the style of its literal, the snippet, and whether a newline was appended.

@@ -8,8 +8,8 @@ pub returns-after-appended_newline : goal.returns-after-appended_newline
 returns-after-appended_newline c =
     let s = ap length c.as_str.ensures.value ∙ sym (width-chars (string_bytes c.in-None-Some.text) (IsUtf8-string_bytes c.in-None-Some.text)) in
     let q : c.if-appended_newline.quotes ≡ (if c.args.appended_newline then 1 else 2) = elim c.if-appended_newline.branch [
-      then-appended_newline w ↦ w.quotes-is ∙ sym (ap (λ b. if b then 1 else 2) w.if-appended_newline.true)
-    | else-appended_newline w ↦ w.quotes-is ∙ sym (ap (λ b. if b then 1 else 2) w.if-appended_newline.false)
+      | then-appended_newline w ↦ w.quotes-is ∙ sym (ap (λ b. if b then 1 else 2) w.if-appended_newline.true)
+      | else-appended_newline w ↦ w.quotes-is ∙ sym (ap (λ b. if b then 1 else 2) w.if-appended_newline.false)
     ] in
     rw (c.in-None-Some.is-0, c.in-None-Some.is-1, s, width-chars c.args.input.now c.utf8.input, q) refl
 

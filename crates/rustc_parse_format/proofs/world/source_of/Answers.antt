@@ -26,8 +26,8 @@ returns-clause-world c =
     } in
     let longer = is_longer (chars c.args.input.now) c.args.style (seen_snippet c.args.snippet) c.args.appended_newline in
     let is_kept : c.if-is_literal.is_kept ≡ (is_some c.found_end-found.result && longer) = elim c.if-is_literal.branch [
-      then-is_literal w ↦ (w.is_kept-is ∙ w.is_longer-is_kept.ensures) ∙ ap (λ b. b && longer) (sym w.if-is_literal.true ∙ c.is_some-is_literal.ensures)
-    | else-is_literal w ↦ w.is_kept-is ∙ (w.if-is_literal.false ∙ ap (λ b. b && longer) (sym w.if-is_literal.false ∙ c.is_some-is_literal.ensures))
+      | then-is_literal w ↦ (w.is_kept-is ∙ w.is_longer-is_kept.ensures) ∙ ap (λ b. b && longer) (sym w.if-is_literal.true ∙ c.is_some-is_literal.ensures)
+      | else-is_literal w ↦ w.is_kept-is ∙ (w.if-is_literal.false ∙ ap (λ b. b && longer) (sym w.if-is_literal.false ∙ c.is_some-is_literal.ensures))
     ] in
     let kept : c.kept_if-kept.result ≡ kept_of c.found_end-found.result (chars c.args.input.now) c.args.style c.args.snippet c.args.appended_newline =
     c.kept_if-kept.ensures ∙ ap (λ b. if b then c.args.snippet else None) is_kept in
@@ -51,8 +51,8 @@ returns-clause-kept c =
     } in
     let longer = is_longer (chars c.args.input.now) c.args.style (seen_snippet c.args.snippet) c.args.appended_newline in
     let is_kept : c.if-is_literal.is_kept ≡ (is_some c.found_end-found.result && longer) = elim c.if-is_literal.branch [
-      then-is_literal w ↦ (w.is_kept-is ∙ w.is_longer-is_kept.ensures) ∙ ap (λ b. b && longer) (sym w.if-is_literal.true ∙ c.is_some-is_literal.ensures)
-    | else-is_literal w ↦ w.is_kept-is ∙ (w.if-is_literal.false ∙ ap (λ b. b && longer) (sym w.if-is_literal.false ∙ c.is_some-is_literal.ensures))
+      | then-is_literal w ↦ (w.is_kept-is ∙ w.is_longer-is_kept.ensures) ∙ ap (λ b. b && longer) (sym w.if-is_literal.true ∙ c.is_some-is_literal.ensures)
+      | else-is_literal w ↦ w.is_kept-is ∙ (w.if-is_literal.false ∙ ap (λ b. b && longer) (sym w.if-is_literal.false ∙ c.is_some-is_literal.ensures))
     ] in
     let kept : c.kept_if-kept.result ≡ kept_of c.found_end-found.result (chars c.args.input.now) c.args.style c.args.snippet c.args.appended_newline =
     c.kept_if-kept.ensures ∙ ap (λ b. if b then c.args.snippet else None) is_kept in
