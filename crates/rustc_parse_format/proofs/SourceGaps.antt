@@ -9,10 +9,10 @@ use Rattle.std.specs.declared.alloc.Global.{Global}
 use Rattle.rustc_parse_format.specs.Characters.{Text, byte_length}
 use Rattle.rustc_parse_format.specs.LiteralUnits.{LiteralUnit, Plain, SimpleEscape, ByteEscape, UnicodeEscape, Continuation, spelling, value, at_most_one, escaped, is_unit, may_precede}
 use Rattle.rustc_parse_format.specs.Literal.{IsContent, content_value, newline}
-use Rattle.rustc_parse_format.specs.World.{World, Place, ordinary_world, content_places, last_stop, newline_places}
+use Rattle.rustc_parse_format.specs.World.{World, Place, ordinary_world, ordinary_end, content_places, last_stop, newline_places}
 use Rattle.rustc_parse_format.specs.declared.source.Source.{Source}
 use Rattle.rustc_parse_format.specs.LiteralReading.{units_between}
-use Rattle.rustc_parse_format.specs.SeenSource.{IsHere, IsAhead, IsOrdinary, IsKept, IsPlaced, seen_world, after_continuations, closed_by_quote, gap, gap_to, spelled_units}
+use Rattle.rustc_parse_format.specs.SeenSource.{IsHere, IsAhead, IsOrdinary, IsKept, IsPlaced, seen_world, world_with, after_continuations, closed_by_quote, gap, gap_to, spelled_units}
 use Rattle.rustc_parse_format.proofs.LiteralWidths.{width-append}
 use Rattle.rustc_parse_format.proofs.LiteralContents.{units-complete}
 use Rattle.rustc_parse_format.proofs.SourceEnds.{units_between-frame}
@@ -140,10 +140,15 @@ here snippet w rest at b = by_units (after_continuations b.units) (passed b.unit
         stop-begun (at + byte_length p.front) at (at + byte_length p.front) v vs h ∙ (ap (last_stop at) (sym (p.same_places at)) ∙ b.ending) in
         subst (λ k. IsHere snippet w rest (at + k)) n (pass_to snippet w rest at b (v ∷ vs) p ending (inl h))
 
+-- the world has the places of an ordinary literal
+abbrev pub HasPlacesOf : List ℕ → Bool → World → Type 0
+HasPlacesOf bs appended w =
+    (w.places ≡ (ordinary_world (units_between (chars bs)) appended).places) × (w.end ≡ ordinary_end (units_between (chars bs)))
+
 -- behind the opening quote of a snippet that is kept
-pub opened : (bs input : List ℕ) (appended : Bool) (end : ℕ) → IsUtf8 bs → IsOrdinary input (chars bs) appended end →
-    IsBehind bs (ordinary_world (units_between (chars bs)) appended) input 1
-opened bs input appended end u o =
+pub opened : (bs input : List ℕ) (appended : Bool) (end : ℕ) (w : World) → HasPlacesOf bs appended w → IsUtf8 bs →
+    IsOrdinary input (chars bs) appended end → IsBehind bs w input 1
+opened bs input appended end w same u o =
     let found = units_between-frame (chars bs) o.content o.units o.is_literal (units-complete o.content o.units o.is_content) in
     let cut : IsCutAt bs (34 ∷ []) (closed_by_quote o.content) = cut_at bs (34 ∷ []) (closed_by_quote o.content) u o.is_literal in
     record {
@@ -156,19 +161,20 @@ opened bs input appended end u o =
       appended = appended;
       rest_is = sym o.stands_for;
       passed = [];
-      places = rw found refl;
-      ending = rw found refl;
+      places = same.0
+          ∙ (ap (λ us. content_places 1 us ++ newline_places (ordinary_end (units_between (chars bs))) appended) found
+          ∙ ap (λ e. content_places 1 o.units ++ newline_places e appended) (sym same.1));
+      ending = ap ordinary_end (sym found) ∙ sym same.1;
     }
 
 abbrev pub Closes : List ℕ → ℕ → Type 0
 Closes rest n = (q : Text) (us : List LiteralUnit) → IsContent q us → chars rest ≡ closed_by_quote q → n ≡ gap us
 
-pub first-here : (bs input : List ℕ) (appended : Bool) (end n : ℕ) → IsUtf8 bs → IsOrdinary input (chars bs) appended end → Closes (drop 1 bs) n →
-    IsHere bs (ordinary_world (units_between (chars bs)) appended) input (1 + n)
-first-here bs input appended end n u o f =
-    let b = opened bs input appended end u o in
-    subst (λ k. IsHere bs (ordinary_world (units_between (chars bs)) appended) input (1 + k)) (sym (f b.content b.units b.is_content b.left))
-    (here bs (ordinary_world (units_between (chars bs)) appended) input 1 b)
+pub first-here : (bs input : List ℕ) (appended : Bool) (end n : ℕ) (w : World) → HasPlacesOf bs appended w → IsUtf8 bs →
+    IsOrdinary input (chars bs) appended end → Closes (drop 1 bs) n → IsHere bs w input (1 + n)
+first-here bs input appended end n w same u o f =
+    let b = opened bs input appended end w same u o in
+    subst (λ k. IsHere bs w input (1 + k)) (sym (f b.content b.units b.is_content b.left)) (here bs w input 1 b)
 
 -- in the words of a source
 pub kept-ordinary : (s : Source) (snippet : String Global) → s.kept ≡ Some snippet → IsKept s →
@@ -177,15 +183,18 @@ kept-ordinary s snippet e k = rw e at k
 
 pub first-boundary : (s : Source) (snippet : String Global) → s.kept ≡ Some snippet → IsKept s → IsCharBoundary (string_bytes snippet) 1
 first-boundary s snippet e k =
-    let b = opened (string_bytes snippet) (chars s.input.now) s.appended s.end (IsUtf8-string_bytes snippet) (kept-ordinary s snippet e k) in
+    let b = opened (string_bytes snippet) (chars s.input.now) s.appended s.end (world_with (Some snippet) s) (refl, refl)
+    (IsUtf8-string_bytes snippet) (kept-ordinary s snippet e k) in
     IsCharBoundary-from_drop (string_bytes snippet) 1 b.within (IsUtf8-from_is_utf8 _ b.valid)
 
 pub first-inside : (s : Source) (snippet : String Global) (n : ℕ) → s.kept ≡ Some snippet → IsKept s → Closes (drop 1 (string_bytes snippet)) n →
     1 + n ≤ length (string_bytes snippet)
 first-inside s snippet n e k f =
-    (first-here (string_bytes snippet) (chars s.input.now) s.appended s.end n (IsUtf8-string_bytes snippet) (kept-ordinary s snippet e k) f).within
+    (first-here (string_bytes snippet) (chars s.input.now) s.appended s.end n (world_with (Some snippet) s) (refl, refl)
+    (IsUtf8-string_bytes snippet) (kept-ordinary s snippet e k) f).within
 
 pub first-placed : (s : Source) (snippet : String Global) (n : ℕ) → s.kept ≡ Some snippet → IsKept s → Closes (drop 1 (string_bytes snippet)) n →
     IsPlaced s.kept (seen_world s) (chars s.input.now) (1 + n)
 first-placed s snippet n e k f =
-    rw e (first-here (string_bytes snippet) (chars s.input.now) s.appended s.end n (IsUtf8-string_bytes snippet) (kept-ordinary s snippet e k) f)
+    rw e (first-here (string_bytes snippet) (chars s.input.now) s.appended s.end n (world_with (Some snippet) s) (refl, refl)
+    (IsUtf8-string_bytes snippet) (kept-ordinary s snippet e k) f)

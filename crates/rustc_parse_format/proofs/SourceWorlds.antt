@@ -93,6 +93,16 @@ kept : (source : Source) (s : String Global) (e : ℕ) → IsSourceWith source N
     IsOrdinary (chars source.input.now) (chars (string_bytes s)) source.appended source.end
 kept source s e k = kept-literal source (chars (string_bytes s)) (k.found.0, k.end ∙ k.found.1)
 
+-- worlds by their parts
+same_world : (v w : World) → v.has_source ≡ w.has_source → v.places ≡ w.places → v.end ≡ w.end → v ≡ w
+same_world v w a b c = rw (a, b, c) refl
+
+kept-world : (source : Source) (s : String Global) → source.is_literal ≡ true →
+    world_with (Some s) source ≡ ordinary_world (units_between (chars (string_bytes s))) source.appended
+kept-world source s e =
+    let found : (world_with (Some s) source).has_source ≡ true = cc in
+    same_world (world_with (Some s) source) (ordinary_world (units_between (chars (string_bytes s))) source.appended) found refl refl
+
 pub source-world : (source : Source) (style : Option ℕ) (snippet : Option (String Global)) (o : Option ℕ) → IsSourceWith source style snippet o →
     world_with (kept_of o (chars source.input.now) style snippet source.appended) source
     ≡ world (chars source.input.now) style (seen_snippet snippet) source.appended
@@ -106,7 +116,7 @@ source-world source (Some n) (Some s) (Some e) k =
 source-world source None (Some s) (Some e) k =
     cond_both (is_longer (chars source.input.now) None (Some (chars (string_bytes s))) source.appended) (Some s) None
     (λ o. world_with o source ≡ ordinary_world (units_between (chars (string_bytes s))) source.appended)
-    (λ yes. refl)
+    (λ yes. kept-world source s k.is_literal)
     (λ none. rw (k.offset, k.is_literal) (kept-plain source (chars (string_bytes s)) (kept source s e k) none))
     ∙ sym (world-found (chars source.input.now) None (chars (string_bytes s)) source.appended k.found.0)
 
