@@ -1,20 +1,19 @@
 -- Where the text of a source literal ends.
-use Rattle.std.proofs.Common.{◌≡◌, ◌++◌, ◌-◌, ◌+◌, ◌≤◌, ℕ, suc, Bool, true, false, List, [], ◌∷◌, refl, sym, ap, ◌∙◌, subst, zero, arith, Option, Some, None, MatchOption, IsTrue, ◌↔◌, length, replicate}
+use Rattle.std.proofs.Common.{◌≡◌, ◌++◌, ◌-◌, ◌+◌, ◌≤◌, ℕ, suc, Bool, List, [], ◌∷◌, refl, sym, ap, ◌∙◌, subst, zero, arith, Option, Some, None, MatchOption, IsTrue, ◌↔◌, length, replicate}
 use Rattle.std.proofs.Common.{chars, IsUtf8}
 use Rattle.std.specs.Prelude.{is_some, unwrap_or}
-use Rattle.std.specs.Char.{len_utf8}
 use Rattle.std.proofs.lemmas.List.{append_cancel_right}
 use Rattle.std.proofs.lemmas.Option.{none-some}
 use Rattle.rustc_parse_format.specs.Characters.{Text, byte_length}
 use Rattle.rustc_parse_format.specs.LiteralUnits.{LiteralUnit}
-use Rattle.rustc_parse_format.specs.Literal.{IsContent, IsOrdinaryLiteral, IsLiteral, IsSource, content_value, units, ordinary_frame, raw_frame, raw_closing, raw_opening, newline}
+use Rattle.rustc_parse_format.specs.Literal.{IsLiteral, IsSource, units, ordinary_frame, raw_frame, raw_closing, raw_opening, newline}
 use Rattle.rustc_parse_format.specs.Source.{between}
-use Rattle.rustc_parse_format.specs.World.{ordinary_end, raw_end}
+use Rattle.rustc_parse_format.specs.World.{ordinary_end}
 use Rattle.rustc_parse_format.specs.LiteralReading.{spelled_end, units_between, literal_end, IsSourceTo}
 use Rattle.rustc_parse_format.proofs.LiteralContents.{units-complete, units-content}
 use Rattle.rustc_parse_format.proofs.LiteralEnds.{end-parts, end-from}
 use Rattle.rustc_parse_format.proofs.LiteralWidths.{width-append, width-cons, width-chars}
-use Rattle.rustc_parse_format.proofs.Sources.{between-frame, unappended-append}
+use Rattle.rustc_parse_format.proofs.Sources.{between-frame}
 
 -- the units of what stands in quotes
 pub units_between-frame : (s q : Text) (us : List LiteralUnit) → s ≡ ordinary_frame q → units q ≡ Some us → units_between s ≡ us

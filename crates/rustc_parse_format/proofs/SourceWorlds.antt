@@ -1,17 +1,16 @@
 -- The world of what a parser is given, by what is found of its source literal.
-use Rattle.std.proofs.Common.{◌≡◌, ◌+◌, ◌++◌, ◌&&◌, ℕ, Bool, true, false, List, [], refl, sym, ap, ◌∙◌, ◌∷◌, arith, Option, Some, None, IsTrue, if◌then◌else◌, chars, string_bytes}
-use Rattle.std.specs.Prelude.{is_some, unwrap_or, not, ◌==◌}
+use Rattle.std.proofs.Common.{◌≡◌, ◌+◌, ◌++◌, ◌&&◌, ℕ, Bool, true, false, [], refl, sym, ap, ◌∙◌, ◌∷◌, arith, Option, Some, None, IsTrue, if◌then◌else◌, chars, string_bytes}
+use Rattle.std.specs.Prelude.{is_some, unwrap_or}
 use Rattle.std.specs.declared.string.String.{String}
 use Rattle.std.specs.declared.alloc.Global.{Global}
-use Rattle.std.proofs.lemmas.Bool.{cond_both, cond-true, cond-false, not-false, not-true, eqb-true, true≢false, false≢true}
+use Rattle.std.proofs.lemmas.Bool.{cond_both, cond-true, cond-false, not-false, eqb-true}
 use Rattle.rustc_parse_format.specs.declared.source.Source.{Source}
 use Rattle.rustc_parse_format.specs.Characters.{Text, byte_length}
-use Rattle.rustc_parse_format.specs.LiteralUnits.{LiteralUnit}
-use Rattle.rustc_parse_format.specs.Literal.{IsContent, IsOrdinaryLiteral, content_value, ordinary_frame, newline, units}
-use Rattle.rustc_parse_format.specs.Source.{is_source, HasSource, between}
+use Rattle.rustc_parse_format.specs.Literal.{content_value, ordinary_frame, newline}
+use Rattle.rustc_parse_format.specs.Source.{is_source, HasSource}
 use Rattle.rustc_parse_format.specs.Seen.{seen_snippet}
 use Rattle.rustc_parse_format.specs.World.{World, world, literal_world, plain_world, ordinary_world, ordinary_end, quote_offset, foreign_end}
-use Rattle.rustc_parse_format.specs.LiteralReading.{IsFound, IsSourceTo, is_longer, plain_end, literal_end, units_between}
+use Rattle.rustc_parse_format.specs.LiteralReading.{IsFound, IsSourceTo, is_longer, plain_end, units_between}
 use Rattle.rustc_parse_format.specs.SeenSource.{IsOrdinary, IsKeptIn, world_with}
 use Rattle.rustc_parse_format.proofs.LiteralContents.{units-complete}
 use Rattle.rustc_parse_format.proofs.LiteralWidths.{width-append, width-cons}

@@ -1,6 +1,6 @@
-use Rattle.std.proofs.Common.{◌≡◌, ◌≢◌, ◌+◌, ◌-◌, ◌≤◌, None, Some, [], ℕ, Bool, true, false, ap, sym, ◌∙◌, chars, length, arith, if◌then◌else◌}
+use Rattle.std.proofs.Common.{◌≡◌, ◌≢◌, ◌+◌, ◌-◌, ◌≤◌, None, Some, [], true, false, ap, sym, ◌∙◌, chars, length, arith, if◌then◌else◌}
 use Rattle.std.proofs.lemmas.Bool.{both_ways}
-use Rattle.rustc_parse_format.specs.Characters.{byte_length, behind_first, begins_with}
+use Rattle.rustc_parse_format.specs.Characters.{byte_length, begins_with}
 use Rattle.rustc_parse_format.specs.LiteralUnits.{meaning, unit_at, at_most_one}
 use Rattle.rustc_parse_format.specs.LiteralReading.{spelled_end}
 use Rattle.rustc_parse_format.proofs.LiteralMeanings.{meaning-narrower}
