@@ -200,7 +200,7 @@ fn raw_end(snippet: &str, hashes: usize, text: &str) -> Option<usize>
 }
 
 /// Where the text of the source literal of the input ends, or `None` if the snippet is not its source literal.
-pub fn source_end(
+pub(crate) fn source_end(
     input: &str,
     style: Option<usize>,
     snippet: &str,
