@@ -20,7 +20,7 @@ unfolding placed
 placed-none at [] n e = absurd (n refl)
 placed-none at (c ∷ t) n e = ap (option_map (placed_characters at)) (units-none c t (meaning-none _ e))
 
-past : (at end : ℕ) (t v r : Text) → at + byte_length t ≡ end + byte_length r → (m : Means (unit_at t) v r) → at + byte_length (spelling m.unit) ≡ end
+pub past : (at end : ℕ) (t v r : Text) → at + byte_length t ≡ end + byte_length r → (m : Means (unit_at t) v r) → at + byte_length (spelling m.unit) ≡ end
 past at end t v r e m = omega (arith, width-append (spelling m.unit) r, ap byte_length (unit_at-front t m.unit r m.is_it).split)
 
 placed-nothing : (at end : ℕ) (t r : Text) → meaning (unit_at t) ≡ Some ([], r) → at + byte_length t ≡ end + byte_length r →

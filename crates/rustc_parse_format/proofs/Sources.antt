@@ -73,16 +73,3 @@ pub has_source : (input : Text) (style : Option ℕ) (snippet : Option Text) (b 
 unfolding is_source
 has_source input style None b = ((λ h. cc h), (λ h. absurd h))
 has_source input style (Some snippet) b = (source-found input style snippet b, found-source input style snippet b)
-
--- two tests of one fact are one
-same_test : (a b : Bool) (P : Type 0) → IsTrue a ↔ P → IsTrue b ↔ P → a ≡ b
-same_test true true P f g = refl
-same_test true false P f g = let h : IsTrue false = g.1 (f.0 refl) in cc h
-same_test false true P f g = let h : IsTrue false = f.1 (g.0 refl) in cc h
-same_test false false P f g = refl
-
--- a test of the relation is the test
-pub source_test : (b : Bool) (input : Text) (style : Option ℕ) (snippet : Text) (appended : Bool) →
-    IsTrue b ↔ IsSource input style snippet appended → b ≡ is_source input style (Some snippet) appended
-source_test b input style snippet appended h =
-    same_test b (is_source input style (Some snippet) appended) (IsSource input style snippet appended) h (has_source input style (Some snippet) appended)

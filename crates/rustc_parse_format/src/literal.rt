@@ -1,10 +1,9 @@
 //! String literals as they are written in a program: the characters of a content with their places, and which snippet
 //! is the source literal of an input.
 
-ghost use Rattle.std.specs.Prelude.{◌≡◌, ◌↔◌, ◌++◌, ℕ, List, [], IsTrue, IfOk, IsOk, IfSome, IfNone, MatchOption, chars, option_map, true, replicate};
+ghost use Rattle.std.specs.Prelude.{◌≡◌, ◌↔◌, ◌++◌, ℕ, List, [], Some, None, IsTrue, IfOk, IsOk, IfSome, IfNone, MatchOption, chars, option_map, true, replicate};
 ghost use Rattle.rustc_parse_format.specs.Literal.{IsNoContent, IsOrdinaryLiteral, IsReadAs, IsSource, newline, ordinary_frame, raw_closing, raw_frame, raw_opening};
-ghost use Rattle.rustc_parse_format.specs.LiteralReading.{IsTaken, placed, seen_characters};
-ghost use Rattle.rustc_parse_format.specs.Source.{spells};
+ghost use Rattle.rustc_parse_format.specs.LiteralReading.{IsSourceTo, IsTaken, literal_end, placed, seen_characters, spelled_end};
 
 mod rest;
 mod unit;
@@ -86,33 +85,40 @@ pub fn between_quotes(snippet: &str) -> Option<&str>
     }
 }
 
-/// Whether the text is what the content stands for.
-#[tactic(auto, using(crate::proofs::LiteralSpelling::spelling_steps))]
-fn stands_for(content: &str, text: &str) -> bool
-    ensures { result ≡ spells (chars content.now) (chars text.now) }
+/// Where the text ends for which the content stands, one byte more for the quote in front of it, or `None` if the
+/// content does not stand for the text.
+#[tactic(auto, using(crate::proofs::LiteralEnds::end_steps))]
+fn spelled_end(content: &str, text: &str) -> Option<usize>
+    ensures { result ≡ spelled_end 1 1 (chars content.now) (chars text.now) }
 {
+    let total = content.len() + 1;
     let mut rest = Rest::new(content);
     let mut wanted = Rest::new(text);
+    let mut end = 1;
     while !rest.is_empty() {
         let Some(value) = read_unit(&mut rest) else {
-            return false;
+            return None;
         };
         if let Some(c) = value {
             if !wanted.next_is(c) {
-                return false;
+                return None;
             }
+            end = total - rest.len();
         }
     }
-    wanted.is_empty()
+    if wanted.is_empty() { Some(end) } else { None }
 }
 
-/// Whether the snippet is an ordinary literal that stands for the text.
-fn is_ordinary_literal(snippet: &str, text: &str) -> bool
-    ensures { IsTrue result ↔ IsOrdinaryLiteral (chars snippet.now) (chars text.now) }
+/// Where the text ends for which an ordinary literal stands, or `None` if the snippet is no such literal.
+fn ordinary_end(snippet: &str, text: &str) -> Option<usize>
+    ensures { MatchOption result
+        (IsOrdinaryLiteral (chars snippet.now) (chars text.now) → ⊥)
+        (λ e. IsOrdinaryLiteral (chars snippet.now) (chars text.now)
+        × (e ≡ literal_end None (chars snippet.now))) }
 {
     match between_quotes(snippet) {
-        Some(content) => stands_for(content, text),
-        None => false,
+        Some(content) => spelled_end(content, text),
+        None => None,
     }
 }
 
@@ -179,6 +185,38 @@ fn is_raw_literal(snippet: &str, hashes: usize, text: &str) -> bool
     takes_closing(&mut rest, hashes) && rest.is_empty()
 }
 
+/// Where the text ends for which a raw literal with so many hashes stands, or `None` if the snippet is no such literal.
+fn raw_end(snippet: &str, hashes: usize, text: &str) -> Option<usize>
+    ensures { MatchOption result
+        (chars snippet.now ≡ raw_frame hashes (chars text.now) → ⊥)
+        (λ e. (chars snippet.now ≡ raw_frame hashes (chars text.now))
+        × (e ≡ literal_end (Some hashes) (chars snippet.now))) }
+{
+    if is_raw_literal(snippet, hashes, text) {
+        Some(snippet.len() - hashes - 1)
+    } else {
+        None
+    }
+}
+
+/// Where the text of the source literal of the input ends, or `None` if the snippet is not its source literal.
+pub(crate) fn source_end(
+    input: &str,
+    style: Option<usize>,
+    snippet: &str,
+    appended_newline: bool,
+) -> Option<usize>
+    ensures { MatchOption result
+        (IsSource (chars input.now) style (chars snippet.now) appended_newline → ⊥)
+        (λ e. IsSourceTo (chars input.now) style (chars snippet.now) appended_newline e) }
+{
+    let text = without_newline(input, appended_newline)?;
+    match style {
+        None => ordinary_end(snippet, text),
+        Some(hashes) => raw_end(snippet, hashes, text),
+    }
+}
+
 /// Whether the snippet is the source literal of the input. A raw literal is named by the number of its hashes.
 pub fn is_source_literal(
     input: &str,
@@ -188,13 +226,7 @@ pub fn is_source_literal(
 ) -> bool
     ensures { IsTrue result ↔ IsSource (chars input.now) style (chars snippet.now) appended_newline }
 {
-    let Some(text) = without_newline(input, appended_newline) else {
-        return false;
-    };
-    match style {
-        None => is_ordinary_literal(snippet, text),
-        Some(hashes) => is_raw_literal(snippet, hashes, text),
-    }
+    source_end(input, style, snippet, appended_newline).is_some()
 }
 
 #[cfg(test)]

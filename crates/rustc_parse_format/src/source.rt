@@ -64,7 +64,7 @@ fn character_width(text: &str) -> usize
 }
 
 /// How many bytes the continuations at the front take, where a character comes after them, or else 0.
-fn continuations_width(text: &str) -> usize
+pub fn continuations_width(text: &str) -> usize
     ensures { (q : Text) (us : List LiteralUnit) → IsContent q us → chars text.now ≡ closed_by_quote q → result ≡ gap us }
 {
     let mut rest = Rest::new(text);

@@ -1,12 +1,13 @@
 //! Where the input stands in the source.
 
-ghost use Rattle.std.specs.Prelude.{◌≡◌, ◌+◌, ◌<◌, ◌^◌, chars, length};
+ghost use Rattle.std.specs.Prelude.{◌≡◌, ◌+◌, ◌<◌, ◌^◌, chars, length, if◌then◌else◌, None};
+ghost use Rattle.rustc_parse_format.specs.LiteralReading.{IsFound, is_longer, plain_end};
 ghost use Rattle.rustc_parse_format.specs.Seen.{seen_snippet};
 ghost use Rattle.rustc_parse_format.specs.SeenSource.{IsKept, IsPlaced, seen_world};
 ghost use Rattle.rustc_parse_format.specs.World.{hashes, quote_offset, world};
 
-use crate::literal::is_source_literal;
-use crate::source::Source;
+use crate::literal::source_end;
+use crate::source::{Source, continuations_width};
 
 /// What stands in front of the text, in bytes: a quote, or `r`, the hashes and a quote.
 pub fn quote_offset(style: Option<usize>) -> usize
@@ -19,7 +20,62 @@ pub fn quote_offset(style: Option<usize>) -> usize
     }
 }
 
-/// Where an input stands in its source.
+/// Where a text ends that has no source literal: with the snippet, or else with the input, without its appended newline.
+fn plain_end(input: &str, snippet: &Option<String>, appended_newline: bool) -> usize
+    ensures { result
+        ≡ plain_end (chars input.now) (seen_snippet snippet.now) appended_newline }
+{
+    match snippet {
+        Some(text) => text.as_str().len(),
+        None if appended_newline => input.len().saturating_sub(1),
+        None => input.len(),
+    }
+}
+
+/// Where the text of the source literal of the input ends, if a snippet was given and is its source literal.
+fn found_end(
+    input: &str,
+    style: Option<usize>,
+    snippet: &Option<String>,
+    appended_newline: bool,
+) -> Option<usize>
+    ensures { IsFound (chars input.now) style
+        (seen_snippet snippet.now) appended_newline result }
+{
+    match snippet {
+        Some(text) => source_end(input, style, text.as_str(), appended_newline),
+        None => None,
+    }
+}
+
+/// Whether an ordinary source literal is longer than what it stands for, so that it has escapes.
+fn is_longer(
+    input: &str,
+    style: Option<usize>,
+    snippet: &Option<String>,
+    appended_newline: bool,
+) -> bool
+    requires { length input.now + 2 < 2 ^ 64 }
+    ensures { result ≡ is_longer (chars input.now) style
+        (seen_snippet snippet.now) appended_newline }
+{
+    match (style, snippet) {
+        (None, Some(text)) => {
+            let quotes = if appended_newline { 1 } else { 2 };
+            text.as_str().len() != input.len() + quotes
+        }
+        _ => false,
+    }
+}
+
+/// The snippet, if it is to be kept.
+fn kept_if(is_kept: bool, snippet: Option<String>) -> Option<String>
+    ensures { result ≡ (if is_kept then snippet else None) }
+{
+    if is_kept { snippet } else { None }
+}
+
+/// Where an input stands in its source, by the style of its literal, the snippet, and whether a newline was appended.
 pub fn source_of<'input>(
     input: &'input str,
     style: Option<usize>,
@@ -28,17 +84,35 @@ pub fn source_of<'input>(
 ) -> Source<'input>
     requires { hashes style + length input.now + 2 < 2 ^ 64 }
     ensures input { result.input.now ≡ input.now }
-    ensures world { seen_world result ≡ world (chars input.now) style (seen_snippet snippet) appended_newline }
+    ensures world { seen_world result ≡ world (chars input.now) style
+        (seen_snippet snippet) appended_newline }
     ensures fits { result.offset + length input.now < 2 ^ 64 }
     ensures kept { IsKept result }
 {
-    Source { input, is_literal: false, offset: quote_offset(style), end: input.len(), kept: None, appended: appended_newline }
+    let offset = quote_offset(style);
+    let found = found_end(input, style, &snippet, appended_newline);
+    let is_literal = found.is_some();
+    let is_kept = is_literal && is_longer(input, style, &snippet, appended_newline);
+    let end = found.unwrap_or(plain_end(input, &snippet, appended_newline));
+    let kept = kept_if(is_kept, snippet);
+    Source {
+        input,
+        is_literal,
+        offset,
+        end,
+        kept,
+        appended: appended_newline,
+    }
 }
 
 /// Where the first character stands in the snippet, if that is kept.
 pub fn first_byte(source: &Source<'_>) -> usize
     requires { IsKept source.now }
-    ensures { IsPlaced source.now.kept (seen_world source.now) (chars source.now.input.now) result }
+    ensures { IsPlaced source.now.kept
+        (seen_world source.now) (chars source.now.input.now) result }
 {
-    0
+    match &source.kept {
+        Some(snippet) => 1 + continuations_width(&snippet.as_str()[1..]),
+        None => 0,
+    }
 }

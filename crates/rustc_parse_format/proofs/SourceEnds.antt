@@ -1,0 +1,78 @@
+-- Where the text of a source literal ends.
+use Rattle.std.proofs.Common.{◌≡◌, ◌++◌, ◌-◌, ◌+◌, ◌≤◌, ℕ, suc, Bool, List, [], ◌∷◌, refl, sym, ap, ◌∙◌, subst, zero, arith, Option, Some, None, MatchOption, IsTrue, ◌↔◌, length, replicate}
+use Rattle.std.proofs.Common.{chars, IsUtf8}
+use Rattle.std.specs.Prelude.{is_some, unwrap_or}
+use Rattle.std.proofs.lemmas.List.{append_cancel_right}
+use Rattle.std.proofs.lemmas.Option.{none-some}
+use Rattle.rustc_parse_format.specs.Characters.{Text, byte_length}
+use Rattle.rustc_parse_format.specs.LiteralUnits.{LiteralUnit}
+use Rattle.rustc_parse_format.specs.Literal.{IsLiteral, IsSource, units, ordinary_frame, raw_frame, raw_closing, raw_opening, newline}
+use Rattle.rustc_parse_format.specs.Source.{between}
+use Rattle.rustc_parse_format.specs.World.{ordinary_end}
+use Rattle.rustc_parse_format.specs.LiteralReading.{spelled_end, units_between, literal_end, IsSourceTo}
+use Rattle.rustc_parse_format.proofs.LiteralContents.{units-complete, units-content}
+use Rattle.rustc_parse_format.proofs.LiteralEnds.{end-parts, end-from}
+use Rattle.rustc_parse_format.proofs.LiteralWidths.{width-append, width-cons, width-chars}
+use Rattle.rustc_parse_format.proofs.Sources.{between-frame}
+
+-- the units of what stands in quotes
+pub units_between-frame : (s q : Text) (us : List LiteralUnit) → s ≡ ordinary_frame q → units q ≡ Some us → units_between s ≡ us
+units_between-frame s q us f h = ap (λ t. unwrap_or (units t) []) (ap between f ∙ between-frame q) ∙ ap (λ o. unwrap_or o []) h
+
+same_content : (s p q : Text) → s ≡ ordinary_frame p → s ≡ ordinary_frame q → p ≡ q
+same_content s p q f g =
+    let both : 34 ∷ (p ++ 34 ∷ []) ≡ 34 ∷ (q ++ 34 ∷ []) = sym f ∙ g in
+    let behind : p ++ 34 ∷ [] ≡ q ++ 34 ∷ [] = cc in
+    append_cancel_right p q (34 ∷ []) behind
+
+-- what is told of a literal: it is none, or one whose text ends there
+abbrev pub Ends : Option ℕ → Text → Text → Option ℕ → Type 0
+Ends style s t o = MatchOption o (IsLiteral style s t → ⊥) (λ e. IsLiteral style s t × (e ≡ literal_end style s))
+
+pub ordinary-ends : (s q t : Text) → s ≡ ordinary_frame q → (o : Option ℕ) → o ≡ spelled_end 1 1 q t → Ends None s t o
+ordinary-ends s q t f None g =
+    λ l. let same : l.0 ≡ q = same_content s l.0 q l.2 f in
+    none-some _ (g ∙ end-from 1 1 q t l.1 (ap units (sym same) ∙ units-complete l.0 l.1 l.3) l.4)
+ordinary-ends s q t f (Some e) g =
+    let parts = end-parts 1 1 e q t (sym g) in
+    ((q, parts.0, f, units-content q parts.0 parts.1, parts.2), parts.3 ∙ ap ordinary_end (sym (units_between-frame s q parts.0 f parts.1)))
+
+width-hashes : (n : ℕ) → byte_length (replicate n 35) ≡ n
+width-hashes zero = refl
+width-hashes (suc n) = omega (arith, width-cons 35 (replicate n 35), width-hashes n)
+
+-- a raw literal has room for the quote and the hashes at its end
+pub raw-room : (n : ℕ) (bs : List ℕ) (t : Text) → IsUtf8 bs → chars bs ≡ raw_frame n t → n + 1 ≤ length bs
+raw-room n bs t u e = omega (
+  arith,
+  width-chars bs u,
+  ap byte_length e,
+  width-append (raw_opening n ++ t) (raw_closing n),
+  width-cons 34 (replicate n 35),
+  width-hashes n,
+)
+
+pub raw-ends : (n : ℕ) (bs : List ℕ) (t : Text) → IsUtf8 bs → chars bs ≡ raw_frame n t → Ends (Some n) (chars bs) t (Some (length bs - n - 1))
+raw-ends n bs t u e = (e, omega (arith, width-chars bs u))
+
+-- the same of the source literal of an input
+abbrev pub EndsSource : Text → Option ℕ → Text → Bool → Option ℕ → Type 0
+EndsSource input style s appended o =
+    MatchOption o (IsSource input style s appended → ⊥) (λ e. IsSourceTo input style s appended e)
+
+pub source-ends : (input : Text) (style : Option ℕ) (s : Text) (appended : Bool) (t : Text) (o : Option ℕ) → t ++ newline appended ≡ input →
+    Ends style s t o → EndsSource input style s appended o
+source-ends input style s appended t None f h =
+    λ l. let same : l.0 ≡ t = append_cancel_right l.0 t (newline appended) (l.2 ∙ sym f) in
+    h (subst (IsLiteral style s) same l.1)
+source-ends input style s appended t (Some e) f h = ((t, h.0, f), h.1)
+
+pub no-source : (input : Text) (style : Option ℕ) (s : Text) (appended : Bool) →
+    ((t : List ℕ) → t ++ newline appended ≡ input → ⊥) → IsSource input style s appended → ⊥
+no-source input style s appended f l = f l.0 l.2
+
+-- the test alone
+pub is_source-from_end : (input : Text) (style : Option ℕ) (s : Text) (appended : Bool) (o : Option ℕ) → EndsSource input style s appended o →
+    IsTrue (is_some o) ↔ IsSource input style s appended
+is_source-from_end input style s appended None h = ((λ b. cc b), (λ l. absurd (h l)))
+is_source-from_end input style s appended (Some e) h = ((λ b. h.0), (λ l. refl))

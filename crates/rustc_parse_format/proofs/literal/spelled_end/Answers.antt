@@ -1,0 +1,70 @@
+use Rattle.std.proofs.Common.{◌≡◌, ◌≢◌, ◌+◌, ◌-◌, ◌≤◌, None, Some, [], true, false, ap, sym, ◌∙◌, chars, length, arith, if◌then◌else◌}
+use Rattle.std.proofs.lemmas.Bool.{both_ways}
+use Rattle.rustc_parse_format.specs.Characters.{byte_length, begins_with}
+use Rattle.rustc_parse_format.specs.LiteralUnits.{meaning, unit_at, at_most_one}
+use Rattle.rustc_parse_format.specs.LiteralReading.{spelled_end}
+use Rattle.rustc_parse_format.proofs.LiteralMeanings.{meaning-narrower}
+use Rattle.rustc_parse_format.proofs.LiteralWidths.{width-chars}
+use Rattle.rustc_parse_format.proofs.LiteralEnds.{end-none, end-nothing, end-differs, end-agrees, end-over}
+use Rattle.rustc_parse_format.proofs.literal.spelled_end.Goals as goal
+
+pub loop-rest-init : goal.loop-rest-init
+loop-rest-init c =
+    let w = width-chars c.args.content.now c.utf8.content in
+    let n : length c.args.content.now + 1 - byte_length (chars c.args.content.now) ≡ 1 = omega arith in
+    rw (c.new-rest.ensures, c.new-wanted.ensures) (record { answer = ap (λ k. spelled_end k 1 (chars c.args.content.now) (chars c.args.text.now)) n; within = omega arith })
+
+pub returns-in_default : goal.returns-in_default
+returns-in_default c =
+    let some : c.loop-rest.rest ≢ [] = λ e. both_ways _ c.loop-rest-test.true (c.is_empty.ensures.1 e) in
+    sym (end-none _ c.loop-rest.end c.loop-rest.rest c.loop-rest.wanted some c.in_default.ensures) ∙ c.loop-rest.invariant.answer
+
+pub returns-then-not-next_is : goal.returns-then-not-next_is
+returns-then-not-next_is c =
+    let total = length c.args.content.now + 1 in
+    let within = c.loop-rest.invariant.within in
+    let narrower : byte_length c.read_unit.new.rest ≤ byte_length c.loop-rest.rest = meaning-narrower c.loop-rest.rest
+    (at_most_one c.in-Some.value) c.read_unit.new.rest c.in-Some.ensures in
+    let differs : begins_with c.in-Some-value.c c.loop-rest.wanted ≡ false = sym c.next_is.ensures.value ∙ c.if-not-next_is.true in
+    sym (end-differs (total - byte_length c.loop-rest.rest) (total - byte_length c.read_unit.new.rest) c.loop-rest.end c.loop-rest.rest c.read_unit.new.rest c.loop-rest.wanted
+    c.in-Some.value c.in-Some-value.c c.in-Some.ensures c.in-Some-value.is (omega arith) differs) ∙ c.loop-rest.invariant.answer
+
+pub loop-rest-preserved-in-Some-value : goal.loop-rest-preserved-in-Some-value
+loop-rest-preserved-in-Some-value c =
+    let total = length c.args.content.now + 1 in
+    let within = c.loop-rest.invariant.within in
+    let narrower : byte_length c.read_unit.new.rest ≤ byte_length c.loop-rest.rest = meaning-narrower c.loop-rest.rest
+    (at_most_one c.in-Some.value) c.read_unit.new.rest c.in-Some.ensures in
+    let agrees : begins_with c.in-Some-value.c c.loop-rest.wanted ≡ true = sym c.next_is.ensures.value ∙ c.if-not-next_is.false in
+    record {
+      answer = rw (c.len.ensures, c.next_is.ensures.rest) (sym (end-agrees (total - byte_length c.loop-rest.rest) (total - byte_length c.read_unit.new.rest)
+          c.loop-rest.end c.loop-rest.rest c.read_unit.new.rest c.loop-rest.wanted c.in-Some.value c.in-Some-value.c c.in-Some.ensures c.in-Some-value.is (omega arith) agrees)
+          ∙ c.loop-rest.invariant.answer);
+      within = omega arith;
+    }
+
+pub loop-rest-preserved : goal.loop-rest-preserved
+loop-rest-preserved c =
+    let total = length c.args.content.now + 1 in
+    let within = c.loop-rest.invariant.within in
+    let narrower : byte_length c.read_unit.new.rest ≤ byte_length c.loop-rest.rest = meaning-narrower c.loop-rest.rest
+    (at_most_one c.in-Some.value) c.read_unit.new.rest c.in-Some.ensures in
+    let nothing : meaning (unit_at c.loop-rest.rest) ≡ Some ([], c.read_unit.new.rest) =
+    c.in-Some.ensures ∙ ap (λ x. Some (at_most_one x, c.read_unit.new.rest)) c.in_default-value.is in
+    record {
+      answer = sym (end-nothing (total - byte_length c.loop-rest.rest) (total - byte_length c.read_unit.new.rest) c.loop-rest.end c.loop-rest.rest
+          c.read_unit.new.rest c.loop-rest.wanted nothing (omega arith)) ∙ c.loop-rest.invariant.answer;
+      within = omega arith;
+    }
+
+pub returns-then-is_empty : goal.returns-then-is_empty
+returns-then-is_empty c =
+    let over = end-over (length c.args.content.now + 1 - byte_length c.loop-rest.rest) c.loop-rest.end c.loop-rest.rest c.loop-rest.wanted c.is_empty-2.result
+    (c.is_empty.ensures.0 c.loop-rest-test.false) c.is_empty-2.ensures in
+    sym (over ∙ ap (λ b. if b then Some c.loop-rest.end else None) c.if-is_empty.true) ∙ c.loop-rest.invariant.answer
+
+pub returns-else-is_empty : goal.returns-else-is_empty
+returns-else-is_empty c =
+    let over = end-over (length c.args.content.now + 1 - byte_length c.loop-rest.rest) c.loop-rest.end c.loop-rest.rest c.loop-rest.wanted c.is_empty-2.result
+    (c.is_empty.ensures.0 c.loop-rest-test.false) c.is_empty-2.ensures in
+    sym (over ∙ ap (λ b. if b then Some c.loop-rest.end else None) c.if-is_empty.false) ∙ c.loop-rest.invariant.answer
