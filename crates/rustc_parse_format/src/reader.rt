@@ -131,10 +131,7 @@ impl<'source, 'input> Reader<'source, 'input> {
     }
 
     /// Moves over the run of text at the front of a source literal, line by line.
-    fn skip_lines<L: Ledger>(
-        &mut self,
-        trail: &mut Trail<'input, L>,
-    ) -> Result<(), AllocError>
+    fn skip_lines<L: Ledger>(&mut self, trail: &mut Trail<'input, L>) -> Result<(), AllocError>
         requires { IsTrue self.old.world.has_source }
         ensures state { OnOk result (self.new ≡ read_run self.old) }
         ensures spare { IsInOneLine self.old → IsOk result }
