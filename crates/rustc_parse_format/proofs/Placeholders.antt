@@ -3,7 +3,7 @@ use Rattle.std.proofs.Common.{◌≡◌, ◌++◌, ◌==◌, ℕ, Bool, true, fa
 use Rattle.std.specs.Prelude.{if◌then◌else◌, option_map}
 use Rattle.std.proofs.lemmas.Bool.{cond_both}
 use Rattle.std.proofs.lemmas.List.{append-nil, map-append}
-use Rattle.rustc_parse_format.specs.Characters.{Text, behind_white, behind_brace, behind_first, begins_with, first}
+use Rattle.rustc_parse_format.specs.Characters.{Text, is_brace, behind_white, behind_brace, behind_first, begins_with, first}
 use Rattle.rustc_parse_format.specs.Marks.{Span, Start, End, up_to, through, over_first}
 use Rattle.rustc_parse_format.specs.Types.{Mode, Spec, NextArgument, map_spec}
 use Rattle.rustc_parse_format.specs.Placeholder.{cut}
@@ -149,3 +149,19 @@ opened mode c b t e h k = placeholder_boxed mode c (123 ∷ t) t (rw (e, h) at k
 pub placeholder_takes : (mode : Mode) (c : ℕ) (t : Text) → first t ≡ Some 123 → begins_with 123 (behind_first t) ≡ false → GivesAtMostText (call mode c t) → ⊥
 placeholder_takes mode c [] e h k = cc e
 placeholder_takes mode c (b ∷ t) e h k = opened mode c b t (cc) h k.0
+
+closes_at : (mode : Mode) (c b : ℕ) (t : Text) → GivesNoArgument (call mode c (b ∷ t)).piece → (call mode c (b ∷ t)).closes ≡ None
+unfolding call
+closes_at mode c b t =
+    cond_both {A = Call} (is_brace b) _ _ (λ k. GivesNoArgument k.piece → k.closes ≡ None)
+    (λ e. cond_both {A = Call} (begins_with b t) _ _ (λ k. GivesNoArgument k.piece → k.closes ≡ None)
+    (λ d. λ h. refl)
+    (λ d. cond_both {A = Call} (b == 123) _ _ (λ k. GivesNoArgument k.piece → k.closes ≡ None)
+    (λ o. λ h. absurd (placeholder_boxed mode c (b ∷ t) t h)) (λ o. λ h. refl)))
+    (λ e. λ h. refl)
+
+-- a call that gives no argument closes nothing
+pub closes_nothing : (mode : Mode) (c : ℕ) (t : Text) → GivesNoArgument (call mode c t).piece → (call mode c t).closes ≡ None
+unfolding call
+closes_nothing mode c [] h = refl
+closes_nothing mode c (b ∷ t) h = closes_at mode c b t h

@@ -1,10 +1,18 @@
 -- What a reader stands at after several parts.
-use Rattle.std.proofs.Common.{◌≡◌, ◌++◌, ℕ, List, [], sym, ap, ◌∙◌, append_assoc}
+use Rattle.std.proofs.Common.{◌≡◌, ◌++◌, ℕ, suc, List, [], Option, sym, ap, ◌∙◌, append_assoc}
 use Rattle.std.proofs.lemmas.List.{append-nil, map-append}
 use Rattle.rustc_parse_format.specs.Characters.{Text}
 use Rattle.rustc_parse_format.specs.Faults.{Fault, map_fault}
 use Rattle.rustc_parse_format.specs.Marks.{Span}
-use Rattle.rustc_parse_format.specs.Midway.{Midway, read_to}
+use Rattle.std.specs.Prelude.{if◌then◌else◌, is_some}
+use Rattle.rustc_parse_format.specs.Characters.{behind_white}
+use Rattle.rustc_parse_format.specs.Types.{Mode, Position}
+use Rattle.rustc_parse_format.specs.Specification.{specification}
+use Rattle.rustc_parse_format.specs.Placeholder.{cut, position}
+use Rattle.rustc_parse_format.specs.Values.{given_position, number_after_field, number_after_position, number_after_spec}
+use Rattle.rustc_parse_format.specs.PartFaults.{argument_faults, cut_faults, spec_faults}
+use Rattle.rustc_parse_format.specs.Call.{spec_texts}
+use Rattle.rustc_parse_format.specs.Midway.{Midway, read_texts, read_to}
 use Rattle.rustc_parse_format.specs.World.{Place, faults_in, place_of}
 
 -- where nothing is read
@@ -20,3 +28,26 @@ read_on s r q n m fs gs = ap (λ (hs : List (Fault Place)). record s { rest = q;
 pub read_three : (s : Midway) (r q o : Text) (n m k : ℕ) (fs gs hs : List (Fault Span)) →
     read_to (read_to (read_to s r n fs) q m gs) o k hs ≡ read_to s o k (fs ++ gs ++ hs)
 read_three s r q o n m k fs gs hs = ap (λ (x : Midway). read_to x o k hs) (read_on s r q n m fs gs) ∙ read_on s q o m k (fs ++ gs) hs
+
+-- after white space and a specification, and the number of a position that is given or is the next one
+abbrev pub behind_specification : Mode → Option Position → Midway → Midway
+behind_specification mode given s =
+    let t = behind_white s.rest in
+    let p = specification mode t in
+    let n = number_after_spec s.next p.0 in
+    record (read_texts (read_to s p.1 n (spec_faults t p.0 p.1)) (spec_texts p.0 p.1)) { next = if is_some given then n else suc n }
+
+-- an argument: its position, white space and its specification
+pub argument_read : (s : Midway) (mode : Mode) (given : Option Position) → given ≡ given_position (position s.rest).0 →
+    behind_specification mode given (read_to s (position s.rest).1 s.next (argument_faults s.rest))
+    ≡ (let a = cut mode s.rest in read_texts (read_to s a.rest (number_after_field s.next a.field) (cut_faults a)) (spec_texts a.field.spec a.rest))
+unfolding cut cut_faults number_after_field
+argument_read s mode given e =
+    let t = behind_white (position s.rest).1 in
+    let p = specification mode t in
+    rw e (ap (λ (fs : List (Fault Place)). record (read_texts s (spec_texts p.0 p.1)) {
+      rest = p.1;
+      next = number_after_position (number_after_spec s.next p.0) (position s.rest).0;
+      faults = fs;
+    }) (append_assoc s.faults (faults_in s.world (argument_faults s.rest)) (faults_in s.world (spec_faults t p.0 p.1))
+    ∙ ap (λ hs. s.faults ++ hs) (sym (map-append (map_fault (place_of s.world)) (argument_faults s.rest) (spec_faults t p.0 p.1)))))

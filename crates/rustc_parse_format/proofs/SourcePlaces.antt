@@ -1,7 +1,7 @@
 -- Where a cursor stands in its source: in a plain world by the bytes of what is left, else by the byte in the kept snippet.
-use Rattle.std.proofs.Common.{◌≡◌, ◌+◌, ◌-◌, ℕ, Bool, true, false, List, [], ◌∷◌, length, chars, refl, ap, sym, ◌∙◌, Option, Some, None, IsUtf8, arith, string_bytes}
+use Rattle.std.proofs.Common.{◌≡◌, ◌+◌, ◌-◌, ◌<◌, ◌^◌, drop, subst, ℕ, Bool, true, false, List, [], ◌∷◌, length, chars, refl, ap, sym, ◌∙◌, Option, Some, None, IsUtf8, arith, string_bytes}
 use Rattle.std.specs.Prelude.{is_some}
-use Rattle.std.proofs.lemmas.Str.{IsUtf8-from_is_utf8, chars-nil}
+use Rattle.std.proofs.lemmas.Str.{IsUtf8-from_is_utf8, is_utf8-from_IsUtf8, chars-nil}
 use Rattle.std.proofs.lemmas.List.{nil_from_length}
 use Rattle.std.proofs.lemmas.Bool.{false≢true}
 use Rattle.rustc_parse_format.specs.Bytes.{IsLeft}
@@ -93,3 +93,15 @@ passed_kept s rest behind at to snippet h e l b f = record {
     of_kept : (o : Option (String Global)) (w : World) (t : Text) (to : ℕ) (snippet : String Global) → o ≡ Some snippet →
         IsHere (string_bytes snippet) w t to → IsPlaced o w t to
     of_kept o w t to snippet e k = rw e k
+
+-- at the start of an input
+pub first_spot : (s : Source) (input : List ℕ) (at : ℕ) → IsUtf8 input → s.input.now ≡ input → s.offset + length input < 2 ^ 64 →
+    IsPlaced s.kept (seen_world s) (chars s.input.now) at → IsSpot s input at
+first_spot s input at u e fits h =
+    let valid = is_utf8-from_IsUtf8 input u in
+    let n : length input - length input ≡ 0 = omega arith in
+    record {
+      is_left = rw e (record { valid = valid; valid_rest = valid; within = omega arith; tail = ap (λ k. drop k input) n });
+      is_placed = subst (λ (t : List ℕ). IsPlaced s.kept (seen_world s) (chars t) at) e h;
+      fits = rw e fits;
+    }

@@ -7,8 +7,6 @@ use Rattle.std.proofs.Math.Seq.{drop-append-add}
 use Rattle.std.proofs.lemmas.Str.{encodes-chars, IsUtf8-past_char, chars_past_char, length-encode}
 use Rattle.std.proofs.lemmas.List.Sums.{sum_by-cons}
 use Rattle.rustc_parse_format.specs.Characters.{Text, behind_first, byte_length}
-use Rattle.rustc_parse_format.specs.World.{World, place_at}
-use Rattle.rustc_parse_format.specs.SeenSource.{IsHere}
 
 -- A text of bytes is cut where some of its characters end.
 pub record IsCutAt (bs : List ℕ) (p r : Text) : Type 0 where
@@ -35,9 +33,3 @@ cut_at bs (c ∷ p) r u e =
       is_text = subst IsUtf8 (sym same) k.is_text;
       chars_are = ap chars same ∙ k.chars_are;
     }
-
-pub here_start : (s : List ℕ) (w : World) (rest : Text) (at : ℕ) → IsHere s w rest at → (place_at w (length rest)).0 ≡ at
-here_start s w rest at h = ?
-
-pub here_end : (s : List ℕ) (w : World) (at : ℕ) → IsHere s w [] at → at ≡ (place_at w 0).1
-here_end s w at h = ?

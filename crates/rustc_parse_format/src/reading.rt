@@ -1,6 +1,6 @@
 //! A whole input at once.
 
-ghost use Rattle.std.specs.Prelude.{◌≡◌, ◌≢◌, ◌+◌, ◌<◌, ◌^◌, ◌↔◌, ℕ, [], List, IfOk, IsOk, IsTrue, chars, length, map};
+ghost use Rattle.std.specs.Prelude.{◌≡◌, ◌≢◌, ◌+◌, false, ◌<◌, ◌^◌, ◌↔◌, ℕ, [], List, IfOk, IsOk, IsTrue, chars, length, map};
 ghost use Rattle.rustc_parse_format.specs.Characters.{Text};
 ghost use Rattle.rustc_parse_format.specs.Grammar.{IsInGrammar, IsSpelled, Reads, StopsInside};
 ghost use Rattle.rustc_parse_format.specs.Types.{Mode, Piece as BarePiece, bare};
@@ -29,7 +29,7 @@ fn read_pieces<'input, L: Ledger>(
     ensures pieces { IfOk result (λ ps. map seen ps.items ≡ pieces_in parser.old.world (pieces_of (calls parser.old))) }
     ensures state { IfOk result (λ ps. parser.new ≡ after_all parser.old (calls parser.old)) }
     ensures few { IsStart parser.old count.old → AreFew parser.new count.new }
-    ensures empty { parser.old.rest ≡ [] → IsOk result }
+    ensures empty { parser.old.rest ≡ [] → parser.old.world.has_source ≡ false → IsOk result }
 {
     let mut pieces = Vec::new(alloc);
     while let Some(piece) = parser.next_counted(count)? {
@@ -49,7 +49,7 @@ fn read_uncounted<'input, L: Ledger>(
     requires three { blank.parts ≡ 3 }
     ensures pieces { IfOk result (λ ps. map seen ps.items ≡ pieces_in parser.old.world (pieces_of (calls parser.old))) }
     ensures state { IfOk result (λ ps. parser.new ≡ after_all parser.old (calls parser.old)) }
-    ensures empty { parser.old.rest ≡ [] → IsOk result }
+    ensures empty { parser.old.rest ≡ [] → parser.old.world.has_source ≡ false → IsOk result }
 {
     let mut count = parser.count::<L>(blank);
     read_pieces(alloc, parser, &mut count)
@@ -91,8 +91,8 @@ pub fn read_all<'input>(
     ensures first_fault { IfOk result (λ x. x.1.errors ≢ []
         → StopsInside (seen_mode mode) 0 (chars input.now) (map bare (map seen x.0.items))) }
 
-    // An empty input is read even where no memory is left.
-    ensures empty { input.now ≡ [] → IsOk result }
+    // An empty input that comes from no source literal is read even where no memory is left: it has no line to keep.
+    ensures empty { input.now ≡ [] → (HasSource (chars input.now) style (seen_snippet snippet) appended_newline → ⊥) → IsOk result }
 {
     let mut parser = Parser::new(alloc, input, style, snippet, appended_newline, mode)?;
     let pieces = read_uncounted::<Brand>(alloc, &mut parser, Blank::new(3))?;
