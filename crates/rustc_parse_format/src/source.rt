@@ -53,8 +53,9 @@ fn character_width(text: &str) -> usize
     match first(text) {
         Some('\\') => {
             let mut rest = Rest::new(text);
+            let total = rest.len();
             match read_unit(&mut rest) {
-                Some(Some(_)) => text.len() - rest.len(),
+                Some(Some(_)) => total - rest.len(),
                 _ => 0,
             }
         }
@@ -68,10 +69,14 @@ fn continuations_width(text: &str) -> usize
     ensures { (q : Text) (us : List LiteralUnit) → IsContent q us → chars text.now ≡ closed_by_quote q → result ≡ gap us }
 {
     let mut rest = Rest::new(text);
+    if !rest.begins_continuation() {
+        return 0;
+    }
+    let total = rest.len();
     rest.skip_continuations();
     match rest.peek() {
-        Some('"') | None => 0,
-        _ => text.len() - rest.len(),
+        Some('"') => 0,
+        _ => total - rest.len(),
     }
 }
 
