@@ -7,9 +7,9 @@ use Rattle.std.proofs.lemmas.Bool.{cond_both, and_parts, both_ways, false≢true
 use Rattle.std.proofs.lemmas.Option.{same_Some}
 use Rattle.rustc_parse_format.specs.Characters.{Text, behind, behind_first, begins_with, byte_length, first}
 use Rattle.rustc_parse_format.specs.LiteralUnits.{LiteralUnit, Plain, SimpleEscape, ByteEscape, UnicodeEscape, Continuation}
-use Rattle.rustc_parse_format.specs.LiteralUnits.{spelling, value, escaped, is_plain, is_skipped, is_unit, may_precede, unit_at}
+use Rattle.rustc_parse_format.specs.LiteralUnits.{spelling, value, meaning, escaped, is_plain, is_skipped, is_unit, may_precede, unit_at}
 use Rattle.rustc_parse_format.specs.Literal.{IsContent, content_value}
-use Rattle.rustc_parse_format.specs.SeenSource.{after_continuations, begins_continuation, closed_by_quote, gap, gap_to, spelled_units}
+use Rattle.rustc_parse_format.specs.SeenSource.{after_continuations, begins_continuation, character_width, taken, closed_by_quote, gap, gap_to, spelled_units}
 use Rattle.rustc_parse_format.proofs.LiteralWidths.{width-cons, width-append}
 use Rattle.rustc_parse_format.proofs.LiteralUnitLaws.{unit_at-complete}
 use Rattle.rustc_parse_format.proofs.Fronts.{behind-append}
@@ -29,6 +29,11 @@ closed-split t q u r e f = e ∙ (ap closed_by_quote f ∙ append_assoc (spellin
 pub closed-unit_at : (t q : Text) (u : LiteralUnit) (r : Text) → t ≡ closed_by_quote q → IsTrue (is_unit u) → IsTrue (may_precede u r) →
     q ≡ spelling u ++ r → unit_at t ≡ Some (u, closed_by_quote r)
 closed-unit_at t q u r e w m f = ap unit_at (closed-split t q u r e f) ∙ unit_at-complete u (closed_by_quote r) w (quote-may u r m)
+
+-- the bytes of the unit at the front, where it stands for a character
+pub width-read : (t r : Text) (c : ℕ) → meaning (unit_at t) ≡ Some (c ∷ [], r) → character_width t ≡ byte_length t - byte_length r
+unfolding character_width
+width-read t r c e = ap (taken t) e
 
 -- What is behind a front takes no more than the whole.
 pub behind-narrower : (p : ℕ → Bool) (t : Text) → byte_length (behind p t) ≤ byte_length t
@@ -139,21 +144,21 @@ after-content q (UnicodeEscape v ∷ us) h = subst (λ s. IsContent s (UnicodeEs
 after-content q (Continuation v ∷ us) (r, w, m, f, h) = after-content r us h
 
 -- A unit does not begin with a quote.
-unit-no_quote : (u : LiteralUnit) (r : Text) → IsTrue (is_unit u) → first (spelling u ++ r) ≡ Some 34 → ⊥
-unit-no_quote (Plain c) r w e =
-    let plain : is_plain 34 ≡ true = subst (λ k. is_plain k ≡ true) (same_Some c 34 e) w in false≢true plain
-unit-no_quote (SimpleEscape l) r w e = let k : ◌≡◌ {A = ℕ} 92 34 = same_Some 92 34 e in omega arith
-unit-no_quote (ByteEscape a l) r w e = let k : ◌≡◌ {A = ℕ} 92 34 = same_Some 92 34 e in omega arith
-unit-no_quote (UnicodeEscape v) r w e = let k : ◌≡◌ {A = ℕ} 92 34 = same_Some 92 34 e in omega arith
-unit-no_quote (Continuation v) r w e = let k : ◌≡◌ {A = ℕ} 92 34 = same_Some 92 34 e in omega arith
+unit-no_quote : (u : LiteralUnit) (r : Text) → IsTrue (is_unit u) → begins_with 34 (spelling u ++ r) ≡ false
+unit-no_quote (Plain c) r w = (or_parts _ _ (or_parts _ _ (not-true _ w)).0).0
+unit-no_quote (SimpleEscape l) r w = refl
+unit-no_quote (ByteEscape a l) r w = refl
+unit-no_quote (UnicodeEscape v) r w = refl
+unit-no_quote (Continuation v) r w = refl
 
-content-no_quote : (q : Text) (vs : List LiteralUnit) → IsContent q vs → first (closed_by_quote q) ≡ Some 34 → vs ≡ []
+content-no_quote : (q : Text) (vs : List LiteralUnit) → IsContent q vs → begins_with 34 (closed_by_quote q) ≡ true → vs ≡ []
 content-no_quote q [] h e = refl
 content-no_quote q (v ∷ vs) (r, w, m, f, h) e =
-    absurd (unit-no_quote v (closed_by_quote r) w (ap first (sym (closed-split (closed_by_quote q) q v r refl f)) ∙ e))
+    absurd (both_ways _ (ap (begins_with 34) (closed-split (closed_by_quote q) q v r refl f) ∙ unit-no_quote v (closed_by_quote r) w) e)
 
-content-quote : (q : Text) (vs : List LiteralUnit) → IsContent q vs → first (closed_by_quote q) ≢ Some 34 → vs ≢ []
-content-quote q vs h n e = n (ap (λ s. first (closed_by_quote s)) (subst (IsContent q) e h))
+content-quote : (q : Text) (vs : List LiteralUnit) → IsContent q vs → begins_with 34 (closed_by_quote q) ≡ false → vs ≢ []
+content-quote q vs h n e =
+    let quote : begins_with 34 (closed_by_quote q) ≡ true = ap (λ s. begins_with 34 (closed_by_quote s)) (subst (IsContent q) e h) in both_ways _ n quote
 
 -- The bytes of the continuations that are taken.
 gap_to-some : (us vs : List LiteralUnit) → vs ≢ [] → gap_to us vs ≡ byte_length (spelled_units us) - byte_length (spelled_units vs)
@@ -168,15 +173,16 @@ gap-none t q us h e b = ap (gap_to us) (continuation-none t q us h e b) ∙ same
     same (u ∷ us) = omega arith
 
 pub gap-over : (q r : Text) (us : List LiteralUnit) → IsContent q us → r ≡ closed_by_quote (spelled_units (after_continuations us)) →
-    first r ≡ Some 34 → gap us ≡ 0
+    begins_with 34 r ≡ true → gap us ≡ 0
 gap-over q r us h e f =
-    ap (gap_to us) (content-no_quote (spelled_units (after_continuations us)) (after_continuations us) (after-content q us h) (ap first (sym e) ∙ f))
+    ap (gap_to us) (content-no_quote (spelled_units (after_continuations us)) (after_continuations us) (after-content q us h)
+    (ap (begins_with 34) (sym e) ∙ f))
 
 pub gap-taken : (t q r : Text) (us : List LiteralUnit) → IsContent q us → t ≡ closed_by_quote q →
-    r ≡ closed_by_quote (spelled_units (after_continuations us)) → first r ≢ Some 34 → byte_length t - byte_length r ≡ gap us
+    r ≡ closed_by_quote (spelled_units (after_continuations us)) → begins_with 34 r ≡ false → byte_length t - byte_length r ≡ gap us
 gap-taken t q r us h e f n =
     let vs = after_continuations us in
-    let some = content-quote (spelled_units vs) vs (after-content q us h) (λ k. n (ap first f ∙ k)) in
+    let some = content-quote (spelled_units vs) vs (after-content q us h) (ap (begins_with 34) (sym f) ∙ n) in
     let whole : t ≡ closed_by_quote (spelled_units us) = e ∙ ap closed_by_quote (spelled q us h) in
     omega (arith, gap_to-some us vs some, ap byte_length whole, ap byte_length f, width-append (spelled_units us) (34 ∷ []),
     width-append (spelled_units vs) (34 ∷ []))

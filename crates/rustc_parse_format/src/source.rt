@@ -66,7 +66,8 @@ fn character_width(text: &str) -> usize
 
 /// How many bytes the continuations at the front take, where a character comes after them, or else 0.
 fn continuations_width(text: &str) -> usize
-    ensures { (q : Text) (us : List LiteralUnit) → IsContent q us → chars text.now ≡ closed_by_quote q → result ≡ gap us }
+    ensures width { (q : Text) (us : List LiteralUnit) → IsContent q us → chars text.now ≡ closed_by_quote q → result ≡ gap us }
+    ensures inside { result ≤ length text.now }
 {
     let mut rest = Rest::new(text);
     if !rest.begins_continuation() {
@@ -74,10 +75,7 @@ fn continuations_width(text: &str) -> usize
     }
     let total = rest.len();
     rest.skip_continuations();
-    match rest.peek() {
-        Some('"') => 0,
-        _ => total - rest.len(),
-    }
+    if rest.begins_with('"') { 0 } else { total - rest.len() }
 }
 
 /// Where the character after the next one starts in a snippet that is kept, if the next one starts at a byte.

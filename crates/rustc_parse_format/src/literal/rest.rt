@@ -68,11 +68,18 @@ impl<'a> Rest<'a> {
         self.next() == Some(c)
     }
 
+    /// Whether the next character is this one.
+    pub fn begins_with(&self, c: char) -> bool
+        ensures { result ≡ begins_with c self.now }
+    {
+        self.peek() == Some(c)
+    }
+
     /// Whether a continuation is at the front.
     pub fn begins_continuation(&self) -> bool
         ensures { result ≡ begins_continuation self.now }
     {
-        self.peek() == Some('\\') && first(behind_first(self.text)) == Some('\n')
+        self.begins_with('\\') && first(behind_first(self.text)) == Some('\n')
     }
 
     /// Takes all continuations at the front of a content that a quote closes.
