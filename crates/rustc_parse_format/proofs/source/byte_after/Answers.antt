@@ -9,7 +9,10 @@ pub range_from-text-requires : goal.range_from-text-requires
 range_from-text-requires c _ = IsCharBoundary-from_drop c.args.snippet.now c.args.at c.requires.within (IsUtf8-from_is_utf8 _ c.requires.valid)
 
 pub overflow_add-result : goal.overflow_add-result
-overflow_add-result c = ?
+overflow_add-result c =
+    let inside : c.character_width-width.result ≤ length c.range_from-text.result.now =
+    rw c.character_width-width.ensures (width_within c.range_from-text.result.now c.range_from-text.utf8) in
+    omega (arith, c.range_from-text.ensures.len)
 
 pub range_from-requires : goal.range_from-requires
 range_from-requires c _ = rw c.character_width-width.ensures (width_boundary c.range_from-text.result.now c.range_from-text.utf8)

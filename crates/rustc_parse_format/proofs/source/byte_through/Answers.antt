@@ -8,7 +8,10 @@ pub range_from-requires : goal.range_from-requires
 range_from-requires c _ = IsCharBoundary-from_drop c.args.snippet.now c.args.at c.requires.within (IsUtf8-from_is_utf8 _ c.requires.valid)
 
 pub overflow_add-result-else-width-eq0 : goal.overflow_add-result-else-width-eq0
-overflow_add-result-else-width-eq0 c = ?
+overflow_add-result-else-width-eq0 c =
+    let inside : c.character_width-width.result ≤ length c.range_from.result.now =
+    rw c.character_width-width.ensures (width_within c.range_from.result.now c.range_from.utf8) in
+    omega (arith, c.range_from.ensures.len)
 
 pub returns-then-width-eq0 : goal.returns-then-width-eq0
 returns-then-width-eq0 c w d rest h =
