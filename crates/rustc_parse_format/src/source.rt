@@ -1,11 +1,11 @@
 //! Where an input stands in its source, and how a place in a snippet goes on from character to character.
 
-ghost use Rattle.std.specs.Prelude.{◌≡◌, ◌≤◌, ◌-◌, ◌∷◌, List, ℕ, chars, drop, length, true};
+ghost use Rattle.std.specs.Prelude.{◌≡◌, ◌≤◌, ◌∷◌, Bool, List, ℕ, chars, drop, length, true};
 ghost use Rattle.std.specs.Str.{is_utf8};
 ghost use Rattle.rustc_parse_format.specs.Characters.{Text, behind_first};
-ghost use Rattle.rustc_parse_format.specs.Literal.{IsContent};
+ghost use Rattle.rustc_parse_format.specs.Literal.{IsContent, ordinary_frame};
 ghost use Rattle.rustc_parse_format.specs.LiteralUnits.{LiteralUnit};
-ghost use Rattle.rustc_parse_format.specs.SeenSource.{IsHere, character_width, closed_by_quote, gap};
+ghost use Rattle.rustc_parse_format.specs.SeenSource.{IsHere, IsOrdinary, character_width, closed_by_quote, gap, world_of_literal};
 ghost use Rattle.rustc_parse_format.specs.World.{World, place_at};
 
 use crate::characters::first;
@@ -76,6 +76,15 @@ fn continuations_width(text: &str) -> usize
     let total = rest.len();
     rest.skip_continuations();
     if rest.begins_with('"') { 0 } else { total - rest.len() }
+}
+
+/// Where the first character starts in a snippet that is an ordinary literal.
+pub fn byte_at_start(snippet: &str) -> usize
+    requires { (content : Text) × (chars snippet.now ≡ ordinary_frame content) }
+    ensures { (input : Text) (appended : Bool) (end : ℕ) → IsOrdinary input (chars snippet.now) appended end
+        → IsHere snippet.now (world_of_literal (chars snippet.now) appended) input result }
+{
+    1 + continuations_width(&snippet[1..])
 }
 
 /// Where the character after the next one starts in a snippet that is kept, if the next one starts at a byte.

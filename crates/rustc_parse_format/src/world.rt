@@ -6,7 +6,7 @@ ghost use Rattle.rustc_parse_format.specs.SeenSource.{IsKept, IsPlaced, seen_wor
 ghost use Rattle.rustc_parse_format.specs.World.{hashes, quote_offset, world};
 
 use crate::literal::is_source_literal;
-use crate::source::Source;
+use crate::source::{Source, byte_at_start};
 
 /// What stands in front of the text, in bytes: a quote, or `r`, the hashes and a quote.
 pub fn quote_offset(style: Option<usize>) -> usize
@@ -40,5 +40,8 @@ pub fn first_byte(source: &Source<'_>) -> usize
     requires { IsKept source.now }
     ensures { IsPlaced source.now.kept (seen_world source.now) (chars source.now.input.now) result }
 {
-    0
+    match &source.kept {
+        Some(snippet) => byte_at_start(snippet.as_str()),
+        None => 0,
+    }
 }
