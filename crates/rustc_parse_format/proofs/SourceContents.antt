@@ -1,14 +1,12 @@
 -- What stands at the front of a content that a quote closes: a unit, or continuations and then a character or the quote.
-use Rattle.std.proofs.Common.{◌≡◌, ◌≢◌, ◌≤◌, ◌<◌, ◌-◌, ◌+◌, ◌++◌, ◌==◌, ◌&&◌, ℕ, Bool, true, false, not, List, [], ◌∷◌, length, refl, ap, sym, subst, ◌∙◌, arith}
-use Rattle.std.proofs.Common.{append_assoc, append-nil, Option, Some, None}
+use Rattle.std.proofs.Common.{◌≡◌, ◌≢◌, ◌≤◌, ◌<◌, ◌-◌, ◌++◌, ◌==◌, ℕ, Bool, true, false, List, [], ◌∷◌, length, refl, ap, sym, subst, ◌∙◌, arith}
+use Rattle.std.proofs.Common.{append_assoc, Some}
 use Rattle.std.specs.Prelude.{IsTrue, is_some}
-use Rattle.std.specs.Char.{len_utf8}
 use Rattle.std.proofs.lemmas.Bool.{cond_both, and_parts, both_ways, false≢true, true≢false, eqb-true, or_parts, not-true}
-use Rattle.std.proofs.lemmas.Option.{same_Some}
-use Rattle.rustc_parse_format.specs.Characters.{Text, behind, behind_first, begins_with, byte_length, first}
+use Rattle.rustc_parse_format.specs.Characters.{Text, behind, behind_first, begins_with, byte_length}
 use Rattle.rustc_parse_format.specs.LiteralUnits.{LiteralUnit, Plain, SimpleEscape, ByteEscape, UnicodeEscape, Continuation}
-use Rattle.rustc_parse_format.specs.LiteralUnits.{spelling, value, meaning, escaped, is_plain, is_skipped, is_unit, may_precede, unit_at}
-use Rattle.rustc_parse_format.specs.Literal.{IsContent, content_value}
+use Rattle.rustc_parse_format.specs.LiteralUnits.{spelling, meaning, escaped, is_plain, is_skipped, is_unit, may_precede, unit_at}
+use Rattle.rustc_parse_format.specs.Literal.{IsContent}
 use Rattle.rustc_parse_format.specs.SeenSource.{after_continuations, begins_continuation, character_width, taken, closed_by_quote, gap, gap_to, spelled_units}
 use Rattle.rustc_parse_format.proofs.LiteralWidths.{width-cons, width-append}
 use Rattle.rustc_parse_format.proofs.LiteralUnitLaws.{unit_at-complete}
@@ -61,14 +59,14 @@ continuation-shorter (c ∷ []) h = omega arith
 continuation-shorter (c ∷ d ∷ t) h = omega (arith, behind-shorter is_skipped t)
 
 -- What is left of a content with these units, where some of its continuations are taken.
-pub record Left (t : Text) (us : List LiteralUnit) : Type 0 where
+pub record IsRestOf (t : Text) (us : List LiteralUnit) : Type 0 where
   pub content : Text
   pub units : List LiteralUnit
   pub left : t ≡ closed_by_quote content
   pub is_content : IsContent content units
   pub same : after_continuations units ≡ after_continuations us
 
-pub all_left : (t q : Text) (us : List LiteralUnit) → IsContent q us → t ≡ closed_by_quote q → Left t us
+pub all_left : (t q : Text) (us : List LiteralUnit) → IsContent q us → t ≡ closed_by_quote q → IsRestOf t us
 all_left t q us h e = record { content = q; units = us; left = e; is_content = h; same = refl }
 
 letter-no_continuation : (l : ℕ) (r : Text) → IsTrue (is_some (escaped l)) → begins_continuation (92 ∷ l ∷ r) ≡ true → ⊥
@@ -83,7 +81,7 @@ plain-no_continuation c r w h =
 
 -- One continuation more is taken.
 continuation-taken : (t q : Text) (vs : List LiteralUnit) → IsContent q vs → t ≡ closed_by_quote q → begins_continuation t ≡ true →
-    Left (behind_continuation t) vs
+    IsRestOf (behind_continuation t) vs
 continuation-taken t q [] h e b =
     let k : begins_continuation (34 ∷ []) ≡ true = subst (λ s. begins_continuation s ≡ true) (e ∙ ap closed_by_quote h) b in absurd (false≢true k)
 continuation-taken t q (Plain c ∷ vs) (r, w, m, f, h) e b =
@@ -106,7 +104,7 @@ continuation-taken t q (Continuation v ∷ vs) (r, w, m, f, h) e b =
       same = refl;
     }
 
-pub left-taken : (t : Text) (us : List LiteralUnit) → Left t us → begins_continuation t ≡ true → Left (behind_continuation t) us
+pub left-taken : (t : Text) (us : List LiteralUnit) → IsRestOf t us → begins_continuation t ≡ true → IsRestOf (behind_continuation t) us
 left-taken t us l b =
     let k = continuation-taken t l.content l.units l.is_content l.left b in
     record { content = k.content; units = k.units; left = k.left; is_content = k.is_content; same = k.same ∙ l.same }
@@ -128,7 +126,7 @@ pub spelled : (q : Text) (us : List LiteralUnit) → IsContent q us → q ≡ sp
 spelled q [] h = h
 spelled q (u ∷ us) (r, w, m, f, h) = f ∙ ap (λ s. spelling u ++ s) (spelled r us h)
 
-pub left-none : (t : Text) (us : List LiteralUnit) → Left t us → begins_continuation t ≡ false →
+pub left-none : (t : Text) (us : List LiteralUnit) → IsRestOf t us → begins_continuation t ≡ false →
     t ≡ closed_by_quote (spelled_units (after_continuations us))
 left-none t us l b =
     let same : l.units ≡ after_continuations us = sym (continuation-none t l.content l.units l.is_content l.left b) ∙ l.same in
@@ -184,5 +182,11 @@ gap-taken t q r us h e f n =
     let vs = after_continuations us in
     let some = content-quote (spelled_units vs) vs (after-content q us h) (ap (begins_with 34) (sym f) ∙ n) in
     let whole : t ≡ closed_by_quote (spelled_units us) = e ∙ ap closed_by_quote (spelled q us h) in
-    omega (arith, gap_to-some us vs some, ap byte_length whole, ap byte_length f, width-append (spelled_units us) (34 ∷ []),
-    width-append (spelled_units vs) (34 ∷ []))
+    omega (
+      arith,
+      gap_to-some us vs some,
+      ap byte_length whole,
+      ap byte_length f,
+      width-append (spelled_units us) (34 ∷ []),
+      width-append (spelled_units vs) (34 ∷ []),
+    )

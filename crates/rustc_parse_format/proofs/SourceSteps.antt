@@ -1,7 +1,7 @@
 -- How a place in a kept snippet goes on, character by character.
-use Rattle.std.proofs.Common.{◌≡◌, ◌≢◌, ◌++◌, ◌+◌, ◌-◌, ◌≤◌, ◌<◌, ℕ, suc, Bool, true, false, List, [], ◌∷◌, length, get_or, chars, drop, IsUtf8, refl, ap, sym, subst, ◌∙◌, arith}
-use Rattle.std.proofs.Common.{length-append, length-drop, append_assoc, append-nil, Option, Some, None, inl, inr, ◌⊎◌, IsCharBoundary}
-use Rattle.std.specs.Prelude.{IsTrue, encode_utf8, encode_utf8_all}
+use Rattle.std.proofs.Common.{◌≡◌, ◌≢◌, ◌++◌, ◌+◌, ◌-◌, ◌≤◌, ℕ, suc, Bool, true, false, List, [], ◌∷◌, length, get_or, chars, drop, IsUtf8, refl, ap, sym, subst, ◌∙◌, arith}
+use Rattle.std.proofs.Common.{length-append, length-drop, append_assoc, append-nil, Some, inl, inr, ◌⊎◌, IsCharBoundary}
+use Rattle.std.specs.Prelude.{encode_utf8, encode_utf8_all}
 use Rattle.std.specs.Char.{len_utf8}
 use Rattle.std.proofs.Math.Seq.{drop-append-add}
 use Rattle.std.proofs.lemmas.Str.{encodes-chars, IsUtf8-past_char, chars_past_char, length-encode, IsUtf8-from_is_utf8, is_utf8-from_IsUtf8, IsCharBoundary-from_drop}
@@ -40,7 +40,7 @@ cut_at bs (c ∷ p) r u e =
     let size = length-append (encode_utf8 c) rest in
     let n : byte_length (c ∷ p) ≡ length (encode_utf8 c) + byte_length p = wide ∙ ap (λ k. k + byte_length p) (sym (length-encode c)) in
     let same : drop (byte_length (c ∷ p)) bs ≡ drop (byte_length p) rest =
-        ap (λ k. drop k bs) n ∙ (ap (drop (length (encode_utf8 c) + byte_length p)) split ∙ drop-append-add (encode_utf8 c) rest (byte_length p)) in
+    ap (λ k. drop k bs) n ∙ (ap (drop (length (encode_utf8 c) + byte_length p)) split ∙ drop-append-add (encode_utf8 c) rest (byte_length p)) in
     let within = k.within in
     record {
       within = omega (arith, n, ap length split, size);

@@ -1,16 +1,15 @@
 -- The units that are left of a content: the character in front, its width, and what comes after the continuations.
-use Rattle.std.proofs.Common.{◌≡◌, ◌-◌, ◌+◌, ◌++◌, ◌≤◌, ◌⊎◌, inl, inr, ℕ, Bool, true, false, List, [], ◌∷◌, length, map, get_or, refl, ap, sym, subst, ◌∙◌, arith}
-use Rattle.std.proofs.Common.{append_assoc, length-append, Option, Some, None, IsUtf8, IsCharBoundary, chars, drop}
+use Rattle.std.proofs.Common.{◌≡◌, ◌+◌, ◌++◌, ◌⊎◌, inl, inr, ℕ, true, List, [], ◌∷◌, length, map, refl, ap, sym, subst, ◌∙◌, arith}
+use Rattle.std.proofs.Common.{append_assoc, Option, Some, None}
 use Rattle.std.specs.Prelude.{IsTrue, is_some}
 use Rattle.std.proofs.lemmas.Bool.{false≢true}
 use Rattle.std.proofs.lemmas.List.{nil_from_length}
-use Rattle.std.proofs.lemmas.Str.{IsCharBoundary-from_drop}
 use Rattle.rustc_parse_format.specs.Characters.{Text, byte_length}
 use Rattle.rustc_parse_format.specs.LiteralUnits.{LiteralUnit, Plain, SimpleEscape, ByteEscape, UnicodeEscape, Continuation}
-use Rattle.rustc_parse_format.specs.LiteralUnits.{spelling, value, meaning, escaped, at_most_one, is_unit, unit_at, byte_value, unicode_value}
+use Rattle.rustc_parse_format.specs.LiteralUnits.{spelling, value, meaning, escaped, at_most_one, unit_at, byte_value, unicode_value}
 use Rattle.rustc_parse_format.specs.Literal.{IsContent, content_value, placed_characters}
-use Rattle.rustc_parse_format.specs.SeenSource.{IsAhead, after_continuations, character_width, closed_by_quote, gap, gap_to, spelled_units, taken, taken_by}
-use Rattle.rustc_parse_format.specs.World.{Place, content_places, last_stop}
+use Rattle.rustc_parse_format.specs.SeenSource.{IsAhead, after_continuations, character_width, closed_by_quote, spelled_units, taken, taken_by}
+use Rattle.rustc_parse_format.specs.World.{Place, content_places}
 use Rattle.rustc_parse_format.proofs.LiteralWidths.{width-append}
 use Rattle.rustc_parse_format.proofs.LiteralUnitLaws.{unit_at-front}
 use Rattle.rustc_parse_format.proofs.PlaceOrder.{length-content_places}

@@ -75,7 +75,11 @@ fn continuations_width(text: &str) -> usize
     }
     let total = rest.len();
     rest.skip_continuations();
-    if rest.begins_with('"') { 0 } else { total - rest.len() }
+    if rest.begins_with('"') {
+        0
+    } else {
+        total - rest.len()
+    }
 }
 
 /// Where the first character starts in a snippet that is an ordinary literal.

@@ -1,6 +1,6 @@
-use Rattle.std.proofs.Common.{◌≡◌, ◌++◌, ◌∷◌, [], chars, drop, ap, ◌∙◌, arith}
+use Rattle.std.proofs.Common.{◌++◌, ◌∷◌, [], chars, ap, ◌∙◌}
 use Rattle.std.proofs.lemmas.Str.{IsCharBoundary-from_drop}
-use Rattle.rustc_parse_format.proofs.SourceSteps.{IsCutAt, cut_at, at_start}
+use Rattle.rustc_parse_format.proofs.SourceSteps.{cut_at, at_start}
 use Rattle.rustc_parse_format.proofs.source.byte_at_start.Goals as goal
 
 pub range_from-requires : goal.range_from-requires

@@ -1,4 +1,4 @@
-use Rattle.std.proofs.Common.{◌≡◌, ◌∷◌, Some, [], sym, ap, ◌∙◌, arith, chars}
+use Rattle.std.proofs.Common.{◌≡◌, ◌∷◌, Some, [], sym}
 use Rattle.rustc_parse_format.specs.LiteralUnits.{meaning, unit_at}
 use Rattle.rustc_parse_format.proofs.LiteralMeanings.{meaning-narrower}
 use Rattle.rustc_parse_format.proofs.SourceContents.{width-read}

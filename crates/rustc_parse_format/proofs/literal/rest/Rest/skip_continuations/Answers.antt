@@ -1,7 +1,6 @@
-use Rattle.std.proofs.Common.{◌≡◌, ap, sym, ◌∙◌, arith, true}
-use Rattle.rustc_parse_format.specs.Characters.{Text, behind, behind_first, byte_length}
+use Rattle.std.proofs.Common.{◌≡◌, ap, sym, ◌∙◌, arith}
+use Rattle.rustc_parse_format.specs.Characters.{behind, behind_first, byte_length}
 use Rattle.rustc_parse_format.specs.LiteralUnits.{is_skipped}
-use Rattle.rustc_parse_format.specs.SeenSource.{begins_continuation}
 use Rattle.rustc_parse_format.proofs.SourceContents.{behind_continuation, continuation-narrower, continuation-shorter, left-none, left-taken}
 use Rattle.rustc_parse_format.proofs.literal.rest.Rest.skip_continuations.Goals as goal
 
