@@ -42,7 +42,7 @@ some_bytes : (t : Text) → 0 < length t → 0 < byte_length t
 some_bytes [] h = absurd (omega arith)
 some_bytes (c ∷ t) h = let width = len_utf8_bounds c in omega (arith, width-cons c t)
 
-unit_bytes : (u : LiteralUnit) → 0 < byte_length (spelling u)
+pub unit_bytes : (u : LiteralUnit) → 0 < byte_length (spelling u)
 unit_bytes u = some_bytes (spelling u) (some_length u)
 
 at_most_one-length : (o : Option ℕ) → length (at_most_one o) ≤ 1
@@ -166,7 +166,7 @@ run-no_lines b w start (c ∷ u) r o n a s h =
     run-no_line b w start c u r o n a s (λ white here. true≢false (sym (indent-yes w start c (length (c ∷ (u ++ r))) white here) ∙ h))
 
 -- There are as many places as characters.
-length-content_places : (q : ℕ) (us : List LiteralUnit) → length (content_places q us) ≡ length (content_value us)
+pub length-content_places : (q : ℕ) (us : List LiteralUnit) → length (content_places q us) ≡ length (content_value us)
 length-content_places q [] = refl
 length-content_places q (u ∷ us) =
     let e = q + byte_length (spelling u) in
@@ -183,7 +183,7 @@ length-content_places q (u ∷ us) =
       length-append (value u) (content_value us),
     )
 
-length-newline : (e : ℕ) (appended : Bool) → length (newline_places e appended) ≡ length (newline appended)
+pub length-newline : (e : ℕ) (appended : Bool) → length (newline_places e appended) ≡ length (newline appended)
 length-newline e true = refl
 length-newline e false = refl
 

@@ -1,13 +1,13 @@
 -- The loop over the calls, and what its pieces and errors say of the grammar.
-use Rattle.std.proofs.Common.{◌≡◌, ◌≢◌, ℕ, ◌++◌, List, [], ◌∷◌, map, Option, Some, None, refl, sym, ap, subst, ◌∙◌, append_assoc}
+use Rattle.std.proofs.Common.{◌≡◌, ◌≢◌, ℕ, ◌++◌, ◌↔◌, Bool, true, false, IsTrue, List, [], ◌∷◌, map, Option, Some, None, refl, sym, ap, subst, ◌∙◌, append_assoc}
 use Rattle.std.specs.Prelude.{option_map}
 use Rattle.std.proofs.lemmas.List.{append-nil}
 use Rattle.rustc_parse_format.specs.Characters.{Text}
 use Rattle.rustc_parse_format.specs.Grammar.{IsInGrammar, Reads, StopsInside}
 use Rattle.rustc_parse_format.specs.Marks.{Span}
 use Rattle.rustc_parse_format.specs.Types.{Mode, Piece, bare}
-use Rattle.rustc_parse_format.specs.Call.{GivesAtMostText, call, pieces_of}
-use Rattle.rustc_parse_format.specs.State.{State, Walks, fresh, after, after_all, calls, next_call}
+use Rattle.rustc_parse_format.specs.Call.{call, pieces_of}
+use Rattle.rustc_parse_format.specs.State.{State, NeedsNoMemory, Walks, fresh, after, after_all, calls, next_call}
 use Rattle.rustc_parse_format.specs.World.{World, Place, piece_in, pieces_in}
 use Rattle.rustc_parse_format.proofs.BarePieces.{bare-pieces_in}
 use Rattle.rustc_parse_format.proofs.Progress.{walk-IsWalk}
@@ -76,8 +76,11 @@ stops_of mode w t at p new ps e f g h =
     let r = errors_stop mode w t at (λ k. h (ap (λ (s : State). s.errors) (rw e at f) ∙ k)) in
     rw (g, bare-pieces_in p.world (pieces_of (calls p)), e) r
 
--- a call at the end takes no memory
-pub at_end-text : (mode : Mode) (c : ℕ) (t : Text) → t ≡ [] → GivesAtMostText (call mode c t)
+-- a call at the end takes no memory where there is no source literal
+pub at_end-spare : (s : State) → s.rest ≡ [] → s.world.has_source ≡ false → NeedsNoMemory s (next_call s)
 unfolding call
-at_end-text mode c [] e = (tt, refl)
-at_end-text mode c (b ∷ t) e = absurd cc
+at_end-spare s e h = rw (e, h, append-nil s.line_spans) ((tt, refl), refl)
+
+pub no_source : (b : Bool) (P : Type 0) → IsTrue b ↔ P → (P → ⊥) → b ≡ false
+no_source true P h no = absurd (no (h.0 refl))
+no_source false P h no = refl

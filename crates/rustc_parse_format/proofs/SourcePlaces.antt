@@ -5,7 +5,7 @@ use Rattle.std.proofs.lemmas.Str.{IsUtf8-from_is_utf8, is_utf8-from_IsUtf8, char
 use Rattle.std.proofs.lemmas.List.{nil_from_length}
 use Rattle.std.proofs.lemmas.Bool.{false≢true}
 use Rattle.rustc_parse_format.specs.Bytes.{IsLeft}
-use Rattle.rustc_parse_format.proofs.SourceSteps.{here_start, here_end}
+use Rattle.rustc_parse_format.proofs.SourceSteps.{here_start, here_end_place}
 use Rattle.std.specs.declared.string.String.{String}
 use Rattle.std.specs.declared.alloc.Global.{Global}
 use Rattle.rustc_parse_format.specs.declared.source.Source.{Source}
@@ -67,7 +67,7 @@ pub kept_end : (s : Source) (rest : List ℕ) (at : ℕ) (snippet : String Globa
 kept_end s rest at snippet h e none =
     let nil : chars rest ≡ [] = ap chars (nil_from_length rest none) ∙ chars-nil in
     let here = placed_in s rest at snippet h e in
-    rw nil (here_end (string_bytes snippet) (seen_world s) at (rw nil at here))
+    rw nil (sym (here_end_place (string_bytes snippet) (seen_world s) at (rw nil at here)))
 
 pub kept_stop : (s : Source) (rest : List ℕ) (at stop : ℕ) (snippet : String Global) → IsSpot s rest at → s.kept ≡ Some snippet → (length rest ≡ 0 → ⊥) →
     ((w : World) (c : ℕ) (t : Text) → IsHere (string_bytes snippet) w (c ∷ t) at → stop ≡ (place_at w (length (c ∷ t))).1) →

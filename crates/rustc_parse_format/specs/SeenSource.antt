@@ -13,10 +13,14 @@ use Rattle.rustc_parse_format.specs.Source.{between}
 use Rattle.rustc_parse_format.specs.Bytes.{IsLeft}
 use Rattle.rustc_parse_format.specs.World.{World, Place, plain_world, ordinary_world, ordinary_end, content_places, last_stop, newline_places}
 
+-- the world of an ordinary source literal
+abbrev pub world_of_literal : Text → Bool → World
+world_of_literal snippet appended = ordinary_world (unwrap_or (units (between snippet)) []) appended
+
 -- the world of a source, which keeps the snippet only where its places are not those of a plain text
 abbrev pub world_with : Option (String Global) → Source → World
 world_with None s = plain_world s.is_literal s.offset (chars s.input.now) s.end
-world_with (Some snippet) s = record (ordinary_world (unwrap_or (units (between (chars (string_bytes snippet)))) []) s.appended) { has_source = s.is_literal }
+world_with (Some snippet) s = record (world_of_literal (chars (string_bytes snippet)) s.appended) { has_source = s.is_literal }
 
 abbrev pub seen_world : Source → World
 seen_world s = world_with s.kept s

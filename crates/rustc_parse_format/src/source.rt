@@ -1,6 +1,6 @@
 //! Where an input stands in its source, and how a place in a snippet goes on from character to character.
 
-ghost use Rattle.std.specs.Prelude.{◌≡◌, ◌≤◌, ◌-◌, ◌∷◌, List, ℕ, chars, drop, length, true};
+ghost use Rattle.std.specs.Prelude.{◌≡◌, ◌≤◌, ◌∷◌, Bool, List, ℕ, chars, drop, length, true};
 ghost use Rattle.std.specs.Str.{is_utf8};
 ghost use Rattle.rustc_parse_format.specs.Characters.{Text, behind_first};
 ghost use Rattle.rustc_parse_format.specs.Literal.{IsContent};
@@ -53,8 +53,9 @@ fn character_width(text: &str) -> usize
     match first(text) {
         Some('\\') => {
             let mut rest = Rest::new(text);
+            let total = rest.len();
             match read_unit(&mut rest) {
-                Some(Some(_)) => text.len() - rest.len(),
+                Some(Some(_)) => total - rest.len(),
                 _ => 0,
             }
         }
@@ -65,13 +66,19 @@ fn character_width(text: &str) -> usize
 
 /// How many bytes the continuations at the front take, where a character comes after them, or else 0.
 pub fn continuations_width(text: &str) -> usize
-    ensures { (q : Text) (us : List LiteralUnit) → IsContent q us → chars text.now ≡ closed_by_quote q → result ≡ gap us }
+    ensures width { (q : Text) (us : List LiteralUnit) → IsContent q us → chars text.now ≡ closed_by_quote q → result ≡ gap us }
+    ensures inside { result ≤ length text.now }
 {
     let mut rest = Rest::new(text);
+    if !rest.begins_continuation() {
+        return 0;
+    }
+    let total = rest.len();
     rest.skip_continuations();
-    match rest.peek() {
-        Some('"') | None => 0,
-        _ => text.len() - rest.len(),
+    if rest.begins_with('"') {
+        0
+    } else {
+        total - rest.len()
     }
 }
 

@@ -1,6 +1,6 @@
 //! What is left of a text, from which characters are taken one at a time.
 
-ghost use Rattle.std.specs.Prelude.{◌≡◌, ◌↔◌, List, ℕ, [], chars, IsTrue};
+ghost use Rattle.std.specs.Prelude.{◌≡◌, ◌↔◌, ◌≤◌, List, ℕ, [], chars, IsTrue};
 ghost use Rattle.rustc_parse_format.specs.Characters.{Text, begins_with, behind, behind_first, first, byte_length};
 ghost use Rattle.rustc_parse_format.specs.Literal.{IsContent};
 ghost use Rattle.rustc_parse_format.specs.LiteralUnits.{LiteralUnit, is_skipped};
@@ -68,17 +68,25 @@ impl<'a> Rest<'a> {
         self.next() == Some(c)
     }
 
+    /// Whether the next character is this one.
+    pub fn begins_with(&self, c: char) -> bool
+        ensures { result ≡ begins_with c self.now }
+    {
+        self.peek() == Some(c)
+    }
+
     /// Whether a continuation is at the front.
     pub fn begins_continuation(&self) -> bool
         ensures { result ≡ begins_continuation self.now }
     {
-        self.peek() == Some('\\') && first(behind_first(self.text)) == Some('\n')
+        self.begins_with('\\') && first(behind_first(self.text)) == Some('\n')
     }
 
     /// Takes all continuations at the front of a content that a quote closes.
     pub fn skip_continuations(&mut self)
-        ensures { (q : Text) (us : List LiteralUnit) → IsContent q us → self.old ≡ closed_by_quote q
+        ensures after { (q : Text) (us : List LiteralUnit) → IsContent q us → self.old ≡ closed_by_quote q
             → self.new ≡ closed_by_quote (spelled_units (after_continuations us)) }
+        ensures narrower { byte_length self.new ≤ byte_length self.old }
     {
         while self.begins_continuation() {
             self.text = behind_first(behind_first(self.text));

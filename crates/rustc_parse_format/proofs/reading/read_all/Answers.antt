@@ -1,4 +1,4 @@
-use Rattle.std.proofs.Common.{◌≡◌, ◌∙◌, ap, chars}
+use Rattle.std.proofs.Common.{◌≡◌, ◌∙◌, false, ap, chars}
 use Rattle.std.proofs.lemmas.Bool.{false≢true}
 use Rattle.std.proofs.lemmas.Str.{chars-nil}
 use Rattle.rustc_parse_format.specs.Characters.{Text}
@@ -7,7 +7,7 @@ use Rattle.rustc_parse_format.specs.State.{State, first_state, calls}
 use Rattle.rustc_parse_format.proofs.Readings.{Reads-unique, Reads-spelled}
 use Rattle.rustc_parse_format.proofs.PartCuts.{cut-only}
 use Rattle.rustc_parse_format.proofs.StateWalks.{after_all-world}
-use Rattle.rustc_parse_format.proofs.ReadPieces.{walks_of, clean_in, in_clean, reading_of, stops_of}
+use Rattle.rustc_parse_format.proofs.ReadPieces.{no_source, walks_of, clean_in, in_clean, reading_of, stops_of}
 use Rattle.rustc_parse_format.proofs.reading.read_all.Goals as goal
 
 pub returns-in_err-pieces-clause-one_reading : goal.returns-in_err-pieces-clause-one_reading
@@ -23,9 +23,10 @@ pub returns-clause-one_cut : goal.returns-clause-one_cut
 returns-clause-one_cut c = cut-only
 
 pub returns-in_err-pieces-clause-empty : goal.returns-in_err-pieces-clause-empty
-returns-in_err-pieces-clause-empty c e =
+returns-in_err-pieces-clause-empty c e no =
+    let none : c.in_ok-parser.parser.world.has_source ≡ false = no_source _ _ c.in_ok-parser.ensures.source no in
     let start : ◌≡◌ {A = Text} c.in_ok-parser.parser.rest (chars c.args.input.now) = ap (λ (s : State). s.rest) c.in_ok-parser.ensures.start in
-    absurd (false≢true (c.in_err-pieces.ensures.empty (start ∙ ap chars e ∙ chars-nil)))
+    absurd (false≢true (c.in_err-pieces.ensures.empty (start ∙ ap chars e ∙ chars-nil) none))
 
 pub returns-clause-clean : goal.returns-clause-clean
 returns-clause-clean c =

@@ -5,8 +5,8 @@ use Rattle.std.proofs.lemmas.List.{map-append}
 use Rattle.rustc_parse_format.specs.Types.{Piece}
 use Rattle.rustc_parse_format.specs.Seen.{seen}
 use Rattle.rustc_parse_format.specs.State.{State, next_call}
-use Rattle.rustc_parse_format.specs.World.{Place, piece_in}
-use Rattle.rustc_parse_format.proofs.ReadPieces.{at_end-text, pieces_more, state_more, pieces_end, state_end}
+use Rattle.rustc_parse_format.specs.World.{World, Place, piece_in}
+use Rattle.rustc_parse_format.proofs.ReadPieces.{at_end-spare, pieces_more, state_more, pieces_end, state_end}
 use Rattle.rustc_parse_format.proofs.Nexts.{next_ends, piece_moves}
 use Rattle.rustc_parse_format.proofs.Steps.{paid_then}
 use Rattle.rustc_parse_format.proofs.reading.read_pieces.Goals as goal
@@ -29,11 +29,13 @@ loop-pieces-preserved g c =
     }
 
 pub returns-in_err-piece-clause-empty : goal.returns-in_err-piece-clause-empty
-returns-in_err-piece-clause-empty g c e =
-    let s = c.loop-pieces.parser in absurd (false≢true (c.in_err-piece.ensures.spare (at_end-text s.mode s.next s.rest (c.loop-pieces.invariant.empty e))))
+returns-in_err-piece-clause-empty g c e h =
+    let s = c.loop-pieces.parser in
+    let none = ap (λ (w : World). w.has_source) c.loop-pieces.invariant.world ∙ h in
+    absurd (false≢true (c.in_err-piece.ensures.spare (at_end-spare s (c.loop-pieces.invariant.empty e) none)))
 
 pub returns-in_err-push-clause-empty : goal.returns-in_err-push-clause-empty
-returns-in_err-push-clause-empty g c e =
+returns-in_err-push-clause-empty g c e h =
     let none = rw c.in-Some.is at (next_ends seen c.loop-pieces.parser c.next_counted.new.self _ c.in_ok-piece.ensures.piece c.in_ok-piece.ensures.state
     (c.loop-pieces.invariant.empty e)).0 in
     absurd (false≢true (sym none))

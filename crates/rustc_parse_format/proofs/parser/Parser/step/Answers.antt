@@ -45,8 +45,7 @@ returns-in_err-add-clause-spare g c n =
     let some : s.rest ≢ [] = subst (λ (x : State). x.rest ≢ []) c.self.view_is
         (some_chars i.spot.rest.now (IsUtf8-from_is_utf8 i.spot.rest.now c.self.invariant.0.is_left.valid_rest) (search rules)) in
     let none = nothing_found i.source s m (next_call s) some read n (closes_nothing s.mode s.next s.rest n.0.0) in
-    absurd (false≢true (c.in_err-add.ensures.none (map_nil seen_fault r.found.items none.0) (map_nil pair r.lines.items none.1.0)
-    (map_none pair r.closed none.1.1)))
+    absurd (false≢true (c.in_err-add.ensures.none (map_nil seen_fault r.found.items none.0) (map_nil pair r.lines.items none.1) (map_none pair r.closed none.2)))
 
 pub invariant_of-self-2 : goal.invariant_of-self-2
 invariant_of-self-2 g c =
