@@ -132,8 +132,14 @@ placeholder_read s mode o t fill opening at e =
     let faults = append_assoc s.faults (faults_in s.world cs) _ ∙ ap (λ fs. s.faults ++ fs) (sym all) in
     let here : (opening.0, number_of s.world (End (length r))) ≡ place_of s.world (through o r) = ap (λ (n : ℕ). (n, number_of s.world (End (length r)))) at in
     let closed = closed_where (begins_with 125 r) s.world.has_source s.closed (through o r) s.world _ refl here in
-    rw (e, placeholder-rest mode s.next o t, placeholder-next mode s.next o t, placeholder-faults mode s.next o t, placeholder-texts mode s.next o t,
-      placeholder-closes mode s.next o t)
+    rw (
+      e,
+      placeholder-rest mode s.next o t,
+      placeholder-next mode s.next o t,
+      placeholder-faults mode s.next o t,
+      placeholder-texts mode s.next o t,
+      placeholder-closes mode s.next o t,
+    )
     (same_found (behind_argument s mode t) (behind_brace r) _ _ _ _ faults closed)
 
 pub ruleset placeholder_parts = (placeholder-piece, placeholder-next, placeholder-rest, placeholder-faults, placeholder-texts, placeholder-closes)

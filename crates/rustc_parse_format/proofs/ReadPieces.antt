@@ -82,5 +82,5 @@ unfolding call
 at_end-spare s e h = rw (e, h, append-nil s.line_spans) ((tt, refl), refl)
 
 pub no_source : (b : Bool) (P : Type 0) → IsTrue b ↔ P → (P → ⊥) → b ≡ false
-no_source true P h no = absurd (no (h.0 refl))
-no_source false P h no = refl
+no_source true P h without = absurd (without (h.0 refl))
+no_source false P h without = refl

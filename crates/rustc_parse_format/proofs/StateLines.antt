@@ -92,7 +92,7 @@ pub nothing_found : (source : Source) (s : State) (m : Midway) (k : Call) → s.
 nothing_found source s m k some e n c =
     let none = n.0.1 in
     let kept : s.line_spans ++ (lines_in s.world s.line_start k.texts).1 ≡ s.line_spans =
-        sym (not_last s s.rest (s.line_spans ++ (lines_in s.world s.line_start k.texts).1) refl some) ∙ n.1 in
+    sym (not_last s s.rest (s.line_spans ++ (lines_in s.world s.line_start k.texts).1) refl some) ∙ n.1 in
     let no_line : (lines_in s.world s.line_start k.texts).1 ≡ [] = nothing_appended s.line_spans _ kept in
     rw (e, none, no_line, c, closed_in-none s.world) (refl, refl, refl)
 

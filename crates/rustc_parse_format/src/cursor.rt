@@ -2,8 +2,8 @@
 
 mod steps;
 
-use crate::source::{Source, Spot, byte_after, byte_through};
 use crate::characters::{Class, before, behind_first, first, is_id_start, with_digit};
+use crate::source::{Source, Spot, byte_after, byte_through};
 use std::marker::Model;
 use std::ops::Range;
 use std::sync::ledger::{Blank, Ledger};

@@ -83,7 +83,10 @@ fn sign<'input, L: Ledger>(
 }
 
 /// Reads the flag `#` at the front.
-fn alternate<'input, L: Ledger>(cursor: &mut Cursor<'_, 'input>, trail: &mut Trail<'input, L>) -> bool
+fn alternate<'input, L: Ledger>(
+    cursor: &mut Cursor<'_, 'input>,
+    trail: &mut Trail<'input, L>,
+) -> bool
     ensures value { result ≡ (alternate cursor.old.rest).0 }
     ensures rest { cursor.new ≡ record cursor.old { rest = (alternate cursor.old.rest).1 } }
     ensures steps { Forward cursor.old.rest trail.old cursor.new.rest trail.new }

@@ -12,4 +12,4 @@ returns-clause-state g c =
     let spec = rw c.skip_white.ensures.rest at c.in_ok-format.ensures.state in
     rw spec at c.position_of.ensures.state
     ∙ ap (λ (x : Midway). behind_specification m given x) (c.reader-2.view_is ∙ c.in_ok-given.ensures.state)
-    ∙ rw (← c.reader.view_is) (argument_read _ m given c.in_ok-given.ensures.value)
+    ∙ argument_read c.args.reader.now m given c.in_ok-given.ensures.value

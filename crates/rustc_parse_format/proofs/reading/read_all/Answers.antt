@@ -23,8 +23,8 @@ pub returns-clause-one_cut : goal.returns-clause-one_cut
 returns-clause-one_cut c = cut-only
 
 pub returns-in_err-pieces-clause-empty : goal.returns-in_err-pieces-clause-empty
-returns-in_err-pieces-clause-empty c e no =
-    let none : c.in_ok-parser.parser.world.has_source ≡ false = no_source _ _ c.in_ok-parser.ensures.source no in
+returns-in_err-pieces-clause-empty c e without =
+    let none : c.in_ok-parser.parser.world.has_source ≡ false = no_source _ _ c.in_ok-parser.ensures.source without in
     let start : ◌≡◌ {A = Text} c.in_ok-parser.parser.rest (chars c.args.input.now) = ap (λ (s : State). s.rest) c.in_ok-parser.ensures.start in
     absurd (false≢true (c.in_err-pieces.ensures.empty (start ∙ ap chars e ∙ chars-nil) none))
 

@@ -15,7 +15,7 @@ returns-in_err-push-clause-spare c h =
     let literal : s.world.has_source ≡ true = rw (← c.self.view_is) (sym (source_literal c.self.inside.source) ∙ c.if-self.true) in
     let at : c.start.result ≡ (place_at s.world (length s.rest)).0 = rw (c.cursor.ensures.world, c.cursor.ensures.rest) at c.start.ensures in
     let other : ends_with (s.line_start, c.start.result) s.line_spans ≡ false =
-        rw (← c.self.view_is) (ap (λ ls. ends_with (c.self.inside.line_start, c.start.result) (map pair ls)) (sym c.as_slice.ensures.value) ∙ sym c.ends_with.ensures ∙ search rules) in
+    rw (← c.self.view_is) (ap (λ ls. ends_with (c.self.inside.line_start, c.start.result) (map pair ls)) (sym c.as_slice.ensures.value) ∙ sym c.ends_with.ensures ∙ search rules) in
     absurd (ended_spare s c.start.result c.requires literal at other h)
 
 pub returns-in_ok-push-clause-state : goal.returns-in_ok-push-clause-state
@@ -24,9 +24,9 @@ returns-in_ok-push-clause-state c =
     let literal : s.world.has_source ≡ true = rw (← c.self.view_is) (sym (source_literal c.self.inside.source) ∙ c.if-self.true) in
     let at : c.start.result ≡ (place_at s.world (length s.rest)).0 = rw (c.cursor.ensures.world, c.cursor.ensures.rest) at c.start.ensures in
     let other : ends_with (s.line_start, c.start.result) s.line_spans ≡ false =
-        rw (← c.self.view_is) (ap (λ ls. ends_with (c.self.inside.line_start, c.start.result) (map pair ls)) (sym c.as_slice.ensures.value) ∙ sym c.ends_with.ensures ∙ search rules) in
+    rw (← c.self.view_is) (ap (λ ls. ends_with (c.self.inside.line_start, c.start.result) (map pair ls)) (sym c.as_slice.ensures.value) ∙ sym c.ends_with.ensures ∙ search rules) in
     let more : map pair c.push.new.self.items ≡ s.line_spans ++ (s.line_start, c.start.result) ∷ [] =
-        rw (← c.self.view_is) (ap (map pair) c.in_ok-push.ensures.items ∙ map-append pair c.self.inside.lists.line_spans.items _) in
+    rw (← c.self.view_is) (ap (map pair) c.in_ok-push.ensures.items ∙ map-append pair c.self.inside.lists.line_spans.items _) in
     ap (λ (x : State). record x { line_spans = map pair c.push.new.self.items }) c.self.view_is
     ∙ ap (λ ls. record s { line_spans = ls }) (ended_more s c.start.result _ c.requires literal at other more)
 
@@ -36,5 +36,5 @@ returns-else-not-ends_with-clause-state c =
     let literal : s.world.has_source ≡ true = rw (← c.self.view_is) (sym (source_literal c.self.inside.source) ∙ c.if-self.true) in
     let at : c.start.result ≡ (place_at s.world (length s.rest)).0 = rw (c.cursor.ensures.world, c.cursor.ensures.rest) at c.start.ensures in
     let same : ends_with (s.line_start, c.start.result) s.line_spans ≡ true =
-        rw (← c.self.view_is) (ap (λ ls. ends_with (c.self.inside.line_start, c.start.result) (map pair ls)) (sym c.as_slice.ensures.value) ∙ sym c.ends_with.ensures ∙ search rules) in
+    rw (← c.self.view_is) (ap (λ ls. ends_with (c.self.inside.line_start, c.start.result) (map pair ls)) (sym c.as_slice.ensures.value) ∙ sym c.ends_with.ensures ∙ search rules) in
     ap (λ ls. record s { line_spans = ls }) (ended_same s c.start.result c.requires literal at same)

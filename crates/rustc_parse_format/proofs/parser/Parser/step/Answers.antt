@@ -41,9 +41,9 @@ returns-in_err-add-clause-spare g c n =
     let m = record (midway r.cursor r.curarg r.line_start) { faults = map seen_fault r.found.items; lines = map pair r.lines.items; closed = option_map pair r.closed } in
     let given = rw (c.new-reader.ensures, c.new-cursor.ensures, c.again.ensures) at (c.reader.view_is ∙ c.in_ok-piece.ensures.state) in
     let read : ◌≡◌ {A = Midway} m (read_call (before_call i.source s) (next_call s)) =
-        subst (λ (x : State). ◌≡◌ {A = Midway} m (read_call (before_call i.source x) (next_call x))) c.self.view_is given in
+    subst (λ (x : State). ◌≡◌ {A = Midway} m (read_call (before_call i.source x) (next_call x))) c.self.view_is given in
     let some : s.rest ≢ [] = subst (λ (x : State). x.rest ≢ []) c.self.view_is
-        (some_chars i.spot.rest.now (IsUtf8-from_is_utf8 i.spot.rest.now c.self.invariant.0.is_left.valid_rest) (search rules)) in
+    (some_chars i.spot.rest.now (IsUtf8-from_is_utf8 i.spot.rest.now c.self.invariant.0.is_left.valid_rest) (search rules)) in
     let none = nothing_found i.source s m (next_call s) some read n (closes_nothing s.mode s.next s.rest n.0.0) in
     absurd (false≢true (c.in_err-add.ensures.none (map_nil seen_fault r.found.items none.0) (map_nil pair r.lines.items none.1) (map_none pair r.closed none.2)))
 
@@ -69,14 +69,19 @@ returns-clause-state g c =
     let m = record (midway r.cursor r.curarg r.line_start) { faults = map seen_fault r.found.items; lines = map pair r.lines.items; closed = option_map pair r.closed } in
     let given = rw (c.new-reader.ensures, c.new-cursor.ensures, c.again.ensures) at (c.reader.view_is ∙ c.in_ok-piece.ensures.state) in
     let read : ◌≡◌ {A = Midway} m (read_call (before_call i.source s) (next_call s)) =
-        subst (λ (x : State). ◌≡◌ {A = Midway} m (read_call (before_call i.source x) (next_call x))) c.self.view_is given in
+    subst (λ (x : State). ◌≡◌ {A = Midway} m (read_call (before_call i.source x) (next_call x))) c.self.view_is given in
     let some : s.rest ≢ [] = subst (λ (x : State). x.rest ≢ []) c.self.view_is
-        (some_chars i.spot.rest.now (IsUtf8-from_is_utf8 i.spot.rest.now c.self.invariant.0.is_left.valid_rest) (search rules)) in
+    (some_chars i.spot.rest.now (IsUtf8-from_is_utf8 i.spot.rest.now c.self.invariant.0.is_left.valid_rest) (search rules)) in
     let es = map seen_error c.add.new.self.errors.items in
     let ps = map pair c.add.new.self.arg_places.items in
     let ls = map pair c.add.new.self.line_spans.items in
     ap (λ (x : State). record x {
-      rest = chars c.spot-spot.result.rest.now; next = r.curarg; errors = es; arg_places = ps; line_start = r.line_start; line_spans = ls;
+      rest = chars c.spot-spot.result.rest.now;
+      next = r.curarg;
+      errors = es;
+      arg_places = ps;
+      line_start = r.line_start;
+      line_spans = ls;
     }) c.self.view_is
     ∙ call_done i.source s m (next_call s) (chars c.spot-spot.result.rest.now) es ps ls some read c.spot-spot.ensures.rest
     (subst (λ (x : State). es ≡ add_errors x.errors m.faults) c.self.view_is c.in_ok-add.ensures.errors)
