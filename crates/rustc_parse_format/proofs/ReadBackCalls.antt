@@ -13,22 +13,11 @@ use Rattle.rustc_parse_format.specs.Faults.{no_brace, brace_fill}
 use Rattle.rustc_parse_format.specs.Literal.{IsSource}
 use Rattle.rustc_parse_format.specs.World.{world, place_of}
 use Rattle.rustc_parse_format.specs.Call.{Call, call, placeholder, closed_call, unclosed_call, text_call, unclosed_fault}
-use Rattle.rustc_parse_format.specs.ReadBack.{IsForward, IsInside, ReadsBack, optional, spans_of, spans_of_spec, spans_of_fault}
+use Rattle.rustc_parse_format.specs.ReadBack.{AllSpans, IsForward, IsInside, ReadsBack, optional, piece_spans, spans_of, spans_of_spec, spans_of_fault}
 use Rattle.rustc_parse_format.proofs.Rests.{IsRest, IsRest-le, IsRest-trans, cut_rest, behind_white_rest}
 use Rattle.rustc_parse_format.proofs.ReadBackSpans.{AreForward, all-append, all-weaker, up_to-forward, through-forward, argument-forward}
 use Rattle.rustc_parse_format.proofs.ReadBackSpans.{cut_faults-forward}
 use Rattle.rustc_parse_format.proofs.ReadBack.{forward-reads_back, forward-inside}
-
--- the spans of a piece, where there is one
-abbrev pub piece_spans : {A : Type 0} → Option (Piece A) → List A
-piece_spans None = []
-piece_spans (Some p) = spans_of p
-
--- All spans of a call pass.
-pub record AllSpans (P : Span → Type 0) (k : Call) : Type 0 where
-  pub piece : AllByRecursion P (piece_spans k.piece)
-  pub closes : AllByRecursion P (optional k.closes)
-  pub faults : AllByRecursion (λ f. AllByRecursion P (spans_of_fault f)) k.faults
 
 -- The spans of the fault where no brace closes a placeholder.
 brace-forward : (n : ℕ) (fill : Option ℕ) (s : Option Span) → AreForward n (optional s) → AreForward n (optional (brace_fill fill s))

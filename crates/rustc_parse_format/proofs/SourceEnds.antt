@@ -9,7 +9,9 @@ use Rattle.rustc_parse_format.specs.LiteralUnits.{LiteralUnit}
 use Rattle.rustc_parse_format.specs.Literal.{IsLiteral, IsSource, units, ordinary_frame, raw_frame, raw_closing, raw_opening, newline}
 use Rattle.rustc_parse_format.specs.Source.{between}
 use Rattle.rustc_parse_format.specs.World.{ordinary_end}
-use Rattle.rustc_parse_format.specs.LiteralReading.{spelled_end, units_between, literal_end, IsSourceTo}
+use Rattle.rustc_parse_format.specs.LiteralReading.{spelled_end, IsSourceTo}
+use Rattle.rustc_parse_format.specs.Source.{units_between}
+use Rattle.rustc_parse_format.specs.World.{literal_end}
 use Rattle.rustc_parse_format.proofs.LiteralContents.{units-complete, units-content}
 use Rattle.rustc_parse_format.proofs.LiteralEnds.{end-parts, end-from}
 use Rattle.rustc_parse_format.proofs.LiteralWidths.{width-append, width-cons, width-chars}

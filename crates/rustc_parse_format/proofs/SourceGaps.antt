@@ -11,7 +11,7 @@ use Rattle.rustc_parse_format.specs.LiteralUnits.{LiteralUnit, Plain, SimpleEsca
 use Rattle.rustc_parse_format.specs.Literal.{IsContent, content_value, newline}
 use Rattle.rustc_parse_format.specs.World.{World, Place, ordinary_world, ordinary_end, content_places, last_stop, newline_places}
 use Rattle.rustc_parse_format.specs.declared.source.Source.{Source}
-use Rattle.rustc_parse_format.specs.LiteralReading.{units_between}
+use Rattle.rustc_parse_format.specs.Source.{units_between}
 use Rattle.rustc_parse_format.specs.SeenSource.{IsHere, IsAhead, IsOrdinary, IsKept, IsPlaced, seen_world, world_with, after_continuations, closed_by_quote, gap, gap_to, spelled_units}
 use Rattle.rustc_parse_format.proofs.LiteralWidths.{width-append}
 use Rattle.rustc_parse_format.proofs.LiteralContents.{units-complete}

@@ -10,7 +10,8 @@ use Rattle.rustc_parse_format.specs.Literal.{content_value, ordinary_frame, newl
 use Rattle.rustc_parse_format.specs.Source.{is_source, HasSource}
 use Rattle.rustc_parse_format.specs.Seen.{seen_snippet}
 use Rattle.rustc_parse_format.specs.World.{World, world, literal_world, plain_world, ordinary_world, ordinary_end, quote_offset, foreign_end}
-use Rattle.rustc_parse_format.specs.LiteralReading.{IsFound, IsSourceTo, is_longer, plain_end, units_between}
+use Rattle.rustc_parse_format.specs.LiteralReading.{IsFound, IsSourceTo, is_longer, plain_end}
+use Rattle.rustc_parse_format.specs.Source.{units_between}
 use Rattle.rustc_parse_format.specs.SeenSource.{IsOrdinary, IsKeptIn, world_with}
 use Rattle.rustc_parse_format.proofs.LiteralContents.{units-complete}
 use Rattle.rustc_parse_format.proofs.LiteralWidths.{width-append, width-cons}

@@ -66,7 +66,7 @@ then_none : (o : Option Place) → closed_then None o ≡ o
 then_none None = refl
 then_none (Some p) = refl
 
-not_last : (s : State) (t : Text) (ls : List Place) → s.rest ≡ t → t ≢ [] → last_lines s ls ≡ ls
+pub not_last : (s : State) (t : Text) (ls : List Place) → s.rest ≡ t → t ≢ [] → last_lines s ls ≡ ls
 not_last s [] ls e h = absurd (h refl)
 not_last s (c ∷ t) ls e h = rw e (by_test s.world.has_source)
   where

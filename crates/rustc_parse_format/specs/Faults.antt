@@ -1,6 +1,6 @@
 -- The faults, over any kind of span, and what each says, as the bytes of its texts.
 use Prim.Native.Char.{code}
-use Rattle.std.specs.Prelude.{◌≡◌, ℕ, Bool, false, ◌++◌, ◌==◌, if◌then◌else◌, List, [], ◌∷◌, Option, Some, None, codes, encode_utf8_all}
+use Rattle.std.specs.Prelude.{◌≡◌, ℕ, Bool, false, ◌++◌, ◌==◌, if◌then◌else◌, List, [], ◌∷◌, Option, Some, None, option_map, codes, encode_utf8_all}
 use Rattle.rustc_parse_format.specs.Characters.{Text}
 use Rattle.rustc_parse_format.specs.Written.{written}
 
@@ -53,6 +53,31 @@ pub record Message (Span : Type 0) : Type 0 where
   pub span : Span
   pub second : Option (List ℕ × Span)
   pub suggestion : Suggestion Span
+
+abbrev pub map_suggestion : {A B : Type 0} → (A → B) → Suggestion A → Suggestion B
+map_suggestion f Nothing = Nothing
+map_suggestion f UsePositional = UsePositional
+map_suggestion f (RemoveRawIdent s) = RemoveRawIdent (f s)
+map_suggestion f (ReorderFormatParameter s w) = ReorderFormatParameter (f s) w
+map_suggestion f (AddMissingColon s) = AddMissingColon (f s)
+map_suggestion f UseRustDebugPrintingMacro = UseRustDebugPrintingMacro
+
+abbrev pub map_message : {A B : Type 0} → (A → B) → Message A → Message B
+map_message f m = record {
+  description = m.description;
+  note = m.note;
+  label = m.label;
+  span = f m.span;
+  second = option_map (λ x. (x.0, f x.1)) m.second;
+  suggestion = map_suggestion f m.suggestion;
+}
+
+-- Without its spans.
+abbrev pub bare_fault : {A : Type 0} → Fault A → Fault (Unit {0})
+bare_fault f = map_fault (λ s. tt) f
+
+abbrev pub bare_message : {A : Type 0} → Message A → Message (Unit {0})
+bare_message m = map_message (λ s. tt) m
 
 abbrev pub expected : Option ℕ → List ℕ
 expected None = codes "expected `}` but string was terminated"

@@ -2,7 +2,7 @@
 use Rattle.std.specs.Prelude.{◌≡◌, ℕ, Bool, ◌==◌, if◌then◌else◌, List, [], ◌∷◌, map, Option, Some, None, option_map, unwrap_or, bytes_eq, not, ◌+◌, false}
 use Rattle.std.specs.declared.ops.Range.{Range}
 use Rattle.rustc_parse_format.specs.Characters.{Text, byte_length}
-use Rattle.rustc_parse_format.specs.World.{Place, content_places, last_stop, ordinary_end, raw_end, input_end, foreign_end}
+use Rattle.rustc_parse_format.specs.World.{literal_end, Place, content_places, last_stop, ordinary_end, raw_end, input_end, foreign_end}
 use Rattle.rustc_parse_format.specs.LiteralUnits.{LiteralUnit}
 use Rattle.rustc_parse_format.specs.Literal.{units, content_value, placed_characters, IsSource}
 use Rattle.rustc_parse_format.specs.Source.{between, HasSource}
@@ -34,15 +34,6 @@ end_of at e (Some us) t = if bytes_eq t (content_value us) then Some (last_stop 
 -- the same of a content
 unfoldable pub spelled_end : ℕ → ℕ → Text → Text → Option ℕ
 spelled_end at e content t = end_of at e (units content) t
-
--- the units between the quotes of a snippet
-abbrev pub units_between : Text → List LiteralUnit
-units_between snippet = unwrap_or (units (between snippet)) []
-
--- where the text of a literal of that style ends
-abbrev pub literal_end : Option ℕ → Text → ℕ
-literal_end None snippet = ordinary_end (units_between snippet)
-literal_end (Some n) snippet = raw_end n snippet
 
 -- the snippet is the source literal of the input, and the text ends there
 abbrev pub IsSourceTo : Text → Option ℕ → Text → Bool → ℕ → Type 0

@@ -5,15 +5,17 @@ use Rattle.std.specs.Prelude.{None, unwrap_or}
 use Rattle.rustc_parse_format.specs.Characters.{Text, byte_length}
 use Rattle.rustc_parse_format.specs.LiteralUnits.{LiteralUnit, Plain, spelling, value}
 use Rattle.rustc_parse_format.specs.Literal.{units}
-use Rattle.rustc_parse_format.specs.Source.{between, unappended}
+use Rattle.rustc_parse_format.specs.Source.{units_between, unappended}
 use Rattle.rustc_parse_format.specs.Marks.{Mark, Start, End, Span}
 use Rattle.rustc_parse_format.specs.Types.{Count, Name, Spec, Piece, Lit, NextArgument}
 use Rattle.rustc_parse_format.specs.Faults.{Fault, UnmatchedBrace, MissingBrace, FillBrace, Underscore, TooLarge}
+use Rattle.std.specs.List.{AllByRecursion}
 use Rattle.rustc_parse_format.specs.World.{Place, quote_offset}
+use Rattle.rustc_parse_format.specs.Call.{Call}
 
 -- the units of a source literal of an input, from the byte at `quote_offset` on
 abbrev pub source_units : Text → Option ℕ → Text → Bool → List LiteralUnit
-source_units input None snippet appended = unwrap_or (units (between snippet)) []
+source_units input None snippet appended = units_between snippet
 source_units input (Some n) snippet appended = map Plain (unappended appended input)
 
 -- The characters of the units that end at byte s or before, where the first unit starts at a byte.
@@ -32,10 +34,6 @@ inside p at (u ∷ us) =
 abbrev pub count_before : ℕ → Mark → ℕ
 count_before n (Start k) = n - k
 count_before n (End k) = suc n - k
-
--- the characters of a text up to a mark in it
-abbrev pub up_to_mark : Text → Mark → Text
-up_to_mark t m = take (count_before (length t) m) t
 
 -- A span in a text of n characters that starts where a character does, or at the end of the text, and goes to a mark that is no
 -- earlier. Each mark is told by how many characters are left from it on.
@@ -89,3 +87,14 @@ spans_of_fault (MissingBrace c s o) = s ∷ o ∷ []
 spans_of_fault (FillBrace c s o) = s ∷ o ∷ []
 spans_of_fault (Underscore s) = s ∷ []
 spans_of_fault (TooLarge ds s) = s ∷ []
+
+-- the spans of a piece, where there is one
+abbrev pub piece_spans : {A : Type 0} → Option (Piece A) → List A
+piece_spans None = []
+piece_spans (Some p) = spans_of p
+
+-- All spans of a call pass: those of its piece, of the placeholder that it closes, and of its faults.
+pub record AllSpans (P : Span → Type 0) (k : Call) : Type 0 where
+  pub piece : AllByRecursion P (piece_spans k.piece)
+  pub closes : AllByRecursion P (optional k.closes)
+  pub faults : AllByRecursion (λ f. AllByRecursion P (spans_of_fault f)) k.faults

@@ -9,13 +9,13 @@ use Rattle.rustc_parse_format.specs.declared.source.Source.{Source}
 use Rattle.rustc_parse_format.specs.Characters.{Text, begins_with, behind_first, byte_length}
 use Rattle.rustc_parse_format.specs.LiteralUnits.{LiteralUnit, Continuation, spelling, value, meaning, unit_at}
 use Rattle.rustc_parse_format.specs.Literal.{IsContent, content_value, newline, ordinary_frame, units}
-use Rattle.rustc_parse_format.specs.Source.{between}
+use Rattle.rustc_parse_format.specs.Source.{units_between}
 use Rattle.rustc_parse_format.specs.Bytes.{IsLeft}
 use Rattle.rustc_parse_format.specs.World.{World, Place, plain_world, ordinary_world, ordinary_end, content_places, last_stop, newline_places}
 
 -- the world of an ordinary source literal
 abbrev pub world_of_literal : Text → Bool → World
-world_of_literal snippet appended = ordinary_world (unwrap_or (units (between snippet)) []) appended
+world_of_literal snippet appended = ordinary_world (units_between snippet) appended
 
 -- the world of a source, which keeps the snippet only where its places are not those of a plain text
 abbrev pub world_with : Option (String Global) → Source → World

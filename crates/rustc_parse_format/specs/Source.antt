@@ -1,5 +1,5 @@
 -- Whether a snippet is the source literal of an input, by computing. The relation that it decides is `IsSource`.
-use Rattle.std.specs.Prelude.{ℕ, ◌-◌, ◌&&◌, ◌++◌, Bool, false, if◌then◌else◌, List, length, take, drop, Option, Some, None, bytes_eq}
+use Rattle.std.specs.Prelude.{ℕ, ◌-◌, ◌&&◌, ◌++◌, Bool, false, if◌then◌else◌, List, length, take, drop, [], Option, Some, None, bytes_eq, unwrap_or}
 use Rattle.rustc_parse_format.specs.Characters.{Text}
 use Rattle.rustc_parse_format.specs.LiteralUnits.{LiteralUnit}
 use Rattle.rustc_parse_format.specs.Literal.{units, content_value, ordinary_frame, raw_frame, newline, IsSource}
@@ -11,6 +11,10 @@ unappended appended t = if appended then take (length t - 1) t else t
 -- what stands between the first character and the last
 abbrev pub between : Text → Text
 between t = take (length t - 2) (drop 1 t)
+
+-- the units of an ordinary literal
+abbrev pub units_between : Text → List LiteralUnit
+units_between snippet = unwrap_or (units (between snippet)) []
 
 -- units, if they are there, stand for the text
 abbrev pub stand_for : Option (List LiteralUnit) → Text → Bool

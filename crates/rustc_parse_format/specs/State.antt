@@ -1,11 +1,12 @@
 -- What a caller sees of a parser between two calls.
-use Rattle.std.specs.Prelude.{◌≡◌, ◌++◌, ◌&&◌, ℕ, ◌-◌, Bool, true, false, if◌then◌else◌, List, [], ◌∷◌, length, Option, Some, None, option_map}
+use Rattle.std.specs.Prelude.{◌≡◌, ◌≢◌, ◌++◌, ◌&&◌, ◌⊎◌, ℕ, ◌-◌, Bool, true, false, if◌then◌else◌, List, [], ◌∷◌, length, Option, Some, None, option_map}
 use Rattle.rustc_parse_format.specs.Characters.{Text, byte_length}
 use Rattle.rustc_parse_format.specs.Types.{Mode, Piece, bare}
 use Rattle.rustc_parse_format.specs.Faults.{Fault, Message, add_errors}
 use Rattle.rustc_parse_format.specs.Marks.{Span}
 use Rattle.rustc_parse_format.specs.World.{World, Place, place_at, world, quote_offset, faults_in, pieces_in}
-use Rattle.rustc_parse_format.specs.Lines.{lines_in, closed_places, with_last}
+use Rattle.rustc_parse_format.specs.Literal.{IsSource}
+use Rattle.rustc_parse_format.specs.Lines.{IsLines, noted, lines_in, closed_places, with_last}
 use Rattle.rustc_parse_format.specs.Call.{Call, GivesAtMostText, call, walk, IsWalk, pieces_of}
 
 abbrev pub is_nil : Text → Bool
@@ -91,6 +92,28 @@ calls s = walk s.mode s.next s.rest
 abbrev pub after_all : State → List Call → State
 after_all s [] = s
 after_all s (k ∷ ks) = after_all (after s k) ks
+
+-- the characters that calls read as text, in order
+abbrev pub texts_of : List Call → List (ℕ × ℕ)
+texts_of [] = []
+texts_of (k ∷ ks) = k.texts ++ texts_of ks
+
+-- the places of the placeholders that calls close, in order
+abbrev pub closed_of : World → List Call → List Place
+closed_of w [] = []
+closed_of w (k ∷ ks) = closed_places w k.closes ++ closed_of w ks
+
+-- The lines of a walk in a source literal: those of all that is read as text, and at the end the last one.
+pub record AreLines (s : State) (ks : List Call) (new : State) : Type 0 where
+  pub lines : List Place
+  pub are_lines : IsLines s.line_start (noted s.world (texts_of ks)) lines new.line_start
+  pub kept : (new.line_spans ≡ with_last (new.line_start, s.world.end) (s.line_spans ++ lines))
+      ⊎ ((new.line_spans ≡ s.line_spans ++ lines) × (new.errors ≢ []))
+
+-- the input comes from this source literal, and the places are in it
+pub record ComesFrom (s : State) (style : Option ℕ) (snippet : Text) (appended : Bool) : Type 0 where
+  pub is_source : IsSource s.input style snippet appended
+  pub world_is : s.world ≡ world s.input style (Some snippet) appended
 
 -- the pieces ps are those of a walk from the state old on, and new is the state after its last call
 pub record Walks (old : State) (ps : List (Piece Place)) (new : State) : Type 0 where

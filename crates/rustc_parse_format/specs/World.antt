@@ -6,7 +6,7 @@ use Rattle.rustc_parse_format.specs.Characters.{Text, byte_length}
 use Rattle.rustc_parse_format.specs.Types.{Piece, map_piece}
 use Rattle.rustc_parse_format.specs.LiteralUnits.{LiteralUnit}
 use Rattle.rustc_parse_format.specs.Literal.{placed_characters, units}
-use Rattle.rustc_parse_format.specs.Source.{between, is_source}
+use Rattle.rustc_parse_format.specs.Source.{units_between, is_source}
 use Rattle.rustc_parse_format.specs.Marks.{Mark, Start, End, Span}
 use Rattle.rustc_parse_format.specs.Faults.{Fault, map_fault}
 
@@ -70,6 +70,17 @@ raw_end n snippet = byte_length snippet - (n + 1)
 abbrev pub ordinary_end : List LiteralUnit → ℕ
 ordinary_end us = last_stop 1 (content_places 1 us)
 
+-- so of a source literal of that style,
+abbrev pub literal_end : Option ℕ → Text → ℕ
+literal_end None snippet = ordinary_end (units_between snippet)
+literal_end (Some n) snippet = raw_end n snippet
+
+-- and of any input.
+abbrev pub text_end : Text → Option ℕ → Option Text → Bool → ℕ
+text_end input style None appended = input_end input appended
+text_end input style (Some snippet) appended =
+    if is_source input style (Some snippet) appended then literal_end style snippet else foreign_end snippet
+
 -- an ordinary source literal with these units
 abbrev pub ordinary_world : List LiteralUnit → Bool → World
 ordinary_world us appended =
@@ -77,7 +88,7 @@ ordinary_world us appended =
 
 -- a source literal of that style
 abbrev pub literal_world : Text → Option ℕ → Text → Bool → World
-literal_world input None snippet appended = ordinary_world (unwrap_or (units (between snippet)) []) appended
+literal_world input None snippet appended = ordinary_world (units_between snippet) appended
 literal_world input (Some n) snippet appended = plain_world true (n + 2) input (raw_end n snippet)
 
 unfoldable pub world : Text → Option ℕ → Option Text → Bool → World

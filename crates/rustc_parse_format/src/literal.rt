@@ -3,7 +3,8 @@
 
 ghost use Rattle.std.specs.Prelude.{◌≡◌, ◌↔◌, ◌++◌, ℕ, List, [], Some, None, IsTrue, IfOk, IsOk, IfSome, IfNone, MatchOption, chars, option_map, true, replicate};
 ghost use Rattle.rustc_parse_format.specs.Literal.{IsNoContent, IsOrdinaryLiteral, IsReadAs, IsSource, newline, ordinary_frame, raw_closing, raw_frame, raw_opening};
-ghost use Rattle.rustc_parse_format.specs.LiteralReading.{IsSourceTo, IsTaken, literal_end, placed, seen_characters, spelled_end};
+ghost use Rattle.rustc_parse_format.specs.LiteralReading.{IsSourceTo, IsTaken, placed, seen_characters, spelled_end};
+ghost use Rattle.rustc_parse_format.specs.World.{literal_end};
 
 mod rest;
 mod unit;

@@ -48,21 +48,23 @@ impl<'input> Model for Parser<'input> {
 }
 
 impl<'input> Parser<'input> {
-    ghost use Rattle.std.specs.Prelude.{◌≡◌, ◌≢◌, ◌+◌, ◌<◌, ◌≤◌, ◌^◌, ◌↔◌, [], ℕ, IfOk, IsNone, IsOk, IsTrue, OnErr, OnOk, chars, length, map, option_map};
+    ghost use Rattle.std.specs.Prelude.{◌≡◌, ◌≢◌, ◌+◌, ◌<◌, ◌≤◌, ◌^◌, ◌↔◌, ◌++◌, [], ℕ, Bool, true, false, List, Option, IfOk, IsNone, IsOk, IsTrue, OnErr, OnOk, chars, length, map, option_map};
     ghost use Rattle.rustc_parse_format.specs.Characters.{Text, behind_first};
-    ghost use Rattle.rustc_parse_format.specs.Faults.{Keeps};
+    ghost use Rattle.rustc_parse_format.specs.Faults.{Keeps, add_errors, bare_fault, bare_message};
+    ghost use Rattle.rustc_parse_format.specs.Lines.{IsLines, listed, noted};
+    ghost use Rattle.rustc_parse_format.specs.ReadBack.{AllSpans, IsInside, ReadsBack};
     ghost use Rattle.rustc_parse_format.specs.Grammar.{Begins};
     ghost use Rattle.rustc_parse_format.specs.Meaning.{argument};
     ghost use Rattle.rustc_parse_format.specs.Types.{NextArgument, Piece as BarePiece, bare};
     ghost use Rattle.rustc_parse_format.specs.Seen.{pair, seen, seen_error, seen_mode, seen_snippet};
     ghost use Rattle.rustc_parse_format.specs.Source.{HasSource};
-    ghost use Rattle.rustc_parse_format.specs.State.{GivesPiece, after, first_of, first_state, last_lines, next_call};
+    ghost use Rattle.rustc_parse_format.specs.State.{ComesFrom, GivesPiece, after, first_of, first_state, last_lines, next_call};
     ghost use Rattle.rustc_parse_format.specs.Spelling.{IsPart};
     ghost use Rattle.rustc_parse_format.specs.State.{NeedsNoMemory};
     ghost use Rattle.rustc_parse_format.specs.Steps.{IsInWord, Paid};
     ghost use Rattle.rustc_parse_format.specs.Placeholder.{placed};
     ghost use Rattle.rustc_parse_format.specs.Syntax.{FieldText, opened_part};
-    ghost use Rattle.rustc_parse_format.specs.World.{hashes, piece_in};
+    ghost use Rattle.rustc_parse_format.specs.World.{Place, hashes, piece_in, place_of, text_end};
 
     /// A parser at the start of an input, which stands in a literal of this style: None for an ordinary literal, or the
     /// number of the hashes of a raw one. The snippet is the source that the input is said to come from. The hashes, the
@@ -79,6 +81,7 @@ impl<'input> Parser<'input> {
         ensures ok { IsOk result }
         ensures start { IfOk result (λ p.
             p ≡ first_state (seen_mode mode) (chars input.now) style (seen_snippet snippet) appended_newline) }
+        ensures end { IfOk result (λ p. p.world.end ≡ text_end (chars input.now) style (seen_snippet snippet) appended_newline) }
         ensures source { IfOk result (λ p. IsTrue p.world.has_source
             ↔ HasSource (chars input.now) style (seen_snippet snippet) appended_newline) }
     {
@@ -205,6 +208,13 @@ impl<'input> Parser<'input> {
         self.next_counted(&mut count)
     }
 
+    /// What is left is a rest of the input. Nothing is done.
+    fn reads_its_input(&self)
+        ensures { (front : Text) × (self.now.input ≡ front ++ self.now.rest) }
+    {
+        let _at = self.spot.at;
+    }
+
     /// The next piece, or None at the end and over a closing brace that closes nothing, after which a later call goes
     /// on: a parser is not fused. An error leaves the parser as it was.
     pub fn next(&mut self) -> Result<Option<Piece<'input>>, AllocError>
@@ -228,10 +238,31 @@ impl<'input> Parser<'input> {
         ensures cut { IfOk result (λ p. (a : FieldText) (r : Text) → IsPart self.old.rest (opened_part self.old.mode a) r
             → option_map seen p ≡ Some (piece_in self.old.world (NextArgument (argument self.old.next (placed self.old.mode a r))))) }
 
+        // Pieces and errors without their spans do not depend on the world.
+        ensures worlds { IfOk result (λ p. (option_map bare (option_map seen p) ≡ option_map bare (next_call self.old).piece)
+            × (map bare_message self.new.errors ≡ add_errors (map bare_message self.old.errors) (map bare_fault (next_call self.old).faults))) }
+
+        // In a source literal each span reads back to the characters that it was read from, and lies inside the snippet.
+        ensures reads_back { (style : Option ℕ) (snippet : Text) (appended : Bool) → ComesFrom self.old style snippet appended
+            → AllSpans (λ s. ReadsBack self.old.input style snippet appended s (place_of self.old.world s)) (next_call self.old) }
+        ensures inside { (style : Option ℕ) (snippet : Text) (appended : Bool) → ComesFrom self.old style snippet appended
+            → AllSpans (λ s. IsInside snippet (place_of self.old.world s)) (next_call self.old) }
+
+        // In a source literal the lines are those of what was read as text, and a placeholder that was closed has its place; elsewhere
+        // there is neither.
+        ensures lines { OnOk result (self.old.rest ≢ [] → self.old.world.has_source ≡ true → (lines : List Place)
+            × (self.new.line_spans ≡ self.old.line_spans ++ lines)
+            × IsLines self.old.line_start (noted self.old.world (next_call self.old).texts) lines self.new.line_start) }
+        ensures places { OnOk result (self.old.world.has_source ≡ true
+            → self.new.arg_places ≡ self.old.arg_places ++ listed (option_map (place_of self.old.world) (next_call self.old).closes)) }
+        ensures sourceless { OnOk result (self.old.world.has_source ≡ false
+            → (self.new.arg_places ≡ self.old.arg_places) × (self.new.line_spans ≡ self.old.line_spans)) }
+
         // It moves on, and takes no more numbers than characters.
         ensures progress { OnOk result (self.old.rest ≢ [] → length self.new.rest < length self.old.rest) }
         ensures numbers { OnOk result (self.new.next + length self.new.rest ≤ self.old.next + length self.old.rest) }
     {
+        self.reads_its_input();
         self.next_uncounted::<Brand>(Blank::new(3))
     }
 

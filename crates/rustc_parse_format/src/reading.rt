@@ -1,16 +1,20 @@
 //! A whole input at once.
 
-ghost use Rattle.std.specs.Prelude.{◌≡◌, ◌≢◌, ◌+◌, false, ◌<◌, ◌^◌, ◌↔◌, ℕ, [], List, IfOk, IsOk, IsTrue, chars, length, map};
+ghost use Rattle.std.specs.Prelude.{◌≡◌, ◌≢◌, ◌+◌, false, ◌<◌, ◌^◌, ◌↔◌, ℕ, [], List, Some, IfOk, IsOk, IsTrue, chars, length, map};
 ghost use Rattle.rustc_parse_format.specs.Characters.{Text};
 ghost use Rattle.rustc_parse_format.specs.Grammar.{IsInGrammar, IsSpelled, Reads, StopsInside};
 ghost use Rattle.rustc_parse_format.specs.Types.{Mode, Piece as BarePiece, bare};
 ghost use Rattle.rustc_parse_format.specs.Seen.{seen, seen_mode, seen_snippet};
 ghost use Rattle.rustc_parse_format.specs.Source.{HasSource};
-ghost use Rattle.rustc_parse_format.specs.State.{Walks, after_all, calls, first_state};
-ghost use Rattle.rustc_parse_format.specs.Call.{pieces_of};
+ghost use Rattle.rustc_parse_format.specs.State.{AreLines, Walks, after_all, calls, closed_of, first_state};
+ghost use Rattle.rustc_parse_format.specs.Call.{faults_of, pieces_of, walk};
 ghost use Rattle.rustc_parse_format.specs.Steps.{AreFew, IsInWord, IsStart};
 ghost use Rattle.rustc_parse_format.specs.Syntax.{FieldText, IsOnlyCut};
-ghost use Rattle.rustc_parse_format.specs.World.{hashes, pieces_in};
+ghost use Rattle.rustc_parse_format.specs.World.{hashes, pieces_in, place_of};
+ghost use Rattle.std.specs.List.{AllByRecursion};
+ghost use Rattle.rustc_parse_format.specs.Faults.{add_errors, bare_fault, bare_message};
+ghost use Rattle.rustc_parse_format.specs.Literal.{IsSource};
+ghost use Rattle.rustc_parse_format.specs.ReadBack.{AllSpans, IsInside, ReadsBack};
 
 use crate::cursor::StepCount;
 use crate::parser::Parser;
@@ -90,6 +94,25 @@ pub fn read_all<'input>(
     // With an error, the first pieces read the input up to a character from which on nothing begins it.
     ensures first_fault { IfOk result (λ x. x.1.errors ≢ []
         → StopsInside (seen_mode mode) 0 (chars input.now) (map bare (map seen x.0.items))) }
+
+    // Pieces and errors without their spans do not depend on style, snippet or appended newline.
+    ensures worlds { IfOk result (λ x. let ks = walk (seen_mode mode) 0 (chars input.now) in
+        (map bare (map seen x.0.items) ≡ map bare (pieces_of ks))
+        × (map bare_message x.1.errors ≡ add_errors [] (map bare_fault (faults_of ks)))) }
+
+    // In a source literal each span reads back to the characters that it was read from, and lies inside the snippet;
+    ensures reads_back { (source : Text) → seen_snippet snippet ≡ Some source → IsSource (chars input.now) style source appended_newline
+        → (let s = first_state (seen_mode mode) (chars input.now) style (seen_snippet snippet) appended_newline in
+        AllByRecursion (AllSpans (λ m. ReadsBack (chars input.now) style source appended_newline m (place_of s.world m))) (calls s)) }
+    ensures inside { (source : Text) → seen_snippet snippet ≡ Some source → IsSource (chars input.now) style source appended_newline
+        → (let s = first_state (seen_mode mode) (chars input.now) style (seen_snippet snippet) appended_newline in
+        AllByRecursion (AllSpans (λ m. IsInside source (place_of s.world m))) (calls s)) }
+
+    // the lines are those of all that was read as text, and each placeholder that was closed has its place.
+    ensures lines { IfOk result (λ x. HasSource (chars input.now) style (seen_snippet snippet) appended_newline
+        → (let s = first_state (seen_mode mode) (chars input.now) style (seen_snippet snippet) appended_newline in AreLines s (calls s) x.1)) }
+    ensures places { IfOk result (λ x. let s = first_state (seen_mode mode) (chars input.now) style (seen_snippet snippet) appended_newline in
+        x.1.arg_places ≡ closed_of s.world (calls s)) }
 
     // An empty input that comes from no source literal is read even where no memory is left: it has no line to keep.
     ensures empty { input.now ≡ [] → (HasSource (chars input.now) style (seen_snippet snippet) appended_newline → ⊥) → IsOk result }

@@ -2,6 +2,7 @@ use Rattle.std.proofs.Common.{◌≡◌, ◌≤◌, ◌-◌, ap, arith, chars, d
 use Rattle.std.proofs.lemmas.Str.{encodes-chars, is_utf8-from_IsUtf8, length-le-encodes}
 use Rattle.rustc_parse_format.specs.Seen.{seen_snippet}
 use Rattle.rustc_parse_format.proofs.ReadBackWorlds.{has_source-is}
+use Rattle.rustc_parse_format.proofs.ParserLaws.{world-end}
 use Rattle.rustc_parse_format.proofs.SourcePlaces.{first_spot}
 use Rattle.rustc_parse_format.proofs.Sources.{has_source}
 use Rattle.rustc_parse_format.proofs.parser.Parser.new.Goals as goal
@@ -19,3 +20,7 @@ pub returns-clause-source : goal.returns-clause-source
 returns-clause-source c =
     rw (c.source_of-source.ensures.world, has_source-is (chars c.args.input.now) c.args.style (seen_snippet c.args.snippet) c.args.appended_newline)
     (has_source (chars c.args.input.now) c.args.style (seen_snippet c.args.snippet) c.args.appended_newline)
+
+pub returns-clause-end : goal.returns-clause-end
+returns-clause-end c =
+    rw c.source_of-source.ensures.world (world-end (chars c.args.input.now) c.args.style (seen_snippet c.args.snippet) c.args.appended_newline)

@@ -1,4 +1,9 @@
-use Rattle.std.proofs.Common.{◌∙◌}
+use Rattle.std.proofs.Common.{◌∙◌, ap, map}
+use Rattle.std.specs.Prelude.{option_map}
+use Rattle.rustc_parse_format.specs.Faults.{bare_message}
+use Rattle.rustc_parse_format.specs.Types.{bare}
+use Rattle.rustc_parse_format.specs.State.{State, next_call}
+use Rattle.rustc_parse_format.proofs.ParserLaws.{after_errors, bare_given, call_inside, call_lines, call_places, call_reads_back, call_sourceless}
 use Rattle.rustc_parse_format.specs.Seen.{seen}
 use Rattle.rustc_parse_format.proofs.Nexts.{if_ok, on_ok, cut_given, next_reads, next_faulty, next_ends, next_moves, next_numbers, next_keeps}
 use Rattle.rustc_parse_format.proofs.parser.Parser.next.Goals as goal
@@ -27,3 +32,25 @@ returns-clause-numbers c = on_ok c.next_uncounted.result c.next_uncounted.ensure
 
 pub returns-clause-keeps : goal.returns-clause-keeps
 returns-clause-keeps c = on_ok c.next_uncounted.result c.next_uncounted.ensures.state (λ f. next_keeps c.args.self.now c.next_uncounted.new.self f)
+
+pub returns-clause-worlds : goal.returns-clause-worlds
+returns-clause-worlds c = if_ok c.next_uncounted.result c.next_uncounted.ensures.piece c.next_uncounted.ensures.state
+    (λ p e f. (
+      ap (option_map bare) e ∙ bare_given c.args.self.now.world (next_call c.args.self.now).piece,
+      ap (λ (s : State). map bare_message s.errors) f ∙ after_errors c.args.self.now (next_call c.args.self.now),
+    ))
+
+pub returns-clause-reads_back : goal.returns-clause-reads_back
+returns-clause-reads_back c style snippet appended from = call_reads_back c.args.self.now style snippet appended (record { front = c.reads_its_input.ensures.0; whole = c.reads_its_input.ensures.1 }) from
+
+pub returns-clause-inside : goal.returns-clause-inside
+returns-clause-inside c style snippet appended from = call_inside c.args.self.now style snippet appended (record { front = c.reads_its_input.ensures.0; whole = c.reads_its_input.ensures.1 }) from
+
+pub returns-clause-lines : goal.returns-clause-lines
+returns-clause-lines c = on_ok c.next_uncounted.result c.next_uncounted.ensures.state (λ f some literal. rw f (call_lines c.args.self.now some literal))
+
+pub returns-clause-places : goal.returns-clause-places
+returns-clause-places c = on_ok c.next_uncounted.result c.next_uncounted.ensures.state (λ f literal. rw f (call_places c.args.self.now literal))
+
+pub returns-clause-sourceless : goal.returns-clause-sourceless
+returns-clause-sourceless c = on_ok c.next_uncounted.result c.next_uncounted.ensures.state (λ f none. rw f (call_sourceless c.args.self.now none))

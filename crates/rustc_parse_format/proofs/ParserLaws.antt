@@ -1,0 +1,323 @@
+-- What a call and a walk say of places: spans read back, lie inside the snippet, and do not depend on the world; lines and places of
+-- arguments are those of what was read.
+use Rattle.std.proofs.Common.{◌≡◌, ◌≢◌, ℕ, ◌++◌, Bool, true, false, cond, List, [], ◌∷◌, length, map, refl, ap, sym, subst, ◌∙◌, arith, Option, Some, None}
+use Rattle.std.proofs.Common.{append_assoc, inl, inr, ◌⊎◌}
+use Rattle.std.specs.Prelude.{if◌then◌else◌, option_map, IsTrue}
+use Rattle.std.specs.List.{AllByRecursion}
+use Rattle.std.proofs.lemmas.List.{append-nil, map-append}
+use Rattle.std.proofs.lemmas.Bool.{cond_both}
+use Rattle.std.proofs.lemmas.Option.{none-some}
+use Rattle.std.specs.Prelude.{◌==◌}
+use Rattle.rustc_parse_format.specs.Characters.{is_brace, is_no_brace, begins_with, behind_first, behind_white}
+use Rattle.rustc_parse_format.proofs.Placeholders.{placeholder-piece}
+use Rattle.rustc_parse_format.proofs.StateWalks.{after-more}
+use Rattle.rustc_parse_format.specs.Characters.{Text}
+use Rattle.rustc_parse_format.specs.Marks.{Span}
+use Rattle.rustc_parse_format.specs.Types.{Mode, Piece, bare}
+use Rattle.rustc_parse_format.specs.Faults.{Fault, Message, UnmatchedBrace, MissingBrace, FillBrace, Underscore, TooLarge, add_errors, bare_fault, bare_message}
+use Rattle.rustc_parse_format.specs.Faults.{is_front, map_fault, message}
+use Rattle.rustc_parse_format.specs.Call.{Call, IsWalk, GoesOn, call, closed_call, unclosed_call, placeholder, faults_of, pieces_of}
+use Rattle.rustc_parse_format.specs.Lines.{IsLines, lines_in, listed, noted, read_lines, closed_in, closed_places, with_last}
+use Rattle.rustc_parse_format.specs.Literal.{IsSource}
+use Rattle.rustc_parse_format.specs.ReadBack.{AllSpans, IsInside, ReadsBack}
+use Rattle.rustc_parse_format.specs.State.{State, AreLines, ComesFrom, after, after_all, calls, closed_of, first_state, next_call, texts_of}
+use Rattle.rustc_parse_format.specs.World.{World, Place, literal_world, literal_end, text_end, place_at, faults_in, piece_in, pieces_in, place_of, world}
+use Rattle.rustc_parse_format.proofs.Rests.{IsRest, IsRest-cons, IsRest-self, IsRest-trans, behind_rest, behind_first_rest, behind_white_rest, cut_rest}
+use Rattle.rustc_parse_format.specs.Placeholder.{cut}
+use Rattle.rustc_parse_format.specs.Source.{is_source}
+use Rattle.rustc_parse_format.proofs.BarePieces.{bare-piece_in, bare-pieces_in}
+use Rattle.rustc_parse_format.proofs.Progress.{walk-IsWalk}
+use Rattle.rustc_parse_format.proofs.LineLaws.{lines_in-append, lines_in-source, read_lines-cut}
+use Rattle.rustc_parse_format.proofs.ReadBackCalls.{rest-reads_back, rest-inside}
+use Rattle.rustc_parse_format.proofs.StateLines.{not_last, closed_in-none}
+
+placeholder_rest : (mode : Mode) (c b : ℕ) (t : Text) → IsRest (b ∷ t) (placeholder mode c (b ∷ t) t).rest
+unfolding placeholder
+placeholder_rest mode c b t =
+    let a = cut mode t in
+    let r : Text = behind_white a.rest in
+    let white : IsRest (b ∷ t) r = IsRest-cons b (IsRest-trans (cut_rest mode t) (behind_white_rest a.rest)) in
+    cond_both {A = Call} (begins_with 125 r) (closed_call c (b ∷ t) a r) (unclosed_call c (b ∷ t) a r) (λ k. IsRest (b ∷ t) k.rest)
+    (λ e. IsRest-trans white (behind_first_rest r)) (λ e. white)
+
+-- What a call leaves is a rest of its text.
+call_rest : (mode : Mode) (c : ℕ) (t : Text) → IsRest t (call mode c t).rest
+unfolding call
+call_rest mode c [] = IsRest-self []
+call_rest mode c (b ∷ t) =
+    cond_both {A = Call} (is_brace b) _ _ (λ k. IsRest (b ∷ t) k.rest)
+    (λ e. cond_both {A = Call} (begins_with b t) _ _ (λ k. IsRest (b ∷ t) k.rest)
+    (λ d. IsRest-cons b (IsRest-trans (behind_first_rest t) (behind_rest is_no_brace (behind_first t))))
+    (λ d. cond_both {A = Call} (b == 123) _ _ (λ k. IsRest (b ∷ t) k.rest) (λ o. placeholder_rest mode c b t) (λ o. IsRest-cons b (IsRest-self t))))
+    (λ e. behind_rest is_no_brace (b ∷ t))
+
+-- A call in a source literal.
+pub call_reads_back : (s : State) (style : Option ℕ) (snippet : Text) (appended : Bool) → IsRest s.input s.rest → ComesFrom s style snippet appended →
+    AllSpans (λ m. ReadsBack s.input style snippet appended m (place_of s.world m)) (next_call s)
+call_reads_back s style snippet appended r f =
+    subst (λ (w : World). AllSpans (λ m. ReadsBack s.input style snippet appended m (place_of w m)) (next_call s)) (sym f.world_is)
+    (rest-reads_back s.mode s.next s.input s.rest style snippet appended r f.is_source)
+
+pub call_inside : (s : State) (style : Option ℕ) (snippet : Text) (appended : Bool) → IsRest s.input s.rest → ComesFrom s style snippet appended →
+    AllSpans (λ m. IsInside snippet (place_of s.world m)) (next_call s)
+call_inside s style snippet appended r f =
+    subst (λ (w : World). AllSpans (λ m. IsInside snippet (place_of w m)) (next_call s)) (sym f.world_is)
+    (rest-inside s.mode s.next s.input s.rest style snippet appended r f.is_source)
+
+-- Faults without their spans do not depend on the world.
+bare_fault-map : {A B : Type 0} (f : A → B) (x : Fault A) → bare_fault (map_fault f x) ≡ bare_fault x
+bare_fault-map f (UnmatchedBrace s) = refl
+bare_fault-map f (MissingBrace c s o) = refl
+bare_fault-map f (FillBrace c s o) = refl
+bare_fault-map f (Underscore s) = refl
+bare_fault-map f (TooLarge ds s) = refl
+
+bare_faults-in : (w : World) (fs : List (Fault Span)) → map bare_fault (faults_in w fs) ≡ map bare_fault fs
+bare_faults-in w [] = refl
+bare_faults-in w (f ∷ fs) = rw (bare_fault-map (place_of w) f, bare_faults-in w fs) refl
+
+bare-message : {A : Type 0} (f : Fault A) → bare_message (message f) ≡ message (bare_fault f)
+unfolding message
+bare-message (UnmatchedBrace s) = refl
+bare-message (MissingBrace c s o) = refl
+bare-message (FillBrace c s o) = refl
+bare-message (Underscore s) = refl
+bare-message (TooLarge ds s) = refl
+
+bare_errors : {A : Type 0} (es : List (Message A)) (fs : List (Fault A)) → map bare_message (add_errors es fs)
+    ≡ add_errors (map bare_message es) (map bare_fault fs)
+bare_errors es [] = refl
+bare_errors es (f ∷ fs) =
+    bare_errors (es ++ message f ∷ []) fs
+    ∙ ap (λ ms. add_errors ms (map bare_fault fs)) (map-append bare_message es (message f ∷ []) ∙ ap (λ m. map bare_message es ++ m ∷ []) (bare-message f))
+
+pub after_errors : (s : State) (k : Call) → map bare_message (after s k).errors ≡ add_errors (map bare_message s.errors) (map bare_fault k.faults)
+after_errors s k = bare_errors s.errors (faults_in s.world k.faults) ∙ ap (add_errors (map bare_message s.errors)) (bare_faults-in s.world k.faults)
+
+pub bare_given : (w : World) (o : Option (Piece Span)) → option_map bare (option_map (piece_in w) o) ≡ option_map bare o
+bare_given w None = refl
+bare_given w (Some p) = ap Some (bare-piece_in w p)
+
+add_errors-append : {A : Type 0} (es : List (Message A)) (fs gs : List (Fault A)) → add_errors es (fs ++ gs) ≡ add_errors (add_errors es fs) gs
+add_errors-append es [] gs = refl
+add_errors-append es (f ∷ fs) gs = add_errors-append (es ++ message f ∷ []) fs gs
+
+pub after_all-errors : (s : State) (ks : List Call) → map bare_message (after_all s ks).errors
+    ≡ add_errors (map bare_message s.errors) (map bare_fault (faults_of ks))
+after_all-errors s [] = refl
+after_all-errors s (k ∷ ks) =
+    after_all-errors (after s k) ks
+    ∙ (ap (λ es. add_errors es (map bare_fault (faults_of ks))) (after_errors s k)
+    ∙ (sym (add_errors-append (map bare_message s.errors) (map bare_fault k.faults) (map bare_fault (faults_of ks)))
+    ∙ ap (add_errors (map bare_message s.errors)) (sym (map-append bare_fault k.faults (faults_of ks)))))
+
+closed_in-source : (w : World) (o : Option Span) → w.has_source ≡ true → closed_in w o ≡ option_map (place_of w) o
+unfolding place_at
+closed_in-source w o h = rw h refl
+
+-- The lines that a call before the end adds.
+pub call_lines : (s : State) → s.rest ≢ [] → s.world.has_source ≡ true → (lines : List Place)
+    × ((after s (next_call s)).line_spans ≡ s.line_spans ++ lines)
+    × IsLines s.line_start (noted s.world (next_call s).texts) lines (after s (next_call s)).line_start
+call_lines s some h =
+    let k = next_call s in
+    let r = lines_in s.world s.line_start k.texts in
+    let e = lines_in-source s.world s.line_start k.texts h in (
+      r.1,
+      not_last s s.rest (s.line_spans ++ r.1) refl some,
+      rw e (read_lines-cut s.line_start (noted s.world k.texts)),
+    )
+
+pub call_places : (s : State) → s.world.has_source ≡ true →
+    (after s (next_call s)).arg_places ≡ s.arg_places ++ listed (option_map (place_of s.world) (next_call s).closes)
+call_places s h = ap (λ o. s.arg_places ++ listed o) (closed_in-source s.world (next_call s).closes h)
+
+pub call_sourceless : (s : State) → s.world.has_source ≡ false →
+    ((after s (next_call s)).arg_places ≡ s.arg_places) × ((after s (next_call s)).line_spans ≡ s.line_spans)
+call_sourceless s h = rw (h, append-nil s.arg_places, append-nil s.line_spans) (refl, refl)
+
+-- The same of a walk.
+pub after_all-places : (s : State) (ks : List Call) → (after_all s ks).arg_places ≡ s.arg_places ++ closed_of s.world ks
+after_all-places s [] = sym (append-nil s.arg_places)
+after_all-places s (k ∷ ks) =
+    after_all-places (after s k) ks ∙ append_assoc s.arg_places (closed_places s.world k.closes) (closed_of s.world ks)
+
+-- where the line starts, and the lines, after calls that were all before the end
+abbrev walked : State → List Call → ℕ × List Place
+walked s ks = lines_in s.world s.line_start (texts_of ks)
+
+walked-next : (s : State) (k : Call) (ks : List Call) →
+    walked s (k ∷ ks) ≡ ((walked (after s k) ks).0, (lines_in s.world s.line_start k.texts).1 ++ (walked (after s k) ks).1)
+walked-next s k ks = lines_in-append s.world s.line_start k.texts (texts_of ks)
+
+-- The lines of a walk: all of it, and at the end the last line.
+record Walked (s : State) (ks : List Call) (new : State) : Type 0 where
+  start : new.line_start ≡ (walked s ks).0
+  lines : (new.line_spans ≡ with_last (new.line_start, s.world.end) (s.line_spans ++ (walked s ks).1))
+      ⊎ ((new.line_spans ≡ s.line_spans ++ (walked s ks).1) × (new.errors ≢ []))
+
+only_call : (s : State) (k : Call) → walked s (k ∷ []) ≡ lines_in s.world s.line_start k.texts
+only_call s k = ap (lines_in s.world s.line_start) (append-nil k.texts)
+
+end_walked : (s : State) → s.rest ≡ [] → s.world.has_source ≡ true → Walked s (next_call s ∷ []) (after s (next_call s))
+unfolding call
+end_walked s e h =
+    rw (e, h, append-nil s.line_spans)
+    (record { start = refl; lines = inl (ap (with_last (s.line_start, s.world.end)) (sym (append-nil s.line_spans))) })
+
+none_faulty : (mode : Mode) (c b : ℕ) (t : Text) → (call mode c (b ∷ t)).piece ≡ None → (call mode c (b ∷ t)).faults ≢ []
+unfolding call
+none_faulty mode c b t =
+    cond_both {A = Call} (is_brace b) _ _ (λ k. k.piece ≡ None → k.faults ≢ [])
+    (λ e. cond_both {A = Call} (begins_with b t) _ _ (λ k. k.piece ≡ None → k.faults ≢ [])
+    (λ d. λ h. absurd (none-some _ (sym h)))
+    (λ d. cond_both {A = Call} (b == 123) _ _ (λ k. k.piece ≡ None → k.faults ≢ [])
+    (λ o. λ h. absurd (none-some _ (sym h ∙ placeholder-piece mode c (b ∷ t) t))) (λ o. λ h. λ f. absurd (some_list _ _ f))))
+    (λ e. λ h. absurd (none-some _ (sym h)))
+  where
+    some_list : {A : Type 0} (x : A) (xs : List A) → x ∷ xs ≡ [] → ⊥
+    some_list x xs e = cc e
+
+last_call : (s : State) (t : Text) → s.rest ≡ t → s.world.has_source ≡ true → (next_call s).piece ≡ None → Walked s (next_call s ∷ []) (after s (next_call s))
+last_call s [] e h none = end_walked s e h
+last_call s (b ∷ t) e h none =
+    let k = next_call s in
+    let faulty : k.faults ≢ [] = rw e (none_faulty s.mode s.next b t (rw e at none)) in
+    let some : s.rest ≢ [] = λ f. absurd (some_text b t (sym e ∙ f)) in
+    record {
+      start = ap (λ (r : ℕ × List Place). r.0) (sym (only_call s k));
+      lines = inr (
+        not_last s s.rest (s.line_spans ++ (lines_in s.world s.line_start k.texts).1) refl some
+            ∙ ap (λ (r : ℕ × List Place). s.line_spans ++ r.1) (sym (only_call s k)),
+        λ f. omega (arith, after-more s k faulty, ap length f),
+      );
+    }
+  where
+    some_text : (c : ℕ) (u : Text) → c ∷ u ≡ [] → ⊥
+    some_text c u e = cc e
+
+-- a call with a piece, and the calls after it
+more_calls : (s new : State) (k : Call) (ks : List Call) → (after s k).line_spans ≡ s.line_spans ++ (lines_in s.world s.line_start k.texts).1 →
+    Walked (after s k) ks new → Walked s (k ∷ ks) new
+more_calls s new k ks e w =
+    let l = (lines_in s.world s.line_start k.texts).1 in
+    let m = (walked (after s k) ks).1 in
+    let all : (after s k).line_spans ++ m ≡ s.line_spans ++ (walked s (k ∷ ks)).1 =
+    ap (λ ls. ls ++ m) e ∙ (append_assoc s.line_spans l m ∙ ap (λ (r : ℕ × List Place). s.line_spans ++ r.1) (sym (walked-next s k ks))) in
+    record {
+      start = w.start ∙ ap (λ (r : ℕ × List Place). r.0) (sym (walked-next s k ks));
+      lines = either all w.lines;
+    }
+  where
+    either : {ls ms : List Place} → ls ≡ ms →
+        (new.line_spans ≡ with_last (new.line_start, s.world.end) ls) ⊎ ((new.line_spans ≡ ls) × (new.errors ≢ [])) →
+        (new.line_spans ≡ with_last (new.line_start, s.world.end) ms) ⊎ ((new.line_spans ≡ ms) × (new.errors ≢ []))
+    either f (inl x) = inl (x ∙ ap (with_last (new.line_start, s.world.end)) f)
+    either f (inr x) = inr (x.0 ∙ f, x.1)
+
+piece_some : (s : State) (p : Piece Span) → (next_call s).piece ≡ Some p → s.rest ≢ []
+unfolding call
+piece_some s p e f = let none : (next_call s).piece ≡ None = rw f refl in absurd (none-some p (sym none ∙ e))
+
+walk_lines : (s : State) (ks : List Call) → s.world.has_source ≡ true → IsWalk s.mode s.next s.rest ks → Walked s ks (after_all s ks)
+walk_lines s [] h w = absurd w
+walk_lines s (k ∷ ks) h w = by_piece k.piece refl w.1 (λ v. walk_lines (after s k) ks h v)
+  where
+    by_piece : (o : Option (Piece Span)) → k.piece ≡ o → GoesOn o ks (IsWalk s.mode k.next k.rest ks) →
+        (IsWalk s.mode k.next k.rest ks → Walked (after s k) ks (after_all (after s k) ks)) → Walked s (k ∷ ks) (after_all (after s k) ks)
+    by_piece None e g f =
+        let same : k ≡ next_call s = w.0 in
+        rw (g, same) (last_call s s.rest refl h (ap (λ (x : Call). x.piece) (sym same) ∙ e))
+    by_piece (Some p) e g f =
+        let some : s.rest ≢ [] = piece_some s p (ap (λ (x : Call). x.piece) (sym w.0) ∙ e) in
+        more_calls s (after_all (after s k) ks) k ks
+        (not_last s s.rest (s.line_spans ++ (lines_in s.world s.line_start k.texts).1) refl some) (f g)
+
+pub are_lines : (s : State) (ks : List Call) → s.world.has_source ≡ true → IsWalk s.mode s.next s.rest ks → AreLines s ks (after_all s ks)
+are_lines s ks h w =
+    let d = walk_lines s ks h w in
+    let e = lines_in-source s.world s.line_start (texts_of ks) h in
+    record {
+      lines = (walked s ks).1;
+      are_lines = rw (d.start, e) (read_lines-cut s.line_start (noted s.world (texts_of ks)));
+      kept = d.lines;
+    }
+
+-- Spans of a walk in a source literal.
+later : (P : Call → Type 0) (s : State) (k : Call) (ks : List Call) → GoesOn k.piece ks (IsWalk s.mode k.next k.rest ks) →
+    (IsWalk s.mode k.next k.rest ks → AllByRecursion P ks) → AllByRecursion P ks
+later P s k ks g f = by_piece k.piece g
+  where
+    by_piece : (o : Option (Piece Span)) → GoesOn o ks (IsWalk s.mode k.next k.rest ks) → AllByRecursion P ks
+    by_piece None e = rw e tt
+    by_piece (Some p) w = f w
+
+rest_after : (s : State) (k : Call) → IsRest s.input s.rest → k ≡ next_call s → IsRest s.input k.rest
+rest_after s k r e = rw e (IsRest-trans r (call_rest s.mode s.next s.rest))
+
+pub walk_reads_back : (s : State) (ks : List Call) (style : Option ℕ) (snippet : Text) (appended : Bool) → IsRest s.input s.rest →
+    ComesFrom s style snippet appended → IsWalk s.mode s.next s.rest ks →
+    AllByRecursion (AllSpans (λ m. ReadsBack s.input style snippet appended m (place_of s.world m))) ks
+walk_reads_back s [] style snippet appended r f w = absurd w
+walk_reads_back s (k ∷ ks) style snippet appended r f w = (
+  subst (AllSpans (λ m. ReadsBack s.input style snippet appended m (place_of s.world m))) (sym w.0) (call_reads_back s style snippet appended r f),
+  later (λ x. AllSpans (λ m. ReadsBack s.input style snippet appended m (place_of s.world m)) x) s k ks w.1
+      (λ v. walk_reads_back (after s k) ks style snippet appended (rest_after s k r w.0) (record { is_source = f.is_source; world_is = f.world_is }) v),
+)
+
+pub walk_inside : (s : State) (ks : List Call) (style : Option ℕ) (snippet : Text) (appended : Bool) → IsRest s.input s.rest →
+    ComesFrom s style snippet appended → IsWalk s.mode s.next s.rest ks → AllByRecursion (AllSpans (λ m. IsInside snippet (place_of s.world m))) ks
+walk_inside s [] style snippet appended r f w = absurd w
+walk_inside s (k ∷ ks) style snippet appended r f w = (
+  subst (AllSpans (λ m. IsInside snippet (place_of s.world m))) (sym w.0) (call_inside s style snippet appended r f),
+  later (λ x. AllSpans (λ m. IsInside snippet (place_of s.world m)) x) s k ks w.1
+      (λ v. walk_inside (after s k) ks style snippet appended (rest_after s k r w.0) (record { is_source = f.is_source; world_is = f.world_is }) v),
+)
+
+-- The end of each world.
+literal-end : (input : Text) (style : Option ℕ) (snippet : Text) (b : Bool) → (literal_world input style snippet b).end ≡ literal_end style snippet
+literal-end input None snippet b = refl
+literal-end input (Some n) snippet b = refl
+
+pub world-end : (input : Text) (style : Option ℕ) (snippet : Option Text) (b : Bool) → (world input style snippet b).end ≡ text_end input style snippet b
+unfolding world
+world-end input style None b = refl
+world-end input style (Some snippet) b = by_test (is_source input style (Some snippet) b) _ _ (literal-end input style snippet b)
+  where
+    by_test : (t : Bool) (v w : World) {e : ℕ} → v.end ≡ e → (cond t v w).end ≡ (if t then e else w.end)
+    by_test true v w h = h
+    by_test false v w h = refl
+
+-- The same of a fresh parser p, and of the parser new after its last call.
+from_source : (mode : Mode) (input : Text) (style : Option ℕ) (snippet : Option Text) (source : Text) (appended : Bool) → snippet ≡ Some source →
+    IsSource input style source appended → ComesFrom (first_state mode input style snippet appended) style source appended
+from_source mode input style snippet source appended e h = record { is_source = h; world_is = ap (λ (o : Option Text). world input style o appended) e }
+
+pub fresh_reads_back : (mode : Mode) (input : Text) (style : Option ℕ) (snippet : Option Text) (source : Text) (appended : Bool) → snippet ≡ Some source →
+    IsSource input style source appended → (let s = first_state mode input style snippet appended in
+    AllByRecursion (AllSpans (λ m. ReadsBack input style source appended m (place_of s.world m))) (calls s))
+fresh_reads_back mode input style snippet source appended e h =
+    let s = first_state mode input style snippet appended in
+    walk_reads_back s (calls s) style source appended (IsRest-self input) (from_source mode input style snippet source appended e h) (walk-IsWalk mode 0 input)
+
+pub fresh_inside : (mode : Mode) (input : Text) (style : Option ℕ) (snippet : Option Text) (source : Text) (appended : Bool) → snippet ≡ Some source →
+    IsSource input style source appended → (let s = first_state mode input style snippet appended in
+    AllByRecursion (AllSpans (λ m. IsInside source (place_of s.world m))) (calls s))
+fresh_inside mode input style snippet source appended e h =
+    let s = first_state mode input style snippet appended in
+    walk_inside s (calls s) style source appended (IsRest-self input) (from_source mode input style snippet source appended e h) (walk-IsWalk mode 0 input)
+
+pub fresh_worlds : (s p new : State) (ps : List (Piece Place)) → p ≡ s → ps ≡ pieces_in p.world (pieces_of (calls p)) → new ≡ after_all p (calls p) →
+    s.errors ≡ [] → (map bare ps ≡ map bare (pieces_of (calls s))) × (map bare_message new.errors ≡ add_errors [] (map bare_fault (faults_of (calls s))))
+fresh_worlds s p new ps e f g none = (
+  subst (λ (x : State). map bare ps ≡ map bare (pieces_of (calls x))) e (ap (map bare) f ∙ bare-pieces_in p.world (pieces_of (calls p))),
+  subst (λ (x : State). map bare_message new.errors ≡ add_errors (map bare_message x.errors) (map bare_fault (faults_of (calls x)))) e
+      (ap (λ (x : State). map bare_message x.errors) g ∙ after_all-errors p (calls p))
+      ∙ ap (λ es. add_errors (map bare_message es) (map bare_fault (faults_of (calls s)))) none,
+)
+
+pub fresh_lines : (s p new : State) → p ≡ s → new ≡ after_all p (calls p) → s.world.has_source ≡ true → AreLines s (calls s) new
+fresh_lines s p new e f h = rw (f, e) (are_lines s (calls s) h (walk-IsWalk s.mode s.next s.rest))
+
+pub fresh_places : (s p new : State) → p ≡ s → new ≡ after_all p (calls p) → s.arg_places ≡ [] → new.arg_places ≡ closed_of s.world (calls s)
+fresh_places s p new e f none = rw (f, e) (after_all-places s (calls s) ∙ ap (λ ps. ps ++ closed_of s.world (calls s)) none)
