@@ -138,7 +138,7 @@ noted-no_newline w (c ∷ u) r a =
     and_from (not (c == code "\n")) _ h.0 (noted-no_newline w u r h.1)
 
 -- Where each character of a run starts behind the start of the line, none is white space there.
-behind-no_indent : (w : World) (start : ℕ) (u r : Text) →
+pub behind-no_indent : (w : World) (start : ℕ) (u r : Text) →
     ((k : ℕ) → 0 < k → k ≤ length (u ++ r) → start < (place_at w k).0) → has_no_indent start (noted w (marked u r)) ≡ true
 behind-no_indent w start [] r h = refl
 behind-no_indent w start (c ∷ u) r h =
@@ -166,7 +166,7 @@ run-no_lines b w start (c ∷ u) r o n a s h =
     run-no_line b w start c u r o n a s (λ white here. true≢false (sym (indent-yes w start c (length (c ∷ (u ++ r))) white here) ∙ h))
 
 -- There are as many places as characters.
-length-content_places : (q : ℕ) (us : List LiteralUnit) → length (content_places q us) ≡ length (content_value us)
+pub length-content_places : (q : ℕ) (us : List LiteralUnit) → length (content_places q us) ≡ length (content_value us)
 length-content_places q [] = refl
 length-content_places q (u ∷ us) =
     let e = q + byte_length (spelling u) in
@@ -183,7 +183,7 @@ length-content_places q (u ∷ us) =
       length-append (value u) (content_value us),
     )
 
-length-newline : (e : ℕ) (appended : Bool) → length (newline_places e appended) ≡ length (newline appended)
+pub length-newline : (e : ℕ) (appended : Bool) → length (newline_places e appended) ≡ length (newline appended)
 length-newline e true = refl
 length-newline e false = refl
 
