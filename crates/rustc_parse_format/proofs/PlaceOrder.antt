@@ -138,7 +138,7 @@ noted-no_newline w (c ∷ u) r a =
     and_from (not (c == code "\n")) _ h.0 (noted-no_newline w u r h.1)
 
 -- Where each character of a run starts behind the start of the line, none is white space there.
-behind-no_indent : (w : World) (start : ℕ) (u r : Text) →
+pub behind-no_indent : (w : World) (start : ℕ) (u r : Text) →
     ((k : ℕ) → 0 < k → k ≤ length (u ++ r) → start < (place_at w k).0) → has_no_indent start (noted w (marked u r)) ≡ true
 behind-no_indent w start [] r h = refl
 behind-no_indent w start (c ∷ u) r h =

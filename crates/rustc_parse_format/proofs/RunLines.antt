@@ -1,20 +1,16 @@
 -- The run of text at the front of a source literal, read one character at a time.
 use Prim.Native.Char.{code}
-use Rattle.std.proofs.Common.{◌≡◌, ◌≢◌, ℕ, ◌++◌, true, cond, List, [], ◌∷◌, length, Option, Some, unwrap_or, refl, sym, ap, subst, ◌∙◌, arith, length-append}
+use Rattle.std.proofs.Common.{◌≡◌, ◌≢◌, ℕ, ◌++◌, true, cond, List, [], ◌∷◌, length, Option, Some, unwrap_or, sym, ap, subst, ◌∙◌, arith, length-append}
 use Rattle.std.proofs.lemmas.List.{append-nil}
 use Rattle.std.proofs.lemmas.Option.{none-some}
 use Rattle.std.proofs.lemmas.Bool.{ne_eqb}
-use Rattle.rustc_parse_format.specs.Characters.{Text, front, behind, is_no_brace, first, behind_first}
+use Rattle.rustc_parse_format.specs.Characters.{Text, front, behind, is_no_brace, first}
 use Rattle.rustc_parse_format.specs.World.{Place, place_at}
 use Rattle.rustc_parse_format.specs.Call.{marked}
 use Rattle.rustc_parse_format.specs.Lines.{Noted, read_lines}
-use Rattle.rustc_parse_format.specs.Midway.{Midway, read_texts, read_run, noted_next, IsInOneLine}
+use Rattle.rustc_parse_format.specs.Midway.{Midway, read_texts, read_run, noted_next, passed_next, IsInOneLine}
 use Rattle.rustc_parse_format.proofs.Fronts.{front-behind}
 use Rattle.rustc_parse_format.proofs.LineLaws.{Reading, lines_in-source, read_texts-append, note-newline, read_lines-step}
-
--- with a character noted, in front of the text t
-abbrev pub passed_next : ℕ → Text → Midway → Midway
-passed_next c t s = record (noted_next c s) { rest = t }
 
 -- read up to the rest r, with these characters as text
 abbrev pub read_up_to : Midway → List (ℕ × ℕ) → Text → Midway
@@ -22,7 +18,7 @@ read_up_to s cs r = record (read_texts s cs) { rest = r }
 
 -- A character that is no brace is noted, and then the run goes on behind it.
 step_here : (s : Midway) (c : ℕ) (t : Text) → s.world.has_source ≡ true → is_no_brace c ≡ true →
-    read_run (record s { rest = c ∷ t }) ≡ read_run (passed_next c t (record s { rest = c ∷ t }))
+    read_run (record s { rest = c ∷ t }) ≡ read_run (passed_next c (record s { rest = c ∷ t }))
 step_here s c t source passes =
     let here : Midway = record s { rest = c ∷ t } in
     let u : Text = front is_no_brace t in
@@ -34,11 +30,16 @@ step_here s c t source passes =
     ∙ ap (λ (q : Reading). read_up_to (record here { line_start = q.0; lines = s.lines ++ q.1 }) (marked u r) r)
     (lines_in-source s.world s.line_start (first ∷ []) source)))
 
-pub run-step : (s : Midway) (c : ℕ) (t : Text) → s.world.has_source ≡ true → s.rest ≡ c ∷ t → is_no_brace c ≡ true →
-    read_run s ≡ read_run (passed_next c t s)
-run-step s c t source e passes =
-    subst (λ (r : Text). read_run (record s { rest = r }) ≡ read_run (passed_next c t (record s { rest = r }))) (sym e)
-    (step_here s c t source passes)
+step_at : (s : Midway) (c : ℕ) (t : Text) → s.world.has_source ≡ true → first t ≡ Some c → is_no_brace c ≡ true →
+    read_run (record s { rest = t }) ≡ read_run (passed_next c (record s { rest = t }))
+step_at s c [] source e passes = absurd (none-some c e)
+step_at s c (d ∷ t) source e passes =
+    subst (λ d. read_run (record s { rest = d ∷ t }) ≡ read_run (passed_next c (record s { rest = d ∷ t })))
+    (ap (λ (o : Option ℕ). unwrap_or o c) (sym e)) (step_here s c t source passes)
+
+pub run-step : (s : Midway) (c : ℕ) → s.world.has_source ≡ true → first s.rest ≡ Some c → is_no_brace c ≡ true →
+    read_run (passed_next c s) ≡ read_run s
+run-step s c source e passes = sym (step_at s c s.rest source e passes)
 
 -- A run in one line begins with no newline, and goes on in that line behind any other character.
 noted_line : (s : Midway) (c : ℕ) → c ≢ code "\n" → (noted_next c s).lines ≡ s.lines
@@ -46,35 +47,20 @@ noted_line s c other =
     let x : Noted = (c, place_at s.world (length s.rest)) in
     ap (λ (q : Reading). s.lines ++ q.1) (read_lines-step s.line_start x [] (ne_eqb c (code "\n") other)) ∙ append-nil s.lines
 
-pub one_line-step : (s : Midway) (c : ℕ) (t : Text) → s.world.has_source ≡ true → s.rest ≡ c ∷ t → is_no_brace c ≡ true → c ≢ code "\n" →
-    IsInOneLine s → IsInOneLine (passed_next c t s)
-one_line-step s c t source e passes other one =
-    sym (ap (λ (m : Midway). m.lines) (run-step s c t source e passes)) ∙ (one ∙ sym (noted_line s c other))
-
 longer : (old line : List Place) (more : List Place) → (old ++ line) ++ more ≡ old → length line ≡ 0
 longer old line more e = omega (arith, ap length e, length-append (old ++ line) more, length-append old line)
 
-pub one_line-newline : (s : Midway) (c : ℕ) (t : Text) → s.world.has_source ≡ true → s.rest ≡ c ∷ t → is_no_brace c ≡ true →
+pub one_line-no_newline : (s : Midway) (c : ℕ) → s.world.has_source ≡ true → first s.rest ≡ Some c → is_no_brace c ≡ true →
     IsInOneLine s → c ≢ code "\n"
-one_line-newline s c t source e passes one is =
+one_line-no_newline s c source e passes one is =
     let line : List Place = (read_lines s.line_start ((c, place_at s.world (length s.rest)) ∷ [])).1 in
     let ended : line ≡ (s.line_start, (place_at s.world (length s.rest)).0) ∷ [] =
     ap (λ (q : Reading). q.1) (note-newline s.world s.line_start c (length s.rest) is) in
-    let none : length line ≡ 0 = longer s.lines line _ (sym (ap (λ (m : Midway). m.lines) (run-step s c t source e passes)) ∙ one) in
+    let none : length line ≡ 0 = longer s.lines line _ (ap (λ (m : Midway). m.lines) (run-step s c source e passes) ∙ one) in
     absurd (omega (arith, none, ap length ended))
 
--- The same of the next character, up to what is read next.
-next_is : (t : Text) (c : ℕ) → first t ≡ Some c → t ≡ c ∷ behind_first t
-next_is [] c e = absurd (none-some c e)
-next_is (d ∷ t) c e = ap (λ (o : Option ℕ). unwrap_or o c ∷ t) e
-
-pub run-next : (s u : Midway) (c : ℕ) → s.world.has_source ≡ true → first s.rest ≡ Some c → is_no_brace c ≡ true →
-    u ≡ passed_next c (behind_first s.rest) s → read_run u ≡ read_run s
-run-next s u c source e passes is = ap read_run is ∙ sym (run-step s c (behind_first s.rest) source (next_is s.rest c e) passes)
-
-pub one_line-next : (s u : Midway) (c : ℕ) → s.world.has_source ≡ true → first s.rest ≡ Some c → is_no_brace c ≡ true →
-    u ≡ passed_next c (behind_first s.rest) s → IsInOneLine s → IsInOneLine u
-one_line-next s u c source e passes is one =
-    let split : s.rest ≡ c ∷ behind_first s.rest = next_is s.rest c e in
-    let other : c ≢ code "\n" = one_line-newline s c (behind_first s.rest) source split passes one in
-    subst IsInOneLine (sym is) (one_line-step s c (behind_first s.rest) source split passes other one)
+pub one_line-step : (s : Midway) (c : ℕ) → s.world.has_source ≡ true → first s.rest ≡ Some c → is_no_brace c ≡ true →
+    IsInOneLine s → IsInOneLine (passed_next c s)
+one_line-step s c source e passes one =
+    ap (λ (m : Midway). m.lines) (run-step s c source e passes)
+    ∙ (one ∙ sym (noted_line s c (one_line-no_newline s c source e passes one)))

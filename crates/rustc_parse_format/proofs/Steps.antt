@@ -14,7 +14,7 @@ forward_then h k = record {
   part = omega (arith, h.part, k.part);
 }
 
-behind-le : (p : ℕ → Bool) (t : Text) → length (behind p t) ≤ length t
+pub behind-le : (p : ℕ → Bool) (t : Text) → length (behind p t) ≤ length t
 behind-le p [] = omega arith
 behind-le p (c ∷ t) =
     elim (p c) as (λ b. length (cond b (behind p t) (c ∷ t)) ≤ length (c ∷ t)) [

@@ -1,6 +1,6 @@
 -- A text is the list of its characters. Classes of characters, and the longest front of a text whose characters pass.
 use Prim.Native.Char.{code}
-use Rattle.std.specs.Prelude.{ℕ, ◌%◌, Bool, false, not, ◌||◌, ◌==◌, if◌then◌else◌, nat_lt, List, [], ◌∷◌, Option, Some, None, sum_by}
+use Rattle.std.specs.Prelude.{ℕ, ◌%◌, Bool, false, not, ◌&&◌, ◌||◌, ◌==◌, if◌then◌else◌, nat_lt, List, [], ◌∷◌, Option, Some, None, sum_by}
 use Rattle.std.specs.Char.{is_whitespace, is_ascii_digit, len_utf8}
 use Rattle.std.specs.Str.Parse.{digits_value}
 use Rattle.unicode_ident.specs.Ident.{is_xid_start, is_xid_continue}
@@ -22,6 +22,10 @@ is_brace c = (c == code "{") || (c == code "}")
 
 abbrev pub is_no_brace : ℕ → Bool
 is_no_brace c = not (is_brace c)
+
+-- no brace, and no newline
+abbrev pub is_in_line : ℕ → Bool
+is_in_line c = is_no_brace c && not (c == code "\n")
 
 -- `<`, `>` or `^`
 abbrev pub is_align : ℕ → Bool

@@ -1,7 +1,7 @@
 -- What contracts of readers see in the middle of a call. Only private contracts use it.
 use Rattle.std.specs.Prelude.{◌≡◌, ℕ, ◌++◌, List, [], ◌∷◌, length, Option, Some, None}
 use Rattle.rustc_parse_format.specs.declared.source.Source.{Source}
-use Rattle.rustc_parse_format.specs.Characters.{Text, front, behind, is_no_brace}
+use Rattle.rustc_parse_format.specs.Characters.{Text, front, behind, behind_first, is_no_brace}
 use Rattle.rustc_parse_format.specs.Marks.{Span}
 use Rattle.rustc_parse_format.specs.Faults.{Fault}
 use Rattle.rustc_parse_format.specs.World.{World, Place, faults_in, place_at}
@@ -61,6 +61,10 @@ abbrev pub noted_next : ℕ → Midway → Midway
 noted_next c s =
     let next = read_lines s.line_start ((c, place_at s.world (length s.rest)) ∷ []) in
     record s { line_start = next.0; lines = s.lines ++ next.1 }
+
+-- and read
+abbrev pub passed_next : ℕ → Midway → Midway
+passed_next c s = record (noted_next c s) { rest = behind_first s.rest }
 
 -- the run of text at the front ends no line
 abbrev pub IsInOneLine : Midway → Type 0

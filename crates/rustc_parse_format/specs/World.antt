@@ -1,5 +1,5 @@
 -- A world gives each character of the input its place, a range of bytes, and so each mark its number.
-use Rattle.std.specs.Prelude.{ℕ, suc, ◌+◌, ◌-◌, ◌++◌, Bool, true, false, if◌then◌else◌, List, [], ◌∷◌, length, map, Option, Some, None, slice_index_or}
+use Rattle.std.specs.Prelude.{ℕ, suc, ◌+◌, ◌-◌, ◌<◌, ◌≤◌, ◌++◌, Bool, true, false, if◌then◌else◌, List, [], ◌∷◌, length, map, Option, Some, None, slice_index_or}
 use Rattle.std.specs.Prelude.{unwrap_or}
 use Rattle.std.specs.Char.{len_utf8}
 use Rattle.rustc_parse_format.specs.Characters.{Text, byte_length}
@@ -104,6 +104,10 @@ place_at w k = slice_index_or w.places (length w.places - k) (w.end, w.end)
 abbrev pub number_of : World → Mark → ℕ
 number_of w (Start k) = (place_at w k).0
 number_of w (End k) = (place_at w k).1
+
+-- each of the last n characters starts behind a byte
+abbrev pub StartBehind : ℕ → World → ℕ → Type 0
+StartBehind byte w n = (k : ℕ) → 0 < k → k ≤ n → byte < (place_at w k).0
 
 abbrev pub place_of : World → Span → Place
 place_of w s = (number_of w s.from, number_of w s.to)

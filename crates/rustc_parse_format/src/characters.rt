@@ -16,6 +16,8 @@ pub enum Class {
     White,
     /// All but braces.
     Text,
+    /// All but braces and newlines.
+    Line,
 }
 
 impl Class {
@@ -30,6 +32,7 @@ impl Class {
             Class::Digit => c.is_ascii_digit(),
             Class::White => c.is_whitespace(),
             Class::Text => c != '{' && c != '}',
+            Class::Line => c != '{' && c != '}' && c != '\n',
         }
     }
 }

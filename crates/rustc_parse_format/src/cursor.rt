@@ -34,7 +34,7 @@ impl<'source, 'input> Model for Cursor<'source, 'input> {
 }
 
 impl<'source, 'input> Cursor<'source, 'input> {
-    ghost use Rattle.std.specs.Prelude.{◌≡◌, ◌-◌, ◌+◌, ◌<◌, ◌^◌, chars, if◌then◌else◌, length, option_map};
+    ghost use Rattle.std.specs.Prelude.{◌≡◌, ◌-◌, ◌+◌, ◌<◌, ◌^◌, chars, if◌then◌else◌, IsTrue, length, nat_lt, option_map};
     ghost use Rattle.rustc_parse_format.specs.Characters.{begins_with, first, behind_first, with_first, byte_length, front, behind, behind_white, word, behind_word, digits, behind_digits, number, is_id_start, is_over, first_passes};
     ghost use Rattle.std.specs.Char.{is_ascii_digit};
     ghost use Rattle.rustc_parse_format.specs.Classes.{passes};
@@ -43,7 +43,7 @@ impl<'source, 'input> Cursor<'source, 'input> {
     ghost use Rattle.rustc_parse_format.specs.SeenSource.{IsSpot, seen_world};
     ghost use Rattle.rustc_parse_format.specs.State.{first_of};
     ghost use Rattle.rustc_parse_format.specs.Steps.{Forward};
-    ghost use Rattle.rustc_parse_format.specs.World.{number_of};
+    ghost use Rattle.rustc_parse_format.specs.World.{number_of, StartBehind};
 
     /// At a spot of a source.
     pub fn new(source: &'source Source<'input>, spot: Spot<'input>) -> Cursor<'source, 'input>
@@ -163,6 +163,14 @@ impl<'source, 'input> Cursor<'source, 'input> {
         } else {
             self.source.offset + (self.source.input.len() - self.spot.rest.len())
         }
+    }
+
+    /// A character is left, and starts behind a byte: so does each that is left.
+    pub fn is_behind(&self, byte: usize) -> bool
+        ensures value { result ≡ first_passes (λ c. nat_lt byte (number_of self.now.world (Start (length self.now.rest)))) self.now.rest }
+        ensures all { IsTrue result → StartBehind byte self.now.world (length self.now.rest) }
+    {
+        first(self.spot.rest).is_some() && self.start() > byte
     }
 
     /// Where the next character ends in the source, or where the text ends.

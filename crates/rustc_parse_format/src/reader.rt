@@ -1,8 +1,8 @@
 //! What a call reads on: a cursor, the number that the next implicit argument takes, and what it has found so far.
 
 ghost use Rattle.std.specs.Prelude.{◌≡◌, ◌≢◌, ◌++◌, ◌+◌, ◌<◌, ◌^◌, ◌∷◌, [], IfOk, IsOk, IsTrue, OnOk, chars, length, map};
-ghost use Rattle.rustc_parse_format.specs.Characters.{front, behind_first, is_no_brace, with_first};
-ghost use Rattle.rustc_parse_format.specs.Midway.{IsInOneLine, midway, noted_next, read_run};
+ghost use Rattle.rustc_parse_format.specs.Characters.{behind, behind_first, front, is_in_line, is_no_brace, with_first};
+ghost use Rattle.rustc_parse_format.specs.Midway.{IsInOneLine, midway, noted_next, passed_next, read_run};
 ghost use Rattle.rustc_parse_format.specs.SeenFaults.{seen_fault};
 ghost use Rattle.rustc_parse_format.specs.Seen.{pair};
 ghost use Rattle.rustc_parse_format.specs.Steps.{Forward};
@@ -141,9 +141,31 @@ impl<'source, 'input> Reader<'source, 'input> {
             if !Class::Text.passes(c) {
                 break;
             }
-            self.note(c)?;
-            self.cursor.advance(trail);
+            if Class::Line.passes(c) && self.cursor.is_behind(self.line_start) {
+                self.skip_line(trail);
+            } else {
+                self.pass(c, trail)?;
+            }
         }
+        Ok(())
+    }
+
+    /// Moves up to the end of the line, or to a brace in it.
+    fn skip_line<L: Ledger>(&mut self, trail: &mut Trail<'input, L>)
+        ensures state { self.new ≡ record self.old { rest = behind is_in_line self.old.rest } }
+        ensures steps { Forward self.old.rest trail.old self.new.rest trail.new }
+    {
+        self.cursor.skip(Class::Line, trail);
+    }
+
+    /// Moves over the next character and notes it.
+    fn pass<L: Ledger>(&mut self, c: char, trail: &mut Trail<'input, L>) -> Result<(), AllocError>
+        ensures state { OnOk result (self.new ≡ passed_next c self.old) }
+        ensures spare { c ≢ 10 → IsOk result }
+        ensures steps { OnOk result (Forward self.old.rest trail.old self.new.rest trail.new) }
+    {
+        self.note(c)?;
+        self.cursor.advance(trail);
         Ok(())
     }
 

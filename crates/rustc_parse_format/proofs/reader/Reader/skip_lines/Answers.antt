@@ -1,34 +1,49 @@
-use Rattle.std.proofs.Common.{rules, ◌≡◌, sym, ap, subst, ◌∙◌, map, option_map, Some, true}
-use Rattle.rustc_parse_format.specs.Characters.{first, behind_first, is_no_brace}
-use Rattle.rustc_parse_format.specs.Midway.{Midway, Unread, IsInOneLine, read_run, noted_next}
-use Rattle.rustc_parse_format.specs.Seen.{pair}
-use Rattle.rustc_parse_format.specs.SeenFaults.{seen_fault}
+use Rattle.std.proofs.Common.{rules, ◌≡◌, ap, subst, sym, ◌∙◌, length, arith, Some, true}
+use Rattle.std.proofs.lemmas.Bool.{false≢true}
+use Rattle.rustc_parse_format.specs.Characters.{first, is_no_brace, is_in_line}
+use Rattle.rustc_parse_format.specs.Midway.{Midway, IsInOneLine, read_run}
+use Rattle.rustc_parse_format.specs.World.{StartBehind}
 use Rattle.rustc_parse_format.proofs.Steps.{forward_then}
-use Rattle.rustc_parse_format.proofs.RunLines.{passed_next, run-next, one_line-next}
+use Rattle.rustc_parse_format.proofs.RunLines.{run-step, one_line-step, one_line-no_newline}
+use Rattle.rustc_parse_format.proofs.RunSkips.{run-skip, one_line-skip, behind-shorter}
 use Rattle.rustc_parse_format.proofs.reader.Reader.skip_lines.Goals as goal
+
+pub loop-c-smaller-then-is_behind : goal.loop-c-smaller-then-is_behind
+loop-c-smaller-then-is_behind g c =
+    let next : first c.loop-c.self.rest ≡ Some c.in-Some.c = search rules in
+    let passes : is_in_line c.in-Some.c ≡ true = search rules in
+    omega (arith, ap (λ (s : Midway). length s.rest) c.skip_line.ensures.state, behind-shorter is_in_line c.loop-c.self.rest c.in-Some.c next passes)
+
+pub loop-c-preserved-then-is_behind : goal.loop-c-preserved-then-is_behind
+loop-c-preserved-then-is_behind g c =
+    let s = c.loop-c.self in
+    let before = c.loop-c.invariant in
+    let later : StartBehind s.line_start s.world (length s.rest) =
+    subst (λ (m : Midway). StartBehind m.line_start m.world (length m.rest)) c.self.view_is (c.is_behind.ensures.all c.if-is_behind.true) in
+    record {
+      source = search rules;
+      run = ap read_run c.skip_line.ensures.state ∙ (run-skip s before.source later ∙ before.run);
+      spare = λ one. subst IsInOneLine (sym c.skip_line.ensures.state) (one_line-skip s before.source later (before.spare one));
+      steps = forward_then before.steps c.skip_line.ensures.steps;
+    }
 
 pub loop-c-preserved : goal.loop-c-preserved
 loop-c-preserved g c =
-    let at : Unread → Midway = λ u. record {
-      source = u.source;
-      world = u.world;
-      input = u.input;
-      rest = u.rest;
-      next = c.self-in-Some.inside.curarg;
-      faults = map seen_fault c.self-in-Some.inside.found.items;
-      line_start = c.self-in-Some.inside.line_start;
-      lines = map pair c.self-in-Some.inside.lines.items;
-      closed = option_map pair c.self-in-Some.inside.closed;
-    } in
-    let noted : at c.self-in-Some.inside.cursor ≡ noted_next c.in-Some.c c.loop-c.self = c.self-in-Some.view_is ∙ c.in_ok-note.ensures.state in
-    let after : at c.advance.new.self ≡ passed_next c.in-Some.c (behind_first c.loop-c.self.rest) c.loop-c.self =
-    ap at c.advance.ensures.rest ∙ ap (λ (m : Midway). record m { rest = behind_first m.rest }) noted in
+    let s = c.loop-c.self in
+    let before = c.loop-c.invariant in
+    let next : first s.rest ≡ Some c.in-Some.c = search rules in
     let passes : is_no_brace c.in-Some.c ≡ true = search rules in
-    let next : first c.loop-c.self.rest ≡ Some c.in-Some.c = search rules in
-    let source = c.loop-c.invariant.source in
     record {
       source = search rules;
-      run = run-next c.loop-c.self (at c.advance.new.self) c.in-Some.c source next passes after ∙ c.loop-c.invariant.run;
-      spare = λ one. one_line-next c.loop-c.self (at c.advance.new.self) c.in-Some.c source next passes after (c.loop-c.invariant.spare one);
-      steps = search rules;
+      run = ap read_run c.in_ok-pass.ensures.state ∙ (run-step s c.in-Some.c before.source next passes ∙ before.run);
+      spare = λ one. subst IsInOneLine (sym c.in_ok-pass.ensures.state) (one_line-step s c.in-Some.c before.source next passes (before.spare one));
+      steps = forward_then before.steps c.in_ok-pass.ensures.steps;
     }
+
+pub returns-in_err-pass-clause-spare : goal.returns-in_err-pass-clause-spare
+returns-in_err-pass-clause-spare g c one =
+    let s = c.loop-c.self in
+    let before = c.loop-c.invariant in
+    let next : first s.rest ≡ Some c.in-Some.c = search rules in
+    let passes : is_no_brace c.in-Some.c ≡ true = search rules in
+    absurd (false≢true (c.in_err-pass.ensures.spare (one_line-no_newline s c.in-Some.c before.source next passes (before.spare one))))

@@ -1,0 +1,80 @@
+-- Where what is left starts behind the start of the line, the run of text up to the next newline changes nothing but the rest.
+use Prim.Native.Char.{code}
+use Rattle.std.proofs.Common.{◌≡◌, ℕ, ◌<◌, ◌++◌, ◌==◌, Bool, true, false, not, cond, [], ◌∷◌, length, Option, Some, unwrap_or, refl, sym, ap, subst, ◌∙◌, arith}
+use Rattle.std.proofs.lemmas.List.{append-nil}
+use Rattle.std.proofs.lemmas.Option.{none-some}
+use Rattle.std.proofs.lemmas.Bool.{cond-true, and_parts}
+use Rattle.rustc_parse_format.specs.Characters.{Text, front, behind, is_no_brace, is_in_line, first}
+use Rattle.rustc_parse_format.specs.World.{StartBehind}
+use Rattle.rustc_parse_format.specs.Call.{marked}
+use Rattle.rustc_parse_format.specs.Lines.{noted}
+use Rattle.rustc_parse_format.specs.Midway.{Midway, read_texts, read_run, IsInOneLine}
+use Rattle.rustc_parse_format.proofs.Fronts.{front-behind, list_all-front, list_all-weaker}
+use Rattle.rustc_parse_format.proofs.Steps.{behind-le}
+use Rattle.rustc_parse_format.proofs.LineLaws.{Reading, lines_in-source, marked-append, read_texts-append, read_lines-skip}
+use Rattle.rustc_parse_format.proofs.PlaceOrder.{no_newline, noted-no_newline, behind-no_indent}
+use Rattle.rustc_parse_format.proofs.RunLines.{read_up_to}
+
+-- The longest front of a class begins with the longest front of a class inside it.
+front-inside : (p q : ℕ → Bool) (t : Text) → ((c : ℕ) → q c ≡ true → p c ≡ true) → front p t ≡ front q t ++ front p (behind q t)
+front-inside p q [] f = refl
+front-inside p q (c ∷ t) f = by_test (q c) (f c) (front-inside p q t f)
+  where
+    by_test : (b : Bool) → (b ≡ true → p c ≡ true) → front p t ≡ front q t ++ front p (behind q t) →
+        front p (c ∷ t) ≡ cond b (c ∷ front q t) [] ++ front p (cond b (behind q t) (c ∷ t))
+    by_test true passes e = cond-true (p c) _ _ (passes refl) ∙ ap (λ (u : Text). c ∷ u) e
+    by_test false passes e = refl
+
+behind-inside : (p q : ℕ → Bool) (t : Text) → ((c : ℕ) → q c ≡ true → p c ≡ true) → behind p t ≡ behind p (behind q t)
+behind-inside p q [] f = refl
+behind-inside p q (c ∷ t) f = by_test (q c) (f c) (behind-inside p q t f)
+  where
+    by_test : (b : Bool) → (b ≡ true → p c ≡ true) → behind p t ≡ behind p (behind q t) → behind p (c ∷ t) ≡ behind p (cond b (behind q t) (c ∷ t))
+    by_test true passes e = cond-true (p c) _ _ (passes refl) ∙ e
+    by_test false passes e = refl
+
+in_line-no_brace : (c : ℕ) → is_in_line c ≡ true → is_no_brace c ≡ true
+in_line-no_brace c e = (and_parts (is_no_brace c) _ e).0
+
+in_line-no_newline : (t : Text) → no_newline (front is_in_line t) ≡ true
+in_line-no_newline t =
+    list_all-weaker is_in_line (λ c. not (c == code "\n")) (front is_in_line t) (λ c e. (and_parts (is_no_brace c) _ e).1)
+    (list_all-front is_in_line t)
+
+-- Characters of a run in front of a text r that start behind the start of the line, and are no newlines, change nothing.
+read_nothing : (s : Midway) (u r : Text) → s.world.has_source ≡ true → no_newline u ≡ true →
+    StartBehind s.line_start s.world (length (u ++ r)) → read_texts s (marked u r) ≡ s
+read_nothing s u r source none later =
+    ap (λ (q : Reading). record s { line_start = q.0; lines = s.lines ++ q.1 })
+    (lines_in-source s.world s.line_start (marked u r) source
+    ∙ read_lines-skip s.line_start (noted s.world (marked u r)) (noted-no_newline s.world u r none) (behind-no_indent s.world s.line_start u r later))
+    ∙ ap (λ ls. record s { lines = ls }) (append-nil s.lines)
+
+pub run-skip : (s : Midway) → s.world.has_source ≡ true → StartBehind s.line_start s.world (length s.rest) →
+    read_run (record s { rest = behind is_in_line s.rest }) ≡ read_run s
+run-skip s source later =
+    let t : Text = s.rest in
+    let u : Text = front is_in_line t in
+    let v : Text = front is_no_brace (behind is_in_line t) in
+    let r : Text = behind is_no_brace (behind is_in_line t) in
+    let split : t ≡ u ++ (v ++ r) =
+    front-behind is_in_line t ∙ ap (λ (x : Text). u ++ x) (front-behind is_no_brace (behind is_in_line t)) in
+    let none : read_texts s (marked u (v ++ r)) ≡ s =
+    read_nothing s u (v ++ r) source (in_line-no_newline t) (subst (λ (x : Text). StartBehind s.line_start s.world (length x)) split later) in
+    sym (ap (λ (x : Text). read_up_to s (marked (front is_no_brace t) x) x) (behind-inside is_no_brace is_in_line t in_line-no_brace)
+    ∙ (ap (λ (x : Text). read_up_to s (marked x r) r) (front-inside is_no_brace is_in_line t in_line-no_brace)
+    ∙ (ap (λ cs. read_up_to s cs r) (marked-append u v r)
+    ∙ (ap (λ (m : Midway). record m { rest = r }) (read_texts-append s (marked u (v ++ r)) (marked v r))
+    ∙ ap (λ (m : Midway). read_up_to m (marked v r) r) none))))
+
+pub one_line-skip : (s : Midway) → s.world.has_source ≡ true → StartBehind s.line_start s.world (length s.rest) →
+    IsInOneLine s → IsInOneLine (record s { rest = behind is_in_line s.rest })
+one_line-skip s source later one = ap (λ (m : Midway). m.lines) (run-skip s source later) ∙ one
+
+-- Such a run that is not empty leaves less.
+pub behind-shorter : (p : ℕ → Bool) (t : Text) (c : ℕ) → first t ≡ Some c → p c ≡ true → length (behind p t) < length t
+behind-shorter p [] c e passes = absurd (none-some c e)
+behind-shorter p (d ∷ t) c e passes =
+    let same : d ≡ c = ap (λ (o : Option ℕ). unwrap_or o c) e in
+    let left : behind p (d ∷ t) ≡ behind p t = cond-true (p d) _ _ (ap p same ∙ passes) in
+    omega (arith, ap length left, behind-le p t)

@@ -1,0 +1,71 @@
+-- In the world of a source the places stand in order, and what is left of the input has a place for each character: so what is left
+-- starts behind whatever the next character starts behind.
+use Rattle.std.proofs.Common.{◌≡◌, ℕ, ◌+◌, ◌-◌, ◌<◌, ◌≤◌, ◌++◌, ◌⊎◌, inl, inr, List, [], length, chars, Option, Some, None, unwrap_or}
+use Rattle.std.proofs.Common.{ap, arith, length-append}
+use Rattle.std.specs.Prelude.{string_bytes}
+use Rattle.std.proofs.lemmas.Bool.{cases_lt}
+use Rattle.std.specs.declared.string.String.{String}
+use Rattle.std.specs.declared.alloc.Global.{Global}
+use Rattle.rustc_parse_format.specs.declared.source.Source.{Source}
+use Rattle.rustc_parse_format.specs.Characters.{Text}
+use Rattle.rustc_parse_format.specs.LiteralUnits.{LiteralUnit}
+use Rattle.rustc_parse_format.specs.Literal.{units, content_value, newline}
+use Rattle.rustc_parse_format.specs.Source.{between}
+use Rattle.rustc_parse_format.specs.Bytes.{IsLeft}
+use Rattle.rustc_parse_format.specs.SeenSource.{IsSpot, IsPlaced, IsHere, seen_world, world_with}
+use Rattle.rustc_parse_format.specs.World.{World, StartBehind, place_at, content_places, newline_places, ordinary_world}
+use Rattle.rustc_parse_format.proofs.Places.{left, length-plain_places}
+use Rattle.rustc_parse_format.proofs.PlaceOrder.{InOrder, plain-in_order, ordinary-in_order, place-bytes, place-before, length-content_places, length-newline}
+
+-- From some byte on the places of a world stand in order, and there are n of them or more.
+pub record HasPlaces (w : World) (n : ℕ) : Type 0 where
+  pub from : ℕ
+  pub in_order : InOrder from w.places
+  pub enough : n ≤ length w.places
+
+plain_here : (s : Source) (rest : List ℕ) → IsLeft s.input.now rest → HasPlaces (world_with None s) (length (chars rest))
+plain_here s rest l =
+    let k = left s.input.now rest l in
+    record {
+      from = s.offset;
+      in_order = plain-in_order s.offset (chars s.input.now);
+      enough = omega (arith, length-plain_places s.offset (chars s.input.now), ap length k.whole, length-append k.pre (chars rest));
+    }
+
+here-enough : (snippet : List ℕ) (w : World) (rest : Text) (at : ℕ) → IsHere snippet w rest at → length rest ≤ length w.places
+here-enough snippet w rest at h =
+    omega (
+      arith,
+      ap length h.rest_is,
+      length-append (content_value h.units) (newline h.appended),
+      ap length h.places,
+      length-append h.passed (content_places at h.units ++ newline_places w.end h.appended),
+      length-append (content_places at h.units) (newline_places w.end h.appended),
+      length-content_places at h.units,
+      length-newline w.end h.appended,
+    )
+
+kept_here : (kept : Option (String Global)) (s : Source) (rest : List ℕ) (at : ℕ) → IsLeft s.input.now rest →
+    IsPlaced kept (world_with kept s) (chars rest) at → HasPlaces (world_with kept s) (length (chars rest))
+kept_here None s rest at l h = plain_here s rest l
+kept_here (Some snippet) s rest at l h =
+    let us : List LiteralUnit = unwrap_or (units (between (chars (string_bytes snippet)))) [] in
+    record {
+      from = 1;
+      in_order = ordinary-in_order us s.appended;
+      enough = here-enough (string_bytes snippet) (ordinary_world us s.appended) (chars rest) at h;
+    }
+
+pub spot-places : (s : Source) (rest : List ℕ) (at : ℕ) → IsSpot s rest at → HasPlaces (seen_world s) (length (chars rest))
+spot-places s rest at h = kept_here s.kept s rest at h.is_left h.is_placed
+
+-- What the first of the last n characters starts behind, they all do.
+pub start_behind : (w : World) (n byte : ℕ) → HasPlaces w n → byte < (place_at w n).0 → StartBehind byte w n
+start_behind w n byte h first k some within = by_order (cases_lt k n)
+  where
+    by_order : (k < n) ⊎ (n ≤ k) → byte < (place_at w k).0
+    by_order (inr no_later) = let same : k ≡ n = omega arith in rw same first
+    by_order (inl later) =
+        let order : (place_at w n).1 ≤ (place_at w k).0 = place-before h.from w n k h.in_order some later h.enough in
+        let bytes : (place_at w n).0 < (place_at w n).1 = place-bytes h.from w n h.in_order (omega arith) h.enough in
+        omega arith
