@@ -53,7 +53,7 @@ kept_here (Some snippet) s rest at l h =
     record {
       from = 1;
       in_order = ordinary-in_order us s.appended;
-      enough = here-enough (string_bytes snippet) (ordinary_world us s.appended) (chars rest) at h;
+      enough = here-enough (string_bytes snippet) (world_with (Some snippet) s) (chars rest) at h;
     }
 
 pub spot-places : (s : Source) (rest : List ℕ) (at : ℕ) → IsSpot s rest at → HasPlaces (seen_world s) (length (chars rest))
