@@ -66,9 +66,6 @@ lines_in-append w start cs ds =
 pub lines_in-source : (w : World) (start : ℕ) (cs : List (ℕ × ℕ)) → w.has_source ≡ true → lines_in w start cs ≡ read_lines start (noted w cs)
 lines_in-source w start cs e = cond-true w.has_source (read_lines start (noted w cs)) (start, []) e
 
-pub lines_in-no_source : (w : World) (start : ℕ) (cs : List (ℕ × ℕ)) → w.has_source ≡ false → lines_in w start cs ≡ (start, [])
-lines_in-no_source w start cs e = cond-false w.has_source (read_lines start (noted w cs)) (start, []) e
-
 -- and in the middle of a call
 pub read_texts-append : (s : Midway) (cs ds : List (ℕ × ℕ)) → read_texts s (cs ++ ds) ≡ read_texts (read_texts s cs) ds
 read_texts-append s cs ds =
@@ -92,10 +89,6 @@ read_lines-step start x xs e =
     ap (λ b. cond b ((read_lines x.1.1 xs).0, (start, x.1.0) ∷ (read_lines x.1.1 xs).1)
     (read_lines (moved start x) xs)) e
 
-pub read_lines-indent : (start : ℕ) (x : Noted) (xs : List Noted) → is_newline x ≡ false → is_indent start x ≡ true →
-    read_lines start (x ∷ xs) ≡ read_lines x.1.1 xs
-read_lines-indent start x xs e f = read_lines-step start x xs e ∙ ap (λ b. read_lines (cond b x.1.1 start) xs) f
-
 -- and any other character moves nothing.
 pub read_lines-other : (start : ℕ) (x : Noted) (xs : List Noted) → is_newline x ≡ false → is_indent start x ≡ false →
     read_lines start (x ∷ xs) ≡ read_lines start xs
@@ -108,9 +101,6 @@ newline-yes w c k e = eq-eqb c (code "\n") e
 newline-no : (w : World) (c k : ℕ) → c ≢ code "\n" → is_newline (c, place_at w k) ≡ false
 newline-no w c k h = ne_eqb c (code "\n") h
 
-pub indent-yes : (w : World) (start c k : ℕ) → is_whitespace c ≡ true → (place_at w k).0 ≡ start → is_indent start (c, place_at w k) ≡ true
-indent-yes w start c k white here = and_from (is_whitespace c) _ white (eq-eqb (place_at w k).0 start here)
-
 pub indent-no : (w : World) (start c k : ℕ) → (is_whitespace c ≡ true → (place_at w k).0 ≢ start) → is_indent start (c, place_at w k) ≡ false
 indent-no w start c k h = by_test (is_whitespace c) (λ white. ne_eqb (place_at w k).0 start (h white))
   where
@@ -121,14 +111,6 @@ indent-no w start c k h = by_test (is_whitespace c) (λ white. ne_eqb (place_at 
 pub note-newline : (w : World) (start c k : ℕ) → c ≡ code "\n" →
     read_lines start (noted w ((c, k) ∷ [])) ≡ ((place_at w k).1, (start, (place_at w k).0) ∷ [])
 note-newline w start c k e = read_lines-newline start (c, place_at w k) [] (newline-yes w c k e)
-
-pub note-indent : (w : World) (start c k : ℕ) → c ≢ code "\n" → is_whitespace c ≡ true → (place_at w k).0 ≡ start →
-    read_lines start (noted w ((c, k) ∷ [])) ≡ ((place_at w k).1, [])
-note-indent w start c k h white here = read_lines-indent start (c, place_at w k) [] (newline-no w c k h) (indent-yes w start c k white here)
-
-pub note-other : (w : World) (start c k : ℕ) → c ≢ code "\n" → (is_whitespace c ≡ true → (place_at w k).0 ≢ start) →
-    read_lines start (noted w ((c, k) ∷ [])) ≡ (start, [])
-note-other w start c k h other = read_lines-other start (c, place_at w k) [] (newline-no w c k h) (indent-no w start c k other)
 
 -- no newline among them
 abbrev pub has_no_newline : List Noted → Bool
@@ -189,20 +171,8 @@ cut-only start xs (line ∷ lines) next (front, behind, newline, split, none, is
     ∙ (ap (λ (r : Reading). (r.0, (indented start front, newline.1.0) ∷ r.1)) (sym later)
     ∙ ap (λ (p : Place). (next, p ∷ lines)) (sym l))))))
 
-pub cut-read : (start : ℕ) (xs : List Noted) (ls : List Place) (next : ℕ) → IsLines start xs ls next →
-    (ls ≡ (read_lines start xs).1) × (next ≡ (read_lines start xs).0)
-cut-read start xs ls next h =
-    let e = cut-only start xs ls next h in
-    (ap (λ (r : Reading). r.1) e, ap (λ (r : Reading). r.0) e)
-
 -- The last line stands there once: lines that end with it stay as they are.
 ends_with-last : (line : Place) (ls : List Place) → ends_with line (ls ++ line ∷ []) ≡ true
 ends_with-last line [] = and_from (line.0 == line.0) _ (eq-eqb line.0 line.0 refl) (eq-eqb line.1 line.1 refl)
 ends_with-last line (l ∷ []) = ends_with-last line []
 ends_with-last line (l ∷ m ∷ ls) = ends_with-last line (m ∷ ls)
-
-pub with_last-ends : (line : Place) (ls : List Place) → ends_with line (with_last line ls) ≡ true
-with_last-ends line ls = cond_both (ends_with line ls) ls (ls ++ line ∷ []) (λ ms. ends_with line ms ≡ true) (λ yes. yes) (λ no. ends_with-last line ls)
-
-pub with_last-once : (line : Place) (ls : List Place) → with_last line (with_last line ls) ≡ with_last line ls
-with_last-once line ls = cond-true (ends_with line (with_last line ls)) _ _ (with_last-ends line ls)

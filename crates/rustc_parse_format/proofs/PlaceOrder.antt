@@ -21,7 +21,7 @@ use Rattle.rustc_parse_format.proofs.LiteralWidths.{width-cons}
 use Rattle.rustc_parse_format.proofs.LiteralContents.{some_length, units-complete}
 use Rattle.rustc_parse_format.proofs.Places.{length-plain_places}
 use Rattle.rustc_parse_format.proofs.Sources.{source-found, between-frame}
-use Rattle.rustc_parse_format.proofs.LineLaws.{has_no_newline, has_no_indent, indent-yes, indent-no, read_lines-skip}
+use Rattle.rustc_parse_format.proofs.LineLaws.{has_no_newline, has_no_indent, indent-no, read_lines-skip}
 
 -- From a byte on, each place starts no earlier than where the one before it ended, and ends after it starts.
 abbrev pub InOrder : ℕ → List Place → Type 0
@@ -86,15 +86,6 @@ literal-in_order : (input : Text) (style : Option ℕ) (snippet : Text) (appende
 literal-in_order input None snippet appended = ordinary-in_order (unwrap_or (units (between snippet)) []) appended
 literal-in_order input (Some n) snippet appended = plain-in_order (n + 2) input
 
--- So do those of each world.
-pub world-in_order : (input : Text) (style : Option ℕ) (snippet : Option Text) (appended : Bool) →
-    InOrder (quote_offset style) (world input style snippet appended).places
-unfolding world
-world-in_order input style None appended = plain-in_order (quote_offset style) input
-world-in_order input style (Some snippet) appended =
-    cond_both (is_source input style (Some snippet) appended) _ _ (λ (w : World). InOrder (quote_offset style) w.places)
-    (λ yes. literal-in_order input style snippet appended) (λ no. plain-in_order (quote_offset style) input)
-
 -- Two places that stand in order, by index,
 get-from : (b : ℕ) (ps : List Place) (d : Place) (j : ℕ) → InOrder b ps → j < length ps → b ≤ (get_or ps j d).0
 get-from b [] d j o h = absurd (omega arith)
@@ -112,11 +103,6 @@ get-bytes : (b : ℕ) (ps : List Place) (d : Place) (i : ℕ) → InOrder b ps �
 get-bytes b [] d i o h = absurd (omega arith)
 get-bytes b (p ∷ ps) d zero (starts, ends, rest) h = ends
 get-bytes b (p ∷ ps) d (suc i) (starts, ends, rest) h = get-bytes p.1 ps d i rest (omega arith)
-
--- and by how many characters are left.
-pub place-from : (b : ℕ) (w : World) (k : ℕ) → InOrder b w.places → 0 < k → k ≤ length w.places → b ≤ (place_at w k).0
-unfolding place_at
-place-from b w k o h n = get-from b w.places (w.end, w.end) (length w.places - k) o (omega arith)
 
 pub place-before : (b : ℕ) (w : World) (k j : ℕ) → InOrder b w.places → 0 < j → j < k → k ≤ length w.places → (place_at w k).1 ≤ (place_at w j).0
 unfolding place_at
@@ -145,25 +131,6 @@ behind-no_indent w start (c ∷ u) r h =
     let first : start < (place_at w (length (c ∷ (u ++ r)))).0 = h (length (c ∷ (u ++ r))) (omega arith) (omega arith) in
     and_from _ _ (ap not (indent-no w start c (length (c ∷ (u ++ r))) (λ white. omega arith)))
     (behind-no_indent w start u r (λ k p q. h k p (omega arith)))
-
--- A run of text without newlines moves the start of the line at most at its first character.
-pub run-no_line : (b : ℕ) (w : World) (start c : ℕ) (u r : Text) → InOrder b w.places → length (c ∷ (u ++ r)) ≤ length w.places →
-    no_newline (c ∷ u) ≡ true → start ≤ (place_at w (length (c ∷ (u ++ r)))).0 →
-    (is_whitespace c ≡ true → (place_at w (length (c ∷ (u ++ r)))).0 ≢ start) → read_lines start (noted w (marked (c ∷ u) r)) ≡ (start, [])
-run-no_line b w start c u r o n a s h =
-    let bytes = place-bytes b w (length (c ∷ (u ++ r))) o (omega arith) n in
-    let later : (k : ℕ) → 0 < k → k ≤ length (u ++ r) → start < (place_at w k).0 =
-    λ k p q. let order = place-before b w (length (c ∷ (u ++ r))) k o p (omega arith) n in omega arith in
-    read_lines-skip start (noted w (marked (c ∷ u) r)) (noted-no_newline w (c ∷ u) r a)
-    (and_from _ _ (ap not (indent-no w start c (length (c ∷ (u ++ r))) h)) (behind-no_indent w start u r later))
-
--- The same of a run that may be empty.
-pub run-no_lines : (b : ℕ) (w : World) (start : ℕ) (u r : Text) → InOrder b w.places → length (u ++ r) ≤ length w.places →
-    no_newline u ≡ true → start ≤ (place_at w (length (u ++ r))).0 →
-    first_passes (λ c. is_indent start (c, place_at w (length (u ++ r)))) u ≡ false → read_lines start (noted w (marked u r)) ≡ (start, [])
-run-no_lines b w start [] r o n a s h = refl
-run-no_lines b w start (c ∷ u) r o n a s h =
-    run-no_line b w start c u r o n a s (λ white here. true≢false (sym (indent-yes w start c (length (c ∷ (u ++ r))) white here) ∙ h))
 
 -- There are as many places as characters.
 pub length-content_places : (q : ℕ) (us : List LiteralUnit) → length (content_places q us) ≡ length (content_value us)
@@ -206,12 +173,3 @@ length-literal input None snippet appended (t, (content, us, framed, is, stands)
     ap (λ (o : Option (List LiteralUnit)). length (ordinary_world (unwrap_or o []) appended).places) found
     ∙ (length-ordinary us appended ∙ ap length (ap (λ s. s ++ newline appended) stands ∙ whole))
 length-literal input (Some n) snippet appended h = length-plain_places (n + 2) input
-
-pub length-world : (input : Text) (style : Option ℕ) (snippet : Option Text) (appended : Bool) →
-    length (world input style snippet appended).places ≡ length input
-unfolding world
-length-world input style None appended = length-plain_places (quote_offset style) input
-length-world input style (Some snippet) appended =
-    cond_both (is_source input style (Some snippet) appended) _ _ (λ (w : World). length w.places ≡ length input)
-    (λ yes. length-literal input style snippet appended (source-found input style snippet appended yes))
-    (λ no. length-plain_places (quote_offset style) input)

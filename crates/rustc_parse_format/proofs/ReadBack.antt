@@ -200,26 +200,3 @@ pub forward-inside : (input : Text) (style : Option ℕ) (snippet : Text) (b : B
     IsForward (length input) s → IsInside snippet (place_of (world input style (Some snippet) b) s)
 forward-inside input style snippet b s h f =
     marks-inside input style snippet b s.from s.to (known input style snippet b h) f.from_start f.in_order
-
--- A content that starts k bytes later has all its places k bytes later.
-abbrev pub later : ℕ → Place → Place
-later k p = (k + p.0, k + p.1)
-
-pub placed-later : (k at : ℕ) (us : List LiteralUnit) →
-    placed_characters (k + at) us ≡ map (λ (x : Place × ℕ). (later k x.0, x.1)) (placed_characters at us)
-placed-later k at [] = refl
-placed-later k at (u ∷ us) =
-    let e : (k + at) + byte_length (spelling u) ≡ k + past at u = omega arith in
-    elim (one_or_none u) [
-      | inl z ↦ rw (z, e) (placed-later k (past at u) us)
-      | inr (c, z) ↦ rw (z, e) (ap (λ xs. ((k + at, k + past at u), c) ∷ xs) (placed-later k (past at u) us))
-    ]
-
-pub content-later : (k at : ℕ) (us : List LiteralUnit) → content_places (k + at) us ≡ map (later k) (content_places at us)
-content-later k at [] = refl
-content-later k at (u ∷ us) =
-    let e : (k + at) + byte_length (spelling u) ≡ k + past at u = omega arith in
-    elim (one_or_none u) [
-      | inl z ↦ rw (z, e) (content-later k (past at u) us)
-      | inr (c, z) ↦ rw (z, e) (ap (λ ps. (k + at, k + past at u) ∷ ps) (content-later k (past at u) us))
-    ]

@@ -114,20 +114,3 @@ pub rest-inside : (mode : Mode) (c : ℕ) (input t : Text) (style : Option ℕ) 
 rest-inside mode c input t style snippet appended h k =
     all_spans-weaker (IsForward (length input)) (λ s. IsInside snippet (place_of (world input style (Some snippet) appended) s)) (call mode c t)
     (λ s. forward-inside input style snippet appended s k) (rest-forward mode c input t h)
-
--- The same of the piece that a call gives, and of the placeholder that it closes.
-pub piece-reads_back : (mode : Mode) (c : ℕ) (input t : Text) (style : Option ℕ) (snippet : Text) (appended : Bool) (p : Piece Span) →
-    IsRest input t → IsSource input style snippet appended → (call mode c t).piece ≡ Some p →
-    AllByRecursion (λ s. ReadsBack input style snippet appended s (place_of (world input style (Some snippet) appended) s)) (spans_of p)
-piece-reads_back mode c input t style snippet appended p h k e =
-    subst (λ o. AllByRecursion (λ s. ReadsBack input style snippet appended s (place_of (world input style (Some snippet) appended) s)) (piece_spans o)) e
-    (rest-reads_back mode c input t style snippet appended h k).piece
-
-pub closed-reads_back : (mode : Mode) (c : ℕ) (input t : Text) (style : Option ℕ) (snippet : Text) (appended : Bool) (s : Span) →
-    IsRest input t → IsSource input style snippet appended → (call mode c t).closes ≡ Some s →
-    ReadsBack input style snippet appended s (place_of (world input style (Some snippet) appended) s)
-closed-reads_back mode c input t style snippet appended s h k e =
-    let all : AllByRecursion (λ x. ReadsBack input style snippet appended x (place_of (world input style (Some snippet) appended) x)) (optional (Some s))
-    = subst (λ o. AllByRecursion (λ x. ReadsBack input style snippet appended x (place_of (world input style (Some snippet) appended) x)) (optional o)) e
-    (rest-reads_back mode c input t style snippet appended h k).closes in
-    all.0

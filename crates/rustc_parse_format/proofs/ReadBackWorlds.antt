@@ -7,7 +7,7 @@ use Rattle.std.proofs.lemmas.Bool.{cond-true}
 use Rattle.rustc_parse_format.specs.Characters.{Text, byte_length}
 use Rattle.rustc_parse_format.specs.LiteralUnits.{LiteralUnit, Plain, spelling}
 use Rattle.rustc_parse_format.specs.Literal.{IsContent, content_value, units, ordinary_frame, raw_frame, raw_opening, raw_closing, newline, IsSource}
-use Rattle.rustc_parse_format.specs.Source.{between, unappended, is_source}
+use Rattle.rustc_parse_format.specs.Source.{between, units_between, unappended, is_source}
 use Rattle.rustc_parse_format.specs.World.{World, world, plain_world, plain_places, quote_offset, content_places, last_stop, newline_places, raw_end}
 use Rattle.rustc_parse_format.specs.World.{ordinary_world, literal_world}
 use Rattle.rustc_parse_format.specs.ReadBack.{source_units}
@@ -31,10 +31,6 @@ has_source-is input style (Some snippet) b =
     by_test : (t : Bool) (v w : World) → v.has_source ≡ true → w.has_source ≡ false → (cond t v w).has_source ≡ t
     by_test true v w h k = h
     by_test false v w h k = k
-
-pub source-has_source : (input : Text) (style : Option ℕ) (snippet : Text) (b : Bool) → IsSource input style snippet b →
-    (world input style (Some snippet) b).has_source ≡ true
-source-has_source input style snippet b h = has_source-is input style (Some snippet) b ∙ found-source input style snippet b h
 
 -- a source literal with these units from a byte on
 abbrev pub unit_world : ℕ → List LiteralUnit → Bool → World
@@ -141,3 +137,12 @@ known input (Some n) snippet b (t, e, whole) =
       whole = sym whole ∙ ap (λ s. s ++ newline b) (sym (plain_value t));
       inside = omega (arith, ap byte_length e, width-raw n t, last);
     }
+
+pub world-literal : (input : Text) (style : Option ℕ) (snippet : Text) (b : Bool) → IsSource input style snippet b →
+    world input style (Some snippet) b ≡ literal_world input style snippet b
+unfolding world
+world-literal input style snippet b h = cond-true (is_source input style (Some snippet) b) _ _ (found-source input style snippet b h)
+
+pub frame-units : (content : Text) (us : List LiteralUnit) → IsContent content us → units_between (ordinary_frame content) ≡ us
+frame-units content us h =
+    ap (λ (t : Text). unwrap_or (units t) []) (between-frame content) ∙ ap (λ (o : Option (List LiteralUnit)). unwrap_or o []) (units-complete content us h)

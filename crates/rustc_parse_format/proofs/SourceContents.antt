@@ -66,9 +66,6 @@ pub record IsRestOf (t : Text) (us : List LiteralUnit) : Type 0 where
   pub is_content : IsContent content units
   pub same : after_continuations units ≡ after_continuations us
 
-pub all_left : (t q : Text) (us : List LiteralUnit) → IsContent q us → t ≡ closed_by_quote q → IsRestOf t us
-all_left t q us h e = record { content = q; units = us; left = e; is_content = h; same = refl }
-
 letter-no_continuation : (l : ℕ) (r : Text) → IsTrue (is_some (escaped l)) → begins_continuation (92 ∷ l ∷ r) ≡ true → ⊥
 letter-no_continuation l r w h =
     let e : l ≡ 10 = eqb-true l 10 h in

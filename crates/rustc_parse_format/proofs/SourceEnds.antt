@@ -56,25 +56,3 @@ raw-room n bs t u e = omega (
 
 pub raw-ends : (n : ℕ) (bs : List ℕ) (t : Text) → IsUtf8 bs → chars bs ≡ raw_frame n t → Ends (Some n) (chars bs) t (Some (length bs - n - 1))
 raw-ends n bs t u e = (e, omega (arith, width-chars bs u))
-
--- the same of the source literal of an input
-abbrev pub EndsSource : Text → Option ℕ → Text → Bool → Option ℕ → Type 0
-EndsSource input style s appended o =
-    MatchOption o (IsSource input style s appended → ⊥) (λ e. IsSourceTo input style s appended e)
-
-pub source-ends : (input : Text) (style : Option ℕ) (s : Text) (appended : Bool) (t : Text) (o : Option ℕ) → t ++ newline appended ≡ input →
-    Ends style s t o → EndsSource input style s appended o
-source-ends input style s appended t None f h =
-    λ l. let same : l.0 ≡ t = append_cancel_right l.0 t (newline appended) (l.2 ∙ sym f) in
-    h (subst (IsLiteral style s) same l.1)
-source-ends input style s appended t (Some e) f h = ((t, h.0, f), h.1)
-
-pub no-source : (input : Text) (style : Option ℕ) (s : Text) (appended : Bool) →
-    ((t : List ℕ) → t ++ newline appended ≡ input → ⊥) → IsSource input style s appended → ⊥
-no-source input style s appended f l = f l.0 l.2
-
--- the test alone
-pub is_source-from_end : (input : Text) (style : Option ℕ) (s : Text) (appended : Bool) (o : Option ℕ) → EndsSource input style s appended o →
-    IsTrue (is_some o) ↔ IsSource input style s appended
-is_source-from_end input style s appended None h = ((λ b. cc b), (λ l. absurd (h l)))
-is_source-from_end input style s appended (Some e) h = ((λ b. h.0), (λ l. refl))

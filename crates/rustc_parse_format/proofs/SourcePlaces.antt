@@ -14,10 +14,6 @@ use Rattle.rustc_parse_format.specs.World.{World, Place, place_at}
 use Rattle.rustc_parse_format.specs.SeenSource.{IsHere, IsPlaced, IsSpot, seen_world, world_with}
 use Rattle.rustc_parse_format.proofs.Places.{begun, place_over, start_left, stop_left}
 
--- the kept snippet of a source, if there is one, is what decides
-pub plain_source : (s : Source) → s.kept ≡ None → seen_world s ≡ world_with None s
-plain_source s e = ap (λ (o : Option (String Global)). world_with o s) e
-
 placed_by : (o : Option (String Global)) (w : World) (rest : Text) (at : ℕ) (snippet : String Global) → IsPlaced o w rest at → o ≡ Some snippet →
     IsHere (string_bytes snippet) w rest at
 placed_by o w rest at snippet h e = rw e at h
@@ -76,23 +72,6 @@ kept_stop s rest at stop snippet h e some f =
     let b = begun rest (IsUtf8-from_is_utf8 rest h.is_left.valid_rest) some in
     let here = placed_in s rest at snippet h e in
     rw b.chars_are (f (seen_world s) b.head b.tail (rw b.chars_are at here))
-
--- a place passed
-pub passed_plain : (s : Source) (rest behind : List ℕ) (at : ℕ) → IsSpot s rest at → s.kept ≡ None → IsLeft s.input.now behind → IsSpot s behind at
-passed_plain s rest behind at h e l = record { is_left = l; is_placed = rw e tt; fits = h.fits }
-
-pub passed_kept : (s : Source) (rest behind : List ℕ) (at to : ℕ) (snippet : String Global) → IsSpot s rest at → s.kept ≡ Some snippet →
-    IsLeft s.input.now behind → chars behind ≡ behind_first (chars rest) →
-    ((w : World) (t : Text) → IsHere (string_bytes snippet) w t at → IsHere (string_bytes snippet) w (behind_first t) to) → IsSpot s behind to
-passed_kept s rest behind at to snippet h e l b f = record {
-  is_left = l;
-  is_placed = of_kept s.kept (seen_world s) (chars behind) to snippet e (rw b (f (seen_world s) (chars rest) (placed_in s rest at snippet h e)));
-  fits = h.fits;
-}
-  where
-    of_kept : (o : Option (String Global)) (w : World) (t : Text) (to : ℕ) (snippet : String Global) → o ≡ Some snippet →
-        IsHere (string_bytes snippet) w t to → IsPlaced o w t to
-    of_kept o w t to snippet e k = rw e k
 
 -- at the start of an input
 pub first_spot : (s : Source) (input : List ℕ) (at : ℕ) → IsUtf8 input → s.input.now ≡ input → s.offset + length input < 2 ^ 64 →

@@ -288,26 +288,3 @@ through_newline s w c rest at n h size e = of_ahead (by_ahead h.units h.ahead)
         ∙ newline-stop w.end c rest h.appended (h.rest_is ∙ ap (λ t. t ++ newline h.appended) none) in
         omega (arith, stop, at_end s w (c ∷ rest) at h none)
     of_ahead (inr k) = let bytes = unit_bytes k.unit in absurd (omega (arith, size, wide s w (c ∷ rest) at h k))
-
--- The first character of an ordinary literal is behind its quote and the continuations there.
-pub at_start : (s : List ℕ) (input : Text) (appended : Bool) (end g : ℕ) → IsUtf8 s → IsOrdinary input (chars s) appended end →
-    ((q : Text) (us : List LiteralUnit) → IsContent q us → chars (drop 1 s) ≡ closed_by_quote q → g ≡ gap us) →
-    IsHere s (world_of_literal (chars s) appended) input (1 + g)
-at_start s input appended end g u k f =
-    let found : units (between (chars s)) ≡ Some k.units =
-    ap (λ t. units (between t)) k.is_literal ∙ (ap units (between-frame k.content) ∙ units-complete k.content k.units k.is_content) in
-    let cut = cut_at s (34 ∷ []) (closed_by_quote k.content) u k.is_literal in
-    let reached : IsReached s (ordinary_world k.units appended) input 1 k.units = record {
-      within = cut.within;
-      is_text = cut.is_text;
-      content = k.content;
-      left = cut.chars_are;
-      is_content = k.is_content;
-      appended = appended;
-      rest_is = sym k.stands_for;
-      passed = [];
-      places = refl;
-      ending = refl;
-    } in
-    let gap_is : g ≡ gap k.units = f k.content k.units k.is_content cut.chars_are in
-    rw (found, gap_is) (settle s (ordinary_world k.units appended) input 1 k.units reached)

@@ -59,9 +59,6 @@ pub ended_spare : (s : State) (at : ℕ) → s.rest ≡ [] → s.world.has_sourc
     ends_with (s.line_start, at) s.line_spans ≡ false → last_lines s s.line_spans ≡ s.line_spans → ⊥
 ended_spare s at e h f b k = no_more s.line_spans (s.line_start, at) (ended_more s at _ e h f b refl ∙ k)
 
-pub ended_without : (s : State) → s.world.has_source ≡ false → s.line_spans ≡ last_lines s s.line_spans
-ended_without s h = rw h refl
-
 then_none : (o : Option Place) → closed_then None o ≡ o
 then_none None = refl
 then_none (Some p) = refl
@@ -95,10 +92,6 @@ nothing_found source s m k some e n c =
     sym (not_last s s.rest (s.line_spans ++ (lines_in s.world s.line_start k.texts).1) refl some) ∙ n.1 in
     let no_line : (lines_in s.world s.line_start k.texts).1 ≡ [] = nothing_appended s.line_spans _ kept in
     rw (e, none, no_line, c, closed_in-none s.world) (refl, refl, refl)
-
-pub lines_spare : (source : Source) (s : State) (k : Call) → s.rest ≢ [] → NeedsNoMemory s k → (read_call (before_call source s) k).lines ≡ []
-lines_spare source s k some n =
-    nothing_appended s.line_spans _ (sym (not_last s s.rest (s.line_spans ++ (lines_in s.world s.line_start k.texts).1) refl some) ∙ n.1)
 
 pub map_nil : {A B : Type 0} (f : A → B) (xs : List A) → map f xs ≡ [] → xs ≡ []
 map_nil f [] e = refl

@@ -45,6 +45,10 @@ plain_world literal at input end = record { has_source = literal; places = plain
 abbrev pub content_places : ℕ → List LiteralUnit → List Place
 content_places at us = map (λ (x : Place × ℕ). x.0) (placed_characters at us)
 
+-- a place some bytes later
+abbrev pub later : ℕ → Place → Place
+later k p = (k + p.0, k + p.1)
+
 -- where the last of these places ends; where there is none, it is e
 abbrev pub last_stop : ℕ → List Place → ℕ
 last_stop e [] = e

@@ -1,10 +1,11 @@
 //! String literals as they are written in a program: the characters of a content with their places, and which snippet
 //! is the source literal of an input.
 
-ghost use Rattle.std.specs.Prelude.{◌≡◌, ◌↔◌, ◌++◌, ℕ, List, [], Some, None, IsTrue, IfOk, IsOk, IfSome, IfNone, MatchOption, chars, option_map, true, replicate};
+ghost use Rattle.std.specs.Prelude.{◌≡◌, ◌↔◌, ◌++◌, ℕ, Bool, List, [], Some, None, IsTrue, IfOk, IsOk, IfSome, IfNone, MatchOption, chars, map, option_map, true, replicate};
 ghost use Rattle.rustc_parse_format.specs.Literal.{IsNoContent, IsOrdinaryLiteral, IsReadAs, IsSource, newline, ordinary_frame, raw_closing, raw_frame, raw_opening};
 ghost use Rattle.rustc_parse_format.specs.LiteralReading.{IsSourceTo, IsTaken, placed, seen_characters, spelled_end};
-ghost use Rattle.rustc_parse_format.specs.World.{literal_end};
+ghost use Rattle.rustc_parse_format.specs.Characters.{Text};
+ghost use Rattle.rustc_parse_format.specs.World.{later, literal_end, newline_places, world};
 
 mod rest;
 mod unit;
@@ -47,6 +48,11 @@ pub fn read_content(
 ) -> Result<Option<Vec<(Range<usize>, char)>>, AllocError>
     ensures found { IfOk result (λ o. IfSome o (λ v. IsReadAs (chars content.now) (seen_characters v.items))) }
     ensures none { IfOk result (λ o. IfNone o (IsNoContent (chars content.now))) }
+    // In a source literal with this content each character has the place that is given, after the opening quote.
+    ensures places { IfOk result (λ o. IfSome o (λ v. (input : Text) (appended : Bool)
+        → IsSource input None (ordinary_frame (chars content.now)) appended
+        → (let w = world input None (Some (ordinary_frame (chars content.now))) appended in
+        w.places ≡ map (λ x. later 1 x.0) (seen_characters v.items) ++ newline_places w.end appended))) }
     ensures empty { content.now ≡ [] → IsOk result }
 {
     read_characters(alloc, content)

@@ -3,6 +3,7 @@ use Rattle.std.specs.declared.ops.Range.{Range}
 use Rattle.std.proofs.lemmas.Str.{chars-nil}
 use Rattle.rustc_parse_format.specs.LiteralReading.{seen_characters}
 use Rattle.rustc_parse_format.proofs.LiteralPlaces.{read-found, read-none}
+use Rattle.rustc_parse_format.proofs.ContentPlaces.{in_literal}
 use Rattle.rustc_parse_format.proofs.literal.read_content.Goals as goal
 
 pub returns-clause-found : goal.returns-clause-found
@@ -16,3 +17,7 @@ returns-clause-none c =
 
 pub returns-clause-empty : goal.returns-clause-empty
 returns-clause-empty c e = c.read_characters.ensures.empty (ap chars e ∙ chars-nil)
+
+pub returns-clause-places : goal.returns-clause-places
+returns-clause-places c = in_literal c.read_characters.result (λ (v : Vec (Range ℕ × ℕ) Global). seen_characters v.items)
+    (chars c.args.content.now) (returns-clause-found c)

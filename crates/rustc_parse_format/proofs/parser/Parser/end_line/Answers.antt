@@ -1,5 +1,4 @@
 use Rattle.std.proofs.Common.{◌≡◌, ◌∙◌, ◌++◌, [], ◌∷◌, true, false, ap, map, rules, sym, length}
-use Rattle.std.proofs.lemmas.Bool.{false≢true}
 use Rattle.std.proofs.lemmas.List.{map-append}
 use Rattle.rustc_parse_format.specs.Lines.{ends_with}
 use Rattle.rustc_parse_format.specs.Seen.{pair}

@@ -1,5 +1,5 @@
-use Rattle.std.proofs.Common.{◌≡◌, ◌≤◌, ◌-◌, ap, arith, chars, drop, length, sym}
-use Rattle.std.proofs.lemmas.Str.{encodes-chars, is_utf8-from_IsUtf8, length-le-encodes}
+use Rattle.std.proofs.Common.{◌≤◌, arith, chars, length}
+use Rattle.std.proofs.lemmas.Str.{encodes-chars, length-le-encodes}
 use Rattle.rustc_parse_format.specs.Seen.{seen_snippet}
 use Rattle.rustc_parse_format.proofs.ReadBackWorlds.{has_source-is}
 use Rattle.rustc_parse_format.proofs.ParserLaws.{world-end}
