@@ -29,9 +29,9 @@ pub content-world : (content : Text) (us : List LiteralUnit) (ps : List (Place �
 content-world content us ps input appended h e source =
     let s = ordinary_frame content in
     let is : world input None (Some s) appended ≡ ordinary_world us appended =
-        world-literal input None s appended source ∙ ap (λ vs. ordinary_world vs appended) (frame-units content us h) in
+    world-literal input None s appended source ∙ ap (λ vs. ordinary_world vs appended) (frame-units content us h) in
     let same : content_places 1 us ≡ map (λ (x : Place × ℕ). later 1 x.0) ps = content-later 1 0 us ∙ (map_places (placed_characters 0 us)
-        ∙ ap (map (λ (x : Place × ℕ). later 1 x.0)) (sym e)) in
+    ∙ ap (map (λ (x : Place × ℕ). later 1 x.0)) (sym e)) in
     rw is (ap (λ qs. qs ++ newline_places (ordinary_end us) appended) same)
 
 -- the same of what a reader answers

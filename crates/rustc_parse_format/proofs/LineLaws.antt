@@ -6,12 +6,12 @@ use Rattle.std.proofs.Common.{append_assoc, if◌then◌else◌}
 use Rattle.std.specs.List.{list_all}
 use Rattle.std.specs.Char.{is_whitespace}
 use Rattle.std.proofs.lemmas.List.{map-append}
-use Rattle.std.proofs.lemmas.Bool.{cond_both, cond-true, cond-false, and_parts, and_from, not-true, ne_eqb, eq-eqb}
+use Rattle.std.proofs.lemmas.Bool.{cond-true, and_parts, and_from, not-true, ne_eqb, eq-eqb}
 use Rattle.rustc_parse_format.specs.Characters.{Text}
 use Rattle.rustc_parse_format.specs.World.{World, Place, place_at}
 use Rattle.rustc_parse_format.specs.Call.{marked}
 use Rattle.rustc_parse_format.specs.Midway.{Midway, read_texts}
-use Rattle.rustc_parse_format.specs.Lines.{Noted, noted, is_newline, is_indent, indented, IsLines, read_lines, lines_in, ends_with, with_last}
+use Rattle.rustc_parse_format.specs.Lines.{Noted, noted, is_newline, is_indent, indented, IsLines, read_lines, lines_in, ends_with}
 
 -- Reading from a line start on, and then more from where that stopped.
 abbrev pub Reading : Type 0

@@ -1,13 +1,13 @@
 -- What a call says of the grammar: the piece that begins the rest, a fault where nothing does, and the end.
-use Rattle.std.proofs.Common.{◌≡◌, ◌≢◌, ◌<◌, ◌≤◌, ◌+◌, ℕ, List, [], length, Option, Some, None, IsNone, ◌∷◌, false, refl, ap, ◌∙◌, codes}
+use Rattle.std.proofs.Common.{◌≡◌, ◌≢◌, ◌<◌, ◌≤◌, ◌+◌, ℕ, [], length, Option, Some, None, IsNone, ◌∷◌, false, refl, ap, ◌∙◌, codes}
 use Rattle.std.specs.Prelude.{Result, Ok, Err, IfOk, OnOk, option_map}
 use Rattle.rustc_parse_format.specs.Characters.{Text, begins_with}
 use Rattle.rustc_parse_format.specs.Grammar.{Begins}
 use Rattle.rustc_parse_format.specs.Types.{Mode, Piece, NextArgument, bare}
-use Rattle.rustc_parse_format.specs.Faults.{Message, Keeps}
+use Rattle.rustc_parse_format.specs.Faults.{Keeps}
 use Rattle.rustc_parse_format.specs.Call.{call}
 use Rattle.rustc_parse_format.specs.State.{State, GivesPiece, after, last_lines, next_call}
-use Rattle.rustc_parse_format.specs.World.{World, Place, faults_in, piece_in}
+use Rattle.rustc_parse_format.specs.World.{Place, faults_in, piece_in}
 use Rattle.std.proofs.lemmas.Bool.{not-true}
 use Rattle.rustc_parse_format.specs.Spelling.{IsPart, unless}
 use Rattle.rustc_parse_format.specs.Syntax.{FieldText, field_part, opened_part}

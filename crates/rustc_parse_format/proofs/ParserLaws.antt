@@ -2,7 +2,7 @@
 -- arguments are those of what was read.
 use Rattle.std.proofs.Common.{◌≡◌, ◌≢◌, ℕ, ◌++◌, Bool, true, false, cond, List, [], ◌∷◌, length, map, refl, ap, sym, subst, ◌∙◌, arith, Option, Some, None}
 use Rattle.std.proofs.Common.{append_assoc, inl, inr, ◌⊎◌}
-use Rattle.std.specs.Prelude.{if◌then◌else◌, option_map, IsTrue}
+use Rattle.std.specs.Prelude.{if◌then◌else◌, option_map}
 use Rattle.std.specs.List.{AllByRecursion}
 use Rattle.std.proofs.lemmas.List.{append-nil, map-append}
 use Rattle.std.proofs.lemmas.Bool.{cond_both}
@@ -15,9 +15,9 @@ use Rattle.rustc_parse_format.specs.Characters.{Text}
 use Rattle.rustc_parse_format.specs.Marks.{Span}
 use Rattle.rustc_parse_format.specs.Types.{Mode, Piece, bare}
 use Rattle.rustc_parse_format.specs.Faults.{Fault, Message, UnmatchedBrace, MissingBrace, FillBrace, Underscore, TooLarge, add_errors, bare_fault, bare_message}
-use Rattle.rustc_parse_format.specs.Faults.{is_front, map_fault, message}
+use Rattle.rustc_parse_format.specs.Faults.{map_fault, message}
 use Rattle.rustc_parse_format.specs.Call.{Call, IsWalk, GoesOn, call, closed_call, unclosed_call, placeholder, faults_of, pieces_of}
-use Rattle.rustc_parse_format.specs.Lines.{IsLines, lines_in, listed, noted, read_lines, closed_in, closed_places, with_last}
+use Rattle.rustc_parse_format.specs.Lines.{IsLines, lines_in, listed, noted, closed_in, closed_places, with_last}
 use Rattle.rustc_parse_format.specs.Literal.{IsSource}
 use Rattle.rustc_parse_format.specs.ReadBack.{AllSpans, IsInside, ReadsBack}
 use Rattle.rustc_parse_format.specs.State.{State, AreLines, ComesFrom, after, after_all, calls, closed_of, first_state, next_call, texts_of}
@@ -29,7 +29,7 @@ use Rattle.rustc_parse_format.proofs.BarePieces.{bare-piece_in, bare-pieces_in}
 use Rattle.rustc_parse_format.proofs.Progress.{walk-IsWalk}
 use Rattle.rustc_parse_format.proofs.LineLaws.{lines_in-append, lines_in-source, read_lines-cut}
 use Rattle.rustc_parse_format.proofs.ReadBackCalls.{rest-reads_back, rest-inside}
-use Rattle.rustc_parse_format.proofs.StateLines.{not_last, closed_in-none}
+use Rattle.rustc_parse_format.proofs.StateLines.{not_last}
 
 placeholder_rest : (mode : Mode) (c b : ℕ) (t : Text) → IsRest (b ∷ t) (placeholder mode c (b ∷ t) t).rest
 unfolding placeholder

@@ -1,27 +1,27 @@
 -- The places of a text stand in order, in each world, and there are as many as characters. So a run of text without newlines
 -- moves the start of the line at most at its first character.
 use Prim.Native.Char.{code}
-use Rattle.std.proofs.Common.{◌≡◌, ◌≢◌, ℕ, suc, zero, ◌+◌, ◌-◌, ◌<◌, ◌≤◌, ◌++◌, ◌==◌, Bool, true, false, not, List, [], ◌∷◌, length, map, get_or}
-use Rattle.std.proofs.Common.{Option, Some, None, unwrap_or, refl, sym, ap, ◌∙◌, arith, length-append}
+use Rattle.std.proofs.Common.{◌≡◌, ℕ, suc, zero, ◌+◌, ◌-◌, ◌<◌, ◌≤◌, ◌++◌, ◌==◌, Bool, true, false, not, List, [], ◌∷◌, length, map, get_or}
+use Rattle.std.proofs.Common.{Option, Some, None, unwrap_or, refl, ap, ◌∙◌, arith, length-append}
 use Rattle.std.specs.List.{list_all}
-use Rattle.std.specs.Char.{len_utf8, is_whitespace}
+use Rattle.std.specs.Char.{len_utf8}
 use Rattle.std.proofs.lemmas.Str.{len_utf8_bounds}
 use Rattle.std.proofs.lemmas.List.{length-map}
-use Rattle.std.proofs.lemmas.Bool.{cond_both, and_parts, and_from, true≢false}
-use Rattle.rustc_parse_format.specs.Characters.{Text, byte_length, first_passes}
+use Rattle.std.proofs.lemmas.Bool.{and_parts, and_from}
+use Rattle.rustc_parse_format.specs.Characters.{Text, byte_length}
 use Rattle.rustc_parse_format.specs.LiteralUnits.{LiteralUnit, Plain, SimpleEscape, ByteEscape, UnicodeEscape, Continuation}
 use Rattle.rustc_parse_format.specs.LiteralUnits.{spelling, value, escaped, at_most_one}
 use Rattle.rustc_parse_format.specs.Literal.{placed_characters, content_value, units, newline, IsSource}
-use Rattle.rustc_parse_format.specs.Source.{between, is_source}
+use Rattle.rustc_parse_format.specs.Source.{between}
 use Rattle.rustc_parse_format.specs.World.{World, Place, plain_places, content_places, last_stop, newline_places, ordinary_end, ordinary_world}
-use Rattle.rustc_parse_format.specs.World.{literal_world, quote_offset, world, place_at}
+use Rattle.rustc_parse_format.specs.World.{literal_world, quote_offset, place_at}
 use Rattle.rustc_parse_format.specs.Call.{marked}
-use Rattle.rustc_parse_format.specs.Lines.{noted, is_indent, read_lines}
+use Rattle.rustc_parse_format.specs.Lines.{noted}
 use Rattle.rustc_parse_format.proofs.LiteralWidths.{width-cons}
 use Rattle.rustc_parse_format.proofs.LiteralContents.{some_length, units-complete}
 use Rattle.rustc_parse_format.proofs.Places.{length-plain_places}
-use Rattle.rustc_parse_format.proofs.Sources.{source-found, between-frame}
-use Rattle.rustc_parse_format.proofs.LineLaws.{has_no_newline, has_no_indent, indent-no, read_lines-skip}
+use Rattle.rustc_parse_format.proofs.Sources.{between-frame}
+use Rattle.rustc_parse_format.proofs.LineLaws.{has_no_newline, has_no_indent, indent-no}
 
 -- From a byte on, each place starts no earlier than where the one before it ended, and ends after it starts.
 abbrev pub InOrder : ℕ → List Place → Type 0

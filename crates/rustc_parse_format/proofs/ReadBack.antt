@@ -1,9 +1,9 @@
 -- A span of marks that is forward reads back, in an ordinary source literal and in a raw one, and its place lies in order inside the snippet.
-use Rattle.std.proofs.Common.{◌≡◌, ℕ, suc, zero, ◌+◌, ◌-◌, ◌≤◌, ◌++◌, ◌⊎◌, inl, inr, Bool, true, false, List, [], ◌∷◌, length, map, take, drop, get_or}
+use Rattle.std.proofs.Common.{◌≡◌, ℕ, suc, zero, ◌-◌, ◌≤◌, ◌++◌, ◌⊎◌, inl, inr, Bool, true, false, List, [], ◌∷◌, length, take, drop, get_or}
 use Rattle.std.proofs.Common.{refl, sym, ap, ◌∙◌, subst, arith, Option, Some, length-append, take_all}
 use Rattle.rustc_parse_format.specs.Characters.{Text, byte_length}
-use Rattle.rustc_parse_format.specs.LiteralUnits.{LiteralUnit, spelling}
-use Rattle.rustc_parse_format.specs.Literal.{content_value, newline, placed_characters, IsSource}
+use Rattle.rustc_parse_format.specs.LiteralUnits.{LiteralUnit}
+use Rattle.rustc_parse_format.specs.Literal.{content_value, newline, IsSource}
 use Rattle.rustc_parse_format.specs.Marks.{Mark, Start, End, Span}
 use Rattle.rustc_parse_format.specs.World.{Place, world, quote_offset, content_places, last_stop, newline_places, place_at, number_of, place_of}
 use Rattle.rustc_parse_format.specs.ReadBack.{before, inside, count_before, left_at, IsStart, IsForward, IsInside, ReadsBack, source_units}

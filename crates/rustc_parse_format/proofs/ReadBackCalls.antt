@@ -1,11 +1,11 @@
 -- Each span of a call is forward: so in a source literal it reads back, and its place lies in order inside the snippet.
-use Rattle.std.proofs.Common.{◌≡◌, ℕ, ◌≤◌, ◌++◌, Bool, [], ◌∷◌, length, subst, arith, Option, Some, None}
+use Rattle.std.proofs.Common.{ℕ, ◌≤◌, ◌++◌, Bool, [], ◌∷◌, length, arith, Option, Some, None}
 use Prim.Native.Char.{code}
 use Rattle.std.specs.Prelude.{List, ◌==◌}
 use Rattle.std.specs.List.{AllByRecursion}
 use Rattle.std.proofs.lemmas.Bool.{cond_both}
 use Rattle.rustc_parse_format.specs.Characters.{Text, is_brace, behind_first, behind_white, begins_with, first}
-use Rattle.rustc_parse_format.specs.Types.{Mode, Spec, Piece}
+use Rattle.rustc_parse_format.specs.Types.{Mode, Spec}
 use Rattle.rustc_parse_format.specs.Placeholder.{cut}
 use Rattle.rustc_parse_format.specs.Marks.{Span, up_to, over_first}
 use Rattle.rustc_parse_format.specs.Meaning.{argument}
@@ -13,7 +13,7 @@ use Rattle.rustc_parse_format.specs.Faults.{no_brace, brace_fill}
 use Rattle.rustc_parse_format.specs.Literal.{IsSource}
 use Rattle.rustc_parse_format.specs.World.{world, place_of}
 use Rattle.rustc_parse_format.specs.Call.{Call, call, placeholder, closed_call, unclosed_call, text_call, unclosed_fault}
-use Rattle.rustc_parse_format.specs.ReadBack.{AllSpans, IsForward, IsInside, ReadsBack, optional, piece_spans, spans_of, spans_of_spec, spans_of_fault}
+use Rattle.rustc_parse_format.specs.ReadBack.{AllSpans, IsForward, IsInside, ReadsBack, optional, piece_spans, spans_of_spec, spans_of_fault}
 use Rattle.rustc_parse_format.proofs.Rests.{IsRest, IsRest-le, IsRest-trans, cut_rest, behind_white_rest}
 use Rattle.rustc_parse_format.proofs.ReadBackSpans.{AreForward, all-append, all-weaker, up_to-forward, through-forward, argument-forward}
 use Rattle.rustc_parse_format.proofs.ReadBackSpans.{cut_faults-forward}

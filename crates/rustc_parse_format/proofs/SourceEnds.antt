@@ -1,15 +1,15 @@
 -- Where the text of a source literal ends.
-use Rattle.std.proofs.Common.{◌≡◌, ◌++◌, ◌-◌, ◌+◌, ◌≤◌, ℕ, suc, Bool, List, [], ◌∷◌, refl, sym, ap, ◌∙◌, subst, zero, arith, Option, Some, None, MatchOption, IsTrue, ◌↔◌, length, replicate}
+use Rattle.std.proofs.Common.{◌≡◌, ◌++◌, ◌-◌, ◌+◌, ◌≤◌, ℕ, suc, List, [], ◌∷◌, refl, sym, ap, ◌∙◌, zero, arith, Option, Some, None, MatchOption, length, replicate}
 use Rattle.std.proofs.Common.{chars, IsUtf8}
-use Rattle.std.specs.Prelude.{is_some, unwrap_or}
+use Rattle.std.specs.Prelude.{unwrap_or}
 use Rattle.std.proofs.lemmas.List.{append_cancel_right}
 use Rattle.std.proofs.lemmas.Option.{none-some}
 use Rattle.rustc_parse_format.specs.Characters.{Text, byte_length}
 use Rattle.rustc_parse_format.specs.LiteralUnits.{LiteralUnit}
-use Rattle.rustc_parse_format.specs.Literal.{IsLiteral, IsSource, units, ordinary_frame, raw_frame, raw_closing, raw_opening, newline}
+use Rattle.rustc_parse_format.specs.Literal.{IsLiteral, units, ordinary_frame, raw_frame, raw_closing, raw_opening}
 use Rattle.rustc_parse_format.specs.Source.{between}
 use Rattle.rustc_parse_format.specs.World.{ordinary_end}
-use Rattle.rustc_parse_format.specs.LiteralReading.{spelled_end, IsSourceTo}
+use Rattle.rustc_parse_format.specs.LiteralReading.{spelled_end}
 use Rattle.rustc_parse_format.specs.Source.{units_between}
 use Rattle.rustc_parse_format.specs.World.{literal_end}
 use Rattle.rustc_parse_format.proofs.LiteralContents.{units-complete, units-content}

@@ -1,6 +1,6 @@
 -- How a place in a kept snippet goes on, character by character.
 use Rattle.std.proofs.Common.{◌≡◌, ◌≢◌, ◌++◌, ◌+◌, ◌-◌, ◌≤◌, ℕ, suc, Bool, true, false, List, [], ◌∷◌, length, get_or, chars, drop, IsUtf8, refl, ap, sym, subst, ◌∙◌, arith}
-use Rattle.std.proofs.Common.{length-append, length-drop, append_assoc, append-nil, Some, inl, inr, ◌⊎◌, IsCharBoundary}
+use Rattle.std.proofs.Common.{length-append, length-drop, append_assoc, append-nil, inl, inr, ◌⊎◌, IsCharBoundary}
 use Rattle.std.specs.Prelude.{encode_utf8, encode_utf8_all}
 use Rattle.std.specs.Char.{len_utf8}
 use Rattle.std.proofs.Math.Seq.{drop-append-add}
@@ -9,13 +9,10 @@ use Rattle.std.proofs.lemmas.List.{drop-drop, get_or-append-add}
 use Rattle.std.proofs.lemmas.List.Sums.{sum_by-cons}
 use Rattle.rustc_parse_format.specs.Characters.{Text, behind_first, byte_length}
 use Rattle.rustc_parse_format.specs.LiteralUnits.{LiteralUnit, spelling}
-use Rattle.rustc_parse_format.specs.Literal.{IsContent, content_value, newline, units}
-use Rattle.rustc_parse_format.specs.Source.{between}
-use Rattle.rustc_parse_format.specs.SeenSource.{IsHere, IsOrdinary, world_of_literal, after_continuations, character_width, closed_by_quote, gap, gap_to, spelled_units}
-use Rattle.rustc_parse_format.specs.World.{World, Place, place_at, content_places, last_stop, newline_places, ordinary_world}
+use Rattle.rustc_parse_format.specs.Literal.{IsContent, content_value, newline}
+use Rattle.rustc_parse_format.specs.SeenSource.{IsHere, after_continuations, character_width, closed_by_quote, gap, gap_to, spelled_units}
+use Rattle.rustc_parse_format.specs.World.{World, Place, place_at, content_places, last_stop, newline_places}
 use Rattle.rustc_parse_format.proofs.LiteralWidths.{width-append}
-use Rattle.rustc_parse_format.proofs.LiteralContents.{units-complete}
-use Rattle.rustc_parse_format.proofs.Sources.{between-frame}
 use Rattle.rustc_parse_format.proofs.Places.{place_end}
 use Rattle.rustc_parse_format.proofs.PlaceOrder.{length-content_places, length-newline, unit_bytes}
 use Rattle.rustc_parse_format.proofs.SourceContents.{after-content, closed-split, spelled}

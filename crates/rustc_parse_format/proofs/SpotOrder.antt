@@ -1,6 +1,6 @@
 -- In the world of a source the places stand in order, and what is left of the input has a place for each character: so what is left
 -- starts behind whatever the next character starts behind.
-use Rattle.std.proofs.Common.{◌≡◌, ℕ, ◌+◌, ◌-◌, ◌<◌, ◌≤◌, ◌++◌, ◌⊎◌, inl, inr, List, [], length, chars, Option, Some, None, unwrap_or}
+use Rattle.std.proofs.Common.{◌≡◌, ℕ, ◌<◌, ◌≤◌, ◌++◌, ◌⊎◌, inl, inr, List, [], length, chars, Option, Some, None, unwrap_or}
 use Rattle.std.proofs.Common.{ap, arith, length-append}
 use Rattle.std.specs.Prelude.{string_bytes}
 use Rattle.std.proofs.lemmas.Bool.{cases_lt}
@@ -13,7 +13,7 @@ use Rattle.rustc_parse_format.specs.Literal.{units, content_value, newline}
 use Rattle.rustc_parse_format.specs.Source.{between}
 use Rattle.rustc_parse_format.specs.Bytes.{IsLeft}
 use Rattle.rustc_parse_format.specs.SeenSource.{IsSpot, IsPlaced, IsHere, seen_world, world_with}
-use Rattle.rustc_parse_format.specs.World.{World, StartBehind, place_at, content_places, newline_places, ordinary_world}
+use Rattle.rustc_parse_format.specs.World.{World, StartBehind, place_at, content_places, newline_places}
 use Rattle.rustc_parse_format.proofs.Places.{left, length-plain_places}
 use Rattle.rustc_parse_format.proofs.PlaceOrder.{InOrder, plain-in_order, ordinary-in_order, place-bytes, place-before, length-content_places, length-newline}
 

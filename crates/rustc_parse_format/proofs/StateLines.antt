@@ -5,7 +5,6 @@ use Rattle.std.proofs.lemmas.Bool.{cond-true, cond-false}
 use Rattle.std.proofs.lemmas.List.{nil_from_length}
 use Rattle.std.proofs.lemmas.List.{append-nil}
 use Rattle.rustc_parse_format.specs.Characters.{Text}
-use Rattle.rustc_parse_format.specs.Marks.{Span}
 use Rattle.rustc_parse_format.specs.Call.{Call, call}
 use Rattle.rustc_parse_format.specs.Lines.{lines_in, closed_in, listed, ends_with, with_last}
 use Rattle.rustc_parse_format.specs.World.{World, Place, place_at}

@@ -1,11 +1,11 @@
 -- Literals by computing, as the functions that read them go: what a content gives, and what is after a prefix.
-use Rattle.std.specs.Prelude.{◌≡◌, ℕ, Bool, ◌==◌, if◌then◌else◌, List, [], ◌∷◌, map, Option, Some, None, option_map, unwrap_or, bytes_eq, not, ◌+◌, false}
+use Rattle.std.specs.Prelude.{◌≡◌, ℕ, Bool, ◌==◌, if◌then◌else◌, List, [], ◌∷◌, map, Option, Some, None, option_map, bytes_eq, not, ◌+◌, false}
 use Rattle.std.specs.declared.ops.Range.{Range}
 use Rattle.rustc_parse_format.specs.Characters.{Text, byte_length}
-use Rattle.rustc_parse_format.specs.World.{literal_end, Place, content_places, last_stop, ordinary_end, raw_end, input_end, foreign_end}
+use Rattle.rustc_parse_format.specs.World.{literal_end, Place, content_places, last_stop, input_end, foreign_end}
 use Rattle.rustc_parse_format.specs.LiteralUnits.{LiteralUnit}
 use Rattle.rustc_parse_format.specs.Literal.{units, content_value, placed_characters, IsSource}
-use Rattle.rustc_parse_format.specs.Source.{between, HasSource}
+use Rattle.rustc_parse_format.specs.Source.{HasSource}
 use Rattle.rustc_parse_format.specs.Seen.{pair}
 
 -- what a contract sees of characters with their places

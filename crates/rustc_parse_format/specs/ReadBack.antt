@@ -1,10 +1,9 @@
 -- Reading a range of a source literal back, through its escapes. The units of an ordinary literal are those of its content; of a
 -- raw one each character of its text stands for itself. The rule is the Rust Reference, string literals and raw string literals.
 use Rattle.std.specs.Prelude.{◌≡◌, ℕ, suc, ◌+◌, ◌-◌, ◌≤◌, ◌&&◌, ◌++◌, Bool, if◌then◌else◌, nat_le, List, [], ◌∷◌, length, map, take, drop, Option, Some}
-use Rattle.std.specs.Prelude.{None, unwrap_or}
+use Rattle.std.specs.Prelude.{None}
 use Rattle.rustc_parse_format.specs.Characters.{Text, byte_length}
 use Rattle.rustc_parse_format.specs.LiteralUnits.{LiteralUnit, Plain, spelling, value}
-use Rattle.rustc_parse_format.specs.Literal.{units}
 use Rattle.rustc_parse_format.specs.Source.{units_between, unappended}
 use Rattle.rustc_parse_format.specs.Marks.{Mark, Start, End, Span}
 use Rattle.rustc_parse_format.specs.Types.{Count, Name, Spec, Piece, Lit, NextArgument}

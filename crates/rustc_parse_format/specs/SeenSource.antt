@@ -1,6 +1,6 @@
 -- What a contract sees of where an input stands in its source. Only private contracts use it.
 use Prim.Native.Char.{code}
-use Rattle.std.specs.Prelude.{◌≡◌, ℕ, ◌≤◌, ◌<◌, ◌+◌, ◌^◌, ◌-◌, ◌&&◌, ◌++◌, ◌⊎◌, Bool, true, List, [], ◌∷◌, length, drop, flat_map, Option, Some, None, unwrap_or, chars, codes}
+use Rattle.std.specs.Prelude.{◌≡◌, ℕ, ◌≤◌, ◌<◌, ◌+◌, ◌^◌, ◌-◌, ◌&&◌, ◌++◌, ◌⊎◌, Bool, true, List, [], ◌∷◌, length, drop, flat_map, Option, Some, None, chars, codes}
 use Rattle.std.specs.Prelude.{string_bytes}
 use Rattle.std.specs.Str.{is_utf8}
 use Rattle.std.specs.declared.string.String.{String}
@@ -8,7 +8,7 @@ use Rattle.std.specs.declared.alloc.Global.{Global}
 use Rattle.rustc_parse_format.specs.declared.source.Source.{Source}
 use Rattle.rustc_parse_format.specs.Characters.{Text, begins_with, behind_first, byte_length}
 use Rattle.rustc_parse_format.specs.LiteralUnits.{LiteralUnit, Continuation, spelling, value, meaning, unit_at}
-use Rattle.rustc_parse_format.specs.Literal.{IsContent, content_value, newline, ordinary_frame, units}
+use Rattle.rustc_parse_format.specs.Literal.{IsContent, content_value, newline, ordinary_frame}
 use Rattle.rustc_parse_format.specs.Source.{units_between}
 use Rattle.rustc_parse_format.specs.Bytes.{IsLeft}
 use Rattle.rustc_parse_format.specs.World.{World, Place, plain_world, ordinary_world, ordinary_end, content_places, last_stop, newline_places}

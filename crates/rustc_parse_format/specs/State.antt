@@ -2,8 +2,7 @@
 use Rattle.std.specs.Prelude.{◌≡◌, ◌≢◌, ◌++◌, ◌&&◌, ◌⊎◌, ℕ, ◌-◌, Bool, true, false, if◌then◌else◌, List, [], ◌∷◌, length, Option, Some, None, option_map}
 use Rattle.rustc_parse_format.specs.Characters.{Text, byte_length}
 use Rattle.rustc_parse_format.specs.Types.{Mode, Piece, bare}
-use Rattle.rustc_parse_format.specs.Faults.{Fault, Message, add_errors}
-use Rattle.rustc_parse_format.specs.Marks.{Span}
+use Rattle.rustc_parse_format.specs.Faults.{Message, add_errors}
 use Rattle.rustc_parse_format.specs.World.{World, Place, place_at, world, quote_offset, faults_in, pieces_in}
 use Rattle.rustc_parse_format.specs.Literal.{IsSource}
 use Rattle.rustc_parse_format.specs.Lines.{IsLines, noted, lines_in, closed_places, with_last}

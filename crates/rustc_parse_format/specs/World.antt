@@ -1,11 +1,10 @@
 -- A world gives each character of the input its place, a range of bytes, and so each mark its number.
 use Rattle.std.specs.Prelude.{ℕ, suc, ◌+◌, ◌-◌, ◌<◌, ◌≤◌, ◌++◌, Bool, true, false, if◌then◌else◌, List, [], ◌∷◌, length, map, Option, Some, None, slice_index_or}
-use Rattle.std.specs.Prelude.{unwrap_or}
 use Rattle.std.specs.Char.{len_utf8}
 use Rattle.rustc_parse_format.specs.Characters.{Text, byte_length}
 use Rattle.rustc_parse_format.specs.Types.{Piece, map_piece}
 use Rattle.rustc_parse_format.specs.LiteralUnits.{LiteralUnit}
-use Rattle.rustc_parse_format.specs.Literal.{placed_characters, units}
+use Rattle.rustc_parse_format.specs.Literal.{placed_characters}
 use Rattle.rustc_parse_format.specs.Source.{units_between, is_source}
 use Rattle.rustc_parse_format.specs.Marks.{Mark, Start, End, Span}
 use Rattle.rustc_parse_format.specs.Faults.{Fault, map_fault}
