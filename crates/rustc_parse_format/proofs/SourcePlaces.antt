@@ -17,9 +17,10 @@ placed_by : (o : Option (String Global)) (w : World) (rest : Text) (at : ℕ) (s
     IsHere (string_bytes snippet) w rest at
 placed_by o w rest at snippet h e = rw e at h
 
-pub placed_in : (s : Source) (rest : List ℕ) (at : ℕ) (snippet : String Global) → IsSpot s rest at → s.kept ≡ Some snippet →
-    IsHere (string_bytes snippet) (seen_world s) (chars rest) at
-placed_in s rest at snippet h e = placed_by s.kept (seen_world s) (chars rest) at snippet h.is_placed e
+-- where the snippet is kept, the byte of a spot is that of its mark
+pub placed_in : (s : Source) (rest mark : List ℕ) (at : ℕ) (snippet : String Global) → IsSpot s rest mark at → s.kept ≡ Some snippet →
+    IsHere (string_bytes snippet) (seen_world s) (chars mark) at
+placed_in s rest mark at snippet h e = placed_by s.kept (seen_world s) (chars mark) at snippet h.is_placed e
 
 literal_in : (o : Option (String Global)) (s : Source) → s.is_literal ≡ (world_with o s).has_source
 literal_in None s = refl
@@ -29,57 +30,59 @@ pub source_literal : (s : Source) → s.is_literal ≡ (seen_world s).has_source
 source_literal s = literal_in s.kept s
 
 -- in a plain world
-pub plain_start : (s : Source) (rest : List ℕ) (at : ℕ) → IsSpot s rest at → s.kept ≡ None → (length rest ≡ 0 → ⊥) →
+pub plain_start : (s : Source) (rest mark : List ℕ) (at : ℕ) → IsSpot s rest mark at → s.kept ≡ None → (length rest ≡ 0 → ⊥) →
     s.offset + (length s.input.now - length rest) ≡ (place_at (seen_world s) (length (chars rest))).0
-plain_start s rest at h e some = rw e (sym (start_left s.is_literal s.offset s.end s.input.now rest h.is_left some))
+plain_start s rest mark at h e some = rw e (sym (start_left s.is_literal s.offset s.end s.input.now rest h.is_left some))
 
-pub plain_stop : (s : Source) (rest behind : List ℕ) (at : ℕ) → IsSpot s rest at → s.kept ≡ None → IsUtf8 behind → (length rest ≡ 0 → ⊥) →
+pub plain_stop : (s : Source) (rest behind mark : List ℕ) (at : ℕ) → IsSpot s rest mark at → s.kept ≡ None → IsUtf8 behind → (length rest ≡ 0 → ⊥) →
     chars behind ≡ behind_first (chars rest) → s.offset + (length s.input.now - length behind) ≡ (place_at (seen_world s) (length (chars rest))).1
-plain_stop s rest behind at h e u some b = rw e (sym (stop_left s.is_literal s.offset s.end s.input.now rest behind h.is_left u some b))
+plain_stop s rest behind mark at h e u some b = rw e (sym (stop_left s.is_literal s.offset s.end s.input.now rest behind h.is_left u some b))
 
 pub plain_end : (s : Source) (rest : List ℕ) → s.kept ≡ None → length rest ≡ 0 → place_at (seen_world s) (length (chars rest)) ≡ (s.end, s.end)
 plain_end s rest e none = rw e (place_over s.is_literal s.offset s.end s.input.now rest none)
 
 -- in a kept snippet
-some_snippet : (o : Option (String Global)) → is_some o ≡ true → (snippet : String Global) × (o ≡ Some snippet)
-some_snippet None e = absurd (false≢true e)
-some_snippet (Some snippet) e = (snippet, refl)
-
-none_snippet : (o : Option (String Global)) → is_some o ≡ false → o ≡ None
-none_snippet None e = refl
-none_snippet (Some snippet) e = absurd (false≢true (sym e))
-
-pub kept_start : (s : Source) (rest : List ℕ) (at : ℕ) → IsSpot s rest at → is_some s.kept ≡ true → at ≡ (place_at (seen_world s) (length (chars rest))).0
-kept_start s rest at h e =
-    let k = some_snippet s.kept e in
-    sym (here_start (string_bytes k.0) (seen_world s) (chars rest) at (placed_in s rest at k.0 h k.1))
-
-pub not_kept : (s : Source) → is_some s.kept ≡ false → s.kept ≡ None
-not_kept s e = none_snippet s.kept e
-
-pub kept_end : (s : Source) (rest : List ℕ) (at : ℕ) (snippet : String Global) → IsSpot s rest at → s.kept ≡ Some snippet → length rest ≡ 0 →
+pub kept_end : (s : Source) (rest snippet : List ℕ) (at : ℕ) → IsHere snippet (seen_world s) (chars rest) at → length rest ≡ 0 →
     at ≡ (place_at (seen_world s) (length (chars rest))).1
-kept_end s rest at snippet h e none =
+kept_end s rest snippet at here none =
     let nil : chars rest ≡ [] = ap chars (nil_from_length rest none) ∙ chars-nil in
-    let here = placed_in s rest at snippet h e in
-    rw nil (sym (here_end_place (string_bytes snippet) (seen_world s) at (rw nil at here)))
+    rw nil (sym (here_end_place snippet (seen_world s) at (rw nil at here)))
 
-pub kept_stop : (s : Source) (rest : List ℕ) (at stop : ℕ) (snippet : String Global) → IsSpot s rest at → s.kept ≡ Some snippet → (length rest ≡ 0 → ⊥) →
-    ((w : World) (c : ℕ) (t : Text) → IsHere (string_bytes snippet) w (c ∷ t) at → stop ≡ (place_at w (length (c ∷ t))).1) →
+pub kept_stop : (s : Source) (rest mark snippet : List ℕ) (at stop : ℕ) → IsLeft s.input.now rest → IsHere snippet (seen_world s) (chars rest) at →
+    (length rest ≡ 0 → ⊥) → ((w : World) (c : ℕ) (t : Text) → IsHere snippet w (c ∷ t) at → stop ≡ (place_at w (length (c ∷ t))).1) →
     stop ≡ (place_at (seen_world s) (length (chars rest))).1
-kept_stop s rest at stop snippet h e some f =
-    let b = begun rest (IsUtf8-from_is_utf8 rest h.is_left.valid_rest) some in
-    let here = placed_in s rest at snippet h e in
+kept_stop s rest mark snippet at stop l here some f =
+    let b = begun rest (IsUtf8-from_is_utf8 rest l.valid_rest) some in
     rw b.chars_are (f (seen_world s) b.head b.tail (rw b.chars_are at here))
+
+-- What is left, as a rest of itself.
+pub left_self : (t : List ℕ) → is_utf8 t ≡ true → IsLeft t t
+left_self t u =
+    let n : length t - length t ≡ 0 = omega arith in
+    record { valid = u; valid_rest = u; within = omega arith; tail = ap (λ k. drop k t) n }
+
+-- a mark put where the rest is
+pub settled : (s : Source) (rest mark : List ℕ) (at to : ℕ) (snippet : String Global) → IsSpot s rest mark at → s.kept ≡ Some snippet →
+    IsHere (string_bytes snippet) (seen_world s) (chars rest) to → IsSpot s rest rest to
+settled s rest mark at to snippet h e k = record {
+  is_left = h.is_left;
+  is_after = left_self rest h.is_left.valid_rest;
+  is_placed = of_kept s.kept (seen_world s) (chars rest) to snippet e k;
+  fits = h.fits;
+}
+  where
+    of_kept : (o : Option (String Global)) (w : World) (t : Text) (to : ℕ) (snippet : String Global) → o ≡ Some snippet →
+        IsHere (string_bytes snippet) w t to → IsPlaced o w t to
+    of_kept o w t to snippet e k = rw e k
 
 -- at the start of an input
 pub first_spot : (s : Source) (input : List ℕ) (at : ℕ) → IsUtf8 input → s.input.now ≡ input → s.offset + length input < 2 ^ 64 →
-    IsPlaced s.kept (seen_world s) (chars s.input.now) at → IsSpot s input at
+    IsPlaced s.kept (seen_world s) (chars s.input.now) at → IsSpot s input input at
 first_spot s input at u e fits h =
-    let valid = is_utf8-from_IsUtf8 input u in
-    let n : length input - length input ≡ 0 = omega arith in
+    let self = left_self input (is_utf8-from_IsUtf8 input u) in
     record {
-      is_left = rw e (record { valid = valid; valid_rest = valid; within = omega arith; tail = ap (λ k. drop k input) n });
+      is_left = rw e self;
+      is_after = self;
       is_placed = subst (λ (t : List ℕ). IsPlaced s.kept (seen_world s) (chars t) at) e h;
       fits = rw e fits;
     }

@@ -45,19 +45,20 @@ here-enough snippet w rest at h =
       length-newline w.end h.appended,
     )
 
-kept_here : (kept : Option (String Global)) (s : Source) (rest : List ℕ) (at : ℕ) → IsLeft s.input.now rest →
-    IsPlaced kept (world_with kept s) (chars rest) at → HasPlaces (world_with kept s) (length (chars rest))
-kept_here None s rest at l h = plain_here s rest l
-kept_here (Some snippet) s rest at l h =
+kept_here : (kept : Option (String Global)) (s : Source) (rest mark : List ℕ) (at : ℕ) → IsLeft s.input.now rest → IsLeft mark rest →
+    IsPlaced kept (world_with kept s) (chars mark) at → HasPlaces (world_with kept s) (length (chars rest))
+kept_here None s rest mark at l m h = plain_here s rest l
+kept_here (Some snippet) s rest mark at l m h =
+    let k = left mark rest m in
     let us : List LiteralUnit = unwrap_or (units (between (chars (string_bytes snippet)))) [] in
     record {
       from = 1;
       in_order = ordinary-in_order us s.appended;
-      enough = here-enough (string_bytes snippet) (world_with (Some snippet) s) (chars rest) at h;
+      enough = omega (arith, here-enough (string_bytes snippet) (world_with (Some snippet) s) (chars mark) at h, ap length k.whole, length-append k.pre (chars rest));
     }
 
-pub spot-places : (s : Source) (rest : List ℕ) (at : ℕ) → IsSpot s rest at → HasPlaces (seen_world s) (length (chars rest))
-spot-places s rest at h = kept_here s.kept s rest at h.is_left h.is_placed
+pub spot-places : (s : Source) (rest mark : List ℕ) (at : ℕ) → IsSpot s rest mark at → HasPlaces (seen_world s) (length (chars rest))
+spot-places s rest mark at h = kept_here s.kept s rest mark at h.is_left h.is_after h.is_placed
 
 -- What the first of the last n characters starts behind, they all do.
 pub start_behind : (w : World) (n byte : ℕ) → HasPlaces w n → byte < (place_at w n).0 → StartBehind byte w n

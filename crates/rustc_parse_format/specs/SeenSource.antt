@@ -92,10 +92,11 @@ abbrev pub IsPlaced : Option (String Global) → World → Text → ℕ → Type
 IsPlaced None w rest at = Unit {0}
 IsPlaced (Some snippet) w rest at = IsHere (string_bytes snippet) w rest at
 
--- What is left of the input of a source, and where it stands in the snippet.
-pub record IsSpot (s : Source) (rest : List ℕ) (at : ℕ) : Type 0 where
+-- What is left of the input of a source, and what was left where the snippet was last looked at, with the byte there.
+pub record IsSpot (s : Source) (rest mark : List ℕ) (at : ℕ) : Type 0 where
   pub is_left : IsLeft s.input.now rest
-  pub is_placed : IsPlaced s.kept (seen_world s) (chars rest) at
+  pub is_after : IsLeft mark rest
+  pub is_placed : IsPlaced s.kept (seen_world s) (chars mark) at
   pub fits : s.offset + length s.input.now < 2 ^ 64
 
 -- A snippet that is kept is the ordinary literal of the input.

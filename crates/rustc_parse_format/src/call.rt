@@ -92,6 +92,7 @@ fn read_placeholder<'input, L: Ledger>(
         ≡ read_call reader.old (placeholder (seen_mode mode) reader.old.next reader.old.rest (behind_first reader.old.rest))) }
     ensures steps { OnOk result (Paid reader.old.rest trail.old reader.new.rest trail.new) }
 {
+    reader.cursor.settle();
     let opening = reader.cursor.start()..reader.cursor.stop();
     reader.cursor.advance(trail);
     let argument = read_argument(mode, reader, trail)?;

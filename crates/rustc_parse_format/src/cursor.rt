@@ -3,7 +3,7 @@
 mod steps;
 
 use crate::characters::{Class, before, behind_first, first, is_id_start, with_digit};
-use crate::source::{Source, Spot, byte_after, byte_through};
+use crate::source::{Source, Spot, byte_here, byte_through};
 use std::marker::Model;
 use std::ops::Range;
 use std::sync::ledger::{Blank, Ledger};
@@ -30,7 +30,7 @@ impl<'source, 'input> Model for Cursor<'source, 'input> {
       rest = chars c.spot.rest.now;
     } };
 
-    ghost invariant = { λ c. IsSpot c.source.now c.spot.rest.now c.spot.at };
+    ghost invariant = { λ c. IsSpot c.source.now c.spot.rest.now c.spot.mark.now c.spot.at };
 }
 
 impl<'source, 'input> Cursor<'source, 'input> {
@@ -47,7 +47,7 @@ impl<'source, 'input> Cursor<'source, 'input> {
 
     /// At a spot of a source.
     pub fn new(source: &'source Source<'input>, spot: Spot<'input>) -> Cursor<'source, 'input>
-        requires { IsSpot source.now spot.rest.now spot.at }
+        requires { IsSpot source.now spot.rest.now spot.mark.now spot.at }
         ensures { result ≡ record {
           source = source.now;
           world = seen_world source.now;
@@ -61,10 +61,11 @@ impl<'source, 'input> Cursor<'source, 'input> {
     /// The spot where it stands.
     pub fn spot(&self) -> Spot<'input>
         ensures rest { chars result.rest.now ≡ self.now.rest }
-        ensures spot { IsSpot self.now.source result.rest.now result.at }
+        ensures spot { IsSpot self.now.source result.rest.now result.mark.now result.at }
     {
         Spot {
             rest: self.spot.rest,
+            mark: self.spot.mark,
             at: self.spot.at,
         }
     }
@@ -77,6 +78,7 @@ impl<'source, 'input> Cursor<'source, 'input> {
             source: self.source,
             spot: Spot {
                 rest: self.spot.rest,
+                mark: self.spot.mark,
                 at: self.spot.at,
             },
         }
@@ -126,9 +128,6 @@ impl<'source, 'input> Cursor<'source, 'input> {
     fn pass(&mut self)
         ensures { self.new ≡ record self.old { rest = behind_first self.old.rest } }
     {
-        if let Some(snippet) = &self.source.kept {
-            self.spot.at = byte_after(snippet.as_str(), self.spot.at);
-        }
         self.spot.rest = behind_first(self.spot.rest);
     }
 
@@ -156,8 +155,8 @@ impl<'source, 'input> Cursor<'source, 'input> {
     pub fn start(&self) -> usize
         ensures { result ≡ number_of self.now.world (Start (length self.now.rest)) }
     {
-        if self.source.kept.is_some() {
-            self.spot.at
+        if let Some(snippet) = &self.source.kept {
+            byte_here(snippet.as_str(), &self.spot)
         } else if self.spot.rest.is_empty() {
             self.source.end
         } else {
@@ -173,15 +172,30 @@ impl<'source, 'input> Cursor<'source, 'input> {
         first(self.spot.rest).is_some() && self.start() > byte
     }
 
+    /// Looks at the snippet, so that places from here on are counted from here. Nothing else changes.
+    pub fn settle(&mut self)
+        ensures { self.new ≡ self.old }
+    {
+        if let Some(snippet) = &self.source.kept {
+            let at = byte_here(snippet.as_str(), &self.spot);
+            self.spot = Spot {
+                rest: self.spot.rest,
+                mark: self.spot.rest,
+                at,
+            };
+        }
+    }
+
     /// Where the next character ends in the source, or where the text ends.
     pub fn stop(&self) -> usize
         ensures { result ≡ number_of self.now.world (End (length self.now.rest)) }
     {
         if let Some(snippet) = &self.source.kept {
+            let at = byte_here(snippet.as_str(), &self.spot);
             return if self.spot.rest.is_empty() {
-                self.spot.at
+                at
             } else {
-                byte_through(snippet.as_str(), self.spot.at)
+                byte_through(snippet.as_str(), at)
             };
         }
         if self.spot.rest.is_empty() {

@@ -44,7 +44,7 @@ impl<'input> Model for Parser<'input> {
       line_spans = map pair p.lists.line_spans.items;
     } };
 
-    ghost invariant = { λ p. IsSpot p.source p.spot.rest.now p.spot.at × (p.curarg + length (chars p.spot.rest.now) < 2 ^ 64) };
+    ghost invariant = { λ p. IsSpot p.source p.spot.rest.now p.spot.mark.now p.spot.at × (p.curarg + length (chars p.spot.rest.now) < 2 ^ 64) };
 }
 
 impl<'input> Parser<'input> {
@@ -91,7 +91,11 @@ impl<'input> Parser<'input> {
             alloc,
             mode,
             source,
-            spot: Spot { rest: input, at },
+            spot: Spot {
+                rest: input,
+                mark: input,
+                at,
+            },
             curarg: 0,
             line_start: quote_offset(style),
             lists: Lists::new(alloc),

@@ -141,6 +141,7 @@ impl<'source, 'input> Reader<'source, 'input> {
             if !Class::Text.passes(c) {
                 break;
             }
+            self.cursor.settle();
             if Class::Line.passes(c) && self.cursor.is_behind(self.line_start) {
                 self.skip_line(trail);
             } else {

@@ -2,13 +2,14 @@
 
 ghost use Rattle.std.specs.Prelude.{◌≡◌, ◌≤◌, ◌∷◌, Bool, List, ℕ, chars, drop, length, true};
 ghost use Rattle.std.specs.Str.{is_utf8};
+ghost use Rattle.rustc_parse_format.specs.Bytes.{IsLeft};
 ghost use Rattle.rustc_parse_format.specs.Characters.{Text, behind_first};
 ghost use Rattle.rustc_parse_format.specs.Literal.{IsContent};
 ghost use Rattle.rustc_parse_format.specs.LiteralUnits.{LiteralUnit};
 ghost use Rattle.rustc_parse_format.specs.SeenSource.{IsHere, character_width, closed_by_quote, gap};
 ghost use Rattle.rustc_parse_format.specs.World.{World, place_at};
 
-use crate::characters::first;
+use crate::characters::{behind_first, first};
 use crate::literal::{Rest, read_unit};
 
 /// Where an input stands in its source.
@@ -26,10 +27,12 @@ pub struct Source<'input> {
     pub appended: bool,
 }
 
-/// A spot in a source: what is left of the input, and where the next character starts in the snippet, if that is kept.
+/// A spot in a source: what is left of the input, what was left where the snippet was last looked at, and the byte of the snippet at
+/// which the next character starts there, if the snippet is kept.
 #[derive(Drop)]
 pub struct Spot<'input> {
     pub rest: &'input str,
+    pub mark: &'input str,
     pub at: usize,
 }
 
@@ -40,6 +43,7 @@ impl<'input> Spot<'input> {
     {
         Spot {
             rest: self.rest,
+            mark: self.mark,
             at: self.at,
         }
     }
@@ -104,4 +108,19 @@ pub fn byte_through(snippet: &str, at: usize) -> usize
 {
     let width = character_width(&snippet[at..]);
     if width == 0 { at + 1 } else { at + width }
+}
+
+/// Where the next character starts in a snippet that is kept: from where it was last looked at on, character by character.
+pub fn byte_here(snippet: &str, spot: &Spot<'_>) -> usize
+    requires after { IsLeft spot.now.mark.now spot.now.rest.now }
+    requires here { (w : World) × IsHere snippet.now w (chars spot.now.mark.now) spot.now.at }
+    ensures { (w : World) → IsHere snippet.now w (chars spot.now.mark.now) spot.now.at → IsHere snippet.now w (chars spot.now.rest.now) result }
+{
+    let mut mark = spot.mark;
+    let mut at = spot.at;
+    while mark.len() > spot.rest.len() {
+        at = byte_after(snippet, at);
+        mark = behind_first(mark);
+    }
+    at
 }

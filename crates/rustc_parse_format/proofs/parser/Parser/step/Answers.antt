@@ -57,7 +57,7 @@ invariant_of-self-2 g c =
     let next = ap (λ (x : Midway). x.next) read in
     let rest = c.spot-spot.ensures.rest ∙ ap (λ (x : Midway). x.rest) read in
     let fits = c.self.invariant.1 in (
-      subst (λ (x : Source). IsSpot x c.spot-spot.result.rest.now c.spot-spot.result.at) same c.spot-spot.ensures.spot,
+      subst (λ (x : Source). IsSpot x c.spot-spot.result.rest.now c.spot-spot.result.mark.now c.spot-spot.result.at) same c.spot-spot.ensures.spot,
       omega (arith, next, ap length rest, call_next-le (seen_mode i.mode) i.curarg (chars i.spot.rest.now)),
     )
 
