@@ -23,7 +23,11 @@ fn check_rows(rt: &impl Abort, alloc: Global, table: &str, count: usize) -> Resu
         let called = by_next(rt, alloc, &row)?;
         assert_eq!(rt; called.as_str(), row.wanted.as_str(), "row {name} by next");
         let read = by_read_all(rt, alloc, &row)?;
-        assert_eq!(rt; read.as_str(), row.wanted.as_str(), "row {name} by read_all");
+        assert_eq!(rt;
+            read.as_str(),
+            row.wanted.as_str(),
+            "row {name} by read_all"
+        );
     }
     Ok(())
 }
