@@ -6,9 +6,9 @@
 
 A line of library.tsv has, with tabs between them, a name, the mode, the style, whether a newline was appended, the
 snippet, the input and the answer, as crates/format_rows/src/row.rt says; but bytes are written as in cases.py, and the
-answer has a line `end N`, which no public call tells and which is dropped. The rules of stage.py are applied. A table
-of walks has the rows in which no piece comes after a None, a table of calls the others. The table of snippets has
-every row with a snippet, with nothing but whether it is the source literal of the input."""
+answer has a line `end N`, which no public call tells and which is dropped. The rules of stage.py are applied. The table
+of snippets has every row with a snippet, those that the rules leave out too, with nothing but whether it is the source
+literal of the input."""
 
 import os
 import re
@@ -38,31 +38,14 @@ def row(columns, answer):
     return "│".join(columns) + "│" + escaped(b"".join(line + b"\n" for line in answer))
 
 
-def table(name, about, rows):
-    """A constant with rows, and one that says how many they are, or nothing where there is no row."""
-    if not rows:
-        return ""
+def table(about, name, what, rows):
+    """A file with a constant that has rows, and one that says how many they are."""
     text = "\n".join(rows)
     frame = "#" * (1 + max((len(found) for found in re.findall('"(#*)', text)), default=0))
     return (
-        f"\n/// {about}\npub const {name}: &str = r{frame}\"\n{text}\n\"{frame};\n"
-        f"\n/// How many rows they are.\npub const {name}_COUNT: usize = {len(rows)};\n"
-    )
-
-
-def tables_of_walks(about, rows):
-    calls = [line for line in rows if re.search(r"\\nnone\\n(lit|arg) ", line)]
-    walks = [line for line in rows if line not in calls]
-    return (
         f"//! {about} Made by `replay/make_rows.py`.\n"
-        + table("WALKS", "Rows in which no piece comes after a None.", walks)
-        + table("CALLS", "Rows in which pieces come after a None.", calls)
-    )
-
-
-def table_of_snippets(about, rows):
-    return f"//! {about} Made by `replay/make_rows.py`.\n" + table(
-        "SOURCES", "Whether the snippet is the source literal of the input.", rows
+        f"\n/// {what}\npub const {name}: &str = r{frame}\"\n{text}\n\"{frame};\n"
+        f"\n/// How many rows they are.\npub const {name}_COUNT: usize = {len(rows)};\n"
     )
 
 
@@ -81,13 +64,16 @@ def files():
             if snippet != b"-":
                 sources.append(row([columns[0], "format", *columns[2:]], answer[:1]))
             hashes = None if style == "-" else int(style)
-            answer = stage.row(mode, hashes, newline == "1", snippet[1:], text, [answer[0], *answer[2:]])
+            answer = stage.row(mode, hashes, text, [answer[0], *answer[2:]])
             if answer is not None:
                 (mixed if name.startswith("mixed-") else named).append(row(columns, answer))
+    walked = "All that reading the inputs gives."
     return {
-        "named_rows.rt": tables_of_walks("Worked rows: each shows one thing.", named),
-        "mixed_rows.rt": tables_of_walks("Inputs that were made at random.", mixed),
-        "snippets.rt": table_of_snippets("Snippets and inputs.", sources),
+        "named_rows.rt": table("Worked rows: each shows one thing.", "ROWS", walked, named),
+        "mixed_rows.rt": table("Inputs that were made at random.", "ROWS", walked, mixed),
+        "snippets.rt": table(
+            "Snippets and inputs.", "SOURCES", "Whether the snippet is the source literal of the input.", sources
+        ),
     }
 
 

@@ -61,24 +61,14 @@ def case(whole):
     return name, words, given, refusal, b"".join(line + b"\n" for line in lines), status
 
 
-def moves_places(style, newline, snippet, text, lines):
-    """Of a source literal: its characters do not stand in it as they stand in the text, or a place tells where the text
-    ends in it, as that of a placeholder that nothing ends. (The program's lists show no place.)"""
-    text = text[: -len(b"\n")] if newline else text
-    hashes = b"#" * (style or 0)
-    plain = (b"" if style is None else b"r") + hashes + b'"' + text + b'"' + hashes
-    return snippet != plain or any(b"string was terminated" in line for line in lines)
-
-
-def row(mode, style, newline, snippet, text, lines):
-    """The answer of the library to a row, of this stage, or None where the row is left out. Nothing tells yet where the
-    closed placeholders and the lines of a literal stand, and of suggestions only None is made."""
+def row(mode, style, text, lines):
+    """The answer of the library to a row, of this stage, or None where the row is left out. Of suggestions only None is
+    made. The characters of an ordinary source literal need not stand in it as they stand in the text."""
     if mode == "diagnostic-named":
         return None
-    if lines[0] == b"source yes" and moves_places(style, newline, snippet, text, lines):
-        return None
-    if recovers(lines, text, 1 if style is None else style + 2):
+    is_moved = lines[0] == b"source yes" and style is None
+    if recovers(lines, None if is_moved else text, 1 if style is None else style + 2):
         return None
     if any(line.startswith(b"suggest ") for line in lines):
         return None
-    return [line for line in lines if not line.startswith((b"place ", b"line "))]
+    return lines

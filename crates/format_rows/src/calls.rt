@@ -12,6 +12,24 @@ fn parser_of(alloc: Global, input: &'static str) -> Result<Parser<'static>, Allo
     Parser::new(alloc, input, None, None, false, ParseMode::Format)
 }
 
+/// The same, with a snippet, which stands for an ordinary literal.
+fn parser_in(
+    alloc: Global,
+    input: &'static str,
+    snippet: &str,
+    appended_newline: bool,
+) -> Result<Parser<'static>, AllocError> {
+    let snippet = String::from_str(alloc, snippet)?;
+    Parser::new(
+        alloc,
+        input,
+        None,
+        Some(snippet),
+        appended_newline,
+        ParseMode::Format,
+    )
+}
+
 #[test]
 fn positions_have_their_index(rt: HostRuntime) {
     assert_eq!(rt; Position::ArgumentImplicitlyIs(3).index(), Some(3));
@@ -64,6 +82,8 @@ fn a_new_parser_has_nothing(rt: HostRuntime) -> Result<(), Fail> {
     assert_eq!(rt; parser.curarg(), 0);
     assert_eq!(rt; parser.errors().len(), 0);
     assert!(rt; !parser.is_source_literal());
+    assert!(rt; parser.arg_places().is_empty());
+    assert!(rt; parser.line_spans().is_empty());
     Ok(())
 }
 
@@ -105,6 +125,89 @@ fn peeks_show_what_is_next(rt: HostRuntime) -> Result<(), Fail> {
     assert!(rt; parser.next()?.is_some());
     assert_eq!(rt; parser.peek(), None);
     assert_eq!(rt; parser.peek_ahead(), None);
+    Ok(())
+}
+
+/// A character that is written as an escape has the place of the escape.
+#[test]
+fn peeks_show_where_escapes_stand(rt: HostRuntime) -> Result<(), Fail> {
+    let mut parser = parser_in(rt.alloc(), "😀{}", "\"\\u{1F600}{}\"", false)?;
+    assert!(rt; parser.is_source_literal());
+    assert_eq!(rt; parser.peek(), Some((1..10, 0, '😀')));
+    assert_eq!(rt; parser.peek_ahead(), Some((10..11, 4, '{')));
+    assert_eq!(rt; parser.next()?, Some(Piece::Lit("😀")));
+    assert_eq!(rt; parser.peek(), Some((10..11, 4, '{')));
+    assert_eq!(rt; parser.peek_ahead(), Some((11..12, 5, '}')));
+    assert!(rt; parser.next()?.is_some());
+    assert_eq!(rt; parser.peek(), None);
+    assert_eq!(rt; parser.peek_ahead(), None);
+    Ok(())
+}
+
+/// A continuation stands for no character: the next one stands behind it.
+#[test]
+fn peeks_pass_over_continuations(rt: HostRuntime) -> Result<(), Fail> {
+    let parser = parser_in(rt.alloc(), " a", "\"\\\n\\u{20}a\"", false)?;
+    assert!(rt; parser.is_source_literal());
+    assert_eq!(rt; parser.peek(), Some((3..9, 0, ' ')));
+    assert_eq!(rt; parser.peek_ahead(), Some((9..10, 1, 'a')));
+    let parser = parser_in(rt.alloc(), "ab", "\"a\\\n b\"", false)?;
+    assert!(rt; parser.is_source_literal());
+    assert_eq!(rt; parser.peek(), Some((1..2, 0, 'a')));
+    assert_eq!(rt; parser.peek_ahead(), Some((5..6, 1, 'b')));
+    Ok(())
+}
+
+/// An appended newline stands at the end of the text, and takes a byte.
+#[test]
+fn peeks_show_an_appended_newline(rt: HostRuntime) -> Result<(), Fail> {
+    let parser = parser_in(rt.alloc(), "\n", "\"\"", true)?;
+    assert!(rt; parser.is_source_literal());
+    assert_eq!(rt; parser.peek(), Some((1..2, 0, '\n')));
+    assert_eq!(rt; parser.peek_ahead(), None);
+    Ok(())
+}
+
+#[test]
+fn a_source_literal_has_places_and_lines(rt: HostRuntime) -> Result<(), Fail> {
+    let mut parser = parser_in(rt.alloc(), "{foo}", "\"{foo\\\n  }\"", false)?;
+    assert!(rt; parser.is_source_literal());
+    assert!(rt; parser.next()?.is_some());
+    assert_eq!(rt; parser.arg_places().len(), 1);
+    assert_eq!(rt; parser.arg_places()[0], 1..10);
+    assert_eq!(rt; parser.line_spans().len(), 0);
+    assert_eq!(rt; parser.next()?, None);
+    assert_eq!(rt; parser.arg_places().len(), 1);
+    assert_eq!(rt; parser.line_spans().len(), 1);
+    assert_eq!(rt; parser.line_spans()[0], 1..10);
+    Ok(())
+}
+
+#[test]
+fn the_last_line_is_there_once(rt: HostRuntime) -> Result<(), Fail> {
+    let mut parser = parser_in(rt.alloc(), "ab", "\"ab\"", false)?;
+    assert_eq!(rt; parser.next()?, Some(Piece::Lit("ab")));
+    assert_eq!(rt; parser.line_spans().len(), 0);
+    for _ in 0..3 {
+        assert_eq!(rt; parser.next()?, None);
+        assert_eq!(rt; parser.line_spans().len(), 1);
+        assert_eq!(rt; parser.line_spans()[0], 1..3);
+    }
+    Ok(())
+}
+
+#[test]
+fn without_a_source_literal_are_no_places_and_lines(rt: HostRuntime) -> Result<(), Fail> {
+    let mut bare = parser_of(rt.alloc(), "{foo}\nb")?;
+    let mut foreign = parser_in(rt.alloc(), "{foo}\nb", "\"{foo}\"", false)?;
+    for parser in [&mut bare, &mut foreign] {
+        assert!(rt; !parser.is_source_literal());
+        assert!(rt; parser.next()?.is_some());
+        assert_eq!(rt; parser.next()?, Some(Piece::Lit("\nb")));
+        assert_eq!(rt; parser.next()?, None);
+        assert_eq!(rt; parser.arg_places().len(), 0);
+        assert_eq!(rt; parser.line_spans().len(), 0);
+    }
     Ok(())
 }
 

@@ -1,5 +1,6 @@
 //! What reading gives, as a text of lines: pieces as the program lists them, `none` for a call without a piece, and
-//! then `curarg` and the errors, each with the lines `note`, `label`, `second` and `suggest` that it has.
+//! then `curarg`, the errors, each with the lines `note`, `label`, `second` and `suggest` that it has, and the places of
+//! arguments and of lines.
 
 use rustc_parse_format::{
     Alignment, Argument, Count, DebugHex, FormatSpec, ParseError, Parser, Piece, Position, Sign,
@@ -166,6 +167,15 @@ fn put_error(out: &mut String, error: &ParseError) -> Result<(), AllocError> {
     put_suggestion(out, &error.suggestion)
 }
 
+/// Adds a line for each range.
+fn put_ranges(out: &mut String, label: &str, ranges: &[Range<usize>]) -> Result<(), AllocError> {
+    for range in ranges {
+        put_range(out, label, range)?;
+        out.push_str("\n")?;
+    }
+    Ok(())
+}
+
 /// Adds what is kept beside the pieces.
 pub fn put_end(out: &mut String, parser: &Parser<'_>) -> Result<(), AllocError> {
     let next = parser.curarg();
@@ -173,5 +183,6 @@ pub fn put_end(out: &mut String, parser: &Parser<'_>) -> Result<(), AllocError> 
     for error in parser.errors() {
         put_error(out, error)?;
     }
-    Ok(())
+    put_ranges(out, "place ", parser.arg_places())?;
+    put_ranges(out, "line ", parser.line_spans())
 }

@@ -1,7 +1,7 @@
 //! Worked rows: each shows one thing. Made by `replay/make_rows.py`.
 
-/// Rows in which no piece comes after a None.
-pub const WALKS: &str = r###"
+/// All that reading the inputs gives.
+pub const ROWS: &str = r###"
 worked-001│format│-│0│-││source no\nnone\ncurarg 0\n
 worked-002│format│-│0│-│{{a}}b{{{}│source no\nlit "{a"\nlit "}b"\nlit "{"\narg implicit 0 10..10\nnone\ncurarg 1\n
 worked-003│format│-│0│-│{:}>5}│source no\narg implicit 0 2..2 fill="}"@3..4 align=right width=is:5@5..6\nnone\ncurarg 1\n
@@ -10,24 +10,30 @@ worked-005│format│-│0│-│{}{:.*}{}│source no\narg implicit 0 2..2\nar
 worked-006│format│-│0│-│{:0$}{:00$}│source no\narg implicit 0 2..2 width=param:0@3..5\narg implicit 1 7..7 zero width=param:0@9..11\nnone\ncurarg 2\n
 worked-007│format│-│0│-│{65535}{65536}│source no\narg index 65535 2..7\narg index 0 9..14\nnone\ncurarg 0\nfault 9..15 integer `65536` does not fit into the type `u16` whose range is `0..=65535`\nlabel integer out of range for `u16`\n
 worked-008│format│-│0│-│{:_}│source no\narg implicit 0 2..2 ty="_"@3..4\nnone\ncurarg 1\nfault 3..4 invalid argument name `_`\nnote argument name cannot be a single underscore\nlabel invalid argument name\nfault 3..4 invalid argument name `_`\nnote argument name cannot be a single underscore\nlabel invalid argument name\n
+worked-011│format│-│0│="{foo\\\n  }"│{foo}│source yes\narg name foo 2..9\nnone\ncurarg 0\nplace 1..10\nline 1..10\n
+worked-012│format│-│0│="\\u{1F600}{}"│😀{}│source yes\nlit "😀"\narg implicit 0 11..11\nnone\ncurarg 1\nplace 10..12\nline 1..12\n
 worked-013│format│-│0│="foo)│foo│source no\nlit "foo"\nnone\ncurarg 0\n
 worked-014│format│-│0│="│foo│source no\nlit "foo"\nnone\ncurarg 0\n
 worked-015│format│2│0│=r"│foo│source no\nlit "foo"\nnone\ncurarg 0\n
-worked-016│format│-│1│="foo"│foo\n│source yes\nlit "foo\\n"\nnone\ncurarg 0\n
+worked-016│format│-│1│="foo"│foo\n│source yes\nlit "foo\\n"\nnone\ncurarg 0\nline 1..4\nline 5..4\n
 worked-017│format│0│0│-│{:5│source no\narg implicit 0 3..3 width=is:5@4..3\nnone\ncurarg 1\nfault 3..3 expected `}` but string was terminated\nnote if you intended to print `{`, you can escape it using `{{`\nlabel expected `}`\nsecond 2..3 because of this opening brace\n
-worked-018│format│1│0│=r#"{a}"#│{a}│source yes\narg name a 4..5\nnone\ncurarg 0\n
+worked-018│format│1│0│=r#"{a}"#│{a}│source yes\narg name a 4..5\nnone\ncurarg 0\nplace 3..6\nline 3..6\n
 worked-019│diagnostic│-│0│-│{foo:bar}│source no\narg name foo 2..5 ty="bar"@5..9\nnone\ncurarg 0\n
 worked-020│format│-│0│-│{:08.3x?}│source no\narg implicit 0 2..2 zero width=is:8@4..5 precision=is:3@5..7 hex=lower ty="?"\nnone\ncurarg 1\n
 worked-021│format│-│0│-│{│source no\narg implicit 0 1..1\nnone\ncurarg 1\nfault 1..1 expected `}` but string was terminated\nnote if you intended to print `{`, you can escape it using `{{`\nlabel expected `}`\nsecond 1..2 because of this opening brace\n
+worked-022│format│-│0│="a\\n  b"│a\n  b│source yes\nlit "a\\n  b"\nnone\ncurarg 0\nline 1..2\nline 6..7\n
 worked-023│format│-│1│-││source no\nnone\ncurarg 0\n
-worked-027│format│-│1│=""│\n│source yes\nlit "\\n"\nnone\ncurarg 0\n
-worked-028│format│0│1│=r"a"│a\n│source yes\nlit "a\\n"\nnone\ncurarg 0\n
+worked-024│format│-│0│="\\u{7b}\\\n \\u{61}\\\n \\u{3a}\\\n \\u{2a}\\\n \\u{3e}\\\n \\u{35}\\\n \\u{7d}\\\n "│{a:*>5}│source yes\narg name a 10..19 fill="*"@28..34 align=right width=is:5@46..55\nnone\ncurarg 0\nplace 1..61\nline 1..61\n
+worked-025│format│-│0│="\\\n\\u{20}a"│ a│source yes\nlit " a"\nnone\ncurarg 0\nline 1..10\n
+worked-026│format│-│0│="\\\n   "││source yes\nnone\ncurarg 0\nline 1..1\n
+worked-027│format│-│1│=""│\n│source yes\nlit "\\n"\nnone\ncurarg 0\nline 1..1\nline 2..1\n
+worked-028│format│0│1│=r"a"│a\n│source yes\nlit "a\\n"\nnone\ncurarg 0\nline 2..3\nline 4..3\n
 worked-029│format│-│0│-│{100000000000000000000}│source no\narg index 0 2..23\nnone\ncurarg 0\nfault 2..24 integer `100000000000000000000` does not fit into the type `u16` whose range is `0..=65535`\nlabel integer out of range for `u16`\n
 worked-030│format│-│1│-│{a\n│source no\narg name a 2..2\nnone\ncurarg 0\nfault 2..2 expected `}` but string was terminated\nnote if you intended to print `{`, you can escape it using `{{`\nlabel expected `}`\nsecond 1..2 because of this opening brace\n
 worked-031│format│-│0│-│{:70000$}│source no\narg implicit 0 2..2 width=param:4464@3..9\nnone\ncurarg 1\nfault 3..9 integer `70000` does not fit into the type `u16` whose range is `0..=65535`\nlabel integer out of range for `u16`\n
 worked-032│format│-│0│-│{1000000│source no\narg index 16960 2..8\nnone\ncurarg 0\nfault 2..8 integer `1000000` does not fit into the type `u16` whose range is `0..=65535`\nlabel integer out of range for `u16`\nfault 8..8 expected `}` but string was terminated\nnote if you intended to print `{`, you can escape it using `{{`\nlabel expected `}`\nsecond 1..2 because of this opening brace\n
 worked-033│format│18446744073709551610│0│-│{a}│source no\narg name a 18446744073709551613..18446744073709551614\nnone\ncurarg 0\n
-worked-034│format│-│0│="ab"│ab│source yes\nlit "ab"\nnone\ncurarg 0\n
+worked-034│format│-│0│="ab"│ab│source yes\nlit "ab"\nnone\ncurarg 0\nline 1..3\n
 worked-035│format│-│0│=│foo│source no\nlit "foo"\nnone\ncurarg 0\n
 worked-036│format│-│0│="│foo│source no\nlit "foo"\nnone\ncurarg 0\n
 worked-037│format│-│0│="foo│foo│source no\nlit "foo"\nnone\ncurarg 0\n
@@ -55,9 +61,11 @@ worked-081│format│-│0│-│{:xyz}│source no\narg implicit 0 2..2 ty="x"
 worked-082│diagnostic│-│0│-│{}{0}{a:}│source no\narg implicit 0 2..2\narg index 0 4..5\narg name a 7..8 ty=""@8..9\nnone\ncurarg 1\n
 worked-083│asm│-│0│-│{0:e}│source no\narg index 0 2..3 ty="e"@4..5\nnone\ncurarg 0\n
 worked-084│format│-│0│-│{a:..b}│source no\narg name a 2..3 precision=implied@4..5\nlit ".b"\nnone\nnone\ncurarg 0\nfault 5..5 expected `}`, found `.`\nnote if you intended to print `{`, you can escape it using `{{`\nlabel expected `}`\nsecond 1..2 because of this opening brace\nfault 7..8 unmatched `}` found\nnote if you intended to print `}`, you can escape it using `}}`\nlabel unmatched `}`\n
-worked-086│format│-│0│="{\n}"│{\n}│source yes\narg implicit 0 2..3\nnone\ncurarg 1\n
-worked-088│format│1│0│=r#"a"#b"#│a"#b│source yes\nlit "a\\"#b"\nnone\ncurarg 0\n
-worked-089│asm│0│0│=r"\n        .intel_syntax noprefix\n        nop"│\n        .intel_syntax noprefix\n        nop│source yes\nlit "\\n        .intel_syntax noprefix\\n        nop"\nnone\ncurarg 0\n
+worked-085│diagnostic│-│0│="{a:x\\ny}"│{a:x\ny}│source yes\narg name a 2..3 ty="x\\ny"@3..8\nnone\ncurarg 0\nplace 1..9\nline 1..5\nline 7..9\n
+worked-086│format│-│0│="{\n}"│{\n}│source yes\narg implicit 0 2..3\nnone\ncurarg 1\nplace 1..4\nline 1..4\n
+worked-087│format│-│0│="a{\\\n "│a{│source yes\nlit "a"\narg implicit 0 3..3\nnone\ncurarg 1\nfault 3..3 expected `}` but string was terminated\nnote if you intended to print `{`, you can escape it using `{{`\nlabel expected `}`\nsecond 2..3 because of this opening brace\nline 1..3\n
+worked-088│format│1│0│=r#"a"#b"#│a"#b│source yes\nlit "a\\"#b"\nnone\ncurarg 0\nline 3..7\n
+worked-089│asm│0│0│=r"\n        .intel_syntax noprefix\n        nop"│\n        .intel_syntax noprefix\n        nop│source yes\nlit "\\n        .intel_syntax noprefix\\n        nop"\nnone\ncurarg 0\nline 2..2\nline 11..33\nline 42..45\n
 worked-090│format│1│1│=r#"assertion `left {op} right` failed"#│assertion `left {op} right` failed│source no\nlit "assertion `left "\narg name op 20..22\nlit " right` failed"\nnone\ncurarg 0\n
 simple-asdf│format│-│0│-│asdf│source no\nlit "asdf"\nnone\ncurarg 0\n
 simple-a{{b│format│-│0│-│a{{b│source no\nlit "a"\nlit "{b"\nnone\ncurarg 0\n
@@ -66,6 +74,8 @@ simple-a}}│format│-│0│-│a}}│source no\nlit "a"\nlit "}"\nnone\ncurar
 simple-}}│format│-│0│-│}}│source no\nlit "}"\nnone\ncurarg 0\n
 simple-\\}}│format│-│0│-│\\}}│source no\nlit "\\\\"\nlit "}"\nnone\ncurarg 0\n
 format_empty│format│-│0│-│{}│source no\narg implicit 0 2..2\nnone\ncurarg 1\n
+format_tab_empty│format│-│0│="\\t{}"│\t{}│source yes\nlit "\\t"\narg implicit 0 4..4\nnone\ncurarg 1\nplace 3..5\nline 3..5\n
+format_open_brace_tab│format│-│0│="{\\t"│{\t│source yes\narg implicit 0 2..4\nnone\ncurarg 1\nfault 4..4 expected `}` but string was terminated\nnote if you intended to print `{`, you can escape it using `{{`\nlabel expected `}`\nsecond 1..2 because of this opening brace\nline 1..4\n
 format_position│format│-│0│-│{3}│source no\narg index 3 2..3\nnone\ncurarg 0\n
 format_position_nothing_else│format│-│0│-│{3:}│source no\narg index 3 2..3\nnone\ncurarg 0\n
 format_named│format│-│0│-│{name}│source no\narg name name 2..6\nnone\ncurarg 0\n
@@ -97,16 +107,18 @@ invalid05│format│-│0│-│{:|}│source no\narg implicit 0 2..2\nlit "|"\
 invalid_position│format│-│0│-│{18446744073709551616}│source no\narg index 0 2..22\nnone\ncurarg 0\nfault 2..23 integer `18446744073709551616` does not fit into the type `u16` whose range is `0..=65535`\nlabel integer out of range for `u16`\n
 invalid_width│format│-│0│-│{:18446744073709551616}│source no\narg implicit 0 2..2 width=is:0@3..23\nnone\ncurarg 1\nfault 3..24 integer `18446744073709551616` does not fit into the type `u16` whose range is `0..=65535`\nlabel integer out of range for `u16`\n
 invalid_precision│format│-│0│-│{:.18446744073709551616}│source no\narg implicit 0 2..2 precision=is:0@3..24\nnone\ncurarg 1\nfault 4..25 integer `18446744073709551616` does not fit into the type `u16` whose range is `0..=65535`\nlabel integer out of range for `u16`\n
-worked-133│format│-│0│=""││source yes\nnone\ncurarg 0\n
+worked-133│format│-│0│=""││source yes\nnone\ncurarg 0\nline 1..1\n
+worked-134│format│-│0│="foo\\n"│foo\n│source yes\nlit "foo\\n"\nnone\ncurarg 0\nline 1..4\nline 6..6\n
 worked-135│format│-│1│="foo\\n"│foo\n│source no\nlit "foo\\n"\nnone\ncurarg 0\n
+worked-136│format│-│0│="a\\\n b"│ab│source yes\nlit "ab"\nnone\ncurarg 0\nline 1..6\n
 worked-137│format│-│0│="a"b"│a"b│source no\nlit "a\\"b"\nnone\ncurarg 0\n
 worked-138│format│-│0│="a\\"│a"│source no\nlit "a\\""\nnone\ncurarg 0\n
 worked-139│format│-│0│="foo"x│foo│source no\nlit "foo"\nnone\ncurarg 0\n
-worked-140│format│0│0│=r""││source yes\nnone\ncurarg 0\n
+worked-140│format│0│0│=r""││source yes\nnone\ncurarg 0\nline 2..2\n
 worked-141│format│0│1│=r""││source no\nnone\ncurarg 0\n
-worked-142│format│0│0│=r"a"b"│a"b│source yes\nlit "a\\"b"\nnone\ncurarg 0\n
+worked-142│format│0│0│=r"a"b"│a"b│source yes\nlit "a\\"b"\nnone\ncurarg 0\nline 2..5\n
 worked-143│format│1│0│=r##""##││source no\nnone\ncurarg 0\n
-worked-144│format│1│1│=r#"a"#│a\n│source yes\nlit "a\\n"\nnone\ncurarg 0\n
+worked-144│format│1│1│=r#"a"#│a\n│source yes\nlit "a\\n"\nnone\ncurarg 0\nline 3..4\nline 5..4\n
 worked-145│format│0│1│=r"a"│ab│source no\nlit "ab"\nnone\ncurarg 0\n
 written-1│format│-│0│-│{a:x\u{80}}│source no\narg name a 2..3 ty="x"\nlit "\u{80}"\nnone\nnone\ncurarg 0\nfault 5..5 expected `}`, found `\u{80}`\nnote if you intended to print `{`, you can escape it using `{{`\nlabel expected `}`\nsecond 1..2 because of this opening brace\nfault 7..8 unmatched `}` found\nnote if you intended to print `}`, you can escape it using `}}`\nlabel unmatched `}`\n
 written-2│format│-│0│-│{a:x\u{2028}}│source no\narg name a 2..3 ty="x"\nnone\ncurarg 0\n
@@ -119,4 +131,4 @@ written-8│format│-│0│-│{a:x\\}│source no\narg name a 2..3 ty="x"\nli
 "###;
 
 /// How many rows they are.
-pub const WALKS_COUNT: usize = 114;
+pub const ROWS_COUNT: usize = 126;

@@ -174,13 +174,19 @@ pub fn by_next(rt: &impl Abort, alloc: Global, row: &Row) -> Result<String, Fail
     Ok(out)
 }
 
-/// What `read_all` gives.
+/// Whether a listing has more than so many calls that give no piece.
+fn has_more_nones(listing: &str, count: usize) -> bool {
+    listing.split('\n').filter(|line| *line == "none").count() > count
+}
+
+/// What `read_all` gives, and then the calls of `next` on its parser up to the last one that the row lists. The first
+/// call without a piece is the one that ends `read_all`.
 pub fn by_read_all(rt: &impl Abort, alloc: Global, row: &Row) -> Result<String, Fail> {
     let input = row.input.as_str();
     assert!(rt; input.len() < 10000);
     assert!(rt; row.style.unwrap_or(0) <= usize::MAX - 2 - input.len());
     let snippet = snippet_of(row)?;
-    let (pieces, parser) = read_all(
+    let (pieces, mut parser) = read_all(
         alloc,
         input,
         row.style,
@@ -193,6 +199,24 @@ pub fn by_read_all(rt: &impl Abort, alloc: Global, row: &Row) -> Result<String, 
     for piece in pieces.iter() {
         put_piece(&mut out, piece)?;
     }
+    out.push_str("none\n")?;
+    for nones in 1..input.len() + 2 {
+        if !has_more_nones(row.wanted.as_str(), nones) {
+            break;
+        }
+        put_to_none(&mut out, &mut parser, input.len())?;
+    }
     put_end(&mut out, &parser)?;
     Ok(out)
+}
+
+/// Adds what the calls of `next` give up to the next one without a piece. The input has so many bytes.
+fn put_to_none(out: &mut String, parser: &mut Parser<'_>, len: usize) -> Result<(), AllocError> {
+    for _ in 0..len {
+        match parser.next()? {
+            Some(piece) => put_piece(out, &piece)?,
+            None => break,
+        }
+    }
+    out.push_str("none\n")
 }

@@ -16,38 +16,18 @@ fn rows_of(rt: &impl Abort, alloc: Global, table: &str, count: usize) -> Result<
     Ok(rows)
 }
 
-/// What `read_all` gives of a row of a table of walks: its listing without the calls that gave no piece. A walk ends at
-/// the first of these, and in such a table only the end of the input comes after it.
-fn without_nones(alloc: Global, listing: &str) -> Result<String, Fail> {
-    let mut out = String::new(alloc);
-    for line in listing.split('\n') {
-        if line != "none" && !line.is_empty() {
-            out.push_str(line)?;
-            out.push('\n')?;
-        }
-    }
-    Ok(out)
-}
-
-/// Reads each row of a table of walks, in which no piece comes after a None.
-fn check_walks(rt: &impl Abort, alloc: Global, table: &str, count: usize) -> Result<(), Fail> {
+/// Reads each row of a table, by `next` alone and by `read_all`.
+fn check_rows(rt: &impl Abort, alloc: Global, table: &str, count: usize) -> Result<(), Fail> {
     for row in rows_of(rt, alloc, table, count)? {
         let name = row.name.as_str();
         let called = by_next(rt, alloc, &row)?;
         assert_eq!(rt; called.as_str(), row.wanted.as_str(), "row {name} by next");
-        let wanted = without_nones(alloc, row.wanted.as_str())?;
         let read = by_read_all(rt, alloc, &row)?;
-        assert_eq!(rt; read.as_str(), wanted.as_str(), "row {name} by read_all");
-    }
-    Ok(())
-}
-
-/// Reads each row of a table of calls: pieces come after a None, so `next` alone reaches them.
-fn check_calls(rt: &impl Abort, alloc: Global, table: &str, count: usize) -> Result<(), Fail> {
-    for row in rows_of(rt, alloc, table, count)? {
-        let name = row.name.as_str();
-        let called = by_next(rt, alloc, &row)?;
-        assert_eq!(rt; called.as_str(), row.wanted.as_str(), "row {name} by next");
+        assert_eq!(rt;
+            read.as_str(),
+            row.wanted.as_str(),
+            "row {name} by read_all"
+        );
     }
     Ok(())
 }
@@ -73,14 +53,13 @@ fn check_sources(rt: &impl Abort, alloc: Global, table: &str, count: usize) -> R
 }
 
 #[test]
-fn walks(rt: HostRuntime) -> Result<(), Fail> {
-    check_walks(&rt, rt.alloc(), named_rows::WALKS, named_rows::WALKS_COUNT)?;
-    check_walks(&rt, rt.alloc(), mixed_rows::WALKS, mixed_rows::WALKS_COUNT)
+fn named(rt: HostRuntime) -> Result<(), Fail> {
+    check_rows(&rt, rt.alloc(), named_rows::ROWS, named_rows::ROWS_COUNT)
 }
 
 #[test]
-fn calls(rt: HostRuntime) -> Result<(), Fail> {
-    check_calls(&rt, rt.alloc(), mixed_rows::CALLS, mixed_rows::CALLS_COUNT)
+fn mixed(rt: HostRuntime) -> Result<(), Fail> {
+    check_rows(&rt, rt.alloc(), mixed_rows::ROWS, mixed_rows::ROWS_COUNT)
 }
 
 #[test]

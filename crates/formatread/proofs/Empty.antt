@@ -19,9 +19,9 @@ use Rattle.formatread.specs.Source.{IsSourceOf, Source, bare_source}
 use Rattle.formatread.proofs.Literals.{raw_frame-parts}
 
 -- an empty text has no pieces and no fault
-walk-nil : (mode : Mode) (w : World) → pieces_in w (pieces_of (calls (fresh mode w []))) ≡ []
+walk-nil : (mode : Mode) (w : World) (start : ℕ) → pieces_in w (pieces_of (calls (fresh mode w [] start))) ≡ []
 unfolding walk call
-walk-nil mode w = refl
+walk-nil mode w start = refl
 
 listed-nil : (mode : Mode) → listed mode (bare_source []) ≡ ([], false)
 unfolding pieces is_faulty walk call
@@ -30,11 +30,11 @@ listed-nil mode = refl
 chars-empty : (bs : List ℕ) → bs ≡ [] → chars bs ≡ []
 chars-empty bs e = ap chars e ∙ chars-nil
 
-pub no_items : {A : Type 0} (f : A → Piece Place) (xs : List A) (mode : Mode) (w : World) (bs : List ℕ) → bs ≡ []
-    → map f xs ≡ pieces_in w (pieces_of (calls (fresh mode w (chars bs)))) → xs ≡ []
-no_items f [] mode w bs e h = refl
-no_items f (x ∷ xs) mode w bs e h =
-    let none : f x ∷ map f xs ≡ [] = h ∙ ap (λ t. pieces_in w (pieces_of (calls (fresh mode w t)))) (chars-empty bs e) ∙ walk-nil mode w in absurd cc
+pub no_items : {A : Type 0} (f : A → Piece Place) (xs : List A) (mode : Mode) (w : World) (start : ℕ) (bs : List ℕ) → bs ≡ []
+    → map f xs ≡ pieces_in w (pieces_of (calls (fresh mode w (chars bs) start))) → xs ≡ []
+no_items f [] mode w start bs e h = refl
+no_items f (x ∷ xs) mode w start bs e h =
+    let none : f x ∷ map f xs ≡ [] = h ∙ ap (λ t. pieces_in w (pieces_of (calls (fresh mode w t start)))) (chars-empty bs e) ∙ walk-nil mode w start in absurd cc
 
 -- nor is it a literal
 pub empty-not_raw : (bs : List ℕ) → bs ≡ [] → (n : ℕ) (t : List ℕ) → chars bs ≡ raw_frame n t → ⊥

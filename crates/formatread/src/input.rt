@@ -2,6 +2,7 @@
 
 ghost use Rattle.std.specs.Prelude.{◌≡◌, ◌≢◌, ◌≤◌, [], Err, IfOk, IfErr, IsErrOf, IsOk, false, length, nat_lt, chars, string_bytes, true};
 ghost use Rattle.rustc_parse_format.specs.Seen.{seen_mode, seen_snippet};
+ghost use Rattle.rustc_parse_format.specs.Source.{HasSource};
 ghost use Rattle.rustc_parse_format.specs.World.{hashes};
 ghost use Rattle.formatread.specs.declared.verdict.RunFault.TheVariants.{Words, TooLong, NotText, NotLiteral};
 ghost use Rattle.formatread.specs.Source.{IsInLiteral, IsSourceOf, Source, bare_source};
@@ -33,7 +34,8 @@ fn list_source(
     requires { hashes style ≤ limit }
     ensures lines { IfOk result (λ x. (string_bytes x.0, x.1) ≡ listed (seen_mode mode)
         (record { text = chars text.now; style = style; snippet = seen_snippet snippet })) }
-    ensures empty { text.now ≡ [] → IsOk result }
+    // The last line of a source literal takes memory, and nothing else of an empty text does.
+    ensures empty { text.now ≡ [] → (HasSource (chars text.now) style (seen_snippet snippet) false → ⊥) → IsOk result }
 {
     let (pieces, parser) = read_all(alloc, text, style, snippet, false, mode)?;
     let lines = listing(alloc, pieces.as_slice())?;

@@ -1,4 +1,4 @@
--- The places of the characters of a text that is no source literal, from the bytes of what is left of it.
+-- The places of the characters of a text in a plain world, from the bytes of what is left of it.
 use Rattle.std.proofs.Common.{◌≡◌, ◌++◌, ◌+◌, ◌-◌, List, ℕ, suc, Bool, [], ◌∷◌, length, chars, IsUtf8, take, drop, get_or, refl, ap, sym, subst, ◌∙◌, arith}
 use Rattle.std.proofs.Common.{length-append}
 use Rattle.std.specs.Prelude.{encode_utf8}

@@ -1,4 +1,5 @@
-//! Characters: their classes, and what stands at the front of a text. With `cursor` the only place where bytes and UTF-8 occur.
+//! Characters: their classes, and what stands at the front of a text. Of all that reads pieces, bytes and UTF-8 occur here, in
+//! `source` and in `cursor` alone.
 
 ghost use Rattle.std.specs.Char.{digit_value, is_ascii_digit};
 ghost use Rattle.std.specs.Prelude.{◌%◌, ◌*◌, ◌++◌, ◌+◌, ◌<◌, ◌≡◌, bytes_eq, chars, codes, IsTrue, List, nat_lt, ℕ};

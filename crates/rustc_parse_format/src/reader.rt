@@ -12,7 +12,6 @@ use crate::cursor::{Cursor, Trail};
 use crate::faults::Fault;
 use std::alloc::{AllocError, Global};
 use std::marker::Model;
-use std::mem;
 use std::ops::Range;
 use std::sync::ledger::Ledger;
 
@@ -76,14 +75,6 @@ impl<'source, 'input> Reader<'source, 'input> {
         let number = self.curarg;
         self.curarg = number + 1;
         number
-    }
-
-    /// Takes the faults out.
-    pub fn take_faults(&mut self, alloc: Global) -> Vec<Fault<'input>>
-        ensures value { map seen_fault result.items ≡ self.old.faults }
-        ensures state { self.new ≡ record self.old { faults = [] } }
-    {
-        mem::replace(&mut self.found, Vec::new(alloc))
     }
 
     /// Reads the run of text at the front.
