@@ -17,9 +17,9 @@ pub front_left : (mark behind rest : List ℕ) → IsUtf8 mark → IsUtf8 rest �
 front_left mark behind rest u v e h [] f = absurd (omega (arith, width_chars mark u, width_chars rest v, ap byte_length f))
 front_left mark behind rest u v e h (c ∷ front) f = (front, e ∙ ap behind_first f)
 
-pub front_gone : (mark rest : List ℕ) → IsUtf8 mark → IsUtf8 rest → (length rest < length mark → ⊥) → (front : Text) → chars mark ≡ front ++ chars rest →
+pub front_gone : (mark rest : List ℕ) → IsUtf8 mark → IsUtf8 rest → length mark ≤ length rest → (front : Text) → chars mark ≡ front ++ chars rest →
     chars mark ≡ chars rest
 front_gone mark rest u v h [] f = f
 front_gone mark rest u v h (c ∷ front) f =
-    absurd (h (omega (arith, width_chars mark u, width_chars rest v, ap byte_length f, width-cons c (front ++ chars rest),
-      width-append front (chars rest), (len_utf8_bounds c).0)))
+    absurd (omega (arith, width_chars mark u, width_chars rest v, ap byte_length f, width-cons c (front ++ chars rest),
+      width-append front (chars rest), (len_utf8_bounds c).0))

@@ -10,6 +10,8 @@ use Rattle.std.specs.declared.alloc.Global.{Global}
 use Rattle.rustc_parse_format.specs.declared.source.Source.{Source}
 use Rattle.rustc_parse_format.specs.Characters.{Text, behind_first}
 use Rattle.rustc_parse_format.specs.World.{World, place_at}
+use Rattle.std.specs.Str.{is_utf8}
+use Rattle.rustc_parse_format.specs.Bytes.{IsLeft}
 use Rattle.rustc_parse_format.specs.SeenSource.{IsHere, IsPlaced, IsSpot, seen_world, world_with}
 use Rattle.rustc_parse_format.proofs.Places.{begun, place_over, start_left, stop_left}
 
@@ -48,10 +50,10 @@ kept_end s rest snippet at here none =
     let nil : chars rest ≡ [] = ap chars (nil_from_length rest none) ∙ chars-nil in
     rw nil (sym (here_end_place snippet (seen_world s) at (rw nil at here)))
 
-pub kept_stop : (s : Source) (rest mark snippet : List ℕ) (at stop : ℕ) → IsLeft s.input.now rest → IsHere snippet (seen_world s) (chars rest) at →
+pub kept_stop : (s : Source) (rest snippet : List ℕ) (at stop : ℕ) → IsLeft s.input.now rest → IsHere snippet (seen_world s) (chars rest) at →
     (length rest ≡ 0 → ⊥) → ((w : World) (c : ℕ) (t : Text) → IsHere snippet w (c ∷ t) at → stop ≡ (place_at w (length (c ∷ t))).1) →
     stop ≡ (place_at (seen_world s) (length (chars rest))).1
-kept_stop s rest mark snippet at stop l here some f =
+kept_stop s rest snippet at stop l here some f =
     let b = begun rest (IsUtf8-from_is_utf8 rest l.valid_rest) some in
     rw b.chars_are (f (seen_world s) b.head b.tail (rw b.chars_are at here))
 

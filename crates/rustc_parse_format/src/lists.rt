@@ -47,6 +47,9 @@ impl Lists {
             × (self.new.arg_places.items ≡ self.old.arg_places.items) × (self.new.line_spans.items ≡ self.old.line_spans.items)) }
         ensures none { found.entry.items ≡ [] → lines.items ≡ [] → IsNone closed → IsOk result }
     {
+        if found.is_empty() && lines.is_empty() && closed.is_none() {
+            return Ok(());
+        }
         self.line_spans.reserve(lines.len())?;
         if closed.is_some() {
             self.arg_places.reserve(1)?;

@@ -132,7 +132,6 @@ impl<'source, 'input> Reader<'source, 'input> {
             if !Class::Text.passes(c) {
                 break;
             }
-            self.cursor.settle();
             if Class::Line.passes(c) && self.cursor.is_behind(self.line_start) {
                 self.skip_line(trail);
             } else {
@@ -156,6 +155,7 @@ impl<'source, 'input> Reader<'source, 'input> {
         ensures spare { c ≢ 10 → IsOk result }
         ensures steps { OnOk result (Forward self.old.rest trail.old self.new.rest trail.new) }
     {
+        self.cursor.settle();
         self.note(c)?;
         self.cursor.advance(trail);
         Ok(())

@@ -21,11 +21,13 @@ returns-clause-state g c =
       closed = option_map pair c.reader.inside.closed;
     } in
     let t = behind_first u.rest in
-    let given = rw c.advance.ensures.rest at c.in_ok-argument.ensures in
+    let given = rw (c.advance.ensures.rest, c.settle.ensures) at c.in_ok-argument.ensures in
     let format = ap (λ (a : Argument Place). a.format) given.value in
     let fill = option_map pair c.brace_fill-fill.result in
     let opening : Place = (c.start.result, c.stop.result) in
+    let start = rw c.settle.ensures at c.start.ensures in
+    let stop = rw c.settle.ensures at c.stop.ensures in
     rw (← c.reader.view_is) (rw c.skip_white.ensures.rest at c.in_ok-close.ensures.state ∙
     ap (λ (x : Midway). behind_closing fill opening (record x { rest = behind_white x.rest })) (c.reader-2.view_is ∙ given.state) ∙
-    placeholder_read s m u.rest t fill opening c.start.ensures (rw (c.brace_fill-fill.ensures, c.start.ensures, c.stop.ensures)
+    placeholder_read s m u.rest t fill opening start (rw (c.brace_fill-fill.ensures, start, stop)
     (sym (unclosed_fault_in u.world u.rest (argument s.next (cut m t)).format (ending m t) (seen_spec c.in_ok-argument.argument.format) format))))

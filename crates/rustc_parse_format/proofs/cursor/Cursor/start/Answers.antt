@@ -9,7 +9,7 @@ pub byte_here-requires : goal.byte_here-requires
 byte_here-requires c =
     let i = c.self.inside in
     let placed = placed_in i.source.now i.spot.rest.now i.spot.mark.now i.spot.at c.in-Some.snippet c.self.invariant c.in-Some.is in
-    (seen_world i.source.now, rw c.as_str.ensures.value placed)
+    record { after = c.self.invariant.is_after; here = (seen_world i.source.now, rw c.as_str.ensures.value placed) }
 
 pub returns-in-Some : goal.returns-in-Some
 returns-in-Some c =
