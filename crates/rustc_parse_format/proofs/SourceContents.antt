@@ -71,7 +71,7 @@ letter-no_continuation l r w h =
     let e : l ≡ 10 = eqb-true l 10 h in
     let some : is_some (escaped 10) ≡ true = subst (λ k. is_some (escaped k) ≡ true) e w in false≢true some
 
-plain-no_continuation : (c : ℕ) (r : Text) → IsTrue (is_plain c) → begins_continuation (c ∷ r) ≡ true → ⊥
+pub plain-no_continuation : (c : ℕ) (r : Text) → IsTrue (is_plain c) → begins_continuation (c ∷ r) ≡ true → ⊥
 plain-no_continuation c r w h =
     let parts : ((c == 92) ≡ true) × (begins_with 10 r ≡ true) = and_parts (c == 92) (begins_with 10 r) h in
     let plain : is_plain 92 ≡ true = subst (λ k. is_plain k ≡ true) (eqb-true c 92 parts.0) w in false≢true plain

@@ -1,7 +1,17 @@
 -- A mark that is moved forward to a rest, character by character.
-use Rattle.std.proofs.Common.{◌≡◌, ◌≢◌, ◌++◌, ◌+◌, ◌<◌, ◌≤◌, List, ℕ, [], ◌∷◌, length, chars, IsUtf8, ap, sym, ◌∙◌, arith}
-use Rattle.std.proofs.lemmas.Str.{len_utf8_bounds}
-use Rattle.rustc_parse_format.specs.Characters.{Text, behind_first, byte_length}
+use Rattle.std.proofs.Common.{◌≡◌, ◌≢◌, ◌++◌, ◌+◌, ◌<◌, ◌≤◌, Bool, true, false, List, ℕ, [], ◌∷◌, drop, length, chars, Some, None, IsUtf8, ap, refl, subst, sym, ◌∙◌, arith}
+use Rattle.std.specs.Prelude.{IsTrue}
+use Rattle.std.specs.List.{list_all}
+use Rattle.std.proofs.lemmas.Bool.{and_from, and_parts, eqb-true, false≢true, ne_eqb}
+use Rattle.std.proofs.lemmas.Str.{IsUtf8-from_is_utf8, len_utf8_bounds}
+use Rattle.rustc_parse_format.specs.World.{World}
+use Rattle.rustc_parse_format.specs.LiteralUnits.{LiteralUnit, Plain, is_plain, meaning}
+use Rattle.rustc_parse_format.specs.Literal.{IsContent}
+use Rattle.rustc_parse_format.specs.SeenSource.{IsHere, begins_continuation, character_width, closed_by_quote, gap}
+use Rattle.rustc_parse_format.proofs.LiteralUnitLaws.{unit_at-complete}
+use Rattle.rustc_parse_format.proofs.SourceContents.{gap-none, plain-no_continuation, width-read}
+use Rattle.rustc_parse_format.proofs.SourceSteps.{after_character, cut_from}
+use Rattle.rustc_parse_format.specs.Characters.{Text, begins_with, behind_first, byte_length, first}
 use Rattle.rustc_parse_format.proofs.LiteralWidths.{width-append, width-cons}
 use Rattle.rustc_parse_format.proofs.Places.{begun, behind_width, width_chars}
 
@@ -23,3 +33,88 @@ front_gone mark rest u v h [] f = f
 front_gone mark rest u v h (c ∷ front) f =
     absurd (omega (arith, width_chars mark u, width_chars rest v, ap byte_length f, width-cons c (front ++ chars rest),
       width-append front (chars rest), (len_utf8_bounds c).0))
+
+-- A run that stands in the snippet as it is, and has no character that a literal writes in another way.
+plain_width : (c : ℕ) (t : Text) → IsTrue (is_plain c) → character_width (c ∷ t) ≡ byte_length (c ∷ [])
+plain_width c t p =
+    omega (arith, width-read (c ∷ t) t c (ap meaning (unit_at-complete (Plain c) t p refl)), width-cons c t, width-cons c [])
+
+false_if : (b : Bool) → (b ≡ true → ⊥) → b ≡ false
+false_if true h = absurd (h refl)
+false_if false h = refl
+
+abbrev Gaps : List ℕ → ℕ → ℕ → Type 0
+Gaps s at g = (q : Text) (us : List LiteralUnit) → IsContent q us → chars (drop at s) ≡ closed_by_quote q → g ≡ gap us
+
+pub here_plain : (s : List ℕ) (w : World) (u rest t : Text) (at g : ℕ) → IsHere s w (u ++ rest) at → u ≢ [] → chars (drop at s) ≡ u ++ t →
+    IsTrue (list_all is_plain u) → Gaps s (at + byte_length u) g → IsHere s w rest ((at + byte_length u) + g)
+here_plain s w [] rest t at g h some e p f = absurd (some refl)
+here_plain s w (c ∷ []) rest t at g h some e p f =
+    let width : byte_length (c ∷ []) ≡ character_width (chars (drop at s)) = sym (ap character_width e ∙ plain_width c t (and_parts _ _ p).0) in
+    after_character s w (c ∷ rest) at (byte_length (c ∷ [])) g h width (λ none. omega (arith, none, width-cons c [], (len_utf8_bounds c).0)) f
+here_plain s w (c ∷ d ∷ u) rest t at g h some e p f =
+    let n = byte_length (c ∷ []) in
+    let parts = and_parts _ _ p in
+    let next = and_parts _ _ parts.1 in
+    let width : n ≡ character_width (chars (drop at s)) = sym (ap character_width e ∙ plain_width c (d ∷ (u ++ t)) parts.0) in
+    let cut = cut_from s at n (c ∷ []) (d ∷ (u ++ t)) h.within (IsUtf8-from_is_utf8 (drop at s) h.valid) e refl in
+    let no_gap : Gaps s (at + n) 0 = λ q us k m. sym (gap-none (chars (drop (at + n) s)) q us k m
+        (ap begins_continuation cut.2 ∙ false_if _ (plain-no_continuation d (u ++ t) next.0))) in
+    let one = after_character s w (c ∷ ((d ∷ u) ++ rest)) at n 0 h width (λ none. omega (arith, none, width-cons c [], (len_utf8_bounds c).0)) no_gap in
+    let here : IsHere s w ((d ∷ u) ++ rest) (at + n) = subst (IsHere s w ((d ∷ u) ++ rest)) (omega arith) one in
+    let size : at + byte_length (c ∷ d ∷ u) ≡ (at + n) + byte_length (d ∷ u) = omega (arith, width-cons c (d ∷ u), width-cons c []) in
+    let gaps : Gaps s ((at + n) + byte_length (d ∷ u)) g = subst (λ k. Gaps s k g) size f in
+    subst (λ k. IsHere s w rest (k + g)) (sym size) (here_plain s w (d ∷ u) rest t (at + n) g here (λ none. no_list d u none) cut.2 parts.1 gaps)
+  where
+    no_list : (x : ℕ) (xs : Text) → x ∷ xs ≡ [] → ⊥
+    no_list x xs e = cc e
+
+-- Two texts compared: what is left of them decides what the whole is.
+abbrev pub PlainSoFar : Text → Text → Text → Text → Type 0
+PlainSoFar text front rest wanted = (t : Text) → rest ≡ wanted ++ t → IsTrue (list_all is_plain wanted) →
+    (text ≡ front ++ t) × IsTrue (list_all is_plain front)
+
+pub plain_start : (text front rest wanted : Text) → rest ≡ text → wanted ≡ front → PlainSoFar text front rest wanted
+plain_start text front rest wanted e f = λ t h p. (sym e ∙ (h ∙ ap (λ u. u ++ t) f), rw f at p)
+
+pub some_shorter : (wanted later : Text) (c : ℕ) → Some c ≡ first wanted → later ≡ behind_first wanted → length later < length wanted
+some_shorter [] later c e f = cc e
+some_shorter (x ∷ wanted) later c e f = omega (arith, ap length f)
+
+plain_char : (c : ℕ) → (c ≡ 34 → ⊥) → (c ≡ 92 → ⊥) → (c ≡ 13 → ⊥) → IsTrue (is_plain c)
+plain_char c q b r = rw (ne_eqb c 34 q, ne_eqb c 92 b, ne_eqb c 13 r) refl
+
+pub plain_more : (text front rest wanted rest_then wanted_then : Text) (c : ℕ) → Some c ≡ first wanted → begins_with c rest ≡ true →
+    rest_then ≡ behind_first rest → wanted_then ≡ behind_first wanted → (c ≡ 34 → ⊥) → (c ≡ 92 → ⊥) → (c ≡ 13 → ⊥) →
+    PlainSoFar text front rest wanted → PlainSoFar text front rest_then wanted_then
+plain_more text front rest [] rest_then wanted_then c e f g h q b r so_far = absurd (cc e)
+plain_more text front [] (x ∷ wanted) rest_then wanted_then c e f g h q b r so_far = absurd (false≢true f)
+plain_more text front (y ∷ rest) (x ∷ wanted) rest_then wanted_then c e f g h q b r so_far =
+    λ t k p.
+    let here : x ≡ c = cc in
+    let there : y ≡ x = eqb-true y c f ∙ sym here in
+    let plain : IsTrue (is_plain x) = rw here (plain_char c q b r) in
+    so_far t (ap (λ z. z ∷ rest) there ∙ ap (λ u. x ∷ u) (sym g ∙ (k ∙ ap (λ u. u ++ t) h))) (and_from (is_plain x) _ plain (rw h at p))
+
+pub plain_all : (text front rest wanted : Text) → None ≡ first wanted → PlainSoFar text front rest wanted →
+    (t : Text) × (text ≡ front ++ t) × IsTrue (list_all is_plain front)
+plain_all text front rest [] e so_far = let both = so_far rest refl refl in (rest, both.0, both.1)
+plain_all text front rest (x ∷ wanted) e so_far = absurd (cc e)
+
+-- where what was passed ends in the snippet
+pub moved_cut : (s moved : List ℕ) (front t : Text) (at : ℕ) → at ≤ length s → IsUtf8 (drop at s) → IsUtf8 moved → chars moved ≡ front →
+    chars (drop at s) ≡ chars moved ++ t →
+    (at + length moved ≤ length s) × IsUtf8 (drop (at + length moved) s) × (chars (drop (at + length moved) s) ≡ t)
+moved_cut s moved front t at h u v e f =
+    cut_from s at (length moved) front t h u (f ∙ ap (λ x. x ++ t) e) (sym (width_chars moved v) ∙ ap byte_length e)
+
+pub moved_here : (s : List ℕ) (w : World) (mark rest moved : List ℕ) (front t : Text) (at g : ℕ) → IsHere s w (chars mark) at →
+    chars mark ≡ front ++ chars rest → IsUtf8 mark → IsUtf8 rest → IsUtf8 moved → chars moved ≡ front → (length mark ≡ length rest → ⊥) →
+    chars (drop at s) ≡ chars moved ++ t → IsTrue (list_all is_plain (chars moved)) → Gaps s (at + length moved) g →
+    IsHere s w (chars rest) ((at + length moved) + g)
+moved_here s w mark rest moved front t at g h whole u v m e other f p gaps =
+    let size : byte_length front ≡ length moved = sym (ap byte_length e) ∙ width_chars moved m in
+    let some : front ≢ [] = λ none. other (sym (width_chars mark u) ∙ (ap byte_length (whole ∙ ap (λ x. x ++ chars rest) none) ∙ width_chars rest v)) in
+    subst (λ k. IsHere s w (chars rest) ((at + k) + g)) size
+    (here_plain s w front (chars rest) t at g (subst (λ x. IsHere s w x at) whole h) some (f ∙ ap (λ x. x ++ t) e)
+    (subst (λ x. IsTrue (list_all is_plain x)) e p) (subst (λ k. Gaps s (at + k) g) (sym size) gaps))

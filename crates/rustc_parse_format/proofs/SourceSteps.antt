@@ -46,7 +46,7 @@ cut_at bs (c ∷ p) r u e =
     }
 
 -- the same of a text that starts at a byte
-cut_from : (s : List ℕ) (at n : ℕ) (p r : Text) → at ≤ length s → IsUtf8 (drop at s) → chars (drop at s) ≡ p ++ r → n ≡ byte_length p →
+pub cut_from : (s : List ℕ) (at n : ℕ) (p r : Text) → at ≤ length s → IsUtf8 (drop at s) → chars (drop at s) ≡ p ++ r → n ≡ byte_length p →
     ((at + n) ≤ length s) × IsUtf8 (drop (at + n) s) × (chars (drop (at + n) s) ≡ r)
 cut_from s at n p r within u e size =
     let k = cut_at (drop at s) p r u e in

@@ -1,15 +1,16 @@
 //! Where an input stands in its source, and how a place in a snippet goes on from character to character.
 
-ghost use Rattle.std.specs.Prelude.{◌≡◌, ◌≤◌, ◌∷◌, Bool, List, ℕ, chars, drop, length, true};
+ghost use Rattle.std.specs.Prelude.{IsTrue, ◌++◌, ◌≡◌, ◌≤◌, ◌∷◌, Bool, List, ℕ, chars, drop, length, true};
 ghost use Rattle.std.specs.Str.{is_utf8};
 ghost use Rattle.rustc_parse_format.specs.Bytes.{IsLeft};
 ghost use Rattle.rustc_parse_format.specs.Characters.{Text, behind_first};
 ghost use Rattle.rustc_parse_format.specs.Literal.{IsContent};
-ghost use Rattle.rustc_parse_format.specs.LiteralUnits.{LiteralUnit};
+ghost use Rattle.std.specs.List.{list_all};
+ghost use Rattle.rustc_parse_format.specs.LiteralUnits.{LiteralUnit, is_plain};
 ghost use Rattle.rustc_parse_format.specs.SeenSource.{IsHere, character_width, closed_by_quote, gap};
 ghost use Rattle.rustc_parse_format.specs.World.{World, place_at};
 
-use crate::characters::{behind_first, first};
+use crate::characters::{before, behind_first, first};
 use crate::literal::{Rest, read_unit};
 
 /// Where an input stands in its source.
@@ -110,8 +111,22 @@ pub fn byte_through(snippet: &str, at: usize) -> usize
     if width == 0 { at + 1 } else { at + width }
 }
 
+/// Whether a text stands in front of another as it is, and is free of all that a literal writes in another way.
+fn begins_plainly(text: &str, front: &str) -> bool
+    ensures { IsTrue result → (t : Text) × (chars text.now ≡ chars front.now ++ t) × IsTrue (list_all is_plain (chars front.now)) }
+{
+    let mut rest = Rest::new(text);
+    let mut wanted = Rest::new(front);
+    while let Some(c) = wanted.next() {
+        if c == '"' || c == '\\' || c == '\r' || !rest.next_is(c) {
+            return false;
+        }
+    }
+    true
+}
+
 /// Where the next character starts in a snippet that is kept: from where it was last looked at on, character by character.
-pub fn byte_here(snippet: &str, spot: &Spot<'_>) -> usize
+fn byte_by_byte(snippet: &str, spot: &Spot<'_>) -> usize
     requires after { IsLeft spot.now.mark.now spot.now.rest.now }
     requires here { (w : World) × IsHere snippet.now w (chars spot.now.mark.now) spot.now.at }
     ensures { (w : World) → IsHere snippet.now w (chars spot.now.mark.now) spot.now.at → IsHere snippet.now w (chars spot.now.rest.now) result }
@@ -123,4 +138,21 @@ pub fn byte_here(snippet: &str, spot: &Spot<'_>) -> usize
         mark = behind_first(mark);
     }
     at
+}
+
+/// The same. What stands in the snippet as it is was passed at once.
+pub fn byte_here(snippet: &str, spot: &Spot<'_>) -> usize
+    requires after { IsLeft spot.now.mark.now spot.now.rest.now }
+    requires here { (w : World) × IsHere snippet.now w (chars spot.now.mark.now) spot.now.at }
+    ensures { (w : World) → IsHere snippet.now w (chars spot.now.mark.now) spot.now.at → IsHere snippet.now w (chars spot.now.rest.now) result }
+{
+    if spot.mark.len() == spot.rest.len() {
+        return spot.at;
+    }
+    let moved = before(spot.mark, spot.rest);
+    if !begins_plainly(&snippet[spot.at..], moved) {
+        return byte_by_byte(snippet, spot);
+    }
+    let at = spot.at + moved.len();
+    at + continuations_width(&snippet[at..])
 }

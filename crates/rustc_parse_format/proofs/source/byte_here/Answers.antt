@@ -1,36 +1,31 @@
-use Rattle.std.proofs.Common.{chars, sym}
-use Rattle.std.proofs.lemmas.Str.{IsUtf8-from_is_utf8}
+use Rattle.std.proofs.Common.{◌≡◌, ◌∙◌, ap, chars, drop, length, rules, sym}
+use Rattle.std.proofs.lemmas.Str.{IsCharBoundary-from_drop, IsUtf8-from_is_utf8}
+use Rattle.std.proofs.lemmas.List.{drop-drop}
 use Rattle.rustc_parse_format.proofs.Places.{left}
-use Rattle.rustc_parse_format.proofs.SourceMarks.{front_gone, front_left, shorter}
+use Rattle.rustc_parse_format.proofs.SourceMarks.{moved_cut, moved_here}
 use Rattle.rustc_parse_format.proofs.source.byte_here.Goals as goal
 
-pub loop-mark-init : goal.loop-mark-init
-loop-mark-init c =
+pub before-moved-requires : goal.before-moved-requires
+before-moved-requires c = let l = left c.args.spot.now.mark.now c.args.spot.now.rest.now c.requires.after in (l.pre, l.whole)
+
+pub range_from-requires : goal.range_from-requires
+range_from-requires c _ =
+    let h = c.requires.here.1 in IsCharBoundary-from_drop c.args.snippet.now c.args.spot.now.at h.within (IsUtf8-from_is_utf8 _ h.valid)
+
+pub range_from-requires-2 : goal.range_from-requires-2
+range_from-requires-2 c _ =
     let l = left c.args.spot.now.mark.now c.args.spot.now.rest.now c.requires.after in
-    (IsUtf8-from_is_utf8 c.args.spot.now.mark.now c.requires.after.valid, (l.pre, l.whole), λ w h. h)
-
-pub byte_after-at-requires-clause-within : goal.byte_after-at-requires-clause-within
-byte_after-at-requires-clause-within c = (c.loop-mark.invariant.2 c.requires.here.0 c.requires.here.1).within
-
-pub byte_after-at-requires-clause-valid : goal.byte_after-at-requires-clause-valid
-byte_after-at-requires-clause-valid c = (c.loop-mark.invariant.2 c.requires.here.0 c.requires.here.1).valid
-
-pub loop-mark-smaller : goal.loop-mark-smaller
-loop-mark-smaller c =
-    shorter c.loop-mark.mark.now c.behind_first-mark.result.now c.args.spot.now.rest.now c.loop-mark.invariant.0 c.behind_first-mark.utf8
-    c.behind_first-mark.ensures.rest c.loop-mark-test.true
-
-pub loop-mark-preserved : goal.loop-mark-preserved
-loop-mark-preserved c = (
-  c.behind_first-mark.utf8,
-  front_left c.loop-mark.mark.now c.behind_first-mark.result.now c.args.spot.now.rest.now c.loop-mark.invariant.0
-      (IsUtf8-from_is_utf8 _ c.requires.after.valid_rest) c.behind_first-mark.ensures.rest c.loop-mark-test.true c.loop-mark.invariant.1.0
-      c.loop-mark.invariant.1.1,
-  λ w h. rw c.behind_first-mark.ensures.rest (c.byte_after-at.ensures w (chars c.loop-mark.mark.now) (c.loop-mark.invariant.2 w h)),
-)
+    let h = c.requires.here.1 in
+    let p = c.begins_plainly.ensures (search rules) in
+    let cut = moved_cut c.args.snippet.now c.before-moved.result.now l.pre p.0 c.args.spot.now.at h.within (IsUtf8-from_is_utf8 _ h.valid)
+    c.before-moved.utf8 (c.before-moved.ensures l.pre l.whole) (ap chars (sym c.range_from.ensures.value) ∙ p.1) in
+    IsCharBoundary-from_drop c.args.snippet.now _ cut.0 cut.1
 
 pub returns : goal.returns
-returns c w h =
-    rw (sym (front_gone c.loop-mark.mark.now c.args.spot.now.rest.now c.loop-mark.invariant.0
-    (IsUtf8-from_is_utf8 _ c.requires.after.valid_rest) c.loop-mark-test.false c.loop-mark.invariant.1.0 c.loop-mark.invariant.1.1))
-    (c.loop-mark.invariant.2 w h)
+returns c w here =
+    let l = left c.args.spot.now.mark.now c.args.spot.now.rest.now c.requires.after in
+    let p = c.begins_plainly.ensures (search rules) in
+    moved_here c.args.snippet.now w c.args.spot.now.mark.now c.args.spot.now.rest.now c.before-moved.result.now l.pre p.0 c.args.spot.now.at
+    c.continuations_width.result here l.whole (IsUtf8-from_is_utf8 _ c.requires.after.valid) (IsUtf8-from_is_utf8 _ c.requires.after.valid_rest)
+    c.before-moved.utf8 (c.before-moved.ensures l.pre l.whole) c.if-spot.false (ap chars (sym c.range_from.ensures.value) ∙ p.1) p.2
+    (λ q us k m. c.continuations_width.ensures.width q us k (ap chars c.range_from-2.ensures.value ∙ m))

@@ -4,7 +4,7 @@ use denote.Shadow.{shadow}
 use Rattle.rustc_parse_format.specs.Characters.{Text}
 use Rattle.rustc_parse_format.specs.SeenSource.{IsHere}
 use Rattle.rustc_parse_format.specs.World.{World}
-use Rattle.rustc_parse_format.proofs.source.byte_here.Given as goal
+use Rattle.rustc_parse_format.proofs.source.byte_by_byte.Given as goal
 
 abbrev pub invariant-loop-mark : goal.invariant-loop-mark
 invariant-loop-mark l =
