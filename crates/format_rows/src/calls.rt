@@ -173,13 +173,14 @@ fn a_source_literal_has_places_and_lines(rt: HostRuntime) -> Result<(), Fail> {
     let mut parser = parser_in(rt.alloc(), "{foo}", "\"{foo\\\n  }\"", false)?;
     assert!(rt; parser.is_source_literal());
     assert!(rt; parser.next()?.is_some());
-    assert_eq!(rt; parser.arg_places().len(), 1);
-    assert_eq!(rt; parser.arg_places()[0], 1..10);
     assert_eq!(rt; parser.line_spans().len(), 0);
     assert_eq!(rt; parser.next()?, None);
-    assert_eq!(rt; parser.arg_places().len(), 1);
-    assert_eq!(rt; parser.line_spans().len(), 1);
-    assert_eq!(rt; parser.line_spans()[0], 1..10);
+    let places = parser.arg_places();
+    assert_eq!(rt; places.len(), 1);
+    assert_eq!(rt; places[0], 1..10);
+    let lines = parser.line_spans();
+    assert_eq!(rt; lines.len(), 1);
+    assert_eq!(rt; lines[0], 1..10);
     Ok(())
 }
 
@@ -190,25 +191,28 @@ fn the_last_line_is_there_once(rt: HostRuntime) -> Result<(), Fail> {
     assert_eq!(rt; parser.line_spans().len(), 0);
     for _ in 0..3 {
         assert_eq!(rt; parser.next()?, None);
-        assert_eq!(rt; parser.line_spans().len(), 1);
-        assert_eq!(rt; parser.line_spans()[0], 1..3);
+        let lines = parser.line_spans();
+        assert_eq!(rt; lines.len(), 1);
+        assert_eq!(rt; lines[0], 1..3);
     }
+    Ok(())
+}
+
+/// Reads an input of an argument and a text, of which no places and lines are kept.
+fn check_nothing_kept(rt: &impl Abort, mut parser: Parser<'_>) -> Result<(), Fail> {
+    assert!(rt; !parser.is_source_literal());
+    assert!(rt; parser.next()?.is_some());
+    assert_eq!(rt; parser.next()?, Some(Piece::Lit("\nb")));
+    assert_eq!(rt; parser.next()?, None);
+    assert_eq!(rt; parser.arg_places().len(), 0);
+    assert_eq!(rt; parser.line_spans().len(), 0);
     Ok(())
 }
 
 #[test]
 fn without_a_source_literal_are_no_places_and_lines(rt: HostRuntime) -> Result<(), Fail> {
-    let mut bare = parser_of(rt.alloc(), "{foo}\nb")?;
-    let mut foreign = parser_in(rt.alloc(), "{foo}\nb", "\"{foo}\"", false)?;
-    for parser in [&mut bare, &mut foreign] {
-        assert!(rt; !parser.is_source_literal());
-        assert!(rt; parser.next()?.is_some());
-        assert_eq!(rt; parser.next()?, Some(Piece::Lit("\nb")));
-        assert_eq!(rt; parser.next()?, None);
-        assert_eq!(rt; parser.arg_places().len(), 0);
-        assert_eq!(rt; parser.line_spans().len(), 0);
-    }
-    Ok(())
+    check_nothing_kept(&rt, parser_of(rt.alloc(), "{foo}\nb")?)?;
+    check_nothing_kept(&rt, parser_in(rt.alloc(), "{foo}\nb", "\"{foo}\"", false)?)
 }
 
 #[test]
