@@ -31,8 +31,15 @@ pub front_gone : (mark rest : List ℕ) → IsUtf8 mark → IsUtf8 rest → leng
     chars mark ≡ chars rest
 front_gone mark rest u v h [] f = f
 front_gone mark rest u v h (c ∷ front) f =
-    absurd (omega (arith, width_chars mark u, width_chars rest v, ap byte_length f, width-cons c (front ++ chars rest),
-      width-append front (chars rest), (len_utf8_bounds c).0))
+    absurd (omega (
+      arith,
+      width_chars mark u,
+      width_chars rest v,
+      ap byte_length f,
+      width-cons c (front ++ chars rest),
+      width-append front (chars rest),
+      (len_utf8_bounds c).0,
+    ))
 
 -- A run that stands in the snippet as it is, and has no character that a literal writes in another way.
 plain_width : (c : ℕ) (t : Text) → IsTrue (is_plain c) → character_width (c ∷ t) ≡ byte_length (c ∷ [])
@@ -59,7 +66,7 @@ here_plain s w (c ∷ d ∷ u) rest t at g h some e p f =
     let width : n ≡ character_width (chars (drop at s)) = sym (ap character_width e ∙ plain_width c (d ∷ (u ++ t)) parts.0) in
     let cut = cut_from s at n (c ∷ []) (d ∷ (u ++ t)) h.within (IsUtf8-from_is_utf8 (drop at s) h.valid) e refl in
     let no_gap : Gaps s (at + n) 0 = λ q us k m. sym (gap-none (chars (drop (at + n) s)) q us k m
-        (ap begins_continuation cut.2 ∙ false_if _ (plain-no_continuation d (u ++ t) next.0))) in
+    (ap begins_continuation cut.2 ∙ false_if _ (plain-no_continuation d (u ++ t) next.0))) in
     let one = after_character s w (c ∷ ((d ∷ u) ++ rest)) at n 0 h width (λ none. omega (arith, none, width-cons c [], (len_utf8_bounds c).0)) no_gap in
     let here : IsHere s w ((d ∷ u) ++ rest) (at + n) = subst (IsHere s w ((d ∷ u) ++ rest)) (omega arith) one in
     let size : at + byte_length (c ∷ d ∷ u) ≡ (at + n) + byte_length (d ∷ u) = omega (arith, width-cons c (d ∷ u), width-cons c []) in

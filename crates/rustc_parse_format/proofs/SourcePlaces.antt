@@ -1,10 +1,8 @@
 -- Where a cursor stands in its source: in a plain world by the bytes of what is left, else by the byte in the kept snippet.
-use Rattle.std.proofs.Common.{◌≡◌, ◌+◌, ◌-◌, ◌<◌, ◌^◌, drop, subst, ℕ, true, false, List, [], ◌∷◌, length, chars, refl, ap, sym, ◌∙◌, Option, Some, None, IsUtf8, arith, string_bytes}
-use Rattle.std.specs.Prelude.{is_some}
+use Rattle.std.proofs.Common.{◌≡◌, ◌+◌, ◌-◌, ◌<◌, ◌^◌, drop, subst, ℕ, true, List, [], ◌∷◌, length, chars, refl, ap, sym, ◌∙◌, Option, Some, None, IsUtf8, arith, string_bytes}
 use Rattle.std.proofs.lemmas.Str.{IsUtf8-from_is_utf8, is_utf8-from_IsUtf8, chars-nil}
 use Rattle.std.proofs.lemmas.List.{nil_from_length}
-use Rattle.std.proofs.lemmas.Bool.{false≢true}
-use Rattle.rustc_parse_format.proofs.SourceSteps.{here_start, here_end_place}
+use Rattle.rustc_parse_format.proofs.SourceSteps.{here_end_place}
 use Rattle.std.specs.declared.string.String.{String}
 use Rattle.std.specs.declared.alloc.Global.{Global}
 use Rattle.rustc_parse_format.specs.declared.source.Source.{Source}

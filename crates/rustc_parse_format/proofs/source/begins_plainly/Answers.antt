@@ -1,4 +1,4 @@
-use Rattle.std.proofs.Common.{◌∙◌, refl, sym}
+use Rattle.std.proofs.Common.{◌∙◌, sym}
 use Rattle.rustc_parse_format.proofs.SourceMarks.{plain_all, plain_more, plain_start, some_shorter}
 use Rattle.rustc_parse_format.proofs.source.begins_plainly.Goals as goal
 

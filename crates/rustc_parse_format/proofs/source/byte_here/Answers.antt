@@ -1,6 +1,5 @@
-use Rattle.std.proofs.Common.{◌≡◌, ◌∙◌, ap, chars, drop, length, rules, sym}
+use Rattle.std.proofs.Common.{◌∙◌, ap, chars, rules, sym}
 use Rattle.std.proofs.lemmas.Str.{IsCharBoundary-from_drop, IsUtf8-from_is_utf8}
-use Rattle.std.proofs.lemmas.List.{drop-drop}
 use Rattle.rustc_parse_format.proofs.Places.{left}
 use Rattle.rustc_parse_format.proofs.SourceMarks.{moved_cut, moved_here}
 use Rattle.rustc_parse_format.proofs.source.byte_here.Goals as goal

@@ -1,4 +1,4 @@
-use Rattle.std.proofs.Common.{length, ◌≡◌, ap, sym, string_bytes, rules}
+use Rattle.std.proofs.Common.{length, ◌≡◌, ap, sym, rules}
 use Rattle.rustc_parse_format.specs.SeenSource.{seen_world}
 use Rattle.rustc_parse_format.specs.World.{Place}
 use Rattle.rustc_parse_format.proofs.SourceSteps.{here_start}
