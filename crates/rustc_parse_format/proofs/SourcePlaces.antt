@@ -2,16 +2,17 @@
 use Rattle.std.proofs.Common.{◌≡◌, ◌+◌, ◌-◌, ◌<◌, ◌^◌, drop, subst, ℕ, true, List, [], ◌∷◌, length, chars, refl, ap, sym, ◌∙◌, Option, Some, None, IsUtf8, arith, string_bytes}
 use Rattle.std.proofs.lemmas.Str.{IsUtf8-from_is_utf8, is_utf8-from_IsUtf8, chars-nil}
 use Rattle.std.proofs.lemmas.List.{nil_from_length}
-use Rattle.rustc_parse_format.proofs.SourceSteps.{here_end_place}
 use Rattle.std.specs.declared.string.String.{String}
 use Rattle.std.specs.declared.alloc.Global.{Global}
 use Rattle.rustc_parse_format.specs.declared.source.Source.{Source}
 use Rattle.rustc_parse_format.specs.Characters.{Text, behind_first}
-use Rattle.rustc_parse_format.specs.World.{World, place_at}
+use Rattle.rustc_parse_format.specs.Source.{units_between}
+use Rattle.rustc_parse_format.proofs.ReadBackWorlds.{frame-units}
+use Rattle.rustc_parse_format.specs.World.{ordinary_end, World, place_at}
 use Rattle.std.specs.Str.{is_utf8}
 use Rattle.rustc_parse_format.specs.Bytes.{IsLeft}
-use Rattle.rustc_parse_format.specs.SeenSource.{IsHere, IsPlaced, IsSpot, seen_world, world_with}
-use Rattle.rustc_parse_format.proofs.Places.{begun, place_over, start_left, stop_left}
+use Rattle.rustc_parse_format.specs.SeenSource.{IsKept, IsKeptIn, IsHere, IsPlaced, IsSpot, seen_world, world_with}
+use Rattle.rustc_parse_format.proofs.Places.{begun, place_end, start_left, stop_left}
 
 placed_by : (o : Option (String Global)) (w : World) (rest : Text) (at : ℕ) (snippet : String Global) → IsPlaced o w rest at → o ≡ Some snippet →
     IsHere (string_bytes snippet) w rest at
@@ -38,16 +39,14 @@ pub plain_stop : (s : Source) (rest behind mark : List ℕ) (at : ℕ) → IsSpo
     chars behind ≡ behind_first (chars rest) → s.offset + (length s.input.now - length behind) ≡ (place_at (seen_world s) (length (chars rest))).1
 plain_stop s rest behind mark at h e u some b = rw e (sym (stop_left s.is_literal s.offset s.end s.input.now rest behind h.is_left u some b))
 
-pub plain_end : (s : Source) (rest : List ℕ) → s.kept ≡ None → length rest ≡ 0 → place_at (seen_world s) (length (chars rest)) ≡ (s.end, s.end)
-plain_end s rest e none = rw e (place_over s.is_literal s.offset s.end s.input.now rest none)
+-- at the end of the text
+pub place_gone : (s : Source) (rest mark : List ℕ) (at : ℕ) → IsSpot s rest mark at → length rest ≡ 0 →
+    place_at (seen_world s) (length (chars rest)) ≡ (s.end, s.end)
+place_gone s rest mark at h none =
+    let nil : chars rest ≡ [] = ap chars (nil_from_length rest none) ∙ chars-nil in
+    rw nil (place_end (seen_world s)) ∙ ap (λ (e : ℕ). (e, e)) (sym h.ending)
 
 -- in a kept snippet
-pub kept_end : (s : Source) (rest snippet : List ℕ) (at : ℕ) → IsHere snippet (seen_world s) (chars rest) at → length rest ≡ 0 →
-    at ≡ (place_at (seen_world s) (length (chars rest))).1
-kept_end s rest snippet at here none =
-    let nil : chars rest ≡ [] = ap chars (nil_from_length rest none) ∙ chars-nil in
-    rw nil (sym (here_end_place snippet (seen_world s) at (rw nil at here)))
-
 pub kept_stop : (s : Source) (rest snippet : List ℕ) (at stop : ℕ) → IsLeft s.input.now rest → IsHere snippet (seen_world s) (chars rest) at →
     (length rest ≡ 0 → ⊥) → ((w : World) (c : ℕ) (t : Text) → IsHere snippet w (c ∷ t) at → stop ≡ (place_at w (length (c ∷ t))).1) →
     stop ≡ (place_at (seen_world s) (length (chars rest))).1
@@ -69,20 +68,28 @@ settled s rest mark at to snippet h e k = record {
   is_after = left_self rest h.is_left.valid_rest;
   is_placed = of_kept s.kept (seen_world s) (chars rest) to snippet e k;
   fits = h.fits;
+  ending = h.ending;
 }
   where
     of_kept : (o : Option (String Global)) (w : World) (t : Text) (to : ℕ) (snippet : String Global) → o ≡ Some snippet →
         IsHere (string_bytes snippet) w t to → IsPlaced o w t to
     of_kept o w t to snippet e k = rw e k
 
+-- where the text of a source ends
+kept_ends : (o : Option (String Global)) (s : Source) → IsKeptIn o s → s.end ≡ (world_with o s).end
+kept_ends None s k = refl
+kept_ends (Some snippet) s k =
+    k.ending ∙ sym (ap (λ (t : Text). ordinary_end (units_between t)) k.is_literal ∙ ap ordinary_end (frame-units k.content k.units k.is_content))
+
 -- at the start of an input
 pub first_spot : (s : Source) (input : List ℕ) (at : ℕ) → IsUtf8 input → s.input.now ≡ input → s.offset + length input < 2 ^ 64 →
-    IsPlaced s.kept (seen_world s) (chars s.input.now) at → IsSpot s input input at
-first_spot s input at u e fits h =
+    IsPlaced s.kept (seen_world s) (chars s.input.now) at → IsKept s → IsSpot s input input at
+first_spot s input at u e fits h k =
     let self = left_self input (is_utf8-from_IsUtf8 input u) in
     record {
       is_left = rw e self;
       is_after = self;
       is_placed = subst (λ (t : List ℕ). IsPlaced s.kept (seen_world s) (chars t) at) e h;
       fits = rw e fits;
+      ending = kept_ends s.kept s k;
     }

@@ -98,6 +98,7 @@ pub record IsSpot (s : Source) (rest mark : List ℕ) (at : ℕ) : Type 0 where
   pub is_after : IsLeft mark rest
   pub is_placed : IsPlaced s.kept (seen_world s) (chars mark) at
   pub fits : s.offset + length s.input.now < 2 ^ 64
+  pub ending : s.end ≡ (seen_world s).end
 
 -- A snippet that is kept is the ordinary literal of the input.
 pub record IsOrdinary (input : Text) (snippet : Text) (appended : Bool) (end : ℕ) : Type 0 where

@@ -155,12 +155,12 @@ impl<'source, 'input> Cursor<'source, 'input> {
     pub fn start(&self) -> usize
         ensures { result ≡ number_of self.now.world (Start (length self.now.rest)) }
     {
-        if let Some(snippet) = &self.source.kept {
-            byte_here(snippet.as_str(), &self.spot)
-        } else if self.spot.rest.is_empty() {
-            self.source.end
-        } else {
-            self.source.offset + (self.source.input.len() - self.spot.rest.len())
+        if self.spot.rest.is_empty() {
+            return self.source.end;
+        }
+        match &self.source.kept {
+            Some(snippet) => byte_here(snippet.as_str(), &self.spot),
+            None => self.source.offset + (self.source.input.len() - self.spot.rest.len()),
         }
     }
 
@@ -190,18 +190,16 @@ impl<'source, 'input> Cursor<'source, 'input> {
     pub fn stop(&self) -> usize
         ensures { result ≡ number_of self.now.world (End (length self.now.rest)) }
     {
-        if let Some(snippet) = &self.source.kept {
-            let at = byte_here(snippet.as_str(), &self.spot);
-            return if self.spot.rest.is_empty() {
-                at
-            } else {
-                byte_through(snippet.as_str(), at)
-            };
-        }
         if self.spot.rest.is_empty() {
-            self.source.end
-        } else {
-            self.source.offset + (self.source.input.len() - behind_first(self.spot.rest).len())
+            return self.source.end;
+        }
+        match &self.source.kept {
+            Some(snippet) => {
+                let at = byte_here(snippet.as_str(), &self.spot);
+                byte_through(snippet.as_str(), at)
+            }
+            None => self.source.offset
+                + (self.source.input.len() - behind_first(self.spot.rest).len()),
         }
     }
 

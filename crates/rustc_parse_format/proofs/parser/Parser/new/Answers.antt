@@ -12,7 +12,7 @@ invariant_of-result c =
     let fewer : length (chars c.args.input.now) ≤ length c.args.input.now = rw (encodes-chars c.args.input.now c.utf8.input) at
     (length-le-encodes (chars c.args.input.now)) in (
       first_spot c.source_of-source.result c.args.input.now c.first_byte-at.result c.utf8.input c.source_of-source.ensures.input
-          (c.source_of-source.ensures.fits) c.first_byte-at.ensures,
+          (c.source_of-source.ensures.fits) c.first_byte-at.ensures c.source_of-source.ensures.kept,
       omega arith,
     )
 
