@@ -98,10 +98,6 @@ begun s u h = at (chars s) refl
     at [] e = absurd (h (sym (width_chars s u) ∙ ap byte_length e))
     at (c ∷ t) e = record { head = c; tail = t; chars_are = e }
 
--- at the end of the text
-pub place_over : (b : Bool) (q e : ℕ) (input rest : List ℕ) → length rest ≡ 0 → place_at (plain_world b q (chars input) e) (length (chars rest)) ≡ (e, e)
-place_over b q e input rest h = let n = nil_from_length rest h in rw (n, chars-nil) (place_end (plain_world b q (chars input) e))
-
 -- where there is something left, with its first character
 pub place_begun : (b : Bool) (q e : ℕ) (input rest : List ℕ) (l : IsLeft input rest) (f : Begun rest) →
     place_at (plain_world b q (chars input) e) (length (chars rest)) ≡ (q + (length input - length rest), (q + (length input - length rest)) + len_utf8 f.head)

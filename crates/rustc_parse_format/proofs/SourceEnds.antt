@@ -1,5 +1,6 @@
 -- Where the text of a source literal ends.
-use Rattle.std.proofs.Common.{◌≡◌, ◌++◌, ◌-◌, ◌+◌, ◌≤◌, ℕ, suc, List, [], ◌∷◌, refl, sym, ap, ◌∙◌, zero, arith, Option, Some, None, MatchOption, length, replicate}
+use Rattle.std.proofs.Common.{◌≡◌, ◌++◌, ◌-◌, ◌+◌, ◌≤◌, ℕ, suc, List, [], ◌∷◌, refl, sym, ap, ◌∙◌, zero, arith, Option, Some, None, MatchOption, length}
+use Rattle.std.proofs.Common.{replicate}
 use Rattle.std.proofs.Common.{chars, IsUtf8}
 use Rattle.std.specs.Prelude.{unwrap_or}
 use Rattle.std.proofs.lemmas.List.{append_cancel_right}

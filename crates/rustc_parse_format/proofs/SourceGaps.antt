@@ -1,5 +1,6 @@
 -- Continuations in front of a character are passed, and those at the end are not.
-use Rattle.std.proofs.Common.{◌≡◌, ◌++◌, ◌+◌, ◌-◌, ◌≤◌, ℕ, Bool, true, List, [], ◌∷◌, length, chars, drop, refl, ap, sym, subst, ◌∙◌, arith, Option, Some, None, inl, inr, IsTrue, append_assoc, string_bytes, IsUtf8, IsCharBoundary}
+use Rattle.std.proofs.Common.{◌≡◌, ◌++◌, ◌+◌, ◌-◌, ◌≤◌, ℕ, Bool, true, List, [], ◌∷◌, length, chars, drop, refl, ap, sym, subst, ◌∙◌, arith, Option, Some}
+use Rattle.std.proofs.Common.{None, inl, inr, IsTrue, append_assoc, string_bytes, IsUtf8, IsCharBoundary}
 use Rattle.std.specs.Prelude.{is_some}
 use Rattle.std.specs.Str.{is_utf8}
 use Rattle.std.proofs.lemmas.List.{drop-drop, length-drop}
@@ -7,12 +8,14 @@ use Rattle.std.proofs.lemmas.Str.{IsUtf8-from_is_utf8, is_utf8-from_IsUtf8, IsUt
 use Rattle.std.specs.declared.string.String.{String}
 use Rattle.std.specs.declared.alloc.Global.{Global}
 use Rattle.rustc_parse_format.specs.Characters.{Text, byte_length}
-use Rattle.rustc_parse_format.specs.LiteralUnits.{LiteralUnit, Plain, SimpleEscape, ByteEscape, UnicodeEscape, Continuation, spelling, value, at_most_one, escaped}
+use Rattle.rustc_parse_format.specs.LiteralUnits.{LiteralUnit, Plain, SimpleEscape, ByteEscape, UnicodeEscape, Continuation, spelling, value, at_most_one}
+use Rattle.rustc_parse_format.specs.LiteralUnits.{escaped}
 use Rattle.rustc_parse_format.specs.Literal.{IsContent, content_value, newline}
 use Rattle.rustc_parse_format.specs.World.{World, Place, ordinary_world, ordinary_end, content_places, last_stop, newline_places}
 use Rattle.rustc_parse_format.specs.declared.source.Source.{Source}
 use Rattle.rustc_parse_format.specs.Source.{units_between}
-use Rattle.rustc_parse_format.specs.SeenSource.{IsHere, IsAhead, IsOrdinary, IsKept, IsPlaced, seen_world, world_with, after_continuations, closed_by_quote, gap, gap_to, spelled_units}
+use Rattle.rustc_parse_format.specs.SeenSource.{IsHere, IsAhead, IsOrdinary, IsKept, IsPlaced, seen_world, world_with, after_continuations, closed_by_quote}
+use Rattle.rustc_parse_format.specs.SeenSource.{gap, gap_to, spelled_units}
 use Rattle.rustc_parse_format.proofs.LiteralWidths.{width-append}
 use Rattle.rustc_parse_format.proofs.LiteralContents.{units-complete}
 use Rattle.rustc_parse_format.proofs.SourceEnds.{units_between-frame}

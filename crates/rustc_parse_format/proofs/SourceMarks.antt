@@ -1,5 +1,6 @@
 -- A mark that is moved forward to a rest, character by character.
-use Rattle.std.proofs.Common.{◌≡◌, ◌≢◌, ◌++◌, ◌+◌, ◌<◌, ◌≤◌, Bool, true, false, List, ℕ, [], ◌∷◌, drop, length, chars, Some, None, IsUtf8, ap, refl, subst, sym, ◌∙◌, arith}
+use Rattle.std.proofs.Common.{◌≡◌, ◌≢◌, ◌++◌, ◌+◌, ◌<◌, ◌≤◌, Bool, true, false, List, ℕ, [], ◌∷◌, drop, length, chars, Some, None, IsUtf8, ap, refl, subst}
+use Rattle.std.proofs.Common.{sym, ◌∙◌, arith}
 use Rattle.std.specs.Prelude.{IsTrue}
 use Rattle.std.specs.List.{list_all}
 use Rattle.std.proofs.lemmas.Bool.{and_from, and_parts, eqb-true, false≢true, ne_eqb}

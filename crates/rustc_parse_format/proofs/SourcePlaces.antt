@@ -1,5 +1,6 @@
 -- Where a cursor stands in its source: in a plain world by the bytes of what is left, else by the byte in the kept snippet.
-use Rattle.std.proofs.Common.{◌≡◌, ◌+◌, ◌-◌, ◌<◌, ◌^◌, drop, subst, ℕ, true, List, [], ◌∷◌, length, chars, refl, ap, sym, ◌∙◌, Option, Some, None, IsUtf8, arith, string_bytes}
+use Rattle.std.proofs.Common.{◌≡◌, ◌+◌, ◌-◌, ◌<◌, ◌^◌, drop, subst, ℕ, true, List, [], ◌∷◌, length, chars, refl, ap, sym, ◌∙◌, Option, Some, None, IsUtf8}
+use Rattle.std.proofs.Common.{arith, string_bytes}
 use Rattle.std.proofs.lemmas.Str.{IsUtf8-from_is_utf8, is_utf8-from_IsUtf8, chars-nil}
 use Rattle.std.proofs.lemmas.List.{nil_from_length}
 use Rattle.std.specs.declared.string.String.{String}
@@ -59,21 +60,6 @@ pub left_self : (t : List ℕ) → is_utf8 t ≡ true → IsLeft t t
 left_self t u =
     let n : length t - length t ≡ 0 = omega arith in
     record { valid = u; valid_rest = u; within = omega arith; tail = ap (λ k. drop k t) n }
-
--- a mark put where the rest is
-pub settled : (s : Source) (rest mark : List ℕ) (at to : ℕ) (snippet : String Global) → IsSpot s rest mark at → s.kept ≡ Some snippet →
-    IsHere (string_bytes snippet) (seen_world s) (chars rest) to → IsSpot s rest rest to
-settled s rest mark at to snippet h e k = record {
-  is_left = h.is_left;
-  is_after = left_self rest h.is_left.valid_rest;
-  is_placed = of_kept s.kept (seen_world s) (chars rest) to snippet e k;
-  fits = h.fits;
-  ending = h.ending;
-}
-  where
-    of_kept : (o : Option (String Global)) (w : World) (t : Text) (to : ℕ) (snippet : String Global) → o ≡ Some snippet →
-        IsHere (string_bytes snippet) w t to → IsPlaced o w t to
-    of_kept o w t to snippet e k = rw e k
 
 -- where the text of a source ends
 kept_ends : (o : Option (String Global)) (s : Source) → IsKeptIn o s → s.end ≡ (world_with o s).end

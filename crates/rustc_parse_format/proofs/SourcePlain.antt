@@ -1,11 +1,13 @@
 -- A content that is as long as what it stands for has no escapes, so that its places are those of a plain text.
-use Rattle.std.proofs.Common.{◌≡◌, ◌++◌, ◌+◌, ◌≤◌, ◌<◌, ℕ, suc, Bool, true, false, List, [], ◌∷◌, refl, sym, ap, ◌∙◌, arith, Option, Some, None, IsTrue, inl, inr}
+use Rattle.std.proofs.Common.{◌≡◌, ◌++◌, ◌+◌, ◌≤◌, ◌<◌, ℕ, suc, Bool, true, false, List, [], ◌∷◌, refl, sym, ap, ◌∙◌, arith, Option, Some, None, IsTrue}
+use Rattle.std.proofs.Common.{inl, inr}
 use Rattle.std.specs.Prelude.{◌==◌, ◌||◌, ◌⊎◌}
 use Rattle.std.specs.Char.{len_utf8, digit_value}
 use Rattle.std.proofs.lemmas.Bool.{cond_both, ltb-true, and_parts}
 use Rattle.std.proofs.lemmas.Str.{len_utf8_bounds, len_utf8_ascii}
 use Rattle.rustc_parse_format.specs.Characters.{Text, byte_length}
-use Rattle.rustc_parse_format.specs.LiteralUnits.{LiteralUnit, Plain, SimpleEscape, ByteEscape, UnicodeEscape, Continuation, spelling, value, is_unit, is_unicode, unicode_value, at_most_one, escaped, byte_value}
+use Rattle.rustc_parse_format.specs.LiteralUnits.{LiteralUnit, Plain, SimpleEscape, ByteEscape, UnicodeEscape, Continuation, spelling, value, is_unit}
+use Rattle.rustc_parse_format.specs.LiteralUnits.{is_unicode, unicode_value, at_most_one, escaped, byte_value}
 use Rattle.rustc_parse_format.specs.Literal.{IsContent, content_value, newline}
 use Rattle.rustc_parse_format.specs.World.{Place, plain_places, content_places, last_stop, newline_places, ordinary_end, ordinary_world, plain_world}
 use Rattle.rustc_parse_format.proofs.LiteralWidths.{width-append, width-cons}

@@ -1,10 +1,12 @@
 -- How a place in a kept snippet goes on, character by character.
-use Rattle.std.proofs.Common.{◌≡◌, ◌≢◌, ◌++◌, ◌+◌, ◌-◌, ◌≤◌, ℕ, suc, Bool, true, false, List, [], ◌∷◌, length, get_or, chars, drop, IsUtf8, refl, ap, sym, subst, ◌∙◌, arith}
+use Rattle.std.proofs.Common.{◌≡◌, ◌≢◌, ◌++◌, ◌+◌, ◌-◌, ◌≤◌, ℕ, suc, Bool, true, false, List, [], ◌∷◌, length, get_or, chars, drop, IsUtf8, refl, ap, sym}
+use Rattle.std.proofs.Common.{subst, ◌∙◌, arith}
 use Rattle.std.proofs.Common.{length-append, length-drop, append_assoc, append-nil, inl, inr, ◌⊎◌, IsCharBoundary}
 use Rattle.std.specs.Prelude.{encode_utf8, encode_utf8_all}
 use Rattle.std.specs.Char.{len_utf8}
 use Rattle.std.proofs.Math.Seq.{drop-append-add}
-use Rattle.std.proofs.lemmas.Str.{encodes-chars, IsUtf8-past_char, chars_past_char, length-encode, IsUtf8-from_is_utf8, is_utf8-from_IsUtf8, IsCharBoundary-from_drop}
+use Rattle.std.proofs.lemmas.Str.{encodes-chars, IsUtf8-past_char, chars_past_char, length-encode, IsUtf8-from_is_utf8, is_utf8-from_IsUtf8}
+use Rattle.std.proofs.lemmas.Str.{IsCharBoundary-from_drop}
 use Rattle.std.proofs.lemmas.List.{drop-drop, get_or-append-add}
 use Rattle.std.proofs.lemmas.List.Sums.{sum_by-cons}
 use Rattle.rustc_parse_format.specs.Characters.{Text, behind_first, byte_length}
@@ -16,7 +18,8 @@ use Rattle.rustc_parse_format.proofs.LiteralWidths.{width-append}
 use Rattle.rustc_parse_format.proofs.Places.{place_end}
 use Rattle.rustc_parse_format.proofs.PlaceOrder.{length-content_places, length-newline, unit_bytes}
 use Rattle.rustc_parse_format.proofs.SourceContents.{after-content, closed-split, spelled}
-use Rattle.rustc_parse_format.proofs.SourceUnits.{Starts, by_ahead, none_ahead, starts_ahead, no_places, first_place, first_value, no_width, first_width, is_wide}
+use Rattle.rustc_parse_format.proofs.SourceUnits.{Starts, by_ahead, none_ahead, starts_ahead, no_places, first_place, first_value, no_width, first_width}
+use Rattle.rustc_parse_format.proofs.SourceUnits.{is_wide}
 use Rattle.rustc_parse_format.proofs.SourceUnits.{IsAfter, is_after, StartsIfSome, after_starts}
 
 -- A text of bytes is cut where some of its characters end.
@@ -251,16 +254,6 @@ here_start s w rest at h = of_ahead (by_ahead h.units h.ahead)
     of_ahead (inl none) =
         ap (λ (p : Place). p.0) (place_of_end s w rest at h none) ∙ (newline-start w.end h.appended ∙ sym (at_end s w rest at h none))
     of_ahead (inr k) = ap (λ (p : Place). p.0) (place_of_first s w rest at h k)
-
-pub here_end : (s : List ℕ) (w : World) (at : ℕ) → IsHere s w [] at → at ≡ w.end
-here_end s w at h = at_end s w [] at h (nothing (content_value h.units) h.rest_is)
-  where
-    nothing : (v : Text) → [] ≡ v ++ newline h.appended → v ≡ []
-    nothing [] e = refl
-    nothing (c ∷ v) e = absurd cc
-
-pub here_end_place : (s : List ℕ) (w : World) (at : ℕ) → IsHere s w [] at → (place_at w 0).1 ≡ at
-here_end_place s w at h = ap (λ (p : Place). p.1) (place_end w) ∙ sym (here_end s w at h)
 
 -- and it ends where its unit does, or an appended newline a byte later.
 pub through_character : (s : List ℕ) (w : World) (rest : Text) (at n : ℕ) → IsHere s w rest at → n ≡ character_width (chars (drop at s)) → n ≢ 0 →

@@ -1,5 +1,6 @@
 -- The world of what a parser is given, by what is found of its source literal.
-use Rattle.std.proofs.Common.{◌≡◌, ◌+◌, ◌++◌, ◌&&◌, ℕ, Bool, true, false, [], refl, sym, ap, ◌∙◌, ◌∷◌, arith, Option, Some, None, IsTrue, if◌then◌else◌, chars, string_bytes}
+use Rattle.std.proofs.Common.{◌≡◌, ◌+◌, ◌++◌, ◌&&◌, ℕ, Bool, true, false, [], refl, sym, ap, ◌∙◌, ◌∷◌, arith, Option, Some, None, IsTrue, if◌then◌else◌}
+use Rattle.std.proofs.Common.{chars, string_bytes}
 use Rattle.std.specs.Prelude.{is_some, unwrap_or}
 use Rattle.std.specs.declared.string.String.{String}
 use Rattle.std.specs.declared.alloc.Global.{Global}

@@ -1,6 +1,7 @@
 -- What a contract sees of where an input stands in its source. Private contracts use it, and the views of a cursor and of a parser.
 use Prim.Native.Char.{code}
-use Rattle.std.specs.Prelude.{◌≡◌, ℕ, ◌≤◌, ◌<◌, ◌+◌, ◌^◌, ◌-◌, ◌&&◌, ◌++◌, ◌⊎◌, Bool, true, List, [], ◌∷◌, length, drop, flat_map, Option, Some, None, chars, codes}
+use Rattle.std.specs.Prelude.{◌≡◌, ℕ, ◌≤◌, ◌<◌, ◌+◌, ◌^◌, ◌-◌, ◌&&◌, ◌++◌, ◌⊎◌, Bool, true, List, [], ◌∷◌, length, drop, flat_map, Option, Some, None}
+use Rattle.std.specs.Prelude.{chars, codes}
 use Rattle.std.specs.Prelude.{string_bytes}
 use Rattle.std.specs.Str.{is_utf8}
 use Rattle.std.specs.declared.string.String.{String}

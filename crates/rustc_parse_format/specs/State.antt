@@ -102,7 +102,8 @@ abbrev pub closed_of : World → List Call → List Place
 closed_of w [] = []
 closed_of w (k ∷ ks) = closed_places w k.closes ++ closed_of w ks
 
--- The lines of a walk in a source literal: those of all that is read as text, and at the end the last one.
+-- The lines of a walk in a source literal: those of all that is read as text, and the last one where the walk came to the end; it may
+-- stop before, with an error.
 pub record AreLines (s : State) (ks : List Call) (new : State) : Type 0 where
   pub lines : List Place
   pub are_lines : IsLines s.line_start (noted s.world (texts_of ks)) lines new.line_start

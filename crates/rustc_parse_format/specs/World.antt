@@ -1,5 +1,6 @@
 -- A world gives each character of the input its place, a range of bytes, and so each mark its number.
-use Rattle.std.specs.Prelude.{ℕ, suc, ◌+◌, ◌-◌, ◌<◌, ◌≤◌, ◌++◌, Bool, true, false, if◌then◌else◌, List, [], ◌∷◌, length, map, Option, Some, None, slice_index_or}
+use Rattle.std.specs.Prelude.{ℕ, suc, ◌+◌, ◌-◌, ◌<◌, ◌≤◌, ◌++◌, Bool, true, false, if◌then◌else◌, List, [], ◌∷◌, length, map, Option, Some, None}
+use Rattle.std.specs.Prelude.{slice_index_or}
 use Rattle.std.specs.Char.{len_utf8}
 use Rattle.rustc_parse_format.specs.Characters.{Text, byte_length}
 use Rattle.rustc_parse_format.specs.Types.{Piece, map_piece}
