@@ -63,8 +63,7 @@ def files():
             columns = [escaped(name.encode()), mode, style, newline, escaped(snippet), escaped(text)]
             if snippet != b"-":
                 sources.append(row([columns[0], "format", *columns[2:]], answer[:1]))
-            hashes = None if style == "-" else int(style)
-            answer = stage.row(mode, hashes, text, [answer[0], *answer[2:]])
+            answer = stage.row(mode, [answer[0], *answer[2:]])
             if answer is not None:
                 (mixed if name.startswith("mixed-") else named).append(row(columns, answer))
     walked = "All that reading the inputs gives."

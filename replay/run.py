@@ -46,6 +46,8 @@ def made_cases():
     count = 20000
     bare = b"".join(b"arg implicit %d %d..%d\n" % (i, 2 * i + 2, 2 * i + 2) for i in range(count))
     many = b"a}}" * count
+    raw = b"".join(b"arg name a %d..%d\n" % (5 * i + 2, 5 * i + 5) for i in range(count))
+    faults = b"".join(b"fault %d..%d raw identifiers are not supported\n" % (5 * i + 2, 5 * i + 5) for i in reversed(range(count)))
     return [
         ("limit-reached", words, b"a" * LIMIT, "", b'lit "' + b"a" * LIMIT + b'"\n', 0, None),
         ("limit-reached-wide", words, wide * (LIMIT // 3) + b"x", "", b'lit "' + wide * (LIMIT // 3) + b'x"\n', 0, None),
@@ -57,6 +59,7 @@ def made_cases():
         ("not-text-at-the-end", words, b"{}\xe2\x82", "NotText", b"", 3, None),
         ("many-placeholders", words, b"{}" * count, "", bare, 0, None),
         ("many-doubled-braces", words, many, "", b'lit "a"\n' + b'lit "}a"\n' * (count - 1) + b'lit "}"\n', 0, None),
+        ("many-faults-in-front", words, b"{r#a}" * count, "", raw + faults, 1, None),
         ("no-words", [], b"a", "Words", b"", 2, None),
         ("empty-word", [b""], b"a", "Words", b"", 2, None),
         ("word-twice", [b"format", b"format"], b"a", "Words", b"", 2, None),

@@ -1,10 +1,8 @@
-//! Each public call once where it succeeds, and what no table of rows shows.
+//! Each public call of a parser once where it succeeds, and what no table of rows shows.
 
-use rustc_parse_format::{
-    AlignCenter, Alignment, Argument, ArgumentIs, Count, CountIs, DebugHex, FormatSpec, ParseMode,
-    Parser, Piece, Position, Sign, read_all,
-};
+use rustc_parse_format::{ParseMode, Parser, Piece, Position, read_all};
 use std::alloc::{AllocError, Global};
+use std::ops::Range;
 use std::process::Abort;
 use std::test::Fail;
 
@@ -28,13 +26,6 @@ fn parser_in(
         appended_newline,
         ParseMode::Format,
     )
-}
-
-#[test]
-fn positions_have_their_index(rt: HostRuntime) {
-    assert_eq!(rt; Position::ArgumentImplicitlyIs(3).index(), Some(3));
-    assert_eq!(rt; Position::ArgumentIs(65535).index(), Some(65535));
-    assert_eq!(rt; Position::ArgumentNamed("3").index(), None);
 }
 
 /// The argument of an input that is one placeholder is a name and nothing else.
@@ -68,12 +59,42 @@ fn an_identifier_is_a_name_and_nothing_else(rt: HostRuntime) -> Result<(), Fail>
     Ok(())
 }
 
-#[test]
-fn variants_are_exported_by_name(rt: HostRuntime) {
-    assert_eq!(rt; AlignCenter, Alignment::AlignCenter);
-    assert_eq!(rt; CountIs(3), Count::CountIs(3));
-    assert_eq!(rt; ArgumentIs(3), Position::ArgumentIs(3));
-    assert!(rt; matches!(Position::ArgumentIs(4), ArgumentIs(4)));
+/// The next call gives this text.
+fn check_text(rt: &impl Abort, parser: &mut Parser<'_>, text: &'static str) -> Result<(), Fail> {
+    let piece = parser.next()?;
+    assert_eq!(rt; piece, Some(Piece::Lit(text)));
+    Ok(())
+}
+
+/// The next call gives a piece.
+fn check_some(rt: &impl Abort, parser: &mut Parser<'_>) -> Result<(), Fail> {
+    let piece = parser.next()?;
+    assert!(rt; piece.is_some());
+    Ok(())
+}
+
+/// The next call gives no piece.
+fn check_none(rt: &impl Abort, parser: &mut Parser<'_>) -> Result<(), Fail> {
+    let piece = parser.next()?;
+    assert_eq!(rt; piece, None);
+    Ok(())
+}
+
+/// A character with its place and its byte in the input.
+type Peeked = Option<(Range<usize>, usize, char)>;
+
+/// The next character and the one after it are these.
+fn check_peeks(rt: &impl Abort, parser: &Parser<'_>, next: Peeked, ahead: Peeked) {
+    assert_eq!(rt; parser.peek(), next);
+    assert_eq!(rt; parser.peek_ahead(), ahead);
+}
+
+/// Ranges are these.
+fn check_ranges(rt: &impl Abort, found: &[Range<usize>], wanted: &[Range<usize>]) {
+    assert_eq!(rt; found.len(), wanted.len());
+    for (one, other) in found.iter().zip(wanted.iter()) {
+        assert_eq!(rt; *one, *other);
+    }
 }
 
 #[test]
@@ -82,22 +103,27 @@ fn a_new_parser_has_nothing(rt: HostRuntime) -> Result<(), Fail> {
     assert_eq!(rt; parser.curarg(), 0);
     assert_eq!(rt; parser.errors().len(), 0);
     assert!(rt; !parser.is_source_literal());
-    assert!(rt; parser.arg_places().is_empty());
-    assert!(rt; parser.line_spans().is_empty());
+    check_ranges(&rt, parser.arg_places(), &[]);
+    check_ranges(&rt, parser.line_spans(), &[]);
     Ok(())
+}
+
+/// The one error is that of the brace at the start.
+fn check_lone_brace(rt: &impl Abort, parser: &Parser<'_>) {
+    let errors = parser.errors();
+    assert_eq!(rt; errors.len(), 1);
+    assert_eq!(rt; errors[0].span, 1..2);
+    assert_eq!(rt; errors[0].description.as_str(), "unmatched `}` found");
 }
 
 #[test]
 fn a_lone_brace_ends_no_parser(rt: HostRuntime) -> Result<(), Fail> {
     let mut parser = parser_of(rt.alloc(), "}a")?;
-    assert_eq!(rt; parser.next()?, None);
-    let errors = parser.errors();
-    assert_eq!(rt; errors.len(), 1);
-    assert_eq!(rt; errors[0].span, 1..2);
-    assert_eq!(rt; errors[0].description.as_str(), "unmatched `}` found");
-    assert_eq!(rt; parser.next()?, Some(Piece::Lit("a")));
-    assert_eq!(rt; parser.next()?, None);
-    assert_eq!(rt; parser.errors().len(), 1);
+    check_none(&rt, &mut parser)?;
+    check_lone_brace(&rt, &parser);
+    check_text(&rt, &mut parser, "a")?;
+    check_none(&rt, &mut parser)?;
+    check_lone_brace(&rt, &parser);
     Ok(())
 }
 
@@ -105,7 +131,7 @@ fn a_lone_brace_ends_no_parser(rt: HostRuntime) -> Result<(), Fail> {
 fn numbers_are_taken_call_by_call(rt: HostRuntime) -> Result<(), Fail> {
     let mut parser = parser_of(rt.alloc(), "{}{7}{a}{}")?;
     for next in [1, 1, 1, 2] {
-        assert!(rt; parser.next()?.is_some());
+        check_some(&rt, &mut parser)?;
         assert_eq!(rt; parser.curarg(), next);
     }
     Ok(())
@@ -114,86 +140,78 @@ fn numbers_are_taken_call_by_call(rt: HostRuntime) -> Result<(), Fail> {
 #[test]
 fn peeks_show_what_is_next(rt: HostRuntime) -> Result<(), Fail> {
     let mut parser = Parser::new(rt.alloc(), "€{}x", Some(1), None, false, ParseMode::Format)?;
-    assert_eq!(rt; parser.peek(), Some((3..6, 0, '€')));
-    assert_eq!(rt; parser.peek_ahead(), Some((6..7, 3, '{')));
-    assert_eq!(rt; parser.next()?, Some(Piece::Lit("€")));
-    assert_eq!(rt; parser.peek(), Some((6..7, 3, '{')));
-    assert_eq!(rt; parser.peek_ahead(), Some((7..8, 4, '}')));
-    assert!(rt; parser.next()?.is_some());
-    assert_eq!(rt; parser.peek(), Some((8..9, 5, 'x')));
-    assert_eq!(rt; parser.peek_ahead(), None);
-    assert!(rt; parser.next()?.is_some());
-    assert_eq!(rt; parser.peek(), None);
-    assert_eq!(rt; parser.peek_ahead(), None);
+    check_peeks(&rt, &parser, Some((3..6, 0, '€')), Some((6..7, 3, '{')));
+    check_text(&rt, &mut parser, "€")?;
+    check_peeks(&rt, &parser, Some((6..7, 3, '{')), Some((7..8, 4, '}')));
+    check_some(&rt, &mut parser)?;
+    check_peeks(&rt, &parser, Some((8..9, 5, 'x')), None);
+    check_some(&rt, &mut parser)?;
+    check_peeks(&rt, &parser, None, None);
     Ok(())
+}
+
+/// A parser in an ordinary source literal.
+fn parser_in_source(
+    rt: &impl Abort,
+    alloc: Global,
+    input: &'static str,
+    snippet: &str,
+    appended_newline: bool,
+) -> Result<Parser<'static>, Fail> {
+    let parser = parser_in(alloc, input, snippet, appended_newline)?;
+    assert!(rt; parser.is_source_literal());
+    Ok(parser)
 }
 
 /// A character that is written as an escape has the place of the escape.
 #[test]
 fn peeks_show_where_escapes_stand(rt: HostRuntime) -> Result<(), Fail> {
-    let mut parser = parser_in(rt.alloc(), "😀{}", "\"\\u{1F600}{}\"", false)?;
-    assert!(rt; parser.is_source_literal());
-    assert_eq!(rt; parser.peek(), Some((1..10, 0, '😀')));
-    assert_eq!(rt; parser.peek_ahead(), Some((10..11, 4, '{')));
-    assert_eq!(rt; parser.next()?, Some(Piece::Lit("😀")));
-    assert_eq!(rt; parser.peek(), Some((10..11, 4, '{')));
-    assert_eq!(rt; parser.peek_ahead(), Some((11..12, 5, '}')));
-    assert!(rt; parser.next()?.is_some());
-    assert_eq!(rt; parser.peek(), None);
-    assert_eq!(rt; parser.peek_ahead(), None);
+    let mut parser = parser_in_source(&rt, rt.alloc(), "😀{}", "\"\\u{1F600}{}\"", false)?;
+    check_peeks(&rt, &parser, Some((1..10, 0, '😀')), Some((10..11, 4, '{')));
+    check_text(&rt, &mut parser, "😀")?;
+    check_peeks(&rt, &parser, Some((10..11, 4, '{')), Some((11..12, 5, '}')));
+    check_some(&rt, &mut parser)?;
+    check_peeks(&rt, &parser, None, None);
     Ok(())
 }
 
 /// A continuation stands for no character: the next one stands behind it.
 #[test]
 fn peeks_pass_over_continuations(rt: HostRuntime) -> Result<(), Fail> {
-    let parser = parser_in(rt.alloc(), " a", "\"\\\n\\u{20}a\"", false)?;
-    assert!(rt; parser.is_source_literal());
-    assert_eq!(rt; parser.peek(), Some((3..9, 0, ' ')));
-    assert_eq!(rt; parser.peek_ahead(), Some((9..10, 1, 'a')));
-    let parser = parser_in(rt.alloc(), "ab", "\"a\\\n b\"", false)?;
-    assert!(rt; parser.is_source_literal());
-    assert_eq!(rt; parser.peek(), Some((1..2, 0, 'a')));
-    assert_eq!(rt; parser.peek_ahead(), Some((5..6, 1, 'b')));
+    let parser = parser_in_source(&rt, rt.alloc(), " a", "\"\\\n\\u{20}a\"", false)?;
+    check_peeks(&rt, &parser, Some((3..9, 0, ' ')), Some((9..10, 1, 'a')));
+    let parser = parser_in_source(&rt, rt.alloc(), "ab", "\"a\\\n b\"", false)?;
+    check_peeks(&rt, &parser, Some((1..2, 0, 'a')), Some((5..6, 1, 'b')));
     Ok(())
 }
 
 /// An appended newline stands at the end of the text, and takes a byte.
 #[test]
 fn peeks_show_an_appended_newline(rt: HostRuntime) -> Result<(), Fail> {
-    let parser = parser_in(rt.alloc(), "\n", "\"\"", true)?;
-    assert!(rt; parser.is_source_literal());
-    assert_eq!(rt; parser.peek(), Some((1..2, 0, '\n')));
-    assert_eq!(rt; parser.peek_ahead(), None);
+    let parser = parser_in_source(&rt, rt.alloc(), "\n", "\"\"", true)?;
+    check_peeks(&rt, &parser, Some((1..2, 0, '\n')), None);
     Ok(())
 }
 
 #[test]
 fn a_source_literal_has_places_and_lines(rt: HostRuntime) -> Result<(), Fail> {
-    let mut parser = parser_in(rt.alloc(), "{foo}", "\"{foo\\\n  }\"", false)?;
-    assert!(rt; parser.is_source_literal());
-    assert!(rt; parser.next()?.is_some());
-    assert_eq!(rt; parser.line_spans().len(), 0);
-    assert_eq!(rt; parser.next()?, None);
-    let places = parser.arg_places();
-    assert_eq!(rt; places.len(), 1);
-    assert_eq!(rt; places[0], 1..10);
-    let lines = parser.line_spans();
-    assert_eq!(rt; lines.len(), 1);
-    assert_eq!(rt; lines[0], 1..10);
+    let mut parser = parser_in_source(&rt, rt.alloc(), "{foo}", "\"{foo\\\n  }\"", false)?;
+    check_some(&rt, &mut parser)?;
+    check_ranges(&rt, parser.line_spans(), &[]);
+    check_none(&rt, &mut parser)?;
+    check_ranges(&rt, parser.arg_places(), &[1..10]);
+    check_ranges(&rt, parser.line_spans(), &[1..10]);
     Ok(())
 }
 
 #[test]
 fn the_last_line_is_there_once(rt: HostRuntime) -> Result<(), Fail> {
-    let mut parser = parser_in(rt.alloc(), "ab", "\"ab\"", false)?;
-    assert_eq!(rt; parser.next()?, Some(Piece::Lit("ab")));
-    assert_eq!(rt; parser.line_spans().len(), 0);
+    let mut parser = parser_in_source(&rt, rt.alloc(), "ab", "\"ab\"", false)?;
+    check_text(&rt, &mut parser, "ab")?;
+    check_ranges(&rt, parser.line_spans(), &[]);
     for _ in 0..3 {
-        assert_eq!(rt; parser.next()?, None);
-        let lines = parser.line_spans();
-        assert_eq!(rt; lines.len(), 1);
-        assert_eq!(rt; lines[0], 1..3);
+        check_none(&rt, &mut parser)?;
+        check_ranges(&rt, parser.line_spans(), &[1..3]);
     }
     Ok(())
 }
@@ -201,11 +219,11 @@ fn the_last_line_is_there_once(rt: HostRuntime) -> Result<(), Fail> {
 /// Reads an input of an argument and a text, of which no places and lines are kept.
 fn check_nothing_kept(rt: &impl Abort, mut parser: Parser<'_>) -> Result<(), Fail> {
     assert!(rt; !parser.is_source_literal());
-    assert!(rt; parser.next()?.is_some());
-    assert_eq!(rt; parser.next()?, Some(Piece::Lit("\nb")));
-    assert_eq!(rt; parser.next()?, None);
-    assert_eq!(rt; parser.arg_places().len(), 0);
-    assert_eq!(rt; parser.line_spans().len(), 0);
+    check_some(rt, &mut parser)?;
+    check_text(rt, &mut parser, "\nb")?;
+    check_none(rt, &mut parser)?;
+    check_ranges(rt, parser.arg_places(), &[]);
+    check_ranges(rt, parser.line_spans(), &[]);
     Ok(())
 }
 
@@ -220,8 +238,7 @@ fn read_all_leaves_its_parser_after_the_first_none(rt: HostRuntime) -> Result<()
     let (pieces, mut parser) = read_all(rt.alloc(), "{}}x", None, None, false, ParseMode::Format)?;
     assert_eq!(rt; pieces.len(), 1);
     assert_eq!(rt; parser.curarg(), 1);
-    assert_eq!(rt; parser.next()?, Some(Piece::Lit("x")));
-    Ok(())
+    check_text(&rt, &mut parser, "x")
 }
 
 /// The first piece of an input, whose parser is gone.
@@ -231,9 +248,14 @@ fn first_piece(alloc: Global, input: &'static str) -> Result<Option<Piece<'stati
 }
 
 #[test]
-fn a_piece_outlives_its_parser(rt: HostRuntime) -> Result<(), Fail> {
+fn a_text_outlives_its_parser(rt: HostRuntime) -> Result<(), Fail> {
     let piece = first_piece(rt.alloc(), "text{}")?;
     assert_eq!(rt; piece, Some(Piece::Lit("text")));
+    Ok(())
+}
+
+#[test]
+fn an_argument_outlives_its_parser(rt: HostRuntime) -> Result<(), Fail> {
     let piece = first_piece(rt.alloc(), "{name}")?;
     assert!(rt;
         matches!(&piece, Some(Piece::NextArgument(it)) if it.position == Position::ArgumentNamed("name"))
@@ -241,10 +263,16 @@ fn a_piece_outlives_its_parser(rt: HostRuntime) -> Result<(), Fail> {
     Ok(())
 }
 
+/// The pieces of a format string.
+fn pieces_of(alloc: Global, input: &'static str) -> Result<Vec<Piece<'static>>, AllocError> {
+    let (pieces, _) = read_all(alloc, input, None, None, false, ParseMode::Format)?;
+    Ok(pieces)
+}
+
 #[test]
 fn pieces_are_equal_with_their_spans(rt: HostRuntime) -> Result<(), Fail> {
-    let (one, _) = read_all(rt.alloc(), "{a}{a}", None, None, false, ParseMode::Format)?;
-    let (same, _) = read_all(rt.alloc(), "{a}", None, None, false, ParseMode::Format)?;
+    let one = pieces_of(rt.alloc(), "{a}{a}")?;
+    let same = pieces_of(rt.alloc(), "{a}")?;
     assert_eq!(rt; one.len(), 2);
     assert_eq!(rt; same.len(), 1);
     assert!(rt; one[0] == same[0]);
@@ -253,84 +281,31 @@ fn pieces_are_equal_with_their_spans(rt: HostRuntime) -> Result<(), Fail> {
     Ok(())
 }
 
-#[test]
-fn defaults_ask_for_nothing(rt: HostRuntime) {
-    let nothing = FormatSpec {
-        fill: None,
-        fill_span: None,
-        align: Alignment::AlignUnknown,
-        sign: None,
-        alternate: false,
-        zero_pad: false,
-        debug_hex: None,
-        precision: Count::CountImplied,
-        precision_span: None,
-        width: Count::CountImplied,
-        width_span: None,
-        ty: "",
-        ty_span: None,
-    };
-    assert_eq!(rt; FormatSpec::default(), nothing);
-    assert_eq!(rt; Alignment::default(), Alignment::AlignUnknown);
-    assert_eq!(rt; Count::default(), Count::CountImplied);
-}
-
-fn example() -> Argument<'static> {
-    Argument {
-        position: Position::ArgumentNamed("a"),
-        position_span: 2..3,
-        format: FormatSpec {
-            fill: Some('*'),
-            fill_span: Some(4..5),
-            align: Alignment::AlignRight,
-            sign: Some(Sign::Minus),
-            alternate: true,
-            zero_pad: true,
-            debug_hex: Some(DebugHex::Upper),
-            precision: Count::CountIsName("p", 12..13),
-            precision_span: Some(11..14),
-            width: Count::CountIsParam(7),
-            width_span: Some(8..10),
-            ty: "?",
-            ty_span: None,
-        },
+/// An input in which each placeholder has a raw name.
+fn raw_names(alloc: Global, count: usize) -> Result<String, AllocError> {
+    let mut input = String::new(alloc);
+    for _ in 0..count {
+        input.push_str("{r#a}")?;
     }
+    Ok(input)
 }
 
 #[test]
-fn clones_are_equal(rt: HostRuntime) -> Result<(), Fail> {
-    let argument = example();
-    assert_eq!(rt; argument.clone()?, argument);
-    assert_eq!(rt; argument.format.clone()?, argument.format);
-    assert_eq!(rt; argument.position.clone()?, argument.position);
-    for count in [
-        Count::CountIs(65535),
-        Count::CountIsName("p", 12..13),
-        Count::CountIsParam(7),
-        Count::CountIsStar(8),
-        Count::CountImplied,
-    ] {
-        assert_eq!(rt; count.clone()?, count);
-    }
+fn of_many_faults_in_front_the_last_found_is_first(rt: HostRuntime) -> Result<(), Fail> {
+    let input = raw_names(rt.alloc(), 20_000)?;
+    assert!(rt; input.len() < 1_000_000);
+    let (pieces, parser) = read_all(
+        rt.alloc(),
+        input.as_str(),
+        None,
+        None,
+        false,
+        ParseMode::Format,
+    )?;
+    assert_eq!(rt; pieces.len(), 20_000);
+    let errors = parser.errors();
+    assert_eq!(rt; errors.len(), 20_000);
+    assert_eq!(rt; errors[0].span.start, 99_997);
+    assert_eq!(rt; errors[19_999].span.start, 2);
     Ok(())
-}
-
-#[test]
-fn each_field_counts_in_equality(rt: HostRuntime) {
-    let mut moved = example();
-    moved.position_span = 2..4;
-    assert!(rt; moved != example());
-    let mut renamed = example();
-    renamed.position = Position::ArgumentNamed("b");
-    assert!(rt; renamed != example());
-    let mut filled = FormatSpec::default();
-    filled.fill_span = Some(4..5);
-    assert!(rt; filled != FormatSpec::default());
-    assert!(rt; Count::CountIsName("p", 12..13) != Count::CountIsName("p", 12..14));
-    assert!(rt; Count::CountIsParam(7) != Count::CountIsStar(7));
-    assert!(rt; Position::ArgumentIs(1) != Position::ArgumentImplicitlyIs(1));
-    assert_ne!(rt; Alignment::AlignLeft, Alignment::AlignRight);
-    assert_ne!(rt; Sign::Plus, Sign::Minus);
-    assert_ne!(rt; DebugHex::Lower, DebugHex::Upper);
-    assert_ne!(rt; ParseMode::Format, ParseMode::InlineAsm);
 }

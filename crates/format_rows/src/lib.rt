@@ -1,15 +1,17 @@
-//! Tests of the parser through its public calls.
+//! Tests of the library through its public calls.
 //!
 //! `named_rows` and `mixed_rows` are tables of inputs with all that reading them gives. What they expect comes from
 //! outside (`replay/README.md` tells from where), and never from the parser itself. `snippets` is a table of snippets
-//! that are source literals of their inputs, or not. `calls` has what no table shows, and `memory` calls that are
-//! refused memory.
+//! that are source literals of their inputs, or not. `calls`, `values` and `literals` have what no table shows, and
+//! `memory` calls that are refused memory.
 #![tactic(auto)]
 
 #[cfg(test)]
 mod calls;
 #[cfg(test)]
 mod listing;
+#[cfg(test)]
+mod literals;
 #[cfg(test)]
 mod memory;
 #[cfg(test)]
@@ -22,5 +24,7 @@ mod row;
 mod snippets;
 #[cfg(test)]
 mod tables;
+#[cfg(test)]
+mod values;
 #[cfg(test)]
 mod written;

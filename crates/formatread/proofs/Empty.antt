@@ -8,33 +8,46 @@ use Rattle.std.proofs.lemmas.List.{nil_from_length}
 use Rattle.rustc_parse_format.specs.Literal.{IsLiteral, ordinary_frame, raw_frame}
 use Rattle.rustc_parse_format.specs.Types.{Mode, Piece}
 use Rattle.rustc_parse_format.specs.Call.{call, pieces_of, walk}
-use Rattle.rustc_parse_format.specs.State.{calls, fresh}
+use Rattle.rustc_parse_format.specs.Faults.{Message}
+use Rattle.rustc_parse_format.specs.State.{after_all, calls, fresh}
 use Rattle.rustc_parse_format.specs.World.{Place, World, pieces_in}
 use Rattle.formatread.specs.declared.run.Task.{Task as DeclaredTask}
 use Rattle.formatread.specs.declared.verdict.RunFault.{RunFault}
 use Rattle.formatread.specs.declared.verdict.RunFault.TheVariants.{NotLiteral}
-use Rattle.formatread.specs.Program.{Task, is_faulty, listed, pieces}
+use Rattle.formatread.specs.Program.{Task, errors, listed, pieces}
 use Rattle.formatread.specs.SeenTask.{seen_task}
 use Rattle.formatread.specs.Source.{IsSourceOf, Source, bare_source}
 use Rattle.formatread.proofs.Literals.{raw_frame-parts}
 
--- an empty text has no pieces and no fault
-walk-nil : (mode : Mode) (w : World) (start : ℕ) → pieces_in w (pieces_of (calls (fresh mode w [] start))) ≡ []
+-- an empty text has no pieces, no errors and so no fault
+pieces-nil : (mode : Mode) (w : World) (start : ℕ) → pieces_in w (pieces_of (calls (fresh mode w [] start))) ≡ []
 unfolding walk call
-walk-nil mode w start = refl
+pieces-nil mode w start = refl
+
+errors-nil : (mode : Mode) (w : World) (start : ℕ) → (after_all (fresh mode w [] start) (calls (fresh mode w [] start))).errors ≡ []
+unfolding walk call
+errors-nil mode w start = refl
 
 listed-nil : (mode : Mode) → listed mode (bare_source []) ≡ ([], false)
-unfolding pieces is_faulty walk call
+unfolding pieces errors walk call
 listed-nil mode = refl
 
 chars-empty : (bs : List ℕ) → bs ≡ [] → chars bs ≡ []
 chars-empty bs e = ap chars e ∙ chars-nil
 
-pub no_items : {A : Type 0} (f : A → Piece Place) (xs : List A) (mode : Mode) (w : World) (start : ℕ) (bs : List ℕ) → bs ≡ []
-    → map f xs ≡ pieces_in w (pieces_of (calls (fresh mode w (chars bs) start))) → xs ≡ []
-no_items f [] mode w start bs e h = refl
-no_items f (x ∷ xs) mode w start bs e h =
-    let none : f x ∷ map f xs ≡ [] = h ∙ ap (λ t. pieces_in w (pieces_of (calls (fresh mode w t start)))) (chars-empty bs e) ∙ walk-nil mode w start in absurd cc
+no_items : {A B : Type 0} (f : A → B) (xs : List A) → map f xs ≡ [] → xs ≡ []
+no_items f [] e = refl
+no_items f (x ∷ xs) e = absurd cc
+
+pub no_pieces : {A : Type 0} (f : A → Piece Place) (ps : List A) (mode : Mode) (w : World) (start : ℕ) (bs : List ℕ) → bs ≡ []
+    → map f ps ≡ pieces_in w (pieces_of (calls (fresh mode w (chars bs) start))) → ps ≡ []
+no_pieces f ps mode w start bs e h =
+    no_items f ps (h ∙ ap (λ t. pieces_in w (pieces_of (calls (fresh mode w t start)))) (chars-empty bs e) ∙ pieces-nil mode w start)
+
+pub no_errors : {A : Type 0} (f : A → Message Place) (es : List A) (mode : Mode) (w : World) (start : ℕ) (bs : List ℕ) → bs ≡ []
+    → map f es ≡ (after_all (fresh mode w (chars bs) start) (calls (fresh mode w (chars bs) start))).errors → es ≡ []
+no_errors f es mode w start bs e h =
+    no_items f es (h ∙ ap (λ t. (after_all (fresh mode w t start) (calls (fresh mode w t start))).errors) (chars-empty bs e) ∙ errors-nil mode w start)
 
 -- nor is it a literal
 pub empty-not_raw : (bs : List ℕ) → bs ≡ [] → (n : ℕ) (t : List ℕ) → chars bs ≡ raw_frame n t → ⊥

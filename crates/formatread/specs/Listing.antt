@@ -1,10 +1,11 @@
--- The listing of pieces, as bytes: a line for each.
+-- The listing of pieces and errors, as bytes: a line for each.
 use Rattle.std.specs.Prelude.{ℕ, Bool, true, false, List, [], ◌∷◌, ◌++◌, Option, Some, None, flat_map, codes, decimal}
 use Rattle.std.specs.Str.{encode_utf8_all}
 use Rattle.rustc_parse_format.specs.Characters.{Text}
 use Rattle.rustc_parse_format.specs.Written.{written}
 use Rattle.rustc_parse_format.specs.Types.{Alignment, Left, Right, Center, Unknown, Sign, Plus, Minus, DebugHex, Lower, Upper, Position, Implicit, Index, Named}
 use Rattle.rustc_parse_format.specs.Types.{Count, Is, Name, Param, Star, Implied, Spec, Piece, Lit, NextArgument}
+use Rattle.rustc_parse_format.specs.Faults.{Message}
 use Rattle.rustc_parse_format.specs.World.{Place}
 
 -- a text between quotes, each character as it is written
@@ -94,12 +95,16 @@ value_entries s =
     width_entry s.width s.width_span ++ (precision_entry s.precision_span s.precision
     ++ (hex_entry s.debug_hex ++ type_entry s.ty_span s.ty))
 
-abbrev pub line : Piece Place → List ℕ
-line (Lit t) = codes "lit " ++ (quoted t ++ codes "\n")
-line (NextArgument a) =
+abbrev pub piece_line : Piece Place → List ℕ
+piece_line (Lit t) = codes "lit " ++ (quoted t ++ codes "\n")
+piece_line (NextArgument a) =
     codes "arg " ++ (position_text a.position ++ (codes " " ++ (span_text a.position_span
     ++ (flag_entries a.format ++ (value_entries a.format ++ codes "\n")))))
 
--- a line for each piece
-abbrev pub listing : List (Piece Place) → List ℕ
-listing ps = flat_map line ps
+-- of an error, where it is and what it is
+abbrev pub fault_line : Message Place → List ℕ
+fault_line m = codes "fault " ++ (span_text m.span ++ (codes " " ++ (m.description ++ codes "\n")))
+
+-- a line for each piece, and then one for each error
+abbrev pub listing : List (Piece Place) → List (Message Place) → List ℕ
+listing ps ms = flat_map piece_line ps ++ flat_map fault_line ms

@@ -3,6 +3,7 @@ use Rattle.std.specs.Prelude.{◌≡◌, ◌≤◌, ◌<◌, ℕ, Bool, true, fa
 use Rattle.std.specs.Prelude.{chars, codes}
 use Rattle.std.specs.Str.{IsUtf8}
 use Rattle.rustc_parse_format.specs.Types.{Mode, Format, InlineAsm, Diagnostic, Piece}
+use Rattle.rustc_parse_format.specs.Faults.{Message}
 use Rattle.rustc_parse_format.specs.World.{Place, pieces_in}
 use Rattle.rustc_parse_format.specs.Call.{pieces_of}
 use Rattle.rustc_parse_format.specs.State.{State, first_state, calls, after_all}
@@ -47,13 +48,17 @@ start mode s = first_state mode s.text s.style s.snippet false
 unfoldable pub pieces : Mode → Source → List (Piece Place)
 pieces mode s = pieces_in (start mode s).world (pieces_of (calls (start mode s)))
 
--- whether the parser finds a fault in it
-unfoldable pub is_faulty : Mode → Source → Bool
-is_faulty mode s = nat_lt 0 (length (after_all (start mode s) (calls (start mode s))).errors)
+-- the errors that the parser then holds
+unfoldable pub errors : Mode → Source → List (Message Place)
+errors mode s = (after_all (start mode s) (calls (start mode s))).errors
+
+-- whether there is one
+abbrev pub is_faulty : Mode → Source → Bool
+is_faulty mode s = nat_lt 0 (length (errors mode s))
 
 -- its listing, and whether it has a fault
 abbrev pub listed : Mode → Source → List ℕ × Bool
-listed mode s = (listing (pieces mode s), is_faulty mode s)
+listed mode s = (listing (pieces mode s) (errors mode s), is_faulty mode s)
 
 -- the input is short enough
 abbrev pub IsShort : List ℕ → Type 0

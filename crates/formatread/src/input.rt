@@ -6,8 +6,7 @@ ghost use Rattle.rustc_parse_format.specs.Source.{HasSource};
 ghost use Rattle.rustc_parse_format.specs.World.{hashes};
 ghost use Rattle.formatread.specs.declared.verdict.RunFault.TheVariants.{Words, TooLong, NotText, NotLiteral};
 ghost use Rattle.formatread.specs.Source.{IsInLiteral, IsSourceOf, Source, bare_source};
-ghost use Rattle.formatread.specs.Program.{IsShort, is_faulty, limit, listed, pieces};
-ghost use Rattle.formatread.specs.Listing.{listing};
+ghost use Rattle.formatread.specs.Program.{IsShort, limit, listed};
 
 use super::listing::listing;
 use super::literal::{literal_text, without_newline};
@@ -23,7 +22,7 @@ fn has_errors(parser: &Parser<'_>) -> bool
 }
 
 /// The listing of what the parser is given, and whether it has a fault.
-#[tactic(auto, unfolding(crate::specs::Program::pieces, crate::specs::Program::is_faulty))]
+#[tactic(auto, unfolding(crate::specs::Program::pieces, crate::specs::Program::errors))]
 fn list_source(
     alloc: Global,
     text: &str,
@@ -38,7 +37,7 @@ fn list_source(
     ensures empty { text.now ≡ [] → (HasSource (chars text.now) style (seen_snippet snippet) false → ⊥) → IsOk result }
 {
     let (pieces, parser) = read_all(alloc, text, style, snippet, false, mode)?;
-    let lines = listing(alloc, pieces.as_slice())?;
+    let lines = listing(alloc, pieces.as_slice(), parser.errors())?;
     Ok((lines, has_errors(&parser)))
 }
 

@@ -1,10 +1,11 @@
 ghost use Rattle.std.specs.Prelude.{◌≡◌, ◌++◌, [], IfOk, IsOk, OnOk, map, chars, codes, encode_utf8_all, flat_map, option_map, string_bytes};
 ghost use Rattle.rustc_parse_format.specs.Written.{written};
-ghost use Rattle.rustc_parse_format.specs.Seen.{pair, seen, seen_alignment, seen_count, seen_debug_hex, seen_position, seen_sign, seen_spec};
-ghost use Rattle.formatread.specs.Listing.{align_entry, at_entry, count_entry, count_text, fill_entry, flag_entry, flag_entries, hex_entry, line, listing, position_text, precision_entry, quoted, sign_entry, span_text, type_entry, value_entries, width_entry};
+ghost use Rattle.rustc_parse_format.specs.Seen.{pair, seen, seen_alignment, seen_count, seen_debug_hex, seen_error, seen_position, seen_sign, seen_spec};
+ghost use Rattle.formatread.specs.Listing.{align_entry, at_entry, count_entry, count_text, fault_line, fill_entry, flag_entry, flag_entries, hex_entry, listing, piece_line, position_text, precision_entry, quoted, sign_entry, span_text, type_entry, value_entries, width_entry};
 
 use rustc_parse_format::{
-    Alignment, Argument, Count, DebugHex, FormatSpec, Piece, Position, Sign, put_written,
+    Alignment, Argument, Count, DebugHex, FormatSpec, ParseError, Piece, Position, Sign,
+    put_written,
 };
 use std::alloc::{AllocError, Global};
 use std::ops::Range;
@@ -280,7 +281,7 @@ fn put_argument(out: &mut String, argument: &Argument<'_>) -> Result<(), AllocEr
 
 /// Adds the line of a piece.
 fn put_piece(out: &mut String, piece: &Piece<'_>) -> Result<(), AllocError>
-    ensures { OnOk result (string_bytes out.new ≡ string_bytes out.old ++ line (seen piece.now)) }
+    ensures { OnOk result (string_bytes out.new ≡ string_bytes out.old ++ piece_line (seen piece.now)) }
 {
     match piece {
         Piece::Lit(text) => put_literal(out, text)?,
@@ -289,14 +290,54 @@ fn put_piece(out: &mut String, piece: &Piece<'_>) -> Result<(), AllocError>
     Ok(())
 }
 
-/// The listing of pieces: a line for each.
-pub fn listing(alloc: Global, pieces: &[Piece<'_>]) -> Result<String, AllocError>
-    ensures lines { IfOk result (λ text. string_bytes text ≡ listing (map seen pieces.now)) }
+/// Adds a line for each piece.
+fn put_pieces(out: &mut String, pieces: &[Piece<'_>]) -> Result<(), AllocError>
+    ensures lines { OnOk result (string_bytes out.new ≡ string_bytes out.old ++
+        flat_map piece_line (map seen pieces.now)) }
     ensures empty { pieces.now ≡ [] → IsOk result }
 {
-    let mut out = String::new(alloc);
     for piece in pieces {
-        put_piece(&mut out, piece)?;
+        put_piece(out, piece)?;
     }
+    Ok(())
+}
+
+/// Adds the line of an error.
+fn put_fault(out: &mut String, error: &ParseError) -> Result<(), AllocError>
+    ensures { OnOk result (string_bytes out.new ≡ string_bytes out.old ++
+        fault_line (seen_error error.now)) }
+{
+    put_span(out, "fault ", &error.span)?;
+    out.push_str(" ")?;
+    out.push_str(error.description.as_str())?;
+    out.push_str("\n")?;
+    Ok(())
+}
+
+/// Adds a line for each error, in their order.
+fn put_faults(out: &mut String, errors: &[ParseError]) -> Result<(), AllocError>
+    ensures lines { OnOk result (string_bytes out.new ≡ string_bytes out.old ++
+        flat_map fault_line (map seen_error errors.now)) }
+    ensures empty { errors.now ≡ [] → IsOk result }
+{
+    for error in errors {
+        put_fault(out, error)?;
+    }
+    Ok(())
+}
+
+/// The listing of pieces and errors: a line for each.
+pub fn listing(
+    alloc: Global,
+    pieces: &[Piece<'_>],
+    errors: &[ParseError],
+) -> Result<String, AllocError>
+    ensures lines { IfOk result (λ text. string_bytes text
+        ≡ listing (map seen pieces.now) (map seen_error errors.now)) }
+    ensures empty { pieces.now ≡ [] → errors.now ≡ [] → IsOk result }
+{
+    let mut out = String::new(alloc);
+    put_pieces(&mut out, pieces)?;
+    put_faults(&mut out, errors)?;
     Ok(out)
 }

@@ -99,8 +99,8 @@ fn write_whole<W: Write>(writer: &mut W, bytes: &[u8]) -> Result<(), RunFault>
     Ok(())
 }
 
-/// Lists the pieces of all that the reader holds, as the words ask, and answers whether a fault
-/// was found.
+/// Lists the pieces and the faults of all that the reader holds, as the words ask, and answers
+/// whether there is a fault.
 ///
 /// A read or a write that fails is not tried again.
 pub fn run<R: Read, W: Write>(

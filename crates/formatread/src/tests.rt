@@ -1,10 +1,12 @@
-//! Rows of the program, and readers and writers that fail.
+//! What the program does with its words, and readers and writers that fail.
 mod fakes;
+mod listings;
 
 use super::run::run;
 use super::verdict::{RunFault, verdict};
 use fakes::{Endless, Faltering, Sheet, Stuck, Stumbling};
 use std::alloc::{AllocError, Global};
+use std::io::Print;
 use std::process::Abort;
 use std::test::Fail;
 
@@ -46,133 +48,6 @@ fn check_refusals(
         assert!(rt; written.is_empty());
     }
     Ok(())
-}
-
-/// Each of these inputs is listed so, with or without a fault.
-fn check_listings(
-    rt: &impl Abort,
-    alloc: Global,
-    words: &[String],
-    rows: &[(&[u8], &[u8], bool)],
-) -> Result<(), Fail> {
-    for (input, lines, faulty) in rows {
-        let mut reader = *input;
-        let mut written = Vec::new(alloc);
-        let answer = run(alloc, &mut reader, &mut written, words);
-        assert_eq!(rt; answer, Ok(*faulty));
-        assert_eq!(rt; written.as_slice(), *lines);
-        assert!(rt; reader.is_empty());
-    }
-    Ok(())
-}
-
-#[test]
-fn lists_short_inputs(rt: HostRuntime) -> Result<(), Fail> {
-    let words = words(rt.alloc(), &["format"])?;
-    let rows: [(&[u8], &[u8], bool); 4] = [
-        (HI, HI_LINES, false),
-        (b"", b"", false),
-        (b"{", b"arg implicit 0 1..1\n", true),
-        (
-            b"a\n\"}}\x7F",
-            b"lit \"a\\n\\\"\"\nlit \"}\\u{7f}\"\n",
-            false,
-        ),
-    ];
-    check_listings(&rt, rt.alloc(), words.as_slice(), &rows)
-}
-
-#[test]
-fn lists_each_part_with_its_span(rt: HostRuntime) -> Result<(), Fail> {
-    let words = words(rt.alloc(), &["format"])?;
-    let rows: [(&[u8], &[u8], bool); 4] = [
-        (
-            b"{:*>8.w$x?}",
-            b"arg implicit 0 2..2 fill=\"*\"@3..4 align=right width=is:8@5..6 precision=name:w@7..8@6..9 hex=lower ty=\"?\"\n",
-            false,
-        ),
-        (
-            b"{:.*}{x:x$.y$}",
-            b"arg implicit 1 2..2 precision=star:0@3..5\narg name x 7..8 width=name:x@9..10@9..11 precision=name:y@12..13@11..14\n",
-            false,
-        ),
-        (
-            b"{0:+#00$e}",
-            b"arg index 0 2..3 sign=+ alt zero width=param:0@7..9 ty=\"e\"@9..10\n",
-            false,
-        ),
-        (
-            b"{a:..b}",
-            b"arg name a 2..3 precision=implied@4..5\nlit \".b\"\n",
-            true,
-        ),
-    ];
-    check_listings(&rt, rt.alloc(), words.as_slice(), &rows)
-}
-
-#[test]
-fn lists_in_each_mode(rt: HostRuntime) -> Result<(), Fail> {
-    let rows: [(&str, &[u8], &[u8]); 5] = [
-        ("format", b"{0:e}", b"arg index 0 2..3 ty=\"e\"@4..5\n"),
-        ("asm", b"", b""),
-        ("asm", b"{0:e}", b"arg index 0 2..3 ty=\"e\"@4..5\n"),
-        ("diagnostic", b"", b""),
-        (
-            "diagnostic",
-            b"{}{0}{a:}",
-            b"arg implicit 0 2..2\narg index 0 4..5\narg name a 7..8 ty=\"\"@8..9\n",
-        ),
-    ];
-    for (mode, input, lines) in rows {
-        let words = words(rt.alloc(), &[mode])?;
-        let mut reader = input;
-        let mut written = Vec::new(rt.alloc());
-        let answer = run(rt.alloc(), &mut reader, &mut written, words.as_slice());
-        assert_eq!(rt; answer, Ok(false));
-        assert_eq!(rt; written.as_slice(), lines);
-    }
-    Ok(())
-}
-
-#[test]
-fn lists_what_a_literal_stands_for(rt: HostRuntime) -> Result<(), Fail> {
-    let words = words(rt.alloc(), &["format", "--literal"])?;
-    let rows: [(&[u8], &[u8], bool); 4] = [
-        (b"\"a\"\n", b"lit \"a\"\n", false),
-        (b"\"\"", b"", false),
-        (
-            b"r#\"{a}\"\\n\"#\n",
-            b"arg name a 4..5\nlit \"\\\"\\\\n\"\n",
-            false,
-        ),
-        (b"r\"\n\"", b"lit \"\\n\"\n", false),
-    ];
-    check_listings(&rt, rt.alloc(), words.as_slice(), &rows)
-}
-
-#[test]
-fn lists_spans_of_the_literal(rt: HostRuntime) -> Result<(), Fail> {
-    let words = words(rt.alloc(), &["format", "--literal"])?;
-    let rows: [(&[u8], &[u8], bool); 5] = [
-        (
-            b"\"a\\n{0:?#}\"",
-            b"lit \"a\\n\"\narg index 0 5..6 ty=\"?\"\nlit \"#\"\n",
-            true,
-        ),
-        (b"\"{foo\\\n  }\"", b"arg name foo 2..9\n", false),
-        (
-            b"\"\\u{1F600}{}\"",
-            b"lit \"\xF0\x9F\x98\x80\"\narg implicit 0 11..11\n",
-            false,
-        ),
-        (
-            b"\"\\u{7b}:\\x2a>5}\"",
-            b"arg implicit 0 7..7 fill=\"*\"@8..12 align=right width=is:5@13..14\n",
-            false,
-        ),
-        (b"\"\\u{007_b}\"\n", b"arg implicit 0 10..10\n", true),
-    ];
-    check_listings(&rt, rt.alloc(), words.as_slice(), &rows)
 }
 
 #[test]
@@ -305,30 +180,47 @@ fn a_write_that_takes_no_byte_has_failed(rt: HostRuntime) -> Result<(), Fail> {
     Ok(())
 }
 
-/// Passes whether or not a request for memory is refused.
-#[test]
-fn writes_nothing_out_of_memory(rt: HostRuntime) -> Result<(), Fail> {
-    let words = match words(rt.alloc(), &["format"]) {
+/// This input is listed so, with or without a fault. Passes whether or not a request for memory is refused.
+fn check_out_of_memory(
+    rt: &(impl Abort + Print),
+    alloc: Global,
+    input: &[u8],
+    lines: &[u8],
+    faulty: bool,
+) -> Result<(), Fail> {
+    let words = match words(alloc, &["format"]) {
         Ok(words) => words,
         Err(AllocError) => {
             println!(rt; "refused")?;
-            words(rt.alloc(), &["format"])?
+            words(alloc, &["format"])?
         }
     };
-    let mut reader = HI;
+    let mut reader = input;
     let mut sheet = Sheet::new();
-    let mut answer = run(rt.alloc(), &mut reader, &mut sheet, words.as_slice());
+    let mut answer = run(alloc, &mut reader, &mut sheet, words.as_slice());
     if answer == Err(RunFault::Memory) {
         println!(rt; "refused")?;
         assert!(rt; sheet.text().is_empty());
         assert_eq!(rt; verdict(&answer).1, 3);
-        reader = HI;
-        answer = run(rt.alloc(), &mut reader, &mut sheet, words.as_slice());
+        reader = input;
+        answer = run(alloc, &mut reader, &mut sheet, words.as_slice());
     }
-    assert_eq!(rt; answer, Ok(false));
-    assert_eq!(rt; sheet.text(), HI_LINES);
+    assert_eq!(rt; answer, Ok(faulty));
+    assert_eq!(rt; sheet.text(), lines);
     assert!(rt; reader.is_empty());
     Ok(())
+}
+
+#[test]
+fn writes_nothing_out_of_memory(rt: HostRuntime) -> Result<(), Fail> {
+    check_out_of_memory(&rt, rt.alloc(), HI, HI_LINES, false)
+}
+
+#[test]
+fn writes_no_fault_out_of_memory(rt: HostRuntime) -> Result<(), Fail> {
+    let lines =
+        b"arg name a 2..5\narg implicit 0 6..6\nfault 2..5 raw identifiers are not supported\nfault 6..6 expected `}` but string was terminated\n";
+    check_out_of_memory(&rt, rt.alloc(), b"{r#a}{", lines, true)
 }
 
 #[test]

@@ -80,10 +80,10 @@ placeholder_steps mode c b t e =
         numbered = refl;
       };
     })
-    (λ h f. absurd (told (cut_faults (cut mode t)) _ f))
+    (λ h f. absurd (told (cut_faults (cut mode t)) _ _ f))
   where
-    told : (xs : List (Fault Span)) (x : Fault Span) → xs ++ (x ∷ []) ≡ [] → ⊥
-    told xs x f = let k = none_right xs (x ∷ []) f in cc k
+    told : (xs : List (Fault Span)) (x : Fault Span) (ys : List (Fault Span)) → xs ++ (x ∷ ys) ≡ [] → ⊥
+    told xs x ys f = let k = none_right xs (x ∷ ys) f in cc k
 
 -- A call with no fault gives a piece that begins the text,
 pub call_begins : (mode : Mode) (c : ℕ) (t : Text) → t ≢ [] → (call mode c t).faults ≡ [] → Steps mode c t (call mode c t)
@@ -156,7 +156,7 @@ call_closed : (mode : Mode) (c : ℕ) (t r : Text) → behind_white (cut mode t)
 unfolding call placeholder
 call_closed mode c t r e h =
     let one = opens_one mode t r e in
-    let none = cut_faultless mode t h in
+    let none = cut_faultless mode t r h e in
     rw (one, e) (record {
       piece = NextArgument (argument c (cut mode t));
       given = refl;

@@ -1,41 +1,47 @@
--- A cut has no fault exactly where nothing in it is refused.
-use Rattle.std.proofs.Common.{◌≡◌, ◌++◌, ◌==◌, ℕ, [], ◌∷◌, refl, sym, ◌∙◌, codes}
-use Rattle.std.proofs.lemmas.Bool.{cond_both}
-use Rattle.std.specs.Char.{is_ascii_digit}
-use Rattle.rustc_parse_format.specs.Characters.{Text, is_id_start, word, behind_white}
+-- A cut that a brace closes has no fault exactly where nothing in it is refused.
+use Rattle.std.proofs.Common.{◌≡◌, ◌++◌, ◌==◌, ℕ, Bool, true, false, ap, [], ◌∷◌, refl, sym, ◌∙◌, codes}
+use Rattle.std.proofs.lemmas.Bool.{cond_both, eqb-true, false≢true, ne_eqb, or_from}
+use Rattle.std.specs.Char.{is_ascii_digit, is_whitespace}
+use Rattle.rustc_parse_format.specs.Characters.{Text, is_id_start, behind, word, first_passes, behind_first, behind_prefix, behind_white, begins_raw}
 use Rattle.rustc_parse_format.specs.Types.{Mode, Format, InlineAsm, Diagnostic, DebugHex, Lower, Upper}
 use Rattle.rustc_parse_format.specs.Counts.{width, precision}
-use Rattle.rustc_parse_format.specs.Syntax.{SpecText}
+use Rattle.rustc_parse_format.specs.Syntax.{TypeText, SpecText}
 use Rattle.rustc_parse_format.specs.Specification.{type, behind_hex, width_at, precision_at, type_at, format_text, specification, behind_colon}
 use Rattle.rustc_parse_format.specs.Placeholder.{position, cut}
 use Rattle.rustc_parse_format.specs.Grammar.{IsClean, IsCleanPosition, IsCleanType, IsCleanFormat, IsCleanSpec}
-use Rattle.rustc_parse_format.specs.PartFaults.{number_faults, argument_faults, width_faults, precision_faults, type_faults, format_faults, spec_faults}
-use Rattle.rustc_parse_format.specs.PartFaults.{cut_faults}
-use Rattle.rustc_parse_format.proofs.CleanWords.{none_left, none_right, none_both, named, small, unnamed, unlarge, choose, no_word, no_digits, digit_word}
-use Rattle.rustc_parse_format.proofs.CleanWords.{word_first, no_word_at_end, no_digits_at_end}
+use Rattle.rustc_parse_format.specs.PartFaults.{word_faults, raw_faults, position_faults, width_faults, precision_faults, type_faults, format_faults}
+use Rattle.rustc_parse_format.specs.PartFaults.{spec_faults, cut_faults, is_debug_flag, flag_faults}
+use Rattle.rustc_parse_format.proofs.CleanWords.{none_left, none_right, none_both, named, small, unnamed, unlarge, choose, word_first, no_word_at_end}
 use Rattle.rustc_parse_format.proofs.PartPlaces.{format_faults-at}
 use Rattle.rustc_parse_format.proofs.CleanCounts.{width_clean, precision_clean}
 use Rattle.rustc_parse_format.proofs.FaultlessCounts.{tried_named, width_faultless, precision_faultless}
 
-position_clean : (t : Text) → argument_faults t ≡ [] → IsCleanPosition (position t).0
-unfolding argument_faults
+-- a raw identifier has its fault
+raw_told : (t : Text) → raw_faults t ≡ [] → ⊥
+raw_told t e = let last = none_right (word_faults (behind_prefix t)) _ e in cc last
+
+position_clean : (t : Text) → position_faults t (position t).0 ≡ [] → IsCleanPosition (position t).0
 position_clean [] e = tt
 position_clean (c ∷ t) e =
-    choose {B = Text} IsCleanPosition (is_ascii_digit c) _ _
-    (λ d. small (c ∷ t) (none_left _ _ e))
-    (λ d. choose {B = Text} IsCleanPosition (is_id_start c) _ _
-    (λ i. named (c ∷ t) (none_right (number_faults (c ∷ t)) _ e))
-    (λ i. tt))
+    choose {B = Text} (λ p. position_faults (c ∷ t) p ≡ [] → IsCleanPosition p) (is_ascii_digit c) _ _
+    (λ d h. small (c ∷ t) h)
+    (λ d. choose {B = Text} (λ p. position_faults (c ∷ t) p ≡ [] → IsCleanPosition p) (begins_raw (c ∷ t)) _ _
+    (λ r h. raw_told (c ∷ t) h)
+    (λ r. choose {B = Text} (λ p. position_faults (c ∷ t) p ≡ [] → IsCleanPosition p) (is_id_start c) _ _
+    (λ i h. named (c ∷ t) h)
+    (λ i h. tt)))
+    e
 
-position_faultless : (t : Text) → IsCleanPosition (position t).0 → argument_faults t ≡ []
-unfolding argument_faults
-position_faultless [] h = none_both _ _ no_digits_at_end no_word_at_end
+position_faultless : (t : Text) → IsCleanPosition (position t).0 → position_faults t (position t).0 ≡ []
+position_faultless [] h = refl
 position_faultless (c ∷ t) h =
-    choose {B = Text} (λ p. IsCleanPosition p → argument_faults (c ∷ t) ≡ []) (is_ascii_digit c) _ _
-    (λ d h. none_both _ _ (unlarge (c ∷ t) h) (digit_word c t d))
-    (λ d. choose {B = Text} (λ p. IsCleanPosition p → argument_faults (c ∷ t) ≡ []) (is_id_start c) _ _
-    (λ i h. none_both _ _ (no_digits c t d) (unnamed (c ∷ t) h))
-    (λ i h. none_both _ _ (no_digits c t d) (no_word c t i)))
+    choose {B = Text} (λ p. IsCleanPosition p → position_faults (c ∷ t) p ≡ []) (is_ascii_digit c) _ _
+    (λ d h. unlarge (c ∷ t) h)
+    (λ d. choose {B = Text} (λ p. IsCleanPosition p → position_faults (c ∷ t) p ≡ []) (begins_raw (c ∷ t)) _ _
+    (λ r h. absurd h)
+    (λ r. choose {B = Text} (λ p. IsCleanPosition p → position_faults (c ∷ t) p ≡ []) (is_id_start c) _ _
+    (λ i h. unnamed (c ∷ t) h)
+    (λ i h. refl)))
     h
 
 hex_clean : (h : DebugHex) (c : ℕ) (t : Text) → IsCleanType (behind_hex h c t).0
@@ -54,21 +60,33 @@ type_clean (c ∷ t) e =
     (λ z h. named (c ∷ t) h)))
     e
 
-hex_faultless : (h : DebugHex) (c : ℕ) (t u : Text) → type_faults u (behind_hex h c t).0 ≡ []
-hex_faultless h c [] u = refl
-hex_faultless h c (d ∷ t) u = choose {B = Text} (λ y. type_faults u y ≡ []) (d == 63) _ _ (λ z. refl) (λ z. refl)
+-- no flag is next
+abbrev pub IsUnflagged : Text → Type 0
+IsUnflagged t = first_passes is_debug_flag t ≡ false
 
-type_faultless : (t : Text) → IsCleanType (type t).0 → type_faults t (type t).0 ≡ []
-type_faultless [] h = no_word_at_end
-type_faultless (c ∷ t) h =
-    choose {B = Text} (λ y. IsCleanType y → type_faults (c ∷ t) y ≡ []) (c == 120) _ _
-    (λ z h. hex_faultless Lower c t (c ∷ t))
-    (λ z. choose {B = Text} (λ y. IsCleanType y → type_faults (c ∷ t) y ≡ []) (c == 88) _ _
-    (λ z h. hex_faultless Upper c t (c ∷ t))
-    (λ z. choose {B = Text} (λ y. IsCleanType y → type_faults (c ∷ t) y ≡ []) (c == 63) _ _
-    (λ z h. refl)
-    (λ z h. unnamed (c ∷ t) h)))
-    h
+unflagged : (t : Text) → IsUnflagged (behind_first t) → flag_faults t ≡ []
+unflagged [] u = refl
+unflagged (c ∷ []) u = refl
+unflagged (c ∷ d ∷ t) u = rw u refl
+
+-- what a type that is read at t says of its rest
+abbrev TypeFaultless : Text → TypeText × Text → Type 0
+TypeFaultless t y = IsCleanType y.0 → IsUnflagged y.1 → type_faults t y.0 ≡ []
+
+hex_faultless : (h : DebugHex) (c : ℕ) (t u : Text) → c == 63 ≡ false → TypeFaultless u (behind_hex h c t)
+hex_faultless h c [] u e = λ k f. rw e refl
+hex_faultless h c (d ∷ t) u e = cond_both {A = TypeText × Text} (d == 63) _ _ (TypeFaultless u) (λ z k f. refl) (λ z k f. rw e refl)
+
+type_faultless : (t : Text) → TypeFaultless t (type t)
+type_faultless [] = λ h f. no_word_at_end
+type_faultless (c ∷ t) =
+    cond_both {A = TypeText × Text} (c == 120) _ _ (TypeFaultless (c ∷ t))
+    (λ z. hex_faultless Lower c t (c ∷ t) (rw (eqb-true c 120 z) refl))
+    (λ z. cond_both {A = TypeText × Text} (c == 88) _ _ (TypeFaultless (c ∷ t))
+    (λ z. hex_faultless Upper c t (c ∷ t) (rw (eqb-true c 88 z) refl))
+    (λ z. cond_both {A = TypeText × Text} (c == 63) _ _ (TypeFaultless (c ∷ t))
+    (λ z h f. rw z (unflagged (c ∷ t) f))
+    (λ z h f. unnamed (c ∷ t) h)))
 
 format_clean : (t : Text) → format_faults (format_text t).0 (format_text t).1 ≡ [] → IsCleanFormat (format_text t).0
 unfolding format_text
@@ -95,9 +113,9 @@ underscore_stays (c ∷ t) e = at c t (word_first c t e) e
     at : (c : ℕ) (t : Text) → c ≡ 95 → word (c ∷ t) ≡ codes "_" → ((precision (c ∷ t)).1 ≡ c ∷ t) × (IsCleanType (type (c ∷ t)).0 → ⊥)
     at c t h = rw h (λ e. (refl, λ named. named e))
 
-format_faultless : (t : Text) → IsCleanFormat (format_text t).0 → format_faults (format_text t).0 (format_text t).1 ≡ []
+format_faultless : (t : Text) → IsCleanFormat (format_text t).0 → IsUnflagged (format_text t).1 → format_faults (format_text t).0 (format_text t).1 ≡ []
 unfolding format_text
-format_faultless t h =
+format_faultless t h f =
     let stays : word (precision_at t) ≡ codes "_" → ⊥ =
     λ u. (underscore_stays (precision_at t) u).1 (rw (← (underscore_stays (precision_at t) u).0) h.type) in
     format_faults-at t
@@ -105,7 +123,7 @@ format_faultless t h =
     (none_both _ _
     (width_faultless (width_at t) h.width (tried_named (width (width_at t)).0 (precision_at t) stays))
     (precision_faultless (precision_at t) h.precision (λ z u. (underscore_stays (type_at t) u).1 h.type)))
-    (type_faultless (type_at t) h.type)
+    (type_faultless (type_at t) h.type f)
 
 colon_clean : (mode : Mode) (c : ℕ) (t : Text) → spec_faults (c ∷ t) (behind_colon mode t).0 (behind_colon mode t).1 ≡ [] → IsCleanSpec (behind_colon mode t).0
 colon_clean Format c t e = format_clean t e
@@ -121,29 +139,47 @@ specification_clean mode [] e = tt
 specification_clean mode (c ∷ t) e =
     cond_both {A = SpecText × Text} (c == 58) _ _ (SpecClean (c ∷ t)) (λ z h. colon_clean mode c t h) (λ z h. tt) e
 
-colon_faultless : (mode : Mode) (c : ℕ) (t : Text) → IsCleanSpec (behind_colon mode t).0 → spec_faults (c ∷ t) (behind_colon mode t).0 (behind_colon mode t).1
-    ≡ []
-colon_faultless Format c t h = format_faultless t h
-colon_faultless InlineAsm c t h = unnamed t h
-colon_faultless Diagnostic c t h = refl
-
 abbrev SpecFaultless : Text → SpecText × Text → Type 0
-SpecFaultless t s = IsCleanSpec s.0 → spec_faults t s.0 s.1 ≡ []
+SpecFaultless t s = IsCleanSpec s.0 → IsUnflagged s.1 → spec_faults t s.0 s.1 ≡ []
+
+colon_faultless : (mode : Mode) (c : ℕ) (t : Text) → SpecFaultless (c ∷ t) (behind_colon mode t)
+colon_faultless Format c t = format_faultless t
+colon_faultless InlineAsm c t = λ h f. unnamed t h
+colon_faultless Diagnostic c t = λ h f. refl
 
 specification_faultless : (mode : Mode) (t : Text) → SpecFaultless t (specification mode t)
-specification_faultless mode [] h = refl
-specification_faultless mode (c ∷ t) h =
-    cond_both {A = SpecText × Text} (c == 58) _ _ (SpecFaultless (c ∷ t)) (λ z. colon_faultless mode c t) (λ z h. refl) h
+specification_faultless mode [] = λ h f. refl
+specification_faultless mode (c ∷ t) =
+    cond_both {A = SpecText × Text} (c == 58) _ _ (SpecFaultless (c ∷ t)) (λ z. colon_faultless mode c t) (λ z h f. refl)
 
 -- In a cut without a fault nothing is refused.
 pub cut_clean : (mode : Mode) (t : Text) → cut_faults (cut mode t) ≡ [] → IsClean (cut mode t).field
 unfolding cut cut_faults
 cut_clean mode t e = record {
   position = position_clean t (none_left _ _ e);
-  spec = specification_clean mode (behind_white (position t).1) (none_right (argument_faults t) _ e);
+  spec = specification_clean mode (behind_white (position t).1) (none_right (position_faults t (position t).0) _ e);
 }
 
--- A cut in which nothing is refused has no fault.
-pub cut_faultless : (mode : Mode) (t : Text) → IsClean (cut mode t).field → cut_faults (cut mode t) ≡ []
+another : (p : ℕ → Bool) (c n : ℕ) → p c ≡ true → p n ≡ false → c == n ≡ false
+another p c n h k = ne_eqb c n (λ e. false≢true (sym k ∙ ap p (sym e) ∙ h))
+
+-- Neither white space nor a closing brace is a flag.
+white-unflagged : (c : ℕ) → is_whitespace c ≡ true → is_debug_flag c ≡ false
+white-unflagged c w =
+    or_from _ _ (or_from _ _ (another is_whitespace c 35 w refl) (another is_whitespace c 120 w refl)) (another is_whitespace c 88 w refl)
+
+closed-unflagged : (t r : Text) → behind_white t ≡ 125 ∷ r → IsUnflagged t
+unfolding behind_white
+closed-unflagged [] r e = refl
+closed-unflagged (c ∷ t) r e =
+    cond_both (is_whitespace c) (behind is_whitespace t) (c ∷ t) (λ u. u ≡ 125 ∷ r → is_debug_flag c ≡ false)
+    (λ w h. white-unflagged c w)
+    (λ w h. let same : c ≡ 125 = cc h in rw same refl)
+    e
+
+-- A cut in which nothing is refused has no fault where a brace closes it.
+pub cut_faultless : (mode : Mode) (t r : Text) → IsClean (cut mode t).field → behind_white (cut mode t).rest ≡ 125 ∷ r → cut_faults (cut mode t) ≡ []
 unfolding cut cut_faults
-cut_faultless mode t h = none_both _ _ (position_faultless t h.position) (specification_faultless mode (behind_white (position t).1) h.spec)
+cut_faultless mode t r h e =
+    none_both _ _ (position_faultless t h.position)
+    (specification_faultless mode (behind_white (position t).1) h.spec (closed-unflagged (cut mode t).rest r e))

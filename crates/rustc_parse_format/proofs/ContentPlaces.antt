@@ -5,8 +5,10 @@ use Rattle.rustc_parse_format.specs.Characters.{Text, byte_length}
 use Rattle.rustc_parse_format.specs.LiteralUnits.{LiteralUnit, spelling}
 use Rattle.rustc_parse_format.specs.Literal.{IsContent, IsReadAs, IsSource, ordinary_frame, placed_characters}
 use Rattle.rustc_parse_format.specs.World.{Place, world, later, content_places, newline_places, ordinary_end, ordinary_world}
-use Rattle.rustc_parse_format.proofs.ReadBackUnits.{one_or_none, past}
-use Rattle.rustc_parse_format.proofs.ReadBackWorlds.{frame-units, world-literal}
+use Rattle.rustc_parse_format.proofs.PlaceOrder.{one_or_none}
+use Rattle.rustc_parse_format.proofs.ReadBackUnits.{past}
+use Rattle.rustc_parse_format.proofs.ReadBackWorlds.{world-literal}
+use Rattle.rustc_parse_format.proofs.SourceEnds.{frame-units}
 
 -- A content that starts k bytes later has all its places k bytes later.
 pub content-later : (k at : ℕ) (us : List LiteralUnit) → content_places (k + at) us ≡ map (later k) (content_places at us)
@@ -30,7 +32,7 @@ pub content-world : (content : Text) (us : List LiteralUnit) (ps : List (Place �
 content-world content us ps input appended h e source =
     let s = ordinary_frame content in
     let is : world input None (Some s) appended ≡ ordinary_world us appended =
-    world-literal input None s appended source ∙ ap (λ vs. ordinary_world vs appended) (frame-units content us h) in
+    world-literal input None s appended source ∙ ap (λ vs. ordinary_world vs appended) (frame-units s content us refl h) in
     let same : content_places 1 us ≡ map (λ (x : Place × ℕ). later 1 x.0) ps = content-later 1 0 us ∙ (map_places (placed_characters 0 us)
     ∙ ap (map (λ (x : Place × ℕ). later 1 x.0)) (sym e)) in
     rw is (ap (λ qs. qs ++ newline_places (ordinary_end us) appended) same)

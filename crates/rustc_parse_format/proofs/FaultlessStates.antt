@@ -74,4 +74,5 @@ reads_walk mode w t at ps r =
 pub errors_stop : (mode : Mode) (w : World) (t : Text) (at : ℕ) → (after_all (fresh mode w t at) (calls (fresh mode w t at))).errors ≢ [] →
     StopsInside mode 0 t (map bare (pieces_of (calls (fresh mode w t at))))
 errors_stop mode w t at e =
-    faulty-stops mode 0 t (calls (fresh mode w t at)) (walk-IsWalk mode 0 t) (λ f. e (no_errors-after_all (fresh mode w t at) (calls (fresh mode w t at)) refl f))
+    faulty-stops mode 0 t (calls (fresh mode w t at)) (walk-IsWalk mode 0 t)
+    (λ f. e (no_errors-after_all (fresh mode w t at) (calls (fresh mode w t at)) refl f))

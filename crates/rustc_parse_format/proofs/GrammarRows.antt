@@ -4,7 +4,8 @@ use Rattle.std.proofs.Common.{◌≡◌, [], ◌∷◌, List, refl, codes, Some,
 use Rattle.std.proofs.lemmas.Bool.{false≢true}
 use Rattle.rustc_parse_format.specs.Types.{Format, Diagnostic, Left, Right, Unknown, Plus, Lower, Implicit, Is, Piece, NextArgument, default_spec}
 use Rattle.rustc_parse_format.specs.Spelling.{IsPart}
-use Rattle.rustc_parse_format.specs.Syntax.{Word, NoPosition, NumberCount, IndexCount, NameCount, NoCount, PaddedWidth, ZeroIndexWidth, PlainWidth, NoPrecision}
+use Rattle.rustc_parse_format.specs.Syntax.{Word, RawWord, NoPosition, NumberCount, IndexCount, NameCount, NoCount, PaddedWidth, ZeroIndexWidth}
+use Rattle.rustc_parse_format.specs.Syntax.{PlainWidth, NoPrecision}
 use Rattle.rustc_parse_format.specs.Syntax.{DotPrecision, DebugHexType, CharacterType, WordType, FormatText, Default, Formatting, DiagnosticText, FieldText}
 use Rattle.rustc_parse_format.specs.Syntax.{PlaceholderText, opened_part, IsCut}
 use Rattle.rustc_parse_format.specs.Grammar.{Reads}
@@ -55,6 +56,14 @@ hexadecimal_letter-leaves_the_word : IsCut Format (codes ":xyz}") (spec (record 
 unfolding computing
 hexadecimal_letter-leaves_the_word = record { whole = refl; formed = refl; ends = refl }
 
+raw_identifier-has_its_word : IsCut Format (codes "r#a}") (record { position = RawWord (codes "a"); space = []; spec = Default }) (codes "}")
+unfolding computing
+raw_identifier-has_its_word = record { whole = refl; formed = refl; ends = refl }
+
+raw_identifier-has_a_word : IsCut Format (codes "r#}") (record { position = Word (codes "r"); space = []; spec = Default }) (codes "#}")
+unfolding computing
+raw_identifier-has_a_word = record { whole = refl; formed = refl; ends = refl }
+
 diagnostic_text-is_no_specification : IsCut Diagnostic (codes "a:08 b}")
     (record { position = Word (codes "a"); space = []; spec = DiagnosticText (codes "08 b") }) (codes "}")
 unfolding computing
@@ -73,6 +82,10 @@ flag-is_no_digit h = false≢true h.ends
 word-is_not_cut_short : ¬ (IsCut Format (codes "ab}") (record { position = Word (codes "a"); space = []; spec = Default }) (codes "b}"))
 unfolding computing
 word-is_not_cut_short h = false≢true h.ends
+
+raw_identifier-is_no_word : ¬ (IsCut Format (codes "r#a}") (record { position = Word (codes "r"); space = []; spec = Default }) (codes "#a}"))
+unfolding computing
+raw_identifier-is_no_word h = false≢true h.ends
 
 fill-is_taken : ¬ (IsCut Format (codes ":<<}") (spec (record nothing { align = Left })) (codes "<}"))
 unfolding computing

@@ -9,9 +9,9 @@ use Rattle.std.proofs.lemmas.List.{map-append}
 use Rattle.std.proofs.lemmas.Bool.{cond-true, and_parts, and_from, not-true, ne_eqb, eq-eqb}
 use Rattle.rustc_parse_format.specs.Characters.{Text}
 use Rattle.rustc_parse_format.specs.World.{World, Place, place_at}
-use Rattle.rustc_parse_format.specs.Call.{marked}
+use Rattle.rustc_parse_format.specs.Marks.{marked}
 use Rattle.rustc_parse_format.specs.Midway.{Midway, read_texts}
-use Rattle.rustc_parse_format.specs.Lines.{Noted, noted, is_newline, is_indent, indented, IsLines, read_lines, lines_in, ends_with}
+use Rattle.rustc_parse_format.specs.Lines.{Noted, noted, is_newline, is_indent, indented, IsLines, read_lines, lines_in}
 
 -- Reading from a line start on, and then more from where that stopped.
 abbrev pub Reading : Type 0
@@ -98,9 +98,6 @@ read_lines-other start x xs e f = read_lines-step start x xs e ∙ ap (λ b. rea
 newline-yes : (w : World) (c k : ℕ) → c ≡ code "\n" → is_newline (c, place_at w k) ≡ true
 newline-yes w c k e = eq-eqb c (code "\n") e
 
-newline-no : (w : World) (c k : ℕ) → c ≢ code "\n" → is_newline (c, place_at w k) ≡ false
-newline-no w c k h = ne_eqb c (code "\n") h
-
 pub indent-no : (w : World) (start c k : ℕ) → (is_whitespace c ≡ true → (place_at w k).0 ≢ start) → is_indent start (c, place_at w k) ≡ false
 indent-no w start c k h = by_test (is_whitespace c) (λ white. ne_eqb (place_at w k).0 start (h white))
   where
@@ -170,9 +167,3 @@ cut-only start xs (line ∷ lines) next (front, behind, newline, split, none, is
     ∙ (ap (λ (r : Reading). then_read r (read_lines r.0 (newline ∷ behind))) first ∙ (ended
     ∙ (ap (λ (r : Reading). (r.0, (indented start front, newline.1.0) ∷ r.1)) (sym later)
     ∙ ap (λ (p : Place). (next, p ∷ lines)) (sym l))))))
-
--- The last line stands there once: lines that end with it stay as they are.
-ends_with-last : (line : Place) (ls : List Place) → ends_with line (ls ++ line ∷ []) ≡ true
-ends_with-last line [] = and_from (line.0 == line.0) _ (eq-eqb line.0 line.0 refl) (eq-eqb line.1 line.1 refl)
-ends_with-last line (l ∷ []) = ends_with-last line []
-ends_with-last line (l ∷ m ∷ ls) = ends_with-last line (m ∷ ls)

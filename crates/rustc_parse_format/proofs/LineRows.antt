@@ -4,7 +4,8 @@ use Rattle.rustc_parse_format.specs.Characters.{Text}
 use Rattle.rustc_parse_format.specs.Types.{Format}
 use Rattle.rustc_parse_format.specs.Source.{is_source}
 use Rattle.rustc_parse_format.specs.World.{World, world, place_at}
-use Rattle.rustc_parse_format.specs.Call.{call, walk, marked}
+use Rattle.rustc_parse_format.specs.Call.{call, walk}
+use Rattle.rustc_parse_format.specs.Marks.{marked}
 use Rattle.rustc_parse_format.specs.Lines.{noted, read_lines, with_last}
 use Rattle.rustc_parse_format.specs.State.{State, first_state, calls, after, after_all, next_call}
 use Rattle.rustc_parse_format.proofs.LiteralRows.{finding_units}

@@ -1,17 +1,22 @@
 -- Where the text ends for which a content stands, by the unit at its front.
 use Rattle.std.proofs.Common.{◌≡◌, ◌≢◌, ℕ, ◌+◌, Bool, true, false, ◌&&◌, ◌↔◌, List, [], ◌∷◌, refl, sym, ap, ◌∙◌, Option, Some, None, IsTrue, if◌then◌else◌}
+use Rattle.std.proofs.Common.{◌++◌, ◌≤◌, arith, length, length-append}
 use Rattle.std.specs.Prelude.{bytes_eq, ◌==◌}
-use Rattle.std.proofs.lemmas.Bool.{cond_both}
+use Rattle.std.specs.Char.{len_utf8}
+use Rattle.std.specs.List.{list_all}
+use Rattle.std.proofs.lemmas.Bool.{and_parts, cond_both, eq-eqb}
 use Rattle.std.proofs.lemmas.Option.{same_Some, none-some}
 use Rattle.std.proofs.lemmas.Slice.Eq.{bytes_eq-Decides}
 use Rattle.rustc_parse_format.specs.Characters.{Text, behind_first, begins_with, byte_length}
-use Rattle.rustc_parse_format.specs.LiteralUnits.{LiteralUnit, spelling, value, meaning, unit_at, at_most_one}
+use Rattle.rustc_parse_format.specs.LiteralUnits.{LiteralUnit, Plain, spelling, value, meaning, unit_at, at_most_one, is_plain}
 use Rattle.rustc_parse_format.specs.Literal.{units, more, content_value}
 use Rattle.rustc_parse_format.specs.World.{content_places, last_stop}
-use Rattle.rustc_parse_format.specs.LiteralReading.{end_of, spelled_end}
+use Rattle.rustc_parse_format.specs.LiteralReading.{SharePlain, end_of, spelled_end}
 use Rattle.rustc_parse_format.proofs.LiteralContents.{units-nil, units-some, units-none}
 use Rattle.rustc_parse_format.proofs.LiteralMeanings.{meaning-none, meaning-some, meaning-shorter, meaning-narrower}
 use Rattle.rustc_parse_format.proofs.LiteralPlaces.{past}
+use Rattle.rustc_parse_format.proofs.LiteralUnitLaws.{unit_at-complete}
+use Rattle.rustc_parse_format.proofs.LiteralWidths.{width-append, width-cons}
 
 pub end-none : (at e : ℕ) (t w : Text) → t ≢ [] → meaning (unit_at t) ≡ None → spelled_end at e t w ≡ None
 unfolding spelled_end
@@ -62,6 +67,29 @@ pub end-agrees : (at f e : ℕ) (t r w : Text) (v : Option ℕ) (c : ℕ) → me
     at + byte_length t ≡ f + byte_length r → begins_with c w ≡ true → spelled_end at e t w ≡ spelled_end f f r (behind_first w)
 end-agrees at f e t r w v c h k l b =
     end-character at f e t r w c (h ∙ ap (λ x. Some (at_most_one x, r)) k) l ∙ ap (λ x. if x then spelled_end f f r (behind_first w) else None) b
+
+-- plain characters, in front of a content and of a text
+end-plain : (at f : ℕ) (u t w : Text) → IsTrue (list_all is_plain u) → at + byte_length u ≡ f → spelled_end at at (u ++ t) (u ++ w) ≡ spelled_end f f t w
+end-plain at f [] t w h l = let e : at ≡ f = omega arith in ap (λ k. spelled_end k k t w) e
+end-plain at f (c ∷ u) t w h l =
+    let parts = and_parts (is_plain c) _ h in
+    let next = at + len_utf8 c in
+    end-character at next at (c ∷ (u ++ t)) (u ++ t) (c ∷ (u ++ w)) c (ap meaning (unit_at-complete (Plain c) (u ++ t) parts.0 refl))
+    (omega (arith, width-cons c (u ++ t)))
+    ∙ (ap (λ b. if b then spelled_end next next (u ++ t) (u ++ w) else None) (eq-eqb c c refl)
+    ∙ end-plain next f u t w parts.1 (omega (arith, width-cons c u)))
+
+-- the same where they are taken off both
+pub share-narrower : (t w r v : Text) → SharePlain t w r v → byte_length r ≤ byte_length t
+share-narrower t w r v p = omega (arith, ap byte_length p.text, width-append p.front r)
+
+pub share-shorter : (t w r v : Text) → SharePlain t w r v → length r ≤ length t
+share-shorter t w r v p = omega (arith, ap length p.text, length-append p.front r)
+
+pub end-share : (at f : ℕ) (t w r v : Text) → SharePlain t w r v → at + byte_length t ≡ f + byte_length r → spelled_end at at t w ≡ spelled_end f f r v
+end-share at f t w r v p l =
+    ap (λ x. spelled_end at at x w) p.text ∙ (ap (λ x. spelled_end at at (p.front ++ r) x) p.other
+    ∙ end-plain at f p.front r v p.plain (omega (arith, ap byte_length p.text, width-append p.front r)))
 
 pub end-over : (at e : ℕ) (t w : Text) (b : Bool) → t ≡ [] → (IsTrue b ↔ (w ≡ [])) → spelled_end at e t w ≡ (if b then Some e else None)
 unfolding spelled_end

@@ -7,12 +7,13 @@ use Rattle.std.proofs.lemmas.Bool.{and_parts, and_from, not_from_false, not-true
 use Rattle.unicode_ident.proofs.Computing.{unicode_ident}
 use Rattle.std.specs.Char.{is_ascii_digit, is_whitespace}
 use Rattle.rustc_parse_format.specs.Characters.{Text, is_align, is_no_brace, is_id_start, is_id_continue, behind, behind_word, behind_first, begins_with}
-use Rattle.rustc_parse_format.specs.Characters.{first_passes}
+use Rattle.rustc_parse_format.specs.Characters.{begins_raw, first_passes}
 use Rattle.rustc_parse_format.specs.Types.{Mode, Format, InlineAsm, Diagnostic, Alignment, Left, Right, Center, Unknown, Sign, Plus, Minus, Lower, Upper}
-use Rattle.rustc_parse_format.specs.Spelling.{Part, IsPart, row, fixed, unless, absent, run, integer, optional_identifier, begins_with_part}
+use Rattle.rustc_parse_format.specs.Spelling.{Part, IsPart, row, fixed, unless, absent, run, integer, identifier, optional_identifier, begins_with_part}
 use Rattle.rustc_parse_format.proofs.PartNames.{begins_count, begins_with_part-count}
-use Rattle.rustc_parse_format.specs.Syntax.{PositionText, Digits, Word, NoPosition, position_part, fill_part, align_part, is_sign, sign_part, alternate_part}
-use Rattle.rustc_parse_format.specs.Syntax.{CountText, NumberCount, IndexCount, NameCount, NoCount, name_part, count_part, WidthText, PaddedWidth}
+use Rattle.rustc_parse_format.specs.Syntax.{PositionText, Digits, Word, RawWord, NoPosition, position_part, fill_part, align_part, is_sign, sign_part}
+use Rattle.rustc_parse_format.specs.Syntax.{alternate_part, CountText, NumberCount, IndexCount, NameCount, NoCount, name_part, count_part, WidthText}
+use Rattle.rustc_parse_format.specs.Syntax.{PaddedWidth}
 use Rattle.rustc_parse_format.specs.Syntax.{ZeroIndexWidth, PlainWidth, width_part, PrecisionText, NoPrecision, StarPrecision, DotPrecision, precision_part}
 use Rattle.rustc_parse_format.specs.Syntax.{TypeText, DebugHexType, CharacterType, WordType, is_type_character, type_part, FormatText, format_part, SpecText}
 use Rattle.rustc_parse_format.specs.Syntax.{Default, Formatting, Modifier, DiagnosticText, spec_part, FieldText, field_part, placeholder_part, PieceText}
@@ -102,9 +103,16 @@ either-blind : (p q : ℕ → Bool) → IsBlind (λ t. first_passes p t || first
 either-blind p q [] r s = refl
 either-blind p q (c ∷ u) r s = refl
 
+raw-blind : IsBlind begins_raw
+raw-blind [] r s = refl
+raw-blind (c ∷ []) r s = refl
+raw-blind (c ∷ d ∷ []) r s = refl
+raw-blind (c ∷ d ∷ e ∷ u) r s = refl
+
 position-local : (p : PositionText) → PartIsLocal (position_part p)
 position-local (Digits ds) = class_ends is_ascii_digit
-position-local (Word w) = class_ends is_id_continue
+position-local (Word w) = two-local (absent begins_raw) (identifier w) (blind_not begins_raw raw-blind) (class_ends is_id_continue)
+position-local (RawWord w) = two-local (fixed (codes "r#")) (identifier w) always (class_ends is_id_continue)
 position-local NoPosition = blind_not (λ t. first_passes is_ascii_digit t || first_passes is_id_start t) (either-blind is_ascii_digit is_id_start)
 
 fill-local : (f : Option ℕ) → PartIsLocal (fill_part f)

@@ -3,7 +3,7 @@ use Rattle.std.proofs.Common.{ℕ, ◌+◌, ◌≤◌, ◌==◌, [], ◌∷◌, 
 use Rattle.std.proofs.lemmas.Bool.{cond_both}
 use Rattle.rustc_parse_format.specs.Characters.{Text, behind_white}
 use Rattle.rustc_parse_format.specs.Types.{Mode, Format, InlineAsm, Diagnostic}
-use Rattle.rustc_parse_format.specs.Syntax.{PrecisionText, SpecText, PositionText, Digits, Word, NoPosition}
+use Rattle.rustc_parse_format.specs.Syntax.{PrecisionText, SpecText, PositionText, Digits, Word, RawWord, NoPosition}
 use Rattle.rustc_parse_format.specs.Counts.{precision, behind_dot}
 use Rattle.rustc_parse_format.specs.Specification.{align_at, precision_at, type_at, format_text, specification, behind_colon}
 use Rattle.rustc_parse_format.specs.Placeholder.{position, cut}
@@ -43,6 +43,7 @@ specification_number mode c (d ∷ t) =
 number_after_position-le : (c : ℕ) (p : PositionText) → number_after_position c p ≤ c + 1
 number_after_position-le c (Digits ds) = omega arith
 number_after_position-le c (Word w) = omega arith
+number_after_position-le c (RawWord w) = omega arith
 number_after_position-le c NoPosition = omega arith
 
 -- with the opening brace, which stands in front of t

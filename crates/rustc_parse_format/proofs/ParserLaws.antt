@@ -14,8 +14,12 @@ use Rattle.rustc_parse_format.proofs.StateWalks.{after-more}
 use Rattle.rustc_parse_format.specs.Characters.{Text}
 use Rattle.rustc_parse_format.specs.Marks.{Span}
 use Rattle.rustc_parse_format.specs.Types.{Mode, Piece, bare}
-use Rattle.rustc_parse_format.specs.Faults.{Fault, Message, UnmatchedBrace, MissingBrace, FillBrace, Underscore, TooLarge, add_errors, bare_fault, bare_message}
-use Rattle.rustc_parse_format.specs.Faults.{map_fault, message}
+use Rattle.rustc_parse_format.specs.Faults.{Fault, UnmatchedBrace, MissingBrace, FillBrace, Underscore, TooLarge, RawIdentifier, LateFlag}
+use Rattle.rustc_parse_format.specs.Faults.{Message, add_errors, bare_fault, bare_message, is_front, map_fault, message}
+use Rattle.rustc_parse_format.specs.Faults.{MissingColon, LateDebug, LateAlign, Grouping, DebugPrint, LateSign, FieldAccess, TupleIndex}
+use Rattle.rustc_parse_format.specs.Values.{number_after_field}
+use Rattle.rustc_parse_format.specs.Meaning.{argument}
+use Rattle.rustc_parse_format.proofs.Recoveries.{recovery_rest}
 use Rattle.rustc_parse_format.specs.Call.{Call, IsWalk, GoesOn, call, closed_call, unclosed_call, placeholder, faults_of, pieces_of}
 use Rattle.rustc_parse_format.specs.Lines.{IsLines, lines_in, listed, noted, closed_in, closed_places, with_last}
 use Rattle.rustc_parse_format.specs.Literal.{IsSource}
@@ -37,11 +41,12 @@ placeholder_rest mode c b t =
     let a = cut mode t in
     let r : Text = behind_white a.rest in
     let white : IsRest (b ∷ t) r = IsRest-cons b (IsRest-trans (cut_rest mode t) (behind_white_rest a.rest)) in
-    cond_both {A = Call} (begins_with 125 r) (closed_call c (b ∷ t) a r) (unclosed_call c (b ∷ t) a r) (λ k. IsRest (b ∷ t) k.rest)
-    (λ e. IsRest-trans white (behind_first_rest r)) (λ e. white)
+    cond_both {A = Call} (begins_with 125 r) (closed_call c (b ∷ t) a r) (unclosed_call mode c (b ∷ t) a r) (λ k. IsRest (b ∷ t) k.rest)
+    (λ e. IsRest-trans white (behind_first_rest r))
+    (λ e. IsRest-trans white (recovery_rest mode (number_after_field c a.field) (b ∷ t) (argument c a) r))
 
 -- What a call leaves is a rest of its text.
-call_rest : (mode : Mode) (c : ℕ) (t : Text) → IsRest t (call mode c t).rest
+pub call_rest : (mode : Mode) (c : ℕ) (t : Text) → IsRest t (call mode c t).rest
 unfolding call
 call_rest mode c [] = IsRest-self []
 call_rest mode c (b ∷ t) =
@@ -71,6 +76,16 @@ bare_fault-map f (MissingBrace c s o) = refl
 bare_fault-map f (FillBrace c s o) = refl
 bare_fault-map f (Underscore s) = refl
 bare_fault-map f (TooLarge ds s) = refl
+bare_fault-map f (RawIdentifier s p) = refl
+bare_fault-map f (LateFlag c s b) = refl
+bare_fault-map f (MissingColon s) = refl
+bare_fault-map f (LateDebug w s) = refl
+bare_fault-map f (LateAlign c s) = refl
+bare_fault-map f (Grouping s o) = refl
+bare_fault-map f (DebugPrint s o) = refl
+bare_fault-map f (LateSign s) = refl
+bare_fault-map f (FieldAccess s) = refl
+bare_fault-map f (TupleIndex s) = refl
 
 bare_faults-in : (w : World) (fs : List (Fault Span)) → map bare_fault (faults_in w fs) ≡ map bare_fault fs
 bare_faults-in w [] = refl
@@ -83,13 +98,45 @@ bare-message (MissingBrace c s o) = refl
 bare-message (FillBrace c s o) = refl
 bare-message (Underscore s) = refl
 bare-message (TooLarge ds s) = refl
+bare-message (RawIdentifier s p) = refl
+bare-message (LateFlag c s b) = refl
+bare-message (MissingColon s) = refl
+bare-message (LateDebug w s) = refl
+bare-message (LateAlign c s) = refl
+bare-message (Grouping s o) = refl
+bare-message (DebugPrint s o) = refl
+bare-message (LateSign s) = refl
+bare-message (FieldAccess s) = refl
+bare-message (TupleIndex s) = refl
+
+bare-front : {A : Type 0} (f : Fault A) → is_front (bare_fault f) ≡ is_front f
+bare-front (UnmatchedBrace s) = refl
+bare-front (MissingBrace c s o) = refl
+bare-front (FillBrace c s o) = refl
+bare-front (Underscore s) = refl
+bare-front (TooLarge ds s) = refl
+bare-front (RawIdentifier s p) = refl
+bare-front (LateFlag c s b) = refl
+bare-front (MissingColon s) = refl
+bare-front (LateDebug w s) = refl
+bare-front (LateAlign c s) = refl
+bare-front (Grouping s o) = refl
+bare-front (DebugPrint s o) = refl
+bare-front (LateSign s) = refl
+bare-front (FieldAccess s) = refl
+bare-front (TupleIndex s) = refl
+
+bare-added : {A : Type 0} (b : Bool) (es : List (Message A)) (m : Message A) → map bare_message (cond b (m ∷ es) (es ++ m ∷ []))
+    ≡ cond b (bare_message m ∷ map bare_message es) (map bare_message es ++ bare_message m ∷ [])
+bare-added true es m = refl
+bare-added false es m = map-append bare_message es (m ∷ [])
 
 bare_errors : {A : Type 0} (es : List (Message A)) (fs : List (Fault A)) → map bare_message (add_errors es fs)
     ≡ add_errors (map bare_message es) (map bare_fault fs)
 bare_errors es [] = refl
 bare_errors es (f ∷ fs) =
-    bare_errors (es ++ message f ∷ []) fs
-    ∙ ap (λ ms. add_errors ms (map bare_fault fs)) (map-append bare_message es (message f ∷ []) ∙ ap (λ m. map bare_message es ++ m ∷ []) (bare-message f))
+    bare_errors (cond (is_front f) (message f ∷ es) (es ++ message f ∷ [])) fs
+    ∙ ap (λ ms. add_errors ms (map bare_fault fs)) (rw (bare-front f, ← bare-message f) (bare-added (is_front f) es (message f)))
 
 pub after_errors : (s : State) (k : Call) → map bare_message (after s k).errors ≡ add_errors (map bare_message s.errors) (map bare_fault k.faults)
 after_errors s k = bare_errors s.errors (faults_in s.world k.faults) ∙ ap (add_errors (map bare_message s.errors)) (bare_faults-in s.world k.faults)
@@ -100,7 +147,7 @@ bare_given w (Some p) = ap Some (bare-piece_in w p)
 
 add_errors-append : {A : Type 0} (es : List (Message A)) (fs gs : List (Fault A)) → add_errors es (fs ++ gs) ≡ add_errors (add_errors es fs) gs
 add_errors-append es [] gs = refl
-add_errors-append es (f ∷ fs) gs = add_errors-append (es ++ message f ∷ []) fs gs
+add_errors-append es (f ∷ fs) gs = add_errors-append (cond (is_front f) (message f ∷ es) (es ++ message f ∷ [])) fs gs
 
 pub after_all-errors : (s : State) (ks : List Call) → map bare_message (after_all s ks).errors
     ≡ add_errors (map bare_message s.errors) (map bare_fault (faults_of ks))
@@ -252,7 +299,7 @@ later P s k ks g f = by_piece k.piece g
     by_piece None e = rw e tt
     by_piece (Some p) w = f w
 
-rest_after : (s : State) (k : Call) → IsRest s.input s.rest → k ≡ next_call s → IsRest s.input k.rest
+pub rest_after : (s : State) (k : Call) → IsRest s.input s.rest → k ≡ next_call s → IsRest s.input k.rest
 rest_after s k r e = rw e (IsRest-trans r (call_rest s.mode s.next s.rest))
 
 pub walk_reads_back : (s : State) (ks : List Call) (style : Option ℕ) (snippet : Text) (appended : Bool) → IsRest s.input s.rest →
@@ -289,7 +336,7 @@ world-end input style (Some snippet) b = by_test (is_source input style (Some sn
     by_test false v w h = refl
 
 -- The same of a fresh parser p, and of the parser new after its last call.
-from_source : (mode : Mode) (input : Text) (style : Option ℕ) (snippet : Option Text) (source : Text) (appended : Bool) → snippet ≡ Some source →
+pub from_source : (mode : Mode) (input : Text) (style : Option ℕ) (snippet : Option Text) (source : Text) (appended : Bool) → snippet ≡ Some source →
     IsSource input style source appended → ComesFrom (first_state mode input style snippet appended) style source appended
 from_source mode input style snippet source appended e h = record { is_source = h; world_is = ap (λ (o : Option Text). world input style o appended) e }
 

@@ -1,49 +1,90 @@
 -- The position, the counts, the width and the precision that computing gives are those that are written.
 use Prim.Native.Char.{code}
-use Rattle.std.proofs.Common.{◌≡◌, ◌++◌, Bool, true, false, [], ◌∷◌, refl, ◌∙◌, ap, codes}
+use Rattle.std.proofs.Common.{◌≡◌, ◌++◌, Bool, true, false, [], ◌∷◌, refl, sym, ◌∙◌, ap, codes}
 use Rattle.std.specs.Prelude.{◌==◌, ◌||◌, ◌&&◌}
 use Rattle.std.specs.Char.{is_ascii_digit}
-use Rattle.std.proofs.lemmas.Bool.{cond_both, cond-true, cond-false, and_left, and_right, or_from, or_parts, not-true, false≢true, eqb-true}
-use Rattle.rustc_parse_format.specs.Characters.{Text, is_id_start, word, behind_word, digits, behind_digits, begins_with, first_passes}
+use Rattle.std.proofs.lemmas.Bool.{cond_both, cond-true, cond-false, and_left, and_parts, and_right, or_from, or_parts, not-true, false≢true, eqb-true}
+use Rattle.std.proofs.lemmas.Bool.{false_from_ne_true}
+use Rattle.unicode_ident.proofs.Computing.{unicode_ident}
+use Rattle.rustc_parse_format.specs.Characters.{Text, is_id_start, word, behind_word, digits, behind_digits, begins_with, begins_raw, behind_prefix}
+use Rattle.rustc_parse_format.specs.Characters.{first_passes}
 use Rattle.rustc_parse_format.specs.Spelling.{IsPart, fixed, unless, absent, integer, identifier}
 use Rattle.rustc_parse_format.specs.Syntax.{CountText, NumberCount, IndexCount, NameCount, NoCount, name_part, count_part, WidthText, PaddedWidth}
 use Rattle.rustc_parse_format.specs.Syntax.{ZeroIndexWidth, PlainWidth, width_part, PrecisionText, NoPrecision, StarPrecision, DotPrecision, precision_part}
-use Rattle.rustc_parse_format.specs.Syntax.{PositionText, Digits, Word, NoPosition, position_part}
+use Rattle.rustc_parse_format.specs.Syntax.{PositionText, Digits, Word, RawWord, NoPosition, position_part}
 use Rattle.rustc_parse_format.specs.Counts.{behind_number, behind_name, count, counted, behind_zero, width, behind_dot, precision}
-use Rattle.rustc_parse_format.specs.Placeholder.{position}
+use Rattle.rustc_parse_format.specs.Placeholder.{raw_word, position}
 use Rattle.rustc_parse_format.proofs.PartLaws.{Finds, IsPart-moved, unless-there, absent-same, absent-here, fixed-there, letter-there, row-two, two-split}
 use Rattle.rustc_parse_format.proofs.PartNames.{begins_count, named-identifier, no_count-here, no_count-read}
 use Rattle.rustc_parse_format.proofs.PartFronts.{integer-sound, integer-complete, identifier-sound, identifier-complete, start-no_digit}
 
 -- positions
+raw-sound : (t : Text) → begins_raw t ≡ true → IsPart t (position_part (raw_word (behind_prefix t)).0) (raw_word (behind_prefix t)).1
+raw-sound [] e = absurd (false≢true e)
+raw-sound (c ∷ []) e = absurd (false≢true (and_parts (c == code "r") false e).1)
+raw-sound (c ∷ d ∷ []) e = absurd (false≢true (and_parts (d == code "#") false (and_parts (c == code "r") _ e).1).1)
+raw-sound (c ∷ d ∷ i ∷ t) e =
+    let later = and_parts (d == code "#") (is_id_start i) (and_parts (c == code "r") _ e).1 in
+    let letter = eqb-true c (code "r") (and_parts (c == code "r") _ e).0 in
+    let hash = eqb-true d (code "#") later.0 in
+    row-two (c ∷ d ∷ i ∷ t) (i ∷ t) (fixed (codes "r#")) (identifier (word (i ∷ t))) (behind_word (i ∷ t))
+    (IsPart-moved _ (codes "r#" ++ i ∷ t) _ (i ∷ t) (ap (λ x. x ∷ d ∷ i ∷ t) letter ∙ ap (λ x. code "r" ∷ x ∷ i ∷ t) hash) (fixed-there (codes "r#") (i ∷ t)))
+    (identifier-sound i t later.1)
+
 position-sound : (t : Text) → IsPart t (position_part (position t).0) (position t).1
 position-sound [] = record { whole = refl; formed = refl; ends = refl }
 position-sound (c ∷ t) =
     cond_both {A = PositionText × Text} (is_ascii_digit c) _ _ (λ x. IsPart (c ∷ t) (position_part x.0) x.1)
     (λ d. integer-sound c t d)
-    (λ d. cond_both {A = PositionText × Text} (is_id_start c) _ _ (λ x. IsPart (c ∷ t) (position_part x.0) x.1)
-    (λ i. identifier-sound c t i)
-    (λ i. absent-here (c ∷ t) _ (or_from _ _ d i)))
+    (λ d. cond_both {A = PositionText × Text} (begins_raw (c ∷ t)) _ _ (λ x. IsPart (c ∷ t) (position_part x.0) x.1)
+    (λ r. raw-sound (c ∷ t) r)
+    (λ r. cond_both {A = PositionText × Text} (is_id_start c) _ _ (λ x. IsPart (c ∷ t) (position_part x.0) x.1)
+    (λ i. row-two (c ∷ t) (c ∷ t) (absent begins_raw) (identifier (word (c ∷ t))) (behind_word (c ∷ t)) (absent-here (c ∷ t) begins_raw r)
+    (identifier-sound c t i))
+    (λ i. absent-here (c ∷ t) (λ u. first_passes is_ascii_digit u || first_passes is_id_start u) (or_from _ _ d i))))
 
 position-digits : (t : Text) → first_passes is_ascii_digit t ≡ true → position t ≡ (Digits (digits t), behind_digits t)
 position-digits [] e = absurd (false≢true e)
 position-digits (c ∷ t) e = cond-true (is_ascii_digit c) _ _ e
 
-position-word : (t : Text) → first_passes is_id_start t ≡ true → position t ≡ (Word (word t), behind_word t)
-position-word [] e = absurd (false≢true e)
-position-word (c ∷ t) e = cond-false (is_ascii_digit c) _ _ (start-no_digit c e) ∙ cond-true (is_id_start c) _ _ e
+position-word : (t : Text) → begins_raw t ≡ false → first_passes is_id_start t ≡ true → position t ≡ (Word (word t), behind_word t)
+position-word [] n e = absurd (false≢true e)
+position-word (c ∷ t) n e =
+    cond-false (is_ascii_digit c) _ _ (start-no_digit c e) ∙ (cond-false (begins_raw (c ∷ t)) _ _ n ∙ cond-true (is_id_start c) _ _ e)
+
+position-raw : (t : Text) → first_passes is_id_start t ≡ true → position (codes "r#" ++ t) ≡ raw_word t
+position-raw [] e = absurd (false≢true e)
+position-raw (c ∷ t) e = cond-true (is_id_start c) _ _ e
+
+letter-starts : is_id_start (code "r") ≡ true
+unfolding unicode_ident
+letter-starts = refl
+
+-- where no word begins, no raw one does
+no_word-no_raw : (t : Text) → first_passes is_id_start t ≡ false → begins_raw t ≡ false
+no_word-no_raw [] e = refl
+no_word-no_raw (c ∷ t) e =
+    and_left _ _ (false_from_ne_true (c == code "r") (λ h. false≢true (sym e ∙ (ap is_id_start (eqb-true c (code "r") h) ∙ letter-starts))))
 
 position-none : (t : Text) → (first_passes is_ascii_digit t || first_passes is_id_start t) ≡ false → position t ≡ (NoPosition, t)
 position-none [] e = refl
-position-none (c ∷ t) e = cond-false (is_ascii_digit c) _ _ (or_parts _ _ e).0 ∙ cond-false (is_id_start c) _ _ (or_parts _ _ e).1
+position-none (c ∷ t) e =
+    let both = or_parts _ _ e in
+    cond-false (is_ascii_digit c) _ _ both.0 ∙ (cond-false (begins_raw (c ∷ t)) _ _ (no_word-no_raw (c ∷ t) both.1) ∙ cond-false (is_id_start c) _ _ both.1)
 
 position-complete : (t : Text) (p : PositionText) (r : Text) → IsPart t (position_part p) r → position t ≡ (p, r)
 position-complete t (Digits ds) r h =
     let k = integer-complete t ds r h in
     position-digits t k.digit ∙ (ap (λ u. (Digits u, behind_digits t)) k.read ∙ ap (λ u. (Digits ds, u)) k.behind)
 position-complete t (Word w) r h =
-    let k = identifier-complete t w r h in
-    position-word t k.first_passes ∙ (ap (λ u. (Word u, behind_word t)) k.read ∙ ap (λ u. (Word w, u)) k.behind)
+    let s = two-split t (absent begins_raw) (identifier w) r h in
+    let k = identifier-complete s.seam w r s.second in
+    ap position (absent-same t begins_raw s.seam s.first)
+    ∙ (position-word s.seam (not-true _ s.first.ends) k.first_passes ∙ (ap (λ u. (Word u, behind_word s.seam)) k.read ∙ ap (λ u. (Word w, u)) k.behind))
+position-complete t (RawWord w) r h =
+    let s = two-split t (fixed (codes "r#")) (identifier w) r h in
+    let k = identifier-complete s.seam w r s.second in
+    ap position s.first.whole ∙ (position-raw s.seam k.first_passes ∙ (ap (λ u. (RawWord u, behind_word s.seam)) k.read ∙ ap (λ u. (RawWord w, u)) k.behind))
 position-complete t NoPosition r h = ap position (absent-same t _ r h) ∙ position-none r (not-true _ h.ends)
 
 pub position-finds : Finds position_part position

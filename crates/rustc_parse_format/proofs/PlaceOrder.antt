@@ -2,33 +2,52 @@
 -- moves the start of the line at most at its first character.
 use Prim.Native.Char.{code}
 use Rattle.std.proofs.Common.{◌≡◌, ℕ, suc, zero, ◌+◌, ◌-◌, ◌<◌, ◌≤◌, ◌++◌, ◌==◌, Bool, true, false, not, List, [], ◌∷◌, length, map, get_or}
-use Rattle.std.proofs.Common.{Option, Some, None, unwrap_or, refl, ap, ◌∙◌, arith, length-append}
+use Rattle.std.proofs.Common.{Option, Some, None, refl, ap, arith, inl, inr, ◌⊎◌}
 use Rattle.std.specs.List.{list_all}
 use Rattle.std.specs.Char.{len_utf8}
 use Rattle.std.proofs.lemmas.Str.{len_utf8_bounds}
-use Rattle.std.proofs.lemmas.List.{length-map}
 use Rattle.std.proofs.lemmas.Bool.{and_parts, and_from}
 use Rattle.rustc_parse_format.specs.Characters.{Text, byte_length}
 use Rattle.rustc_parse_format.specs.LiteralUnits.{LiteralUnit, Plain, SimpleEscape, ByteEscape, UnicodeEscape, Continuation}
 use Rattle.rustc_parse_format.specs.LiteralUnits.{spelling, value, escaped, at_most_one}
-use Rattle.rustc_parse_format.specs.Literal.{placed_characters, content_value, units, newline, IsSource}
-use Rattle.rustc_parse_format.specs.Source.{between}
-use Rattle.rustc_parse_format.specs.World.{World, Place, plain_places, content_places, last_stop, newline_places, ordinary_end, ordinary_world}
-use Rattle.rustc_parse_format.specs.World.{literal_world, quote_offset, place_at}
-use Rattle.rustc_parse_format.specs.Call.{marked}
+use Rattle.rustc_parse_format.specs.Literal.{placed_characters, content_value, newline}
+use Rattle.rustc_parse_format.specs.World.{World, Place, plain_places, content_places, last_stop, newline_places, ordinary_world}
+use Rattle.rustc_parse_format.specs.World.{place_at}
+use Rattle.rustc_parse_format.specs.Marks.{marked}
 use Rattle.rustc_parse_format.specs.Lines.{noted}
 use Rattle.rustc_parse_format.proofs.LiteralWidths.{width-cons}
-use Rattle.rustc_parse_format.proofs.LiteralContents.{some_length, units-complete}
-use Rattle.rustc_parse_format.proofs.Places.{length-plain_places}
-use Rattle.rustc_parse_format.proofs.Sources.{between-frame}
+use Rattle.rustc_parse_format.proofs.LiteralContents.{some_length}
 use Rattle.rustc_parse_format.proofs.LineLaws.{has_no_newline, has_no_indent, indent-no}
+
+-- A unit has at least a byte,
+some_bytes : (t : Text) → 0 < length t → 0 < byte_length t
+some_bytes [] h = absurd (omega arith)
+some_bytes (c ∷ t) h = let width = len_utf8_bounds c in omega (arith, width-cons c t)
+
+pub unit_bytes : (u : LiteralUnit) → 0 < byte_length (spelling u)
+unit_bytes u = some_bytes (spelling u) (some_length u)
+
+-- and stands for one character or for none.
+abbrev pub IsOneOrNone : Text → Type 0
+IsOneOrNone t = (t ≡ []) ⊎ ((c : ℕ) × (t ≡ c ∷ []))
+
+option-one : (o : Option ℕ) → IsOneOrNone (at_most_one o)
+option-one None = inl refl
+option-one (Some c) = inr (c, refl)
+
+pub one_or_none : (u : LiteralUnit) → IsOneOrNone (value u)
+one_or_none (Plain c) = inr (c, refl)
+one_or_none (SimpleEscape l) = option-one (escaped l)
+one_or_none (ByteEscape h l) = inr (_, refl)
+one_or_none (UnicodeEscape w) = inr (_, refl)
+one_or_none (Continuation w) = inl refl
 
 -- From a byte on, each place starts no earlier than where the one before it ended, and ends after it starts.
 abbrev pub InOrder : ℕ → List Place → Type 0
 InOrder b [] = Unit {0}
 InOrder b (p ∷ ps) = (b ≤ p.0) × (p.0 < p.1) × InOrder p.1 ps
 
-in_order-earlier : (a b : ℕ) (ps : List Place) → a ≤ b → InOrder b ps → InOrder a ps
+pub in_order-earlier : (a b : ℕ) (ps : List Place) → a ≤ b → InOrder b ps → InOrder a ps
 in_order-earlier a b [] h o = tt
 in_order-earlier a b (p ∷ ps) h (starts, ends, rest) = (omega arith, ends, rest)
 
@@ -37,36 +56,17 @@ pub plain-in_order : (q : ℕ) (t : Text) → InOrder q (plain_places q t)
 plain-in_order q [] = tt
 plain-in_order q (c ∷ t) = let width = len_utf8_bounds c in (omega arith, omega arith, plain-in_order (q + len_utf8 c) t)
 
--- those of a content, whose units have a byte and stand for a character at most,
-some_bytes : (t : Text) → 0 < length t → 0 < byte_length t
-some_bytes [] h = absurd (omega arith)
-some_bytes (c ∷ t) h = let width = len_utf8_bounds c in omega (arith, width-cons c t)
-
-pub unit_bytes : (u : LiteralUnit) → 0 < byte_length (spelling u)
-unit_bytes u = some_bytes (spelling u) (some_length u)
-
-at_most_one-length : (o : Option ℕ) → length (at_most_one o) ≤ 1
-at_most_one-length None = omega arith
-at_most_one-length (Some c) = omega arith
-
-value-length : (u : LiteralUnit) → length (value u) ≤ 1
-value-length (Plain c) = omega arith
-value-length (SimpleEscape l) = at_most_one-length (escaped l)
-value-length (ByteEscape h l) = omega arith
-value-length (UnicodeEscape w) = omega arith
-value-length (Continuation w) = omega arith
-
-unit-in_order : (q e : ℕ) (v : Text) (ps : List (Place × ℕ)) → q < e → length v ≤ 1 → InOrder e (map (λ (x : Place × ℕ). x.0) ps) →
+-- those of a content,
+unit-in_order : (q e : ℕ) (v : Text) (ps : List (Place × ℕ)) → q < e → IsOneOrNone v → InOrder e (map (λ (x : Place × ℕ). x.0) ps) →
     InOrder q (map (λ (x : Place × ℕ). x.0) (map (λ c. ((q, e), c)) v ++ ps))
-unit-in_order q e [] ps h n o = in_order-earlier q e (map (λ (x : Place × ℕ). x.0) ps) (omega arith) o
-unit-in_order q e (c ∷ []) ps h n o = (omega arith, h, o)
-unit-in_order q e (c ∷ d ∷ v) ps h n o = absurd (omega arith)
+unit-in_order q e v ps h (inl z) o = rw z (in_order-earlier q e (map (λ (x : Place × ℕ). x.0) ps) (omega arith) o)
+unit-in_order q e v ps h (inr (c, z)) o = rw z (omega arith, h, o)
 
 pub content-in_order : (q : ℕ) (us : List LiteralUnit) → InOrder q (content_places q us)
 content-in_order q [] = tt
 content-in_order q (u ∷ us) =
     let bytes = unit_bytes u in
-    unit-in_order q (q + byte_length (spelling u)) (value u) (placed_characters (q + byte_length (spelling u)) us) (omega arith) (value-length u)
+    unit-in_order q (q + byte_length (spelling u)) (value u) (placed_characters (q + byte_length (spelling u)) us) (omega arith) (one_or_none u)
     (content-in_order (q + byte_length (spelling u)) us)
 
 -- and those with an appended newline stand in order.
@@ -80,11 +80,6 @@ appended-in_order q (p ∷ ps) appended (starts, ends, rest) = (starts, ends, ap
 
 pub ordinary-in_order : (us : List LiteralUnit) (appended : Bool) → InOrder 1 (ordinary_world us appended).places
 ordinary-in_order us appended = appended-in_order 1 (content_places 1 us) appended (content-in_order 1 us)
-
-literal-in_order : (input : Text) (style : Option ℕ) (snippet : Text) (appended : Bool) →
-    InOrder (quote_offset style) (literal_world input style snippet appended).places
-literal-in_order input None snippet appended = ordinary-in_order (unwrap_or (units (between snippet)) []) appended
-literal-in_order input (Some n) snippet appended = plain-in_order (n + 2) input
 
 -- Two places that stand in order, by index,
 get-from : (b : ℕ) (ps : List Place) (d : Place) (j : ℕ) → InOrder b ps → j < length ps → b ≤ (get_or ps j d).0
@@ -136,40 +131,11 @@ behind-no_indent w start (c ∷ u) r h =
 pub length-content_places : (q : ℕ) (us : List LiteralUnit) → length (content_places q us) ≡ length (content_value us)
 length-content_places q [] = refl
 length-content_places q (u ∷ us) =
-    let e = q + byte_length (spelling u) in
-    let place : ℕ → Place × ℕ = λ c. ((q, e), c) in
-    let placed : List (Place × ℕ) = map place (value u) in
-    let rest : List (Place × ℕ) = placed_characters e us in
-    omega (
-      arith,
-      length-map (placed ++ rest) (λ (x : Place × ℕ). x.0),
-      length-append placed rest,
-      length-map (value u) place,
-      length-map rest (λ (x : Place × ℕ). x.0),
-      length-content_places e us,
-      length-append (value u) (content_value us),
-    )
+    elim (one_or_none u) [
+      | inl z ↦ rw z (length-content_places (q + byte_length (spelling u)) us)
+      | inr (c, z) ↦ rw z (ap suc (length-content_places (q + byte_length (spelling u)) us))
+    ]
 
 pub length-newline : (e : ℕ) (appended : Bool) → length (newline_places e appended) ≡ length (newline appended)
 length-newline e true = refl
 length-newline e false = refl
-
-length-ordinary : (us : List LiteralUnit) (appended : Bool) →
-    length (ordinary_world us appended).places ≡ length (content_value us ++ newline appended)
-length-ordinary us appended =
-    omega (
-      arith,
-      length-append (content_places 1 us) (newline_places (ordinary_end us) appended),
-      length-content_places 1 us,
-      length-newline (ordinary_end us) appended,
-      length-append (content_value us) (newline appended),
-    )
-
-length-literal : (input : Text) (style : Option ℕ) (snippet : Text) (appended : Bool) → IsSource input style snippet appended →
-    length (literal_world input style snippet appended).places ≡ length input
-length-literal input None snippet appended (t, (content, us, framed, is, stands), whole) =
-    let found : units (between snippet) ≡ Some us =
-    ap (λ s. units (between s)) framed ∙ (ap units (between-frame content) ∙ units-complete content us is) in
-    ap (λ (o : Option (List LiteralUnit)). length (ordinary_world (unwrap_or o []) appended).places) found
-    ∙ (length-ordinary us appended ∙ ap length (ap (λ s. s ++ newline appended) stands ∙ whole))
-length-literal input (Some n) snippet appended h = length-plain_places (n + 2) input

@@ -1,22 +1,27 @@
 -- A placeholder, part by part.
-use Rattle.std.proofs.Common.{◌≡◌, ◌++◌, ◌==◌, ℕ, Bool, true, false, ◌&&◌, cond, List, [], ◌∷◌, length, Option, Some, None, map, refl, sym, ap, ◌∙◌}
-use Rattle.std.proofs.Common.{append_assoc}
+use Rattle.std.proofs.Common.{◌≡◌, ◌≢◌, ◌+◌, ◌≤◌, ◌++◌, ◌==◌, ℕ, Bool, true, false, cond, [], ◌∷◌, length, arith, Option, Some, None, refl, sym, ap}
+use Rattle.std.proofs.Common.{◌∙◌, append_assoc}
 use Rattle.std.specs.Prelude.{if◌then◌else◌, option_map}
-use Rattle.std.proofs.lemmas.Bool.{cond_both}
-use Rattle.std.proofs.lemmas.List.{append-nil, map-append}
-use Rattle.rustc_parse_format.specs.Characters.{Text, is_brace, behind_white, behind_brace, behind_first, begins_with, first}
+use Rattle.std.proofs.lemmas.Bool.{cond_both, cond-true, cond-false}
+use Rattle.rustc_parse_format.specs.Characters.{Text, is_brace, behind_white, behind_first, begins_with, first}
 use Rattle.rustc_parse_format.specs.Marks.{Span, Start, End, up_to, through, over_first}
-use Rattle.rustc_parse_format.specs.Types.{Mode, Spec, NextArgument, map_spec}
+use Rattle.rustc_parse_format.specs.Types.{Mode, Spec, Argument, NextArgument, map_spec, map_argument}
 use Rattle.rustc_parse_format.specs.Placeholder.{cut}
 use Rattle.rustc_parse_format.specs.Values.{number_after_field}
-use Rattle.rustc_parse_format.specs.Meaning.{argument}
+use Rattle.rustc_parse_format.specs.Meaning.{argument, spec_texts}
 use Rattle.rustc_parse_format.specs.Faults.{Fault, map_fault, brace_fill, no_brace}
 use Rattle.rustc_parse_format.specs.PartFaults.{cut_faults}
-use Rattle.rustc_parse_format.specs.Call.{Call, GivesNoArgument, GivesAtMostText, call, placeholder, spec_texts, unclosed_fault}
-use Rattle.rustc_parse_format.specs.Midway.{Midway, closed_then, read_call, read_texts, read_to}
+use Rattle.rustc_parse_format.specs.Recovery.{recovery}
+use Rattle.rustc_parse_format.specs.Call.{Call, GivesNoArgument, GivesAtMostText, call, placeholder, unclosed_call, unclosed_fault}
+use Rattle.rustc_parse_format.specs.Midway.{Midway, behind_closing, closed_then, read_call, read_texts, read_to, recovered}
 use Rattle.rustc_parse_format.specs.Lines.{closed_in}
+use Rattle.rustc_parse_format.proofs.Numbers.{number_after_field-le}
+use Rattle.rustc_parse_format.proofs.Rests.{IsRest-le, behind_white_rest}
+use Rattle.rustc_parse_format.proofs.Recoveries.{Recovers}
+use Rattle.rustc_parse_format.proofs.Readers.{read_three}
+use Rattle.rustc_parse_format.proofs.LineLaws.{read_texts-append}
 use Rattle.rustc_parse_format.proofs.StateLines.{closed_in-none}
-use Rattle.rustc_parse_format.specs.World.{World, Place, number_of, place_at, place_of, faults_in}
+use Rattle.rustc_parse_format.specs.World.{World, Place, number_of, place_at, place_of}
 
 -- what stands where the closing brace should
 abbrev pub ending : Mode → Text → Text
@@ -27,28 +32,7 @@ unfolding placeholder
 placeholder-piece mode c o t = cond_both {A = Call} (begins_with 125 (ending mode t)) _ _ (λ k. k.piece ≡ Some (NextArgument (argument c (cut mode t))))
     (λ e. refl) (λ e. refl)
 
-pub placeholder-next : (mode : Mode) (c : ℕ) (o t : Text) → (placeholder mode c o t).next ≡ number_after_field c (cut mode t).field
-unfolding placeholder
-placeholder-next mode c o t = cond_both {A = Call} (begins_with 125 (ending mode t)) _ _ (λ k. k.next ≡ number_after_field c (cut mode t).field) (λ e. refl)
-    (λ e. refl)
-
-same_rest : (b : Bool) (x y : Call) → (cond b x y).rest ≡ cond b x.rest y.rest
-same_rest true x y = refl
-same_rest false x y = refl
-
-pub placeholder-rest : (mode : Mode) (c : ℕ) (o t : Text) → (placeholder mode c o t).rest ≡ behind_brace (ending mode t)
-unfolding placeholder
-placeholder-rest mode c o t = same_rest (begins_with 125 (ending mode t)) _ _
-
-same_faults : (b : Bool) (x y : Call) (fs : List (Fault Span)) (f : Fault Span) → x.faults ≡ fs → y.faults ≡ fs ++ f ∷ [] → (cond b x y).faults
-    ≡ fs ++ (if b then [] else f ∷ [])
-same_faults true x y fs f e h = e ∙ sym (append-nil fs)
-same_faults false x y fs f e h = h
-
-pub placeholder-faults : (mode : Mode) (c : ℕ) (o t : Text) → (placeholder mode c o t).faults
-    ≡ cut_faults (cut mode t) ++ (if begins_with 125 (ending mode t) then [] else unclosed_fault o (argument c (cut mode t)).format (ending mode t) ∷ [])
-unfolding placeholder
-placeholder-faults mode c o t = same_faults (begins_with 125 (ending mode t)) _ _ (cut_faults (cut mode t)) _ refl refl
+pub ruleset placeholder_given = (placeholder-piece)
 
 map-if : {A B : Type 0} (g : A → B) (b : Bool) (s : Option A) → option_map g (if b then s else None) ≡ (if b then option_map g s else None)
 map-if g true s = refl
@@ -71,42 +55,12 @@ unclosed_fault_in w o f r seen e =
     rw e (no_brace-map (place_of w) (brace_fill f.fill f.fill_span) (first r) (up_to r r) (over_first o) ∙
     ap (λ s. no_brace s (first r) (place_of w (up_to r r)) (place_of w (over_first o))) (brace_fill-map (place_of w) f.fill f.fill_span))
 
-map-else : {A B : Type 0} (g : A → B) (b : Bool) (x : A) → map g (if b then [] else x ∷ []) ≡ (if b then [] else g x ∷ [])
-map-else g true x = refl
-map-else g false x = refl
-
-same_texts : (b : Bool) (x y : Call) (cs : List (ℕ × ℕ)) → x.texts ≡ cs → y.texts ≡ cs → (cond b x y).texts ≡ cs
-same_texts true x y cs e h = e
-same_texts false x y cs e h = h
-
-pub placeholder-texts : (mode : Mode) (c : ℕ) (o t : Text) → (placeholder mode c o t).texts ≡ spec_texts (cut mode t).field.spec (cut mode t).rest
-unfolding placeholder
-placeholder-texts mode c o t = same_texts (begins_with 125 (ending mode t)) _ _ (spec_texts (cut mode t).field.spec (cut mode t).rest) refl refl
-
-same_closes : (b : Bool) (x y : Call) (s : Span) → x.closes ≡ Some s → y.closes ≡ None → (cond b x y).closes ≡ (if b then Some s else None)
-same_closes true x y s e h = e
-same_closes false x y s e h = h
-
-pub placeholder-closes : (mode : Mode) (c : ℕ) (o t : Text) → (placeholder mode c o t).closes
-    ≡ (if begins_with 125 (ending mode t) then Some (through o (ending mode t)) else None)
-unfolding placeholder
-placeholder-closes mode c o t = same_closes (begins_with 125 (ending mode t)) _ _ (through o (ending mode t)) refl refl
-
--- the place of what was closed
-closed_where : (b h : Bool) (old : Option Place) (s : Span) (w : World) (p : Place) → w.has_source ≡ h → p ≡ place_of w s →
-    (if b && h then Some p else old) ≡ closed_then old (closed_in w (if b then Some s else None))
+-- the place of what a brace closed
+pub closed_where : (h : Bool) (old : Option Place) (s : Span) (w : World) (p : Place) → w.has_source ≡ h → p ≡ place_of w s →
+    (if h then Some p else old) ≡ closed_then old (closed_in w (Some s))
 unfolding place_at
-closed_where true true old s w p e f = rw (e, f) refl
-closed_where true false old s w p e f = rw e refl
-closed_where false h old s w p e f = rw (closed_in-none w) refl
-
--- what a reader stands at after the closing brace, or where its fault is noted
-abbrev pub behind_closing : Option Place → Place → Midway → Midway
-behind_closing fill opening s = record s {
-  rest = behind_brace s.rest;
-  closed = if begins_with 125 s.rest && s.world.has_source then Some (opening.0, number_of s.world (End (length s.rest))) else s.closed;
-  faults = s.faults ++ (if begins_with 125 s.rest then [] else no_brace fill (first s.rest) (place_of s.world (up_to s.rest s.rest)) opening ∷ []);
-}
+closed_where true old s w p e f = rw (e, f) refl
+closed_where false old s w p e f = rw e refl
 
 -- after the argument of a placeholder and white space
 abbrev pub behind_argument : Midway → Mode → Text → Midway
@@ -114,36 +68,74 @@ behind_argument s mode t =
     read_texts (read_to s (ending mode t) (number_after_field s.next (cut mode t).field) (cut_faults (cut mode t)))
     (spec_texts (cut mode t).field.spec (cut mode t).rest)
 
-same_found : (s : Midway) (r : Text) (fs gs : List (Fault Place)) (x y : Option Place) → fs ≡ gs → x ≡ y →
-    ◌≡◌ {A = Midway} (record s { rest = r; faults = fs; closed = x }) (record s { rest = r; faults = gs; closed = y })
-same_found s r fs gs x y e f = rw (e, f) refl
+-- Where the closing brace stands, it is taken,
+pub brace-closes : (s new : Midway) (mode : Mode) (opening : Place) → begins_with 125 s.rest ≡ true →
+    new ≡ record s {
+      rest = behind_first s.rest;
+      closed = if s.world.has_source then Some (opening.0, number_of s.world (End (length s.rest))) else s.closed;
+    } → (o : Text) (a : Argument Span) → opening ≡ place_of s.world (over_first o) → new ≡ behind_closing mode o a s
+brace-closes s new mode opening b e o a f =
+    let at : opening.0 ≡ number_of s.world (Start (length o)) = ap (λ (p : Place). p.0) f in
+    let here : (opening.0, number_of s.world (End (length s.rest))) ≡ place_of s.world (through o s.rest) =
+    ap (λ (n : ℕ). (n, number_of s.world (End (length s.rest)))) at in
+    e ∙ (ap (λ (p : Option Place). record s { rest = behind_first s.rest; closed = p })
+    (closed_where s.world.has_source s.closed (through o s.rest) s.world _ refl here)
+    ∙ sym (cond-true (begins_with 125 s.rest) _ _ b))
 
--- A placeholder is read part by part: its argument, white space, and the closing brace or the fault where none is.
-pub placeholder_read : (s : Midway) (mode : Mode) (o t : Text) (fill : Option Place) (opening : Place) →
-    opening.0 ≡ number_of s.world (Start (length o)) →
-    no_brace fill (first (ending mode t)) (place_of s.world (up_to (ending mode t) (ending mode t))) opening
-    ≡ map_fault (place_of s.world) (unclosed_fault o (argument s.next (cut mode t)).format (ending mode t)) →
-    behind_closing fill opening (behind_argument s mode t) ≡ read_call s (placeholder mode s.next o t)
-placeholder_read s mode o t fill opening at e =
+-- and where it is missing, its fault is noted, and the recovery is read.
+pub missing-closes : (s x new : Midway) (mode : Mode) (opening : Place) (seen : Argument Place) → begins_with 125 s.rest ≡ false →
+    x ≡ record s {
+      faults = s.faults ++ no_brace (brace_fill seen.format.fill seen.format.fill_span) (first s.rest) (place_of s.world (up_to s.rest s.rest)) opening ∷ [];
+    } → Recovers x mode opening seen new →
+    (o : Text) (a : Argument Span) → opening ≡ place_of s.world (over_first o) → seen ≡ map_argument (place_of s.world) a → new ≡ behind_closing mode o a s
+missing-closes s x new mode opening seen b e h o a f g =
+    let k = rw e at h in
+    let fault = unclosed_fault_in s.world o a.format s.rest seen.format (ap (λ (v : Argument Place). v.format) g) in
+    k o a f g ∙ (ap (λ (z : Fault Place). recovered (record s { faults = s.faults ++ z ∷ [] }) (recovery mode s.next o a s.rest))
+    (ap (λ p. no_brace (brace_fill seen.format.fill seen.format.fill_span) (first s.rest) (place_of s.world (up_to s.rest s.rest)) p) f ∙ sym fault)
+    ∙ sym (cond-false (begins_with 125 s.rest) _ _ b))
+
+read_either : (s : Midway) (b : Bool) (x y : Midway) (k j : Call) → x ≡ read_call s k → y ≡ read_call s j → cond b x y ≡ read_call s (cond b k j)
+read_either s true x y k j e f = e
+read_either s false x y k j e f = f
+
+unclosed_read : (s : Midway) (mode : Mode) (o t : Text) →
+    (let f = unclosed_fault o (argument s.next (cut mode t)).format (ending mode t) in
+    let c = number_after_field s.next (cut mode t).field in
+    recovered (read_to (behind_argument s mode t) (ending mode t) c (f ∷ [])) (recovery mode c o (argument s.next (cut mode t)) (ending mode t)))
+    ≡ read_call s (unclosed_call mode s.next o (cut mode t) (ending mode t))
+unclosed_read s mode o t =
+    let a = cut mode t in
     let r = ending mode t in
-    let seen = map_fault (place_of s.world) in
-    let m = unclosed_fault o (argument s.next (cut mode t)).format r in
-    let cs = cut_faults (cut mode t) in
-    let all = map-append seen cs _ ∙ ap (λ fs. faults_in s.world cs ++ fs) (map-else seen (begins_with 125 r) m) in
-    let faults = append_assoc s.faults (faults_in s.world cs) _ ∙ ap (λ fs. s.faults ++ fs) (sym all) in
-    let here : (opening.0, number_of s.world (End (length r))) ≡ place_of s.world (through o r) = ap (λ (n : ℕ). (n, number_of s.world (End (length r)))) at in
-    let closed = closed_where (begins_with 125 r) s.world.has_source s.closed (through o r) s.world _ refl here in
-    rw (
-      e,
-      placeholder-rest mode s.next o t,
-      placeholder-next mode s.next o t,
-      placeholder-faults mode s.next o t,
-      placeholder-texts mode s.next o t,
-      placeholder-closes mode s.next o t,
-    )
-    (same_found (behind_argument s mode t) (behind_brace r) _ _ _ _ faults closed)
+    let c = number_after_field s.next a.field in
+    let f = unclosed_fault o (argument s.next a).format r in
+    let k = recovery mode c o (argument s.next a) r in
+    let ts = spec_texts a.field.spec a.rest in
+    rw (closed_in-none s.world)
+    (ap (λ (x : Midway). read_texts (read_texts x ts) k.texts) (read_three s r r k.rest c c k.next (cut_faults a) (f ∷ []) k.faults)
+    ∙ (ap (λ fs. read_texts (read_texts (read_to s k.rest k.next fs) ts) k.texts) (append_assoc (cut_faults a) (f ∷ []) k.faults)
+    ∙ sym (read_texts-append (read_to s k.rest k.next (cut_faults a ++ f ∷ k.faults)) ts k.texts)))
 
-pub ruleset placeholder_parts = (placeholder-piece, placeholder-next, placeholder-rest, placeholder-faults, placeholder-texts, placeholder-closes)
+-- A placeholder is read part by part: its argument, white space, and the closing brace, or its fault and the recovery.
+pub placeholder_read : (s : Midway) (mode : Mode) (o t : Text) →
+    behind_closing mode o (argument s.next (cut mode t)) (behind_argument s mode t) ≡ read_call s (placeholder mode s.next o t)
+unfolding placeholder
+placeholder_read s mode o t = read_either s (begins_with 125 (ending mode t)) _ _ _ _ refl (unclosed_read s mode o t)
+
+-- the same of a reader that stands at x after the argument
+pub placeholder_closed : (s x new : Midway) (mode : Mode) (o t : Text) (opening : Place) (seen : Argument Place) →
+    x ≡ (let a = cut mode t in read_texts (read_to s a.rest (number_after_field s.next a.field) (cut_faults a)) (spec_texts a.field.spec a.rest)) →
+    opening ≡ place_of s.world (over_first o) → seen ≡ map_argument (place_of s.world) (argument s.next (cut mode t)) →
+    ((q : Text) (a : Argument Span) → opening ≡ place_of x.world (over_first q) → seen ≡ map_argument (place_of x.world) a →
+    new ≡ behind_closing mode q a (record x { rest = behind_white x.rest })) →
+    new ≡ read_call s (placeholder mode s.next o t)
+placeholder_closed s x new mode o t opening seen e f g h = let k = rw e at h in k o (argument s.next (cut mode t)) f g ∙ placeholder_read s mode o t
+
+-- after the argument there is a number for each character that is left
+pub numbers_left : (mode : Mode) (c n : ℕ) (o r : Text) → o ≢ [] → n ≡ number_after_field c (cut mode (behind_first o)).field →
+    r ≡ ending mode (behind_first o) → n + length r ≤ c + length o
+numbers_left mode c n [] r h e f = absurd (h refl)
+numbers_left mode c n (b ∷ t) r h e f = omega (arith, e, ap length f, number_after_field-le mode c t, IsRest-le (behind_white_rest (cut mode t).rest))
 
 placeholder_boxed : (mode : Mode) (c : ℕ) (o t : Text) → GivesNoArgument (placeholder mode c o t).piece → ⊥
 placeholder_boxed mode c o t k = rw (placeholder-piece mode c o t) at k

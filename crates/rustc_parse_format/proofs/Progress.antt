@@ -5,9 +5,12 @@ use Rattle.rustc_parse_format.specs.Characters.{Text, is_brace, is_no_brace, beh
 use Rattle.rustc_parse_format.specs.Marks.{Span}
 use Rattle.rustc_parse_format.specs.Types.{Mode, Piece}
 use Rattle.rustc_parse_format.specs.Placeholder.{cut}
+use Rattle.rustc_parse_format.specs.Values.{number_after_field}
+use Rattle.rustc_parse_format.specs.Meaning.{argument}
 use Rattle.rustc_parse_format.specs.Call.{Call, call, placeholder, text_call, walk, walk_for, IsWalk, GoesOn}
 use Rattle.rustc_parse_format.proofs.Rests.{IsRest-le, behind_rest, behind_first_rest, behind_white_rest, cut_rest}
 use Rattle.rustc_parse_format.proofs.Numbers.{number_after_field-le}
+use Rattle.rustc_parse_format.proofs.Recoveries.{recovery_rest, recovery_next-le}
 
 abbrev Advances : ℕ → Text → Call → Type 0
 Advances c t k = (length k.rest < length t) × (k.next + length k.rest ≤ c + length t)
@@ -16,6 +19,8 @@ placeholder_advances : (mode : Mode) (c b : ℕ) (t : Text) → Advances c (b �
 unfolding placeholder
 placeholder_advances mode c b t =
     let r = behind_white (cut mode t).rest in
+    let n = number_after_field c (cut mode t).field in
+    let g = argument c (cut mode t) in
     let fewer : length r ≤ length (cut mode t).rest = IsRest-le (behind_white_rest (cut mode t).rest) in
     cond_both {A = Call} (begins_with 125 r) _ _ (Advances c (b ∷ t))
     (λ e. (
@@ -23,7 +28,10 @@ placeholder_advances mode c b t =
       omega
           (arith, IsRest-le (behind_first_rest r), fewer, number_after_field-le mode c t),
     ))
-    (λ e. (omega (arith, fewer, IsRest-le (cut_rest mode t)), omega (arith, fewer, number_after_field-le mode c t)))
+    (λ e. (
+      omega (arith, fewer, IsRest-le (cut_rest mode t), IsRest-le (recovery_rest mode n (b ∷ t) g r)),
+      omega (arith, fewer, number_after_field-le mode c t, recovery_next-le mode n (b ∷ t) g r),
+    ))
 
 literal_advances : (c b : ℕ) (l t : Text) → Advances c (b ∷ t) (text_call c l (behind_first t))
 literal_advances c b l t = (

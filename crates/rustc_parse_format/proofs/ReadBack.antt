@@ -7,23 +7,12 @@ use Rattle.rustc_parse_format.specs.Literal.{content_value, newline, IsSource}
 use Rattle.rustc_parse_format.specs.Marks.{Mark, Start, End, Span}
 use Rattle.rustc_parse_format.specs.World.{Place, world, quote_offset, content_places, last_stop, newline_places, place_at, number_of, place_of}
 use Rattle.rustc_parse_format.specs.ReadBack.{before, inside, count_before, left_at, IsStart, IsForward, IsInside, ReadsBack, source_units}
-use Rattle.rustc_parse_format.proofs.ReadBackUnits.{one_or_none, past, start, stop, content-ordered, start-stop, stop-end, start-start, before-all}
-use Rattle.rustc_parse_format.proofs.ReadBackUnits.{before-start, before-stop, start-apart, before-inside, IsApart}
+use Rattle.rustc_parse_format.proofs.PlaceOrder.{length-content_places, length-newline}
+use Rattle.rustc_parse_format.proofs.ReadBackUnits.{start, stop, content-ordered, start-stop, stop-end, start-start, before-all}
+use Rattle.rustc_parse_format.proofs.ReadBackUnits.{before-edge, start-apart, before-inside, IsApart}
 use Rattle.rustc_parse_format.proofs.ReadBackWorlds.{unit_world, known, Known}
 
 -- There are as many places as characters.
-content-length : (at : ℕ) (us : List LiteralUnit) → length (content_places at us) ≡ length (content_value us)
-content-length at [] = refl
-content-length at (u ∷ us) =
-    elim (one_or_none u) [
-      | inl z ↦ rw z (content-length (past at u) us)
-      | inr (c, z) ↦ rw z (ap suc (content-length (past at u) us))
-    ]
-
-newline-length : (e : ℕ) (b : Bool) → length (newline_places e b) ≡ length (newline b)
-newline-length e true = refl
-newline-length e false = refl
-
 world-length : (q : ℕ) (us : List LiteralUnit) (b : Bool) → length (unit_world q us b).places ≡ length (content_value us ++ newline b)
 world-length q us b =
     let e = last_stop q (content_places q us) in
@@ -31,8 +20,8 @@ world-length q us b =
       arith,
       length-append (content_places q us) (newline_places e b),
       length-append (content_value us) (newline b),
-      content-length q us,
-      newline-length e b,
+      length-content_places q us,
+      length-newline e b,
     )
 
 -- An appended newline starts where the text ends.
@@ -44,7 +33,7 @@ newline-start (p ∷ ps) e zero b = refl
 newline-start (p ∷ ps) e (suc a) b = newline-start ps e a b
 
 -- Where the character ends behind a others: that of the text, or the newline.
-abbrev IsStop : List Place → ℕ → ℕ → ℕ → Type 0
+abbrev pub IsStop : List Place → ℕ → ℕ → ℕ → Type 0
 IsStop ps e a s = (s ≡ stop ps e a) ⊎ ((length ps ≤ a) × (s ≡ suc e))
 
 newline-stop : (ps : List Place) (e a : ℕ) (b : Bool) → IsStop ps e a (get_or (ps ++ newline_places e b) a (e, e)).1
@@ -59,17 +48,17 @@ newline-stop (p ∷ ps) e (suc a) b =
     ]
 
 -- The byte of a mark with k characters left of n.
-abbrev ends : ℕ → List LiteralUnit → ℕ
+abbrev pub ends : ℕ → List LiteralUnit → ℕ
 ends q us = last_stop q (content_places q us)
 
-start-number : (q : ℕ) (us : List LiteralUnit) (b : Bool) (n k : ℕ) → n ≡ length (content_value us ++ newline b) →
+pub start-number : (q : ℕ) (us : List LiteralUnit) (b : Bool) (n k : ℕ) → n ≡ length (content_value us ++ newline b) →
     number_of (unit_world q us b) (Start k) ≡ start (content_places q us) (ends q us) (n - k)
 unfolding place_at
 start-number q us b n k h =
     let m : length (unit_world q us b).places - k ≡ n - k = ap (λ j. j - k) (world-length q us b ∙ sym h) in
     ap (λ j. (get_or (unit_world q us b).places j (ends q us, ends q us)).0) m ∙ newline-start (content_places q us) (ends q us) (n - k) b
 
-stop-number : (q : ℕ) (us : List LiteralUnit) (b : Bool) (n k : ℕ) → n ≡ length (content_value us ++ newline b) →
+pub stop-number : (q : ℕ) (us : List LiteralUnit) (b : Bool) (n k : ℕ) → n ≡ length (content_value us ++ newline b) →
     IsStop (content_places q us) (ends q us) (n - k) (number_of (unit_world q us b) (End k))
 unfolding place_at
 stop-number q us b n k h =
@@ -80,22 +69,22 @@ stop-number q us b n k h =
 
 -- Before a mark stand the characters in front of it.
 before-stopped : (q : ℕ) (us : List LiteralUnit) (a s : ℕ) → IsStop (content_places q us) (ends q us) a s → before s q us ≡ take (suc a) (content_value us)
-before-stopped q us a s (inl h) = before-stop q q us (ends q us) a s (content-ordered q q us (omega arith)) h
+before-stopped q us a s (inl h) = before-edge true q q us (ends q us) a s (content-ordered q q us (omega arith)) h
 before-stopped q us a s (inr (h, k)) =
-    let long : length (content_value us) ≤ suc a = omega (arith, content-length q us) in
+    let long : length (content_value us) ≤ suc a = omega (arith, length-content_places q us) in
     before-all q q us (ends q us) s (content-ordered q q us (omega arith)) (omega (arith, k)) ∙ sym (take_all (suc a) (content_value us) long)
 
 -- A mark of a text of n characters: none more are left from it on.
 before-mark : (q : ℕ) (us : List LiteralUnit) (b : Bool) (n : ℕ) (m : Mark) → n ≡ length (content_value us ++ newline b) → left_at m ≤ n →
     before (number_of (unit_world q us b) m) q us ≡ take (count_before n m) (content_value us)
 before-mark q us b n (Start k) h l =
-    before-start q q us (ends q us) (n - k) (number_of (unit_world q us b) (Start k)) (content-ordered q q us (omega arith)) (start-number q us b n k h)
+    before-edge false q q us (ends q us) (n - k) (number_of (unit_world q us b) (Start k)) (content-ordered q q us (omega arith)) (start-number q us b n k h)
 before-mark q us b n (End k) h l =
     let one : suc (n - k) ≡ suc n - k = omega arith in
     before-stopped q us (n - k) (number_of (unit_world q us b) (End k)) (stop-number q us b n k h) ∙ ap (λ j. take j (content_value us)) one
 
 -- A mark is not in front of one from which as many characters or more are left.
-mark-order : (q : ℕ) (us : List LiteralUnit) (b : Bool) (n i : ℕ) (m : Mark) → n ≡ length (content_value us ++ newline b) → left_at m ≤ i →
+pub mark-order : (q : ℕ) (us : List LiteralUnit) (b : Bool) (n i : ℕ) (m : Mark) → n ≡ length (content_value us ++ newline b) → left_at m ≤ i →
     number_of (unit_world q us b) (Start i) ≤ number_of (unit_world q us b) m
 mark-order q us b n i (Start k) h l =
     let o = content-ordered q q us (omega arith) in
@@ -115,7 +104,7 @@ mark-order q us b n i (End k) h l =
     ]
 
 -- No mark stands more than a byte behind the end of the text.
-mark-inside : (q : ℕ) (us : List LiteralUnit) (b : Bool) (n : ℕ) (m : Mark) → n ≡ length (content_value us ++ newline b) →
+pub mark-inside : (q : ℕ) (us : List LiteralUnit) (b : Bool) (n : ℕ) (m : Mark) → n ≡ length (content_value us ++ newline b) →
     number_of (unit_world q us b) m ≤ suc (ends q us)
 mark-inside q us b n (Start k) h =
     let o = content-ordered q q us (omega arith) in

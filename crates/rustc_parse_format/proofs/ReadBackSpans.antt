@@ -1,27 +1,29 @@
 -- Each span of an argument, of its faults and of a placeholder that is closed is forward in the text that is read.
-use Rattle.std.proofs.Common.{◌≡◌, ℕ, ◌+◌, ◌-◌, ◌≤◌, ◌++◌, Bool, true, false, List, [], ◌∷◌, length, refl, ap, ◌∙◌, arith, Option, Some, None}
+use Rattle.std.proofs.Common.{◌≡◌, ℕ, ◌+◌, ◌-◌, ◌≤◌, ◌++◌, ◌==◌, Bool, true, false, List, [], ◌∷◌, length, refl, ap, ◌∙◌, arith, Option, Some, None}
 use Rattle.std.proofs.Common.{length-append, codes, cond}
 use Rattle.std.specs.Prelude.{bytes_eq}
 use Rattle.std.specs.List.{AllByRecursion}
 use Rattle.std.proofs.lemmas.Bool.{false≢true}
-use Rattle.rustc_parse_format.specs.Characters.{Text, word, behind_word, digits, behind_digits, behind_first, behind_white, is_over}
+use Rattle.rustc_parse_format.specs.Characters.{Text, word, behind_word, digits, behind_digits, first, behind_first, behind_prefix, behind_white, is_over}
 use Rattle.rustc_parse_format.specs.Spelling.{IsPart, fixed, optional_identifier}
 use Rattle.rustc_parse_format.specs.Types.{Mode, Format, InlineAsm, Diagnostic, NextArgument}
 use Rattle.rustc_parse_format.specs.Syntax.{CountText, NumberCount, IndexCount, NameCount, NoCount, count_part, WidthText, PaddedWidth, ZeroIndexWidth}
 use Rattle.rustc_parse_format.specs.Syntax.{PlainWidth, width_part, PrecisionText, NoPrecision, StarPrecision, DotPrecision, precision_part, TypeText}
 use Rattle.rustc_parse_format.specs.Syntax.{DebugHexType, CharacterType, WordType, type_part, FormatText, format_part, SpecText, Default, Formatting}
-use Rattle.rustc_parse_format.specs.Syntax.{Modifier, DiagnosticText, spec_part, fill_part, align_part, sign_part, alternate_part}
+use Rattle.rustc_parse_format.specs.Syntax.{Modifier, DiagnosticText, spec_part, fill_part, align_part, sign_part, alternate_part, PositionText}
+use Rattle.rustc_parse_format.specs.Syntax.{Digits, Word, RawWord}
+use Rattle.rustc_parse_format.specs.Syntax.{NoPosition}
 use Rattle.rustc_parse_format.specs.Placeholder.{cut, position}
-use Rattle.rustc_parse_format.specs.Marks.{Span, up_to, through}
+use Rattle.rustc_parse_format.specs.Marks.{Span, Start, up_to, through, over_first}
 use Rattle.rustc_parse_format.specs.Meaning.{count_of, count_span, width_of, width_span, precision_of, precision_span, word_span, type_span, fill_span}
 use Rattle.rustc_parse_format.specs.Meaning.{from_type, from_precision, from_width, format_of, spec_of, argument}
-use Rattle.rustc_parse_format.specs.Faults.{Fault, Underscore, TooLarge}
+use Rattle.rustc_parse_format.specs.Faults.{Fault, Underscore, TooLarge, LateFlag}
 use Rattle.rustc_parse_format.specs.PartFaults.{word_faults, number_faults, argument_faults, width_faults, precision_faults, type_faults, format_faults}
-use Rattle.rustc_parse_format.specs.PartFaults.{spec_faults, cut_faults}
+use Rattle.rustc_parse_format.specs.PartFaults.{raw_faults, position_faults, spec_faults, cut_faults, is_debug_flag, late_flag, flag_faults}
 use Rattle.rustc_parse_format.specs.ReadBack.{IsForward, optional, spans_of_count, spans_of_spec, spans_of, spans_of_fault}
 use Rattle.rustc_parse_format.proofs.PartLaws.{IsRow, opened, only, two-split}
 use Rattle.rustc_parse_format.proofs.PartSpecs.{spec-finds}
-use Rattle.rustc_parse_format.proofs.Rests.{IsRest-le, IsRest-trans, position_rest, behind_white_rest, behind_word_rest, behind_digits_rest}
+use Rattle.rustc_parse_format.proofs.Rests.{IsRest-le, IsRest-trans, raw_rest, position_rest, behind_white_rest, behind_word_rest, behind_digits_rest}
 
 -- all of these spans are forward
 abbrev pub AreForward : ℕ → List Span → Type 0
@@ -196,17 +198,22 @@ spec_of-forward n c Diagnostic t (Formatting p) r h l = absurd (false≢true h.f
 spec_of-forward n c Diagnostic t (Modifier w) r h l = absurd (false≢true h.formed)
 
 -- the specification of a cut, and where it stands
-cut-spec : (mode : Mode) (t : Text) → IsPart (cut mode t).spec_at (spec_part mode (cut mode t).field.spec) (cut mode t).rest
+pub cut-spec : (mode : Mode) (t : Text) → IsPart (cut mode t).spec_at (spec_part mode (cut mode t).field.spec) (cut mode t).rest
 unfolding cut
 cut-spec mode t = (spec-finds mode).sound (behind_white (position t).1)
 
-cut-spec_at : (mode : Mode) (t : Text) → length (cut mode t).spec_at ≤ length t
+pub cut-spec_at : (mode : Mode) (t : Text) → length (cut mode t).spec_at ≤ length t
 unfolding cut
 cut-spec_at mode t = IsRest-le (IsRest-trans (position_rest t) (behind_white_rest (position t).1))
 
 cut-position_at : (mode : Mode) (t : Text) → (cut mode t).position_at ≡ t
 unfolding cut
 cut-position_at mode t = refl
+
+-- an argument starts where its position does
+pub argument-start : (c : ℕ) (mode : Mode) (t : Text) → (argument c (cut mode t)).position_span.from ≡ Start (length t)
+unfolding argument cut
+argument-start c mode t = refl
 
 pub argument-forward : (n c : ℕ) (mode : Mode) (t : Text) → length t ≤ n → AreForward n (spans_of (NextArgument (argument c (cut mode t))))
 unfolding argument
@@ -223,7 +230,7 @@ fault_either : (n : ℕ) (b : Bool) (f : Fault Span) → AreForward n (spans_of_
 fault_either n true f h = (h, tt)
 fault_either n false f h = tt
 
-word_faults-forward : (n : ℕ) (t : Text) → length t ≤ n → AreFaultsForward n (word_faults t)
+pub word_faults-forward : (n : ℕ) (t : Text) → length t ≤ n → AreFaultsForward n (word_faults t)
 word_faults-forward n t l =
     fault_either n (bytes_eq (word t) (codes "_")) (Underscore (up_to t (behind_word t)))
     (up_to-forward n t (behind_word t) (IsRest-le (behind_word_rest t)) l, tt)
@@ -237,6 +244,20 @@ argument_faults-forward : (n : ℕ) (t : Text) → length t ≤ n → AreFaultsF
 unfolding argument_faults
 argument_faults-forward n t l = all-append _ _ _ (number_faults-forward n t l) (word_faults-forward n t l)
 
+raw_faults-forward : (n : ℕ) (t : Text) → length t ≤ n → AreFaultsForward n (raw_faults t)
+raw_faults-forward n t l =
+    let first = behind_first-length t in
+    let second = behind_first-length (behind_first t) in
+    all-append _ _ _
+    (word_faults-forward n (behind_prefix t) (omega (arith, l, first, second)))
+    ((up_to-forward n t (behind_word (behind_prefix t)) (IsRest-le (raw_rest t)) l, (through-forward n t (behind_first t) (omega (arith, first)) l, tt)), tt)
+
+position_faults-forward : (n : ℕ) (t : Text) (p : PositionText) → length t ≤ n → AreFaultsForward n (position_faults t p)
+position_faults-forward n t (Digits ds) l = number_faults-forward n t l
+position_faults-forward n t (Word w) l = word_faults-forward n t l
+position_faults-forward n t (RawWord w) l = raw_faults-forward n t l
+position_faults-forward n t NoPosition l = tt
+
 width_faults-forward : (n : ℕ) (t : Text) (w : WidthText) → length t ≤ n → AreFaultsForward n (width_faults t w)
 width_faults-forward n t (PaddedWidth k) l = argument_faults-forward n (behind_first t) (omega (arith, l, behind_first-length t))
 width_faults-forward n t ZeroIndexWidth l = tt
@@ -247,9 +268,19 @@ precision_faults-forward n t NoPrecision l = tt
 precision_faults-forward n t StarPrecision l = tt
 precision_faults-forward n t (DotPrecision k) l = argument_faults-forward n (behind_first t) (omega (arith, l, behind_first-length t))
 
+late_flag-forward : (n : ℕ) (t u : Text) → length u ≤ length t → length t ≤ n → AreFaultsForward n (late_flag (first u) (over_first u) (through t u))
+late_flag-forward n t [] h l = tt
+late_flag-forward n t (c ∷ u) h l =
+    fault_either n (is_debug_flag c) (LateFlag c (over_first (c ∷ u)) (through t (c ∷ u)))
+    (through-forward n (c ∷ u) (c ∷ u) (omega arith) (omega (arith, h, l)), (through-forward n t (c ∷ u) h l, tt))
+
+flags-forward : (n : ℕ) (b : Bool) (t : Text) → length t ≤ n → AreFaultsForward n (cond b (flag_faults t) [])
+flags-forward n true t l = late_flag-forward n t (behind_first t) (omega (arith, behind_first-length t)) l
+flags-forward n false t l = tt
+
 type_faults-forward : (n : ℕ) (t : Text) (y : TypeText) → length t ≤ n → AreFaultsForward n (type_faults t y)
 type_faults-forward n t (DebugHexType h) l = tt
-type_faults-forward n t (CharacterType c) l = tt
+type_faults-forward n t (CharacterType c) l = flags-forward n (c == 63) t l
 type_faults-forward n t (WordType w) l = word_faults-forward n t l
 
 format_faults-forward : (n : ℕ) (t : Text) (p : FormatText) (r : Text) → IsPart t (format_part p) r → length t ≤ n → AreFaultsForward n (format_faults p r)
@@ -281,5 +312,5 @@ unfolding cut_faults
 cut_faults-forward n mode t l =
     let a = cut mode t in
     all-append _ _ _
-    (argument_faults-forward n a.position_at (omega (arith, l, ap length (cut-position_at mode t))))
+    (position_faults-forward n a.position_at a.field.position (omega (arith, l, ap length (cut-position_at mode t))))
     (spec_faults-forward n mode a.spec_at a.field.spec a.rest (cut-spec mode t) (omega (arith, l, cut-spec_at mode t)))

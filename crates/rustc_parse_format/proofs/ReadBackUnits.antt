@@ -1,46 +1,21 @@
 -- The places of the characters of a content stand in order. What is read in front of one of them, and in a range of bytes.
 use Rattle.std.proofs.Common.{◌≡◌, ℕ, suc, zero, ◌+◌, ◌≤◌, ◌<◌, ◌++◌, ◌&&◌, ◌⊎◌, inl, inr, Bool, true, false, if◌then◌else◌, List, [], ◌∷◌, take, get_or}
-use Rattle.std.proofs.Common.{refl, sym, ap, ◌∙◌, arith, Option, Some, None}
+use Rattle.std.proofs.Common.{refl, sym, ap, ◌∙◌, arith}
 use Rattle.std.specs.Prelude.{nat_le, ⊤}
-use Rattle.std.proofs.lemmas.Str.{len_utf8_bounds}
 use Rattle.std.proofs.lemmas.Bool.{le-leb, lt-leb}
 use Rattle.rustc_parse_format.specs.Characters.{Text, byte_length}
-use Rattle.rustc_parse_format.specs.LiteralUnits.{LiteralUnit, Plain, SimpleEscape, ByteEscape, UnicodeEscape, Continuation, spelling, value, escaped}
-use Rattle.rustc_parse_format.specs.LiteralUnits.{at_most_one}
+use Rattle.rustc_parse_format.specs.LiteralUnits.{LiteralUnit, spelling, value}
 use Rattle.rustc_parse_format.specs.Literal.{content_value}
 use Rattle.rustc_parse_format.specs.World.{Place, content_places, last_stop}
 use Rattle.rustc_parse_format.specs.ReadBack.{before, inside}
-use Rattle.rustc_parse_format.proofs.LiteralWidths.{width-cons}
+use Rattle.rustc_parse_format.proofs.PlaceOrder.{InOrder, content-in_order, in_order-earlier, one_or_none, unit_bytes}
 
 -- where a unit at a byte ends
 abbrev pub past : ℕ → LiteralUnit → ℕ
 past at u = at + byte_length (spelling u)
 
--- a text that is not empty takes at least a byte
-some_width : (c : ℕ) (t : Text) → 0 < byte_length (c ∷ t)
-some_width c t = omega (arith, width-cons c t, (len_utf8_bounds c).0)
-
 pub past-lt : (at : ℕ) (u : LiteralUnit) → at < past at u
-past-lt at (Plain c) = omega (arith, some_width c [])
-past-lt at (SimpleEscape l) = omega (arith, some_width 92 (l ∷ []))
-past-lt at (ByteEscape h l) = omega (arith, some_width 92 (120 ∷ h ∷ l ∷ []))
-past-lt at (UnicodeEscape w) = omega (arith, some_width 92 (117 ∷ 123 ∷ w ++ 125 ∷ []))
-past-lt at (Continuation w) = omega (arith, some_width 92 (10 ∷ w))
-
--- A unit stands for one character or for none.
-abbrev pub IsOneOrNone : Text → Type 0
-IsOneOrNone t = (t ≡ []) ⊎ ((c : ℕ) × (t ≡ c ∷ []))
-
-option-one : (o : Option ℕ) → IsOneOrNone (at_most_one o)
-option-one None = inl refl
-option-one (Some c) = inr (c, refl)
-
-pub one_or_none : (u : LiteralUnit) → IsOneOrNone (value u)
-one_or_none (Plain c) = inr (c, refl)
-one_or_none (SimpleEscape l) = option-one (escaped l)
-one_or_none (ByteEscape h l) = inr (_, refl)
-one_or_none (UnicodeEscape w) = inr (_, refl)
-one_or_none (Continuation w) = inl refl
+past-lt at u = let bytes = unit_bytes u in omega arith
 
 -- Places in order, from a byte to another.
 abbrev pub IsOrdered : ℕ → List Place → ℕ → Type 0
@@ -81,14 +56,21 @@ start-start lo (p ∷ ps) e zero (suc b) h o = let k : p.1 ≤ start ps e b = st
 start-start lo (p ∷ ps) e (suc a) zero h o = absurd (omega arith)
 start-start lo (p ∷ ps) e (suc a) (suc b) h o = start-start p.1 ps e a b (omega arith) o.2
 
+-- and ends before it does
+pub stop-start : (lo : ℕ) (ps : List Place) (e a b : ℕ) → a < b → IsOrdered lo ps e → stop ps e a ≤ start ps e b
+stop-start lo [] e a b h o = omega arith
+stop-start lo (p ∷ ps) e a zero h o = absurd (omega arith)
+stop-start lo (p ∷ ps) e zero (suc b) h o = start-after p.1 ps e b o.2
+stop-start lo (p ∷ ps) e (suc a) (suc b) h o = stop-start p.1 ps e a b (omega arith) o.2
+
 -- The places of a content are in order, up to where the last one ends.
+in_order-ordered : (lo : ℕ) (ps : List Place) → InOrder lo ps → IsOrdered lo ps (last_stop lo ps)
+in_order-ordered lo [] o = omega arith
+in_order-ordered lo (p ∷ ps) (starts, bytes, rest) = (starts, omega arith, in_order-ordered p.1 ps rest)
+
 pub content-ordered : (lo at : ℕ) (us : List LiteralUnit) → lo ≤ at → IsOrdered lo (content_places at us) (last_stop lo (content_places at us))
-content-ordered lo at [] h = omega arith
-content-ordered lo at (u ∷ us) h =
-    elim (one_or_none u) [
-      | inl z ↦ rw z (content-ordered lo (past at u) us (omega (arith, past-lt at u)))
-      | inr (c, z) ↦ rw z (h, omega (arith, past-lt at u), content-ordered (past at u) (past at u) us (omega arith))
-    ]
+content-ordered lo at us h =
+    in_order-ordered lo (content_places at us) (in_order-earlier lo at (content_places at us) h (content-in_order at us))
 
 -- what is held or not, where nothing is
 nothing_either : (b : Bool) (t : Text) → (if b then [] else []) ++ t ≡ t
@@ -124,60 +106,55 @@ before-all lo at (u ∷ us) e s o h =
           before-character s at c u us z l ∙ (ap (λ t. c ∷ t) (before-all (past at u) (past at u) us e s k.2 h) ∙ rw z refl))
     ]
 
--- Before the start of a character stand those in front of it.
-pub before-start : (lo at : ℕ) (us : List LiteralUnit) (e a s : ℕ) → IsOrdered lo (content_places at us) e → s ≡ start (content_places at us) e a →
-    before s at us ≡ take a (content_value us)
-before-start lo at [] e zero s o p = refl
-before-start lo at [] e (suc a) s o p = refl
-before-start lo at (u ∷ us) e a s o p =
-    elim (one_or_none u) [
-      | inl z ↦
-          (let k : IsOrdered lo (content_places (past at u) us) e = rw z at o in
-          let q : s ≡ start (content_places (past at u) us) e a = rw z at p in
-          before-nothing s at u us z ∙ (before-start lo (past at u) us e a s k q ∙ rw z refl))
-      | inr (c, z) ↦
-          (let k : IsOrdered lo ((at, past at u) ∷ content_places (past at u) us) e = rw z at o in
-          let q : s ≡ start ((at, past at u) ∷ content_places (past at u) us) e a = rw z at p in
-          at_character s at c u us e a z k.2 q (λ b h. before-start (past at u) (past at u) us e b s k.2 h) ∙ rw z refl)
-    ]
-  where
-    at_character : (s at c : ℕ) (u : LiteralUnit) (us : List LiteralUnit) (e a : ℕ) → value u ≡ c ∷ [] →
-        IsOrdered (past at u) (content_places (past at u) us) e →
-        s ≡ start ((at, past at u) ∷ content_places (past at u) us) e a →
-        ((b : ℕ) → s ≡ start (content_places (past at u) us) e b → before s (past at u) us ≡ take b (content_value us)) →
-        before s at (u ∷ us) ≡ take a (c ∷ content_value us)
-    at_character s at c u us e zero z o p ih = before-none s at (u ∷ us) (omega (arith, p))
-    at_character s at c u us e (suc a) z o p ih =
-        let l : past at u ≤ start (content_places (past at u) us) e a = start-after (past at u) (content_places (past at u) us) e a o in
-        before-character s at c u us z (omega (arith, p, l)) ∙ ap (λ t. c ∷ t) (ih a p)
+-- Either end of a place, and how many characters are in front of that end of the one behind a others.
+abbrev pub edge : Bool → Place → ℕ
+edge false p = p.0
+edge true p = p.1
 
--- Before the end of a character stand those in front of it, and it.
-pub before-stop : (lo at : ℕ) (us : List LiteralUnit) (e a s : ℕ) → IsOrdered lo (content_places at us) e → s ≡ stop (content_places at us) e a →
-    before s at us ≡ take (suc a) (content_value us)
-before-stop lo at [] e a s o p = refl
-before-stop lo at (u ∷ us) e a s o p =
+abbrev pub count_to : Bool → ℕ → ℕ
+count_to false a = a
+count_to true a = suc a
+
+edge-after : (b : Bool) (lo : ℕ) (ps : List Place) (e a : ℕ) → IsOrdered lo ps e → lo ≤ edge b (get_or ps a (e, e))
+edge-after false lo ps e a o = start-after lo ps e a o
+edge-after true lo ps e a o = omega (arith, start-after lo ps e a o, start-stop lo ps e a o)
+
+one_more : (b : Bool) (a c : ℕ) (t : Text) → c ∷ take (count_to b a) t ≡ take (count_to b (suc a)) (c ∷ t)
+one_more false a c t = refl
+one_more true a c t = refl
+
+none_left : (b : Bool) (a : ℕ) → ◌≡◌ {A = Text} [] (take (count_to b a) [])
+none_left false zero = refl
+none_left false (suc a) = refl
+none_left true a = refl
+
+-- Before the start of a character stand those in front of it, and before its end it too.
+pub before-edge : (b : Bool) (lo at : ℕ) (us : List LiteralUnit) (e a s : ℕ) → IsOrdered lo (content_places at us) e →
+    s ≡ edge b (get_or (content_places at us) a (e, e)) → before s at us ≡ take (count_to b a) (content_value us)
+before-edge b lo at [] e a s o p = none_left b a
+before-edge b lo at (u ∷ us) e a s o p =
     elim (one_or_none u) [
       | inl z ↦
           (let k : IsOrdered lo (content_places (past at u) us) e = rw z at o in
-          let q : s ≡ stop (content_places (past at u) us) e a = rw z at p in
-          before-nothing s at u us z ∙ (before-stop lo (past at u) us e a s k q ∙ rw z refl))
+          let q : s ≡ edge b (get_or (content_places (past at u) us) a (e, e)) = rw z at p in
+          before-nothing s at u us z ∙ (before-edge b lo (past at u) us e a s k q ∙ rw z refl))
       | inr (c, z) ↦
           (let k : IsOrdered lo ((at, past at u) ∷ content_places (past at u) us) e = rw z at o in
-          let q : s ≡ stop ((at, past at u) ∷ content_places (past at u) us) e a = rw z at p in
-          at_character s at c u us e a z k.2 q (λ b h. before-stop (past at u) (past at u) us e b s k.2 h) ∙ rw z refl)
+          let q : s ≡ edge b (get_or ((at, past at u) ∷ content_places (past at u) us) a (e, e)) = rw z at p in
+          at_character b s at c u us e a z k.2 q (λ i h. before-edge b (past at u) (past at u) us e i s k.2 h) ∙ rw z refl)
     ]
   where
-    at_character : (s at c : ℕ) (u : LiteralUnit) (us : List LiteralUnit) (e a : ℕ) → value u ≡ c ∷ [] →
+    at_character : (b : Bool) (s at c : ℕ) (u : LiteralUnit) (us : List LiteralUnit) (e a : ℕ) → value u ≡ c ∷ [] →
         IsOrdered (past at u) (content_places (past at u) us) e →
-        s ≡ stop ((at, past at u) ∷ content_places (past at u) us) e a →
-        ((b : ℕ) → s ≡ stop (content_places (past at u) us) e b → before s (past at u) us ≡ take (suc b) (content_value us)) →
-        before s at (u ∷ us) ≡ take (suc a) (c ∷ content_value us)
-    at_character s at c u us e zero z o p ih =
+        s ≡ edge b (get_or ((at, past at u) ∷ content_places (past at u) us) a (e, e)) →
+        ((i : ℕ) → s ≡ edge b (get_or (content_places (past at u) us) i (e, e)) → before s (past at u) us ≡ take (count_to b i) (content_value us)) →
+        before s at (u ∷ us) ≡ take (count_to b a) (c ∷ content_value us)
+    at_character false s at c u us e zero z o p ih = before-none s at (u ∷ us) (omega (arith, p))
+    at_character true s at c u us e zero z o p ih =
         before-character s at c u us z (omega (arith, p)) ∙ ap (λ t. c ∷ t) (before-none s (past at u) us (omega (arith, p)))
-    at_character s at c u us e (suc a) z o p ih =
-        let ps = content_places (past at u) us in
-        let l : past at u ≤ stop ps e a = omega (arith, start-after (past at u) ps e a o, start-stop (past at u) ps e a o) in
-        before-character s at c u us z (omega (arith, p, l)) ∙ ap (λ t. c ∷ t) (ih a p)
+    at_character b s at c u us e (suc a) z o p ih =
+        let l : past at u ≤ edge b (get_or (content_places (past at u) us) a (e, e)) = edge-after b (past at u) (content_places (past at u) us) e a o in
+        before-character s at c u us z (omega (arith, p, l)) ∙ (ap (λ t. c ∷ t) (ih a p) ∙ one_more b a c (content_value us))
 
 -- A byte that lies inside no place.
 abbrev pub IsApart : ℕ → List Place → Type 0

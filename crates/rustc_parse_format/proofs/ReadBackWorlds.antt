@@ -1,20 +1,21 @@
 -- The world of a source literal, ordinary or raw, by its units: where each character stands, and where the text ends.
 use Rattle.std.proofs.Common.{◌≡◌, ℕ, suc, zero, ◌+◌, ◌≤◌, ◌<◌, ◌++◌, inl, inr, Bool, true, false, List, [], ◌∷◌, map, refl, sym, ap, ◌∙◌, arith}
 use Rattle.std.proofs.Common.{Option, Some, None, cond}
-use Rattle.std.specs.Prelude.{replicate, unwrap_or}
+use Rattle.std.specs.Prelude.{replicate}
 use Rattle.std.specs.Char.{len_utf8}
 use Rattle.std.proofs.lemmas.Bool.{cond-true}
 use Rattle.rustc_parse_format.specs.Characters.{Text, byte_length}
 use Rattle.rustc_parse_format.specs.LiteralUnits.{LiteralUnit, Plain, spelling}
-use Rattle.rustc_parse_format.specs.Literal.{IsContent, content_value, units, ordinary_frame, raw_frame, raw_opening, raw_closing, newline, IsSource}
-use Rattle.rustc_parse_format.specs.Source.{between, units_between, unappended, is_source}
+use Rattle.rustc_parse_format.specs.Literal.{IsContent, content_value, ordinary_frame, raw_frame, raw_opening, raw_closing, newline, IsSource}
+use Rattle.rustc_parse_format.specs.Source.{units_between, unappended, is_source}
 use Rattle.rustc_parse_format.specs.World.{World, world, plain_world, plain_places, quote_offset, content_places, last_stop, newline_places, raw_end}
 use Rattle.rustc_parse_format.specs.World.{ordinary_world, literal_world}
 use Rattle.rustc_parse_format.specs.ReadBack.{source_units}
 use Rattle.rustc_parse_format.proofs.LiteralWidths.{width-cons, width-append}
-use Rattle.rustc_parse_format.proofs.LiteralContents.{units-complete}
-use Rattle.rustc_parse_format.proofs.Sources.{found-source, unappended-append, between-frame}
-use Rattle.rustc_parse_format.proofs.ReadBackUnits.{one_or_none, past}
+use Rattle.rustc_parse_format.proofs.SourceEnds.{frame-units}
+use Rattle.rustc_parse_format.proofs.Sources.{found-source, unappended-append}
+use Rattle.rustc_parse_format.proofs.PlaceOrder.{one_or_none}
+use Rattle.rustc_parse_format.proofs.ReadBackUnits.{past}
 
 -- There is a source literal where the test says so.
 has_source-world : (input : Text) (style : Option ℕ) (snippet : Text) (b : Bool) → (literal_world input style snippet b).has_source ≡ true
@@ -108,18 +109,17 @@ pub record Known (input : Text) (style : Option ℕ) (snippet : Text) (b : Bool)
   pub whole : input ≡ content_value units ++ newline b
   pub inside : last_stop (quote_offset style) (content_places (quote_offset style) units) < byte_length snippet
 
-source_world : (input : Text) (style : Option ℕ) (snippet : Text) (b : Bool) → IsSource input style snippet b →
+pub world-literal : (input : Text) (style : Option ℕ) (snippet : Text) (b : Bool) → IsSource input style snippet b →
     world input style (Some snippet) b ≡ literal_world input style snippet b
 unfolding world
-source_world input style snippet b h = cond-true (is_source input style (Some snippet) b) _ _ (found-source input style snippet b h)
+world-literal input style snippet b h = cond-true (is_source input style (Some snippet) b) _ _ (found-source input style snippet b h)
 
 pub known : (input : Text) (style : Option ℕ) (snippet : Text) (b : Bool) → IsSource input style snippet b → Known input style snippet b
 known input None snippet b (t, (content, us, e, c, v), whole) =
-    let found : units (between snippet) ≡ Some us = ap units (ap between e ∙ between-frame content) ∙ units-complete content us c in
-    let same : unwrap_or (units (between snippet)) [] ≡ us = ap (λ o. unwrap_or o []) found in
+    let same : units_between snippet ≡ us = frame-units snippet content us e c in
     record {
       units = us;
-      world_is = source_world input None snippet b (t, (content, us, e, c, v), whole) ∙ ap (λ vs. ordinary_world vs b) same;
+      world_is = world-literal input None snippet b (t, (content, us, e, c, v), whole) ∙ ap (λ vs. ordinary_world vs b) same;
       units_are = same;
       text_is = ap (unappended b) (sym whole) ∙ (unappended-append b t ∙ sym v);
       whole = sym whole ∙ ap (λ s. s ++ newline b) (sym v);
@@ -131,18 +131,9 @@ known input (Some n) snippet b (t, e, whole) =
     = ap (last_stop (n + 2)) (plain_content (n + 2) t) ∙ plain_last (n + 2) t in
     record {
       units = map Plain t;
-      world_is = source_world input (Some n) snippet b (t, e, whole) ∙ (rw (e, ← whole) (raw_world n t b));
+      world_is = world-literal input (Some n) snippet b (t, e, whole) ∙ (rw (e, ← whole) (raw_world n t b));
       units_are = ap (map Plain) text;
       text_is = text ∙ sym (plain_value t);
       whole = sym whole ∙ ap (λ s. s ++ newline b) (sym (plain_value t));
       inside = omega (arith, ap byte_length e, width-raw n t, last);
     }
-
-pub world-literal : (input : Text) (style : Option ℕ) (snippet : Text) (b : Bool) → IsSource input style snippet b →
-    world input style (Some snippet) b ≡ literal_world input style snippet b
-unfolding world
-world-literal input style snippet b h = cond-true (is_source input style (Some snippet) b) _ _ (found-source input style snippet b h)
-
-pub frame-units : (content : Text) (us : List LiteralUnit) → IsContent content us → units_between (ordinary_frame content) ≡ us
-frame-units content us h =
-    ap (λ (t : Text). unwrap_or (units t) []) (between-frame content) ∙ ap (λ (o : Option (List LiteralUnit)). unwrap_or o []) (units-complete content us h)

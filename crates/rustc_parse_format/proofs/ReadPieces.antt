@@ -59,10 +59,12 @@ walks_of s p new ps e f g =
     subst (λ u. Walks u ps new) e walked
 
 -- A fresh parser p, and the parser new after its last call.
-pub clean_in : (mode : Mode) (w : World) (t : Text) (at : ℕ) (p new : State) → p ≡ fresh mode w t at → new ≡ after_all p (calls p) → new.errors ≡ [] → IsInGrammar mode t
+pub clean_in : (mode : Mode) (w : World) (t : Text) (at : ℕ) (p new : State) → p ≡ fresh mode w t at → new ≡ after_all p (calls p) →
+    new.errors ≡ [] → IsInGrammar mode t
 clean_in mode w t at p new e f h = (_, walk_reads mode w t at (sym (ap (λ (s : State). s.errors) (rw e at f)) ∙ h))
 
-pub in_clean : (mode : Mode) (w : World) (t : Text) (at : ℕ) (p new : State) → p ≡ fresh mode w t at → new ≡ after_all p (calls p) → IsInGrammar mode t → new.errors ≡ []
+pub in_clean : (mode : Mode) (w : World) (t : Text) (at : ℕ) (p new : State) → p ≡ fresh mode w t at → new ≡ after_all p (calls p) →
+    IsInGrammar mode t → new.errors ≡ []
 in_clean mode w t at p new e f r = ap (λ (s : State). s.errors) (rw e at f) ∙ (reads_walk mode w t at r.0 r.1).0
 
 pub reading_of : (mode : Mode) (w : World) (t : Text) (at : ℕ) (p new : State) (ps : List (Piece Place)) → p ≡ fresh mode w t at → new ≡ after_all p (calls p) →

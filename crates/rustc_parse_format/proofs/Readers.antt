@@ -10,8 +10,8 @@ use Rattle.rustc_parse_format.specs.Types.{Mode, Position}
 use Rattle.rustc_parse_format.specs.Specification.{specification}
 use Rattle.rustc_parse_format.specs.Placeholder.{cut, position}
 use Rattle.rustc_parse_format.specs.Values.{given_position, number_after_field, number_after_position, number_after_spec}
-use Rattle.rustc_parse_format.specs.PartFaults.{argument_faults, cut_faults, spec_faults}
-use Rattle.rustc_parse_format.specs.Call.{spec_texts}
+use Rattle.rustc_parse_format.specs.PartFaults.{position_faults, cut_faults, spec_faults}
+use Rattle.rustc_parse_format.specs.Meaning.{spec_texts}
 use Rattle.rustc_parse_format.specs.Midway.{Midway, read_texts, read_to}
 use Rattle.rustc_parse_format.specs.World.{Place, faults_in, place_of}
 
@@ -39,7 +39,7 @@ behind_specification mode given s =
 
 -- an argument: its position, white space and its specification
 pub argument_read : (s : Midway) (mode : Mode) (given : Option Position) → given ≡ given_position (position s.rest).0 →
-    behind_specification mode given (read_to s (position s.rest).1 s.next (argument_faults s.rest))
+    behind_specification mode given (read_to s (position s.rest).1 s.next (position_faults s.rest (position s.rest).0))
     ≡ (let a = cut mode s.rest in read_texts (read_to s a.rest (number_after_field s.next a.field) (cut_faults a)) (spec_texts a.field.spec a.rest))
 unfolding cut cut_faults number_after_field
 argument_read s mode given e =
@@ -49,5 +49,5 @@ argument_read s mode given e =
       rest = p.1;
       next = number_after_position (number_after_spec s.next p.0) (position s.rest).0;
       faults = fs;
-    }) (append_assoc s.faults (faults_in s.world (argument_faults s.rest)) (faults_in s.world (spec_faults t p.0 p.1))
-    ∙ ap (λ hs. s.faults ++ hs) (sym (map-append (map_fault (place_of s.world)) (argument_faults s.rest) (spec_faults t p.0 p.1)))))
+    }) (append_assoc s.faults (faults_in s.world (position_faults s.rest (position s.rest).0)) (faults_in s.world (spec_faults t p.0 p.1))
+    ∙ ap (λ hs. s.faults ++ hs) (sym (map-append (map_fault (place_of s.world)) (position_faults s.rest (position s.rest).0) (spec_faults t p.0 p.1)))))

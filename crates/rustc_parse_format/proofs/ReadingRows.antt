@@ -76,14 +76,16 @@ no_strings-are_not_in = are_not_in Format no_strings refl
 
 -- format := '{' [ argument ] [ ':' format_spec ] [ ws ] * '}', argument := integer | identifier
 abbrev positions : List Text
-positions = codes "{}" ∷ codes "{a}" ∷ codes "{_a1}" ∷ codes "{0}" ∷ codes "{007}" ∷ codes "{65535}" ∷ codes "{a }" ∷ codes "{ }" ∷ codes "{a \t\n: }" ∷ []
+positions = codes "{}" ∷ codes "{a}" ∷ codes "{_a1}" ∷ codes "{r}" ∷ codes "{r2}" ∷ codes "{0}" ∷ codes "{007}" ∷ codes "{65535}" ∷ codes "{a }" ∷ codes
+    "{ }" ∷ codes "{a \t\n: }" ∷ []
 
 positions-are_in : AreIn Format positions
 unfolding computing
 positions-are_in = are_in Format positions refl
 
 abbrev no_positions : List Text
-no_positions = codes "{ a}" ∷ codes "{a b}" ∷ codes "{3a}" ∷ codes "{+}" ∷ codes "{a.b}" ∷ codes "{_}" ∷ codes "{65536}" ∷ codes "{r#a}" ∷ codes "{a?}" ∷ []
+no_positions = codes "{ a}" ∷ codes "{a b}" ∷ codes "{3a}" ∷ codes "{+}" ∷ codes "{a.b}" ∷ codes "{_}" ∷ codes "{65536}" ∷ codes "{r#a}" ∷ codes "{r#}" ∷ codes
+    "{a?}" ∷ []
 
 no_positions-are_not_in : AreNotIn Format no_positions
 unfolding computing

@@ -2,7 +2,7 @@
 use Rattle.std.proofs.Common.{◌≡◌, ℕ, ◌≤◌, ◌++◌, ◌==◌, Bool, true, false, cond, [], ◌∷◌, length, length-append, append_assoc, refl, sym, ◌∙◌, ap, arith}
 use Rattle.std.specs.Char.{is_ascii_digit}
 use Rattle.rustc_parse_format.specs.Characters.{Text, is_align, is_no_brace, is_id_start, is_id_continue, behind, word, behind_word, digits, behind_digits}
-use Rattle.rustc_parse_format.specs.Characters.{behind_white, behind_first}
+use Rattle.rustc_parse_format.specs.Characters.{behind_white, behind_first, behind_prefix, begins_raw}
 use Rattle.rustc_parse_format.specs.Types.{Mode, Format, InlineAsm, Diagnostic, DebugHex, Lower, Upper}
 use Rattle.rustc_parse_format.specs.Syntax.{PaddedWidth, PlainWidth}
 use Rattle.rustc_parse_format.specs.Counts.{count, behind_number, behind_name, width, counted, behind_zero, precision, behind_dot}
@@ -57,10 +57,14 @@ pub behind_first_rest : (t : Text) → IsRest t (behind_first t)
 behind_first_rest [] = IsRest-self []
 behind_first_rest (c ∷ t) = IsRest-cons c (IsRest-self t)
 
+pub raw_rest : (t : Text) → IsRest t (behind_word (behind_prefix t))
+raw_rest t = IsRest-trans (behind_first_rest t) (IsRest-trans (behind_first_rest (behind_first t)) (behind_word_rest (behind_prefix t)))
+
 pub position_rest : (t : Text) → IsRest t (position t).1
 position_rest [] = IsRest-self []
 position_rest (c ∷ t) =
-    picked (is_ascii_digit c) _ _ (c ∷ t) (behind_digits_rest (c ∷ t)) (picked (is_id_start c) _ _ (c ∷ t) (behind_word_rest (c ∷ t)) (IsRest-self (c ∷ t)))
+    picked (is_ascii_digit c) _ _ (c ∷ t) (behind_digits_rest (c ∷ t))
+    (picked (begins_raw (c ∷ t)) _ _ (c ∷ t) (raw_rest (c ∷ t)) (picked (is_id_start c) _ _ (c ∷ t) (behind_word_rest (c ∷ t)) (IsRest-self (c ∷ t))))
 
 number_rest : (ds r : Text) → IsRest r (behind_number ds r).1
 number_rest ds [] = IsRest-self []

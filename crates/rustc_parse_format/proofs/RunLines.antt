@@ -6,7 +6,7 @@ use Rattle.std.proofs.lemmas.Option.{none-some}
 use Rattle.std.proofs.lemmas.Bool.{ne_eqb}
 use Rattle.rustc_parse_format.specs.Characters.{Text, front, behind, is_no_brace, first}
 use Rattle.rustc_parse_format.specs.World.{Place, place_at}
-use Rattle.rustc_parse_format.specs.Call.{marked}
+use Rattle.rustc_parse_format.specs.Marks.{marked}
 use Rattle.rustc_parse_format.specs.Lines.{Noted, read_lines}
 use Rattle.rustc_parse_format.specs.Midway.{Midway, read_texts, read_run, noted_next, passed_next, IsInOneLine}
 use Rattle.rustc_parse_format.proofs.Fronts.{front-behind}

@@ -6,7 +6,7 @@ use Rattle.std.proofs.lemmas.Option.{none-some}
 use Rattle.std.proofs.lemmas.Bool.{cond-true, and_parts}
 use Rattle.rustc_parse_format.specs.Characters.{Text, front, behind, is_no_brace, is_in_line, first}
 use Rattle.rustc_parse_format.specs.World.{StartBehind}
-use Rattle.rustc_parse_format.specs.Call.{marked}
+use Rattle.rustc_parse_format.specs.Marks.{marked}
 use Rattle.rustc_parse_format.specs.Lines.{noted}
 use Rattle.rustc_parse_format.specs.Midway.{Midway, read_texts, read_run, IsInOneLine}
 use Rattle.rustc_parse_format.proofs.Fronts.{front-behind, list_all-front, list_all-weaker}

@@ -86,10 +86,12 @@ continuation-taken t q (Plain c ∷ vs) (r, w, m, f, h) e b =
 continuation-taken t q (SimpleEscape l ∷ vs) (r, w, m, f, h) e b =
     absurd (letter-no_continuation l (closed_by_quote r) w (subst (λ s. begins_continuation s ≡ true) (closed-split t q (SimpleEscape l) r e f) b))
 continuation-taken t q (ByteEscape a l ∷ vs) (r, w, m, f, h) e b =
-    let k : begins_continuation (spelling (ByteEscape a l) ++ closed_by_quote r) ≡ true = subst (λ s. begins_continuation s ≡ true) (closed-split t q (ByteEscape a l) r e f) b in
+    let k : begins_continuation (spelling (ByteEscape a l) ++ closed_by_quote r) ≡ true =
+    subst (λ s. begins_continuation s ≡ true) (closed-split t q (ByteEscape a l) r e f) b in
     absurd (false≢true k)
 continuation-taken t q (UnicodeEscape v ∷ vs) (r, w, m, f, h) e b =
-    let k : begins_continuation (spelling (UnicodeEscape v) ++ closed_by_quote r) ≡ true = subst (λ s. begins_continuation s ≡ true) (closed-split t q (UnicodeEscape v) r e f) b in
+    let k : begins_continuation (spelling (UnicodeEscape v) ++ closed_by_quote r) ≡ true =
+    subst (λ s. begins_continuation s ≡ true) (closed-split t q (UnicodeEscape v) r e f) b in
     absurd (false≢true k)
 continuation-taken t q (Continuation v ∷ vs) (r, w, m, f, h) e b =
     record {
@@ -115,7 +117,8 @@ continuation-none t q (SimpleEscape l ∷ vs) h e b = refl
 continuation-none t q (ByteEscape a l ∷ vs) h e b = refl
 continuation-none t q (UnicodeEscape v ∷ vs) h e b = refl
 continuation-none t q (Continuation v ∷ vs) (r, w, m, f, h) e b =
-    let k : begins_continuation (spelling (Continuation v) ++ closed_by_quote r) ≡ false = subst (λ s. begins_continuation s ≡ false) (closed-split t q (Continuation v) r e f) b in
+    let k : begins_continuation (spelling (Continuation v) ++ closed_by_quote r) ≡ false =
+    subst (λ s. begins_continuation s ≡ false) (closed-split t q (Continuation v) r e f) b in
     absurd (true≢false k)
 
 -- A content is its units as they are written.

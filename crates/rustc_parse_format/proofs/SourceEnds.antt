@@ -7,7 +7,7 @@ use Rattle.std.proofs.lemmas.List.{append_cancel_right}
 use Rattle.std.proofs.lemmas.Option.{none-some}
 use Rattle.rustc_parse_format.specs.Characters.{Text, byte_length}
 use Rattle.rustc_parse_format.specs.LiteralUnits.{LiteralUnit}
-use Rattle.rustc_parse_format.specs.Literal.{IsLiteral, units, ordinary_frame, raw_frame, raw_closing, raw_opening}
+use Rattle.rustc_parse_format.specs.Literal.{IsContent, IsLiteral, units, ordinary_frame, raw_frame, raw_closing, raw_opening}
 use Rattle.rustc_parse_format.specs.Source.{between}
 use Rattle.rustc_parse_format.specs.World.{ordinary_end}
 use Rattle.rustc_parse_format.specs.LiteralReading.{spelled_end}
@@ -19,8 +19,11 @@ use Rattle.rustc_parse_format.proofs.LiteralWidths.{width-append, width-cons, wi
 use Rattle.rustc_parse_format.proofs.Sources.{between-frame}
 
 -- the units of what stands in quotes
-pub units_between-frame : (s q : Text) (us : List LiteralUnit) → s ≡ ordinary_frame q → units q ≡ Some us → units_between s ≡ us
+units_between-frame : (s q : Text) (us : List LiteralUnit) → s ≡ ordinary_frame q → units q ≡ Some us → units_between s ≡ us
 units_between-frame s q us f h = ap (λ t. unwrap_or (units t) []) (ap between f ∙ between-frame q) ∙ ap (λ o. unwrap_or o []) h
+
+pub frame-units : (s q : Text) (us : List LiteralUnit) → s ≡ ordinary_frame q → IsContent q us → units_between s ≡ us
+frame-units s q us f h = units_between-frame s q us f (units-complete q us h)
 
 same_content : (s p q : Text) → s ≡ ordinary_frame p → s ≡ ordinary_frame q → p ≡ q
 same_content s p q f g =

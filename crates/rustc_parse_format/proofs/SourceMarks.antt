@@ -1,9 +1,9 @@
 -- A mark that is moved forward to a rest, character by character.
-use Rattle.std.proofs.Common.{◌≡◌, ◌≢◌, ◌++◌, ◌+◌, ◌<◌, ◌≤◌, Bool, true, false, List, ℕ, [], ◌∷◌, drop, length, chars, Some, None, IsUtf8, ap, refl, subst}
+use Rattle.std.proofs.Common.{◌≡◌, ◌≢◌, ◌++◌, ◌+◌, ◌<◌, ◌≤◌, Bool, true, false, List, ℕ, [], ◌∷◌, drop, length, chars, IsUtf8, ap, refl, subst}
 use Rattle.std.proofs.Common.{sym, ◌∙◌, arith}
 use Rattle.std.specs.Prelude.{IsTrue}
 use Rattle.std.specs.List.{list_all}
-use Rattle.std.proofs.lemmas.Bool.{and_from, and_parts, eqb-true, false≢true, ne_eqb}
+use Rattle.std.proofs.lemmas.Bool.{and_parts}
 use Rattle.std.proofs.lemmas.Str.{IsUtf8-from_is_utf8, len_utf8_bounds}
 use Rattle.rustc_parse_format.specs.World.{World}
 use Rattle.rustc_parse_format.specs.LiteralUnits.{LiteralUnit, Plain, is_plain, meaning}
@@ -12,7 +12,7 @@ use Rattle.rustc_parse_format.specs.SeenSource.{IsHere, begins_continuation, cha
 use Rattle.rustc_parse_format.proofs.LiteralUnitLaws.{unit_at-complete}
 use Rattle.rustc_parse_format.proofs.SourceContents.{gap-none, plain-no_continuation, width-read}
 use Rattle.rustc_parse_format.proofs.SourceSteps.{after_character, cut_from}
-use Rattle.rustc_parse_format.specs.Characters.{Text, begins_with, behind_first, byte_length, first}
+use Rattle.rustc_parse_format.specs.Characters.{Text, behind_first, byte_length}
 use Rattle.rustc_parse_format.proofs.LiteralWidths.{width-append, width-cons}
 use Rattle.rustc_parse_format.proofs.Places.{begun, behind_width, width_chars}
 
@@ -76,38 +76,6 @@ here_plain s w (c ∷ d ∷ u) rest t at g h some e p f =
   where
     no_list : (x : ℕ) (xs : Text) → x ∷ xs ≡ [] → ⊥
     no_list x xs e = cc e
-
--- Two texts compared: what is left of them decides what the whole is.
-abbrev pub PlainSoFar : Text → Text → Text → Text → Type 0
-PlainSoFar text front rest wanted = (t : Text) → rest ≡ wanted ++ t → IsTrue (list_all is_plain wanted) →
-    (text ≡ front ++ t) × IsTrue (list_all is_plain front)
-
-pub plain_start : (text front rest wanted : Text) → rest ≡ text → wanted ≡ front → PlainSoFar text front rest wanted
-plain_start text front rest wanted e f = λ t h p. (sym e ∙ (h ∙ ap (λ u. u ++ t) f), rw f at p)
-
-pub some_shorter : (wanted later : Text) (c : ℕ) → Some c ≡ first wanted → later ≡ behind_first wanted → length later < length wanted
-some_shorter [] later c e f = cc e
-some_shorter (x ∷ wanted) later c e f = omega (arith, ap length f)
-
-plain_char : (c : ℕ) → (c ≡ 34 → ⊥) → (c ≡ 92 → ⊥) → (c ≡ 13 → ⊥) → IsTrue (is_plain c)
-plain_char c q b r = rw (ne_eqb c 34 q, ne_eqb c 92 b, ne_eqb c 13 r) refl
-
-pub plain_more : (text front rest wanted rest_then wanted_then : Text) (c : ℕ) → Some c ≡ first wanted → begins_with c rest ≡ true →
-    rest_then ≡ behind_first rest → wanted_then ≡ behind_first wanted → (c ≡ 34 → ⊥) → (c ≡ 92 → ⊥) → (c ≡ 13 → ⊥) →
-    PlainSoFar text front rest wanted → PlainSoFar text front rest_then wanted_then
-plain_more text front rest [] rest_then wanted_then c e f g h q b r so_far = absurd (cc e)
-plain_more text front [] (x ∷ wanted) rest_then wanted_then c e f g h q b r so_far = absurd (false≢true f)
-plain_more text front (y ∷ rest) (x ∷ wanted) rest_then wanted_then c e f g h q b r so_far =
-    λ t k p.
-    let here : x ≡ c = cc in
-    let there : y ≡ x = eqb-true y c f ∙ sym here in
-    let plain : IsTrue (is_plain x) = rw here (plain_char c q b r) in
-    so_far t (ap (λ z. z ∷ rest) there ∙ ap (λ u. x ∷ u) (sym g ∙ (k ∙ ap (λ u. u ++ t) h))) (and_from (is_plain x) _ plain (rw h at p))
-
-pub plain_all : (text front rest wanted : Text) → None ≡ first wanted → PlainSoFar text front rest wanted →
-    (t : Text) × (text ≡ front ++ t) × IsTrue (list_all is_plain front)
-plain_all text front rest [] e so_far = let both = so_far rest refl refl in (rest, both.0, both.1)
-plain_all text front rest (x ∷ wanted) e so_far = absurd (cc e)
 
 -- where what was passed ends in the snippet
 pub moved_cut : (s moved : List ℕ) (front t : Text) (at : ℕ) → at ≤ length s → IsUtf8 (drop at s) → IsUtf8 moved → chars moved ≡ front →

@@ -7,8 +7,7 @@ use Rattle.std.specs.declared.string.String.{String}
 use Rattle.std.specs.declared.alloc.Global.{Global}
 use Rattle.rustc_parse_format.specs.declared.source.Source.{Source}
 use Rattle.rustc_parse_format.specs.Characters.{Text, behind_first}
-use Rattle.rustc_parse_format.specs.Source.{units_between}
-use Rattle.rustc_parse_format.proofs.ReadBackWorlds.{frame-units}
+use Rattle.rustc_parse_format.proofs.SourceEnds.{frame-units}
 use Rattle.rustc_parse_format.specs.World.{ordinary_end, World, place_at}
 use Rattle.std.specs.Str.{is_utf8}
 use Rattle.rustc_parse_format.specs.Bytes.{IsLeft}
@@ -65,7 +64,7 @@ left_self t u =
 kept_ends : (o : Option (String Global)) (s : Source) → IsKeptIn o s → s.end ≡ (world_with o s).end
 kept_ends None s k = refl
 kept_ends (Some snippet) s k =
-    k.ending ∙ sym (ap (λ (t : Text). ordinary_end (units_between t)) k.is_literal ∙ ap ordinary_end (frame-units k.content k.units k.is_content))
+    k.ending ∙ sym (ap ordinary_end (frame-units (chars (string_bytes snippet)) k.content k.units k.is_literal k.is_content))
 
 -- at the start of an input
 pub first_spot : (s : Source) (input : List ℕ) (at : ℕ) → IsUtf8 input → s.input.now ≡ input → s.offset + length input < 2 ^ 64 →

@@ -15,7 +15,6 @@ use Rattle.rustc_parse_format.specs.Literal.{IsContent, content_value, newline}
 use Rattle.rustc_parse_format.specs.SeenSource.{IsHere, after_continuations, character_width, closed_by_quote, gap, gap_to, spelled_units}
 use Rattle.rustc_parse_format.specs.World.{World, Place, place_at, content_places, last_stop, newline_places}
 use Rattle.rustc_parse_format.proofs.LiteralWidths.{width-append}
-use Rattle.rustc_parse_format.proofs.Places.{place_end}
 use Rattle.rustc_parse_format.proofs.PlaceOrder.{length-content_places, length-newline, unit_bytes}
 use Rattle.rustc_parse_format.proofs.SourceContents.{after-content, closed-split, spelled}
 use Rattle.rustc_parse_format.proofs.SourceUnits.{Starts, by_ahead, none_ahead, starts_ahead, no_places, first_place, first_value, no_width, first_width}

@@ -14,10 +14,9 @@ use Rattle.rustc_parse_format.specs.World.{World, world, literal_world, plain_wo
 use Rattle.rustc_parse_format.specs.LiteralReading.{IsFound, IsSourceTo, is_longer, plain_end}
 use Rattle.rustc_parse_format.specs.Source.{units_between}
 use Rattle.rustc_parse_format.specs.SeenSource.{IsOrdinary, IsKeptIn, world_with}
-use Rattle.rustc_parse_format.proofs.LiteralContents.{units-complete}
 use Rattle.rustc_parse_format.proofs.LiteralWidths.{width-append, width-cons}
 use Rattle.rustc_parse_format.proofs.Sources.{has_source}
-use Rattle.rustc_parse_format.proofs.SourceEnds.{units_between-frame}
+use Rattle.rustc_parse_format.proofs.SourceEnds.{frame-units}
 use Rattle.rustc_parse_format.proofs.SourcePlain.{ordinary-plain}
 
 world-found : (input : Text) (style : Option ℕ) (s : Text) (appended : Bool) → HasSource input style (Some s) appended →
@@ -29,7 +28,8 @@ world-foreign : (input : Text) (style : Option ℕ) (s : Text) (appended : Bool)
     world input style (Some s) appended ≡ plain_world false (quote_offset style) input (foreign_end s)
 unfolding world
 world-foreign input style s appended h =
-    cond-false (is_source input style (Some s) appended) _ _ (none (is_source input style (Some s) appended) (λ b. h ((has_source input style (Some s) appended).0 b)))
+    cond-false (is_source input style (Some s) appended) _ _
+    (none (is_source input style (Some s) appended) (λ b. h ((has_source input style (Some s) appended).0 b)))
   where
     none : (b : Bool) → (IsTrue b → ⊥) → b ≡ false
     none false h = refl
@@ -44,7 +44,7 @@ kept-literal source s ((t, (content, us, frame, is_content, value), e), f) = rec
   is_literal = frame;
   is_content = is_content;
   stands_for = ap (λ x. x ++ newline source.appended) value ∙ e;
-  ending = f ∙ ap ordinary_end (units_between-frame s content us frame (units-complete content us is_content));
+  ending = f ∙ ap ordinary_end (frame-units s content us frame is_content);
 }
 
 -- a literal that is not longer than what it stands for
@@ -75,7 +75,7 @@ kept-plain : (source : Source) (s : Text) (k : IsOrdinary (chars source.input.no
     is_longer (chars source.input.now) None (Some s) source.appended ≡ false →
     plain_world true 1 (chars source.input.now) source.end ≡ ordinary_world (units_between s) source.appended
 kept-plain source s k n =
-    let found = units_between-frame s k.content k.units k.is_literal (units-complete k.content k.units k.is_content) in
+    let found = frame-units s k.content k.units k.is_literal k.is_content in
     let long = as_long k.content (content_value k.units) s (chars source.input.now) source.appended k.is_literal k.stands_for n in
     rw (found, k.ending, ← k.stands_for) (sym (ordinary-plain k.content k.units source.appended k.is_content long))
 

@@ -54,7 +54,12 @@ kept_here (Some snippet) s rest mark at l m h =
     record {
       from = 1;
       in_order = ordinary-in_order us s.appended;
-      enough = omega (arith, here-enough (string_bytes snippet) (world_with (Some snippet) s) (chars mark) at h, ap length k.whole, length-append k.pre (chars rest));
+      enough = omega (
+        arith,
+        here-enough (string_bytes snippet) (world_with (Some snippet) s) (chars mark) at h,
+        ap length k.whole,
+        length-append k.pre (chars rest),
+      );
     }
 
 pub spot-places : (s : Source) (rest mark : List ℕ) (at : ℕ) → IsSpot s rest mark at → HasPlaces (seen_world s) (length (chars rest))

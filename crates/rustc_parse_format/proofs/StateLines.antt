@@ -7,11 +7,9 @@ use Rattle.std.proofs.lemmas.List.{nil_from_length}
 use Rattle.std.proofs.lemmas.List.{append-nil}
 use Rattle.rustc_parse_format.specs.Characters.{Text}
 use Rattle.rustc_parse_format.specs.Call.{Call, call}
-use Rattle.rustc_parse_format.specs.Lines.{lines_in, closed_in, listed, ends_with, with_last}
+use Rattle.rustc_parse_format.specs.Lines.{lines_in, closed_in, ends_with, with_last}
 use Rattle.rustc_parse_format.specs.World.{World, Place, place_at}
-use Rattle.rustc_parse_format.specs.declared.source.Source.{Source}
-use Rattle.rustc_parse_format.specs.Faults.{Message, add_errors}
-use Rattle.rustc_parse_format.specs.Midway.{Midway, midway, closed_then, read_call}
+use Rattle.rustc_parse_format.specs.Midway.{HasFoundNothing, Midway, closed_then, read_call}
 use Rattle.rustc_parse_format.proofs.Places.{place_end}
 use Rattle.rustc_parse_format.specs.State.{State, NeedsNoMemory, after, last_lines, next_call}
 
@@ -36,28 +34,28 @@ at_end s e =
     rw (e, lines_in-nil s.world s.line_start, closed_in-none s.world, append-nil s.line_spans, append-nil s.arg_places) (refl, refl)
 
 -- The last line at the end.
-last-kept : (s : State) (at : ℕ) → s.rest ≡ [] → s.world.has_source ≡ true → at ≡ (place_at s.world (length s.rest)).0 →
-    last_lines s s.line_spans ≡ (if ends_with (s.line_start, at) s.line_spans then s.line_spans else s.line_spans ++ (s.line_start, at) ∷ [])
-last-kept s at e h f =
-    let end : at ≡ s.world.end = f ∙ (ap (λ (t : Text). (place_at s.world (length t)).0) e ∙ ap (λ (p : Place). p.0) (place_end s.world)) in
+last-kept : (s : State) (last : Place) → s.rest ≡ [] → s.world.has_source ≡ true → last ≡ (s.line_start, (place_at s.world (length s.rest)).0) →
+    last_lines s s.line_spans ≡ (if ends_with last s.line_spans then s.line_spans else s.line_spans ++ last ∷ [])
+last-kept s last e h f =
+    let end : last ≡ (s.line_start, s.world.end) = f ∙ ap (λ (p : Place). (s.line_start, p.0))
+    (ap (λ (t : Text). place_at s.world (length t)) e ∙ place_end s.world) in
     rw (e, h, end) refl
 
-pub ended_more : (s : State) (at : ℕ) (ls : List Place) → s.rest ≡ [] → s.world.has_source ≡ true → at ≡ (place_at s.world (length s.rest)).0 →
-    ends_with (s.line_start, at) s.line_spans ≡ false → ls ≡ s.line_spans ++ (s.line_start, at) ∷ [] → ls ≡ last_lines s s.line_spans
-ended_more s at ls e h f b k =
-    k ∙ sym (last-kept s at e h f ∙ cond-false (ends_with (s.line_start, at) s.line_spans) s.line_spans (s.line_spans ++ (s.line_start, at) ∷ []) b)
+pub ended_more : (s : State) (last : Place) (ls : List Place) → s.rest ≡ [] → s.world.has_source ≡ true →
+    last ≡ (s.line_start, (place_at s.world (length s.rest)).0) → ends_with last s.line_spans ≡ false → ls ≡ s.line_spans ++ last ∷ [] →
+    ls ≡ last_lines s s.line_spans
+ended_more s last ls e h f b k = k ∙ sym (last-kept s last e h f ∙ cond-false (ends_with last s.line_spans) s.line_spans (s.line_spans ++ last ∷ []) b)
 
-pub ended_same : (s : State) (at : ℕ) → s.rest ≡ [] → s.world.has_source ≡ true → at ≡ (place_at s.world (length s.rest)).0 →
-    ends_with (s.line_start, at) s.line_spans ≡ true → s.line_spans ≡ last_lines s s.line_spans
-ended_same s at e h f b =
-    sym (last-kept s at e h f ∙ cond-true (ends_with (s.line_start, at) s.line_spans) s.line_spans (s.line_spans ++ (s.line_start, at) ∷ []) b)
+pub ended_same : (s : State) (last : Place) → s.rest ≡ [] → s.world.has_source ≡ true →
+    last ≡ (s.line_start, (place_at s.world (length s.rest)).0) → ends_with last s.line_spans ≡ true → s.line_spans ≡ last_lines s s.line_spans
+ended_same s last e h f b = sym (last-kept s last e h f ∙ cond-true (ends_with last s.line_spans) s.line_spans (s.line_spans ++ last ∷ []) b)
 
 no_more : {A : Type 0} (xs : List A) (x : A) → xs ++ x ∷ [] ≡ xs → ⊥
 no_more xs x e = omega (arith, ap length e, length-append xs (x ∷ []))
 
-pub ended_spare : (s : State) (at : ℕ) → s.rest ≡ [] → s.world.has_source ≡ true → at ≡ (place_at s.world (length s.rest)).0 →
-    ends_with (s.line_start, at) s.line_spans ≡ false → last_lines s s.line_spans ≡ s.line_spans → ⊥
-ended_spare s at e h f b k = no_more s.line_spans (s.line_start, at) (ended_more s at _ e h f b refl ∙ k)
+pub ended_spare : (s : State) (last : Place) → s.rest ≡ [] → s.world.has_source ≡ true →
+    last ≡ (s.line_start, (place_at s.world (length s.rest)).0) → ends_with last s.line_spans ≡ false → last_lines s s.line_spans ≡ s.line_spans → ⊥
+ended_spare s last e h f b k = no_more s.line_spans last (ended_more s last _ e h f b refl ∙ k)
 
 then_none : (o : Option Place) → closed_then None o ≡ o
 then_none None = refl
@@ -71,27 +69,14 @@ not_last s (c ∷ t) ls e h = rw e (by_test s.world.has_source)
     by_test true = refl
     by_test false = refl
 
--- what a parser stands at before a call
-abbrev pub before_call : Source → State → Midway
-before_call source s = midway (record { source = source; world = s.world; input = s.input; rest = s.rest }) s.next s.line_start
-
--- A call that was read is done when what it found is in the lists.
-pub call_done : (source : Source) (s : State) (m : Midway) (k : Call) (rest : Text) (es : List (Message Place)) (ps ls : List Place) →
-    s.rest ≢ [] → m ≡ read_call (before_call source s) k → rest ≡ m.rest → es ≡ add_errors s.errors m.faults →
-    ps ≡ s.arg_places ++ listed m.closed → ls ≡ s.line_spans ++ m.lines →
-    record s { rest = rest; next = m.next; errors = es; arg_places = ps; line_start = m.line_start; line_spans = ls } ≡ after s k
-call_done source s m k rest es ps ls some e f g h i =
-    rw (f, g, h, i, e, then_none (closed_in s.world k.closes), not_last s s.rest (s.line_spans ++ (lines_in s.world s.line_start k.texts).1) refl some) refl
-
 -- where a call gives text and no fault and ends no line, there is nothing to add
-pub nothing_found : (source : Source) (s : State) (m : Midway) (k : Call) → s.rest ≢ [] → m ≡ read_call (before_call source s) k → NeedsNoMemory s k →
-    k.closes ≡ None → (m.faults ≡ []) × (m.lines ≡ []) × (m.closed ≡ None)
-nothing_found source s m k some e n c =
-    let none = n.0.1 in
+pub nothing_found : (s : State) (old : Midway) (k : Call) → s.rest ≢ [] → HasFoundNothing old → old.world ≡ s.world → old.line_start ≡ s.line_start →
+    NeedsNoMemory s k → k.closes ≡ None → HasFoundNothing (read_call old k)
+nothing_found s old k some none world start n closes =
     let kept : s.line_spans ++ (lines_in s.world s.line_start k.texts).1 ≡ s.line_spans =
     sym (not_last s s.rest (s.line_spans ++ (lines_in s.world s.line_start k.texts).1) refl some) ∙ n.1 in
     let no_line : (lines_in s.world s.line_start k.texts).1 ≡ [] = nothing_appended s.line_spans _ kept in
-    rw (e, none, no_line, c, closed_in-none s.world) (refl, refl, refl)
+    rw (none.0, none.1, none.2, world, start, n.0.1, no_line, closes, closed_in-none s.world) (refl, refl, refl)
 
 pub map_nil : {A B : Type 0} (f : A → B) (xs : List A) → map f xs ≡ [] → xs ≡ []
 map_nil f [] e = refl

@@ -1,5 +1,5 @@
 -- Steps: what one move does, where the cursor never stood further on, and that a word given back is paid.
-use Rattle.std.proofs.Common.{◌≡◌, ℕ, ◌+◌, ◌≤◌, Bool, true, false, cond, [], ◌∷◌, length, refl, ap, ◌∙◌, arith}
+use Rattle.std.proofs.Common.{◌≡◌, ℕ, ◌+◌, ◌++◌, ◌≤◌, Bool, true, false, cond, [], ◌∷◌, length, refl, ap, ◌∙◌, arith}
 use Rattle.std.specs.Prelude.{◌||◌, if◌then◌else◌, is_some}
 use Rattle.unicode_ident.proofs.Computing.{unicode_ident}
 use Rattle.std.proofs.lemmas.Bool.{eqb-true}
@@ -83,6 +83,19 @@ forward_one c t a b e = record {
 pub moved : (t r : Text) (a b : Trail) → r ≡ behind_first t → b ≡ (if is_some (first t) then record a { steps = a.steps + 1 } else a) → Forward t a r b
 moved [] r a b f e = rw (e, f) (record { steps = refl; left = refl; rest = omega arith; part = omega arith })
 moved (c ∷ t) r a b f e = rw f (forward_one c t a b e)
+
+-- a step over each character of a run
+pub forward_run : (u r : Text) (a b : Trail) → b ≡ record a { steps = a.steps + length u } → Forward (u ++ r) a r b
+forward_run [] r a b e = record {
+  steps = omega (arith, ap (λ (x : Trail). x.steps) e);
+  left = ap (λ (x : Trail). x.left) e;
+  rest = omega arith;
+  part = omega arith;
+}
+forward_run (c ∷ u) r a b e =
+    let one : Trail = record a { steps = a.steps + 1 } in
+    let n : a.steps + length (c ∷ u) ≡ (a.steps + 1) + length u = omega arith in
+    forward_then (forward_one c (u ++ r) a one refl) (forward_run u r one b (e ∙ ap (λ k. record a { steps = k }) n))
 
 -- A word is tried where the cursor never stood further on, and given back.
 pub paid_back : (t u v : Text) (a b d : Trail) → IsFurthest t a → u ≡ behind_word t → Forward t a u b → v ≡ t → d ≡ record b { left = length u } → Paid t a v d

@@ -1,6 +1,8 @@
--- How the bytes of a text and of a rest of it go together.
-use Rattle.std.specs.Prelude.{◌≡◌, ◌-◌, ◌≤◌, ℕ, true, List, length, drop}
+-- How the bytes of a text and of a rest of it go together, and fronts of a text by its bytes.
+use Rattle.std.specs.Prelude.{◌≡◌, ◌-◌, ◌≤◌, ℕ, Bool, true, false, List, length, take, drop}
+use Rattle.std.specs.List.{list_all}
 use Rattle.std.specs.Str.{is_utf8}
+use Rattle.rustc_parse_format.specs.Characters.{first_passes}
 
 -- the text rest is what is left of the text input
 pub record IsLeft (input rest : List ℕ) : Type 0 where
@@ -8,3 +10,20 @@ pub record IsLeft (input rest : List ℕ) : Type 0 where
   pub valid_rest : is_utf8 rest ≡ true
   pub within : length rest ≤ length input
   pub tail : drop (length input - length rest) input ≡ rest
+
+-- the test is of ASCII: all that is not ASCII passes
+abbrev pub IsOfAscii : (ℕ → Bool) → Type 0
+IsOfAscii p = (c : ℕ) → 128 ≤ c → p c ≡ true
+
+-- the first n bytes pass the test, and the next one, if there is one, does not
+pub record IsFront (p : ℕ → Bool) (bytes : List ℕ) (n : ℕ) : Type 0 where
+  pub within : n ≤ length bytes
+  pub pass : list_all p (take n bytes) ≡ true
+  pub next : first_passes p (drop n bytes) ≡ false
+
+-- two texts begin with the same n bytes, which pass the test
+pub record IsSharedFront (p : ℕ → Bool) (bytes others : List ℕ) (n : ℕ) : Type 0 where
+  pub within : n ≤ length bytes
+  pub within_others : n ≤ length others
+  pub same : take n bytes ≡ take n others
+  pub pass : list_all p (take n bytes) ≡ true

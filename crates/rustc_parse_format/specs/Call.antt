@@ -4,13 +4,13 @@ use Prim.Native.Char.{code}
 use Rattle.std.specs.Prelude.{◌≡◌, ℕ, suc, zero, ◌++◌, ◌==◌, if◌then◌else◌, List, [], ◌∷◌, length, Option, Some, None}
 use Rattle.rustc_parse_format.specs.Characters.{Text, is_brace, is_no_brace, front, behind, behind_white, first, behind_first, begins_with}
 use Rattle.rustc_parse_format.specs.Types.{Mode, Spec, Piece, Lit, NextArgument}
-use Rattle.rustc_parse_format.specs.Marks.{Span, up_to, through, over_first}
-use Rattle.rustc_parse_format.specs.Syntax.{SpecText, Default, Formatting, Modifier, DiagnosticText}
+use Rattle.rustc_parse_format.specs.Marks.{Span, up_to, through, over_first, marked}
 use Rattle.rustc_parse_format.specs.Placeholder.{cut, Cut}
 use Rattle.rustc_parse_format.specs.Values.{number_after_field}
-use Rattle.rustc_parse_format.specs.Meaning.{argument}
+use Rattle.rustc_parse_format.specs.Meaning.{argument, spec_texts}
 use Rattle.rustc_parse_format.specs.Faults.{Fault, UnmatchedBrace, no_brace, brace_fill}
 use Rattle.rustc_parse_format.specs.PartFaults.{cut_faults}
+use Rattle.rustc_parse_format.specs.Recovery.{recovery}
 
 pub record Call : Type 0 where
   pub piece : Option (Piece Span)
@@ -26,18 +26,6 @@ pub record Call : Type 0 where
 -- r stands where the closing brace of the placeholder at opening, with the specification f, should
 abbrev pub unclosed_fault : Text → Spec Span → Text → Fault Span
 unclosed_fault opening f r = no_brace (brace_fill f.fill f.fill_span) (first r) (up_to r r) (over_first opening)
-
--- a run of text with r after it, each character by how many are left from it on
-abbrev pub marked : Text → Text → List (ℕ × ℕ)
-marked [] r = []
-marked (c ∷ u) r = (c, length (c ∷ u ++ r)) ∷ marked u r
-
--- the text that is read in a specification with r after it: of a diagnostic one, all after its colon
-abbrev pub spec_texts : SpecText → Text → List (ℕ × ℕ)
-spec_texts Default r = []
-spec_texts (Formatting p) r = []
-spec_texts (Modifier w) r = []
-spec_texts (DiagnosticText u) r = marked u r
 
 -- the characters of l, and the longest run without braces at the front of t
 abbrev pub text_call : ℕ → Text → Text → Call
@@ -61,22 +49,25 @@ closed_call c opening a r = record {
   closes = Some (through opening r);
 }
 
-abbrev pub unclosed_call : ℕ → Text → Cut → Text → Call
-unclosed_call c opening a r = record {
-  piece = Some (NextArgument (argument c a));
-  faults = cut_faults a ++ unclosed_fault opening (argument c a).format r ∷ [];
-  rest = r;
-  next = number_after_field c a.field;
-  texts = spec_texts a.field.spec a.rest;
-  closes = None;
-}
+-- The placeholder at opening where r stands in place of its closing brace. After that fault come those of the recovery.
+abbrev pub unclosed_call : Mode → ℕ → Text → Cut → Text → Call
+unclosed_call mode c opening a r =
+    let k = recovery mode (number_after_field c a.field) opening (argument c a) r in
+    record {
+      piece = Some (NextArgument (argument c a));
+      faults = cut_faults a ++ unclosed_fault opening (argument c a).format r ∷ k.faults;
+      rest = k.rest;
+      next = k.next;
+      texts = spec_texts a.field.spec a.rest ++ k.texts;
+      closes = None;
+    }
 
 -- the placeholder at opening, with t after its brace
 unfoldable pub placeholder : Mode → ℕ → Text → Text → Call
 placeholder mode c opening t =
     let a = cut mode t in
     let r = behind_white a.rest in
-    if begins_with (code "}") r then closed_call c opening a r else unclosed_call c opening a r
+    if begins_with (code "}") r then closed_call c opening a r else unclosed_call mode c opening a r
 
 abbrev pub unmatched_call : ℕ → Text → Text → Call
 unmatched_call c at t = record { piece = None; faults = UnmatchedBrace (over_first at) ∷ []; rest = t; next = c; texts = []; closes = None }

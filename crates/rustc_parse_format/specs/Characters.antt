@@ -1,6 +1,6 @@
 -- A text is the list of its characters. Classes of characters, and the longest front of a text whose characters pass.
 use Prim.Native.Char.{code}
-use Rattle.std.specs.Prelude.{ℕ, ◌%◌, Bool, false, not, ◌&&◌, ◌||◌, ◌==◌, if◌then◌else◌, nat_lt, List, [], ◌∷◌, Option, Some, None, sum_by}
+use Rattle.std.specs.Prelude.{ℕ, ◌%◌, Bool, true, false, not, ◌&&◌, ◌||◌, ◌==◌, if◌then◌else◌, nat_lt, List, [], ◌∷◌, Option, Some, None, sum_by}
 use Rattle.std.specs.Char.{is_whitespace, is_ascii_digit, len_utf8}
 use Rattle.std.specs.Str.Parse.{digits_value}
 use Rattle.unicode_ident.specs.Ident.{is_xid_start, is_xid_continue}
@@ -61,6 +61,10 @@ behind_digits t = behind is_ascii_digit t
 unfoldable pub behind_white : Text → Text
 behind_white t = behind is_whitespace t
 
+abbrev pub is_nil : Text → Bool
+is_nil [] = true
+is_nil (c ∷ t) = false
+
 abbrev pub first : Text → Option ℕ
 first [] = None
 first (c ∷ t) = Some c
@@ -83,6 +87,14 @@ begins_with c (d ∷ t) = d == c
 abbrev pub first_passes : (ℕ → Bool) → Text → Bool
 first_passes p [] = false
 first_passes p (c ∷ t) = p c
+
+-- the text begins with `r#` and what may begin a word, as a raw identifier does
+abbrev pub begins_raw : Text → Bool
+begins_raw t = begins_with (code "r") t && (begins_with (code "#") (behind_first t) && first_passes is_id_start (behind_first (behind_first t)))
+
+-- what is after such an `r#`
+abbrev pub behind_prefix : Text → Text
+behind_prefix t = behind_first (behind_first t)
 
 -- what is after a closing brace, if the text begins with one
 abbrev pub behind_brace : Text → Text

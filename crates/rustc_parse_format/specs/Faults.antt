@@ -1,6 +1,7 @@
 -- The faults, over any kind of span, and what each says, as the bytes of its texts.
 use Prim.Native.Char.{code}
-use Rattle.std.specs.Prelude.{◌≡◌, ℕ, Bool, false, ◌++◌, ◌==◌, if◌then◌else◌, List, [], ◌∷◌, Option, Some, None, option_map, codes, encode_utf8_all}
+use Rattle.std.specs.Prelude.{◌≡◌, ℕ, Bool, true, false, ◌++◌, ◌==◌, if◌then◌else◌, List, [], ◌∷◌, Option, Some, None, option_map, codes, encode_utf8}
+use Rattle.std.specs.Prelude.{encode_utf8_all}
 use Rattle.rustc_parse_format.specs.Characters.{Text}
 use Rattle.rustc_parse_format.specs.Written.{written}
 
@@ -15,6 +16,26 @@ pub data Fault (Span : Type 0) : Type 0 where
   Underscore : Span → Fault Span
   -- the digits of a number above 65535
   TooLarge : Text → Span → Fault Span
+  -- a raw identifier, and its `r#`
+  RawIdentifier : Span → Span → Fault Span
+  -- a flag after the type `?`, and the `?` with it
+  LateFlag : ℕ → Span → Span → Fault Span
+  -- In place of a closing brace: a `?` in front of it,
+  MissingColon : Span → Fault Span
+  -- a `?` with a colon and this word after it,
+  LateDebug : Text → Span → Fault Span
+  -- `<`, `>` or `^`,
+  LateAlign : ℕ → Span → Fault Span
+  -- a `,`, and the opening brace,
+  Grouping : Span → Span → Fault Span
+  -- a `=` in front of it, and the opening brace,
+  DebugPrint : Span → Span → Fault Span
+  -- a `+`,
+  LateSign : Span → Fault Span
+  -- or a field that is a name, from the start of the position of its argument on,
+  FieldAccess : Span → Fault Span
+  -- or a number
+  TupleIndex : Span → Fault Span
 
 -- the span of a fill, where the fill is a closing brace
 abbrev pub brace_fill : {A : Type 0} → Option ℕ → Option A → Option A
@@ -28,7 +49,21 @@ no_brace (Some fill) found s opening = FillBrace found s fill
 
 -- goes to the front of the list of errors, and not to its back
 abbrev pub is_front : {A : Type 0} → Fault A → Bool
-is_front f = false
+is_front (UnmatchedBrace s) = false
+is_front (MissingBrace c s o) = false
+is_front (FillBrace c s o) = false
+is_front (Underscore s) = false
+is_front (TooLarge ds s) = false
+is_front (RawIdentifier s p) = true
+is_front (LateFlag c s b) = true
+is_front (MissingColon s) = true
+is_front (LateDebug w s) = true
+is_front (LateAlign c s) = true
+is_front (Grouping s o) = true
+is_front (DebugPrint s o) = true
+is_front (LateSign s) = true
+is_front (FieldAccess s) = true
+is_front (TupleIndex s) = true
 
 abbrev pub map_fault : {A B : Type 0} → (A → B) → Fault A → Fault B
 map_fault f (UnmatchedBrace s) = UnmatchedBrace (f s)
@@ -36,6 +71,16 @@ map_fault f (MissingBrace c s o) = MissingBrace c (f s) (f o)
 map_fault f (FillBrace c s o) = FillBrace c (f s) (f o)
 map_fault f (Underscore s) = Underscore (f s)
 map_fault f (TooLarge ds s) = TooLarge ds (f s)
+map_fault f (RawIdentifier s p) = RawIdentifier (f s) (f p)
+map_fault f (LateFlag c s b) = LateFlag c (f s) (f b)
+map_fault f (MissingColon s) = MissingColon (f s)
+map_fault f (LateDebug w s) = LateDebug w (f s)
+map_fault f (LateAlign c s) = LateAlign c (f s)
+map_fault f (Grouping s o) = Grouping (f s) (f o)
+map_fault f (DebugPrint s o) = DebugPrint (f s) (f o)
+map_fault f (LateSign s) = LateSign (f s)
+map_fault f (FieldAccess s) = FieldAccess (f s)
+map_fault f (TupleIndex s) = TupleIndex (f s)
 
 pub data Suggestion (Span : Type 0) : Type 0 where
   Nothing : Suggestion Span
@@ -86,10 +131,29 @@ expected (Some c) = codes "expected `}`, found `" ++ written c ++ codes "`"
 abbrev pub out_of_range : Text → List ℕ
 out_of_range ds = codes "integer `" ++ encode_utf8_all ds ++ codes "` does not fit into the type `u16` whose range is `0..=65535`"
 
+-- how to ask for the format `?` of a word
+abbrev pub debug_after : Text → List ℕ
+debug_after w = codes "`?` comes after `:`, try `" ++ encode_utf8_all w ++ codes ":?` instead"
+
+abbrev pub align_after : ℕ → List ℕ
+align_after c = codes "expected `" ++ encode_utf8 c ++ codes "` to occur after `:`"
+
 -- an error with these texts and spans
 abbrev pub error : {A : Type 0} → List ℕ → Option (List ℕ) → List ℕ → A → Option (List ℕ × A) → Message A
 error description note label span second =
     record { description = description; note = note; label = label; span = span; second = second; suggestion = Nothing }
+
+-- the same, with a suggestion
+abbrev pub suggesting : {A : Type 0} → Suggestion A → Message A → Message A
+suggesting g m = record m { suggestion = g }
+
+-- the error of a field
+abbrev pub local_variable : {A : Type 0} → List ℕ → A → Message A
+local_variable description s = suggesting UsePositional (error
+    description
+    (Some (codes "consider moving this expression to a local variable and then using the local here instead"))
+    (codes "not supported") s
+    None)
 
 -- the error of each fault
 unfoldable pub message : {A : Type 0} → Fault A → Message A
@@ -118,6 +182,48 @@ message (TooLarge ds s) = error
     None
     (codes "integer out of range for `u16`") s
     None
+message (RawIdentifier s p) = suggesting (RemoveRawIdent p) (error
+    (codes "raw identifiers are not supported")
+    (Some (codes "identifiers in format strings can be keywords and don't need to be prefixed with `r#`"))
+    (codes "raw identifier used here") s
+    None)
+message (LateFlag c s b) = suggesting (ReorderFormatParameter b (encode_utf8_all (c ∷ codes "?"))) (error
+    (expected (Some c))
+    None
+    (codes "expected `'}'`") s
+    None)
+message (MissingColon s) = suggesting (AddMissingColon s) (error
+    (codes "expected `}`, found `?`")
+    (Some (codes "to print `{`, you can escape it using `{{`"))
+    (codes "expected `:` before `?` to format with `Debug`") s
+    None)
+message (LateDebug w s) = error
+    (codes "expected format parameter to occur after `:`")
+    (Some (debug_after w))
+    (codes "expected `?` to occur after `:`") s
+    None
+message (LateAlign c s) = error
+    (codes "expected alignment specifier after `:` in format string; example: `{:>?}`")
+    None
+    (align_after c) s
+    None
+message (Grouping s o) = error
+    (codes "python's numeric grouping `,` is not supported in rust format strings")
+    (Some (codes "to print `{`, you can escape it using `{{`"))
+    (codes "expected `}`") s
+    (Some (codes "because of this opening brace", o))
+message (DebugPrint s o) = suggesting UseRustDebugPrintingMacro (error
+    (codes "python's f-string debug `=` is not supported in rust, use `dbg(x)` instead")
+    (Some (codes "to print `{`, you can escape it using `{{`"))
+    (codes "expected `}`") s
+    (Some (codes "because of this opening brace", o)))
+message (LateSign s) = error
+    (codes "the `+` sign flag must appear after `:` in a format string")
+    (Some (codes "`+` comes after `:`, try `{:+}` instead of `{+}`"))
+    (codes "expected `:` before `+` sign flag") s
+    None
+message (FieldAccess s) = local_variable (codes "field access isn't supported") s
+message (TupleIndex s) = local_variable (codes "tuple index access isn't supported") s
 
 -- the list of errors after these faults, in the order in which they were found
 abbrev pub add_errors : {A : Type 0} → List (Message A) → List (Fault A) → List (Message A)

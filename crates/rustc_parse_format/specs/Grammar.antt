@@ -8,11 +8,11 @@ use Rattle.rustc_parse_format.specs.Spelling.{IsPart}
 use Rattle.rustc_parse_format.specs.Types.{Mode, Piece}
 use Rattle.rustc_parse_format.specs.Syntax.{CountText, NumberCount, IndexCount, NameCount, NoCount, WidthText, PaddedWidth, ZeroIndexWidth, PlainWidth}
 use Rattle.rustc_parse_format.specs.Syntax.{PrecisionText, NoPrecision, StarPrecision, DotPrecision, TypeText, DebugHexType, CharacterType, WordType}
-use Rattle.rustc_parse_format.specs.Syntax.{FormatText, SpecText, Default, Formatting, Modifier, DiagnosticText, PositionText, Digits, Word, NoPosition}
-use Rattle.rustc_parse_format.specs.Syntax.{FieldText, PieceText, RunText, DoubledText, PlaceholderText, piece_part}
+use Rattle.rustc_parse_format.specs.Syntax.{FormatText, SpecText, Default, Formatting, Modifier, DiagnosticText, PositionText, Digits, Word, RawWord}
+use Rattle.rustc_parse_format.specs.Syntax.{NoPosition, FieldText, PieceText, RunText, DoubledText, PlaceholderText, piece_part}
 use Rattle.rustc_parse_format.specs.Values.{piece_value, number_after}
 
--- What is refused of what is well formed: the word `_`, and an integer that does not fit into 16 bits.
+-- What is refused of what is well formed: the word `_`, an integer that does not fit into 16 bits, and a raw identifier.
 
 abbrev pub IsNamed : Text → Type 0
 IsNamed w = w ≢ codes "_"
@@ -23,6 +23,7 @@ IsSmall ds = digits_value 10 ds ≤ 65535
 abbrev pub IsCleanPosition : PositionText → Type 0
 IsCleanPosition (Digits ds) = IsSmall ds
 IsCleanPosition (Word w) = IsNamed w
+IsCleanPosition (RawWord w) = ⊥
 IsCleanPosition NoPosition = Unit {0}
 
 abbrev pub IsCleanCount : CountText → Type 0

@@ -12,13 +12,14 @@ pub mod Meaning
 pub mod Written
 pub mod Faults
 pub mod PartFaults
+pub mod Identifiers
+pub mod Recovery
 pub mod Call
 pub mod Steps
 pub mod State
 pub mod Bytes
 pub mod Classes
 pub mod SeenFaults
-pub mod Identifiers
 pub mod Seen
 pub mod LiteralUnits
 pub mod Literal

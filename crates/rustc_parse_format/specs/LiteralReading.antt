@@ -1,9 +1,10 @@
 -- Literals by computing, as the functions that read them go: what a content gives, and what is after a prefix.
-use Rattle.std.specs.Prelude.{◌≡◌, ℕ, Bool, ◌==◌, if◌then◌else◌, List, [], ◌∷◌, map, Option, Some, None, option_map, bytes_eq, not, ◌+◌, false}
+use Rattle.std.specs.Prelude.{◌≡◌, ℕ, Bool, ◌==◌, if◌then◌else◌, List, [], ◌∷◌, map, Option, Some, None, option_map, bytes_eq, not, ◌+◌, ◌++◌, false, IsTrue}
+use Rattle.std.specs.List.{list_all}
 use Rattle.std.specs.declared.ops.Range.{Range}
 use Rattle.rustc_parse_format.specs.Characters.{Text, byte_length}
 use Rattle.rustc_parse_format.specs.World.{literal_end, Place, content_places, last_stop, input_end, foreign_end}
-use Rattle.rustc_parse_format.specs.LiteralUnits.{LiteralUnit}
+use Rattle.rustc_parse_format.specs.LiteralUnits.{LiteralUnit, is_plain}
 use Rattle.rustc_parse_format.specs.Literal.{units, content_value, placed_characters, IsSource}
 use Rattle.rustc_parse_format.specs.Source.{HasSource}
 use Rattle.rustc_parse_format.specs.Seen.{pair}
@@ -25,6 +26,13 @@ after_prefix (c ∷ p) (d ∷ t) = if d == c then after_prefix p t else None
 -- p stands in front of the text, as the flag says, and r is after it
 abbrev pub IsTaken : Text → Text → Bool → Text → Type 0
 IsTaken p t b r = after_prefix p t ≡ (if b then Some r else None)
+
+-- two texts begin with the same plain characters, and r and v are after them
+pub record SharePlain (t w r v : Text) : Type 0 where
+  pub front : Text
+  pub text : t ≡ front ++ r
+  pub other : w ≡ front ++ v
+  pub plain : IsTrue (list_all is_plain front)
 
 -- Where the text ends for which units stand, if they are there and do: they start at a byte, and of no character the end is e.
 abbrev pub end_of : ℕ → ℕ → Option (List LiteralUnit) → Text → Option ℕ

@@ -1,8 +1,8 @@
 -- What a cut means where the next number is c: the argument of `Values`, with marks for its spans.
-use Rattle.std.specs.Prelude.{ℕ, ◌++◌, [], ◌∷◌, Option, Some, None, codes}
+use Rattle.std.specs.Prelude.{ℕ, ◌++◌, List, [], ◌∷◌, Option, Some, None, codes}
 use Rattle.rustc_parse_format.specs.Characters.{Text, behind_first, number}
 use Rattle.rustc_parse_format.specs.Types.{Count, Is, Name, Param, Star, Implied, Spec, Argument, default_spec}
-use Rattle.rustc_parse_format.specs.Marks.{Span, up_to, through, over_first}
+use Rattle.rustc_parse_format.specs.Marks.{Span, up_to, through, over_first, marked}
 use Rattle.rustc_parse_format.specs.Placeholder.{Cut}
 use Rattle.rustc_parse_format.specs.Syntax.{CountText, NumberCount, IndexCount, NameCount, NoCount, WidthText, PaddedWidth, ZeroIndexWidth, PlainWidth}
 use Rattle.rustc_parse_format.specs.Syntax.{width_part, PrecisionText, NoPrecision, StarPrecision, DotPrecision, precision_part, TypeText, DebugHexType}
@@ -105,3 +105,10 @@ argument c a = record {
   position_span = up_to a.position_at a.spec_at;
   format = spec_of c a.spec_at a.field.spec a.rest;
 }
+
+-- the text that is read in a specification with r after it: of a diagnostic one, all after its colon
+abbrev pub spec_texts : SpecText → Text → List (ℕ × ℕ)
+spec_texts Default r = []
+spec_texts (Formatting p) r = []
+spec_texts (Modifier w) r = []
+spec_texts (DiagnosticText u) r = marked u r

@@ -1,11 +1,15 @@
 -- What contracts of readers see in the middle of a call. Only private contracts use it.
-use Rattle.std.specs.Prelude.{◌≡◌, ℕ, ◌++◌, List, [], ◌∷◌, length, Option, Some, None}
+use Prim.Native.Char.{code}
+use Rattle.std.specs.Prelude.{chars, if◌then◌else◌, ◌≡◌, ℕ, ◌++◌, List, [], ◌∷◌, length, Option, Some, None}
 use Rattle.rustc_parse_format.specs.declared.source.Source.{Source}
-use Rattle.rustc_parse_format.specs.Characters.{Text, front, behind, behind_first, is_no_brace}
-use Rattle.rustc_parse_format.specs.Marks.{Span}
+use Rattle.rustc_parse_format.specs.Characters.{Text, front, behind, behind_first, begins_with, is_no_brace}
+use Rattle.rustc_parse_format.specs.Marks.{Span, marked, through}
 use Rattle.rustc_parse_format.specs.Faults.{Fault}
 use Rattle.rustc_parse_format.specs.World.{World, Place, faults_in, place_at}
-use Rattle.rustc_parse_format.specs.Call.{Call, marked}
+use Rattle.rustc_parse_format.specs.Call.{Call, unclosed_fault}
+use Rattle.rustc_parse_format.specs.Recovery.{Recovery, recovery}
+use Rattle.rustc_parse_format.specs.Types.{Mode, Argument}
+use Rattle.rustc_parse_format.specs.SeenSource.{seen_world}
 use Rattle.rustc_parse_format.specs.Lines.{lines_in, closed_in, read_lines}
 
 -- What a cursor stands at: the rest of an input, in its world, which its source gives.
@@ -43,6 +47,14 @@ midway u n start = record {
   closed = None;
 }
 
+-- nothing was found yet
+abbrev pub HasFoundNothing : Midway → Type 0
+HasFoundNothing s = (s.faults ≡ []) × (s.lines ≡ []) × (s.closed ≡ None)
+
+-- what a cursor at the front of this rest of the input of a source stands at
+abbrev pub unread_at : Source → List ℕ → Unread
+unread_at s rest = record { source = s; world = seen_world s; input = chars s.input.now; rest = chars rest }
+
 -- read up to the rest r and the number n, with these faults found on the way
 abbrev pub read_to : Midway → Text → ℕ → List (Fault Span) → Midway
 read_to s r n fs = record s { rest = r; next = n; faults = s.faults ++ faults_in s.world fs }
@@ -78,3 +90,19 @@ closed_then old (Some p) = Some p
 -- after a call
 abbrev pub read_call : Midway → Call → Midway
 read_call s k = record (read_texts (read_to s k.rest k.next k.faults) k.texts) { closed = closed_then s.closed (closed_in s.world k.closes) }
+
+-- behind a sign with this fault, or in front of one that has none
+abbrev pub behind_sign : Midway → Option (Fault Place) → Midway
+behind_sign s None = s
+behind_sign s (Some f) = record s { rest = behind_first s.rest; faults = s.faults ++ f ∷ [] }
+
+-- after a recovery
+abbrev pub recovered : Midway → Recovery → Midway
+recovered s k = read_texts (read_to s k.rest k.next k.faults) k.texts
+
+-- where the closing brace of the placeholder at o, with the argument a, should stand: after the brace, or after the recovery
+abbrev pub behind_closing : Mode → Text → Argument Span → Midway → Midway
+behind_closing mode o a s =
+    if begins_with (code "}") s.rest
+    then record s { rest = behind_first s.rest; closed = closed_then s.closed (closed_in s.world (Some (through o s.rest))) }
+    else recovered (read_to s s.rest s.next (unclosed_fault o a.format s.rest ∷ [])) (recovery mode s.next o a s.rest)

@@ -1,13 +1,15 @@
 -- The faults of the parts of a placeholder, in the order in which they are found.
-use Rattle.std.specs.Prelude.{◌++◌, if◌then◌else◌, List, [], ◌∷◌, codes, bytes_eq}
-use Rattle.rustc_parse_format.specs.Characters.{Text, word, behind_word, digits, behind_digits, behind_first, is_over}
-use Rattle.rustc_parse_format.specs.Marks.{Span, up_to, through}
+use Prim.Native.Char.{code}
+use Rattle.std.specs.Prelude.{ℕ, ◌++◌, ◌||◌, ◌==◌, Bool, if◌then◌else◌, List, [], ◌∷◌, Option, Some, None, codes, bytes_eq}
+use Rattle.rustc_parse_format.specs.Characters.{Text, word, behind_word, digits, behind_digits, first, behind_first, behind_prefix, is_over}
+use Rattle.rustc_parse_format.specs.Marks.{Span, up_to, through, over_first}
 use Rattle.rustc_parse_format.specs.Placeholder.{Cut}
+use Rattle.rustc_parse_format.specs.Syntax.{PositionText, Digits, Word, RawWord, NoPosition}
 use Rattle.rustc_parse_format.specs.Syntax.{WidthText, PaddedWidth, ZeroIndexWidth, PlainWidth, PrecisionText, NoPrecision, StarPrecision, DotPrecision}
 use Rattle.rustc_parse_format.specs.Syntax.{TypeText, DebugHexType, CharacterType, WordType, FormatText, SpecText, Default, Formatting, Modifier}
 use Rattle.rustc_parse_format.specs.Syntax.{DiagnosticText}
 use Rattle.rustc_parse_format.specs.Meaning.{from_width, from_precision, from_type}
-use Rattle.rustc_parse_format.specs.Faults.{Fault, Underscore, TooLarge}
+use Rattle.rustc_parse_format.specs.Faults.{Fault, Underscore, TooLarge, RawIdentifier, LateFlag}
 
 -- a word `_` at the front of t
 abbrev pub word_faults : Text → List (Fault Span)
@@ -17,8 +19,19 @@ word_faults t = if bytes_eq (word t) (codes "_") then Underscore (up_to t (behin
 abbrev pub number_faults : Text → List (Fault Span)
 number_faults t = if is_over (digits t) then TooLarge (digits t) (through t (behind_digits t)) ∷ [] else []
 
--- A position and a count at the front of t are an integer or a word, so at most one of these is there. A word is tried for a
--- count, and so looked at, even where no `$` makes it one.
+-- a raw identifier at the front of t; its word is looked at first
+abbrev pub raw_faults : Text → List (Fault Span)
+raw_faults t = word_faults (behind_prefix t) ++ RawIdentifier (up_to t (behind_word (behind_prefix t))) (through t (behind_first t)) ∷ []
+
+-- the position that stands at t
+abbrev pub position_faults : Text → PositionText → List (Fault Span)
+position_faults t (Digits ds) = number_faults t
+position_faults t (Word w) = word_faults t
+position_faults t (RawWord w) = raw_faults t
+position_faults t NoPosition = []
+
+-- A count at the front of t is an integer or a word, so at most one of these is there. A word is tried for a count, and so
+-- looked at, even where no `$` makes it one.
 unfoldable pub argument_faults : Text → List (Fault Span)
 argument_faults t = number_faults t ++ word_faults t
 
@@ -32,9 +45,22 @@ precision_faults t NoPrecision = []
 precision_faults t StarPrecision = []
 precision_faults t (DotPrecision k) = argument_faults (behind_first t)
 
+-- what has its place in front of the type `?`
+abbrev pub is_debug_flag : ℕ → Bool
+is_debug_flag c = (c == code "#") || (c == code "x") || (c == code "X")
+
+-- the next character, if it is such a flag; with where it stands, and where the `?` and it stand
+abbrev pub late_flag : {A : Type 0} → Option ℕ → A → A → List (Fault A)
+late_flag None s b = []
+late_flag (Some c) s b = if is_debug_flag c then LateFlag c s b ∷ [] else []
+
+-- a flag after the `?` at the front of t
+abbrev pub flag_faults : Text → List (Fault Span)
+flag_faults t = late_flag (first (behind_first t)) (over_first (behind_first t)) (through t (behind_first t))
+
 abbrev pub type_faults : Text → TypeText → List (Fault Span)
 type_faults t (DebugHexType h) = []
-type_faults t (CharacterType c) = []
+type_faults t (CharacterType c) = if c == code "?" then flag_faults t else []
 type_faults t (WordType w) = word_faults t
 
 -- the format specification in front of r
@@ -49,4 +75,4 @@ spec_faults t (Modifier w) r = word_faults (behind_first t)
 spec_faults t (DiagnosticText u) r = []
 
 unfoldable pub cut_faults : Cut → List (Fault Span)
-cut_faults a = argument_faults a.position_at ++ spec_faults a.spec_at a.field.spec a.rest
+cut_faults a = position_faults a.position_at a.field.position ++ spec_faults a.spec_at a.field.spec a.rest

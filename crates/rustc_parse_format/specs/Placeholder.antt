@@ -1,9 +1,10 @@
 -- Where the field after an opening brace stands, and by computing the cut of a text into a field and a rest.
 use Rattle.std.specs.Prelude.{if◌then◌else◌, ◌++◌, [], ◌∷◌}
 use Rattle.std.specs.Char.{is_ascii_digit, is_whitespace}
-use Rattle.rustc_parse_format.specs.Characters.{Text, is_id_start, front, word, behind_word, digits, behind_digits, behind_white}
+use Rattle.rustc_parse_format.specs.Characters.{Text, is_id_start, front, word, behind_word, digits, behind_digits, behind_white, begins_raw}
+use Rattle.rustc_parse_format.specs.Characters.{behind_prefix}
 use Rattle.rustc_parse_format.specs.Types.{Mode}
-use Rattle.rustc_parse_format.specs.Syntax.{PositionText, Digits, Word, NoPosition, FieldText, field_part, spec_part}
+use Rattle.rustc_parse_format.specs.Syntax.{PositionText, Digits, Word, RawWord, NoPosition, FieldText, field_part, spec_part}
 use Rattle.rustc_parse_format.specs.Specification.{specification}
 
 -- A field where it stands: with the text from its position on, from its specification on, and after it.
@@ -22,12 +23,17 @@ placed mode a r = record {
   rest = r;
 }
 
--- By computing: the position at the front, and the rest after it.
+-- By computing: the word of a raw identifier, with t after its `r#`, and the rest after it.
+abbrev pub raw_word : Text → PositionText × Text
+raw_word t = (RawWord (word t), behind_word t)
+
+-- the position at the front, and the rest after it
 abbrev pub position : Text → PositionText × Text
 position [] = (NoPosition, [])
 position (c ∷ t) =
     if is_ascii_digit c then (Digits (digits (c ∷ t)), behind_digits (c ∷ t))
-    else (if is_id_start c then (Word (word (c ∷ t)), behind_word (c ∷ t)) else (NoPosition, c ∷ t))
+    else (if begins_raw (c ∷ t) then raw_word (behind_prefix (c ∷ t))
+    else (if is_id_start c then (Word (word (c ∷ t)), behind_word (c ∷ t)) else (NoPosition, c ∷ t)))
 
 unfoldable pub cut : Mode → Text → Cut
 cut mode t =

@@ -1,16 +1,20 @@
 -- Reading a range of a source literal back, through its escapes. The units of an ordinary literal are those of its content; of a
 -- raw one each character of its text stands for itself. The rule is the Rust Reference, string literals and raw string literals.
 use Rattle.std.specs.Prelude.{◌≡◌, ℕ, suc, ◌+◌, ◌-◌, ◌≤◌, ◌&&◌, ◌++◌, Bool, if◌then◌else◌, nat_le, List, [], ◌∷◌, length, map, take, drop, Option, Some}
-use Rattle.std.specs.Prelude.{None}
+use Rattle.std.specs.Prelude.{None, ◌⊎◌, true, option_map}
 use Rattle.rustc_parse_format.specs.Characters.{Text, byte_length}
 use Rattle.rustc_parse_format.specs.LiteralUnits.{LiteralUnit, Plain, spelling, value}
 use Rattle.rustc_parse_format.specs.Source.{units_between, unappended}
 use Rattle.rustc_parse_format.specs.Marks.{Mark, Start, End, Span}
 use Rattle.rustc_parse_format.specs.Types.{Count, Name, Spec, Piece, Lit, NextArgument}
-use Rattle.rustc_parse_format.specs.Faults.{Fault, UnmatchedBrace, MissingBrace, FillBrace, Underscore, TooLarge}
+use Rattle.rustc_parse_format.specs.Faults.{Fault, UnmatchedBrace, MissingBrace, FillBrace, Underscore, TooLarge, RawIdentifier, LateFlag}
+use Rattle.rustc_parse_format.specs.Faults.{MissingColon, LateDebug, LateAlign, Grouping, DebugPrint, LateSign, FieldAccess, TupleIndex}
+use Rattle.rustc_parse_format.specs.Faults.{Message, Suggestion, Nothing, UsePositional, RemoveRawIdent, ReorderFormatParameter, AddMissingColon}
+use Rattle.rustc_parse_format.specs.Faults.{UseRustDebugPrintingMacro}
 use Rattle.std.specs.List.{AllByRecursion}
-use Rattle.rustc_parse_format.specs.World.{Place, quote_offset}
+use Rattle.rustc_parse_format.specs.World.{World, Place, place_at, quote_offset}
 use Rattle.rustc_parse_format.specs.Call.{Call}
+use Rattle.rustc_parse_format.specs.State.{State}
 
 -- the units of a source literal of an input, from the byte at `quote_offset` on
 abbrev pub source_units : Text → Option ℕ → Text → Bool → List LiteralUnit
@@ -86,6 +90,16 @@ spans_of_fault (MissingBrace c s o) = s ∷ o ∷ []
 spans_of_fault (FillBrace c s o) = s ∷ o ∷ []
 spans_of_fault (Underscore s) = s ∷ []
 spans_of_fault (TooLarge ds s) = s ∷ []
+spans_of_fault (RawIdentifier s p) = s ∷ p ∷ []
+spans_of_fault (LateFlag c s b) = s ∷ b ∷ []
+spans_of_fault (MissingColon s) = s ∷ []
+spans_of_fault (LateDebug w s) = s ∷ []
+spans_of_fault (LateAlign c s) = s ∷ []
+spans_of_fault (Grouping s o) = s ∷ o ∷ []
+spans_of_fault (DebugPrint s o) = s ∷ o ∷ []
+spans_of_fault (LateSign s) = s ∷ []
+spans_of_fault (FieldAccess s) = s ∷ []
+spans_of_fault (TupleIndex s) = s ∷ []
 
 -- the spans of a piece, where there is one
 abbrev pub piece_spans : {A : Type 0} → Option (Piece A) → List A
@@ -97,3 +111,32 @@ pub record AllSpans (P : Span → Type 0) (k : Call) : Type 0 where
   pub piece : AllByRecursion P (piece_spans k.piece)
   pub closes : AllByRecursion P (optional k.closes)
   pub faults : AllByRecursion (λ f. AllByRecursion P (spans_of_fault f)) k.faults
+
+-- all spans in an error
+abbrev pub spans_of_suggestion : {A : Type 0} → Suggestion A → List A
+spans_of_suggestion Nothing = []
+spans_of_suggestion UsePositional = []
+spans_of_suggestion (RemoveRawIdent s) = s ∷ []
+spans_of_suggestion (ReorderFormatParameter s w) = s ∷ []
+spans_of_suggestion (AddMissingColon s) = s ∷ []
+spans_of_suggestion UseRustDebugPrintingMacro = []
+
+abbrev pub spans_of_error : {A : Type 0} → Message A → List A
+spans_of_error m = m.span ∷ optional (option_map (λ x. x.1) m.second) ++ spans_of_suggestion m.suggestion
+
+-- A line lies inside the snippet. With an appended newline it may be the place of that newline, reversed, as the last one is where the
+-- newline was read as text.
+abbrev pub IsLineInside : Text → Bool → ℕ → Place → Type 0
+IsLineInside snippet appended end line =
+    IsInside snippet line ⊎ ((appended ≡ true) × (line ≡ (suc end, end)) × IsInside snippet (end, suc end))
+
+-- A line that starts at a byte starts no later than what is next, or, at the end, where an appended newline ends.
+abbrev pub HasBegun : World → Bool → ℕ → ℕ → Type 0
+HasBegun w appended start left = (start ≤ (place_at w left).0) ⊎ ((appended ≡ true) × (left ≡ 0) × (start ≡ suc w.end))
+
+-- What a parser shows lies inside the snippet, and the line that is read has begun.
+pub record LiesInside (snippet : Text) (appended : Bool) (s : State) : Type 0 where
+  pub errors : AllByRecursion (λ e. AllByRecursion (IsInside snippet) (spans_of_error e)) s.errors
+  pub arg_places : AllByRecursion (IsInside snippet) s.arg_places
+  pub line_spans : AllByRecursion (IsLineInside snippet appended s.world.end) s.line_spans
+  pub line_start : HasBegun s.world appended s.line_start (length s.rest)

@@ -1,16 +1,12 @@
 -- What a caller sees of a parser between two calls.
-use Rattle.std.specs.Prelude.{◌≡◌, ◌≢◌, ◌++◌, ◌&&◌, ◌⊎◌, ℕ, ◌-◌, Bool, true, false, if◌then◌else◌, List, [], ◌∷◌, length, Option, Some, None, option_map}
-use Rattle.rustc_parse_format.specs.Characters.{Text, byte_length}
+use Rattle.std.specs.Prelude.{◌≡◌, ◌≢◌, ◌++◌, ◌&&◌, ◌⊎◌, ℕ, ◌-◌, Bool, if◌then◌else◌, List, [], ◌∷◌, length, Option, Some, None, option_map}
+use Rattle.rustc_parse_format.specs.Characters.{Text, byte_length, is_nil}
 use Rattle.rustc_parse_format.specs.Types.{Mode, Piece, bare}
 use Rattle.rustc_parse_format.specs.Faults.{Message, add_errors}
 use Rattle.rustc_parse_format.specs.World.{World, Place, place_at, world, quote_offset, faults_in, pieces_in}
 use Rattle.rustc_parse_format.specs.Literal.{IsSource}
 use Rattle.rustc_parse_format.specs.Lines.{IsLines, noted, lines_in, closed_places, with_last}
 use Rattle.rustc_parse_format.specs.Call.{Call, GivesAtMostText, call, walk, IsWalk, pieces_of}
-
-abbrev pub is_nil : Text → Bool
-is_nil [] = true
-is_nil (c ∷ t) = false
 
 -- the first character of t with its place and its byte position in the input, if there is one
 abbrev pub first_of : World → Text → Text → Option (Place × ℕ × ℕ)

@@ -5,7 +5,7 @@
 use Prim.Native.Char.{code}
 use Rattle.std.specs.Prelude.{◌≡◌, ℕ, Bool, true, false, not, ◌||◌, ◌==◌, [], ◌∷◌, Option, Some, None, codes}
 use Rattle.std.specs.Char.{is_ascii_digit, is_whitespace}
-use Rattle.rustc_parse_format.specs.Characters.{Text, is_align, is_brace, is_id_start, is_no_brace, behind_first, begins_with, first_passes}
+use Rattle.rustc_parse_format.specs.Characters.{Text, is_align, is_brace, is_id_start, is_no_brace, behind_first, begins_raw, begins_with, first_passes}
 use Rattle.rustc_parse_format.specs.Types.{Mode, Format, InlineAsm, Diagnostic, Alignment, Left, Right, Center, Unknown, Sign, Plus, Minus, DebugHex, Lower}
 use Rattle.rustc_parse_format.specs.Types.{Upper}
 use Rattle.rustc_parse_format.specs.Spelling.{Part, IsPart, before, fixed, unless, absent, never, run, some_run, doubled, integer, identifier}
@@ -14,12 +14,15 @@ use Rattle.rustc_parse_format.specs.Spelling.{identifier_before, optional_identi
 pub data PositionText : Type 0 where
   Digits : Text → PositionText
   Word : Text → PositionText
+  -- `r#a`
+  RawWord : Text → PositionText
   NoPosition : PositionText
 
--- argument := integer | identifier
+-- argument := integer | identifier. A raw identifier is read too, and refused; where one begins, no word does.
 abbrev pub position_part : PositionText → Part
 position_part (Digits ds) = integer ds
-position_part (Word w) = identifier w
+position_part (Word w) = row (absent begins_raw ∷ identifier w ∷ [])
+position_part (RawWord w) = row (fixed (codes "r#") ∷ identifier w ∷ [])
 position_part NoPosition = absent (λ t. first_passes is_ascii_digit t || first_passes is_id_start t)
 
 -- fill := character, which an align follows

@@ -4,8 +4,9 @@ use Rattle.std.specs.Prelude.{ℕ, Bool, true, false, suc, if◌then◌else◌, 
 use Rattle.rustc_parse_format.specs.Characters.{Text, number}
 use Rattle.rustc_parse_format.specs.Types.{DebugHex, Position, Implicit, Index, Named, Count, Is, Name, Param, Star, Implied, Spec, Argument, Piece, Lit}
 use Rattle.rustc_parse_format.specs.Types.{NextArgument, default_spec}
-use Rattle.rustc_parse_format.specs.Syntax.{PositionText, Digits, Word, NoPosition, CountText, NumberCount, IndexCount, NameCount, NoCount, WidthText}
-use Rattle.rustc_parse_format.specs.Syntax.{PaddedWidth, ZeroIndexWidth, PlainWidth, PrecisionText, NoPrecision, StarPrecision, DotPrecision, TypeText}
+use Rattle.rustc_parse_format.specs.Syntax.{PositionText, Digits, Word, RawWord, NoPosition, CountText, NumberCount, IndexCount, NameCount, NoCount}
+use Rattle.rustc_parse_format.specs.Syntax.{WidthText, PaddedWidth, ZeroIndexWidth, PlainWidth, PrecisionText, NoPrecision, StarPrecision}
+use Rattle.rustc_parse_format.specs.Syntax.{DotPrecision, TypeText}
 use Rattle.rustc_parse_format.specs.Syntax.{DebugHexType, CharacterType, WordType, FormatText, SpecText, Default, Formatting, Modifier, DiagnosticText}
 use Rattle.rustc_parse_format.specs.Syntax.{FieldText, PieceText, RunText, DoubledText, PlaceholderText}
 
@@ -77,6 +78,7 @@ number_after_spec c (DiagnosticText u) = c
 abbrev pub given_position : PositionText → Option Position
 given_position (Digits ds) = Some (Index (number ds))
 given_position (Word w) = Some (Named w)
+given_position (RawWord w) = Some (Named w)
 given_position NoPosition = None
 
 -- an implicit position takes the number that is next after the specification

@@ -1,22 +1,23 @@
 //! One call of the parser, on a reader: the piece, and the faults as they are found.
 
-ghost use Rattle.std.specs.Prelude.{[], ◌&&◌, ◌++◌, ◌+◌, ◌<◌, ◌^◌, ◌∷◌, ◌≡◌, ◌≢◌, IfOk, if◌then◌else◌, IsOk, length, OnOk, option_map, Some};
+ghost use Rattle.std.specs.Prelude.{[], ◌++◌, ◌+◌, ◌<◌, ◌^◌, ◌∷◌, ◌≡◌, ◌≢◌, IfOk, if◌then◌else◌, IsOk, length, OnErr, OnOk, option_map, Some};
 ghost use Rattle.rustc_parse_format.specs.Call.{call, GivesAtMostText, placeholder};
-ghost use Rattle.rustc_parse_format.specs.Characters.{begins_with, behind_brace, behind_first, first};
+ghost use Rattle.rustc_parse_format.specs.Characters.{Text, behind_first, first};
 ghost use Rattle.rustc_parse_format.specs.Faults.{brace_fill, no_brace};
-ghost use Rattle.rustc_parse_format.specs.Marks.{End, up_to};
-ghost use Rattle.rustc_parse_format.specs.Meaning.{argument};
-ghost use Rattle.rustc_parse_format.specs.Seen.{pair, seen, seen_mode};
+ghost use Rattle.rustc_parse_format.specs.Marks.{End, Span, over_first, up_to};
+ghost use Rattle.rustc_parse_format.specs.Seen.{pair, seen, seen_argument, seen_mode, seen_spec};
 ghost use Rattle.rustc_parse_format.specs.SeenFaults.{seen_fault};
-ghost use Rattle.rustc_parse_format.specs.Midway.{read_call};
+ghost use Rattle.rustc_parse_format.specs.Midway.{behind_closing, read_call};
 ghost use Rattle.rustc_parse_format.specs.Steps.{Forward, IsInWord, Paid};
+ghost use Rattle.rustc_parse_format.specs.Types.{Argument as ArgumentValue, map_argument};
 ghost use Rattle.rustc_parse_format.specs.World.{number_of, piece_in, place_of};
 
 use crate::cursor::Trail;
 use crate::faults::Fault;
 use crate::placeholder::read_argument;
 use crate::reader::Reader;
-use crate::types::{FormatSpec, ParseMode, Piece};
+use crate::recover::recover;
+use crate::types::{Argument, FormatSpec, ParseMode, Piece};
 use std::alloc::{AllocError, Global};
 use std::ops::Range;
 use std::sync::ledger::Ledger;
@@ -46,41 +47,73 @@ fn no_brace<'input>(
     }
 }
 
-/// Moves over the closing brace, or finds that it is missing. The placeholder opens at `opening`.
-fn close<'input, L: Ledger>(
-    reader: &mut Reader<'_, 'input>,
-    trail: &mut Trail<'input, L>,
-    fill: Option<Range<usize>>,
+/// Notes that no brace closes this argument. The placeholder opens at `opening`.
+fn note_missing<'input>(
+    argument: &Argument<'input>,
     opening: Range<usize>,
+    reader: &mut Reader<'input>,
 ) -> Result<(), AllocError>
     ensures state { OnOk result (reader.new ≡ record reader.old {
-      rest = behind_brace reader.old.rest;
-      closed = if begins_with 125 reader.old.rest && reader.old.world.has_source
-          then Some ((pair opening).0, number_of reader.old.world (End (length reader.old.rest))) else reader.old.closed;
-      faults = reader.old.faults ++ (if begins_with 125 reader.old.rest then [] else no_brace (option_map pair fill)
-          (first reader.old.rest) (place_of reader.old.world (up_to reader.old.rest reader.old.rest)) (pair opening) ∷ []);
+      faults = reader.old.faults ++ no_brace (brace_fill (seen_spec argument.now.format).fill (seen_spec argument.now.format).fill_span)
+          (first reader.old.rest) (place_of reader.old.world (up_to reader.old.rest reader.old.rest)) (pair opening) ∷ [];
     }) }
-    ensures steps { OnOk result (Forward reader.old.rest trail.old reader.new.rest trail.new) }
+    ensures err { OnErr result (reader.new.source ≡ reader.old.source) }
 {
-    let next = reader.cursor.peek();
-    if next == Some('}') {
-        if reader.cursor.is_source_literal() {
-            reader.closed = Some(opening.start..reader.cursor.stop());
-        }
-        reader.cursor.advance(trail);
-    } else {
-        let fault = no_brace(fill, next, reader.cursor.start(), opening);
-        reader.found.push(fault)?;
-    }
+    let fill = brace_fill(&argument.format);
+    let fault = no_brace(fill, reader.cursor.peek(), reader.cursor.start(), opening);
+    reader.found.push(fault)?;
     Ok(())
 }
 
+/// Moves over the closing brace of the placeholder that starts at a byte. In a source literal it has its place.
+fn take_brace<'input, L: Ledger>(
+    start: usize,
+    reader: &mut Reader<'input>,
+    trail: &mut Trail<'input, L>,
+)
+    ensures state { reader.new ≡ record reader.old {
+      rest = behind_first reader.old.rest;
+      closed = if reader.old.world.has_source then Some (start, number_of reader.old.world (End (length reader.old.rest))) else reader.old.closed;
+    } }
+    ensures steps { Forward reader.old.rest trail.old reader.new.rest trail.new }
+{
+    if reader.cursor.is_source_literal() {
+        reader.closed = Some(start..reader.cursor.stop());
+    }
+    reader.cursor.advance(trail);
+}
+
+/// Moves over the closing brace, or finds that it is missing and goes on from there. The placeholder opens at `opening`.
+#[tactic(auto, using(crate::proofs::Steps::part_le))]
+fn close<'input, L: Ledger>(
+    mode: ParseMode,
+    argument: &Argument<'input>,
+    opening: Range<usize>,
+    reader: &mut Reader<'input>,
+    trail: &mut Trail<'input, L>,
+) -> Result<(), AllocError>
+    requires numbers { reader.old.next + length reader.old.rest < 2 ^ 64 }
+    requires steps { IsInWord reader.old.rest trail.old }
+    ensures state { OnOk result ((o : Text) (a : ArgumentValue Span) → pair opening ≡ place_of reader.old.world (over_first o)
+        → seen_argument argument.now ≡ map_argument (place_of reader.old.world) a
+        → reader.new ≡ behind_closing (seen_mode mode) o a reader.old) }
+    ensures source { reader.new.source ≡ reader.old.source }
+    ensures steps { OnOk result (Paid reader.old.rest trail.old reader.new.rest trail.new) }
+{
+    if reader.cursor.is_next('}') {
+        take_brace(opening.start, reader, trail);
+        return Ok(());
+    }
+    note_missing(argument, opening.start..opening.end, reader)?;
+    recover(mode, argument, opening, reader, trail)
+}
+
 /// Reads the placeholder at the front.
-#[tactic(auto, using(crate::proofs::Steps::part_le, crate::proofs::Placeholders::placeholder_parts))]
+#[tactic(auto, using(crate::proofs::Steps::part_le, crate::proofs::Placeholders::placeholder_given))]
 fn read_placeholder<'input, L: Ledger>(
     alloc: Global,
     mode: ParseMode,
-    reader: &mut Reader<'_, 'input>,
+    reader: &mut Reader<'input>,
     trail: &mut Trail<'input, L>,
 ) -> Result<Piece<'input>, AllocError>
     requires here { reader.old.rest ≢ [] }
@@ -90,15 +123,16 @@ fn read_placeholder<'input, L: Ledger>(
         (placeholder (seen_mode mode) reader.old.next reader.old.rest (behind_first reader.old.rest)).piece) }
     ensures state { OnOk result (reader.new
         ≡ read_call reader.old (placeholder (seen_mode mode) reader.old.next reader.old.rest (behind_first reader.old.rest))) }
+    ensures err { OnErr result (reader.new.source ≡ reader.old.source) }
     ensures steps { OnOk result (Paid reader.old.rest trail.old reader.new.rest trail.new) }
 {
     reader.cursor.settle();
     let opening = reader.cursor.start()..reader.cursor.stop();
     reader.cursor.advance(trail);
+    reader.cursor.settle();
     let argument = read_argument(mode, reader, trail)?;
     reader.cursor.skip_white(trail);
-    let fill = brace_fill(&argument.format);
-    close(reader, trail, fill, opening)?;
+    close(mode, &argument, opening, reader, trail)?;
     Ok(Piece::NextArgument(Box::new(alloc, argument)?))
 }
 
@@ -107,7 +141,7 @@ fn read_placeholder<'input, L: Ledger>(
 pub fn read_piece<'input, L: Ledger>(
     alloc: Global,
     mode: ParseMode,
-    reader: &mut Reader<'_, 'input>,
+    reader: &mut Reader<'input>,
     trail: &mut Trail<'input, L>,
 ) -> Result<Option<Piece<'input>>, AllocError>
     requires numbers { reader.old.next + length reader.old.rest < 2 ^ 64 }
@@ -117,6 +151,7 @@ pub fn read_piece<'input, L: Ledger>(
     ensures state { OnOk result (reader.new ≡ read_call reader.old (call (seen_mode mode) reader.old.next reader.old.rest)) }
     ensures spare { (let k = call (seen_mode mode) reader.old.next reader.old.rest in
         GivesAtMostText k → (read_call reader.old k).lines ≡ reader.old.lines → IsOk result) }
+    ensures err { OnErr result (reader.new.source ≡ reader.old.source) }
     ensures steps { OnOk result (Paid reader.old.rest trail.old reader.new.rest trail.new) }
 {
     let Some(c) = reader.cursor.peek() else {

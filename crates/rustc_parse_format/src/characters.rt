@@ -3,8 +3,9 @@
 
 ghost use Rattle.std.specs.Char.{digit_value, is_ascii_digit};
 ghost use Rattle.std.specs.Prelude.{◌%◌, ◌*◌, ◌++◌, ◌+◌, ◌<◌, ◌≡◌, bytes_eq, chars, codes, IsTrue, List, nat_lt, ℕ};
-ghost use Rattle.rustc_parse_format.specs.Bytes.{IsLeft};
-ghost use Rattle.rustc_parse_format.specs.Characters.{behind_first, first, is_id_start, Text};
+ghost use Rattle.rustc_parse_format.specs.Bytes.{IsFront, IsLeft, IsOfAscii};
+ghost use Rattle.rustc_parse_format.specs.Characters.{behind, behind_first, first, is_id_start, Text};
+ghost use Rattle.rustc_parse_format.specs.Classes.{passes};
 
 /// A class of characters whose longest front is read.
 #[derive(Clone, Copy)]
@@ -39,6 +40,7 @@ impl Class {
 }
 
 /// The first character.
+#[inline(always)]
 pub fn first(text: &str) -> Option<char>
     ensures { result ≡ first (chars text.now) }
 {
@@ -46,6 +48,7 @@ pub fn first(text: &str) -> Option<char>
 }
 
 /// What is after the first character.
+#[inline(always)]
 pub fn behind_first(text: &str) -> &str
     ensures rest { chars result.now ≡ behind_first (chars text.now) }
     ensures left { (input : List ℕ) → IsLeft input text.now → IsLeft input result.now }
@@ -55,7 +58,32 @@ pub fn behind_first(text: &str) -> &str
     rest.as_str()
 }
 
+/// How many bytes stand in front of the first one that, taken for a character, is not of the class.
+#[inline(always)]
+fn run_width(bytes: &[u8], class: Class) -> usize
+    ensures { IsFront (passes class) bytes.now result }
+{
+    for i in 0..bytes.len() {
+        if !class.passes(bytes[i] as char) {
+            return i;
+        }
+    }
+    bytes.len()
+}
+
+/// What is after the longest front of a class that has all but some of ASCII: so the bytes tell where it ends.
+#[inline(always)]
+pub fn behind_run(text: &str, class: Class) -> &str
+    requires { IsOfAscii (passes class) }
+    ensures rest { chars result.now ≡ behind (passes class) (chars text.now) }
+    ensures left { (input : List ℕ) → IsLeft input text.now → IsLeft input result.now }
+{
+    let width = run_width(text.as_bytes(), class);
+    &text[width..]
+}
+
 /// The text in front of `behind`, with which the text ends.
+#[inline(always)]
 pub fn before<'a>(text: &'a str, behind: &str) -> &'a str
     requires { (u : Text) × (chars text.now ≡ u ++ chars behind.now) }
     ensures { (u : Text) → chars text.now ≡ u ++ chars behind.now → chars result.now ≡ u }

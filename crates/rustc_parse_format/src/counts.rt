@@ -1,6 +1,6 @@
 //! Integers, words and counts, and the sizes of a format specification that are made of them: its width and its precision.
 
-ghost use Rattle.std.specs.Prelude.{◌+◌, ◌<◌, ◌^◌, ◌≡◌, chars, IfOk, OnOk, option_map};
+ghost use Rattle.std.specs.Prelude.{◌+◌, ◌<◌, ◌^◌, ◌≡◌, chars, IfOk, OnErr, OnOk, option_map};
 ghost use Rattle.rustc_parse_format.specs.Characters.{behind_digits, behind_word, digits, number, word};
 ghost use Rattle.rustc_parse_format.specs.Counts.{behind_name, count, precision, width};
 ghost use Rattle.rustc_parse_format.specs.Meaning.{count_of, count_span, precision_of, precision_span, width_of, width_span};
@@ -22,11 +22,12 @@ use std::sync::ledger::Ledger;
 
 /// Reads the integer at the front, where there is one: its number modulo 65536. One above 65535 is a fault.
 pub fn integer<'input, L: Ledger>(
-    reader: &mut Reader<'_, 'input>,
+    reader: &mut Reader<'input>,
     trail: &mut Trail<'input, L>,
 ) -> Result<u16, AllocError>
     ensures value { IfOk result (λ n. n ≡ number (digits reader.old.rest)) }
     ensures state { OnOk result (reader.new ≡ read_to reader.old (behind_digits reader.old.rest) reader.old.next (number_faults reader.old.rest)) }
+    ensures err { OnErr result (reader.new.source ≡ reader.old.source) }
     ensures steps { OnOk result (Forward reader.old.rest trail.old reader.new.rest trail.new) }
 {
     let start = reader.cursor.start();
@@ -37,15 +38,17 @@ pub fn integer<'input, L: Ledger>(
 
 /// Reads the word at the front, which may be empty. The word `_` is a fault.
 pub fn word<'input, L: Ledger>(
-    reader: &mut Reader<'_, 'input>,
+    reader: &mut Reader<'input>,
     trail: &mut Trail<'input, L>,
 ) -> Result<&'input str, AllocError>
     ensures value { IfOk result (λ w. chars w.now ≡ word reader.old.rest) }
     ensures state { OnOk result (reader.new ≡ read_to reader.old (behind_word reader.old.rest) reader.old.next (word_faults reader.old.rest)) }
+    ensures err { OnErr result (reader.new.source ≡ reader.old.source) }
     ensures steps { OnOk result (Forward reader.old.rest trail.old reader.new.rest trail.new) }
 {
     let start = reader.cursor.start();
     let word = reader.cursor.word(trail);
+    reader.cursor.settle();
     note_word(&mut reader.found, word, start..reader.cursor.start())?;
     Ok(word)
 }
@@ -53,7 +56,7 @@ pub fn word<'input, L: Ledger>(
 /// Reads the name at the front, with its `$`. Without a `$` the word is left, and looked at all the same.
 #[tactic(auto, using(crate::proofs::Steps::part_le))]
 fn name_count<'input, L: Ledger>(
-    reader: &mut Reader<'_, 'input>,
+    reader: &mut Reader<'input>,
     trail: &mut Trail<'input, L>,
 ) -> Result<Count<'input>, AllocError>
     requires { IsFurthest reader.old.rest trail.old }
@@ -61,9 +64,10 @@ fn name_count<'input, L: Ledger>(
         (let k = behind_name reader.old.rest (word reader.old.rest) (behind_word reader.old.rest) in count_of reader.old.rest k.0 k.1)) }
     ensures state { OnOk result (reader.new ≡ (let k = behind_name reader.old.rest (word reader.old.rest) (behind_word reader.old.rest) in
         read_to reader.old k.1 reader.old.next (word_faults reader.old.rest))) }
+    ensures err { OnErr result (reader.new.source ≡ reader.old.source) }
     ensures steps { OnOk result (Paid reader.old.rest trail.old reader.new.rest trail.new) }
 {
-    let front = reader.cursor.duplicate();
+    let front = reader.cursor.spot();
     let start = reader.cursor.start();
     let name = word(reader, trail)?;
     let span = start..reader.cursor.start();
@@ -77,13 +81,14 @@ fn name_count<'input, L: Ledger>(
 /// Reads the count at the front: a number, a number of an argument, a name of one, or none.
 #[tactic(auto, using(crate::proofs::Steps::part_le, crate::proofs::TriedParts::tried_parts, crate::proofs::Readers::read_nothing))]
 pub fn count<'input, L: Ledger>(
-    reader: &mut Reader<'_, 'input>,
+    reader: &mut Reader<'input>,
     trail: &mut Trail<'input, L>,
 ) -> Result<Count<'input>, AllocError>
     requires { IsFurthest reader.old.rest trail.old }
     ensures value { IfOk result (λ k. seen_count k
         ≡ map_count (place_of reader.old.world) (count_of reader.old.rest (count reader.old.rest).0 (count reader.old.rest).1)) }
     ensures state { OnOk result (reader.new ≡ read_to reader.old (count reader.old.rest).1 reader.old.next (argument_faults reader.old.rest)) }
+    ensures err { OnErr result (reader.new.source ≡ reader.old.source) }
     ensures steps { OnOk result (Paid reader.old.rest trail.old reader.new.rest trail.new) }
 {
     if reader.cursor.starts_digit() {
@@ -102,7 +107,7 @@ pub fn count<'input, L: Ledger>(
 /// Reads the count at the front, and where it stands.
 #[tactic(auto, using(crate::proofs::Steps::part_le))]
 fn spanned_count<'input, L: Ledger>(
-    reader: &mut Reader<'_, 'input>,
+    reader: &mut Reader<'input>,
     trail: &mut Trail<'input, L>,
 ) -> Result<(Count<'input>, Option<Range<usize>>), AllocError>
     requires { IsFurthest reader.old.rest trail.old }
@@ -111,6 +116,7 @@ fn spanned_count<'input, L: Ledger>(
     ensures span { IfOk result (λ k. option_map pair k.1 ≡ option_map (place_of reader.old.world)
         (count_span reader.old.rest (count reader.old.rest).0 (count reader.old.rest).1)) }
     ensures state { OnOk result (reader.new ≡ read_to reader.old (count reader.old.rest).1 reader.old.next (argument_faults reader.old.rest)) }
+    ensures err { OnErr result (reader.new.source ≡ reader.old.source) }
     ensures steps { OnOk result (Paid reader.old.rest trail.old reader.new.rest trail.new) }
 {
     let start = reader.cursor.start();
@@ -134,7 +140,7 @@ pub struct WidthPart<'input> {
 #[tactic(auto, using(crate::proofs::Steps::part_le))]
 fn counted<'input, L: Ledger>(
     zero_pad: bool,
-    reader: &mut Reader<'_, 'input>,
+    reader: &mut Reader<'input>,
     trail: &mut Trail<'input, L>,
 ) -> Result<WidthPart<'input>, AllocError>
     requires { IsFurthest reader.old.rest trail.old }
@@ -144,6 +150,7 @@ fn counted<'input, L: Ledger>(
     ensures span { IfOk result (λ w. option_map pair w.span ≡ option_map (place_of reader.old.world)
         (count_span reader.old.rest (count reader.old.rest).0 (count reader.old.rest).1)) }
     ensures state { OnOk result (reader.new ≡ read_to reader.old (count reader.old.rest).1 reader.old.next (argument_faults reader.old.rest)) }
+    ensures err { OnErr result (reader.new.source ≡ reader.old.source) }
     ensures steps { OnOk result (Paid reader.old.rest trail.old reader.new.rest trail.new) }
 {
     let (count, span) = spanned_count(reader, trail)?;
@@ -157,7 +164,7 @@ fn counted<'input, L: Ledger>(
 /// Reads the width at the front. A `0` in front of it is a flag, unless a `$` makes it an index.
 #[tactic(auto, using(crate::proofs::Steps::part_le, crate::proofs::SpecParts::widths_at_front))]
 pub fn width<'input, L: Ledger>(
-    reader: &mut Reader<'_, 'input>,
+    reader: &mut Reader<'input>,
     trail: &mut Trail<'input, L>,
 ) -> Result<WidthPart<'input>, AllocError>
     requires { IsFurthest reader.old.rest trail.old }
@@ -168,6 +175,7 @@ pub fn width<'input, L: Ledger>(
         (width_span reader.old.rest (width reader.old.rest).0 (width reader.old.rest).1)) }
     ensures state { OnOk result (reader.new ≡ (let w = width reader.old.rest in
         read_to reader.old w.1 reader.old.next (width_faults reader.old.rest w.0))) }
+    ensures err { OnErr result (reader.new.source ≡ reader.old.source) }
     ensures steps { OnOk result (Paid reader.old.rest trail.old reader.new.rest trail.new) }
 {
     if !reader.cursor.is_next('0') {
@@ -190,7 +198,7 @@ pub fn width<'input, L: Ledger>(
 /// Reads the precision at the front, and where it stands. A star takes the next number.
 #[tactic(auto, using(crate::proofs::Steps::part_le, crate::proofs::Steps::at_dot, crate::proofs::SpecParts::precisions_at_front))]
 pub fn precision<'input, L: Ledger>(
-    reader: &mut Reader<'_, 'input>,
+    reader: &mut Reader<'input>,
     trail: &mut Trail<'input, L>,
 ) -> Result<(Count<'input>, Option<Range<usize>>), AllocError>
     requires numbers { reader.old.next + 1 < 2 ^ 64 }
@@ -201,6 +209,7 @@ pub fn precision<'input, L: Ledger>(
         (precision_span reader.old.rest (precision reader.old.rest).0 (precision reader.old.rest).1)) }
     ensures state { OnOk result (reader.new ≡ (let p = precision reader.old.rest in
         read_to reader.old p.1 (number_after_precision reader.old.next p.0) (precision_faults reader.old.rest p.0))) }
+    ensures err { OnErr result (reader.new.source ≡ reader.old.source) }
     ensures steps { OnOk result (Paid reader.old.rest trail.old reader.new.rest trail.new) }
 {
     if !reader.cursor.is_next('.') {

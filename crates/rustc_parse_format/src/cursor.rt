@@ -2,8 +2,8 @@
 
 mod steps;
 
-use crate::characters::{Class, before, behind_first, first, is_id_start, with_digit};
-use crate::source::{Source, Spot, byte_here, byte_through};
+use crate::characters::{Class, before, behind_first, behind_run, first, is_id_start, with_digit};
+use crate::source::{Source, Spot, byte_here};
 use std::marker::Model;
 use std::ops::Range;
 use std::sync::ledger::{Blank, Ledger};
@@ -11,76 +11,53 @@ pub use steps::{StepCount, Trail};
 
 /// A place in the input: what is left of it, and where that stands in the source.
 #[derive(Drop)]
-pub struct Cursor<'source, 'input> {
-    source: &'source Source<'input>,
+pub struct Cursor<'input> {
+    source: Source<'input>,
     spot: Spot<'input>,
 }
 
-impl<'source, 'input> Model for Cursor<'source, 'input> {
-    ghost use Rattle.std.specs.Prelude.{chars};
-    ghost use Rattle.rustc_parse_format.specs.Midway.{Unread};
-    ghost use Rattle.rustc_parse_format.specs.SeenSource.{IsSpot, seen_world};
+impl<'input> Model for Cursor<'input> {
+    ghost use Rattle.rustc_parse_format.specs.Midway.{Unread, unread_at};
+    ghost use Rattle.rustc_parse_format.specs.SeenSource.{IsSpot};
 
     ghost Value = { Unread };
 
-    ghost view = { λ c. record {
-      source = c.source.now;
-      world = seen_world c.source.now;
-      input = chars c.source.now.input.now;
-      rest = chars c.spot.rest.now;
-    } };
+    ghost view = { λ c. unread_at c.source c.spot.rest.now };
 
-    ghost invariant = { λ c. IsSpot c.source.now c.spot.rest.now c.spot.mark.now c.spot.at };
+    ghost invariant = { λ c. IsSpot c.source c.spot.rest.now c.spot.mark.now c.spot.at };
 }
 
-impl<'source, 'input> Cursor<'source, 'input> {
-    ghost use Rattle.std.specs.Prelude.{◌≡◌, ◌-◌, ◌+◌, ◌<◌, ◌^◌, chars, if◌then◌else◌, IsTrue, length, nat_lt, option_map};
-    ghost use Rattle.rustc_parse_format.specs.Characters.{begins_with, first, behind_first, with_first, byte_length, front, behind, behind_white, word, behind_word, digits, behind_digits, number, is_id_start, is_over, first_passes};
+impl<'input> Cursor<'input> {
+    ghost use Rattle.std.specs.Prelude.{◌≡◌, ◌++◌, chars, if◌then◌else◌, IsTrue, length, nat_lt, option_map};
+    ghost use Rattle.rustc_parse_format.specs.Characters.{Text, begins_raw, begins_with, first, behind_first, behind, behind_white, word, behind_word, digits, behind_digits, number, is_id_start, is_over, first_passes};
     ghost use Rattle.std.specs.Char.{is_ascii_digit};
+    ghost use Rattle.rustc_parse_format.specs.Bytes.{IsOfAscii};
     ghost use Rattle.rustc_parse_format.specs.Classes.{passes};
     ghost use Rattle.rustc_parse_format.specs.Marks.{Start, End};
     ghost use Rattle.rustc_parse_format.specs.Seen.{pair};
-    ghost use Rattle.rustc_parse_format.specs.SeenSource.{IsSpot, seen_world};
+    ghost use Rattle.rustc_parse_format.specs.Midway.{unread_at};
+    ghost use Rattle.rustc_parse_format.specs.SeenSource.{IsSpot};
     ghost use Rattle.rustc_parse_format.specs.State.{first_of};
     ghost use Rattle.rustc_parse_format.specs.Steps.{Forward};
     ghost use Rattle.rustc_parse_format.specs.World.{number_of, StartBehind};
 
     /// At a spot of a source.
-    pub fn new(source: &'source Source<'input>, spot: Spot<'input>) -> Cursor<'source, 'input>
-        requires { IsSpot source.now spot.rest.now spot.mark.now spot.at }
-        ensures { result ≡ record {
-          source = source.now;
-          world = seen_world source.now;
-          input = chars source.now.input.now;
-          rest = chars spot.entry.rest.now;
-        } }
+    pub fn new(source: Source<'input>, spot: Spot<'input>) -> Cursor<'input>
+        requires { IsSpot source spot.rest.now spot.mark.now spot.at }
+        ensures { result ≡ unread_at source.entry spot.entry.rest.now }
     {
         Cursor { source, spot }
     }
 
     /// The spot where it stands.
     pub fn spot(&self) -> Spot<'input>
-        ensures rest { chars result.rest.now ≡ self.now.rest }
+        ensures at { self.now ≡ unread_at self.now.source result.rest.now }
         ensures spot { IsSpot self.now.source result.rest.now result.mark.now result.at }
     {
         Spot {
             rest: self.spot.rest,
             mark: self.spot.mark,
             at: self.spot.at,
-        }
-    }
-
-    /// Another cursor at the same place.
-    pub fn duplicate(&self) -> Cursor<'source, 'input>
-        ensures { result ≡ self.now }
-    {
-        Cursor {
-            source: self.source,
-            spot: Spot {
-                rest: self.spot.rest,
-                mark: self.spot.mark,
-                at: self.spot.at,
-            },
         }
     }
 
@@ -102,6 +79,7 @@ impl<'source, 'input> Cursor<'source, 'input> {
     }
 
     /// The next character, or None at the end.
+    #[inline(always)]
     pub fn peek(&self) -> Option<char>
         ensures { result ≡ first self.now.rest }
     {
@@ -115,7 +93,7 @@ impl<'source, 'input> Cursor<'source, 'input> {
         first(behind_first(self.spot.rest))
     }
 
-    /// Moves over the next character, if there is one: the only move forward.
+    /// Moves over the next character, if there is one. Only this and `pass_run` move forward.
     pub fn advance<L: Ledger>(&mut self, trail: &mut Trail<'input, L>)
         ensures rest { self.new ≡ record self.old { rest = behind_first self.old.rest } }
         ensures steps { Forward self.old.rest trail.old self.new.rest trail.new }
@@ -124,47 +102,48 @@ impl<'source, 'input> Cursor<'source, 'input> {
         self.pass();
     }
 
-    /// Passes the next character, if there is one. Outside of `advance` only a cursor that looks ahead does so.
+    /// Passes the next character, if there is one.
     fn pass(&mut self)
         ensures { self.new ≡ record self.old { rest = behind_first self.old.rest } }
     {
         self.spot.rest = behind_first(self.spot.rest);
     }
 
-    /// Goes back to an earlier place.
-    pub fn go_back<L: Ledger>(
-        &mut self,
-        place: Cursor<'source, 'input>,
-        trail: &mut Trail<'input, L>,
-    )
-        ensures place { self.new ≡ place.entry }
+    /// Goes back to an earlier spot.
+    pub fn go_back<L: Ledger>(&mut self, spot: Spot<'input>, trail: &mut Trail<'input, L>)
+        requires { IsSpot self.old.source spot.rest.now spot.mark.now spot.at }
+        ensures place { self.new ≡ unread_at self.old.source spot.entry.rest.now }
         ensures steps { trail.new ≡ record trail.old { left = length self.old.rest } }
     {
         trail.go_back(self.spot.rest);
-        *self = place;
+        self.put(spot);
     }
 
-    /// The byte position of the next character in the input, or of its end.
-    pub fn position(&self) -> usize
-        ensures { result ≡ byte_length self.now.input - byte_length self.now.rest }
+    /// Puts it at a spot of its source.
+    pub fn put(&mut self, spot: Spot<'input>)
+        requires { IsSpot self.old.source spot.rest.now spot.mark.now spot.at }
+        ensures { self.new ≡ unread_at self.old.source spot.entry.rest.now }
     {
-        self.source.input.len() - self.spot.rest.len()
+        self.spot = spot;
+    }
+
+    /// What is left is a rest of the input. Nothing is done.
+    pub fn reads_its_input(&self)
+        ensures { (front : Text) × (self.now.input ≡ front ++ self.now.rest) }
+    {
+        let _at = self.spot.at;
     }
 
     /// Where the next character starts in the source, or where the text ends.
+    #[inline(always)]
     pub fn start(&self) -> usize
         ensures { result ≡ number_of self.now.world (Start (length self.now.rest)) }
     {
-        if self.spot.rest.is_empty() {
-            return self.source.end;
-        }
-        match &self.source.kept {
-            Some(snippet) => byte_here(snippet.as_str(), &self.spot),
-            None => self.source.offset + (self.source.input.len() - self.spot.rest.len()),
-        }
+        self.source.start(&self.spot)
     }
 
     /// A character is left, and starts behind a byte: so does each that is left.
+    #[inline(always)]
     pub fn is_behind(&self, byte: usize) -> bool
         ensures value { result ≡ first_passes (λ c. nat_lt byte (number_of self.now.world (Start (length self.now.rest)))) self.now.rest }
         ensures all { IsTrue result → StartBehind byte self.now.world (length self.now.rest) }
@@ -173,6 +152,7 @@ impl<'source, 'input> Cursor<'source, 'input> {
     }
 
     /// Looks at the snippet, so that places from here on are counted from here. Nothing else changes.
+    #[inline(always)]
     pub fn settle(&mut self)
         ensures { self.new ≡ self.old }
     {
@@ -187,20 +167,11 @@ impl<'source, 'input> Cursor<'source, 'input> {
     }
 
     /// Where the next character ends in the source, or where the text ends.
+    #[inline(always)]
     pub fn stop(&self) -> usize
         ensures { result ≡ number_of self.now.world (End (length self.now.rest)) }
     {
-        if self.spot.rest.is_empty() {
-            return self.source.end;
-        }
-        match &self.source.kept {
-            Some(snippet) => {
-                let at = byte_here(snippet.as_str(), &self.spot);
-                byte_through(snippet.as_str(), at)
-            }
-            None => self.source.offset
-                + (self.source.input.len() - behind_first(self.spot.rest).len()),
-        }
+        self.source.stop(&self.spot)
     }
 
     /// The snippet is the source literal of the input.
@@ -215,8 +186,7 @@ impl<'source, 'input> Cursor<'source, 'input> {
         ensures { option_map (λ x. (pair x.0, x.1, x.2)) result
             ≡ first_of self.now.world self.now.input self.now.rest }
     {
-        let c = self.peek()?;
-        Some((self.start()..self.stop(), self.position(), c))
+        self.source.next_place(&self.spot)
     }
 
     /// The same of the character after the next one.
@@ -224,9 +194,12 @@ impl<'source, 'input> Cursor<'source, 'input> {
         ensures { option_map (λ x. (pair x.0, x.1, x.2)) result
             ≡ first_of self.now.world self.now.input (behind_first self.now.rest) }
     {
-        let mut ahead = self.duplicate();
-        ahead.pass();
-        ahead.next_place()
+        let ahead = Spot {
+            rest: behind_first(self.spot.rest),
+            mark: self.spot.mark,
+            at: self.spot.at,
+        };
+        self.source.next_place(&ahead)
     }
 
     /// The next character is this one.
@@ -272,17 +245,42 @@ impl<'source, 'input> Cursor<'source, 'input> {
         self.peek().is_some_and(is_id_start)
     }
 
+    /// A raw identifier begins here.
+    pub fn starts_raw(&self) -> bool
+        ensures { result ≡ begins_raw self.now.rest }
+    {
+        self.is_next('r')
+            && self.goes_on_with('#')
+            && first(behind_first(behind_first(self.spot.rest))).is_some_and(is_id_start)
+    }
+
     /// Moves over the longest front of the class.
     pub fn skip<L: Ledger>(&mut self, class: Class, trail: &mut Trail<'input, L>)
         ensures rest { self.new ≡ record self.old { rest = behind (passes class) self.old.rest } }
         ensures steps { Forward self.old.rest trail.old self.new.rest trail.new }
     {
+        match class {
+            Class::Text => return self.pass_run(Class::Text, trail),
+            Class::Line => return self.pass_run(Class::Line, trail),
+            _ => {}
+        }
         while let Some(c) = self.peek() {
             if !class.passes(c) {
                 break;
             }
             self.advance(trail);
         }
+    }
+
+    /// Moves over the longest front of the class at once.
+    fn pass_run<L: Ledger>(&mut self, class: Class, trail: &mut Trail<'input, L>)
+        requires { IsOfAscii (passes class) }
+        ensures rest { self.new ≡ record self.old { rest = behind (passes class) self.old.rest } }
+        ensures steps { Forward self.old.rest trail.old self.new.rest trail.new }
+    {
+        let rest = behind_run(self.spot.rest, class);
+        trail.run(before(self.spot.rest, rest));
+        self.spot.rest = rest;
     }
 
     /// Moves over the white space at the front.

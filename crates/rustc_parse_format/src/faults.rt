@@ -1,12 +1,14 @@
 //! Faults as they are found, and the errors that they become.
 
-ghost use Rattle.std.specs.Prelude.{◌≡◌, ◌++◌, ◌∷◌, [], IfOk, IsOk, option_map, OnOk, OnErr, bytes_eq, chars, codes, map, string_bytes, if◌then◌else◌};
-ghost use Rattle.rustc_parse_format.specs.Faults.{TooLarge, Underscore, add_errors, error, expected, message, out_of_range};
+ghost use Rattle.std.specs.Prelude.{◌≡◌, ◌++◌, ◌∷◌, [], IfOk, IsOk, option_map, OnOk, OnErr, bytes_eq, chars, codes, encode_utf8_all, map, not, string_bytes, if◌then◌else◌};
+ghost use Rattle.std.specs.List.{filter};
+ghost use Rattle.rustc_parse_format.specs.Faults.{TooLarge, Underscore, add_errors, align_after, debug_after, error, expected, is_front, local_variable, message, out_of_range, suggesting};
 ghost use Rattle.rustc_parse_format.specs.Written.{written};
-ghost use Rattle.rustc_parse_format.specs.Seen.{pair, seen_error};
+ghost use Rattle.rustc_parse_format.specs.Seen.{pair, seen_error, seen_suggestion};
 ghost use Rattle.rustc_parse_format.specs.SeenFaults.{seen_fault};
 
 use crate::characters::is_underscore;
+use crate::error_list::ErrorList;
 use crate::types::{ParseError, Suggestion};
 use crate::written::put_written;
 use std::alloc::{AllocError, Global};
@@ -25,6 +27,26 @@ pub enum Fault<'input> {
     Underscore(Range<usize>),
     /// The digits of a number above 65535.
     TooLarge(&'input str, Range<usize>),
+    /// A raw identifier, and its `r#`.
+    RawIdentifier(Range<usize>, Range<usize>),
+    /// A flag after the type `?`, and the `?` with it.
+    LateFlag(char, Range<usize>, Range<usize>),
+    /// A `?` in place of a closing brace, and in front of it.
+    MissingColon(Range<usize>),
+    /// The word after `?:` in place of a closing brace, and the `?`.
+    LateDebug(&'input str, Range<usize>),
+    /// The sign of an alignment in place of a closing brace.
+    LateAlign(char, Range<usize>),
+    /// A `,` in place of a closing brace, and the opening brace.
+    Grouping(Range<usize>, Range<usize>),
+    /// A `=` in place of a closing brace, and in front of it, and the opening brace.
+    DebugPrint(Range<usize>, Range<usize>),
+    /// A `+` in place of a closing brace.
+    LateSign(Range<usize>),
+    /// A field that is a name, with its argument.
+    FieldAccess(Range<usize>),
+    /// A field that is a number, with its argument.
+    TupleIndex(Range<usize>),
 }
 
 /// Notes a word that is `_`.
@@ -87,6 +109,27 @@ fn out_of_range(alloc: Global, digits: &str) -> Result<String, AllocError>
     )
 }
 
+/// The type `?` after its flag.
+fn flagged_type(alloc: Global, flag: char) -> Result<String, AllocError>
+    ensures { IfOk result (λ s. string_bytes s ≡ encode_utf8_all (flag ∷ codes "?")) }
+{
+    format!(in alloc; "{flag}?")
+}
+
+/// How to ask for the format `?` of a word.
+fn debug_after(alloc: Global, word: &str) -> Result<String, AllocError>
+    ensures { IfOk result (λ s. string_bytes s ≡ debug_after (chars word.now)) }
+{
+    format!(in alloc; "`?` comes after `:`, try `{word}:?` instead")
+}
+
+/// Where the sign of an alignment belongs.
+fn align_after(alloc: Global, sign: char) -> Result<String, AllocError>
+    ensures { IfOk result (λ s. string_bytes s ≡ align_after sign) }
+{
+    format!(in alloc; "expected `{sign}` to occur after `:`")
+}
+
 /// An error with these texts and spans.
 fn error(
     alloc: Global,
@@ -115,6 +158,38 @@ fn error(
         secondary_label,
         suggestion: Suggestion::None,
     })
+}
+
+/// The same error, with a suggestion.
+fn suggesting(suggestion: Suggestion, error: ParseError) -> ParseError
+    ensures { seen_error result ≡ suggesting (seen_suggestion suggestion) (seen_error error) }
+{
+    let mut error = error;
+    error.suggestion = suggestion;
+    error
+}
+
+/// The error of a field.
+fn local_variable(
+    alloc: Global,
+    description: &str,
+    span: Range<usize>,
+) -> Result<ParseError, AllocError>
+    ensures { IfOk result (λ e. seen_error e ≡ local_variable description.now (pair span)) }
+{
+    Ok(suggesting(
+        Suggestion::UsePositional,
+        error(
+            alloc,
+            String::from_str(alloc, description)?,
+            Some(
+                "consider moving this expression to a local variable and then using the local here instead",
+            ),
+            "not supported",
+            span,
+            None,
+        )?,
+    ))
 }
 
 /// The error that a fault becomes: a row for each.
@@ -168,36 +243,163 @@ fn error_of(alloc: Global, fault: Fault<'_>) -> Result<ParseError, AllocError>
             span,
             None,
         ),
+        Fault::RawIdentifier(span, prefix) => Ok(suggesting(
+            Suggestion::RemoveRawIdent(prefix),
+            error(
+                alloc,
+                String::from_str(alloc, "raw identifiers are not supported")?,
+                Some(
+                    "identifiers in format strings can be keywords and don't need to be prefixed with `r#`",
+                ),
+                "raw identifier used here",
+                span,
+                None,
+            )?,
+        )),
+        Fault::LateFlag(flag, span, both) => Ok(suggesting(
+            Suggestion::ReorderFormatParameter(both, flagged_type(alloc, flag)?),
+            error(
+                alloc,
+                expected_brace(alloc, Some(flag))?,
+                None,
+                "expected `'}'`",
+                span,
+                None,
+            )?,
+        )),
+        Fault::MissingColon(span) => Ok(suggesting(
+            Suggestion::AddMissingColon(span.start..span.end),
+            error(
+                alloc,
+                String::from_str(alloc, "expected `}`, found `?`")?,
+                Some("to print `{`, you can escape it using `{{`"),
+                "expected `:` before `?` to format with `Debug`",
+                span,
+                None,
+            )?,
+        )),
+        Fault::LateDebug(word, span) => error(
+            alloc,
+            String::from_str(alloc, "expected format parameter to occur after `:`")?,
+            Some(debug_after(alloc, word)?.as_str()),
+            "expected `?` to occur after `:`",
+            span,
+            None,
+        ),
+        Fault::LateAlign(sign, span) => error(
+            alloc,
+            String::from_str(
+                alloc,
+                "expected alignment specifier after `:` in format string; example: `{:>?}`",
+            )?,
+            None,
+            align_after(alloc, sign)?.as_str(),
+            span,
+            None,
+        ),
+        Fault::Grouping(span, opening) => error(
+            alloc,
+            String::from_str(
+                alloc,
+                "python's numeric grouping `,` is not supported in rust format strings",
+            )?,
+            Some("to print `{`, you can escape it using `{{`"),
+            "expected `}`",
+            span,
+            Some(("because of this opening brace", opening)),
+        ),
+        Fault::DebugPrint(span, opening) => Ok(suggesting(
+            Suggestion::UseRustDebugPrintingMacro,
+            error(
+                alloc,
+                String::from_str(
+                    alloc,
+                    "python's f-string debug `=` is not supported in rust, use `dbg(x)` instead",
+                )?,
+                Some("to print `{`, you can escape it using `{{`"),
+                "expected `}`",
+                span,
+                Some(("because of this opening brace", opening)),
+            )?,
+        )),
+        Fault::LateSign(span) => error(
+            alloc,
+            String::from_str(
+                alloc,
+                "the `+` sign flag must appear after `:` in a format string",
+            )?,
+            Some("`+` comes after `:`, try `{:+}` instead of `{+}`"),
+            "expected `:` before `+` sign flag",
+            span,
+            None,
+        ),
+        Fault::FieldAccess(span) => local_variable(alloc, "field access isn't supported", span),
+        Fault::TupleIndex(span) => {
+            local_variable(alloc, "tuple index access isn't supported", span)
+        }
     }
 }
 
-/// The errors that faults become, in the same order.
-fn errors_of(alloc: Global, found: Vec<Fault<'_>>) -> Result<Vec<ParseError>, AllocError>
-    ensures { IfOk result
-        (λ es. map seen_error es.items ≡ map message (map seen_fault found.entry.items)) }
+impl Fault<'_> {
+    /// Its error goes to the front of the list, and not to its back.
+    fn is_front(&self) -> bool
+        ensures { result ≡ is_front (seen_fault self.now) }
+    {
+        match self {
+            Fault::UnmatchedBrace(_)
+            | Fault::MissingBrace(..)
+            | Fault::FillBrace(..)
+            | Fault::Underscore(_)
+            | Fault::TooLarge(..) => false,
+            Fault::RawIdentifier(..) | Fault::LateFlag(..) => true,
+            Fault::MissingColon(_)
+            | Fault::LateDebug(..)
+            | Fault::LateAlign(..)
+            | Fault::Grouping(..)
+            | Fault::DebugPrint(..)
+            | Fault::LateSign(_)
+            | Fault::FieldAccess(_)
+            | Fault::TupleIndex(_) => true,
+        }
+    }
+}
+
+/// The errors that faults become, those of the front and those of the back, each in the order in which they were found.
+fn errors_of(
+    alloc: Global,
+    found: Vec<Fault<'_>>,
+) -> Result<(Vec<ParseError>, Vec<ParseError>), AllocError>
+    ensures front { IfOk result
+        (λ es. map seen_error es.0.items ≡ map message (filter is_front (map seen_fault found.entry.items))) }
+    ensures back { IfOk result
+        (λ es. map seen_error es.1.items ≡ map message (filter (λ f. not (is_front f)) (map seen_fault found.entry.items))) }
 {
-    let mut errors = Vec::new(alloc);
+    let mut front = Vec::new(alloc);
+    let mut back = Vec::new(alloc);
     for fault in found {
-        errors.push(error_of(alloc, fault)?)?;
+        if fault.is_front() {
+            front.push(error_of(alloc, fault)?)?;
+        } else {
+            back.push(error_of(alloc, fault)?)?;
+        }
     }
-    Ok(errors)
+    Ok((front, back))
 }
 
-/// Adds the faults to the errors.
+/// Adds the faults to the errors: all of them, or none where memory is refused.
+#[tactic(auto, using(crate::proofs::Errors::error_ends))]
 pub fn add_errors(
     alloc: Global,
-    errors: &mut Vec<ParseError>,
+    errors: &mut ErrorList,
     found: Vec<Fault<'_>>,
 ) -> Result<(), AllocError>
-    ensures ok { OnOk result (map seen_error errors.new.items
-        ≡ add_errors (map seen_error errors.old.items) (map seen_fault found.entry.items)) }
-    ensures err { OnErr result (errors.new.items ≡ errors.old.items) }
+    ensures ok { OnOk result (errors.new ≡ add_errors errors.old (map seen_fault found.entry.items)) }
+    ensures err { OnErr result (errors.new ≡ errors.old) }
     ensures none { found.entry.items ≡ [] → IsOk result }
 {
     if found.is_empty() {
         return Ok(());
     }
-    let mut more = errors_of(alloc, found)?;
-    errors.append(&mut more)?;
-    Ok(())
+    let (front, back) = errors_of(alloc, found)?;
+    errors.add(alloc, front, back)
 }

@@ -214,6 +214,3 @@ fn pieces_are_equal<'input>(a: &Piece<'input>, b: &Piece<'input>) -> bool
     know_piece(b);
     a == b
 }
-
-#[cfg(test)]
-mod tests;

@@ -10,7 +10,7 @@ ghost use Rattle.rustc_parse_format.specs.World.{later, literal_end, newline_pla
 mod rest;
 mod unit;
 
-pub(crate) use rest::Rest;
+pub(crate) use rest::{Rest, plain_width};
 use std::alloc::{AllocError, Global};
 use std::ops::Range;
 pub(crate) use unit::read_unit;
@@ -101,7 +101,8 @@ fn spelled_end(content: &str, text: &str) -> Option<usize>
     let total = content.len() + 1;
     let mut rest = Rest::new(content);
     let mut wanted = Rest::new(text);
-    let mut end = 1;
+    rest.take_plain(&mut wanted);
+    let mut end = total - rest.len();
     while !rest.is_empty() {
         let Some(value) = read_unit(&mut rest) else {
             return None;
@@ -110,6 +111,7 @@ fn spelled_end(content: &str, text: &str) -> Option<usize>
             if !wanted.next_is(c) {
                 return None;
             }
+            rest.take_plain(&mut wanted);
             end = total - rest.len();
         }
     }
@@ -235,6 +237,3 @@ pub fn is_source_literal(
 {
     source_end(input, style, snippet, appended_newline).is_some()
 }
-
-#[cfg(test)]
-mod tests;

@@ -4,7 +4,7 @@ use crate::call::read_piece;
 use crate::cursor::{Cursor, StepCount, Trail};
 use crate::lists::{Lists, ends_with};
 use crate::reader::Reader;
-use crate::source::{Source, Spot};
+use crate::source::Spot;
 use crate::types::{ParseError, ParseMode, Piece};
 use crate::world::{first_byte, quote_offset, source_of};
 use std::alloc::{AllocError, Global};
@@ -17,34 +17,32 @@ use std::sync::ledger::{Blank, Ledger};
 pub struct Parser<'input> {
     alloc: Global,
     mode: ParseMode,
-    source: Source<'input>,
-    spot: Spot<'input>,
-    curarg: usize,
-    line_start: usize,
+    /// Between two calls it has found nothing.
+    reader: Reader<'input>,
     lists: Lists,
 }
 
 impl<'input> Model for Parser<'input> {
-    ghost use Rattle.std.specs.Prelude.{◌+◌, ◌<◌, ◌^◌, chars, length, map};
+    ghost use Rattle.std.specs.Prelude.{◌+◌, ◌<◌, ◌^◌, length, map};
+    ghost use Rattle.rustc_parse_format.specs.Midway.{HasFoundNothing};
     ghost use Rattle.rustc_parse_format.specs.State.{State};
-    ghost use Rattle.rustc_parse_format.specs.Seen.{pair, seen_error, seen_mode};
-    ghost use Rattle.rustc_parse_format.specs.SeenSource.{IsSpot, seen_world};
+    ghost use Rattle.rustc_parse_format.specs.Seen.{pair, seen_mode};
 
     ghost Value = { State };
 
     ghost view = { λ p. record {
       mode = seen_mode p.mode;
-      world = seen_world p.source;
-      input = chars p.source.input.now;
-      rest = chars p.spot.rest.now;
-      next = p.curarg;
-      errors = map seen_error p.lists.errors.items;
+      world = p.reader.world;
+      input = p.reader.input;
+      rest = p.reader.rest;
+      next = p.reader.next;
+      errors = p.lists.errors;
       arg_places = map pair p.lists.arg_places.items;
-      line_start = p.line_start;
+      line_start = p.reader.line_start;
       line_spans = map pair p.lists.line_spans.items;
     } };
 
-    ghost invariant = { λ p. IsSpot p.source p.spot.rest.now p.spot.mark.now p.spot.at × (p.curarg + length (chars p.spot.rest.now) < 2 ^ 64) };
+    ghost invariant = { λ p. (p.reader.next + length p.reader.rest < 2 ^ 64) × HasFoundNothing p.reader };
 }
 
 impl<'input> Parser<'input> {
@@ -52,11 +50,12 @@ impl<'input> Parser<'input> {
     ghost use Rattle.rustc_parse_format.specs.Characters.{Text, behind_first};
     ghost use Rattle.rustc_parse_format.specs.Faults.{Keeps, add_errors, bare_fault, bare_message};
     ghost use Rattle.rustc_parse_format.specs.Lines.{IsLines, listed, noted};
-    ghost use Rattle.rustc_parse_format.specs.ReadBack.{AllSpans, IsInside, ReadsBack};
+    ghost use Rattle.rustc_parse_format.specs.ReadBack.{AllSpans, IsInside, LiesInside, ReadsBack};
     ghost use Rattle.rustc_parse_format.specs.Grammar.{Begins};
     ghost use Rattle.rustc_parse_format.specs.Meaning.{argument};
     ghost use Rattle.rustc_parse_format.specs.Types.{NextArgument, Piece as BarePiece, bare};
     ghost use Rattle.rustc_parse_format.specs.Seen.{pair, seen, seen_error, seen_mode, seen_snippet};
+    ghost use Rattle.rustc_parse_format.specs.Literal.{IsSource};
     ghost use Rattle.rustc_parse_format.specs.Source.{HasSource};
     ghost use Rattle.rustc_parse_format.specs.State.{ComesFrom, GivesPiece, after, first_of, first_state, last_lines, next_call};
     ghost use Rattle.rustc_parse_format.specs.Spelling.{IsPart};
@@ -84,20 +83,20 @@ impl<'input> Parser<'input> {
         ensures end { IfOk result (λ p. p.world.end ≡ text_end (chars input.now) style (seen_snippet snippet) appended_newline) }
         ensures source { IfOk result (λ p. IsTrue p.world.has_source
             ↔ HasSource (chars input.now) style (seen_snippet snippet) appended_newline) }
+        ensures lies_inside { IfOk result (λ p. (source : Text) → seen_snippet snippet ≡ Some source
+            → IsSource (chars input.now) style source appended_newline → LiesInside source appended_newline p) }
     {
         let source = source_of(input, style, snippet, appended_newline);
-        let at = first_byte(&source);
+        let spot = Spot {
+            rest: input,
+            mark: input,
+            at: first_byte(&source),
+        };
+        let cursor = Cursor::new(source, spot);
         Ok(Parser {
             alloc,
             mode,
-            source,
-            spot: Spot {
-                rest: input,
-                mark: input,
-                at,
-            },
-            curarg: 0,
-            line_start: quote_offset(style),
+            reader: Reader::new(alloc, cursor, quote_offset(style)),
             lists: Lists::new(alloc),
         })
     }
@@ -114,26 +113,19 @@ impl<'input> Parser<'input> {
         ensures spare { NeedsNoMemory self.old (next_call self.old) → IsOk result }
         ensures steps { OnOk result (Paid self.old.rest trail.old self.new.rest trail.new) }
     {
-        if self.spot.rest.is_empty() {
+        if self.reader.is_at_end() {
             self.end_line()?;
             return Ok(None);
         }
-        let cursor = Cursor::new(&self.source, self.spot.again());
-        let mut reader = Reader::new(self.alloc, cursor, self.curarg, self.line_start);
-        let piece = read_piece(self.alloc, self.mode, &mut reader, trail)?;
-        let Reader {
-            cursor,
-            curarg,
-            found,
-            line_start,
-            lines,
-            closed,
-        } = reader;
-        let spot = cursor.spot();
-        self.lists.add(self.alloc, found, lines, closed)?;
-        self.spot = spot;
-        self.curarg = curarg;
-        self.line_start = line_start;
+        let front = self.reader.front();
+        let Ok(piece) = read_piece(self.alloc, self.mode, &mut self.reader, trail) else {
+            self.reader.go_back(self.alloc, front);
+            return Err(AllocError);
+        };
+        let Ok(_) = self.lists.take_over(self.alloc, &mut self.reader) else {
+            self.reader.go_back(self.alloc, front);
+            return Err(AllocError);
+        };
         Ok(piece)
     }
 
@@ -144,22 +136,13 @@ impl<'input> Parser<'input> {
         ensures err { OnErr result (self.new ≡ self.old) }
         ensures spare { last_lines self.old self.old.line_spans ≡ self.old.line_spans → IsOk result }
     {
-        if self.source.is_literal {
-            let last = self.line_start..self.cursor().start();
+        if self.is_source_literal() {
+            let last = self.reader.line();
             if !ends_with(self.lists.line_spans.as_slice(), &last) {
                 self.lists.line_spans.push(last)?;
             }
         }
         Ok(())
-    }
-
-    /// Where it stands.
-    fn cursor(&self) -> Cursor<'_, 'input>
-        ensures world { result.world ≡ self.now.world }
-        ensures input { result.input ≡ self.now.input }
-        ensures rest { result.rest ≡ self.now.rest }
-    {
-        Cursor::new(&self.source, self.spot.again())
     }
 
     /// A count of the steps from here on, which contracts see and no code: it is nothing when the program runs. A step is a
@@ -170,7 +153,7 @@ impl<'input> Parser<'input> {
         requires three { blank.parts ≡ 3 }
         ensures { result ≡ record { steps = 0; left = length self.now.rest } }
     {
-        self.cursor().count(blank)
+        self.reader.cursor.count(blank)
     }
 
     /// The next piece, as by [`Parser::next`], with its steps counted. An error leaves the parser and the count as they were.
@@ -216,7 +199,7 @@ impl<'input> Parser<'input> {
     fn reads_its_input(&self)
         ensures { (front : Text) × (self.now.input ≡ front ++ self.now.rest) }
     {
-        let _at = self.spot.at;
+        self.reader.cursor.reads_its_input();
     }
 
     /// The next piece, or None at the end and over a closing brace that closes nothing, after which a later call goes
@@ -251,6 +234,8 @@ impl<'input> Parser<'input> {
             → AllSpans (λ s. ReadsBack self.old.input style snippet appended s (place_of self.old.world s)) (next_call self.old) }
         ensures inside { (style : Option ℕ) (snippet : Text) (appended : Bool) → ComesFrom self.old style snippet appended
             → AllSpans (λ s. IsInside snippet (place_of self.old.world s)) (next_call self.old) }
+        ensures lies_inside { OnOk result ((style : Option ℕ) (snippet : Text) (appended : Bool) → ComesFrom self.old style snippet appended
+            → LiesInside snippet appended self.old → LiesInside snippet appended self.new) }
 
         // In a source literal the lines are those of what was read as text, and a placeholder that was closed has its place; elsewhere
         // there is neither.
@@ -275,7 +260,7 @@ impl<'input> Parser<'input> {
     pub fn peek(&self) -> Option<(Range<usize>, usize, char)>
         ensures { option_map (λ x. (pair x.0, x.1, x.2)) result ≡ first_of self.now.world self.now.input self.now.rest }
     {
-        self.cursor().next_place()
+        self.reader.cursor.next_place()
     }
 
     /// The same of the character after the next one.
@@ -283,7 +268,7 @@ impl<'input> Parser<'input> {
         ensures { option_map (λ x. (pair x.0, x.1, x.2)) result
             ≡ first_of self.now.world self.now.input (behind_first self.now.rest) }
     {
-        self.cursor().place_ahead()
+        self.reader.cursor.place_ahead()
     }
 
     /// The errors of all calls so far, in their order.
@@ -312,27 +297,13 @@ impl<'input> Parser<'input> {
     pub fn is_source_literal(&self) -> bool
         ensures { result ≡ self.now.world.has_source }
     {
-        self.source.is_literal
+        self.reader.cursor.is_source_literal()
     }
 
     /// The number that the next implicit argument takes.
     pub fn curarg(&self) -> usize
         ensures { result ≡ self.now.next }
     {
-        self.curarg
-    }
-}
-
-#[cfg(test)]
-mod tests {
-    use super::*;
-    use std::test::Fail;
-
-    #[test]
-    fn an_empty_input_behind_an_appended_newline_ends_at_0(rt: HostRuntime) -> Result<(), Fail> {
-        let parser = Parser::new(rt.alloc(), "", None, None, true, ParseMode::Format)?;
-        assert_eq!(rt; parser.cursor().start(), 0);
-        assert_eq!(rt; parser.cursor().stop(), 0);
-        Ok(())
+        self.reader.curarg
     }
 }

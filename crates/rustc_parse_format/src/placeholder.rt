@@ -1,10 +1,10 @@
 //! A placeholder after its opening brace: its position and its specification.
 
-ghost use Rattle.std.specs.Prelude.{◌+◌, ◌<◌, ◌^◌, ◌≡◌, IfOk, if◌then◌else◌, is_some, length, OnOk, option_map, Some, suc, unwrap_or};
-ghost use Rattle.rustc_parse_format.specs.Call.{spec_texts};
-ghost use Rattle.rustc_parse_format.specs.Characters.{number, word};
+ghost use Rattle.std.specs.Prelude.{◌+◌, ◌<◌, ◌^◌, ◌≡◌, chars, IfOk, if◌then◌else◌, is_some, length, OnErr, OnOk, option_map, Some, suc, unwrap_or};
+ghost use Rattle.rustc_parse_format.specs.Meaning.{spec_texts};
+ghost use Rattle.rustc_parse_format.specs.Characters.{behind_prefix, behind_word, number, word};
 ghost use Rattle.rustc_parse_format.specs.Meaning.{argument};
-ghost use Rattle.rustc_parse_format.specs.PartFaults.{argument_faults, cut_faults};
+ghost use Rattle.rustc_parse_format.specs.PartFaults.{cut_faults, position_faults, raw_faults};
 ghost use Rattle.rustc_parse_format.specs.Placeholder.{cut, position};
 ghost use Rattle.rustc_parse_format.specs.Seen.{seen_argument, seen_mode, seen_position};
 ghost use Rattle.rustc_parse_format.specs.Midway.{read_texts, read_to};
@@ -15,25 +15,53 @@ ghost use Rattle.rustc_parse_format.specs.World.{place_of};
 
 use crate::counts::{integer, word};
 use crate::cursor::Trail;
+use crate::faults::Fault;
 use crate::reader::Reader;
 use crate::specification::specification;
 use crate::types::{Argument, ParseMode, Position};
 use std::alloc::AllocError;
 use std::sync::ledger::Ledger;
 
-/// Reads the position at the front: an integer, else a word, else none.
+/// Reads the raw identifier at the front, which is a fault: the word without its `r#`.
+fn raw_word<'input, L: Ledger>(
+    reader: &mut Reader<'input>,
+    trail: &mut Trail<'input, L>,
+) -> Result<&'input str, AllocError>
+    ensures value { IfOk result (λ w. chars w.now ≡ word (behind_prefix reader.old.rest)) }
+    ensures state { OnOk result (reader.new
+        ≡ read_to reader.old (behind_word (behind_prefix reader.old.rest)) reader.old.next (raw_faults reader.old.rest)) }
+    ensures err { OnErr result (reader.new.source ≡ reader.old.source) }
+    ensures steps { OnOk result (Forward reader.old.rest trail.old reader.new.rest trail.new) }
+{
+    let from = reader.cursor.start();
+    reader.cursor.advance(trail);
+    let prefix = from..reader.cursor.stop();
+    reader.cursor.advance(trail);
+    let word = word(reader, trail)?;
+    let span = from..reader.cursor.start();
+    reader.found.push(Fault::RawIdentifier(span, prefix))?;
+    Ok(word)
+}
+
+/// Reads the position at the front: an integer, else a word, raw or not, else none.
 #[tactic(auto, using(crate::proofs::TriedParts::tried_parts, crate::proofs::Readers::read_nothing))]
 fn position<'input, L: Ledger>(
-    reader: &mut Reader<'_, 'input>,
+    reader: &mut Reader<'input>,
     trail: &mut Trail<'input, L>,
 ) -> Result<Option<Position<'input>>, AllocError>
     ensures value { IfOk result (λ p. option_map seen_position p ≡ given_position (position reader.old.rest).0) }
-    ensures state { OnOk result (reader.new ≡ read_to reader.old (position reader.old.rest).1 reader.old.next (argument_faults reader.old.rest)) }
+    ensures state { OnOk result (reader.new ≡ (let p = position reader.old.rest in
+        read_to reader.old p.1 reader.old.next (position_faults reader.old.rest p.0))) }
+    ensures err { OnErr result (reader.new.source ≡ reader.old.source) }
     ensures steps { OnOk result (Forward reader.old.rest trail.old reader.new.rest trail.new) }
 {
     if reader.cursor.starts_digit() {
         let number = integer(reader, trail)?;
         return Ok(Some(Position::ArgumentIs(usize::from(number))));
+    }
+    if reader.cursor.starts_raw() {
+        let name = raw_word(reader, trail)?;
+        return Ok(Some(Position::ArgumentNamed(name)));
     }
     if reader.cursor.starts_word() {
         let name = word(reader, trail)?;
@@ -45,7 +73,7 @@ fn position<'input, L: Ledger>(
 /// The position: the given one, or else the next argument.
 fn position_of<'input>(
     given: Option<Position<'input>>,
-    reader: &mut Reader<'_, 'input>,
+    reader: &mut Reader<'input>,
 ) -> Position<'input>
     requires { reader.old.next + 1 < 2 ^ 64 }
     ensures value { seen_position result ≡ unwrap_or (option_map seen_position given.entry) (Implicit reader.old.next) }
@@ -63,7 +91,7 @@ fn position_of<'input>(
 #[tactic(auto, using(crate::proofs::Steps::part_le), unfolding(crate::specs::Placeholder::cut, crate::specs::Meaning::argument, crate::specs::Values::number_after_field, crate::specs::PartFaults::cut_faults))]
 pub fn read_argument<'input, L: Ledger>(
     mode: ParseMode,
-    reader: &mut Reader<'_, 'input>,
+    reader: &mut Reader<'input>,
     trail: &mut Trail<'input, L>,
 ) -> Result<Argument<'input>, AllocError>
     requires numbers { reader.old.next + 1 + length reader.old.rest < 2 ^ 64 }
@@ -72,6 +100,7 @@ pub fn read_argument<'input, L: Ledger>(
         ≡ map_argument (place_of reader.old.world) (argument reader.old.next (cut (seen_mode mode) reader.old.rest))) }
     ensures state { OnOk result (reader.new ≡ (let a = cut (seen_mode mode) reader.old.rest in
         read_texts (read_to reader.old a.rest (number_after_field reader.old.next a.field) (cut_faults a)) (spec_texts a.field.spec a.rest))) }
+    ensures err { OnErr result (reader.new.source ≡ reader.old.source) }
     ensures steps { OnOk result (Paid reader.old.rest trail.old reader.new.rest trail.new) }
 {
     let start = reader.cursor.start();

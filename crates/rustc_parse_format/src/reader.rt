@@ -1,24 +1,29 @@
 //! What a call reads on: a cursor, the number that the next implicit argument takes, and what it has found so far.
 
-ghost use Rattle.std.specs.Prelude.{◌≡◌, ◌≢◌, ◌++◌, ◌+◌, ◌<◌, ◌^◌, ◌∷◌, [], IfOk, IsOk, IsTrue, OnOk, chars, length, map};
+ghost use Rattle.std.specs.Prelude.{◌≡◌, ◌≢◌, ◌++◌, ◌+◌, ◌<◌, ◌^◌, ◌∷◌, [], ◌↔◌, IfOk, IsOk, IsTrue, None, OnErr, OnOk, chars, length, map, option_map};
 ghost use Rattle.rustc_parse_format.specs.Characters.{behind, behind_first, front, is_in_line, is_no_brace, with_first};
-ghost use Rattle.rustc_parse_format.specs.Midway.{IsInOneLine, midway, noted_next, passed_next, read_run};
+ghost use Rattle.rustc_parse_format.specs.Midway.{HasFoundNothing, IsInOneLine, midway, noted_next, passed_next, read_run, unread_at};
+ghost use Rattle.rustc_parse_format.specs.Marks.{Start};
 ghost use Rattle.rustc_parse_format.specs.SeenFaults.{seen_fault};
 ghost use Rattle.rustc_parse_format.specs.Seen.{pair};
+ghost use Rattle.rustc_parse_format.specs.SeenSource.{IsSpot};
 ghost use Rattle.rustc_parse_format.specs.Steps.{Forward};
+ghost use Rattle.rustc_parse_format.specs.World.{number_of, StartBehind};
 
 use crate::characters::{Class, before};
 use crate::cursor::{Cursor, Trail};
 use crate::faults::Fault;
+use crate::source::Spot;
 use std::alloc::{AllocError, Global};
 use std::marker::Model;
+use std::mem;
 use std::ops::Range;
 use std::sync::ledger::Ledger;
 
 /// A parser in the middle of a call.
 #[derive(Drop)]
-pub struct Reader<'source, 'input> {
-    pub cursor: Cursor<'source, 'input>,
+pub struct Reader<'input> {
+    pub cursor: Cursor<'input>,
     /// The number that the next implicit argument takes.
     pub curarg: usize,
     /// The faults of this call, as they are found.
@@ -31,7 +36,7 @@ pub struct Reader<'source, 'input> {
     pub closed: Option<Range<usize>>,
 }
 
-impl<'source, 'input> Model for Reader<'source, 'input> {
+impl<'input> Model for Reader<'input> {
     ghost use Rattle.std.specs.Prelude.{map, option_map};
     ghost use Rattle.rustc_parse_format.specs.Midway.{Midway, midway};
     ghost use Rattle.rustc_parse_format.specs.Seen.{pair};
@@ -46,24 +51,83 @@ impl<'source, 'input> Model for Reader<'source, 'input> {
     } };
 }
 
-impl<'source, 'input> Reader<'source, 'input> {
-    /// At the place of a cursor, with this number and in the line that starts at a byte, where nothing was found yet.
-    pub fn new(
-        alloc: Global,
-        cursor: Cursor<'source, 'input>,
-        curarg: usize,
-        line_start: usize,
-    ) -> Reader<'source, 'input>
-        ensures { result ≡ midway cursor.entry curarg line_start }
+/// Where a call began.
+#[derive(Drop)]
+pub struct Front<'input> {
+    spot: Spot<'input>,
+    curarg: usize,
+    line_start: usize,
+}
+
+impl<'input> Reader<'input> {
+    /// At the place of a cursor, with the number 0 and in the line that starts at a byte.
+    pub fn new(alloc: Global, cursor: Cursor<'input>, line_start: usize) -> Reader<'input>
+        ensures { result ≡ midway cursor.entry 0 line_start }
     {
         Reader {
             cursor,
-            curarg,
+            curarg: 0,
             found: Vec::new(alloc),
             line_start,
             lines: Vec::new(alloc),
             closed: None,
         }
+    }
+
+    /// Where it stands before a call.
+    pub fn front(&self) -> Front<'input>
+        requires { HasFoundNothing self.now }
+        ensures at { self.now ≡ midway (unread_at self.now.source result.spot.rest.now) result.curarg result.line_start }
+        ensures spot { IsSpot self.now.source result.spot.rest.now result.spot.mark.now result.spot.at }
+    {
+        Front {
+            spot: self.cursor.spot(),
+            curarg: self.curarg,
+            line_start: self.line_start,
+        }
+    }
+
+    /// Goes back to where a call began, and forgets what it has found.
+    pub fn go_back(&mut self, alloc: Global, front: Front<'input>)
+        requires { IsSpot self.old.source front.spot.rest.now front.spot.mark.now front.spot.at }
+        ensures { self.new ≡ midway (unread_at self.old.source front.entry.spot.rest.now) front.entry.curarg front.entry.line_start }
+    {
+        self.cursor.put(front.spot);
+        self.curarg = front.curarg;
+        self.found = Vec::new(alloc);
+        self.line_start = front.line_start;
+        self.lines = Vec::new(alloc);
+        self.closed = None;
+    }
+
+    /// Whether nothing is left.
+    pub fn is_at_end(&self) -> bool
+        ensures { IsTrue result ↔ (self.now.rest ≡ []) }
+    {
+        self.cursor.peek().is_none()
+    }
+
+    /// Whether the call has found nothing yet.
+    pub fn has_found_nothing(&self) -> bool
+        ensures { IsTrue result ↔ HasFoundNothing self.now }
+    {
+        self.found.is_empty() && self.lines.is_empty() && self.closed.is_none()
+    }
+
+    /// Takes the faults out.
+    pub fn take_faults(&mut self, alloc: Global) -> Vec<Fault<'input>>
+        ensures value { map seen_fault result.items ≡ self.old.faults }
+        ensures state { self.new ≡ record self.old { faults = [] } }
+    {
+        mem::replace(&mut self.found, Vec::new(alloc))
+    }
+
+    /// Takes out the placeholder that was closed.
+    pub fn take_closed(&mut self) -> Option<Range<usize>>
+        ensures value { option_map pair result ≡ self.old.closed }
+        ensures state { self.new ≡ record self.old { closed = None } }
+    {
+        self.closed.take()
     }
 
     /// The number of the next implicit argument, which is then one more.
@@ -77,6 +141,13 @@ impl<'source, 'input> Reader<'source, 'input> {
         number
     }
 
+    /// The line that is read, up to the place of the next character.
+    pub fn line(&self) -> Range<usize>
+        ensures { pair result ≡ (self.now.line_start, number_of self.now.world (Start (length self.now.rest))) }
+    {
+        self.line_start..self.cursor.start()
+    }
+
     /// Reads the run of text at the front.
     pub fn take_text<L: Ledger>(
         &mut self,
@@ -85,6 +156,7 @@ impl<'source, 'input> Reader<'source, 'input> {
         ensures value { IfOk result (λ t. chars t.now ≡ front is_no_brace self.old.rest) }
         ensures state { OnOk result (self.new ≡ read_run self.old) }
         ensures spare { IsInOneLine self.old → IsOk result }
+        ensures err { OnErr result (self.new.source ≡ self.old.source) }
         ensures steps { OnOk result (Forward self.old.rest trail.old self.new.rest trail.new) }
     {
         let text = self.cursor.rest();
@@ -100,6 +172,7 @@ impl<'source, 'input> Reader<'source, 'input> {
         ensures value { IfOk result (λ t. chars t.now ≡ with_first self.old.rest (front is_no_brace (behind_first self.old.rest))) }
         ensures state { OnOk result (self.new ≡ read_run (record self.old { rest = behind_first self.old.rest })) }
         ensures spare { IsInOneLine (record self.old { rest = behind_first self.old.rest }) → IsOk result }
+        ensures err { OnErr result (self.new.source ≡ self.old.source) }
         ensures steps { OnOk result (Forward self.old.rest trail.old self.new.rest trail.new) }
     {
         let text = self.cursor.rest();
@@ -112,6 +185,7 @@ impl<'source, 'input> Reader<'source, 'input> {
     fn skip_text<L: Ledger>(&mut self, trail: &mut Trail<'input, L>) -> Result<(), AllocError>
         ensures state { OnOk result (self.new ≡ read_run self.old) }
         ensures spare { IsInOneLine self.old → IsOk result }
+        ensures err { OnErr result (self.new.source ≡ self.old.source) }
         ensures steps { OnOk result (Forward self.old.rest trail.old self.new.rest trail.new) }
     {
         if self.cursor.is_source_literal() {
@@ -126,19 +200,30 @@ impl<'source, 'input> Reader<'source, 'input> {
         requires { IsTrue self.old.world.has_source }
         ensures state { OnOk result (self.new ≡ read_run self.old) }
         ensures spare { IsInOneLine self.old → IsOk result }
+        ensures err { OnErr result (self.new.source ≡ self.old.source) }
         ensures steps { OnOk result (Forward self.old.rest trail.old self.new.rest trail.new) }
     {
         while let Some(c) = self.cursor.peek() {
             if !Class::Text.passes(c) {
                 break;
             }
-            if Class::Line.passes(c) && self.cursor.is_behind(self.line_start) {
+            let is_later = self.is_behind_start();
+            if is_later && Class::Line.passes(c) {
                 self.skip_line(trail);
             } else {
                 self.pass(c, trail)?;
             }
         }
         Ok(())
+    }
+
+    /// A character is left, and starts after the start of the line that is read: so does each that is left. It looks at the snippet.
+    fn is_behind_start(&mut self) -> bool
+        ensures state { self.new ≡ self.old }
+        ensures all { IsTrue result → StartBehind self.old.line_start self.old.world (length self.old.rest) }
+    {
+        self.cursor.settle();
+        self.cursor.is_behind(self.line_start)
     }
 
     /// Moves up to the end of the line, or to a brace in it.
@@ -153,9 +238,9 @@ impl<'source, 'input> Reader<'source, 'input> {
     fn pass<L: Ledger>(&mut self, c: char, trail: &mut Trail<'input, L>) -> Result<(), AllocError>
         ensures state { OnOk result (self.new ≡ passed_next c self.old) }
         ensures spare { c ≢ 10 → IsOk result }
+        ensures err { OnErr result (self.new.source ≡ self.old.source) }
         ensures steps { OnOk result (Forward self.old.rest trail.old self.new.rest trail.new) }
     {
-        self.cursor.settle();
         self.note(c)?;
         self.cursor.advance(trail);
         Ok(())
@@ -166,9 +251,10 @@ impl<'source, 'input> Reader<'source, 'input> {
     fn note(&mut self, c: char) -> Result<(), AllocError>
         ensures state { OnOk result (self.new ≡ noted_next c self.old) }
         ensures spare { c ≢ 10 → IsOk result }
+        ensures err { OnErr result (self.new.source ≡ self.old.source) }
     {
         if c == '\n' {
-            let line = self.line_start..self.cursor.start();
+            let line = self.line();
             self.lines.push(line)?;
             self.line_start = self.cursor.stop();
         } else if self.cursor.start() == self.line_start && c.is_whitespace() {

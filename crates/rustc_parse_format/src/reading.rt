@@ -14,7 +14,7 @@ ghost use Rattle.rustc_parse_format.specs.World.{hashes, pieces_in, place_of};
 ghost use Rattle.std.specs.List.{AllByRecursion};
 ghost use Rattle.rustc_parse_format.specs.Faults.{add_errors, bare_fault, bare_message};
 ghost use Rattle.rustc_parse_format.specs.Literal.{IsSource};
-ghost use Rattle.rustc_parse_format.specs.ReadBack.{AllSpans, IsInside, ReadsBack};
+ghost use Rattle.rustc_parse_format.specs.ReadBack.{AllSpans, IsInside, LiesInside, ReadsBack};
 
 use crate::cursor::StepCount;
 use crate::parser::Parser;
@@ -107,6 +107,8 @@ pub fn read_all<'input>(
     ensures inside { (source : Text) → seen_snippet snippet ≡ Some source → IsSource (chars input.now) style source appended_newline
         → (let s = first_state (seen_mode mode) (chars input.now) style (seen_snippet snippet) appended_newline in
         AllByRecursion (AllSpans (λ m. IsInside source (place_of s.world m))) (calls s)) }
+    ensures lies_inside { IfOk result (λ x. (source : Text) → seen_snippet snippet ≡ Some source
+        → IsSource (chars input.now) style source appended_newline → LiesInside source appended_newline x.1) }
 
     // the lines are those of all that was read as text, and each placeholder that was closed has its place.
     ensures lines { IfOk result (λ x. HasSource (chars input.now) style (seen_snippet snippet) appended_newline

@@ -1,6 +1,6 @@
 //! Where an input stands in its source, and how a place in a snippet goes on from character to character.
 
-ghost use Rattle.std.specs.Prelude.{IsTrue, ◌++◌, ◌≡◌, ◌≤◌, ◌∷◌, Bool, List, ℕ, chars, drop, length, true};
+ghost use Rattle.std.specs.Prelude.{IsTrue, ◌++◌, ◌≡◌, ◌≢◌, ◌≤◌, ◌∷◌, Bool, List, ℕ, chars, drop, length, true};
 ghost use Rattle.std.specs.Str.{is_utf8};
 ghost use Rattle.rustc_parse_format.specs.Bytes.{IsLeft};
 ghost use Rattle.rustc_parse_format.specs.Characters.{Text, behind_first};
@@ -11,7 +11,8 @@ ghost use Rattle.rustc_parse_format.specs.SeenSource.{IsHere, character_width, c
 ghost use Rattle.rustc_parse_format.specs.World.{World, place_at};
 
 use crate::characters::{before, behind_first, first};
-use crate::literal::{Rest, read_unit};
+use crate::literal::{Rest, plain_width, read_unit};
+use std::ops::Range;
 
 /// Where an input stands in its source.
 #[derive(Drop)]
@@ -37,21 +38,9 @@ pub struct Spot<'input> {
     pub at: usize,
 }
 
-impl<'input> Spot<'input> {
-    /// The same spot again.
-    pub fn again(&self) -> Spot<'input>
-        ensures { result ≡ self.now }
-    {
-        Spot {
-            rest: self.rest,
-            mark: self.mark,
-            at: self.at,
-        }
-    }
-}
-
 /// How many bytes the unit at the front takes, or 0 where none stands there that is a character.
 #[tactic(auto, unfolding(crate::specs::SeenSource::character_width, crate::specs::LiteralUnits::unit_at))]
+#[inline(always)]
 fn character_width(text: &str) -> usize
     ensures { result ≡ character_width (chars text.now) }
 {
@@ -70,6 +59,7 @@ fn character_width(text: &str) -> usize
 }
 
 /// How many bytes the continuations at the front take, where a character comes after them, or else 0.
+#[inline(always)]
 pub fn continuations_width(text: &str) -> usize
     ensures width { (q : Text) (us : List LiteralUnit) → IsContent q us → chars text.now ≡ closed_by_quote q → result ≡ gap us }
     ensures inside { result ≤ length text.now }
@@ -102,6 +92,7 @@ pub fn byte_after(snippet: &str, at: usize) -> usize
 }
 
 /// Where the next character ends in a snippet that is kept, if it starts at a byte. An appended newline takes a byte.
+#[inline(always)]
 pub fn byte_through(snippet: &str, at: usize) -> usize
     requires within { at ≤ length snippet.now }
     requires valid { is_utf8 (drop at snippet.now) ≡ true }
@@ -112,17 +103,11 @@ pub fn byte_through(snippet: &str, at: usize) -> usize
 }
 
 /// Whether a text stands in front of another as it is, and is free of all that a literal writes in another way.
+#[inline(always)]
 fn begins_plainly(text: &str, front: &str) -> bool
     ensures { IsTrue result → (t : Text) × (chars text.now ≡ chars front.now ++ t) × IsTrue (list_all is_plain (chars front.now)) }
 {
-    let mut rest = Rest::new(text);
-    let mut wanted = Rest::new(front);
-    while let Some(c) = wanted.next() {
-        if c == '"' || c == '\\' || c == '\r' || !rest.next_is(c) {
-            return false;
-        }
-    }
-    true
+    plain_width(text.as_bytes(), front.as_bytes()) == front.len()
 }
 
 /// Where the next character starts in a snippet that is kept: from where it was last looked at on, character by character.
@@ -141,6 +126,22 @@ fn byte_by_byte(snippet: &str, spot: &Spot<'_>) -> usize
 }
 
 /// The same. What stands in the snippet as it is was passed at once.
+fn byte_ahead(snippet: &str, spot: &Spot<'_>) -> usize
+    requires moved { length spot.now.mark.now ≢ length spot.now.rest.now }
+    requires after { IsLeft spot.now.mark.now spot.now.rest.now }
+    requires here { (w : World) × IsHere snippet.now w (chars spot.now.mark.now) spot.now.at }
+    ensures { (w : World) → IsHere snippet.now w (chars spot.now.mark.now) spot.now.at → IsHere snippet.now w (chars spot.now.rest.now) result }
+{
+    let moved = before(spot.mark, spot.rest);
+    if !begins_plainly(&snippet[spot.at..], moved) {
+        return byte_by_byte(snippet, spot);
+    }
+    let at = spot.at + moved.len();
+    at + continuations_width(&snippet[at..])
+}
+
+/// The same. Nothing is to be done where the snippet was last looked at.
+#[inline(always)]
 pub fn byte_here(snippet: &str, spot: &Spot<'_>) -> usize
     requires after { IsLeft spot.now.mark.now spot.now.rest.now }
     requires here { (w : World) × IsHere snippet.now w (chars spot.now.mark.now) spot.now.at }
@@ -149,10 +150,64 @@ pub fn byte_here(snippet: &str, spot: &Spot<'_>) -> usize
     if spot.mark.len() == spot.rest.len() {
         return spot.at;
     }
-    let moved = before(spot.mark, spot.rest);
-    if !begins_plainly(&snippet[spot.at..], moved) {
-        return byte_by_byte(snippet, spot);
+    byte_ahead(snippet, spot)
+}
+
+impl<'input> Source<'input> {
+    ghost use Rattle.std.specs.Prelude.{◌-◌, option_map};
+    ghost use Rattle.rustc_parse_format.specs.Characters.{byte_length};
+    ghost use Rattle.rustc_parse_format.specs.Marks.{End, Start};
+    ghost use Rattle.rustc_parse_format.specs.Seen.{pair};
+    ghost use Rattle.rustc_parse_format.specs.SeenSource.{IsSpot, seen_world};
+    ghost use Rattle.rustc_parse_format.specs.State.{first_of};
+    ghost use Rattle.rustc_parse_format.specs.World.{number_of};
+
+    /// Where the next character starts, or where the text ends.
+    pub fn start(&self, spot: &Spot<'_>) -> usize
+        requires { IsSpot self.now spot.now.rest.now spot.now.mark.now spot.now.at }
+        ensures { result ≡ number_of (seen_world self.now) (Start (length (chars spot.now.rest.now))) }
+    {
+        if spot.rest.is_empty() {
+            return self.end;
+        }
+        match &self.kept {
+            Some(snippet) => byte_here(snippet.as_str(), spot),
+            None => self.offset + (self.input.len() - spot.rest.len()),
+        }
     }
-    let at = spot.at + moved.len();
-    at + continuations_width(&snippet[at..])
+
+    /// Where the next character ends, or where the text ends.
+    pub fn stop(&self, spot: &Spot<'_>) -> usize
+        requires { IsSpot self.now spot.now.rest.now spot.now.mark.now spot.now.at }
+        ensures { result ≡ number_of (seen_world self.now) (End (length (chars spot.now.rest.now))) }
+    {
+        if spot.rest.is_empty() {
+            return self.end;
+        }
+        match &self.kept {
+            Some(snippet) => {
+                let at = byte_here(snippet.as_str(), spot);
+                byte_through(snippet.as_str(), at)
+            }
+            None => self.offset + (self.input.len() - behind_first(spot.rest).len()),
+        }
+    }
+
+    /// The byte position of the next character in the input, or of its end.
+    fn position(&self, spot: &Spot<'_>) -> usize
+        requires { IsSpot self.now spot.now.rest.now spot.now.mark.now spot.now.at }
+        ensures { result ≡ byte_length (chars self.now.input.now) - byte_length (chars spot.now.rest.now) }
+    {
+        self.input.len() - spot.rest.len()
+    }
+
+    /// The place of the next character, its byte position in the input, and itself, or None at the end.
+    pub fn next_place(&self, spot: &Spot<'_>) -> Option<(Range<usize>, usize, char)>
+        requires { IsSpot self.now spot.now.rest.now spot.now.mark.now spot.now.at }
+        ensures { option_map (λ x. (pair x.0, x.1, x.2)) result
+            ≡ first_of (seen_world self.now) (chars self.now.input.now) (chars spot.now.rest.now) }
+    {
+        let c = first(spot.rest)?;
+        Some((self.start(spot)..self.stop(spot), self.position(spot), c))
+    }
 }

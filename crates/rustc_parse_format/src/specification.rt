@@ -1,22 +1,23 @@
 //! What a colon brings: a format specification, the modifier of inline assembly, or the text of a diagnostic.
 
-ghost use Rattle.std.specs.Prelude.{◌+◌, ◌<◌, ◌^◌, ◌≡◌, chars, codes, IfOk, if◌then◌else◌, length, None, OnOk, option_map, Some};
-ghost use Rattle.rustc_parse_format.specs.Call.{spec_texts};
-ghost use Rattle.rustc_parse_format.specs.Characters.{begins_with, behind, behind_first, behind_word, front, is_no_brace, word};
-ghost use Rattle.rustc_parse_format.specs.Marks.{up_to};
+ghost use Rattle.std.specs.Prelude.{◌+◌, ◌++◌, ◌<◌, ◌^◌, ◌≡◌, chars, codes, IfOk, if◌then◌else◌, length, None, OnErr, OnOk, option_map, Some};
+ghost use Rattle.rustc_parse_format.specs.Meaning.{spec_texts};
+ghost use Rattle.rustc_parse_format.specs.Characters.{begins_with, behind, behind_first, behind_word, first, front, is_no_brace, word};
+ghost use Rattle.rustc_parse_format.specs.Marks.{End, over_first, up_to};
 ghost use Rattle.rustc_parse_format.specs.Meaning.{fill_span, format_of, spec_of, type_span, word_span};
-ghost use Rattle.rustc_parse_format.specs.PartFaults.{format_faults, spec_faults, type_faults, word_faults};
+ghost use Rattle.rustc_parse_format.specs.PartFaults.{flag_faults, format_faults, late_flag, spec_faults, type_faults, word_faults};
 ghost use Rattle.rustc_parse_format.specs.Seen.{pair, seen_alignment, seen_debug_hex, seen_mode, seen_sign, seen_spec};
 ghost use Rattle.rustc_parse_format.specs.Specification.{align, alternate, fill, format_text, sign, specification, type};
 ghost use Rattle.rustc_parse_format.specs.Midway.{read_run, read_texts, read_to};
 ghost use Rattle.rustc_parse_format.specs.Steps.{Forward, IsFurthest, IsInWord, Paid};
 ghost use Rattle.rustc_parse_format.specs.Types.{default_spec, map_spec};
 ghost use Rattle.rustc_parse_format.specs.Values.{debug_hex_of, number_after_precision, number_after_spec, type_of};
-ghost use Rattle.rustc_parse_format.specs.World.{Place, place_of};
+ghost use Rattle.rustc_parse_format.specs.World.{Place, number_of, place_of};
 
 use crate::characters::first;
 use crate::counts::{precision, width, word};
 use crate::cursor::{Cursor, Trail};
+use crate::faults::Fault;
 use crate::laws::default_of_spec;
 use crate::reader::Reader;
 use crate::types::{Alignment, DebugHex, FormatSpec, ParseMode, Sign};
@@ -26,7 +27,7 @@ use std::sync::ledger::Ledger;
 
 /// Reads the fill at the front: a character with an alignment after it.
 fn fill<'input, L: Ledger>(
-    cursor: &mut Cursor<'_, 'input>,
+    cursor: &mut Cursor<'input>,
     trail: &mut Trail<'input, L>,
 ) -> (Option<char>, Option<Range<usize>>)
     ensures value { result.0 ≡ (fill cursor.old.rest).0 }
@@ -47,7 +48,7 @@ fn fill<'input, L: Ledger>(
 
 /// Reads the alignment at the front.
 fn alignment<'input, L: Ledger>(
-    cursor: &mut Cursor<'_, 'input>,
+    cursor: &mut Cursor<'input>,
     trail: &mut Trail<'input, L>,
 ) -> Alignment
     ensures value { seen_alignment result ≡ (align cursor.old.rest).0 }
@@ -66,7 +67,7 @@ fn alignment<'input, L: Ledger>(
 
 /// Reads the sign flag at the front.
 fn sign<'input, L: Ledger>(
-    cursor: &mut Cursor<'_, 'input>,
+    cursor: &mut Cursor<'input>,
     trail: &mut Trail<'input, L>,
 ) -> Option<Sign>
     ensures value { option_map seen_sign result ≡ (sign cursor.old.rest).0 }
@@ -83,10 +84,7 @@ fn sign<'input, L: Ledger>(
 }
 
 /// Reads the flag `#` at the front.
-fn alternate<'input, L: Ledger>(
-    cursor: &mut Cursor<'_, 'input>,
-    trail: &mut Trail<'input, L>,
-) -> bool
+fn alternate<'input, L: Ledger>(cursor: &mut Cursor<'input>, trail: &mut Trail<'input, L>) -> bool
     ensures value { result ≡ (alternate cursor.old.rest).0 }
     ensures rest { cursor.new ≡ record cursor.old { rest = (alternate cursor.old.rest).1 } }
     ensures steps { Forward cursor.old.rest trail.old cursor.new.rest trail.new }
@@ -96,13 +94,14 @@ fn alternate<'input, L: Ledger>(
 
 /// Reads the word at the front, and where it stands if it is not empty.
 fn spanned_word<'input, L: Ledger>(
-    reader: &mut Reader<'_, 'input>,
+    reader: &mut Reader<'input>,
     trail: &mut Trail<'input, L>,
 ) -> Result<(&'input str, Option<Range<usize>>), AllocError>
     ensures value { IfOk result (λ w. chars w.0.now ≡ word reader.old.rest) }
     ensures span { IfOk result (λ w. option_map pair w.1 ≡ option_map (place_of reader.old.world)
         (word_span reader.old.rest (word reader.old.rest) (behind_word reader.old.rest))) }
     ensures state { OnOk result (reader.new ≡ read_to reader.old (behind_word reader.old.rest) reader.old.next (word_faults reader.old.rest)) }
+    ensures err { OnErr result (reader.new.source ≡ reader.old.source) }
     ensures steps { OnOk result (Forward reader.old.rest trail.old reader.new.rest trail.new) }
 {
     let start = reader.cursor.start();
@@ -136,7 +135,7 @@ fn character_type<'input>(ty: &'input str) -> TypePart<'input>
 
 /// Reads the letter `x` or `X`. With a `?` after it the letter is a case of the type `?`, else it is the type.
 fn hex_type<'input, L: Ledger>(
-    cursor: &mut Cursor<'_, 'input>,
+    cursor: &mut Cursor<'input>,
     trail: &mut Trail<'input, L>,
     case: DebugHex,
     letter: &'input str,
@@ -160,10 +159,43 @@ fn hex_type<'input, L: Ledger>(
     character_type(letter)
 }
 
+/// Notes the next character, if it is a flag, after a type `?` that starts at a byte.
+fn note_flag(reader: &mut Reader<'_>, start: usize) -> Result<(), AllocError>
+    ensures state { OnOk result (reader.new ≡ record reader.old {
+      faults = reader.old.faults ++ late_flag (first reader.old.rest)
+          (place_of reader.old.world (over_first reader.old.rest)) (start, number_of reader.old.world (End (length reader.old.rest)));
+    }) }
+    ensures err { OnErr result (reader.new.source ≡ reader.old.source) }
+{
+    let Some(flag) = reader.cursor.peek() else {
+        return Ok(());
+    };
+    if matches!(flag, '#' | 'x' | 'X') {
+        let (from, to) = (reader.cursor.start(), reader.cursor.stop());
+        let fault = Fault::LateFlag(flag, from..to, start..to);
+        reader.found.push(fault)?;
+    }
+    Ok(())
+}
+
+/// Reads the type `?` at the front, and notes a flag after it, which is left.
+fn debug_type<'input, L: Ledger>(
+    reader: &mut Reader<'input>,
+    trail: &mut Trail<'input, L>,
+) -> Result<(), AllocError>
+    ensures state { OnOk result (reader.new ≡ read_to reader.old (behind_first reader.old.rest) reader.old.next (flag_faults reader.old.rest)) }
+    ensures err { OnErr result (reader.new.source ≡ reader.old.source) }
+    ensures steps { OnOk result (Forward reader.old.rest trail.old reader.new.rest trail.new) }
+{
+    let start = reader.cursor.start();
+    reader.cursor.advance(trail);
+    note_flag(reader, start)
+}
+
 /// Reads the type at the front.
 #[tactic(auto, using(crate::proofs::SpecParts::types_at_front))]
 fn type_part<'input, L: Ledger>(
-    reader: &mut Reader<'_, 'input>,
+    reader: &mut Reader<'input>,
     trail: &mut Trail<'input, L>,
 ) -> Result<TypePart<'input>, AllocError>
     ensures ty { IfOk result (λ y. chars y.ty.now ≡ type_of (type reader.old.rest).0) }
@@ -172,6 +204,7 @@ fn type_part<'input, L: Ledger>(
         (type_span reader.old.rest (type reader.old.rest).0 (type reader.old.rest).1)) }
     ensures state { OnOk result (reader.new ≡ (let y = type reader.old.rest in
         read_to reader.old y.1 reader.old.next (type_faults reader.old.rest y.0))) }
+    ensures err { OnErr result (reader.new.source ≡ reader.old.source) }
     ensures steps { OnOk result (Forward reader.old.rest trail.old reader.new.rest trail.new) }
 {
     if reader.cursor.is_next('x') {
@@ -181,7 +214,7 @@ fn type_part<'input, L: Ledger>(
         return Ok(hex_type(&mut reader.cursor, trail, DebugHex::Upper, "X"));
     }
     if reader.cursor.is_next('?') {
-        reader.cursor.advance(trail);
+        debug_type(reader, trail)?;
         return Ok(character_type("?"));
     }
     let (ty, span) = spanned_word(reader, trail)?;
@@ -195,7 +228,7 @@ fn type_part<'input, L: Ledger>(
 /// Reads the format specification at the front.
 #[tactic(auto, using(crate::proofs::Steps::part_le), unfolding(crate::specs::Specification::format_text, crate::specs::Meaning::format_of))]
 fn format_text<'input, L: Ledger>(
-    reader: &mut Reader<'_, 'input>,
+    reader: &mut Reader<'input>,
     trail: &mut Trail<'input, L>,
 ) -> Result<FormatSpec<'input>, AllocError>
     requires numbers { reader.old.next + 1 < 2 ^ 64 }
@@ -204,6 +237,7 @@ fn format_text<'input, L: Ledger>(
         (format_of reader.old.next reader.old.rest (format_text reader.old.rest).0 (format_text reader.old.rest).1)) }
     ensures state { OnOk result (reader.new ≡ (let f = format_text reader.old.rest in
         read_to reader.old f.1 (number_after_precision reader.old.next f.0.precision) (format_faults f.0 f.1))) }
+    ensures err { OnErr result (reader.new.source ≡ reader.old.source) }
     ensures steps { OnOk result (Paid reader.old.rest trail.old reader.new.rest trail.new) }
 {
     let (fill, fill_span) = fill(&mut reader.cursor, trail);
@@ -232,7 +266,7 @@ fn format_text<'input, L: Ledger>(
 
 /// Reads the modifier of inline assembly at the front.
 fn modifier<'input, L: Ledger>(
-    reader: &mut Reader<'_, 'input>,
+    reader: &mut Reader<'input>,
     trail: &mut Trail<'input, L>,
 ) -> Result<FormatSpec<'input>, AllocError>
     ensures value { IfOk result (λ f. seen_spec f ≡ record (default_spec {A = Place}) {
@@ -240,6 +274,7 @@ fn modifier<'input, L: Ledger>(
       ty_span = option_map (place_of reader.old.world) (word_span reader.old.rest (word reader.old.rest) (behind_word reader.old.rest));
     }) }
     ensures state { OnOk result (reader.new ≡ read_to reader.old (behind_word reader.old.rest) reader.old.next (word_faults reader.old.rest)) }
+    ensures err { OnErr result (reader.new.source ≡ reader.old.source) }
     ensures steps { OnOk result (Forward reader.old.rest trail.old reader.new.rest trail.new) }
 {
     let (ty, ty_span) = spanned_word(reader, trail)?;
@@ -252,7 +287,7 @@ fn modifier<'input, L: Ledger>(
 
 /// Reads a colon and the text of a diagnostic, whose span takes in the colon.
 fn diagnostic_text<'input, L: Ledger>(
-    reader: &mut Reader<'_, 'input>,
+    reader: &mut Reader<'input>,
     trail: &mut Trail<'input, L>,
 ) -> Result<FormatSpec<'input>, AllocError>
     ensures value { IfOk result (λ f. seen_spec f ≡ record (default_spec {A = Place}) {
@@ -260,6 +295,7 @@ fn diagnostic_text<'input, L: Ledger>(
       ty_span = Some (place_of reader.old.world (up_to reader.old.rest (behind is_no_brace (behind_first reader.old.rest))));
     }) }
     ensures state { OnOk result (reader.new ≡ read_run (record reader.old { rest = behind_first reader.old.rest })) }
+    ensures err { OnErr result (reader.new.source ≡ reader.old.source) }
     ensures steps { OnOk result (Forward reader.old.rest trail.old reader.new.rest trail.new) }
 {
     let start = reader.cursor.start();
@@ -276,7 +312,7 @@ fn diagnostic_text<'input, L: Ledger>(
 #[tactic(auto, using(crate::proofs::Steps::part_le, crate::proofs::Steps::at_colon))]
 pub fn specification<'input, L: Ledger>(
     mode: ParseMode,
-    reader: &mut Reader<'_, 'input>,
+    reader: &mut Reader<'input>,
     trail: &mut Trail<'input, L>,
 ) -> Result<FormatSpec<'input>, AllocError>
     requires numbers { reader.old.next + length reader.old.rest < 2 ^ 64 }
@@ -285,6 +321,7 @@ pub fn specification<'input, L: Ledger>(
         (specification (seen_mode mode) reader.old.rest).0 (specification (seen_mode mode) reader.old.rest).1)) }
     ensures state { OnOk result (reader.new ≡ (let s = specification (seen_mode mode) reader.old.rest in
         read_texts (read_to reader.old s.1 (number_after_spec reader.old.next s.0) (spec_faults reader.old.rest s.0 s.1)) (spec_texts s.0 s.1))) }
+    ensures err { OnErr result (reader.new.source ≡ reader.old.source) }
     ensures steps { OnOk result (Paid reader.old.rest trail.old reader.new.rest trail.new) }
 {
     if !reader.cursor.is_next(':') {

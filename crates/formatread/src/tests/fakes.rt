@@ -97,17 +97,17 @@ impl Write for Stuck {
     }
 }
 
-/// Holds what is written, up to 64 bytes, without memory.
+/// Holds what is written, up to 256 bytes, without memory.
 #[derive(Drop)]
 pub struct Sheet {
-    bytes: [u8; 64],
+    bytes: [u8; 256],
     len: usize,
 }
 
 impl Sheet {
     pub fn new() -> Sheet {
         Sheet {
-            bytes: [0; 64],
+            bytes: [0; 256],
             len: 0,
         }
     }

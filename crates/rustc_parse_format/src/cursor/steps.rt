@@ -36,12 +36,34 @@ impl<'input, L: Ledger> Trail<'input, L> {
         }
     }
 
+    /// A step over each character of a run.
+    pub(super) fn run(&mut self, run: &str)
+        ensures { self.new ≡ record self.old { steps = self.old.steps + length (chars run.now) } }
+    {
+        self.book.add(&mut self.made, character_count(run));
+    }
+
     /// The cursor goes back from where this is left.
     pub(super) fn go_back(&mut self, from: &'input str)
         ensures { self.new ≡ record self.old { left = length (chars from.now) } }
     {
         self.back = from;
     }
+}
+
+/// How many characters a text has: as many as bytes that begin one. Only the count of steps asks for it, and so the compiler leaves it out.
+#[inline(always)]
+fn character_count(text: &str) -> u64
+    ensures { result ≡ length (chars text.now) }
+{
+    let bytes = text.as_bytes();
+    let mut count = 0;
+    for i in 0..bytes.len() {
+        if bytes[i] < 128 || bytes[i] >= 192 {
+            count += 1;
+        }
+    }
+    count
 }
 
 /// What was done up to a call, and the steps of calls that were refused, which do not count.

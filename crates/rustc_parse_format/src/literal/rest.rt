@@ -1,9 +1,11 @@
 //! What is left of a text, from which characters are taken one at a time.
 
 ghost use Rattle.std.specs.Prelude.{◌≡◌, ◌↔◌, ◌≤◌, List, ℕ, [], chars, IsTrue};
+ghost use Rattle.rustc_parse_format.specs.Bytes.{IsSharedFront};
 ghost use Rattle.rustc_parse_format.specs.Characters.{Text, begins_with, behind, behind_first, first, byte_length};
 ghost use Rattle.rustc_parse_format.specs.Literal.{IsContent};
-ghost use Rattle.rustc_parse_format.specs.LiteralUnits.{LiteralUnit, is_skipped};
+ghost use Rattle.rustc_parse_format.specs.LiteralReading.{SharePlain};
+ghost use Rattle.rustc_parse_format.specs.LiteralUnits.{LiteralUnit, is_plain, is_skipped};
 ghost use Rattle.rustc_parse_format.specs.SeenSource.{after_continuations, begins_continuation, closed_by_quote, spelled_units};
 
 use crate::characters::{behind_first, first};
@@ -23,6 +25,7 @@ impl<'a> Model for Rest<'a> {
 
 impl<'a> Rest<'a> {
     /// The whole of a text.
+    #[inline(always)]
     pub fn new(text: &'a str) -> Rest<'a>
         ensures { result ≡ chars text.now }
     {
@@ -30,6 +33,7 @@ impl<'a> Rest<'a> {
     }
 
     /// How many bytes are left.
+    #[inline(always)]
     pub fn len(&self) -> usize
         ensures { result ≡ byte_length self.now }
     {
@@ -37,6 +41,7 @@ impl<'a> Rest<'a> {
     }
 
     /// Whether nothing is left.
+    #[inline(always)]
     pub fn is_empty(&self) -> bool
         ensures { IsTrue result ↔ (self.now ≡ []) }
     {
@@ -44,6 +49,7 @@ impl<'a> Rest<'a> {
     }
 
     /// The next character, which stays.
+    #[inline(always)]
     pub fn peek(&self) -> Option<char>
         ensures { result ≡ first self.now }
     {
@@ -51,6 +57,7 @@ impl<'a> Rest<'a> {
     }
 
     /// Takes the next character.
+    #[inline(always)]
     pub fn next(&mut self) -> Option<char>
         ensures value { result ≡ first self.old }
         ensures rest { self.new ≡ behind_first self.old }
@@ -61,6 +68,7 @@ impl<'a> Rest<'a> {
     }
 
     /// Takes the next character, whatever it is, and says whether it was this one.
+    #[inline(always)]
     pub fn next_is(&mut self, c: char) -> bool
         ensures value { result ≡ begins_with c self.old }
         ensures rest { self.new ≡ behind_first self.old }
@@ -69,13 +77,25 @@ impl<'a> Rest<'a> {
     }
 
     /// Whether the next character is this one.
+    #[inline(always)]
     pub fn begins_with(&self, c: char) -> bool
         ensures { result ≡ begins_with c self.now }
     {
         self.peek() == Some(c)
     }
 
+    /// Takes the plain characters with which both go on.
+    #[inline(always)]
+    pub fn take_plain(&mut self, other: &mut Rest<'_>)
+        ensures { SharePlain self.old other.old self.new other.new }
+    {
+        let (rest, left) = behind_plain(self.text, other.text);
+        self.text = rest;
+        other.text = left;
+    }
+
     /// Whether a continuation is at the front.
+    #[inline(always)]
     pub fn begins_continuation(&self) -> bool
         ensures { result ≡ begins_continuation self.now }
     {
@@ -95,6 +115,7 @@ impl<'a> Rest<'a> {
     }
 
     /// Takes the white space that belongs to a continuation.
+    #[inline(always)]
     pub fn skip_white(&mut self)
         ensures { self.new ≡ behind is_skipped self.old }
     {
@@ -105,8 +126,41 @@ impl<'a> Rest<'a> {
 }
 
 /// How many bytes a text takes.
+#[inline(always)]
 fn byte_count(text: &str) -> usize
     ensures { result ≡ byte_length (chars text.now) }
 {
     text.len()
+}
+
+/// The byte is no quote, no backslash and no CR, which a literal writes in another way.
+#[inline(always)]
+fn is_plain(byte: u8) -> bool
+    ensures { result ≡ is_plain byte }
+{
+    byte != b'"' && byte != b'\\' && byte != b'\r'
+}
+
+/// How many bytes at the front are the same in both, and plain.
+#[inline(always)]
+pub fn plain_width(bytes: &[u8], others: &[u8]) -> usize
+    ensures { IsSharedFront is_plain bytes.now others.now result }
+{
+    let most = bytes.len().min(others.len());
+    for i in 0..most {
+        if bytes[i] != others[i] || !is_plain(bytes[i]) {
+            return i;
+        }
+    }
+    most
+}
+
+/// What is after the plain characters with which both begin. Where they differ, they may do so inside of a character.
+#[inline(always)]
+fn behind_plain<'a, 'b>(text: &'a str, other: &'b str) -> (&'a str, &'b str)
+    ensures { SharePlain (chars text.now) (chars other.now) (chars result.0.now) (chars result.1.now) }
+{
+    let same = plain_width(text.as_bytes(), other.as_bytes());
+    let width = text.floor_char_boundary(same);
+    (&text[width..], &other[width..])
 }

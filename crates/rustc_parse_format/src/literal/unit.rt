@@ -7,6 +7,7 @@ use super::rest::Rest;
 
 /// Takes what is after `\x`.
 #[tactic(auto, unfolding(crate::specs::LiteralUnits::byte_at))]
+#[inline(always)]
 fn read_byte(rest: &mut Rest<'_>) -> Option<char>
     ensures { meaning (byte_at rest.old) ≡ option_map (λ c. (c ∷ [], rest.new)) result }
 {
@@ -17,6 +18,7 @@ fn read_byte(rest: &mut Rest<'_>) -> Option<char>
 
 /// Takes what is after `\u`.
 #[tactic(auto, using(crate::proofs::LiteralUnicode::unicode_steps))]
+#[inline(always)]
 fn read_unicode(rest: &mut Rest<'_>) -> Option<char>
     ensures { meaning (unicode_at rest.old) ≡ option_map (λ c. (c ∷ [], rest.new)) result }
 {
@@ -40,6 +42,7 @@ fn read_unicode(rest: &mut Rest<'_>) -> Option<char>
 }
 
 /// What a backslash and this letter stand for.
+#[inline(always)]
 fn escaped(letter: char) -> Option<char>
     ensures { result ≡ escaped letter }
 {
@@ -55,6 +58,7 @@ fn escaped(letter: char) -> Option<char>
 
 /// Takes what is after a backslash.
 #[tactic(auto, unfolding(crate::specs::LiteralUnits::escape_at))]
+#[inline(always)]
 fn read_escape(rest: &mut Rest<'_>) -> Option<Option<char>>
     ensures { meaning (escape_at rest.old) ≡ option_map (λ v. (at_most_one v, rest.new)) result }
 {
@@ -72,6 +76,7 @@ fn read_escape(rest: &mut Rest<'_>) -> Option<Option<char>>
 /// Takes the unit at the front, and gives what it stands for, which may be nothing. It gives `None` if no unit stands
 /// there.
 #[tactic(auto, unfolding(crate::specs::LiteralUnits::unit_at))]
+#[inline(always)]
 pub fn read_unit(rest: &mut Rest<'_>) -> Option<Option<char>>
     ensures { meaning (unit_at rest.old) ≡ option_map (λ v. (at_most_one v, rest.new)) result }
 {

@@ -14,5 +14,5 @@ returns-clause-steps g c =
     none in
     paid_back c.args.reader.now.rest c.take_char.new.self.rest _ c.args.trail.now c.take_char.new.trail _ c.requires (stays ∙ at)
     (forward_then (rw (← c.reader-2.view_is) at c.in_ok-name.ensures.steps) c.take_char.ensures.steps)
-    (ap (λ (u : Unread). u.rest) (c.go_back.ensures.place ∙ c.duplicate-front.ensures)
+    (ap (λ (u : Unread). u.rest) c.go_back.ensures.place ∙ sym (ap (λ (u : Unread). u.rest) c.spot-front.ensures.at)
     ∙ ap (λ (s : Midway). s.rest) c.reader.view_is) c.go_back.ensures.steps

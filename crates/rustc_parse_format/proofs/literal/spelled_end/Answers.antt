@@ -1,18 +1,28 @@
 use Rattle.std.proofs.Common.{◌≡◌, ◌≢◌, ◌+◌, ◌-◌, ◌≤◌, None, Some, [], true, false, ap, sym, ◌∙◌, chars, length, arith, if◌then◌else◌}
 use Rattle.std.proofs.lemmas.Bool.{both_ways}
-use Rattle.rustc_parse_format.specs.Characters.{byte_length, begins_with}
+use Rattle.rustc_parse_format.specs.Characters.{behind_first, byte_length, begins_with}
 use Rattle.rustc_parse_format.specs.LiteralUnits.{meaning, unit_at, at_most_one}
-use Rattle.rustc_parse_format.specs.LiteralReading.{spelled_end}
-use Rattle.rustc_parse_format.proofs.LiteralMeanings.{meaning-narrower}
+use Rattle.rustc_parse_format.proofs.LiteralMeanings.{meaning-narrower, meaning-shorter}
 use Rattle.rustc_parse_format.proofs.LiteralWidths.{width-chars}
-use Rattle.rustc_parse_format.proofs.LiteralEnds.{end-none, end-nothing, end-differs, end-agrees, end-over}
+use Rattle.rustc_parse_format.proofs.LiteralEnds.{end-none, end-nothing, end-differs, end-agrees, end-over, end-share, share-narrower, share-shorter}
 use Rattle.rustc_parse_format.proofs.literal.spelled_end.Goals as goal
+
+pub overflow_sub-end : goal.overflow_sub-end
+overflow_sub-end c =
+    let shared = rw (c.new-rest.ensures, c.new-wanted.ensures) at c.take_plain.ensures in
+    omega (arith, c.len.ensures, share-narrower _ _ _ _ shared, width-chars c.args.content.now c.utf8.content)
 
 pub loop-rest-init : goal.loop-rest-init
 loop-rest-init c =
-    let w = width-chars c.args.content.now c.utf8.content in
-    let n : length c.args.content.now + 1 - byte_length (chars c.args.content.now) ≡ 1 = omega arith in
-    rw (c.new-rest.ensures, c.new-wanted.ensures) (record { answer = ap (λ k. spelled_end k 1 (chars c.args.content.now) (chars c.args.text.now)) n; within = omega arith })
+    let total = length c.args.content.now + 1 in
+    let shared = rw (c.new-rest.ensures, c.new-wanted.ensures) at c.take_plain.ensures in
+    let size = width-chars c.args.content.now c.utf8.content in
+    let narrower : byte_length c.take_plain.new.self ≤ byte_length (chars c.args.content.now) = share-narrower _ _ _ _ shared in
+    record {
+      answer = rw (c.len.ensures) (sym (end-share 1 (total - byte_length c.take_plain.new.self) (chars c.args.content.now) (chars c.args.text.now)
+          c.take_plain.new.self c.take_plain.new.other shared (omega arith)));
+      within = omega arith;
+    }
 
 pub returns-in_default : goal.returns-in_default
 returns-in_default c =
@@ -26,19 +36,47 @@ returns-then-not-next_is c =
     let narrower : byte_length c.read_unit.new.rest ≤ byte_length c.loop-rest.rest = meaning-narrower c.loop-rest.rest
     (at_most_one c.in-Some.value) c.read_unit.new.rest c.in-Some.ensures in
     let differs : begins_with c.in-Some-value.c c.loop-rest.wanted ≡ false = sym c.next_is.ensures.value ∙ c.if-not-next_is.true in
-    sym (end-differs (total - byte_length c.loop-rest.rest) (total - byte_length c.read_unit.new.rest) c.loop-rest.end c.loop-rest.rest c.read_unit.new.rest c.loop-rest.wanted
+    sym (end-differs (total - byte_length c.loop-rest.rest) (total - byte_length c.read_unit.new.rest) c.loop-rest.end
+    c.loop-rest.rest c.read_unit.new.rest c.loop-rest.wanted
     c.in-Some.value c.in-Some-value.c c.in-Some.ensures c.in-Some-value.is (omega arith) differs) ∙ c.loop-rest.invariant.answer
+
+pub overflow_sub-end-in-Some-value : goal.overflow_sub-end-in-Some-value
+overflow_sub-end-in-Some-value c =
+    let within = c.loop-rest.invariant.within in
+    omega (
+      arith,
+      c.len-in-Some-value.ensures,
+      share-narrower _ _ _ _ c.take_plain-in-Some-value.ensures,
+      meaning-narrower c.loop-rest.rest
+          (at_most_one c.in-Some.value) c.read_unit.new.rest c.in-Some.ensures,
+    )
+
+pub loop-rest-smaller-in-Some-value : goal.loop-rest-smaller-in-Some-value
+loop-rest-smaller-in-Some-value c =
+    omega (
+      arith,
+      share-shorter _ _ _ _ c.take_plain-in-Some-value.ensures,
+      meaning-shorter c.loop-rest.rest (at_most_one c.in-Some.value)
+          c.read_unit.new.rest c.in-Some.ensures,
+    )
 
 pub loop-rest-preserved-in-Some-value : goal.loop-rest-preserved-in-Some-value
 loop-rest-preserved-in-Some-value c =
     let total = length c.args.content.now + 1 in
     let within = c.loop-rest.invariant.within in
+    let at = total - byte_length c.loop-rest.rest in
+    let f = total - byte_length c.read_unit.new.rest in
+    let n = total - byte_length c.take_plain-in-Some-value.new.self in
     let narrower : byte_length c.read_unit.new.rest ≤ byte_length c.loop-rest.rest = meaning-narrower c.loop-rest.rest
     (at_most_one c.in-Some.value) c.read_unit.new.rest c.in-Some.ensures in
     let agrees : begins_with c.in-Some-value.c c.loop-rest.wanted ≡ true = sym c.next_is.ensures.value ∙ c.if-not-next_is.false in
+    let shared = rw (c.next_is.ensures.rest) at c.take_plain-in-Some-value.ensures in
+    let less : byte_length c.take_plain-in-Some-value.new.self ≤ byte_length c.read_unit.new.rest = share-narrower _ _ _ _ shared in
     record {
-      answer = rw (c.len.ensures, c.next_is.ensures.rest) (sym (end-agrees (total - byte_length c.loop-rest.rest) (total - byte_length c.read_unit.new.rest)
-          c.loop-rest.end c.loop-rest.rest c.read_unit.new.rest c.loop-rest.wanted c.in-Some.value c.in-Some-value.c c.in-Some.ensures c.in-Some-value.is (omega arith) agrees)
+      answer = rw (c.len-in-Some-value.ensures) (sym (end-agrees at f c.loop-rest.end c.loop-rest.rest c.read_unit.new.rest c.loop-rest.wanted
+          c.in-Some.value c.in-Some-value.c c.in-Some.ensures c.in-Some-value.is (omega arith) agrees
+          ∙ end-share f n c.read_unit.new.rest (behind_first c.loop-rest.wanted) c.take_plain-in-Some-value.new.self
+          c.take_plain-in-Some-value.new.other shared (omega arith))
           ∙ c.loop-rest.invariant.answer);
       within = omega arith;
     }

@@ -9,6 +9,7 @@ use Rattle.rustc_parse_format.proofs.PartCuts.{cut-only}
 use Rattle.rustc_parse_format.proofs.StateWalks.{after_all-world}
 use Rattle.rustc_parse_format.proofs.ReadPieces.{no_source, walks_of, clean_in, in_clean, reading_of, stops_of}
 use Rattle.rustc_parse_format.proofs.ParserLaws.{fresh_inside, fresh_lines, fresh_places, fresh_reads_back, fresh_worlds}
+use Rattle.rustc_parse_format.proofs.LinesInside.{walked_lies_inside}
 use Rattle.rustc_parse_format.proofs.ReadBackWorlds.{has_source-is}
 use Rattle.rustc_parse_format.proofs.Sources.{has_source}
 use Rattle.rustc_parse_format.proofs.reading.read_all.Goals as goal
@@ -40,25 +41,31 @@ returns-in_err-pieces-clause-inside c source e h =
 pub returns-clause-inside : goal.returns-clause-inside
 returns-clause-inside c source e h = fresh_inside (seen_mode c.args.mode) (chars c.args.input.now) c.args.style _ source c.args.appended_newline e h
 
+-- the state that the walk starts in
+abbrev first : goal.In_ok-pieces → State
+first c = first_state (seen_mode c.args.mode) (chars c.args.input.now) c.args.style (seen_snippet c.args.snippet) c.args.appended_newline
+
+started : (c : goal.In_ok-pieces) → ◌≡◌ {A = State} c.in_ok-parser.parser (first c)
+started c = c.in_ok-parser.ensures.start
+
+pub returns-clause-lies_inside : goal.returns-clause-lies_inside
+returns-clause-lies_inside c source e h =
+    walked_lies_inside (seen_mode c.args.mode) (chars c.args.input.now) c.args.style (seen_snippet c.args.snippet) source c.args.appended_newline
+    c.in_ok-parser.parser _ (started c) c.in_ok-pieces.ensures.state e h
+
 pub returns-clause-worlds : goal.returns-clause-worlds
 returns-clause-worlds c =
-    let s = first_state (seen_mode c.args.mode) (chars c.args.input.now) c.args.style (seen_snippet c.args.snippet) c.args.appended_newline in
-    let e : ◌≡◌ {A = State} c.in_ok-parser.parser s = c.in_ok-parser.ensures.start in
-    fresh_worlds s c.in_ok-parser.parser _ _ e c.in_ok-pieces.ensures.pieces c.in_ok-pieces.ensures.state refl
+    fresh_worlds (first c) c.in_ok-parser.parser _ _ (started c) c.in_ok-pieces.ensures.pieces c.in_ok-pieces.ensures.state refl
 
 pub returns-clause-lines : goal.returns-clause-lines
 returns-clause-lines c h =
-    let s = first_state (seen_mode c.args.mode) (chars c.args.input.now) c.args.style (seen_snippet c.args.snippet) c.args.appended_newline in
-    let e : ◌≡◌ {A = State} c.in_ok-parser.parser s = c.in_ok-parser.ensures.start in
-    fresh_lines s c.in_ok-parser.parser _ e c.in_ok-pieces.ensures.state
+    fresh_lines (first c) c.in_ok-parser.parser _ (started c) c.in_ok-pieces.ensures.state
     (has_source-is (chars c.args.input.now) c.args.style (seen_snippet c.args.snippet) c.args.appended_newline
     ∙ (has_source (chars c.args.input.now) c.args.style (seen_snippet c.args.snippet) c.args.appended_newline).1 h)
 
 pub returns-clause-places : goal.returns-clause-places
 returns-clause-places c =
-    let s = first_state (seen_mode c.args.mode) (chars c.args.input.now) c.args.style (seen_snippet c.args.snippet) c.args.appended_newline in
-    let e : ◌≡◌ {A = State} c.in_ok-parser.parser s = c.in_ok-parser.ensures.start in
-    fresh_places s c.in_ok-parser.parser _ e c.in_ok-pieces.ensures.state refl
+    fresh_places (first c) c.in_ok-parser.parser _ (started c) c.in_ok-pieces.ensures.state refl
 
 pub returns-in_err-pieces-clause-empty : goal.returns-in_err-pieces-clause-empty
 returns-in_err-pieces-clause-empty c e without =
@@ -67,33 +74,24 @@ returns-in_err-pieces-clause-empty c e without =
     absurd (false≢true (c.in_err-pieces.ensures.empty (start ∙ ap chars e ∙ chars-nil) none))
 
 pub returns-clause-clean : goal.returns-clause-clean
-returns-clause-clean c =
-    let s = first_state (seen_mode c.args.mode) (chars c.args.input.now) c.args.style (seen_snippet c.args.snippet) c.args.appended_newline in
-    let e : ◌≡◌ {A = State} c.in_ok-parser.parser s = c.in_ok-parser.ensures.start in (
-      clean_in (seen_mode c.args.mode) s.world (chars c.args.input.now) _ _ _ e c.in_ok-pieces.ensures.state,
-      in_clean (seen_mode c.args.mode) s.world
-          (chars c.args.input.now) _ _ _ e c.in_ok-pieces.ensures.state,
-    )
+returns-clause-clean c = (
+  clean_in (seen_mode c.args.mode) (first c).world (chars c.args.input.now) _ _ _ (started c) c.in_ok-pieces.ensures.state,
+  in_clean (seen_mode c.args.mode) (first c).world (chars c.args.input.now) _ _ _ (started c) c.in_ok-pieces.ensures.state,
+)
 
 pub returns-clause-reading : goal.returns-clause-reading
 returns-clause-reading c =
-    let s = first_state (seen_mode c.args.mode) (chars c.args.input.now) c.args.style (seen_snippet c.args.snippet) c.args.appended_newline in
-    let e : ◌≡◌ {A = State} c.in_ok-parser.parser s = c.in_ok-parser.ensures.start in
-    reading_of (seen_mode c.args.mode) s.world (chars c.args.input.now) _ _ _ _ e c.in_ok-pieces.ensures.state c.in_ok-pieces.ensures.pieces
+    reading_of (seen_mode c.args.mode) (first c).world (chars c.args.input.now) _ _ _ _ (started c) c.in_ok-pieces.ensures.state c.in_ok-pieces.ensures.pieces
 
 pub returns-clause-walks : goal.returns-clause-walks
-returns-clause-walks c =
-    walks_of (first_state (seen_mode c.args.mode) (chars c.args.input.now) c.args.style (seen_snippet c.args.snippet) c.args.appended_newline)
-    _ _ _ c.in_ok-parser.ensures.start c.in_ok-pieces.ensures.state c.in_ok-pieces.ensures.pieces
+returns-clause-walks c = walks_of (first c) _ _ _ (started c) c.in_ok-pieces.ensures.state c.in_ok-pieces.ensures.pieces
 
 pub returns-clause-round_trip : goal.returns-clause-round_trip
 returns-clause-round_trip c none = Reads-spelled (seen_mode c.args.mode) 0 (chars c.args.input.now) _ (returns-clause-reading c none)
 
 pub returns-clause-first_fault : goal.returns-clause-first_fault
 returns-clause-first_fault c =
-    let s = first_state (seen_mode c.args.mode) (chars c.args.input.now) c.args.style (seen_snippet c.args.snippet) c.args.appended_newline in
-    let e : ◌≡◌ {A = State} c.in_ok-parser.parser s = c.in_ok-parser.ensures.start in
-    stops_of (seen_mode c.args.mode) s.world (chars c.args.input.now) _ _ _ _ e c.in_ok-pieces.ensures.state c.in_ok-pieces.ensures.pieces
+    stops_of (seen_mode c.args.mode) (first c).world (chars c.args.input.now) _ _ _ _ (started c) c.in_ok-pieces.ensures.state c.in_ok-pieces.ensures.pieces
 
 pub returns-clause-source : goal.returns-clause-source
 returns-clause-source c =

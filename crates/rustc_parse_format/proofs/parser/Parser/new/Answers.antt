@@ -1,26 +1,49 @@
-use Rattle.std.proofs.Common.{◌≤◌, arith, chars, length}
+use Rattle.std.proofs.Common.{◌≤◌, arith, chars, length, refl}
 use Rattle.std.proofs.lemmas.Str.{encodes-chars, length-le-encodes}
-use Rattle.rustc_parse_format.specs.Seen.{seen_snippet}
+use Rattle.rustc_parse_format.specs.Seen.{seen_mode, seen_snippet}
+use Rattle.rustc_parse_format.proofs.LinesInside.{fresh_lies_inside}
 use Rattle.rustc_parse_format.proofs.ReadBackWorlds.{has_source-is}
 use Rattle.rustc_parse_format.proofs.ParserLaws.{world-end}
 use Rattle.rustc_parse_format.proofs.SourcePlaces.{first_spot}
 use Rattle.rustc_parse_format.proofs.Sources.{has_source}
 use Rattle.rustc_parse_format.proofs.parser.Parser.new.Goals as goal
 
+pub new-cursor-requires : goal.new-cursor-requires
+new-cursor-requires c =
+    first_spot c.source_of-source.result c.args.input.now c.first_byte.result c.utf8.input c.source_of-source.ensures.input
+    c.source_of-source.ensures.fits c.first_byte.ensures c.source_of-source.ensures.kept
+
 pub invariant_of-result : goal.invariant_of-result
 invariant_of-result c =
     let fewer : length (chars c.args.input.now) ≤ length c.args.input.now = rw (encodes-chars c.args.input.now c.utf8.input) at
-    (length-le-encodes (chars c.args.input.now)) in (
-      first_spot c.source_of-source.result c.args.input.now c.first_byte-at.result c.utf8.input c.source_of-source.ensures.input
-          (c.source_of-source.ensures.fits) c.first_byte-at.ensures c.source_of-source.ensures.kept,
-      omega arith,
-    )
+    (length-le-encodes (chars c.args.input.now)) in
+    rw (c.new.ensures, c.new-cursor.ensures) (omega arith, (refl, refl, refl))
 
 pub returns-clause-source : goal.returns-clause-source
 returns-clause-source c =
-    rw (c.source_of-source.ensures.world, has_source-is (chars c.args.input.now) c.args.style (seen_snippet c.args.snippet) c.args.appended_newline)
+    rw (
+      c.new.ensures,
+      c.new-cursor.ensures,
+      c.source_of-source.ensures.world,
+      has_source-is (chars c.args.input.now) c.args.style (seen_snippet c.args.snippet) c.args.appended_newline,
+    )
     (has_source (chars c.args.input.now) c.args.style (seen_snippet c.args.snippet) c.args.appended_newline)
 
 pub returns-clause-end : goal.returns-clause-end
 returns-clause-end c =
-    rw c.source_of-source.ensures.world (world-end (chars c.args.input.now) c.args.style (seen_snippet c.args.snippet) c.args.appended_newline)
+    rw (c.new.ensures, c.new-cursor.ensures, c.source_of-source.ensures.world)
+    (world-end (chars c.args.input.now) c.args.style (seen_snippet c.args.snippet) c.args.appended_newline)
+
+pub returns-clause-lies_inside : goal.returns-clause-lies_inside
+returns-clause-lies_inside c source e h =
+    fresh_lies_inside (seen_mode c.args.mode) (chars c.args.input.now) c.args.style (seen_snippet c.args.snippet) source c.args.appended_newline
+    _ (rw (
+      c.new.ensures,
+      c.new-cursor.ensures,
+      c.source_of-source.ensures.world,
+      c.source_of-source.ensures.input,
+      c.quote_offset.ensures,
+      c.new-2.ensures.0,
+      c.new-2.ensures.1,
+      c.new-2.ensures.2,
+    ) refl) e h

@@ -1,10 +1,13 @@
-use Rattle.std.proofs.Common.{◌∙◌, ap, map}
+use Rattle.std.proofs.Common.{◌∙◌, ap, map, sym, subst}
 use Rattle.std.specs.Prelude.{option_map}
 use Rattle.rustc_parse_format.specs.Faults.{bare_message}
 use Rattle.rustc_parse_format.specs.Types.{bare}
 use Rattle.rustc_parse_format.specs.State.{State, next_call}
 use Rattle.rustc_parse_format.proofs.ParserLaws.{after_errors, bare_given, call_inside, call_lines, call_places, call_reads_back, call_sourceless}
 use Rattle.rustc_parse_format.specs.Seen.{seen}
+use Rattle.rustc_parse_format.specs.ReadBack.{LiesInside}
+use Rattle.rustc_parse_format.proofs.LinesInside.{call_lies_inside}
+use Rattle.rustc_parse_format.proofs.Rests.{IsRest}
 use Rattle.rustc_parse_format.proofs.Nexts.{if_ok, on_ok, cut_given, next_reads, next_faulty, next_ends, next_moves, next_numbers, next_keeps}
 use Rattle.rustc_parse_format.proofs.parser.Parser.next.Goals as goal
 
@@ -40,11 +43,20 @@ returns-clause-worlds c = if_ok c.next_uncounted.result c.next_uncounted.ensures
       ap (λ (s : State). map bare_message s.errors) f ∙ after_errors c.args.self.now (next_call c.args.self.now),
     ))
 
+-- what is left is a rest of the input
+rest : (c : goal.After-next_uncounted) → IsRest c.args.self.now.input c.args.self.now.rest
+rest c = record { front = c.reads_its_input.ensures.0; whole = c.reads_its_input.ensures.1 }
+
 pub returns-clause-reads_back : goal.returns-clause-reads_back
-returns-clause-reads_back c style snippet appended from = call_reads_back c.args.self.now style snippet appended (record { front = c.reads_its_input.ensures.0; whole = c.reads_its_input.ensures.1 }) from
+returns-clause-reads_back c style snippet appended from = call_reads_back c.args.self.now style snippet appended (rest c) from
 
 pub returns-clause-inside : goal.returns-clause-inside
-returns-clause-inside c style snippet appended from = call_inside c.args.self.now style snippet appended (record { front = c.reads_its_input.ensures.0; whole = c.reads_its_input.ensures.1 }) from
+returns-clause-inside c style snippet appended from = call_inside c.args.self.now style snippet appended (rest c) from
+
+pub returns-clause-lies_inside : goal.returns-clause-lies_inside
+returns-clause-lies_inside c = on_ok c.next_uncounted.result c.next_uncounted.ensures.state
+    (λ f style snippet appended from h. subst (LiesInside snippet appended) (sym f) (call_lies_inside c.args.self.now style snippet appended
+    (rest c) from h))
 
 pub returns-clause-lines : goal.returns-clause-lines
 returns-clause-lines c = on_ok c.next_uncounted.result c.next_uncounted.ensures.state (λ f some literal. rw f (call_lines c.args.self.now some literal))

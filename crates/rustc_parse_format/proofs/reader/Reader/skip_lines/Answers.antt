@@ -8,23 +8,24 @@ use Rattle.rustc_parse_format.proofs.RunLines.{run-step, one_line-step, one_line
 use Rattle.rustc_parse_format.proofs.RunSkips.{run-skip, one_line-skip, behind-shorter}
 use Rattle.rustc_parse_format.proofs.reader.Reader.skip_lines.Goals as goal
 
-pub loop-c-smaller-then-is_behind : goal.loop-c-smaller-then-is_behind
-loop-c-smaller-then-is_behind g c =
+pub loop-c-smaller-then-passes : goal.loop-c-smaller-then-passes
+loop-c-smaller-then-passes g c =
     let next : first c.loop-c.self.rest ≡ Some c.in-Some.c = search rules in
     let passes : is_in_line c.in-Some.c ≡ true = search rules in
-    omega (arith, ap (λ (s : Midway). length s.rest) c.skip_line.ensures.state, behind-shorter is_in_line c.loop-c.self.rest c.in-Some.c next passes)
+    let skipped = rw c.is_behind_start-is_later.ensures.state at c.skip_line.ensures.state in
+    omega (arith, ap (λ (s : Midway). length s.rest) skipped, behind-shorter is_in_line c.loop-c.self.rest c.in-Some.c next passes)
 
-pub loop-c-preserved-then-is_behind : goal.loop-c-preserved-then-is_behind
-loop-c-preserved-then-is_behind g c =
+pub loop-c-preserved-then-passes : goal.loop-c-preserved-then-passes
+loop-c-preserved-then-passes g c =
     let s = c.loop-c.self in
     let before = c.loop-c.invariant in
-    let later : StartBehind s.line_start s.world (length s.rest) =
-    subst (λ (m : Midway). StartBehind m.line_start m.world (length m.rest)) c.self.view_is (c.is_behind.ensures.all c.if-is_behind.true) in
+    let later : StartBehind s.line_start s.world (length s.rest) = c.is_behind_start-is_later.ensures.all c.if-is_later.true in
+    let skipped = rw c.is_behind_start-is_later.ensures.state at c.skip_line.ensures in
     record {
       source = search rules;
-      run = ap read_run c.skip_line.ensures.state ∙ (run-skip s before.source later ∙ before.run);
-      spare = λ one. subst IsInOneLine (sym c.skip_line.ensures.state) (one_line-skip s before.source later (before.spare one));
-      steps = forward_then before.steps c.skip_line.ensures.steps;
+      run = ap read_run skipped.state ∙ (run-skip s before.source later ∙ before.run);
+      spare = λ one. subst IsInOneLine (sym skipped.state) (one_line-skip s before.source later (before.spare one));
+      steps = forward_then before.steps skipped.steps;
     }
 
 pub loop-c-preserved : goal.loop-c-preserved
@@ -33,11 +34,12 @@ loop-c-preserved g c =
     let before = c.loop-c.invariant in
     let next : first s.rest ≡ Some c.in-Some.c = search rules in
     let passes : is_no_brace c.in-Some.c ≡ true = search rules in
+    let passed = rw c.is_behind_start-is_later.ensures.state at c.in_ok-pass.ensures in
     record {
       source = search rules;
-      run = ap read_run c.in_ok-pass.ensures.state ∙ (run-step s c.in-Some.c before.source next passes ∙ before.run);
-      spare = λ one. subst IsInOneLine (sym c.in_ok-pass.ensures.state) (one_line-step s c.in-Some.c before.source next passes (before.spare one));
-      steps = forward_then before.steps c.in_ok-pass.ensures.steps;
+      run = ap read_run passed.state ∙ (run-step s c.in-Some.c before.source next passes ∙ before.run);
+      spare = λ one. subst IsInOneLine (sym passed.state) (one_line-step s c.in-Some.c before.source next passes (before.spare one));
+      steps = forward_then before.steps passed.steps;
     }
 
 pub returns-in_err-pass-clause-spare : goal.returns-in_err-pass-clause-spare

@@ -1,0 +1,24 @@
+//! Which arguments a format string asks for by name.
+
+use rustc_parse_format::{ArgumentNamed, ParseMode, Piece, read_all};
+use std::alloc::{AllocError, Global};
+
+/// The names in the placeholders of a format string, in order, or None for a text with a fault or one that is too long.
+pub fn names<'a>(alloc: Global, text: &'a str) -> Result<Option<Vec<&'a str>>, AllocError> {
+    if text.len() > 1_000_000 {
+        return Ok(None);
+    }
+    let (pieces, parser) = read_all(alloc, text, None, None, false, ParseMode::Format)?;
+    if !parser.errors().is_empty() {
+        return Ok(None);
+    }
+    let mut names = Vec::new(alloc);
+    for piece in &pieces {
+        if let Piece::NextArgument(argument) = piece {
+            if let ArgumentNamed(name) = argument.position {
+                names.push(name)?;
+            }
+        }
+    }
+    Ok(Some(names))
+}

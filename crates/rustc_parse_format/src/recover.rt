@@ -1,0 +1,170 @@
+//! How a call goes on after the fault of a missing closing brace: by what stands in its place.
+
+ghost use Rattle.std.specs.Prelude.{[], ◌&&◌, ◌++◌, ◌+◌, ◌<◌, ◌==◌, ◌^◌, ◌≡◌, ◌≢◌, length, map, not, OnErr, OnOk, option_map};
+ghost use Rattle.rustc_parse_format.specs.Characters.{Text};
+ghost use Rattle.rustc_parse_format.specs.Identifiers.{is_identifier};
+ghost use Rattle.rustc_parse_format.specs.Marks.{Mark, Span, over_first};
+ghost use Rattle.rustc_parse_format.specs.Midway.{behind_sign, recovered};
+ghost use Rattle.rustc_parse_format.specs.Recovery.{field, field_fault, late_debug, recovery, sign_fault};
+ghost use Rattle.rustc_parse_format.specs.Seen.{pair, seen_argument, seen_mode, seen_position};
+ghost use Rattle.rustc_parse_format.specs.SeenFaults.{seen_fault};
+ghost use Rattle.rustc_parse_format.specs.Steps.{Forward, IsInWord, Paid};
+ghost use Rattle.rustc_parse_format.specs.Types.{Argument as ArgumentValue, map_argument};
+ghost use Rattle.rustc_parse_format.specs.World.{number_of, place_of};
+
+use crate::counts::word;
+use crate::cursor::Trail;
+use crate::faults::Fault;
+use crate::placeholder::read_argument;
+use crate::reader::Reader;
+use crate::types::{Argument, ParseMode, Position};
+use std::alloc::AllocError;
+use std::ops::Range;
+use std::sync::ledger::Ledger;
+
+/// The fault of one sign, with the character after it. The placeholder opens at `opening`.
+fn sign_fault<'input>(
+    sign: char,
+    next: char,
+    span: Range<usize>,
+    opening: Range<usize>,
+) -> Option<Fault<'input>>
+    ensures { option_map seen_fault result ≡ sign_fault sign next (pair span) (pair opening) }
+{
+    match (sign, next) {
+        ('<' | '>' | '^', _) => Some(Fault::LateAlign(sign, span)),
+        (',', _) => Some(Fault::Grouping(span, opening)),
+        ('+', _) => Some(Fault::LateSign(span)),
+        ('=', '}') => Some(Fault::DebugPrint(span, opening)),
+        ('?', '}') => Some(Fault::MissingColon(span)),
+        _ => None,
+    }
+}
+
+/// Takes the sign at the front with its fault, and leaves any other character.
+fn take_sign<'input, L: Ledger>(
+    sign: char,
+    next: char,
+    opening: Range<usize>,
+    reader: &mut Reader<'input>,
+    trail: &mut Trail<'input, L>,
+) -> Result<(), AllocError>
+    ensures state { OnOk result (reader.new ≡ behind_sign reader.old
+        (sign_fault sign next (place_of reader.old.world (over_first reader.old.rest)) (pair opening))) }
+    ensures err { OnErr result (reader.new.source ≡ reader.old.source) }
+    ensures steps { OnOk result (Forward reader.old.rest trail.old reader.new.rest trail.new) }
+{
+    let span = reader.cursor.start()..reader.cursor.stop();
+    if let Some(fault) = sign_fault(sign, next, span, opening) {
+        reader.cursor.advance(trail);
+        reader.found.push(fault)?;
+    }
+    Ok(())
+}
+
+/// Takes the `?` at the front, and a colon with a word where they follow.
+#[tactic(auto, unfolding(crate::specs::Recovery::late_debug))]
+fn late_debug<'input, L: Ledger>(
+    reader: &mut Reader<'input>,
+    trail: &mut Trail<'input, L>,
+) -> Result<(), AllocError>
+    ensures state { OnOk result (reader.new ≡ recovered reader.old (late_debug reader.old.next reader.old.rest)) }
+    ensures err { OnErr result (reader.new.source ≡ reader.old.source) }
+    ensures steps { OnOk result (Forward reader.old.rest trail.old reader.new.rest trail.new) }
+{
+    let span = reader.cursor.start()..reader.cursor.stop();
+    reader.cursor.advance(trail);
+    if reader.cursor.take_char(':', trail) {
+        let word = word(reader, trail)?;
+        reader.found.push(Fault::LateDebug(word, span))?;
+    }
+    Ok(())
+}
+
+/// Notes a field with this position, which a brace closes.
+fn note_field<'input>(
+    found: &mut Vec<Fault<'input>>,
+    position: &Position<'input>,
+    span: Range<usize>,
+) -> Result<(), AllocError>
+    ensures { OnOk result (map seen_fault found.new.items
+        ≡ map seen_fault found.old.items ++ field_fault (seen_position position.now) (pair span)) }
+{
+    match position {
+        Position::ArgumentNamed(_) => found.push(Fault::FieldAccess(span))?,
+        Position::ArgumentIs(_) => found.push(Fault::TupleIndex(span))?,
+        Position::ArgumentImplicitlyIs(_) => {}
+    }
+    Ok(())
+}
+
+/// Takes the `.` at the front, the field after it, and the brace that follows it at once. The argument starts at `from`.
+#[tactic(auto, using(crate::proofs::Steps::part_le), unfolding(crate::specs::Recovery::field))]
+fn field<'input, L: Ledger>(
+    mode: ParseMode,
+    from: usize,
+    reader: &mut Reader<'input>,
+    trail: &mut Trail<'input, L>,
+) -> Result<(), AllocError>
+    requires here { reader.old.rest ≢ [] }
+    requires numbers { reader.old.next + length reader.old.rest < 2 ^ 64 }
+    requires steps { IsInWord reader.old.rest trail.old }
+    ensures state { OnOk result ((m : Mark) → from ≡ number_of reader.old.world m
+        → reader.new ≡ recovered reader.old (field (seen_mode mode) reader.old.next m reader.old.rest)) }
+    ensures source { reader.new.source ≡ reader.old.source }
+    ensures steps { OnOk result (Paid reader.old.rest trail.old reader.new.rest trail.new) }
+{
+    reader.cursor.advance(trail);
+    let field = read_argument(mode, reader, trail)?;
+    let span = from..field.position_span.end;
+    if reader.cursor.take_char('}', trail) {
+        note_field(&mut reader.found, &field.position, span)?;
+    }
+    Ok(())
+}
+
+/// The sign begins a field of this argument.
+fn begins_field(sign: char, argument: &Argument<'_>) -> bool
+    ensures { result ≡ (sign == 46 && is_identifier (seen_argument argument.now)) }
+{
+    sign == '.' && argument.is_identifier()
+}
+
+/// The sign is a `?` that no brace follows.
+fn begins_late_debug(sign: char, next: char) -> bool
+    ensures { result ≡ (sign == 63 && not (next == 125)) }
+{
+    sign == '?' && next != '}'
+}
+
+/// Goes on in front of what stands in place of the brace that should close this argument. The placeholder opens at `opening`.
+#[tactic(auto, using(crate::proofs::Steps::part_le))]
+pub fn recover<'input, L: Ledger>(
+    mode: ParseMode,
+    argument: &Argument<'input>,
+    opening: Range<usize>,
+    reader: &mut Reader<'input>,
+    trail: &mut Trail<'input, L>,
+) -> Result<(), AllocError>
+    requires numbers { reader.old.next + length reader.old.rest < 2 ^ 64 }
+    requires steps { IsInWord reader.old.rest trail.old }
+    ensures state { OnOk result ((o : Text) (a : ArgumentValue Span) → pair opening ≡ place_of reader.old.world (over_first o)
+        → seen_argument argument.now ≡ map_argument (place_of reader.old.world) a
+        → reader.new ≡ recovered reader.old (recovery (seen_mode mode) reader.old.next o a reader.old.rest)) }
+    ensures source { reader.new.source ≡ reader.old.source }
+    ensures steps { OnOk result (Paid reader.old.rest trail.old reader.new.rest trail.new) }
+{
+    let Some(sign) = reader.cursor.peek() else {
+        return Ok(());
+    };
+    let Some(next) = reader.cursor.peek_ahead() else {
+        return Ok(());
+    };
+    if begins_field(sign, argument) {
+        return field(mode, argument.position_span.start, reader, trail);
+    }
+    if begins_late_debug(sign, next) {
+        return late_debug(reader, trail);
+    }
+    take_sign(sign, next, opening, reader, trail)
+}
