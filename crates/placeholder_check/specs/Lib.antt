@@ -1,0 +1,6 @@
+pub mod Uses
+pub mod Entries
+pub mod Report
+pub mod Reading
+pub mod Seen
+pub mod Noted

@@ -1,0 +1,52 @@
+//! The report.
+
+ghost use Rattle.std.specs.Prelude.{◌≡◌, IfOk, map};
+ghost use Rattle.rustc_parse_format.specs.Seen.{seen};
+ghost use Rattle.placeholder_check.specs.Uses.{uses};
+ghost use Rattle.placeholder_check.specs.Report.{IsReport, Report as ReportOf};
+ghost use Rattle.placeholder_check.specs.Seen.{seen_report, texts};
+
+use crate::entries::{lacked_below, lacked_by, members_from};
+use crate::uses::uses_of;
+use rustc_parse_format::Piece;
+use std::alloc::{AllocError, Global};
+
+/// What is wrong between placeholders and arguments. Each entry stands once.
+#[derive(Drop)]
+pub struct Report<'a> {
+    /// The numbers that are used and not given, in rising order.
+    pub missing_index: Vec<usize>,
+    /// The names that are used and not given, in the order of their first uses.
+    pub missing_name: Vec<&'a str>,
+    /// The numbers that are given and not used, in rising order.
+    pub unused_index: Vec<usize>,
+    /// The names that are given and not used, in the order in which they are given.
+    pub unused_name: Vec<&'a str>,
+}
+
+/// The report on pieces for which so many arguments are given by position and these by name. Out of memory, none is
+/// given.
+pub fn check<'a>(
+    alloc: Global,
+    pieces: &[Piece<'a>],
+    positional: usize,
+    names: &[&'a str],
+) -> Result<Report<'a>, AllocError>
+    ensures report { IfOk result (λ r. IsReport (uses (map seen pieces.now)) positional (texts names.now) (seen_report r)) }
+    // No other report is one.
+    ensures only { IfOk result (λ r. (s : ReportOf) → IsReport (uses (map seen pieces.now)) positional (texts names.now) s → s ≡ seen_report r) }
+{
+    let used = uses_of(alloc, pieces)?;
+    let missing_index = members_from(alloc, &used.indices, positional)?;
+    let used_below = used.indices.len().saturating_sub(missing_index.len());
+    let room = positional.saturating_sub(used_below);
+    let unused_index = lacked_below(alloc, &used.indices, positional, room)?;
+    let missing_name = lacked_by(alloc, &used.names, names)?;
+    let unused_name = lacked_by(alloc, names, &used.names)?;
+    Ok(Report {
+        missing_index,
+        missing_name,
+        unused_index,
+        unused_name,
+    })
+}

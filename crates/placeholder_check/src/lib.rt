@@ -1,0 +1,13 @@
+//! The placeholders of a text against the arguments that are given for it.
+#![tactic(auto)]
+
+mod checker;
+mod entries;
+mod reading;
+mod uses;
+
+pub use checker::{Report, check};
+pub use reading::read_and_check;
+
+#[cfg(test)]
+mod tests;

@@ -1,0 +1,90 @@
+//! Which arguments pieces use.
+
+ghost use Rattle.std.specs.Prelude.{[], ◌∷◌, IfOk, OnOk, chars, map};
+ghost use Rattle.rustc_parse_format.specs.Seen.{seen, seen_argument, seen_count, seen_position};
+ghost use Rattle.placeholder_check.specs.Uses.{ByIndex, ByName, argument_uses, count_uses, piece_uses, position_use, uses};
+ghost use Rattle.placeholder_check.specs.Noted.{Adds, Holds};
+
+use rustc_parse_format::{Argument, Count, Piece, Position};
+use std::alloc::{AllocError, Global};
+use std::collections::BTreeSet;
+
+/// The numbers that are used, and each use of a name, in order.
+#[derive(Drop)]
+pub struct Uses<'a> {
+    /// The numbers.
+    pub indices: BTreeSet<usize>,
+    /// The names.
+    pub names: Vec<&'a str>,
+}
+
+/// Adds a use of a number.
+fn add_index(uses: &mut Uses<'_>, index: usize) -> Result<(), AllocError>
+    ensures { OnOk result (Adds (ByIndex index ∷ []) uses.old uses.new) }
+{
+    uses.indices.insert(index)?;
+    Ok(())
+}
+
+/// Adds a use of a name.
+fn add_name<'a>(uses: &mut Uses<'a>, name: &'a str) -> Result<(), AllocError>
+    ensures { OnOk result (Adds (ByName (chars name.now) ∷ []) uses.old uses.new) }
+{
+    uses.names.push(name)?;
+    Ok(())
+}
+
+/// Adds what a position uses.
+fn add_position<'a>(uses: &mut Uses<'a>, position: &Position<'a>) -> Result<(), AllocError>
+    ensures { OnOk result (Adds (position_use (seen_position position.now) ∷ []) uses.old uses.new) }
+{
+    match position {
+        Position::ArgumentImplicitlyIs(n) | Position::ArgumentIs(n) => add_index(uses, *n),
+        Position::ArgumentNamed(name) => add_name(uses, name),
+    }
+}
+
+/// Adds what a width or a precision uses.
+fn add_count<'a>(uses: &mut Uses<'a>, count: &Count<'a>) -> Result<(), AllocError>
+    ensures { OnOk result (Adds (count_uses (seen_count count.now)) uses.old uses.new) }
+{
+    match count {
+        Count::CountIsParam(n) | Count::CountIsStar(n) => add_index(uses, *n),
+        Count::CountIsName(name, _) => add_name(uses, name),
+        Count::CountIs(_) | Count::CountImplied => Ok(()),
+    }
+}
+
+/// Adds what a placeholder uses.
+fn add_argument<'a>(uses: &mut Uses<'a>, argument: &Argument<'a>) -> Result<(), AllocError>
+    ensures { OnOk result (Adds (argument_uses (seen_argument argument.now)) uses.old uses.new) }
+{
+    add_position(uses, &argument.position)?;
+    add_count(uses, &argument.format.width)?;
+    add_count(uses, &argument.format.precision)?;
+    Ok(())
+}
+
+/// Adds what a piece uses.
+fn add_piece<'a>(uses: &mut Uses<'a>, piece: &Piece<'a>) -> Result<(), AllocError>
+    ensures { OnOk result (Adds (piece_uses (seen piece.now)) uses.old uses.new) }
+{
+    match piece {
+        Piece::Lit(_) => Ok(()),
+        Piece::NextArgument(argument) => add_argument(uses, argument),
+    }
+}
+
+/// What pieces use.
+pub fn uses_of<'a>(alloc: Global, pieces: &[Piece<'a>]) -> Result<Uses<'a>, AllocError>
+    ensures { IfOk result (λ u. Holds (uses (map seen pieces.now)) u) }
+{
+    let mut uses = Uses {
+        indices: BTreeSet::new(alloc),
+        names: Vec::new(alloc),
+    };
+    for piece in pieces {
+        add_piece(&mut uses, piece)?;
+    }
+    Ok(uses)
+}
