@@ -1,5 +1,6 @@
 //! Each public call of a parser once where it succeeds, and what no table of rows shows.
 
+use super::names::names;
 use rustc_parse_format::{ParseMode, Parser, Piece, Position, read_all};
 use std::alloc::{AllocError, Global};
 use std::ops::Range;
@@ -41,6 +42,17 @@ fn is_identifier(
         Some(Piece::NextArgument(argument)) => Ok(argument.is_identifier()),
         _ => panic!(rt; "{input} has no argument"),
     }
+}
+
+#[test]
+fn the_example_of_the_readme_gives_names(rt: HostRuntime) -> Result<(), Fail> {
+    let found = names(rt.alloc(), "{a}{}{b:c$}{a:?} text")?;
+    let Some(found) = found else {
+        panic!(rt; "the text is taken for a faulty one")
+    };
+    assert_eq!(rt; found.as_slice(), ["a", "b", "a"].as_slice());
+    assert!(rt; names(rt.alloc(), "{a")?.is_none(), "a fault");
+    Ok(())
 }
 
 #[test]

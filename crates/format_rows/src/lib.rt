@@ -2,12 +2,19 @@
 //!
 //! `named_rows` and `mixed_rows` are tables of inputs with all that reading them gives. What they expect comes from
 //! outside (`replay/README.md` tells from where), and never from the parser itself. `snippets` is a table of snippets
-//! that are source literals of their inputs, or not. `calls`, `values` and `literals` have what no table shows, and
-//! `memory` calls that are refused memory.
+//! that are source literals of their inputs, or not. `calls`, `values` and `literals` have what no table shows,
+//! `iteration` the iterator over the pieces, `changes` what is done to a parser between two calls, `memory` calls that are
+//! refused memory, and `carried` the tests of the original. `names` is the example of the README.
 #![tactic(auto)]
 
 #[cfg(test)]
 mod calls;
+#[cfg(test)]
+mod carried;
+#[cfg(test)]
+mod changes;
+#[cfg(test)]
+mod iteration;
 #[cfg(test)]
 mod listing;
 #[cfg(test)]
@@ -18,6 +25,8 @@ mod memory;
 mod mixed_rows;
 #[cfg(test)]
 mod named_rows;
+#[cfg(test)]
+mod names;
 #[cfg(test)]
 mod row;
 #[cfg(test)]

@@ -16,14 +16,14 @@ use std::test::Fail;
 
 /// What a call gives.
 #[derive(Drop)]
-enum Given {
+pub enum Given {
     Text(&'static str),
     Argument(Argument<'static>),
     Nothing,
 }
 
 /// A piece, or that there is none, is what is given.
-fn is_given(piece: Option<&Piece<'_>>, given: &Given) -> bool {
+pub fn is_given(piece: Option<&Piece<'_>>, given: &Given) -> bool {
     match (piece, given) {
         (Some(Piece::Lit(text)), Given::Text(wanted)) => *text == *wanted,
         (Some(Piece::NextArgument(it)), Given::Argument(wanted)) => **it == *wanted,
@@ -165,7 +165,7 @@ fn snippet_again(rt: &(impl Abort + Print), alloc: Global, text: &str) -> Result
 }
 
 /// An argument without a position.
-fn implicit(number: usize, at: usize, format: FormatSpec<'static>) -> Argument<'static> {
+pub fn implicit(number: usize, at: usize, format: FormatSpec<'static>) -> Argument<'static> {
     Argument {
         position: Position::ArgumentImplicitlyIs(number),
         position_span: at..at,
@@ -174,7 +174,11 @@ fn implicit(number: usize, at: usize, format: FormatSpec<'static>) -> Argument<'
 }
 
 /// An argument with a name.
-fn named(name: &'static str, span: Range<usize>, format: FormatSpec<'static>) -> Argument<'static> {
+pub fn named(
+    name: &'static str,
+    span: Range<usize>,
+    format: FormatSpec<'static>,
+) -> Argument<'static> {
     Argument {
         position: Position::ArgumentNamed(name),
         position_span: span,
@@ -183,7 +187,7 @@ fn named(name: &'static str, span: Range<usize>, format: FormatSpec<'static>) ->
 }
 
 /// A specification that is a type alone.
-fn typed(ty: &'static str, span: Option<Range<usize>>) -> FormatSpec<'static> {
+pub fn typed(ty: &'static str, span: Option<Range<usize>>) -> FormatSpec<'static> {
     let mut format = FormatSpec::default();
     format.ty = ty;
     format.ty_span = span;
@@ -245,7 +249,7 @@ fn read_star_again(
 }
 
 /// A specification whose precision is a star.
-fn starred(number: usize, span: Range<usize>) -> FormatSpec<'static> {
+pub fn starred(number: usize, span: Range<usize>) -> FormatSpec<'static> {
     let mut format = FormatSpec::default();
     format.precision = Count::CountIsStar(number);
     format.precision_span = Some(span);

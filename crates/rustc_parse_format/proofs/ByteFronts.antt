@@ -5,7 +5,7 @@ use Rattle.std.proofs.Common.{refl, ap, sym, subst, ◌∙◌, arith}
 use Rattle.std.specs.Prelude.{encode_utf8, ◌⊎◌, ◌&&◌}
 use Rattle.std.specs.List.{list_all}
 use Rattle.std.proofs.lemmas.Bool.{and_parts, and_from, cases_lt, both_ways}
-use Rattle.std.proofs.lemmas.List.{take-append-drop, take_all, take-take, drop_more, drop-drop, length-drop}
+use Rattle.std.proofs.lemmas.List.{take-append-drop, take-take, drop_more, drop-drop, length-drop}
 use Rattle.std.proofs.lemmas.List.Folds.{list_all-append}
 use Rattle.std.proofs.lemmas.Str.{encodes-chars, chars-append, chars-nil, chars_past_char, encode_ascii, IsUtf8-take, IsUtf8-drop}
 use Rattle.std.proofs.lemmas.Str.{IsUtf8-from_is_utf8, is_utf8-from_IsUtf8}
@@ -94,7 +94,7 @@ shared-boundary p s t m n u v b l f =
     let part = shared-part p s t m n l f in
     IsCharBoundary-from_take t m v part.within_others (subst IsUtf8 part.same (IsUtf8-take s m u b))
 
--- and both are this front and what is after it;
+-- and both are this front and what is after it.
 pub shared-behind : (p : ℕ → Bool) → IsOfAscii p → (s t : List ℕ) (m n : ℕ) → IsUtf8 s → IsUtf8 t → IsCharBoundary s m → m ≤ n → IsSharedFront p s t n →
     (w : Text) × (chars s ≡ w ++ chars (drop m s)) × (chars t ≡ w ++ chars (drop m t)) × (list_all p w ≡ true)
 shared-behind p a s t m n u v b l f =
@@ -104,14 +104,4 @@ shared-behind p a s t m n u v b l f =
       ap chars (sym (take-append-drop m s)) ∙ chars-append (take m s) (drop m s) front,
       ap chars (sym (take-append-drop m t) ∙ ap (λ x. x ++ drop m t) (sym part.same)) ∙ chars-append (take m s) (drop m t) front,
       chars-pass p a (take m s) front part.pass,
-    )
-
--- the same where the whole of a text is the front.
-pub shared-whole : (p : ℕ → Bool) → IsOfAscii p → (s t : List ℕ) (n : ℕ) → IsUtf8 t → IsSharedFront p s t n → n ≡ length t →
-    (r : Text) × (chars s ≡ chars t ++ r) × (list_all p (chars t) ≡ true)
-shared-whole p a s t n u f e =
-    let whole : take n s ≡ t = f.same ∙ take_all n t (omega arith) in (
-      chars (drop n s),
-      ap chars (sym (take-append-drop n s) ∙ ap (λ x. x ++ drop n s) whole) ∙ chars-append t (drop n s) u,
-      chars-pass p a t u (ap (list_all p) (sym whole) ∙ f.pass),
     )

@@ -1,6 +1,6 @@
 -- What a call says of the grammar: the piece that begins the rest, a fault where nothing does, and the end.
-use Rattle.std.proofs.Common.{◌≡◌, ◌≢◌, ◌<◌, ◌≤◌, ◌+◌, ℕ, [], length, Option, Some, None, IsNone, ◌∷◌, false, refl, ap, ◌∙◌, codes}
-use Rattle.std.specs.Prelude.{Result, Ok, Err, IfOk, OnOk, option_map}
+use Rattle.std.proofs.Common.{◌≡◌, ◌≢◌, ◌<◌, ◌≤◌, ◌+◌, ℕ, [], length, Option, Some, None, IsNone, ◌∷◌, false, refl, ap, ◌∙◌, codes, arith}
+use Rattle.std.specs.Prelude.{Result, Ok, Err, IfOk, OnErr, OnOk, option_map}
 use Rattle.rustc_parse_format.specs.Characters.{Text, begins_with}
 use Rattle.rustc_parse_format.specs.Grammar.{Begins}
 use Rattle.rustc_parse_format.specs.Types.{Mode, Piece, NextArgument, bare}
@@ -62,6 +62,15 @@ next_faulty s new f some none = rw f (after-more s (next_call s) (call_faults s.
 
 pub next_moves : (s new : State) → new ≡ after s (next_call s) → s.rest ≢ [] → length new.rest < length s.rest
 next_moves s new f some = rw f (call-lt s.mode s.next s.rest some)
+
+call_short : (mode : Mode) (c : ℕ) (t : Text) → length (call mode c t).rest ≤ length t
+unfolding call
+call_short mode c [] = omega arith
+call_short mode c (b ∷ t) = omega (arith, call-lt mode c (b ∷ t) (λ (e : b ∷ t ≡ []). absurd (cc e)))
+
+pub next_short : {A E : Type 0} (r : Result A E) (s new : State) → OnOk r (new ≡ after s (next_call s)) → OnErr r (new ≡ s) → length new.rest ≤ length s.rest
+next_short (Ok a) s new f g = rw f (call_short s.mode s.next s.rest)
+next_short (Err e) s new f g = rw g (omega arith)
 
 pub next_numbers : (s new : State) → new ≡ after s (next_call s) → new.next + length new.rest ≤ s.next + length s.rest
 next_numbers s new f = rw f (call_next-le s.mode s.next s.rest)

@@ -91,40 +91,23 @@ bare_faults-in : (w : World) (fs : List (Fault Span)) → map bare_fault (faults
 bare_faults-in w [] = refl
 bare_faults-in w (f ∷ fs) = rw (bare_fault-map (place_of w) f, bare_faults-in w fs) refl
 
-bare-message : {A : Type 0} (f : Fault A) → bare_message (message f) ≡ message (bare_fault f)
+bare-told : {A : Type 0} (f : Fault A) → (bare_message (message f) ≡ message (bare_fault f)) × (is_front (bare_fault f) ≡ is_front f)
 unfolding message
-bare-message (UnmatchedBrace s) = refl
-bare-message (MissingBrace c s o) = refl
-bare-message (FillBrace c s o) = refl
-bare-message (Underscore s) = refl
-bare-message (TooLarge ds s) = refl
-bare-message (RawIdentifier s p) = refl
-bare-message (LateFlag c s b) = refl
-bare-message (MissingColon s) = refl
-bare-message (LateDebug w s) = refl
-bare-message (LateAlign c s) = refl
-bare-message (Grouping s o) = refl
-bare-message (DebugPrint s o) = refl
-bare-message (LateSign s) = refl
-bare-message (FieldAccess s) = refl
-bare-message (TupleIndex s) = refl
-
-bare-front : {A : Type 0} (f : Fault A) → is_front (bare_fault f) ≡ is_front f
-bare-front (UnmatchedBrace s) = refl
-bare-front (MissingBrace c s o) = refl
-bare-front (FillBrace c s o) = refl
-bare-front (Underscore s) = refl
-bare-front (TooLarge ds s) = refl
-bare-front (RawIdentifier s p) = refl
-bare-front (LateFlag c s b) = refl
-bare-front (MissingColon s) = refl
-bare-front (LateDebug w s) = refl
-bare-front (LateAlign c s) = refl
-bare-front (Grouping s o) = refl
-bare-front (DebugPrint s o) = refl
-bare-front (LateSign s) = refl
-bare-front (FieldAccess s) = refl
-bare-front (TupleIndex s) = refl
+bare-told (UnmatchedBrace s) = (refl, refl)
+bare-told (MissingBrace c s o) = (refl, refl)
+bare-told (FillBrace c s o) = (refl, refl)
+bare-told (Underscore s) = (refl, refl)
+bare-told (TooLarge ds s) = (refl, refl)
+bare-told (RawIdentifier s p) = (refl, refl)
+bare-told (LateFlag c s b) = (refl, refl)
+bare-told (MissingColon s) = (refl, refl)
+bare-told (LateDebug w s) = (refl, refl)
+bare-told (LateAlign c s) = (refl, refl)
+bare-told (Grouping s o) = (refl, refl)
+bare-told (DebugPrint s o) = (refl, refl)
+bare-told (LateSign s) = (refl, refl)
+bare-told (FieldAccess s) = (refl, refl)
+bare-told (TupleIndex s) = (refl, refl)
 
 bare-added : {A : Type 0} (b : Bool) (es : List (Message A)) (m : Message A) → map bare_message (cond b (m ∷ es) (es ++ m ∷ []))
     ≡ cond b (bare_message m ∷ map bare_message es) (map bare_message es ++ bare_message m ∷ [])
@@ -136,7 +119,7 @@ bare_errors : {A : Type 0} (es : List (Message A)) (fs : List (Fault A)) → map
 bare_errors es [] = refl
 bare_errors es (f ∷ fs) =
     bare_errors (cond (is_front f) (message f ∷ es) (es ++ message f ∷ [])) fs
-    ∙ ap (λ ms. add_errors ms (map bare_fault fs)) (rw (bare-front f, ← bare-message f) (bare-added (is_front f) es (message f)))
+    ∙ ap (λ ms. add_errors ms (map bare_fault fs)) (rw ((bare-told f).1, ← (bare-told f).0) (bare-added (is_front f) es (message f)))
 
 pub after_errors : (s : State) (k : Call) → map bare_message (after s k).errors ≡ add_errors (map bare_message s.errors) (map bare_fault k.faults)
 after_errors s k = bare_errors s.errors (faults_in s.world k.faults) ∙ ap (add_errors (map bare_message s.errors)) (bare_faults-in s.world k.faults)

@@ -116,6 +116,3 @@ stop_left b q e input rest behind l v h k =
     let n = behind_width rest behind f.head f.tail u v f.chars_are k in
     let within = l.within in
     ap (λ (p : Place). p.1) (place_begun b q e input rest l f) ∙ omega arith
-
-pub some_chars : (s : List ℕ) → IsUtf8 s → (length s ≡ 0 → ⊥) → (chars s ≡ [] → ⊥)
-some_chars s u h e = h (sym (width_chars s u) ∙ ap byte_length e)

@@ -190,3 +190,13 @@ gap-taken t q r us h e f n =
       width-append (spelled_units us) (34 ∷ []),
       width-append (spelled_units vs) (34 ∷ []),
     )
+
+-- two bytes for the escape of a newline
+pub newline-width : (t r : Text) → t ≡ 92 ∷ 110 ∷ r → 2 ≡ character_width t
+newline-width t r e = omega (
+  arith,
+  ap character_width e,
+  width-read (92 ∷ 110 ∷ r) r 10 (ap meaning (unit_at-complete (SimpleEscape 110) r refl refl)),
+  width-cons 92 (110 ∷ r),
+  width-cons 110 r,
+)

@@ -8,9 +8,10 @@ use Rattle.rustc_parse_format.specs.Characters.{Text}
 use Rattle.rustc_parse_format.specs.LiteralUnits.{LiteralUnit}
 use Rattle.rustc_parse_format.specs.Literal.{IsContent}
 use Rattle.rustc_parse_format.specs.World.{World, ordinary_world, ordinary_end, content_places, newline_places}
+use Rattle.rustc_parse_format.specs.declared.source.Look.{Look}
 use Rattle.rustc_parse_format.specs.declared.source.Source.{Source}
 use Rattle.rustc_parse_format.specs.Source.{units_between}
-use Rattle.rustc_parse_format.specs.SeenSource.{IsHere, IsOrdinary, IsKept, IsPlaced, seen_world, world_with, closed_by_quote, gap}
+use Rattle.rustc_parse_format.specs.SeenSource.{IsHere, IsLook, IsOrdinary, IsKept, IsPlaced, seen_world, world_with, closed_by_quote, gap}
 use Rattle.rustc_parse_format.proofs.SourceEnds.{frame-units}
 use Rattle.rustc_parse_format.proofs.SourceSteps.{IsCutAt, IsReached, cut_at, settle}
 
@@ -60,14 +61,19 @@ first-boundary s snippet e k =
     (IsUtf8-string_bytes snippet) (kept-ordinary s snippet e k) in
     IsCharBoundary-from_drop (string_bytes snippet) 1 b.within b.is_text
 
+pub first-found : (s : Source) (snippet : String Global) (n : ℕ) → s.kept ≡ Some snippet → IsKept s → Closes (drop 1 (string_bytes snippet)) n →
+    IsHere (string_bytes snippet) (world_with (Some snippet) s) (chars s.input.now) (1 + n)
+first-found s snippet n e k f =
+    first-here (string_bytes snippet) (chars s.input.now) s.appended s.end n (world_with (Some snippet) s) (refl, refl)
+    (IsUtf8-string_bytes snippet) (kept-ordinary s snippet e k) f
+
 pub first-inside : (s : Source) (snippet : String Global) (n : ℕ) → s.kept ≡ Some snippet → IsKept s → Closes (drop 1 (string_bytes snippet)) n →
     1 + n ≤ length (string_bytes snippet)
-first-inside s snippet n e k f =
-    (first-here (string_bytes snippet) (chars s.input.now) s.appended s.end n (world_with (Some snippet) s) (refl, refl)
-    (IsUtf8-string_bytes snippet) (kept-ordinary s snippet e k) f).within
+first-inside s snippet n e k f = (first-found s snippet n e k f).within
 
-pub first-placed : (s : Source) (snippet : String Global) (n : ℕ) → s.kept ≡ Some snippet → IsKept s → Closes (drop 1 (string_bytes snippet)) n →
-    IsPlaced s.kept (seen_world s) (chars s.input.now) (1 + n)
-first-placed s snippet n e k f =
-    rw e (first-here (string_bytes snippet) (chars s.input.now) s.appended s.end n (world_with (Some snippet) s) (refl, refl)
-    (IsUtf8-string_bytes snippet) (kept-ordinary s snippet e k) f)
+pub first-placed : (s : Source) (snippet : String Global) (n : ℕ) (at : Look) → s.kept ≡ Some snippet → IsKept s →
+    Closes (drop 1 (string_bytes snippet)) n →
+    ((w : World) (rest : Text) → IsHere (string_bytes snippet) w rest (1 + n) → IsLook (string_bytes snippet) w rest at) →
+    IsPlaced s.kept (seen_world s) (chars s.input.now) at
+first-placed s snippet n at e k f look =
+    rw e (look (world_with (Some snippet) s) (chars s.input.now) (first-found s snippet n e k f))

@@ -47,11 +47,11 @@ plain_width : (c : ℕ) (t : Text) → IsTrue (is_plain c) → character_width (
 plain_width c t p =
     omega (arith, width-read (c ∷ t) t c (ap meaning (unit_at-complete (Plain c) t p refl)), width-cons c t, width-cons c [])
 
-false_if : (b : Bool) → (b ≡ true → ⊥) → b ≡ false
+pub false_if : (b : Bool) → (b ≡ true → ⊥) → b ≡ false
 false_if true h = absurd (h refl)
 false_if false h = refl
 
-abbrev Gaps : List ℕ → ℕ → ℕ → Type 0
+abbrev pub Gaps : List ℕ → ℕ → ℕ → Type 0
 Gaps s at g = (q : Text) (us : List LiteralUnit) → IsContent q us → chars (drop at s) ≡ closed_by_quote q → g ≡ gap us
 
 pub here_plain : (s : List ℕ) (w : World) (u rest t : Text) (at g : ℕ) → IsHere s w (u ++ rest) at → u ≢ [] → chars (drop at s) ≡ u ++ t →
@@ -76,21 +76,3 @@ here_plain s w (c ∷ d ∷ u) rest t at g h some e p f =
   where
     no_list : (x : ℕ) (xs : Text) → x ∷ xs ≡ [] → ⊥
     no_list x xs e = cc e
-
--- where what was passed ends in the snippet
-pub moved_cut : (s moved : List ℕ) (front t : Text) (at : ℕ) → at ≤ length s → IsUtf8 (drop at s) → IsUtf8 moved → chars moved ≡ front →
-    chars (drop at s) ≡ chars moved ++ t →
-    (at + length moved ≤ length s) × IsUtf8 (drop (at + length moved) s) × (chars (drop (at + length moved) s) ≡ t)
-moved_cut s moved front t at h u v e f =
-    cut_from s at (length moved) front t h u (f ∙ ap (λ x. x ++ t) e) (sym (width_chars moved v) ∙ ap byte_length e)
-
-pub moved_here : (s : List ℕ) (w : World) (mark rest moved : List ℕ) (front t : Text) (at g : ℕ) → IsHere s w (chars mark) at →
-    chars mark ≡ front ++ chars rest → IsUtf8 mark → IsUtf8 rest → IsUtf8 moved → chars moved ≡ front → (length mark ≡ length rest → ⊥) →
-    chars (drop at s) ≡ chars moved ++ t → IsTrue (list_all is_plain (chars moved)) → Gaps s (at + length moved) g →
-    IsHere s w (chars rest) ((at + length moved) + g)
-moved_here s w mark rest moved front t at g h whole u v m e other f p gaps =
-    let size : byte_length front ≡ length moved = sym (ap byte_length e) ∙ width_chars moved m in
-    let some : front ≢ [] = λ none. other (sym (width_chars mark u) ∙ (ap byte_length (whole ∙ ap (λ x. x ++ chars rest) none) ∙ width_chars rest v)) in
-    subst (λ k. IsHere s w (chars rest) ((at + k) + g)) size
-    (here_plain s w front (chars rest) t at g (subst (λ x. IsHere s w x at) whole h) some (f ∙ ap (λ x. x ++ t) e)
-    (subst (λ x. IsTrue (list_all is_plain x)) e p) (subst (λ k. Gaps s (at + k) g) (sym size) gaps))

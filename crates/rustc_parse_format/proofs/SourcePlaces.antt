@@ -5,22 +5,23 @@ use Rattle.std.proofs.lemmas.Str.{IsUtf8-from_is_utf8, is_utf8-from_IsUtf8, char
 use Rattle.std.proofs.lemmas.List.{nil_from_length}
 use Rattle.std.specs.declared.string.String.{String}
 use Rattle.std.specs.declared.alloc.Global.{Global}
+use Rattle.rustc_parse_format.specs.declared.source.Look.{Look}
 use Rattle.rustc_parse_format.specs.declared.source.Source.{Source}
 use Rattle.rustc_parse_format.specs.Characters.{Text, behind_first}
 use Rattle.rustc_parse_format.proofs.SourceEnds.{frame-units}
 use Rattle.rustc_parse_format.specs.World.{ordinary_end, World, place_at}
 use Rattle.std.specs.Str.{is_utf8}
 use Rattle.rustc_parse_format.specs.Bytes.{IsLeft}
-use Rattle.rustc_parse_format.specs.SeenSource.{IsKept, IsKeptIn, IsHere, IsPlaced, IsSpot, seen_world, world_with}
+use Rattle.rustc_parse_format.specs.SeenSource.{IsKept, IsKeptIn, IsHere, IsLook, IsPlaced, IsSpot, seen_world, world_with}
 use Rattle.rustc_parse_format.proofs.Places.{begun, place_end, start_left, stop_left}
 
-placed_by : (o : Option (String Global)) (w : World) (rest : Text) (at : ℕ) (snippet : String Global) → IsPlaced o w rest at → o ≡ Some snippet →
-    IsHere (string_bytes snippet) w rest at
+placed_by : (o : Option (String Global)) (w : World) (rest : Text) (at : Look) (snippet : String Global) → IsPlaced o w rest at → o ≡ Some snippet →
+    IsLook (string_bytes snippet) w rest at
 placed_by o w rest at snippet h e = rw e at h
 
--- where the snippet is kept, the byte of a spot is that of its mark
-pub placed_in : (s : Source) (rest mark : List ℕ) (at : ℕ) (snippet : String Global) → IsSpot s rest mark at → s.kept ≡ Some snippet →
-    IsHere (string_bytes snippet) (seen_world s) (chars mark) at
+-- where the snippet is kept, a spot has what the look at its mark found
+pub placed_in : (s : Source) (rest mark : List ℕ) (at : Look) (snippet : String Global) → IsSpot s rest mark at → s.kept ≡ Some snippet →
+    IsLook (string_bytes snippet) (seen_world s) (chars mark) at
 placed_in s rest mark at snippet h e = placed_by s.kept (seen_world s) (chars mark) at snippet h.is_placed e
 
 literal_in : (o : Option (String Global)) (s : Source) → s.is_literal ≡ (world_with o s).has_source
@@ -31,16 +32,16 @@ pub source_literal : (s : Source) → s.is_literal ≡ (seen_world s).has_source
 source_literal s = literal_in s.kept s
 
 -- in a plain world
-pub plain_start : (s : Source) (rest mark : List ℕ) (at : ℕ) → IsSpot s rest mark at → s.kept ≡ None → (length rest ≡ 0 → ⊥) →
+pub plain_start : (s : Source) (rest mark : List ℕ) (at : Look) → IsSpot s rest mark at → s.kept ≡ None → (length rest ≡ 0 → ⊥) →
     s.offset + (length s.input.now - length rest) ≡ (place_at (seen_world s) (length (chars rest))).0
 plain_start s rest mark at h e some = rw e (sym (start_left s.is_literal s.offset s.end s.input.now rest h.is_left some))
 
-pub plain_stop : (s : Source) (rest behind mark : List ℕ) (at : ℕ) → IsSpot s rest mark at → s.kept ≡ None → IsUtf8 behind → (length rest ≡ 0 → ⊥) →
+pub plain_stop : (s : Source) (rest behind mark : List ℕ) (at : Look) → IsSpot s rest mark at → s.kept ≡ None → IsUtf8 behind → (length rest ≡ 0 → ⊥) →
     chars behind ≡ behind_first (chars rest) → s.offset + (length s.input.now - length behind) ≡ (place_at (seen_world s) (length (chars rest))).1
 plain_stop s rest behind mark at h e u some b = rw e (sym (stop_left s.is_literal s.offset s.end s.input.now rest behind h.is_left u some b))
 
 -- at the end of the text
-pub place_gone : (s : Source) (rest mark : List ℕ) (at : ℕ) → IsSpot s rest mark at → length rest ≡ 0 →
+pub place_gone : (s : Source) (rest mark : List ℕ) (at : Look) → IsSpot s rest mark at → length rest ≡ 0 →
     place_at (seen_world s) (length (chars rest)) ≡ (s.end, s.end)
 place_gone s rest mark at h none =
     let nil : chars rest ≡ [] = ap chars (nil_from_length rest none) ∙ chars-nil in
@@ -67,7 +68,7 @@ kept_ends (Some snippet) s k =
     k.ending ∙ sym (ap ordinary_end (frame-units (chars (string_bytes snippet)) k.content k.units k.is_literal k.is_content))
 
 -- at the start of an input
-pub first_spot : (s : Source) (input : List ℕ) (at : ℕ) → IsUtf8 input → s.input.now ≡ input → s.offset + length input < 2 ^ 64 →
+pub first_spot : (s : Source) (input : List ℕ) (at : Look) → IsUtf8 input → s.input.now ≡ input → s.offset + length input < 2 ^ 64 →
     IsPlaced s.kept (seen_world s) (chars s.input.now) at → IsKept s → IsSpot s input input at
 first_spot s input at u e fits h k =
     let self = left_self input (is_utf8-from_IsUtf8 input u) in

@@ -1,19 +1,22 @@
 -- In the world of a source the places stand in order, and what is left of the input has a place for each character: so what is left
 -- starts behind whatever the next character starts behind.
-use Rattle.std.proofs.Common.{◌≡◌, ℕ, ◌<◌, ◌≤◌, ◌++◌, ◌⊎◌, inl, inr, List, [], length, chars, Option, Some, None, unwrap_or}
+use Rattle.std.proofs.Common.{◌≡◌, ℕ, ◌<◌, ◌≤◌, ◌++◌, true, List, [], ◌∷◌, length, chars, Option, Some, None, unwrap_or}
 use Rattle.std.proofs.Common.{ap, arith, length-append}
 use Rattle.std.specs.Prelude.{string_bytes}
-use Rattle.std.proofs.lemmas.Bool.{cases_lt}
+use Rattle.std.proofs.lemmas.Option.{none-some}
+use Rattle.std.specs.Char.{is_whitespace}
 use Rattle.std.specs.declared.string.String.{String}
 use Rattle.std.specs.declared.alloc.Global.{Global}
+use Rattle.rustc_parse_format.specs.declared.source.Look.{Look}
 use Rattle.rustc_parse_format.specs.declared.source.Source.{Source}
-use Rattle.rustc_parse_format.specs.Characters.{Text}
+use Rattle.rustc_parse_format.specs.Characters.{Text, first}
 use Rattle.rustc_parse_format.specs.LiteralUnits.{LiteralUnit}
 use Rattle.rustc_parse_format.specs.Literal.{units, content_value, newline}
 use Rattle.rustc_parse_format.specs.Source.{between}
 use Rattle.rustc_parse_format.specs.Bytes.{IsLeft}
 use Rattle.rustc_parse_format.specs.SeenSource.{IsSpot, IsPlaced, IsHere, seen_world, world_with}
-use Rattle.rustc_parse_format.specs.World.{World, StartBehind, place_at, content_places, newline_places}
+use Rattle.rustc_parse_format.specs.Midway.{IsPastIndent}
+use Rattle.rustc_parse_format.specs.World.{World, place_at, content_places, newline_places}
 use Rattle.rustc_parse_format.proofs.Places.{left, length-plain_places}
 use Rattle.rustc_parse_format.proofs.PlaceOrder.{InOrder, plain-in_order, ordinary-in_order, place-bytes, place-before, length-content_places, length-newline}
 
@@ -45,7 +48,7 @@ here-enough snippet w rest at h =
       length-newline w.end h.appended,
     )
 
-kept_here : (kept : Option (String Global)) (s : Source) (rest mark : List ℕ) (at : ℕ) → IsLeft s.input.now rest → IsLeft mark rest →
+kept_here : (kept : Option (String Global)) (s : Source) (rest mark : List ℕ) (at : Look) → IsLeft s.input.now rest → IsLeft mark rest →
     IsPlaced kept (world_with kept s) (chars mark) at → HasPlaces (world_with kept s) (length (chars rest))
 kept_here None s rest mark at l m h = plain_here s rest l
 kept_here (Some snippet) s rest mark at l m h =
@@ -56,22 +59,24 @@ kept_here (Some snippet) s rest mark at l m h =
       in_order = ordinary-in_order us s.appended;
       enough = omega (
         arith,
-        here-enough (string_bytes snippet) (world_with (Some snippet) s) (chars mark) at h,
+        here-enough (string_bytes snippet) (world_with (Some snippet) s) (chars mark) at.byte h.0,
         ap length k.whole,
         length-append k.pre (chars rest),
       );
     }
 
-pub spot-places : (s : Source) (rest mark : List ℕ) (at : ℕ) → IsSpot s rest mark at → HasPlaces (seen_world s) (length (chars rest))
+pub spot-places : (s : Source) (rest mark : List ℕ) (at : Look) → IsSpot s rest mark at → HasPlaces (seen_world s) (length (chars rest))
 spot-places s rest mark at h = kept_here s.kept s rest mark at h.is_left h.is_after h.is_placed
 
--- What the first of the last n characters starts behind, they all do.
-pub start_behind : (w : World) (n byte : ℕ) → HasPlaces w n → byte < (place_at w n).0 → StartBehind byte w n
-start_behind w n byte h first k some within = by_order (cases_lt k n)
-  where
-    by_order : (k < n) ⊎ (n ≤ k) → byte < (place_at w k).0
-    by_order (inr no_later) = let same : k ≡ n = omega arith in rw same first
-    by_order (inl later) =
-        let order : (place_at w n).1 ≤ (place_at w k).0 = place-before h.from w n k h.in_order some later h.enough in
-        let bytes : (place_at w n).0 < (place_at w n).1 = place-bytes h.from w n h.in_order (omega arith) h.enough in
-        omega arith
+-- What the first of the last n characters does not start in front of, all after it start behind,
+pub start_from : (w : World) (n byte : ℕ) → HasPlaces w n → byte ≤ (place_at w n).0 → (k : ℕ) → 0 < k → k < n → byte < (place_at w k).0
+start_from w n byte h first k some later =
+    let order : (place_at w n).1 ≤ (place_at w k).0 = place-before h.from w n k h.in_order some later h.enough in
+    let bytes : (place_at w n).0 < (place_at w n).1 = place-bytes h.from w n h.in_order (omega arith) h.enough in
+    omega arith
+
+-- so behind a first one that is past the indent, nothing is at the very start of the line.
+pub past_indent : (w : World) (t : Text) (c byte : ℕ) → HasPlaces w (length t) → first t ≡ Some c → byte ≤ (place_at w (length t)).0 →
+    (is_whitespace c ≡ true → byte < (place_at w (length t)).0) → IsPastIndent c byte w t
+past_indent w [] c byte h e first white = absurd (none-some c e)
+past_indent w (d ∷ t) c byte h e first white = (white, λ k some within. start_from w (length (d ∷ t)) byte h first k some (omega arith))

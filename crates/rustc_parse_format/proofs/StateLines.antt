@@ -1,7 +1,7 @@
 -- What a call does to the lines of a parser where it reads no text, and at the end.
-use Rattle.std.proofs.Common.{◌≡◌, ◌≢◌, ℕ, ◌++◌, ◌&&◌, Bool, true, false, List, [], ◌∷◌, map, IsNone, length, length-append, arith, refl, ap, sym, ◌∙◌}
+use Rattle.std.proofs.Common.{◌≡◌, ◌≢◌, ℕ, ◌++◌, ◌&&◌, Bool, true, false, List, [], ◌∷◌, length, length-append, arith, refl, ap, sym, ◌∙◌}
 use Rattle.std.proofs.Common.{Option, Some, None}
-use Rattle.std.specs.Prelude.{if◌then◌else◌, option_map}
+use Rattle.std.specs.Prelude.{if◌then◌else◌}
 use Rattle.std.proofs.lemmas.Bool.{cond-true, cond-false}
 use Rattle.std.proofs.lemmas.List.{nil_from_length}
 use Rattle.std.proofs.lemmas.List.{append-nil}
@@ -77,11 +77,3 @@ nothing_found s old k some none world start n closes =
     sym (not_last s s.rest (s.line_spans ++ (lines_in s.world s.line_start k.texts).1) refl some) ∙ n.1 in
     let no_line : (lines_in s.world s.line_start k.texts).1 ≡ [] = nothing_appended s.line_spans _ kept in
     rw (none.0, none.1, none.2, world, start, n.0.1, no_line, closes, closed_in-none s.world) (refl, refl, refl)
-
-pub map_nil : {A B : Type 0} (f : A → B) (xs : List A) → map f xs ≡ [] → xs ≡ []
-map_nil f [] e = refl
-map_nil f (x ∷ xs) e = absurd cc
-
-pub map_none : {A B : Type 0} (f : A → B) (o : Option A) → option_map f o ≡ None → IsNone o
-map_none f None e = refl
-map_none f (Some x) e = absurd cc

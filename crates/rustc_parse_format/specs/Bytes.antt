@@ -1,5 +1,5 @@
 -- How the bytes of a text and of a rest of it go together, and fronts of a text by its bytes.
-use Rattle.std.specs.Prelude.{◌≡◌, ◌-◌, ◌≤◌, ℕ, Bool, true, false, List, length, take, drop}
+use Rattle.std.specs.Prelude.{◌≡◌, ◌-◌, ◌≤◌, ◌==◌, ◌||◌, ℕ, Bool, not, true, false, List, length, take, drop}
 use Rattle.std.specs.List.{list_all}
 use Rattle.std.specs.Str.{is_utf8}
 use Rattle.rustc_parse_format.specs.Characters.{first_passes}
@@ -27,3 +27,7 @@ pub record IsSharedFront (p : ℕ → Bool) (bytes others : List ℕ) (n : ℕ) 
   pub within_others : n ≤ length others
   pub same : take n bytes ≡ take n others
   pub pass : list_all p (take n bytes) ≡ true
+
+-- the byte is none of the three
+abbrev pub is_none_of : (a b c : ℕ) → ℕ → Bool
+is_none_of a b c x = not ((x == a || x == b) || x == c)

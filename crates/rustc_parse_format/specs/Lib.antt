@@ -17,6 +17,8 @@ pub mod Recovery
 pub mod Call
 pub mod Steps
 pub mod State
+pub mod Pieces
+pub mod Agreement
 pub mod Bytes
 pub mod Classes
 pub mod SeenFaults

@@ -1,11 +1,12 @@
 -- What contracts of readers see in the middle of a call. Only private contracts use it.
 use Prim.Native.Char.{code}
-use Rattle.std.specs.Prelude.{chars, if◌then◌else◌, ◌≡◌, ℕ, ◌++◌, List, [], ◌∷◌, length, Option, Some, None}
+use Rattle.std.specs.Prelude.{chars, if◌then◌else◌, ◌≡◌, ◌<◌, ℕ, ◌++◌, true, List, [], ◌∷◌, length, Option, Some, None}
+use Rattle.std.specs.Char.{is_whitespace}
 use Rattle.rustc_parse_format.specs.declared.source.Source.{Source}
 use Rattle.rustc_parse_format.specs.Characters.{Text, front, behind, behind_first, begins_with, is_no_brace}
 use Rattle.rustc_parse_format.specs.Marks.{Span, marked, through}
 use Rattle.rustc_parse_format.specs.Faults.{Fault}
-use Rattle.rustc_parse_format.specs.World.{World, Place, faults_in, place_at}
+use Rattle.rustc_parse_format.specs.World.{World, Place, StartBehind, faults_in, place_at}
 use Rattle.rustc_parse_format.specs.Call.{Call, unclosed_fault}
 use Rattle.rustc_parse_format.specs.Recovery.{Recovery, recovery}
 use Rattle.rustc_parse_format.specs.Types.{Mode, Argument}
@@ -77,6 +78,11 @@ noted_next c s =
 -- and read
 abbrev pub passed_next : ℕ → Midway → Midway
 passed_next c s = record (noted_next c s) { rest = behind_first s.rest }
+
+-- The next character c starts behind the start of the line, unless it is no white space, and all after it do: so no white space in
+-- the line is at its very start.
+abbrev pub IsPastIndent : ℕ → ℕ → World → Text → Type 0
+IsPastIndent c start w t = (is_whitespace c ≡ true → start < (place_at w (length t)).0) × StartBehind start w (length (behind_first t))
 
 -- the run of text at the front ends no line
 abbrev pub IsInOneLine : Midway → Type 0

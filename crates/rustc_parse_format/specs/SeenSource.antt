@@ -1,12 +1,15 @@
 -- What a contract sees of where an input stands in its source. Private contracts use it, and the views of a cursor and of a parser.
 use Prim.Native.Char.{code}
-use Rattle.std.specs.Prelude.{◌≡◌, ℕ, ◌≤◌, ◌<◌, ◌+◌, ◌^◌, ◌-◌, ◌&&◌, ◌++◌, ◌⊎◌, Bool, true, List, [], ◌∷◌, length, drop, flat_map, Option, Some, None}
+use Rattle.std.specs.Prelude.{◌≡◌, ℕ, ◌≤◌, ◌<◌, ◌+◌, ◌^◌, ◌-◌, ◌&&◌, ◌++◌, ◌==◌, ◌⊎◌, Bool, true, not, List, [], ◌∷◌, length, take, drop, flat_map}
+use Rattle.std.specs.Prelude.{Option, Some, None}
+use Rattle.std.specs.List.{list_all}
 use Rattle.std.specs.Prelude.{chars, codes}
 use Rattle.std.specs.Prelude.{string_bytes}
 use Rattle.std.specs.Str.{is_utf8}
 use Rattle.std.specs.declared.string.String.{String}
 use Rattle.std.specs.declared.alloc.Global.{Global}
 use Rattle.rustc_parse_format.specs.declared.source.Source.{Source}
+use Rattle.rustc_parse_format.specs.declared.source.Look.{Look}
 use Rattle.rustc_parse_format.specs.Characters.{Text, begins_with, behind_first, byte_length}
 use Rattle.rustc_parse_format.specs.LiteralUnits.{LiteralUnit, Continuation, spelling, value, meaning, unit_at}
 use Rattle.rustc_parse_format.specs.Literal.{IsContent, content_value, newline, ordinary_frame}
@@ -88,13 +91,26 @@ pub record IsHere (snippet : List ℕ) (w : World) (rest : Text) (at : ℕ) : Ty
   pub ending : last_stop at (content_places at units) ≡ w.end
   pub ahead : IsAhead units
 
--- the same where the snippet is kept at all
-abbrev pub IsPlaced : Option (String Global) → World → Text → ℕ → Type 0
-IsPlaced None w rest at = Unit {0}
-IsPlaced (Some snippet) w rest at = IsHere (string_bytes snippet) w rest at
+-- no backslash
+abbrev pub is_bare : ℕ → Bool
+is_bare b = not (b == code "\\")
 
--- What is left of the input of a source, and what was left where the snippet was last looked at, with the byte there.
-pub record IsSpot (s : Source) (rest mark : List ℕ) (at : ℕ) : Type 0 where
+-- From the byte `at` on n bytes are no backslash, and the closing quote comes after them: each stands there for itself.
+pub record IsBare (snippet : List ℕ) (at n : ℕ) : Type 0 where
+  pub inside : at + n < length snippet
+  pub bare : list_all is_bare (take n (drop at snippet)) ≡ true
+
+-- what a look at the snippet found
+abbrev pub IsLook : List ℕ → World → Text → Look → Type 0
+IsLook snippet w rest at = IsHere snippet w rest at.byte × IsBare snippet at.byte at.bare
+
+-- the same where the snippet is kept at all
+abbrev pub IsPlaced : Option (String Global) → World → Text → Look → Type 0
+IsPlaced None w rest at = Unit {0}
+IsPlaced (Some snippet) w rest at = IsLook (string_bytes snippet) w rest at
+
+-- What is left of the input of a source, and what was left where the snippet was last looked at, with what that look found.
+pub record IsSpot (s : Source) (rest mark : List ℕ) (at : Look) : Type 0 where
   pub is_left : IsLeft s.input.now rest
   pub is_after : IsLeft mark rest
   pub is_placed : IsPlaced s.kept (seen_world s) (chars mark) at

@@ -57,6 +57,11 @@ pub data Piece (Span : Type 0) : Type 0 where
   Lit : Text → Piece Span
   NextArgument : Argument Span → Piece Span
 
+-- text, and no placeholder
+abbrev pub IsText : {A : Type 0} → Piece A → Type 0
+IsText (Lit t) = Unit {0}
+IsText (NextArgument a) = ⊥
+
 -- the specification where nothing is asked for
 abbrev pub default_spec : {A : Type 0} → Spec A
 default_spec = record {

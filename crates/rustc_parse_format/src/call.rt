@@ -9,12 +9,12 @@ ghost use Rattle.rustc_parse_format.specs.Seen.{pair, seen, seen_argument, seen_
 ghost use Rattle.rustc_parse_format.specs.SeenFaults.{seen_fault};
 ghost use Rattle.rustc_parse_format.specs.Midway.{behind_closing, read_call};
 ghost use Rattle.rustc_parse_format.specs.Steps.{Forward, IsInWord, Paid};
-ghost use Rattle.rustc_parse_format.specs.Types.{Argument as ArgumentValue, map_argument};
+ghost use Rattle.rustc_parse_format.specs.Types.{Argument as ArgumentValue, NextArgument, default_spec, map_argument};
 ghost use Rattle.rustc_parse_format.specs.World.{number_of, piece_in, place_of};
 
 use crate::cursor::Trail;
 use crate::faults::Fault;
-use crate::placeholder::read_argument;
+use crate::placeholder::{blank_argument, read_argument};
 use crate::reader::Reader;
 use crate::recover::recover;
 use crate::types::{Argument, FormatSpec, ParseMode, Piece};
@@ -108,8 +108,36 @@ fn close<'input, L: Ledger>(
     recover(mode, argument, opening, reader, trail)
 }
 
-/// Reads the placeholder at the front.
+/// Reads the placeholder at the front into a blank argument.
 #[tactic(auto, using(crate::proofs::Steps::part_le, crate::proofs::Placeholders::placeholder_given))]
+fn read_braced<'input, L: Ledger>(
+    mode: ParseMode,
+    into: &mut Argument<'input>,
+    reader: &mut Reader<'input>,
+    trail: &mut Trail<'input, L>,
+) -> Result<(), AllocError>
+    requires blank { seen_spec into.old.format ≡ default_spec }
+    requires here { reader.old.rest ≢ [] }
+    requires steps { IsInWord reader.old.rest trail.old }
+    requires numbers { reader.old.next + length reader.old.rest < 2 ^ 64 }
+    ensures value { OnOk result (Some (NextArgument (seen_argument into.new)) ≡ option_map (piece_in reader.old.world)
+        (placeholder (seen_mode mode) reader.old.next reader.old.rest (behind_first reader.old.rest)).piece) }
+    ensures state { OnOk result (reader.new
+        ≡ read_call reader.old (placeholder (seen_mode mode) reader.old.next reader.old.rest (behind_first reader.old.rest))) }
+    ensures err { OnErr result (reader.new.source ≡ reader.old.source) }
+    ensures steps { OnOk result (Paid reader.old.rest trail.old reader.new.rest trail.new) }
+{
+    reader.cursor.settle();
+    let opening = reader.cursor.start()..reader.cursor.stop();
+    reader.cursor.advance(trail);
+    reader.cursor.settle();
+    read_argument(mode, into, reader, trail)?;
+    reader.cursor.skip_white(trail);
+    close(mode, into, opening, reader, trail)?;
+    Ok(())
+}
+
+/// Reads the placeholder at the front, in place: the argument that it gives is made before it is read.
 fn read_placeholder<'input, L: Ledger>(
     alloc: Global,
     mode: ParseMode,
@@ -126,14 +154,9 @@ fn read_placeholder<'input, L: Ledger>(
     ensures err { OnErr result (reader.new.source ≡ reader.old.source) }
     ensures steps { OnOk result (Paid reader.old.rest trail.old reader.new.rest trail.new) }
 {
-    reader.cursor.settle();
-    let opening = reader.cursor.start()..reader.cursor.stop();
-    reader.cursor.advance(trail);
-    reader.cursor.settle();
-    let argument = read_argument(mode, reader, trail)?;
-    reader.cursor.skip_white(trail);
-    close(mode, &argument, opening, reader, trail)?;
-    Ok(Piece::NextArgument(Box::new(alloc, argument)?))
+    let mut argument = Box::new(alloc, blank_argument())?;
+    read_braced(mode, &mut argument, reader, trail)?;
+    Ok(Piece::NextArgument(argument))
 }
 
 /// Reads the next piece, or None at the end and over a closing brace that closes nothing.

@@ -7,6 +7,8 @@ ghost use Rattle.rustc_parse_format.specs.Bytes.{IsFront, IsLeft, IsOfAscii};
 ghost use Rattle.rustc_parse_format.specs.Characters.{behind, behind_first, first, is_id_start, Text};
 ghost use Rattle.rustc_parse_format.specs.Classes.{passes};
 
+use crate::blocks::calm_front;
+
 /// A class of characters whose longest front is read.
 #[derive(Clone, Copy)]
 pub enum Class {
@@ -63,7 +65,18 @@ pub fn behind_first(text: &str) -> &str
 fn run_width(bytes: &[u8], class: Class) -> usize
     ensures { IsFront (passes class) bytes.now result }
 {
-    for i in 0..bytes.len() {
+    let few = bytes.len().min(2);
+    for k in 0..few {
+        if !class.passes(bytes[k] as char) {
+            return k;
+        }
+    }
+    let seen = match class {
+        Class::Text if bytes.len() >= 16 => calm_front(bytes, 1, b'{', b'}', b'}'),
+        Class::Line if bytes.len() >= 16 => calm_front(bytes, 1, b'{', b'}', b'\n'),
+        _ => few,
+    };
+    for i in seen..bytes.len() {
         if !class.passes(bytes[i] as char) {
             return i;
         }

@@ -1,8 +1,10 @@
 //! Integers, words and counts, and the sizes of a format specification that are made of them: its width and its precision.
 
-ghost use Rattle.std.specs.Prelude.{◌+◌, ◌<◌, ◌^◌, ◌≡◌, chars, IfOk, OnErr, OnOk, option_map};
+ghost use Rattle.std.specs.Prelude.{[], ◌+◌, ◌++◌, ◌<◌, ◌^◌, ◌∷◌, ◌≡◌, chars, IfOk, if◌then◌else◌, length, OnErr, OnOk, option_map};
 ghost use Rattle.rustc_parse_format.specs.Characters.{behind_digits, behind_word, digits, number, word};
 ghost use Rattle.rustc_parse_format.specs.Counts.{behind_name, count, precision, width};
+ghost use Rattle.rustc_parse_format.specs.Faults.{TooLarge};
+ghost use Rattle.rustc_parse_format.specs.Marks.{End};
 ghost use Rattle.rustc_parse_format.specs.Meaning.{count_of, count_span, precision_of, precision_span, width_of, width_span};
 ghost use Rattle.rustc_parse_format.specs.PartFaults.{argument_faults, number_faults, precision_faults, width_faults, word_faults};
 ghost use Rattle.rustc_parse_format.specs.Seen.{pair, seen_count};
@@ -10,15 +12,35 @@ ghost use Rattle.rustc_parse_format.specs.Midway.{read_to};
 ghost use Rattle.rustc_parse_format.specs.Steps.{Forward, IsFurthest, IsInWord, Paid};
 ghost use Rattle.rustc_parse_format.specs.Types.{map_count};
 ghost use Rattle.rustc_parse_format.specs.Values.{is_padded, number_after_precision};
-ghost use Rattle.rustc_parse_format.specs.World.{place_of};
+ghost use Rattle.rustc_parse_format.specs.World.{number_of, place_of};
 
 use crate::cursor::Trail;
-use crate::faults::{note_number, note_word};
+use crate::faults::{Fault, note_word};
 use crate::reader::Reader;
 use crate::types::Count;
 use std::alloc::AllocError;
 use std::ops::Range;
 use std::sync::ledger::Ledger;
+
+/// Notes digits that start at a byte, and whose number is above 65535. Their span takes in the next character.
+fn note_number<'input>(
+    reader: &mut Reader<'input>,
+    digits: &'input str,
+    over: bool,
+    start: usize,
+) -> Result<(), AllocError>
+    ensures state { OnOk result (reader.new ≡ record reader.old {
+      faults = reader.old.faults ++ (if over
+          then TooLarge (chars digits.entry.now) (start, number_of reader.old.world (End (length reader.old.rest))) ∷ [] else []);
+    }) }
+    ensures err { OnErr result (reader.new.source ≡ reader.old.source) }
+{
+    if over {
+        let fault = Fault::TooLarge(digits, start..reader.cursor.stop());
+        reader.found.push(fault)?;
+    }
+    Ok(())
+}
 
 /// Reads the integer at the front, where there is one: its number modulo 65536. One above 65535 is a fault.
 pub fn integer<'input, L: Ledger>(
@@ -32,7 +54,7 @@ pub fn integer<'input, L: Ledger>(
 {
     let start = reader.cursor.start();
     let (digits, number, over) = reader.cursor.number(trail);
-    note_number(&mut reader.found, digits, over, start..reader.cursor.stop())?;
+    note_number(reader, digits, over, start)?;
     Ok(number)
 }
 

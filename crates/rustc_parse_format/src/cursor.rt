@@ -3,7 +3,7 @@
 mod steps;
 
 use crate::characters::{Class, before, behind_first, behind_run, first, is_id_start, with_digit};
-use crate::source::{Source, Spot, byte_here};
+use crate::source::{Source, Spot, look_again};
 use std::marker::Model;
 use std::ops::Range;
 use std::sync::ledger::{Blank, Ledger};
@@ -28,18 +28,18 @@ impl<'input> Model for Cursor<'input> {
 }
 
 impl<'input> Cursor<'input> {
-    ghost use Rattle.std.specs.Prelude.{◌≡◌, ◌++◌, chars, if◌then◌else◌, IsTrue, length, nat_lt, option_map};
+    ghost use Rattle.std.specs.Prelude.{◌≡◌, ◌++◌, chars, if◌then◌else◌, IsTrue, length, option_map, Some};
     ghost use Rattle.rustc_parse_format.specs.Characters.{Text, begins_raw, begins_with, first, behind_first, behind, behind_white, word, behind_word, digits, behind_digits, number, is_id_start, is_over, first_passes};
     ghost use Rattle.std.specs.Char.{is_ascii_digit};
     ghost use Rattle.rustc_parse_format.specs.Bytes.{IsOfAscii};
     ghost use Rattle.rustc_parse_format.specs.Classes.{passes};
     ghost use Rattle.rustc_parse_format.specs.Marks.{Start, End};
     ghost use Rattle.rustc_parse_format.specs.Seen.{pair};
-    ghost use Rattle.rustc_parse_format.specs.Midway.{unread_at};
+    ghost use Rattle.rustc_parse_format.specs.Midway.{IsPastIndent, unread_at};
     ghost use Rattle.rustc_parse_format.specs.SeenSource.{IsSpot};
     ghost use Rattle.rustc_parse_format.specs.State.{first_of};
     ghost use Rattle.rustc_parse_format.specs.Steps.{Forward};
-    ghost use Rattle.rustc_parse_format.specs.World.{number_of, StartBehind};
+    ghost use Rattle.rustc_parse_format.specs.World.{number_of};
 
     /// At a spot of a source.
     pub fn new(source: Source<'input>, spot: Spot<'input>) -> Cursor<'input>
@@ -142,13 +142,13 @@ impl<'input> Cursor<'input> {
         self.source.start(&self.spot)
     }
 
-    /// A character is left, and starts behind a byte: so does each that is left.
+    /// The next character c is past the indent of a line that starts at a byte: it starts behind that, or there and is no white space.
     #[inline(always)]
-    pub fn is_behind(&self, byte: usize) -> bool
-        ensures value { result ≡ first_passes (λ c. nat_lt byte (number_of self.now.world (Start (length self.now.rest)))) self.now.rest }
-        ensures all { IsTrue result → StartBehind byte self.now.world (length self.now.rest) }
+    pub fn is_past_indent(&self, c: char, byte: usize) -> bool
+        ensures { IsTrue result → first self.now.rest ≡ Some c → IsPastIndent c byte self.now.world self.now.rest }
     {
-        first(self.spot.rest).is_some() && self.start() > byte
+        let start = self.source.start(&self.spot);
+        start > byte || start == byte && !c.is_whitespace()
     }
 
     /// Looks at the snippet, so that places from here on are counted from here. Nothing else changes.
@@ -157,12 +157,15 @@ impl<'input> Cursor<'input> {
         ensures { self.new ≡ self.old }
     {
         if let Some(snippet) = &self.source.kept {
-            let at = byte_here(snippet.as_str(), &self.spot);
-            self.spot = Spot {
-                rest: self.spot.rest,
-                mark: self.spot.rest,
-                at,
-            };
+            let moved = self.spot.mark.len() - self.spot.rest.len();
+            if moved > 0 && moved >= self.spot.at.bare {
+                let at = look_again(snippet.as_str(), &self.spot);
+                self.spot = Spot {
+                    rest: self.spot.rest,
+                    mark: self.spot.rest,
+                    at,
+                };
+            }
         }
     }
 

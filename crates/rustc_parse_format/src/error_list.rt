@@ -1,12 +1,13 @@
 //! The errors of a parser: one list that grows at both ends.
 
-ghost use Rattle.std.specs.Prelude.{◌≡◌, ◌+◌, ◌≤◌, ◌++◌, [], IfOk, IsOk, None, OnErr, OnOk, drop, length, map, reverse};
+ghost use Rattle.std.specs.Prelude.{◌≡◌, ◌+◌, ◌≤◌, ◌++◌, ◌∷◌, [], IfOk, IsOk, None, OnErr, OnOk, drop, length, map, reverse};
 ghost use Rattle.rustc_parse_format.specs.Faults.{error};
 ghost use Rattle.rustc_parse_format.specs.Seen.{seen_error};
 
 use crate::types::{ParseError, Suggestion};
 use std::alloc::{AllocError, Global};
 use std::marker::Model;
+use std::mem;
 
 /// Errors in order. The first `room` entries are free: empty errors, whose places the next errors at the front take. The
 /// list is what comes after them.
@@ -30,7 +31,7 @@ impl Model for ErrorList {
 }
 
 /// An error that says nothing, and takes no memory of its own.
-fn empty_error(alloc: Global) -> ParseError
+pub fn empty_error(alloc: Global) -> ParseError
     ensures { seen_error result ≡ error [] None [] (0, 0) None }
 {
     ParseError {
@@ -114,6 +115,38 @@ impl ErrorList {
         ensures { map seen_error result.now ≡ self.now }
     {
         &self.entries[self.room..]
+    }
+
+    /// Takes the errors out, in order, and leaves none. Takes no memory.
+    pub fn take(&mut self, alloc: Global) -> Vec<ParseError>
+        ensures value { map seen_error result.items ≡ self.old }
+        ensures state { self.new ≡ [] }
+    {
+        let mut errors = mem::replace(&mut self.entries, Vec::new(alloc));
+        errors.drain(..self.room);
+        self.room = 0;
+        errors
+    }
+
+    /// Adds an error in front, or nothing where memory is refused.
+    pub fn add_front(&mut self, alloc: Global, error: ParseError) -> Result<(), AllocError>
+        ensures ok { OnOk result (self.new ≡ seen_error error ∷ self.old) }
+        ensures err { OnErr result (self.new ≡ self.old) }
+    {
+        self.room = make_room(alloc, &mut self.entries, self.room, 1)?;
+        self.room -= 1;
+        self.entries[self.room] = error;
+        Ok(())
+    }
+
+    /// Adds an error at the back, or nothing where memory is refused.
+    #[tactic(auto, using(crate::proofs::Errors::list_ends))]
+    pub fn add_back(&mut self, error: ParseError) -> Result<(), AllocError>
+        ensures ok { OnOk result (self.new ≡ self.old ++ seen_error error ∷ []) }
+        ensures err { OnErr result (self.new ≡ self.old) }
+    {
+        self.entries.push(error)?;
+        Ok(())
     }
 
     /// Adds errors at both ends: those of the front one at a time, so that the last of them is the first of the list, and

@@ -1,17 +1,18 @@
 //! Faults as they are found, and the errors that they become.
 
-ghost use Rattle.std.specs.Prelude.{◌≡◌, ◌++◌, ◌∷◌, [], IfOk, IsOk, option_map, OnOk, OnErr, bytes_eq, chars, codes, encode_utf8_all, map, not, string_bytes, if◌then◌else◌};
+ghost use Rattle.std.specs.Prelude.{◌≡◌, ◌++◌, ◌∷◌, [], IfOk, IsOk, None, OnErr, OnOk, Some, bytes_eq, chars, codes, encode_utf8_all, map, not, string_bytes, if◌then◌else◌};
 ghost use Rattle.std.specs.List.{filter};
-ghost use Rattle.rustc_parse_format.specs.Faults.{TooLarge, Underscore, add_errors, align_after, debug_after, error, expected, is_front, local_variable, message, out_of_range, suggesting};
+ghost use Rattle.rustc_parse_format.specs.Faults.{Underscore, add_errors, align_after, debug_after, error, expected, is_front, local_variable, message, out_of_range};
 ghost use Rattle.rustc_parse_format.specs.Written.{written};
-ghost use Rattle.rustc_parse_format.specs.Seen.{pair, seen_error, seen_suggestion};
+ghost use Rattle.rustc_parse_format.specs.Seen.{pair, seen_error};
 ghost use Rattle.rustc_parse_format.specs.SeenFaults.{seen_fault};
 
 use crate::characters::is_underscore;
-use crate::error_list::ErrorList;
+use crate::error_list::{ErrorList, empty_error};
 use crate::types::{ParseError, Suggestion};
 use crate::written::put_written;
 use std::alloc::{AllocError, Global};
+use std::mem;
 use std::ops::Range;
 
 /// A fault, as plain data.
@@ -60,22 +61,6 @@ pub fn note_word<'input>(
 {
     if is_underscore(word) {
         found.push(Fault::Underscore(span))?;
-    }
-    Ok(())
-}
-
-/// Notes digits whose number is above 65535.
-pub fn note_number<'input>(
-    found: &mut Vec<Fault<'input>>,
-    digits: &'input str,
-    over: bool,
-    span: Range<usize>,
-) -> Result<(), AllocError>
-    ensures { OnOk result (map seen_fault found.new.items ≡ map seen_fault found.old.items
-        ++ (if over then TooLarge (chars digits.entry.now) (pair span) ∷ [] else [])) }
-{
-    if over {
-        found.push(Fault::TooLarge(digits, span))?;
     }
     Ok(())
 }
@@ -130,214 +115,210 @@ fn align_after(alloc: Global, sign: char) -> Result<String, AllocError>
     format!(in alloc; "expected `{sign}` to occur after `:`")
 }
 
-/// An error with these texts and spans.
-fn error(
+/// Writes the description of an error.
+fn describe(alloc: Global, into: &mut ParseError, text: &str) -> Result<(), AllocError>
+    ensures { OnOk result (seen_error into.new ≡ record (seen_error into.old) { description = text.now }) }
+{
+    into.description = String::from_str(alloc, text)?;
+    Ok(())
+}
+
+/// Writes the note of an error.
+fn remark(alloc: Global, into: &mut ParseError, text: &str) -> Result<(), AllocError>
+    ensures { OnOk result (seen_error into.new ≡ record (seen_error into.old) { note = Some text.now }) }
+{
+    into.note = Some(String::from_str(alloc, text)?);
+    Ok(())
+}
+
+/// Writes where an error is, and what is there.
+fn show(
     alloc: Global,
-    description: String,
-    note: Option<&str>,
-    label: &str,
+    into: &mut ParseError,
+    text: &str,
     span: Range<usize>,
-    second: Option<(&str, Range<usize>)>,
-) -> Result<ParseError, AllocError>
-    ensures { IfOk result (λ e. seen_error e ≡ error (string_bytes description) (option_map (λ s. s.now) note.entry)
-        label.entry.now (pair span) (option_map (λ x. (x.0.now, pair x.1)) second.entry)) }
+) -> Result<(), AllocError>
+    ensures { OnOk result (seen_error into.new ≡ record (seen_error into.old) { label = text.now; span = pair span }) }
 {
-    let note = match note {
-        Some(text) => Some(String::from_str(alloc, text)?),
-        None => None,
-    };
-    let secondary_label = match second {
-        Some((text, place)) => Some((String::from_str(alloc, text)?, place)),
-        None => None,
-    };
-    Ok(ParseError {
-        description,
-        note,
-        label: String::from_str(alloc, label)?,
-        span,
-        secondary_label,
-        suggestion: Suggestion::None,
-    })
+    into.label = String::from_str(alloc, text)?;
+    into.span = span;
+    Ok(())
 }
 
-/// The same error, with a suggestion.
-fn suggesting(suggestion: Suggestion, error: ParseError) -> ParseError
-    ensures { seen_error result ≡ suggesting (seen_suggestion suggestion) (seen_error error) }
-{
-    let mut error = error;
-    error.suggestion = suggestion;
-    error
-}
-
-/// The error of a field.
-fn local_variable(
+/// Writes what another span of an error shows.
+fn show_second(
     alloc: Global,
+    into: &mut ParseError,
+    text: &str,
+    span: Range<usize>,
+) -> Result<(), AllocError>
+    ensures { OnOk result (seen_error into.new ≡ record (seen_error into.old) { second = Some (text.now, pair span) }) }
+{
+    into.secondary_label = Some((String::from_str(alloc, text)?, span));
+    Ok(())
+}
+
+/// Writes the error of a field.
+fn tell_field(
+    alloc: Global,
+    into: &mut ParseError,
     description: &str,
     span: Range<usize>,
-) -> Result<ParseError, AllocError>
-    ensures { IfOk result (λ e. seen_error e ≡ local_variable description.now (pair span)) }
+) -> Result<(), AllocError>
+    requires { seen_error into.old ≡ error [] None [] (0, 0) None }
+    ensures { OnOk result (seen_error into.new ≡ local_variable description.now (pair span)) }
 {
-    Ok(suggesting(
-        Suggestion::UsePositional,
-        error(
-            alloc,
-            String::from_str(alloc, description)?,
-            Some(
-                "consider moving this expression to a local variable and then using the local here instead",
-            ),
-            "not supported",
-            span,
-            None,
-        )?,
-    ))
+    into.suggestion = Suggestion::UsePositional;
+    describe(alloc, into, description)?;
+    remark(
+        alloc,
+        into,
+        "consider moving this expression to a local variable and then using the local here instead",
+    )?;
+    show(alloc, into, "not supported", span)
 }
 
-/// The error that a fault becomes: a row for each.
+/// Writes the error that a fault becomes into an empty one: a row for each.
 #[tactic(auto, unfolding(crate::specs::Faults::message))]
+fn tell(alloc: Global, into: &mut ParseError, fault: Fault<'_>) -> Result<(), AllocError>
+    requires { seen_error into.old ≡ error [] None [] (0, 0) None }
+    ensures { OnOk result (seen_error into.new ≡ message (seen_fault fault.entry)) }
+{
+    match fault {
+        Fault::UnmatchedBrace(span) => {
+            describe(alloc, into, "unmatched `}` found")?;
+            remark(
+                alloc,
+                into,
+                "if you intended to print `}`, you can escape it using `}}`",
+            )?;
+            show(alloc, into, "unmatched `}`", span)
+        }
+        Fault::MissingBrace(found, span, opening) => {
+            into.description = expected_brace(alloc, found)?;
+            remark(
+                alloc,
+                into,
+                "if you intended to print `{`, you can escape it using `{{`",
+            )?;
+            show(alloc, into, "expected `}`", span)?;
+            show_second(alloc, into, "because of this opening brace", opening)
+        }
+        Fault::FillBrace(found, span, fill) => {
+            into.description = expected_brace(alloc, found)?;
+            remark(
+                alloc,
+                into,
+                "the character `}` is interpreted as a fill character because of the `:` that precedes it",
+            )?;
+            show(alloc, into, "expected `}`", span)?;
+            show_second(
+                alloc,
+                into,
+                "this is not interpreted as a formatting closing brace",
+                fill,
+            )
+        }
+        Fault::Underscore(span) => {
+            describe(alloc, into, "invalid argument name `_`")?;
+            remark(alloc, into, "argument name cannot be a single underscore")?;
+            show(alloc, into, "invalid argument name", span)
+        }
+        Fault::TooLarge(digits, span) => {
+            into.description = out_of_range(alloc, digits)?;
+            show(alloc, into, "integer out of range for `u16`", span)
+        }
+        Fault::RawIdentifier(span, prefix) => {
+            into.suggestion = Suggestion::RemoveRawIdent(prefix);
+            describe(alloc, into, "raw identifiers are not supported")?;
+            remark(
+                alloc,
+                into,
+                "identifiers in format strings can be keywords and don't need to be prefixed with `r#`",
+            )?;
+            show(alloc, into, "raw identifier used here", span)
+        }
+        Fault::LateFlag(flag, span, both) => {
+            into.suggestion = Suggestion::ReorderFormatParameter(both, flagged_type(alloc, flag)?);
+            into.description = expected_brace(alloc, Some(flag))?;
+            show(alloc, into, "expected `'}'`", span)
+        }
+        Fault::MissingColon(span) => {
+            into.suggestion = Suggestion::AddMissingColon(span.start..span.end);
+            describe(alloc, into, "expected `}`, found `?`")?;
+            remark(alloc, into, "to print `{`, you can escape it using `{{`")?;
+            show(
+                alloc,
+                into,
+                "expected `:` before `?` to format with `Debug`",
+                span,
+            )
+        }
+        Fault::LateDebug(word, span) => {
+            describe(alloc, into, "expected format parameter to occur after `:`")?;
+            into.note = Some(debug_after(alloc, word)?);
+            show(alloc, into, "expected `?` to occur after `:`", span)
+        }
+        Fault::LateAlign(sign, span) => {
+            describe(
+                alloc,
+                into,
+                "expected alignment specifier after `:` in format string; example: `{:>?}`",
+            )?;
+            into.label = align_after(alloc, sign)?;
+            into.span = span;
+            Ok(())
+        }
+        Fault::Grouping(span, opening) => {
+            describe(
+                alloc,
+                into,
+                "python's numeric grouping `,` is not supported in rust format strings",
+            )?;
+            remark(alloc, into, "to print `{`, you can escape it using `{{`")?;
+            show(alloc, into, "expected `}`", span)?;
+            show_second(alloc, into, "because of this opening brace", opening)
+        }
+        Fault::DebugPrint(span, opening) => {
+            into.suggestion = Suggestion::UseRustDebugPrintingMacro;
+            describe(
+                alloc,
+                into,
+                "python's f-string debug `=` is not supported in rust, use `dbg(x)` instead",
+            )?;
+            remark(alloc, into, "to print `{`, you can escape it using `{{`")?;
+            show(alloc, into, "expected `}`", span)?;
+            show_second(alloc, into, "because of this opening brace", opening)
+        }
+        Fault::LateSign(span) => {
+            describe(
+                alloc,
+                into,
+                "the `+` sign flag must appear after `:` in a format string",
+            )?;
+            remark(
+                alloc,
+                into,
+                "`+` comes after `:`, try `{:+}` instead of `{+}`",
+            )?;
+            show(alloc, into, "expected `:` before `+` sign flag", span)
+        }
+        Fault::FieldAccess(span) => {
+            tell_field(alloc, into, "field access isn't supported", span)
+        }
+        Fault::TupleIndex(span) => {
+            tell_field(alloc, into, "tuple index access isn't supported", span)
+        }
+    }
+}
+
+/// The error that a fault becomes.
 fn error_of(alloc: Global, fault: Fault<'_>) -> Result<ParseError, AllocError>
     ensures { IfOk result (λ e. seen_error e ≡ message (seen_fault fault.entry)) }
 {
-    match fault {
-        Fault::UnmatchedBrace(span) => error(
-            alloc,
-            String::from_str(alloc, "unmatched `}` found")?,
-            Some("if you intended to print `}`, you can escape it using `}}`"),
-            "unmatched `}`",
-            span,
-            None,
-        ),
-        Fault::MissingBrace(found, span, opening) => error(
-            alloc,
-            expected_brace(alloc, found)?,
-            Some("if you intended to print `{`, you can escape it using `{{`"),
-            "expected `}`",
-            span,
-            Some(("because of this opening brace", opening)),
-        ),
-        Fault::FillBrace(found, span, fill) => error(
-            alloc,
-            expected_brace(alloc, found)?,
-            Some(
-                "the character `}` is interpreted as a fill character because of the `:` that precedes it",
-            ),
-            "expected `}`",
-            span,
-            Some((
-                "this is not interpreted as a formatting closing brace",
-                fill,
-            )),
-        ),
-        Fault::Underscore(span) => error(
-            alloc,
-            String::from_str(alloc, "invalid argument name `_`")?,
-            Some("argument name cannot be a single underscore"),
-            "invalid argument name",
-            span,
-            None,
-        ),
-        Fault::TooLarge(digits, span) => error(
-            alloc,
-            out_of_range(alloc, digits)?,
-            None,
-            "integer out of range for `u16`",
-            span,
-            None,
-        ),
-        Fault::RawIdentifier(span, prefix) => Ok(suggesting(
-            Suggestion::RemoveRawIdent(prefix),
-            error(
-                alloc,
-                String::from_str(alloc, "raw identifiers are not supported")?,
-                Some(
-                    "identifiers in format strings can be keywords and don't need to be prefixed with `r#`",
-                ),
-                "raw identifier used here",
-                span,
-                None,
-            )?,
-        )),
-        Fault::LateFlag(flag, span, both) => Ok(suggesting(
-            Suggestion::ReorderFormatParameter(both, flagged_type(alloc, flag)?),
-            error(
-                alloc,
-                expected_brace(alloc, Some(flag))?,
-                None,
-                "expected `'}'`",
-                span,
-                None,
-            )?,
-        )),
-        Fault::MissingColon(span) => Ok(suggesting(
-            Suggestion::AddMissingColon(span.start..span.end),
-            error(
-                alloc,
-                String::from_str(alloc, "expected `}`, found `?`")?,
-                Some("to print `{`, you can escape it using `{{`"),
-                "expected `:` before `?` to format with `Debug`",
-                span,
-                None,
-            )?,
-        )),
-        Fault::LateDebug(word, span) => error(
-            alloc,
-            String::from_str(alloc, "expected format parameter to occur after `:`")?,
-            Some(debug_after(alloc, word)?.as_str()),
-            "expected `?` to occur after `:`",
-            span,
-            None,
-        ),
-        Fault::LateAlign(sign, span) => error(
-            alloc,
-            String::from_str(
-                alloc,
-                "expected alignment specifier after `:` in format string; example: `{:>?}`",
-            )?,
-            None,
-            align_after(alloc, sign)?.as_str(),
-            span,
-            None,
-        ),
-        Fault::Grouping(span, opening) => error(
-            alloc,
-            String::from_str(
-                alloc,
-                "python's numeric grouping `,` is not supported in rust format strings",
-            )?,
-            Some("to print `{`, you can escape it using `{{`"),
-            "expected `}`",
-            span,
-            Some(("because of this opening brace", opening)),
-        ),
-        Fault::DebugPrint(span, opening) => Ok(suggesting(
-            Suggestion::UseRustDebugPrintingMacro,
-            error(
-                alloc,
-                String::from_str(
-                    alloc,
-                    "python's f-string debug `=` is not supported in rust, use `dbg(x)` instead",
-                )?,
-                Some("to print `{`, you can escape it using `{{`"),
-                "expected `}`",
-                span,
-                Some(("because of this opening brace", opening)),
-            )?,
-        )),
-        Fault::LateSign(span) => error(
-            alloc,
-            String::from_str(
-                alloc,
-                "the `+` sign flag must appear after `:` in a format string",
-            )?,
-            Some("`+` comes after `:`, try `{:+}` instead of `{+}`"),
-            "expected `:` before `+` sign flag",
-            span,
-            None,
-        ),
-        Fault::FieldAccess(span) => local_variable(alloc, "field access isn't supported", span),
-        Fault::TupleIndex(span) => {
-            local_variable(alloc, "tuple index access isn't supported", span)
-        }
-    }
+    let mut error = empty_error(alloc);
+    tell(alloc, &mut error, fault)?;
+    Ok(error)
 }
 
 impl Fault<'_> {
@@ -386,20 +367,40 @@ fn errors_of(
     Ok((front, back))
 }
 
-/// Adds the faults to the errors: all of them, or none where memory is refused.
+/// Adds the error of one fault, or nothing where memory is refused.
+fn add_error(alloc: Global, errors: &mut ErrorList, fault: Fault<'_>) -> Result<(), AllocError>
+    ensures ok { OnOk result (errors.new ≡ add_errors errors.old (seen_fault fault.entry ∷ [])) }
+    ensures err { OnErr result (errors.new ≡ errors.old) }
+{
+    let is_front = fault.is_front();
+    let mut error = empty_error(alloc);
+    tell(alloc, &mut error, fault)?;
+    if is_front {
+        errors.add_front(alloc, error)
+    } else {
+        errors.add_back(error)
+    }
+}
+
+/// Adds the faults to the errors, and takes them: all of them, or none where memory is refused. Of one fault, which is
+/// what a call mostly finds, the error is added as it is made.
 #[tactic(auto, using(crate::proofs::Errors::error_ends))]
 pub fn add_errors(
     alloc: Global,
     errors: &mut ErrorList,
-    found: Vec<Fault<'_>>,
+    found: &mut Vec<Fault<'_>>,
 ) -> Result<(), AllocError>
-    ensures ok { OnOk result (errors.new ≡ add_errors errors.old (map seen_fault found.entry.items)) }
+    ensures ok { OnOk result (errors.new ≡ add_errors errors.old (map seen_fault found.old.items)) }
+    ensures taken { OnOk result (found.new.items ≡ []) }
     ensures err { OnErr result (errors.new ≡ errors.old) }
-    ensures none { found.entry.items ≡ [] → IsOk result }
+    ensures none { found.old.items ≡ [] → IsOk result }
 {
     if found.is_empty() {
         return Ok(());
     }
-    let (front, back) = errors_of(alloc, found)?;
+    if found.len() == 1 {
+        return add_error(alloc, errors, found.take_last());
+    }
+    let (front, back) = errors_of(alloc, mem::replace(found, Vec::new(alloc)))?;
     errors.add(alloc, front, back)
 }

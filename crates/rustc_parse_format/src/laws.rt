@@ -173,7 +173,9 @@ pub fn default_of_spec<'input>() -> FormatSpec<'input>
 }
 
 /// A clone of a placeholder is made, and is its source.
-fn clone_of_argument<'input>(argument: &Argument<'input>) -> Result<Argument<'input>, AllocError>
+pub fn clone_of_argument<'input>(
+    argument: &Argument<'input>,
+) -> Result<Argument<'input>, AllocError>
     ensures { IsOkAnd result (λ a. a ≡ argument.now) }
 {
     argument.clone()

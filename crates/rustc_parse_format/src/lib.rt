@@ -1,6 +1,7 @@
 //! The parser by which the Rust compiler reads format strings, inline assembly templates and diagnostic texts.
 #![tactic(auto)]
 
+mod blocks;
 mod call;
 mod characters;
 mod counts;
@@ -11,6 +12,7 @@ mod laws;
 mod lists;
 pub mod literal;
 mod parser;
+mod pieces;
 mod placeholder;
 mod reader;
 mod reading;
@@ -23,6 +25,7 @@ mod written;
 
 pub use cursor::StepCount;
 pub use parser::Parser;
+pub use pieces::Pieces;
 pub use reading::{read_all, steps_are_few};
 pub use types::Alignment::{AlignCenter, AlignLeft, AlignRight, AlignUnknown};
 pub use types::Count::{CountImplied, CountIs, CountIsName, CountIsParam, CountIsStar};

@@ -47,20 +47,21 @@ impl Lists {
         if reader.has_found_nothing() {
             return Ok(());
         }
-        let found = reader.take_faults(alloc);
         let closed = reader.take_closed();
-        self.add(alloc, found, &mut reader.lines, closed)
+        self.add(alloc, &mut reader.found, &mut reader.lines, closed)
     }
 
-    /// Adds errors, lines, which are taken, and a place: all of it, or nothing where memory is refused.
+    /// Adds the errors of faults and lines, which are both taken, and a place: all of it, or nothing where memory is refused.
+    #[inline(never)]
     fn add(
         &mut self,
         alloc: Global,
-        found: Vec<Fault<'_>>,
+        found: &mut Vec<Fault<'_>>,
         lines: &mut Vec<Range<usize>>,
         closed: Option<Range<usize>>,
     ) -> Result<(), AllocError>
-        ensures errors { OnOk result (self.new.errors ≡ add_errors self.old.errors (map seen_fault found.entry.items)) }
+        ensures errors { OnOk result ((self.new.errors ≡ add_errors self.old.errors (map seen_fault found.old.items))
+            × (found.new.items ≡ [])) }
         ensures places { OnOk result (map pair self.new.arg_places.items ≡ map pair self.old.arg_places.items ++ listed (option_map pair closed)) }
         ensures lines { OnOk result ((map pair self.new.line_spans.items ≡ map pair self.old.line_spans.items ++ map pair lines.old.items)
             × (lines.new.items ≡ [])) }

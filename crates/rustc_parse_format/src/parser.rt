@@ -6,7 +6,7 @@ use crate::lists::{Lists, ends_with};
 use crate::reader::Reader;
 use crate::source::Spot;
 use crate::types::{ParseError, ParseMode, Piece};
-use crate::world::{first_byte, quote_offset, source_of};
+use crate::world::{first_look, quote_offset, source_of};
 use std::alloc::{AllocError, Global};
 use std::marker::{Brand, Model};
 use std::ops::Range;
@@ -47,6 +47,7 @@ impl<'input> Model for Parser<'input> {
 
 impl<'input> Parser<'input> {
     ghost use Rattle.std.specs.Prelude.{◌≡◌, ◌≢◌, ◌+◌, ◌<◌, ◌≤◌, ◌^◌, ◌↔◌, ◌++◌, [], ℕ, Bool, true, false, List, Option, IfOk, IsNone, IsOk, IsTrue, OnErr, OnOk, chars, length, map, option_map};
+    ghost use Rattle.rustc_parse_format.specs.Agreement.{Agree};
     ghost use Rattle.rustc_parse_format.specs.Characters.{Text, behind_first};
     ghost use Rattle.rustc_parse_format.specs.Faults.{Keeps, add_errors, bare_fault, bare_message};
     ghost use Rattle.rustc_parse_format.specs.Lines.{IsLines, listed, noted};
@@ -57,7 +58,7 @@ impl<'input> Parser<'input> {
     ghost use Rattle.rustc_parse_format.specs.Seen.{pair, seen, seen_error, seen_mode, seen_snippet};
     ghost use Rattle.rustc_parse_format.specs.Literal.{IsSource};
     ghost use Rattle.rustc_parse_format.specs.Source.{HasSource};
-    ghost use Rattle.rustc_parse_format.specs.State.{ComesFrom, GivesPiece, after, first_of, first_state, last_lines, next_call};
+    ghost use Rattle.rustc_parse_format.specs.State.{ComesFrom, GivesPiece, State, after, first_of, first_state, last_lines, next_call};
     ghost use Rattle.rustc_parse_format.specs.Spelling.{IsPart};
     ghost use Rattle.rustc_parse_format.specs.State.{NeedsNoMemory};
     ghost use Rattle.rustc_parse_format.specs.Steps.{IsInWord, Paid};
@@ -85,12 +86,15 @@ impl<'input> Parser<'input> {
             ↔ HasSource (chars input.now) style (seen_snippet snippet) appended_newline) }
         ensures lies_inside { IfOk result (λ p. (source : Text) → seen_snippet snippet ≡ Some source
             → IsSource (chars input.now) style source appended_newline → LiesInside source appended_newline p) }
+        ensures agrees { IfOk result (λ p. (s : Option ℕ) (source : Option Text) (appended : Bool)
+            → Agree p (first_state (seen_mode mode) (chars input.now) s source appended)) }
+        ensures short { IfOk result (λ p. length p.rest ≤ length input.now) }
     {
         let source = source_of(input, style, snippet, appended_newline);
         let spot = Spot {
             rest: input,
             mark: input,
-            at: first_byte(&source),
+            at: first_look(&source),
         };
         let cursor = Cursor::new(source, spot);
         Ok(Parser {
@@ -229,6 +233,10 @@ impl<'input> Parser<'input> {
         ensures worlds { IfOk result (λ p. (option_map bare (option_map seen p) ≡ option_map bare (next_call self.old).piece)
             × (map bare_message self.new.errors ≡ add_errors (map bare_message self.old.errors) (map bare_fault (next_call self.old).faults))) }
 
+        // So a parser in another world that agrees with this one gives the same piece, and agrees with it then.
+        ensures agrees { IfOk result (λ p. (other : State) → Agree self.old other
+            → (option_map bare (option_map seen p) ≡ option_map bare (next_call other).piece) × Agree self.new (after other (next_call other))) }
+
         // In a source literal each span reads back to the characters that it was read from, and lies inside the snippet.
         ensures reads_back { (style : Option ℕ) (snippet : Text) (appended : Bool) → ComesFrom self.old style snippet appended
             → AllSpans (λ s. ReadsBack self.old.input style snippet appended s (place_of self.old.world s)) (next_call self.old) }
@@ -250,6 +258,7 @@ impl<'input> Parser<'input> {
         // It moves on, and takes no more numbers than characters.
         ensures progress { OnOk result (self.old.rest ≢ [] → length self.new.rest < length self.old.rest) }
         ensures numbers { OnOk result (self.new.next + length self.new.rest ≤ self.old.next + length self.old.rest) }
+        ensures short { length self.new.rest ≤ length self.old.rest }
     {
         self.reads_its_input();
         self.next_uncounted::<Brand>(Blank::new(3))
@@ -300,10 +309,33 @@ impl<'input> Parser<'input> {
         self.reader.cursor.is_source_literal()
     }
 
-    /// The number that the next implicit argument takes.
-    pub fn curarg(&self) -> usize
-        ensures { result ≡ self.now.next }
+    /// Takes the errors of all calls so far out, in their order, and leaves none. Takes no memory.
+    pub fn take_errors(&mut self) -> Vec<ParseError>
+        ensures errors { map seen_error result.items ≡ self.old.errors }
+        ensures state { self.new ≡ record self.old { errors = [] } }
+        ensures agrees { (other : State) → Agree self.old other → Agree self.new (record other { errors = [] }) }
     {
+        self.lists.errors.take(self.alloc)
+    }
+
+    /// The number that the next implicit argument takes. It and the characters that are left together fit `usize`; and no more
+    /// characters are left than the input has.
+    pub fn curarg(&self) -> usize
+        ensures value { result ≡ self.now.next }
+        ensures fits { result + length self.now.rest < 2 ^ 64 }
+        ensures short { length self.now.rest ≤ length self.now.input }
+    {
+        self.reads_its_input();
         self.reader.curarg
+    }
+
+    /// Sets the number that the next implicit argument takes. This number and the characters that are left together must
+    /// fit `usize`; they do where the number and the bytes of the input do.
+    pub fn set_curarg(&mut self, number: usize)
+        requires { number + length self.old.rest < 2 ^ 64 }
+        ensures state { self.new ≡ record self.old { next = number } }
+        ensures agrees { (other : State) → Agree self.old other → Agree self.new (record other { next = number }) }
+    {
+        self.reader.curarg = number;
     }
 }

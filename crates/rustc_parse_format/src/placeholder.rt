@@ -6,16 +6,17 @@ ghost use Rattle.rustc_parse_format.specs.Characters.{behind_prefix, behind_word
 ghost use Rattle.rustc_parse_format.specs.Meaning.{argument};
 ghost use Rattle.rustc_parse_format.specs.PartFaults.{cut_faults, position_faults, raw_faults};
 ghost use Rattle.rustc_parse_format.specs.Placeholder.{cut, position};
-ghost use Rattle.rustc_parse_format.specs.Seen.{seen_argument, seen_mode, seen_position};
+ghost use Rattle.rustc_parse_format.specs.Seen.{seen_argument, seen_mode, seen_position, seen_spec};
 ghost use Rattle.rustc_parse_format.specs.Midway.{read_texts, read_to};
 ghost use Rattle.rustc_parse_format.specs.Steps.{Forward, IsInWord, Paid};
-ghost use Rattle.rustc_parse_format.specs.Types.{Implicit, map_argument};
+ghost use Rattle.rustc_parse_format.specs.Types.{Implicit, default_spec, map_argument};
 ghost use Rattle.rustc_parse_format.specs.Values.{given_position, number_after_field};
 ghost use Rattle.rustc_parse_format.specs.World.{place_of};
 
 use crate::counts::{integer, word};
 use crate::cursor::Trail;
 use crate::faults::Fault;
+use crate::laws::default_of_spec;
 use crate::reader::Reader;
 use crate::specification::specification;
 use crate::types::{Argument, ParseMode, Position};
@@ -87,16 +88,29 @@ fn position_of<'input>(
     }
 }
 
-/// Reads a position, white space and a specification.
+/// An argument before it is read.
+pub fn blank_argument<'input>() -> Argument<'input>
+    ensures { seen_spec result.format ≡ default_spec }
+{
+    Argument {
+        position: Position::ArgumentImplicitlyIs(0),
+        position_span: 0..0,
+        format: default_of_spec(),
+    }
+}
+
+/// Reads a position, white space and a specification into a blank argument.
 #[tactic(auto, using(crate::proofs::Steps::part_le), unfolding(crate::specs::Placeholder::cut, crate::specs::Meaning::argument, crate::specs::Values::number_after_field, crate::specs::PartFaults::cut_faults))]
 pub fn read_argument<'input, L: Ledger>(
     mode: ParseMode,
+    into: &mut Argument<'input>,
     reader: &mut Reader<'input>,
     trail: &mut Trail<'input, L>,
-) -> Result<Argument<'input>, AllocError>
+) -> Result<(), AllocError>
+    requires blank { seen_spec into.old.format ≡ default_spec }
     requires numbers { reader.old.next + 1 + length reader.old.rest < 2 ^ 64 }
     requires steps { IsInWord reader.old.rest trail.old }
-    ensures value { IfOk result (λ a. seen_argument a
+    ensures value { OnOk result (seen_argument into.new
         ≡ map_argument (place_of reader.old.world) (argument reader.old.next (cut (seen_mode mode) reader.old.rest))) }
     ensures state { OnOk result (reader.new ≡ (let a = cut (seen_mode mode) reader.old.rest in
         read_texts (read_to reader.old a.rest (number_after_field reader.old.next a.field) (cut_faults a)) (spec_texts a.field.spec a.rest))) }
@@ -106,11 +120,8 @@ pub fn read_argument<'input, L: Ledger>(
     let start = reader.cursor.start();
     let given = position(reader, trail)?;
     reader.cursor.skip_white(trail);
-    let position_span = start..reader.cursor.start();
-    let format = specification(mode, reader, trail)?;
-    Ok(Argument {
-        position: position_of(given, reader),
-        position_span,
-        format,
-    })
+    into.position_span = start..reader.cursor.start();
+    specification(mode, &mut into.format, reader, trail)?;
+    into.position = position_of(given, reader);
+    Ok(())
 }

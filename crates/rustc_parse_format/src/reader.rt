@@ -1,14 +1,13 @@
 //! What a call reads on: a cursor, the number that the next implicit argument takes, and what it has found so far.
 
-ghost use Rattle.std.specs.Prelude.{◌≡◌, ◌≢◌, ◌++◌, ◌+◌, ◌<◌, ◌^◌, ◌∷◌, [], ◌↔◌, IfOk, IsOk, IsTrue, None, OnErr, OnOk, chars, length, map, option_map};
-ghost use Rattle.rustc_parse_format.specs.Characters.{behind, behind_first, front, is_in_line, is_no_brace, with_first};
-ghost use Rattle.rustc_parse_format.specs.Midway.{HasFoundNothing, IsInOneLine, midway, noted_next, passed_next, read_run, unread_at};
+ghost use Rattle.std.specs.Prelude.{◌≡◌, ◌≢◌, ◌++◌, ◌+◌, ◌<◌, ◌^◌, ◌∷◌, [], ◌↔◌, IfOk, IsOk, IsTrue, None, OnErr, OnOk, Some, chars, length, map, option_map};
+ghost use Rattle.rustc_parse_format.specs.Characters.{behind, behind_first, first, front, is_in_line, is_no_brace, with_first};
+ghost use Rattle.rustc_parse_format.specs.Midway.{HasFoundNothing, IsInOneLine, IsPastIndent, midway, noted_next, passed_next, read_run, unread_at};
 ghost use Rattle.rustc_parse_format.specs.Marks.{Start};
-ghost use Rattle.rustc_parse_format.specs.SeenFaults.{seen_fault};
 ghost use Rattle.rustc_parse_format.specs.Seen.{pair};
 ghost use Rattle.rustc_parse_format.specs.SeenSource.{IsSpot};
 ghost use Rattle.rustc_parse_format.specs.Steps.{Forward};
-ghost use Rattle.rustc_parse_format.specs.World.{number_of, StartBehind};
+ghost use Rattle.rustc_parse_format.specs.World.{number_of};
 
 use crate::characters::{Class, before};
 use crate::cursor::{Cursor, Trail};
@@ -16,7 +15,6 @@ use crate::faults::Fault;
 use crate::source::Spot;
 use std::alloc::{AllocError, Global};
 use std::marker::Model;
-use std::mem;
 use std::ops::Range;
 use std::sync::ledger::Ledger;
 
@@ -114,14 +112,6 @@ impl<'input> Reader<'input> {
         self.found.is_empty() && self.lines.is_empty() && self.closed.is_none()
     }
 
-    /// Takes the faults out.
-    pub fn take_faults(&mut self, alloc: Global) -> Vec<Fault<'input>>
-        ensures value { map seen_fault result.items ≡ self.old.faults }
-        ensures state { self.new ≡ record self.old { faults = [] } }
-    {
-        mem::replace(&mut self.found, Vec::new(alloc))
-    }
-
     /// Takes out the placeholder that was closed.
     pub fn take_closed(&mut self) -> Option<Range<usize>>
         ensures value { option_map pair result ≡ self.old.closed }
@@ -207,8 +197,8 @@ impl<'input> Reader<'input> {
             if !Class::Text.passes(c) {
                 break;
             }
-            let is_later = self.is_behind_start();
-            if is_later && Class::Line.passes(c) {
+            let is_past = self.is_past_indent(c);
+            if is_past && Class::Line.passes(c) {
                 self.skip_line(trail);
             } else {
                 self.pass(c, trail)?;
@@ -217,13 +207,14 @@ impl<'input> Reader<'input> {
         Ok(())
     }
 
-    /// A character is left, and starts after the start of the line that is read: so does each that is left. It looks at the snippet.
-    fn is_behind_start(&mut self) -> bool
+    /// The next character c is past the indent of the line that is read. It looks at the snippet.
+    #[inline(always)]
+    fn is_past_indent(&mut self, c: char) -> bool
         ensures state { self.new ≡ self.old }
-        ensures all { IsTrue result → StartBehind self.old.line_start self.old.world (length self.old.rest) }
+        ensures past { IsTrue result → first self.old.rest ≡ Some c → IsPastIndent c self.old.line_start self.old.world self.old.rest }
     {
         self.cursor.settle();
-        self.cursor.is_behind(self.line_start)
+        self.cursor.is_past_indent(c, self.line_start)
     }
 
     /// Moves up to the end of the line, or to a brace in it.

@@ -15,7 +15,7 @@ ghost use Rattle.rustc_parse_format.specs.World.{number_of, place_of};
 use crate::counts::word;
 use crate::cursor::Trail;
 use crate::faults::Fault;
-use crate::placeholder::read_argument;
+use crate::placeholder::{blank_argument, read_argument};
 use crate::reader::Reader;
 use crate::types::{Argument, ParseMode, Position};
 use std::alloc::AllocError;
@@ -115,7 +115,8 @@ fn field<'input, L: Ledger>(
     ensures steps { OnOk result (Paid reader.old.rest trail.old reader.new.rest trail.new) }
 {
     reader.cursor.advance(trail);
-    let field = read_argument(mode, reader, trail)?;
+    let mut field = blank_argument();
+    read_argument(mode, &mut field, reader, trail)?;
     let span = from..field.position_span.end;
     if reader.cursor.take_char('}', trail) {
         note_field(&mut reader.found, &field.position, span)?;

@@ -1,17 +1,17 @@
 //! Where an input stands in its source, and how a place in a snippet goes on from character to character.
 
-ghost use Rattle.std.specs.Prelude.{IsTrue, ◌++◌, ◌≡◌, ◌≢◌, ◌≤◌, ◌∷◌, Bool, List, ℕ, chars, drop, length, true};
+ghost use Rattle.std.specs.Prelude.{IsTrue, ◌≡◌, ◌≤◌, ◌<◌, ◌-◌, ◌∷◌, List, ℕ, chars, drop, length, true};
 ghost use Rattle.std.specs.Str.{is_utf8};
-ghost use Rattle.rustc_parse_format.specs.Bytes.{IsLeft};
+ghost use Rattle.rustc_parse_format.specs.Bytes.{IsFront, IsLeft};
 ghost use Rattle.rustc_parse_format.specs.Characters.{Text, behind_first};
 ghost use Rattle.rustc_parse_format.specs.Literal.{IsContent};
-ghost use Rattle.std.specs.List.{list_all};
-ghost use Rattle.rustc_parse_format.specs.LiteralUnits.{LiteralUnit, is_plain};
-ghost use Rattle.rustc_parse_format.specs.SeenSource.{IsHere, character_width, closed_by_quote, gap};
+ghost use Rattle.rustc_parse_format.specs.LiteralUnits.{LiteralUnit};
+ghost use Rattle.rustc_parse_format.specs.SeenSource.{IsBare, IsHere, IsLook, character_width, closed_by_quote, gap, is_bare};
 ghost use Rattle.rustc_parse_format.specs.World.{World, place_at};
 
-use crate::characters::{before, behind_first, first};
-use crate::literal::{Rest, plain_width, read_unit};
+use crate::blocks::calm_front;
+use crate::characters::{behind_first, first};
+use crate::literal::{Rest, read_unit};
 use std::ops::Range;
 
 /// Where an input stands in its source.
@@ -29,13 +29,29 @@ pub struct Source<'input> {
     pub appended: bool,
 }
 
-/// A spot in a source: what is left of the input, what was left where the snippet was last looked at, and the byte of the snippet at
-/// which the next character starts there, if the snippet is kept.
+/// What a look at a snippet found: the byte at which the next character starts there, and how many bytes from there on stand for
+/// themselves.
+#[derive(Clone, Copy)]
+pub struct Look {
+    pub byte: usize,
+    pub bare: usize,
+}
+
+/// A spot in a source: what is left of the input, what was left where the snippet was last looked at, and what that look found, if the
+/// snippet is kept.
 #[derive(Drop)]
 pub struct Spot<'input> {
     pub rest: &'input str,
     pub mark: &'input str,
-    pub at: usize,
+    pub at: Look,
+}
+
+/// The most common escape is at the front.
+#[inline(always)]
+fn is_newline_escape(text: &str) -> bool
+    ensures { IsTrue result → chars text.now ≡ 92 ∷ 110 ∷ behind_first (behind_first (chars text.now)) }
+{
+    first(text) == Some('\\') && first(behind_first(text)) == Some('n')
 }
 
 /// How many bytes the unit at the front takes, or 0 where none stands there that is a character.
@@ -45,6 +61,7 @@ fn character_width(text: &str) -> usize
     ensures { result ≡ character_width (chars text.now) }
 {
     match first(text) {
+        Some('\\') if is_newline_escape(text) => 2,
         Some('\\') => {
             let mut rest = Rest::new(text);
             let total = rest.len();
@@ -102,55 +119,129 @@ pub fn byte_through(snippet: &str, at: usize) -> usize
     if width == 0 { at + 1 } else { at + width }
 }
 
-/// Whether a text stands in front of another as it is, and is free of all that a literal writes in another way.
+/// How many bytes are in front of the first backslash.
 #[inline(always)]
-fn begins_plainly(text: &str, front: &str) -> bool
-    ensures { IsTrue result → (t : Text) × (chars text.now ≡ chars front.now ++ t) × IsTrue (list_all is_plain (chars front.now)) }
+fn bare_front(bytes: &[u8]) -> usize
+    ensures { IsFront is_bare bytes.now result }
 {
-    plain_width(text.as_bytes(), front.as_bytes()) == front.len()
+    let seen = calm_front(bytes, 0, b'\\', b'\\', b'\\');
+    for i in seen..bytes.len() {
+        if bytes[i] == b'\\' {
+            return i;
+        }
+    }
+    bytes.len()
+}
+
+/// How many bytes from a byte on are no backslash, up to the closing quote.
+#[inline(always)]
+fn bare_width(snippet: &str, at: usize) -> usize
+    requires { at < length snippet.now }
+    ensures { IsBare snippet.now at result }
+{
+    let bytes = snippet.as_bytes();
+    bare_front(&bytes[at..bytes.len() - 1])
+}
+
+/// Looks at a snippet that is kept at the byte where the next character starts.
+#[inline(always)]
+pub fn look_at(snippet: &str, at: usize) -> Look
+    requires { (w : World) × (rest : Text) × IsHere snippet.now w rest at }
+    ensures { (w : World) (rest : Text) → IsHere snippet.now w rest at → IsLook snippet.now w rest result }
+{
+    Look {
+        byte: at,
+        bare: bare_width(snippet, at),
+    }
 }
 
 /// Where the next character starts in a snippet that is kept: from where it was last looked at on, character by character.
-fn byte_by_byte(snippet: &str, spot: &Spot<'_>) -> usize
-    requires after { IsLeft spot.now.mark.now spot.now.rest.now }
-    requires here { (w : World) × IsHere snippet.now w (chars spot.now.mark.now) spot.now.at }
-    ensures { (w : World) → IsHere snippet.now w (chars spot.now.mark.now) spot.now.at → IsHere snippet.now w (chars spot.now.rest.now) result }
+fn byte_by_byte(snippet: &str, marked: &str, byte: usize, rest: &str) -> usize
+    requires after { IsLeft marked.now rest.now }
+    requires here { (w : World) × IsHere snippet.now w (chars marked.now) byte }
+    ensures { (w : World) → IsHere snippet.now w (chars marked.now) byte → IsHere snippet.now w (chars rest.now) result }
 {
-    let mut mark = spot.mark;
-    let mut at = spot.at;
-    while mark.len() > spot.rest.len() {
+    let mut mark = marked;
+    let mut at = byte;
+    while mark.len() > rest.len() {
         at = byte_after(snippet, at);
         mark = behind_first(mark);
     }
     at
 }
 
-/// The same. What stands in the snippet as it is was passed at once.
-fn byte_ahead(snippet: &str, spot: &Spot<'_>) -> usize
-    requires moved { length spot.now.mark.now ≢ length spot.now.rest.now }
-    requires after { IsLeft spot.now.mark.now spot.now.rest.now }
-    requires here { (w : World) × IsHere snippet.now w (chars spot.now.mark.now) spot.now.at }
-    ensures { (w : World) → IsHere snippet.now w (chars spot.now.mark.now) spot.now.at → IsHere snippet.now w (chars spot.now.rest.now) result }
+/// The same, where all from there to the next character stands in the snippet as it is.
+#[inline(always)]
+fn byte_in_bare(snippet: &str, mark: &str, at: Look, rest: &str) -> usize
+    requires after { IsLeft mark.now rest.now }
+    requires here { (w : World) × IsLook snippet.now w (chars mark.now) at }
+    requires inside { length mark.now - length rest.now ≤ at.bare }
+    ensures { (w : World) → IsLook snippet.now w (chars mark.now) at → IsHere snippet.now w (chars rest.now) result }
 {
-    let moved = before(spot.mark, spot.rest);
-    if !begins_plainly(&snippet[spot.at..], moved) {
-        return byte_by_byte(snippet, spot);
+    let moved = mark.len() - rest.len();
+    let byte = at.byte + moved;
+    if moved == 0 || moved < at.bare {
+        return byte;
     }
-    let at = spot.at + moved.len();
-    at + continuations_width(&snippet[at..])
+    byte + continuations_width(&snippet[byte..])
 }
 
-/// The same. Nothing is to be done where the snippet was last looked at.
+/// What is left of a text behind so many bytes, or behind fewer where these end inside of a character.
+#[inline(always)]
+fn behind_bytes(text: &str, bytes: usize) -> &str
+    ensures after { IsLeft text.now result.now }
+    ensures over { (rest : List ℕ) → IsLeft text.now rest → bytes ≤ length text.now - length rest → IsLeft result.now rest }
+    ensures width { length text.now - length result.now ≤ bytes }
+{
+    &text[text.floor_char_boundary(bytes)..]
+}
+
+/// The same, where an escape or a continuation comes in between.
+fn byte_beyond(snippet: &str, spot: &Spot<'_>) -> usize
+    requires after { IsLeft spot.now.mark.now spot.now.rest.now }
+    requires here { (w : World) × IsLook snippet.now w (chars spot.now.mark.now) spot.now.at }
+    requires beyond { spot.now.at.bare < length spot.now.mark.now - length spot.now.rest.now }
+    ensures { (w : World) → IsLook snippet.now w (chars spot.now.mark.now) spot.now.at → IsHere snippet.now w (chars spot.now.rest.now) result }
+{
+    let mark = behind_bytes(spot.mark, spot.at.bare);
+    let at = byte_in_bare(snippet, spot.mark, spot.at, mark);
+    byte_by_byte(snippet, mark, at, spot.rest)
+}
+
+/// The same, by a look at the snippet.
+#[inline(never)]
+fn byte_ahead(snippet: &str, spot: &Spot<'_>) -> usize
+    requires after { IsLeft spot.now.mark.now spot.now.rest.now }
+    requires here { (w : World) × IsLook snippet.now w (chars spot.now.mark.now) spot.now.at }
+    ensures { (w : World) → IsLook snippet.now w (chars spot.now.mark.now) spot.now.at → IsHere snippet.now w (chars spot.now.rest.now) result }
+{
+    if spot.mark.len() - spot.rest.len() > spot.at.bare {
+        return byte_beyond(snippet, spot);
+    }
+    byte_in_bare(snippet, spot.mark, spot.at, spot.rest)
+}
+
+/// The same. Where what was passed and the next byte stand in the snippet as they are, it is not looked at.
 #[inline(always)]
 pub fn byte_here(snippet: &str, spot: &Spot<'_>) -> usize
     requires after { IsLeft spot.now.mark.now spot.now.rest.now }
-    requires here { (w : World) × IsHere snippet.now w (chars spot.now.mark.now) spot.now.at }
-    ensures { (w : World) → IsHere snippet.now w (chars spot.now.mark.now) spot.now.at → IsHere snippet.now w (chars spot.now.rest.now) result }
+    requires here { (w : World) × IsLook snippet.now w (chars spot.now.mark.now) spot.now.at }
+    ensures { (w : World) → IsLook snippet.now w (chars spot.now.mark.now) spot.now.at → IsHere snippet.now w (chars spot.now.rest.now) result }
 {
-    if spot.mark.len() == spot.rest.len() {
-        return spot.at;
+    let moved = spot.mark.len() - spot.rest.len();
+    if moved == 0 || moved < spot.at.bare {
+        return spot.at.byte + moved;
     }
     byte_ahead(snippet, spot)
+}
+
+/// Looks at the snippet again, where the next character starts.
+pub fn look_again(snippet: &str, spot: &Spot<'_>) -> Look
+    requires after { IsLeft spot.now.mark.now spot.now.rest.now }
+    requires here { (w : World) × IsLook snippet.now w (chars spot.now.mark.now) spot.now.at }
+    ensures { (w : World) → IsLook snippet.now w (chars spot.now.mark.now) spot.now.at → IsLook snippet.now w (chars spot.now.rest.now) result }
+{
+    look_at(snippet, byte_here(snippet, spot))
 }
 
 impl<'input> Source<'input> {
@@ -163,6 +254,7 @@ impl<'input> Source<'input> {
     ghost use Rattle.rustc_parse_format.specs.World.{number_of};
 
     /// Where the next character starts, or where the text ends.
+    #[inline(always)]
     pub fn start(&self, spot: &Spot<'_>) -> usize
         requires { IsSpot self.now spot.now.rest.now spot.now.mark.now spot.now.at }
         ensures { result ≡ number_of (seen_world self.now) (Start (length (chars spot.now.rest.now))) }

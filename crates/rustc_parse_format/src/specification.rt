@@ -14,7 +14,6 @@ ghost use Rattle.rustc_parse_format.specs.Types.{default_spec, map_spec};
 ghost use Rattle.rustc_parse_format.specs.Values.{debug_hex_of, number_after_precision, number_after_spec, type_of};
 ghost use Rattle.rustc_parse_format.specs.World.{Place, number_of, place_of};
 
-use crate::characters::first;
 use crate::counts::{precision, width, word};
 use crate::cursor::{Cursor, Trail};
 use crate::faults::Fault;
@@ -93,6 +92,7 @@ fn alternate<'input, L: Ledger>(cursor: &mut Cursor<'input>, trail: &mut Trail<'
 }
 
 /// Reads the word at the front, and where it stands if it is not empty.
+#[tactic(auto, using(crate::proofs::WordFronts::words_at_front, crate::proofs::Readers::read_nothing))]
 fn spanned_word<'input, L: Ledger>(
     reader: &mut Reader<'input>,
     trail: &mut Trail<'input, L>,
@@ -104,11 +104,11 @@ fn spanned_word<'input, L: Ledger>(
     ensures err { OnErr result (reader.new.source ≡ reader.old.source) }
     ensures steps { OnOk result (Forward reader.old.rest trail.old reader.new.rest trail.new) }
 {
+    if !reader.cursor.starts_word() {
+        return Ok(("", None));
+    }
     let start = reader.cursor.start();
     let word = word(reader, trail)?;
-    if first(word).is_none() {
-        return Ok((word, None));
-    }
     Ok((word, Some(start..reader.cursor.start())))
 }
 
@@ -225,15 +225,16 @@ fn type_part<'input, L: Ledger>(
     })
 }
 
-/// Reads the format specification at the front.
+/// Reads the format specification at the front into its place.
 #[tactic(auto, using(crate::proofs::Steps::part_le), unfolding(crate::specs::Specification::format_text, crate::specs::Meaning::format_of))]
 fn format_text<'input, L: Ledger>(
+    format: &mut FormatSpec<'input>,
     reader: &mut Reader<'input>,
     trail: &mut Trail<'input, L>,
-) -> Result<FormatSpec<'input>, AllocError>
+) -> Result<(), AllocError>
     requires numbers { reader.old.next + 1 < 2 ^ 64 }
     requires steps { IsFurthest reader.old.rest trail.old }
-    ensures value { IfOk result (λ f. seen_spec f ≡ map_spec (place_of reader.old.world)
+    ensures value { OnOk result (seen_spec format.new ≡ map_spec (place_of reader.old.world)
         (format_of reader.old.next reader.old.rest (format_text reader.old.rest).0 (format_text reader.old.rest).1)) }
     ensures state { OnOk result (reader.new ≡ (let f = format_text reader.old.rest in
         read_to reader.old f.1 (number_after_precision reader.old.next f.0.precision) (format_faults f.0 f.1))) }
@@ -241,35 +242,35 @@ fn format_text<'input, L: Ledger>(
     ensures steps { OnOk result (Paid reader.old.rest trail.old reader.new.rest trail.new) }
 {
     let (fill, fill_span) = fill(&mut reader.cursor, trail);
+    format.fill = fill;
+    format.fill_span = fill_span;
     let align = alignment(&mut reader.cursor, trail);
+    format.align = align;
     let sign = sign(&mut reader.cursor, trail);
+    format.sign = sign;
     let alternate = alternate(&mut reader.cursor, trail);
+    format.alternate = alternate;
     let width = width(reader, trail)?;
+    format.zero_pad = width.zero_pad;
+    format.width = width.count;
+    format.width_span = width.span;
     let (precision, precision_span) = precision(reader, trail)?;
+    format.precision = precision;
+    format.precision_span = precision_span;
     let type_part = type_part(reader, trail)?;
-    Ok(FormatSpec {
-        fill,
-        fill_span,
-        align,
-        sign,
-        alternate,
-        zero_pad: width.zero_pad,
-        debug_hex: type_part.debug_hex,
-        precision,
-        precision_span,
-        width: width.count,
-        width_span: width.span,
-        ty: type_part.ty,
-        ty_span: type_part.span,
-    })
+    format.debug_hex = type_part.debug_hex;
+    format.ty = type_part.ty;
+    format.ty_span = type_part.span;
+    Ok(())
 }
 
-/// Reads the modifier of inline assembly at the front.
+/// Reads the modifier of inline assembly at the front into the place of a specification.
 fn modifier<'input, L: Ledger>(
+    format: &mut FormatSpec<'input>,
     reader: &mut Reader<'input>,
     trail: &mut Trail<'input, L>,
-) -> Result<FormatSpec<'input>, AllocError>
-    ensures value { IfOk result (λ f. seen_spec f ≡ record (default_spec {A = Place}) {
+) -> Result<(), AllocError>
+    ensures value { OnOk result (seen_spec format.new ≡ record (default_spec {A = Place}) {
       ty = word reader.old.rest;
       ty_span = option_map (place_of reader.old.world) (word_span reader.old.rest (word reader.old.rest) (behind_word reader.old.rest));
     }) }
@@ -278,19 +279,21 @@ fn modifier<'input, L: Ledger>(
     ensures steps { OnOk result (Forward reader.old.rest trail.old reader.new.rest trail.new) }
 {
     let (ty, ty_span) = spanned_word(reader, trail)?;
-    Ok(FormatSpec {
+    *format = FormatSpec {
         ty,
         ty_span,
         ..default_of_spec()
-    })
+    };
+    Ok(())
 }
 
-/// Reads a colon and the text of a diagnostic, whose span takes in the colon.
+/// Reads a colon and the text of a diagnostic, whose span takes in the colon, into the place of a specification.
 fn diagnostic_text<'input, L: Ledger>(
+    format: &mut FormatSpec<'input>,
     reader: &mut Reader<'input>,
     trail: &mut Trail<'input, L>,
-) -> Result<FormatSpec<'input>, AllocError>
-    ensures value { IfOk result (λ f. seen_spec f ≡ record (default_spec {A = Place}) {
+) -> Result<(), AllocError>
+    ensures value { OnOk result (seen_spec format.new ≡ record (default_spec {A = Place}) {
       ty = front is_no_brace (behind_first reader.old.rest);
       ty_span = Some (place_of reader.old.world (up_to reader.old.rest (behind is_no_brace (behind_first reader.old.rest))));
     }) }
@@ -301,23 +304,26 @@ fn diagnostic_text<'input, L: Ledger>(
     let start = reader.cursor.start();
     reader.cursor.advance(trail);
     let ty = reader.take_text(trail)?;
-    Ok(FormatSpec {
+    *format = FormatSpec {
         ty,
         ty_span: Some(start..reader.cursor.start()),
         ..default_of_spec()
-    })
+    };
+    Ok(())
 }
 
-/// Reads the specification at the front: a colon and what the mode has after it, or nothing.
+/// Reads the specification at the front into the place of a default one: a colon and what the mode has after it, or nothing.
 #[tactic(auto, using(crate::proofs::Steps::part_le, crate::proofs::Steps::at_colon))]
 pub fn specification<'input, L: Ledger>(
     mode: ParseMode,
+    format: &mut FormatSpec<'input>,
     reader: &mut Reader<'input>,
     trail: &mut Trail<'input, L>,
-) -> Result<FormatSpec<'input>, AllocError>
+) -> Result<(), AllocError>
+    requires blank { seen_spec format.old ≡ default_spec }
     requires numbers { reader.old.next + length reader.old.rest < 2 ^ 64 }
     requires steps { IsInWord reader.old.rest trail.old }
-    ensures value { IfOk result (λ f. seen_spec f ≡ map_spec (place_of reader.old.world) (spec_of reader.old.next reader.old.rest
+    ensures value { OnOk result (seen_spec format.new ≡ map_spec (place_of reader.old.world) (spec_of reader.old.next reader.old.rest
         (specification (seen_mode mode) reader.old.rest).0 (specification (seen_mode mode) reader.old.rest).1)) }
     ensures state { OnOk result (reader.new ≡ (let s = specification (seen_mode mode) reader.old.rest in
         read_texts (read_to reader.old s.1 (number_after_spec reader.old.next s.0) (spec_faults reader.old.rest s.0 s.1)) (spec_texts s.0 s.1))) }
@@ -325,17 +331,17 @@ pub fn specification<'input, L: Ledger>(
     ensures steps { OnOk result (Paid reader.old.rest trail.old reader.new.rest trail.new) }
 {
     if !reader.cursor.is_next(':') {
-        return Ok(default_of_spec());
+        return Ok(());
     }
     match mode {
         ParseMode::Format => {
             reader.cursor.advance(trail);
-            format_text(reader, trail)
+            format_text(format, reader, trail)
         }
         ParseMode::InlineAsm => {
             reader.cursor.advance(trail);
-            modifier(reader, trail)
+            modifier(format, reader, trail)
         }
-        ParseMode::Diagnostic => diagnostic_text(reader, trail),
+        ParseMode::Diagnostic => diagnostic_text(format, reader, trail),
     }
 }

@@ -1,7 +1,8 @@
 ghost use Rattle.std.specs.Prelude.{◌≡◌};
 ghost use Rattle.rustc_parse_format.specs.Seen.{index_of};
 
-use crate::laws::{default_of_spec, specs_are_equal};
+use crate::laws::{clone_of_argument, default_of_spec, specs_are_equal};
+use std::alloc::{AllocError, Global};
 use std::ops::Range;
 
 /// What kind of text is parsed.
@@ -157,6 +158,26 @@ pub enum Suggestion {
     AddMissingColon(Range<usize>),
     /// Use the macro `dbg!`.
     UseRustDebugPrintingMacro,
+}
+
+impl<'input> Piece<'input> {
+    ghost use Rattle.std.specs.Prelude.{IfOk, IsOk};
+    ghost use Rattle.rustc_parse_format.specs.Seen.{seen};
+    ghost use Rattle.rustc_parse_format.specs.Types.{IsText};
+
+    /// The same piece again. Only a placeholder needs memory.
+    pub fn clone(&self, alloc: Global) -> Result<Piece<'input>, AllocError>
+        ensures clone { IfOk result (λ p. seen p ≡ seen self.now) }
+        ensures spare { IsText (seen self.now) → IsOk result }
+    {
+        match self {
+            Piece::Lit(text) => Ok(Piece::Lit(text)),
+            Piece::NextArgument(argument) => {
+                let copy = clone_of_argument(argument)?;
+                Ok(Piece::NextArgument(Box::new(alloc, copy)?))
+            }
+        }
+    }
 }
 
 impl Position<'_> {

@@ -7,7 +7,7 @@ ghost use Rattle.rustc_parse_format.specs.SeenSource.{IsKept, IsPlaced, seen_wor
 ghost use Rattle.rustc_parse_format.specs.World.{hashes, quote_offset, world};
 
 use crate::literal::source_end;
-use crate::source::{Source, continuations_width};
+use crate::source::{Look, Source, continuations_width, look_at};
 
 /// What stands in front of the text, in bytes: a quote, or `r`, the hashes and a quote.
 pub fn quote_offset(style: Option<usize>) -> usize
@@ -105,14 +105,17 @@ pub fn source_of<'input>(
     }
 }
 
-/// Where the first character stands in the snippet, if that is kept.
-pub fn first_byte(source: &Source<'_>) -> usize
+/// What a look at the first character finds in the snippet, if that is kept.
+pub fn first_look(source: &Source<'_>) -> Look
     requires { IsKept source.now }
     ensures { IsPlaced source.now.kept
         (seen_world source.now) (chars source.now.input.now) result }
 {
     match &source.kept {
-        Some(snippet) => 1 + continuations_width(&snippet.as_str()[1..]),
-        None => 0,
+        Some(snippet) => {
+            let byte = 1 + continuations_width(&snippet.as_str()[1..]);
+            look_at(snippet.as_str(), byte)
+        }
+        None => Look { byte: 0, bare: 0 },
     }
 }

@@ -8,6 +8,7 @@ ghost use Rattle.rustc_parse_format.specs.LiteralReading.{SharePlain};
 ghost use Rattle.rustc_parse_format.specs.LiteralUnits.{LiteralUnit, is_plain, is_skipped};
 ghost use Rattle.rustc_parse_format.specs.SeenSource.{after_continuations, begins_continuation, closed_by_quote, spelled_units};
 
+use crate::blocks::plain_front;
 use crate::characters::{behind_first, first};
 use std::marker::Model;
 
@@ -147,7 +148,7 @@ pub fn plain_width(bytes: &[u8], others: &[u8]) -> usize
     ensures { IsSharedFront is_plain bytes.now others.now result }
 {
     let most = bytes.len().min(others.len());
-    for i in 0..most {
+    for i in plain_front(bytes, others)..most {
         if bytes[i] != others[i] || !is_plain(bytes[i]) {
             return i;
         }

@@ -9,7 +9,7 @@ pub returns-clause-state : goal.returns-clause-state
 returns-clause-state g c =
     let m = seen_mode c.args.mode in
     let given = option_map seen_position c.in_ok-given.given in
-    let spec = rw c.skip_white.ensures.rest at c.in_ok-format.ensures.state in
-    rw spec at c.position_of.ensures.state
+    let spec = rw c.skip_white.ensures.rest at c.in_ok-specification.ensures.state in
+    rw spec at c.position_of-into.ensures.state
     ∙ ap (λ (x : Midway). behind_specification m given x) (c.reader-2.view_is ∙ c.in_ok-given.ensures.state)
     ∙ argument_read c.args.reader.now m given c.in_ok-given.ensures.value

@@ -8,8 +8,8 @@ use Rattle.rustc_parse_format.proofs.source.byte_by_byte.Given as goal
 
 abbrev pub invariant-loop-mark : goal.invariant-loop-mark
 invariant-loop-mark l =
-    shadow (Utf8 l.mark) × ((front : Text) × (chars l.mark ≡ front ++ chars l.fn.spot.rest.now))
-    × ((w : World) → IsHere l.fn.snippet w (chars l.fn.spot.mark.now) l.fn.spot.at → IsHere l.fn.snippet w (chars l.mark) l.at)
+    shadow (Utf8 l.mark) × ((front : Text) × (chars l.mark ≡ front ++ chars l.fn.rest))
+    × ((w : World) → IsHere l.fn.snippet w (chars l.fn.marked) l.fn.byte → IsHere l.fn.snippet w (chars l.mark) l.at)
 
 abbrev pub decreases-loop-mark : goal.decreases-loop-mark
 decreases-loop-mark l = length l.mark

@@ -1,7 +1,7 @@
 use Rattle.std.proofs.Common.{◌≡◌, ◌∷◌, Some, [], sym}
 use Rattle.rustc_parse_format.specs.LiteralUnits.{meaning, unit_at}
 use Rattle.rustc_parse_format.proofs.LiteralMeanings.{meaning-narrower}
-use Rattle.rustc_parse_format.proofs.SourceContents.{width-read}
+use Rattle.rustc_parse_format.proofs.SourceContents.{newline-width, width-read}
 use Rattle.rustc_parse_format.proofs.source.character_width.Goals as goal
 
 -- what was read
@@ -13,3 +13,6 @@ overflow_sub-result c = rw (c.len-total.ensures, c.len.ensures) (meaning-narrowe
 
 pub returns-in-Some-Some : goal.returns-in-Some-Some
 returns-in-Some-Some c = rw (c.len-total.ensures, c.len.ensures, ← c.new-rest.ensures) (sym (width-read _ _ _ (read c)))
+
+pub returns-in-Some-eq92 : goal.returns-in-Some-eq92
+returns-in-Some-eq92 c = newline-width _ _ (c.is_newline_escape.ensures c.if-is_newline_escape.true)

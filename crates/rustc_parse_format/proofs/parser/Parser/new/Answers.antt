@@ -1,4 +1,4 @@
-use Rattle.std.proofs.Common.{◌≤◌, arith, chars, length, refl}
+use Rattle.std.proofs.Common.{◌≤◌, ℕ, List, IsUtf8, arith, chars, length, refl}
 use Rattle.std.proofs.lemmas.Str.{encodes-chars, length-le-encodes}
 use Rattle.rustc_parse_format.specs.Seen.{seen_mode, seen_snippet}
 use Rattle.rustc_parse_format.proofs.LinesInside.{fresh_lies_inside}
@@ -10,14 +10,19 @@ use Rattle.rustc_parse_format.proofs.parser.Parser.new.Goals as goal
 
 pub new-cursor-requires : goal.new-cursor-requires
 new-cursor-requires c =
-    first_spot c.source_of-source.result c.args.input.now c.first_byte.result c.utf8.input c.source_of-source.ensures.input
-    c.source_of-source.ensures.fits c.first_byte.ensures c.source_of-source.ensures.kept
+    first_spot c.source_of-source.result c.args.input.now c.first_look.result c.utf8.input c.source_of-source.ensures.input
+    c.source_of-source.ensures.fits c.first_look.ensures c.source_of-source.ensures.kept
+
+-- a text has at most as many characters as bytes
+fewer : (t : List ℕ) → IsUtf8 t → length (chars t) ≤ length t
+fewer t h = rw (encodes-chars t h) at (length-le-encodes (chars t))
 
 pub invariant_of-result : goal.invariant_of-result
 invariant_of-result c =
-    let fewer : length (chars c.args.input.now) ≤ length c.args.input.now = rw (encodes-chars c.args.input.now c.utf8.input) at
-    (length-le-encodes (chars c.args.input.now)) in
-    rw (c.new.ensures, c.new-cursor.ensures) (omega arith, (refl, refl, refl))
+    rw (c.new.ensures, c.new-cursor.ensures) (omega (arith, fewer c.args.input.now c.utf8.input), (refl, refl, refl))
+
+pub returns-clause-short : goal.returns-clause-short
+returns-clause-short c = rw (c.new.ensures, c.new-cursor.ensures) (fewer c.args.input.now c.utf8.input)
 
 pub returns-clause-source : goal.returns-clause-source
 returns-clause-source c =

@@ -2,13 +2,15 @@ use Rattle.std.proofs.Common.{◌∙◌, ap, map, sym, subst}
 use Rattle.std.specs.Prelude.{option_map}
 use Rattle.rustc_parse_format.specs.Faults.{bare_message}
 use Rattle.rustc_parse_format.specs.Types.{bare}
-use Rattle.rustc_parse_format.specs.State.{State, next_call}
+use Rattle.rustc_parse_format.specs.State.{State, after, next_call}
 use Rattle.rustc_parse_format.proofs.ParserLaws.{after_errors, bare_given, call_inside, call_lines, call_places, call_reads_back, call_sourceless}
+use Rattle.rustc_parse_format.proofs.Agreement.{next_agrees}
+use Rattle.rustc_parse_format.specs.Agreement.{Agree}
 use Rattle.rustc_parse_format.specs.Seen.{seen}
 use Rattle.rustc_parse_format.specs.ReadBack.{LiesInside}
 use Rattle.rustc_parse_format.proofs.LinesInside.{call_lies_inside}
 use Rattle.rustc_parse_format.proofs.Rests.{IsRest}
-use Rattle.rustc_parse_format.proofs.Nexts.{if_ok, on_ok, cut_given, next_reads, next_faulty, next_ends, next_moves, next_numbers, next_keeps}
+use Rattle.rustc_parse_format.proofs.Nexts.{if_ok, on_ok, cut_given, next_reads, next_faulty, next_ends, next_moves, next_numbers, next_short, next_keeps}
 use Rattle.rustc_parse_format.proofs.parser.Parser.next.Goals as goal
 
 pub returns-clause-reads : goal.returns-clause-reads
@@ -32,6 +34,10 @@ returns-clause-progress c = on_ok c.next_uncounted.result c.next_uncounted.ensur
 
 pub returns-clause-numbers : goal.returns-clause-numbers
 returns-clause-numbers c = on_ok c.next_uncounted.result c.next_uncounted.ensures.state (λ f. next_numbers c.args.self.now c.next_uncounted.new.self f)
+
+pub returns-clause-short : goal.returns-clause-short
+returns-clause-short c =
+    next_short c.next_uncounted.result c.args.self.now c.next_uncounted.new.self c.next_uncounted.ensures.state c.next_uncounted.ensures.err
 
 pub returns-clause-keeps : goal.returns-clause-keeps
 returns-clause-keeps c = on_ok c.next_uncounted.result c.next_uncounted.ensures.state (λ f. next_keeps c.args.self.now c.next_uncounted.new.self f)
@@ -66,3 +72,11 @@ returns-clause-places c = on_ok c.next_uncounted.result c.next_uncounted.ensures
 
 pub returns-clause-sourceless : goal.returns-clause-sourceless
 returns-clause-sourceless c = on_ok c.next_uncounted.result c.next_uncounted.ensures.state (λ f none. rw f (call_sourceless c.args.self.now none))
+
+pub returns-clause-agrees : goal.returns-clause-agrees
+returns-clause-agrees c = if_ok c.next_uncounted.result c.next_uncounted.ensures.piece c.next_uncounted.ensures.state
+    (λ p e f other h.
+    let both = next_agrees c.args.self.now other h in (
+      ap (option_map bare) e ∙ (bare_given c.args.self.now.world (next_call c.args.self.now).piece ∙ both.0),
+      subst (λ (s : State). Agree s (after other (next_call other))) (sym f) both.1,
+    ))

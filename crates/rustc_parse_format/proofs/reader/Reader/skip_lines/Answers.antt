@@ -1,8 +1,7 @@
 use Rattle.std.proofs.Common.{rules, ◌≡◌, ap, subst, sym, ◌∙◌, length, arith, Some, true}
 use Rattle.std.proofs.lemmas.Bool.{false≢true}
 use Rattle.rustc_parse_format.specs.Characters.{first, is_no_brace, is_in_line}
-use Rattle.rustc_parse_format.specs.Midway.{Midway, IsInOneLine, read_run}
-use Rattle.rustc_parse_format.specs.World.{StartBehind}
+use Rattle.rustc_parse_format.specs.Midway.{Midway, IsInOneLine, IsPastIndent, read_run}
 use Rattle.rustc_parse_format.proofs.Steps.{forward_then}
 use Rattle.rustc_parse_format.proofs.RunLines.{run-step, one_line-step, one_line-no_newline}
 use Rattle.rustc_parse_format.proofs.RunSkips.{run-skip, one_line-skip, behind-shorter}
@@ -12,19 +11,20 @@ pub loop-c-smaller-then-passes : goal.loop-c-smaller-then-passes
 loop-c-smaller-then-passes g c =
     let next : first c.loop-c.self.rest ≡ Some c.in-Some.c = search rules in
     let passes : is_in_line c.in-Some.c ≡ true = search rules in
-    let skipped = rw c.is_behind_start-is_later.ensures.state at c.skip_line.ensures.state in
+    let skipped = rw c.is_past_indent-is_past.ensures.state at c.skip_line.ensures.state in
     omega (arith, ap (λ (s : Midway). length s.rest) skipped, behind-shorter is_in_line c.loop-c.self.rest c.in-Some.c next passes)
 
 pub loop-c-preserved-then-passes : goal.loop-c-preserved-then-passes
 loop-c-preserved-then-passes g c =
     let s = c.loop-c.self in
     let before = c.loop-c.invariant in
-    let later : StartBehind s.line_start s.world (length s.rest) = c.is_behind_start-is_later.ensures.all c.if-is_later.true in
-    let skipped = rw c.is_behind_start-is_later.ensures.state at c.skip_line.ensures in
+    let next : first s.rest ≡ Some c.in-Some.c = search rules in
+    let past : IsPastIndent c.in-Some.c s.line_start s.world s.rest = c.is_past_indent-is_past.ensures.past c.if-is_past.true next in
+    let skipped = rw c.is_past_indent-is_past.ensures.state at c.skip_line.ensures in
     record {
       source = search rules;
-      run = ap read_run skipped.state ∙ (run-skip s before.source later ∙ before.run);
-      spare = λ one. subst IsInOneLine (sym skipped.state) (one_line-skip s before.source later (before.spare one));
+      run = ap read_run skipped.state ∙ (run-skip s c.in-Some.c before.source next past ∙ before.run);
+      spare = λ one. subst IsInOneLine (sym skipped.state) (one_line-skip s c.in-Some.c before.source next past (before.spare one));
       steps = forward_then before.steps skipped.steps;
     }
 
@@ -34,7 +34,7 @@ loop-c-preserved g c =
     let before = c.loop-c.invariant in
     let next : first s.rest ≡ Some c.in-Some.c = search rules in
     let passes : is_no_brace c.in-Some.c ≡ true = search rules in
-    let passed = rw c.is_behind_start-is_later.ensures.state at c.in_ok-pass.ensures in
+    let passed = rw c.is_past_indent-is_past.ensures.state at c.in_ok-pass.ensures in
     record {
       source = search rules;
       run = ap read_run passed.state ∙ (run-step s c.in-Some.c before.source next passes ∙ before.run);

@@ -1,5 +1,5 @@
-use Rattle.std.proofs.Common.{length, ◌≡◌, ap, sym, rules}
-use Rattle.rustc_parse_format.specs.SeenSource.{seen_world}
+use Rattle.std.proofs.Common.{length, ◌≡◌, ap, chars, sym, rules}
+use Rattle.rustc_parse_format.specs.SeenSource.{IsHere, seen_world}
 use Rattle.rustc_parse_format.specs.World.{Place}
 use Rattle.rustc_parse_format.proofs.SourcePlaces.{kept_stop, placed_in, place_gone, plain_stop}
 use Rattle.rustc_parse_format.proofs.source.Source.stop.Goals as goal
@@ -9,6 +9,19 @@ returns-then-is_empty c =
     let p = c.args.spot.now in
     let z : length p.rest.now ≡ 0 = search rules in
     sym (ap (λ (x : Place). x.1) (place_gone c.args.self.now p.rest.now p.mark.now p.at c.requires z))
+
+-- the byte where the next character starts
+here : (c : goal.After-as_str-in-Some) → IsHere c.as_str-in-Some.result.now (seen_world c.args.self.now) (chars c.args.spot.now.rest.now) c.byte_here-at.result
+here c =
+    let p = c.args.spot.now in
+    let placed = placed_in c.args.self.now p.rest.now p.mark.now p.at c.in-Some.snippet c.requires c.in-Some.is in
+    rw (c.as_str-in-Some.ensures.value, ← c.as_str.ensures.value) (c.byte_here-at.ensures (seen_world c.args.self.now) (rw c.as_str.ensures.value placed))
+
+pub byte_through-requires-clause-within : goal.byte_through-requires-clause-within
+byte_through-requires-clause-within c = (here c).within
+
+pub byte_through-requires-clause-valid : goal.byte_through-requires-clause-valid
+byte_through-requires-clause-valid c = (here c).valid
 
 pub returns-in-Some : goal.returns-in-Some
 returns-in-Some c =

@@ -1,0 +1,148 @@
+//! Parsers whose errors are taken out, or whose next number is set, between two calls; and clones of what they give.
+
+use crate::memory::{implicit, starred};
+use rustc_parse_format::{ParseMode, Parser, Piece, Position, read_all};
+use std::alloc::{AllocError, Global};
+use std::io::Print;
+use std::process::Abort;
+use std::test::Fail;
+
+fn parser_of(alloc: Global, input: &'static str) -> Result<Parser<'static>, AllocError> {
+    Parser::new(alloc, input, None, None, false, ParseMode::Format)
+}
+
+/// The next piece is a placeholder without a position, which has this number.
+fn check_implicit(rt: &impl Abort, parser: &mut Parser<'_>, number: usize) -> Result<(), Fail> {
+    let wanted = Position::ArgumentImplicitlyIs(number);
+    assert!(rt; matches!(parser.next()?, Some(Piece::NextArgument(it)) if it.position == wanted));
+    Ok(())
+}
+
+#[test]
+fn a_number_that_is_set_is_taken_next(rt: HostRuntime) -> Result<(), Fail> {
+    let mut parser = Parser::new(rt.alloc(), "{}", None, None, false, ParseMode::Format)?;
+    parser.set_curarg(7);
+    assert_eq!(rt; parser.curarg(), 7);
+    check_implicit(&rt, &mut parser, 7)?;
+    assert_eq!(rt; parser.curarg(), 8);
+    Ok(())
+}
+
+#[test]
+fn a_number_can_be_taken_twice(rt: HostRuntime) -> Result<(), Fail> {
+    let mut parser = parser_of(rt.alloc(), "{}{}")?;
+    check_implicit(&rt, &mut parser, 0)?;
+    parser.set_curarg(0);
+    check_implicit(&rt, &mut parser, 0)?;
+    assert_eq!(rt; parser.curarg(), 1);
+    Ok(())
+}
+
+/// A number as large as there is room for.
+#[test]
+fn a_number_may_be_large(rt: HostRuntime) -> Result<(), Fail> {
+    let mut parser = Parser::new(rt.alloc(), "{}", None, None, false, ParseMode::Format)?;
+    parser.set_curarg(usize::MAX - 2);
+    check_implicit(&rt, &mut parser, usize::MAX - 2)?;
+    assert_eq!(rt; parser.curarg(), usize::MAX - 1);
+    Ok(())
+}
+
+#[test]
+fn errors_are_taken_out_once(rt: HostRuntime) -> Result<(), Fail> {
+    let mut parser = parser_of(rt.alloc(), "}}}")?;
+    assert_eq!(rt; parser.next()?, Some(Piece::Lit("}")));
+    assert_eq!(rt; parser.next()?, None);
+    let errors = parser.take_errors();
+    assert_eq!(rt; errors.len(), 1);
+    assert_eq!(rt; errors[0].span, 3..4);
+    assert_eq!(rt; errors[0].description.as_str(), "unmatched `}` found");
+    assert_eq!(rt; parser.next()?, None);
+    assert!(rt; parser.errors().is_empty());
+    Ok(())
+}
+
+/// Two of three errors are those of a flag after its type, one of them in front.
+#[test]
+fn errors_are_taken_out_in_order(rt: HostRuntime) -> Result<(), Fail> {
+    let (_, mut parser) = read_all(rt.alloc(), "{foo:?#}", None, None, false, ParseMode::Format)?;
+    let errors = parser.take_errors();
+    assert_eq!(rt; errors.len(), 3);
+    for (error, span) in errors.iter().zip([7..8, 7..7, 8..9].iter()) {
+        assert_eq!(rt; error.span, *span);
+    }
+    assert!(rt; parser.errors().is_empty());
+    assert_eq!(rt; parser.next()?, None);
+    Ok(())
+}
+
+/// New errors come after those that were taken out, at both ends.
+#[test]
+fn errors_come_again(rt: HostRuntime) -> Result<(), Fail> {
+    let mut parser = parser_of(rt.alloc(), "{r#a}{r#b}}")?;
+    for _ in 0..2 {
+        assert!(rt; parser.next()?.is_some());
+        let errors = parser.take_errors();
+        assert_eq!(rt; errors.len(), 1);
+        assert_eq!(rt;
+            errors[0].description.as_str(),
+            "raw identifiers are not supported"
+        );
+    }
+    assert_eq!(rt; parser.next()?, None);
+    assert_eq!(rt; parser.errors().len(), 1);
+    assert_eq!(rt; parser.errors()[0].span, 11..12);
+    Ok(())
+}
+
+/// A clone of a piece, made once more where that is refused memory.
+fn clone_again(
+    rt: &(impl Abort + Print),
+    alloc: Global,
+    piece: &Piece<'static>,
+) -> Result<Piece<'static>, Fail> {
+    if let Ok(copy) = piece.clone(alloc) {
+        return Ok(copy);
+    }
+    println!(rt; "refused")?;
+    Ok(piece.clone(alloc)?)
+}
+
+/// A placeholder with a star, made once more where that is refused memory.
+fn star_again(rt: &(impl Abort + Print), alloc: Global) -> Result<Piece<'static>, Fail> {
+    if let Ok(argument) = Box::new(alloc, implicit(2, 4, starred(1, 5..7))) {
+        return Ok(Piece::NextArgument(argument));
+    }
+    println!(rt; "refused")?;
+    let argument = Box::new(alloc, implicit(2, 4, starred(1, 5..7)))?;
+    Ok(Piece::NextArgument(argument))
+}
+
+#[test]
+fn clone_out_of_memory_is_called_again(rt: HostRuntime) -> Result<(), Fail> {
+    let star = star_again(&rt, rt.alloc())?;
+    let copy = clone_again(&rt, rt.alloc(), &star)?;
+    assert!(rt; copy == star);
+    assert!(rt; copy != Piece::Lit("{:.*}"));
+    Ok(())
+}
+
+#[test]
+fn clones_of_pieces_are_equal(rt: HostRuntime) -> Result<(), Fail> {
+    let (pieces, _) = read_all(
+        rt.alloc(),
+        "{}{:.*}{}x",
+        None,
+        None,
+        false,
+        ParseMode::Format,
+    )?;
+    assert_eq!(rt; pieces.len(), 4);
+    for piece in &pieces {
+        let copy = piece.clone(rt.alloc())?;
+        assert_eq!(rt; copy, *piece);
+    }
+    let second = pieces[1].clone(rt.alloc())?;
+    assert_ne!(rt; second, pieces[0]);
+    Ok(())
+}

@@ -1,0 +1,224 @@
+-- Bytes of a kept snippet that are no backslash stand for themselves: what was passed within them stands there as it is.
+use Rattle.std.proofs.Common.{◌≡◌, ◌≢◌, ◌++◌, ◌+◌, ◌-◌, ◌<◌, ◌≤◌, Bool, true, false, List, ℕ, [], ◌∷◌, take, drop, length, get_or, chars, IsUtf8, IsCharBoundary}
+use Rattle.std.proofs.Common.{suc, zero, inl, inr, ◌⊎◌, ap, refl, subst, sym, ◌∙◌, arith, append_assoc, length-drop}
+use Rattle.std.specs.Char.{len_utf8}
+use Rattle.std.specs.Prelude.{◌&&◌, IsTrue, encode_utf8}
+use Rattle.std.specs.List.{list_all}
+use Rattle.std.proofs.Math.Seq.{take-append-add}
+use Rattle.std.proofs.Math.Utf8.{encodes}
+use Rattle.std.proofs.lemmas.Bool.{and_parts, and_from, false≢true, eqb-true, cases_eq}
+use Rattle.std.proofs.lemmas.List.{drop-drop, drop_more, get_or-take, length-take-le, take-append-drop, take-take}
+use Rattle.std.proofs.lemmas.List.Folds.{list_all-append, list_all_at}
+use Rattle.std.proofs.lemmas.Str.{IsCharBoundary-from_drop, IsUtf8-drop, IsUtf8-from_is_utf8, is_utf8-from_IsUtf8, encode_ascii, encodes-append, encodes-chars, len_utf8_bounds, length-encode}
+use Rattle.rustc_parse_format.specs.declared.source.Look.{Look}
+use Rattle.rustc_parse_format.specs.Bytes.{IsLeft}
+use Rattle.rustc_parse_format.specs.Characters.{Text, behind_first, byte_length}
+use Rattle.rustc_parse_format.specs.Literal.{IsContent, content_value, newline}
+use Rattle.rustc_parse_format.specs.LiteralUnits.{LiteralUnit, Plain, SimpleEscape, ByteEscape, UnicodeEscape, Continuation}
+use Rattle.rustc_parse_format.specs.LiteralUnits.{is_plain}
+use Rattle.rustc_parse_format.specs.SeenSource.{IsBare, IsHere, IsLook, begins_continuation, closed_by_quote, is_bare}
+use Rattle.rustc_parse_format.specs.World.{World}
+use Rattle.rustc_parse_format.proofs.LiteralWidths.{width-append, width-cons}
+use Rattle.rustc_parse_format.proofs.Places.{left, width_chars}
+use Rattle.rustc_parse_format.proofs.SourceContents.{gap-none}
+use Rattle.rustc_parse_format.proofs.SourceMarks.{Gaps, false_if, front_gone, here_plain}
+use Rattle.rustc_parse_format.proofs.SourceSteps.{cut_from}
+
+-- In front of the closing quote there is always a byte.
+pub here_inside : (s : List ℕ) (w : World) (rest : Text) (at : ℕ) → IsHere s w rest at → at < length s
+here_inside s w rest at h =
+    let within = h.within in
+    omega (
+      arith,
+      width_chars (drop at s) (IsUtf8-from_is_utf8 (drop at s) h.valid),
+      ap byte_length h.left,
+      width-append h.content (34 ∷ []),
+      width-cons 34 [],
+      (len_utf8_bounds 34).0,
+      length-drop at s,
+    )
+
+-- An escape begins with a backslash.
+backslash : (n : ℕ) (q x : Text) (z : List ℕ) → q ≡ 92 ∷ x → 1 ≤ n → list_all is_bare (take n (encodes q ++ z)) ≡ true → ⊥
+backslash n q x z e some b = at n some (ap (λ y. list_all is_bare (take n (encodes y ++ z))) (sym e) ∙ b)
+  where
+    at : (n : ℕ) → 1 ≤ n → list_all is_bare (take n (encodes (92 ∷ x) ++ z)) ≡ true → ⊥
+    at zero some b = omega arith
+    at (suc n) some b =
+        let bytes : encodes (92 ∷ x) ++ z ≡ 92 ∷ (encodes x ++ z) = ap (λ y. (y ++ encodes x) ++ z) (encode_ascii 92 (omega arith)) in
+        false≢true (sym (ap (λ y. list_all is_bare (take (suc n) y)) bytes) ∙ b)
+
+-- What a content stands for is what is written in front of its first backslash.
+bare_content : (u r q : Text) (z : List ℕ) (us : List LiteralUnit) (appended : Bool) → IsContent q us → u ++ r ≡ content_value us ++ newline appended →
+    byte_length u ≤ byte_length q → list_all is_bare (take (byte_length u) (encodes q ++ z)) ≡ true →
+    (t : Text) × (q ≡ u ++ t) × (list_all is_plain u ≡ true)
+bare_content [] r q z us a h e n b = (q, refl, refl)
+bare_content (c ∷ u) r q z [] a h e n b = absurd (omega (arith, n, ap byte_length h, width-cons c u, (len_utf8_bounds c).0))
+bare_content (c ∷ u) r q z (Plain d ∷ us) a (v, w, m, f, h) e n b =
+    let head : c ≡ d = ap (λ (t : Text). get_or t 0 0) e in
+    let front = encode_utf8 d in
+    let size : byte_length (c ∷ u) ≡ length front + byte_length u = omega (arith, width-cons c u, length-encode d, ap len_utf8 head) in
+    let bytes : encodes q ++ z ≡ front ++ (encodes v ++ z) = ap (λ x. encodes x ++ z) f ∙ append_assoc front (encodes v) z in
+    let split : take (byte_length (c ∷ u)) (encodes q ++ z) ≡ front ++ take (byte_length u) (encodes v ++ z) =
+    ap (λ k. take k (encodes q ++ z)) size ∙ (ap (take (length front + byte_length u)) bytes ∙ take-append-add front (encodes v ++ z) (byte_length u)) in
+    let parts : (list_all is_bare front ≡ true) × (list_all is_bare (take (byte_length u) (encodes v ++ z)) ≡ true) =
+    and_parts _ _ (sym (ap (list_all is_bare) split ∙ list_all-append is_bare front (take (byte_length u) (encodes v ++ z))) ∙ b) in
+    let fewer : byte_length u ≤ byte_length v = omega (arith, n, ap byte_length f, width-cons d v, width-cons c u, ap len_utf8 head) in
+    let k = bare_content u r v z us a h (ap behind_first e) fewer parts.1 in
+    (k.0, f ∙ (ap (λ x. d ∷ x) k.1 ∙ ap (λ x. x ∷ (u ++ k.0)) (sym head)), and_from (is_plain c) (list_all is_plain u) (ap is_plain head ∙ w) k.2)
+bare_content (c ∷ u) r q z (SimpleEscape l ∷ us) a (v, w, m, f, h) e n b =
+    absurd (backslash (byte_length (c ∷ u)) q _ z f (omega (arith, width-cons c u, (len_utf8_bounds c).0)) b)
+bare_content (c ∷ u) r q z (ByteEscape i l ∷ us) a (v, w, m, f, h) e n b =
+    absurd (backslash (byte_length (c ∷ u)) q _ z f (omega (arith, width-cons c u, (len_utf8_bounds c).0)) b)
+bare_content (c ∷ u) r q z (UnicodeEscape x ∷ us) a (v, w, m, f, h) e n b =
+    absurd (backslash (byte_length (c ∷ u)) q _ z f (omega (arith, width-cons c u, (len_utf8_bounds c).0)) b)
+bare_content (c ∷ u) r q z (Continuation x ∷ us) a (v, w, m, f, h) e n b =
+    absurd (backslash (byte_length (c ∷ u)) q _ z f (omega (arith, width-cons c u, (len_utf8_bounds c).0)) b)
+
+-- fewer bytes are bare too
+fewer_bare : (m n : ℕ) (l : List ℕ) → m ≤ n → list_all is_bare (take n l) ≡ true → list_all is_bare (take m l) ≡ true
+fewer_bare m n l k b =
+    let split : list_all is_bare (take n l) ≡ (list_all is_bare (take m l) && list_all is_bare (drop m (take n l))) =
+    ap (list_all is_bare) (sym (take-append-drop m (take n l)) ∙ ap (λ x. x ++ drop m (take n l)) (take-take m n l k))
+    ∙ list_all-append is_bare (take m l) (drop m (take n l)) in
+    (and_parts _ _ (sym split ∙ b)).0
+
+-- What was passed, and stands in the snippet as it is, from a byte on.
+record Passed (s mark rest : List ℕ) (at m : ℕ) : Type 0 where
+  pub front : Text
+  pub whole : chars mark ≡ front ++ chars rest
+  pub size : byte_length front ≡ m
+  pub behind : Text
+  pub stands : chars (drop at s) ≡ front ++ behind
+  pub plain : IsTrue (list_all is_plain front)
+  pub within : at + m ≤ length s
+  pub valid : IsUtf8 (drop (at + m) s)
+
+abbrev pub Moved : List ℕ → List ℕ → ℕ
+Moved mark rest = length mark - length rest
+
+passed : (s : List ℕ) (w : World) (mark rest : List ℕ) (at : Look) → IsLook s w (chars mark) at → IsLeft mark rest → Moved mark rest ≤ at.bare →
+    Passed s mark rest at.byte (Moved mark rest)
+passed s w mark rest at (h, b) l fewer =
+    let k = left mark rest l in
+    let bytes = drop at.byte s in
+    let u = IsUtf8-from_is_utf8 bytes h.valid in
+    let inside = b.inside in
+    let shorter : byte_length k.pre ≤ byte_length h.content = omega (
+      arith,
+      k.bytes,
+      width_chars bytes u,
+      ap byte_length h.left,
+      width-append h.content (34 ∷ []),
+      width-cons 34 [],
+      length-drop at.byte s,
+    ) in
+    let spelled : bytes ≡ encodes h.content ++ encodes (34 ∷ []) = sym (encodes-chars bytes u) ∙ (ap encodes h.left ∙ encodes-append h.content (34 ∷ [])) in
+    let bare = fewer_bare (byte_length k.pre) at.bare bytes (omega (arith, k.bytes)) b.bare in
+    let f = bare_content k.pre (chars rest) h.content (encodes (34 ∷ [])) h.units h.appended h.is_content (sym k.whole ∙ h.rest_is) shorter
+    (sym (ap (λ x. list_all is_bare (take (byte_length k.pre) x)) spelled) ∙ bare) in
+    let stands : chars bytes ≡ k.pre ++ (f.0 ++ 34 ∷ []) = h.left ∙ (ap closed_by_quote f.1 ∙ append_assoc k.pre f.0 (34 ∷ [])) in
+    let cut = cut_from s at.byte (Moved mark rest) k.pre (f.0 ++ 34 ∷ []) h.within u stands (sym k.bytes) in
+    record {
+      front = k.pre;
+      whole = k.whole;
+      size = k.bytes;
+      behind = f.0 ++ 34 ∷ [];
+      stands = stands;
+      plain = f.2;
+      within = cut.0;
+      valid = cut.1;
+    }
+
+-- where it ends in the snippet
+pub bare_boundary : (s : List ℕ) (w : World) (mark rest : List ℕ) (at : Look) → IsLook s w (chars mark) at → IsLeft mark rest → Moved mark rest ≤ at.bare →
+    IsCharBoundary s (at.byte + Moved mark rest)
+bare_boundary s w mark rest at h l fewer =
+    let p = passed s w mark rest at h l fewer in IsCharBoundary-from_drop s (at.byte + Moved mark rest) p.within p.valid
+
+-- Where nothing was passed, the next character is where it was,
+bare_still : (s : List ℕ) (w : World) (mark rest : List ℕ) (at : Look) → IsLook s w (chars mark) at → IsLeft mark rest → Moved mark rest ≡ 0 →
+    IsHere s w (chars rest) (at.byte + Moved mark rest)
+bare_still s w mark rest at h l none =
+    let k = left mark rest l in
+    let within = l.within in
+    let same : chars mark ≡ chars rest = front_gone mark rest (IsUtf8-from_is_utf8 mark l.valid) (IsUtf8-from_is_utf8 rest l.valid_rest) (omega arith) k.pre k.whole in
+    let stays : at.byte ≡ at.byte + Moved mark rest = omega (arith, none) in
+    subst (IsHere s w (chars rest)) stays (subst (λ t. IsHere s w t at.byte) same h.0)
+
+-- and else behind what was passed and the continuations there,
+pub bare_ahead : (s : List ℕ) (w : World) (mark rest : List ℕ) (at : Look) (g : ℕ) → IsLook s w (chars mark) at → IsLeft mark rest →
+    Moved mark rest ≤ at.bare → Moved mark rest ≢ 0 → Gaps s (at.byte + Moved mark rest) g → IsHere s w (chars rest) ((at.byte + Moved mark rest) + g)
+bare_ahead s w mark rest at g h l fewer some gaps =
+    let p = passed s w mark rest at h l fewer in
+    let moved : p.front ≢ [] = λ none. some (sym p.size ∙ ap byte_length none) in
+    subst (λ m. IsHere s w (chars rest) ((at.byte + m) + g)) p.size
+    (here_plain s w p.front (chars rest) p.behind at.byte g (subst (λ t. IsHere s w t at.byte) p.whole h.0) moved p.stands p.plain
+    (subst (λ m. Gaps s (at.byte + m) g) (sym p.size) gaps))
+
+-- of which there are none where another bare byte comes.
+bare_byte : (s : List ℕ) (at m n : ℕ) → IsBare s at n → m < n → is_bare (get_or (drop at s) m 0) ≡ true
+bare_byte s at m n b more =
+    let inside = b.inside in
+    let long : m < length (take n (drop at s)) = omega (arith, length-drop at s, length-take-le n (drop at s) (omega (arith, length-drop at s))) in
+    let same : get_or (take n (drop at s)) m 0 ≡ get_or (drop at s) m 0 = get_or-take n (drop at s) m 0 more in
+    true_if _ (λ no. false≢true (sym (list_all_at is_bare (take n (drop at s)) m 0 long (ap is_bare same ∙ no)) ∙ b.bare))
+  where
+    true_if : (b : Bool) → (b ≡ false → ⊥) → b ≡ true
+    true_if true h = refl
+    true_if false h = absurd (h refl)
+
+no_continuation : (x : List ℕ) (b : ℕ) (y : List ℕ) → IsUtf8 x → x ≡ b ∷ y → is_bare b ≡ true → begins_continuation (chars x) ≡ false
+no_continuation x b y u e bare = false_if _ (λ is. by_chars (chars x) refl is)
+  where
+    by_chars : (t : Text) → chars x ≡ t → begins_continuation t ≡ true → ⊥
+    by_chars [] f is = false≢true is
+    by_chars (c ∷ t) f is =
+        let first : c ≡ 92 = eqb-true c 92 (and_parts _ _ is).0 in
+        let bytes : x ≡ 92 ∷ encodes t =
+        sym (encodes-chars x u) ∙ (ap encodes f ∙ (ap (λ d. encode_utf8 d ++ encodes t) first ∙ ap (λ d. d ++ encodes t) (encode_ascii 92 (omega arith)))) in
+        let same : b ≡ 92 = ap (λ (l : List ℕ). get_or l 0 0) (sym e ∙ bytes) in
+        false≢true (sym (ap is_bare same) ∙ bare)
+
+bare_inside : (s : List ℕ) (w : World) (mark rest : List ℕ) (at : Look) → IsLook s w (chars mark) at → IsLeft mark rest → Moved mark rest < at.bare →
+    IsHere s w (chars rest) (at.byte + Moved mark rest)
+bare_inside s w mark rest at h l more = of_moved (cases_eq (Moved mark rest) 0)
+  where
+    m : ℕ
+    m = Moved mark rest
+
+    p : Passed s mark rest at.byte m
+    p = passed s w mark rest at h l (omega arith)
+
+    bytes : drop (at.byte + m) s ≡ get_or (drop at.byte s) m 0 ∷ drop (m + 1) (drop at.byte s)
+    bytes = let inside = h.1.inside in
+        sym (drop-drop m at.byte s) ∙ drop_more (drop at.byte s) m 0 (omega (arith, length-drop at.byte s))
+
+    none : Gaps s (at.byte + m) 0
+    none q us k e = sym (gap-none (chars (drop (at.byte + m) s)) q us k e
+        (no_continuation (drop (at.byte + m) s) (get_or (drop at.byte s) m 0) _ p.valid bytes (bare_byte s at.byte m at.bare h.1 more)))
+
+    of_moved : (m ≡ 0) ⊎ (m ≢ 0) → IsHere s w (chars rest) (at.byte + m)
+    of_moved (inl still) = bare_still s w mark rest at h l still
+    of_moved (inr some) =
+        let stays : (at.byte + m) + 0 ≡ at.byte + m = omega arith in
+        subst (IsHere s w (chars rest)) stays (bare_ahead s w mark rest at 0 h l (omega arith) some none)
+
+pub bare_here : (s : List ℕ) (w : World) (mark rest : List ℕ) (at : Look) → IsLook s w (chars mark) at → IsLeft mark rest →
+    (Moved mark rest ≡ 0) ⊎ ((Moved mark rest ≢ 0) × (Moved mark rest < at.bare)) → IsHere s w (chars rest) (at.byte + Moved mark rest)
+bare_here s w mark rest at h l (inl still) = bare_still s w mark rest at h l still
+bare_here s w mark rest at h l (inr (some, more)) = bare_inside s w mark rest at h l more
+
+-- What is left of a text behind a front is one of the fronts of what is left behind more.
+pub left_over : (text rest : List ℕ) (n : ℕ) → IsCharBoundary text n → IsLeft text rest → n ≤ length text - length rest → IsLeft (drop n text) rest
+left_over text rest n b l fewer =
+    let size = length-drop n text in
+    let within = l.within in
+    let u = IsUtf8-drop text n (IsUtf8-from_is_utf8 text l.valid) b in
+    let at : n + (length (drop n text) - length rest) ≡ length text - length rest = omega arith in
+    record {
+      valid = is_utf8-from_IsUtf8 (drop n text) u;
+      valid_rest = l.valid_rest;
+      within = omega arith;
+      tail = drop-drop (length (drop n text) - length rest) n text ∙ (ap (λ k. drop k text) at ∙ l.tail);
+    }

@@ -1,0 +1,22 @@
+use Rattle.std.proofs.Common.{arith}
+use Rattle.rustc_parse_format.specs.LiteralUnits.{is_plain}
+use Rattle.rustc_parse_format.proofs.BlockFronts.{block-shared}
+use Rattle.rustc_parse_format.proofs.blocks.plain_front.Goals as goal
+
+pub returns-then-plain-lt16 : goal.returns-then-plain-lt16
+returns-then-plain-lt16 c =
+    let plain = c.plain_lanes-plain.ensures in
+    block-shared is_plain c.args.bytes.now c.args.others.now c.loop-at.at c.plain_lanes-plain.result
+    (omega (arith, c.loop-at-test.true, c.min-most.ensures)) (omega (arith, c.loop-at-test.true, c.min-most.ensures)) plain.within
+    c.loop-at.invariant.front plain.same plain.pass
+
+pub loop-at-preserved : goal.loop-at-preserved
+loop-at-preserved c =
+    let plain = c.plain_lanes-plain.ensures in
+    let few = plain.within in
+    record {
+      within = omega (arith, c.loop-at-test.true);
+      front = block-shared is_plain c.args.bytes.now c.args.others.now c.loop-at.at c.plain_lanes-plain.result
+          (omega (arith, c.loop-at-test.true, c.min-most.ensures)) (omega (arith, c.loop-at-test.true, c.min-most.ensures)) few
+          c.loop-at.invariant.front plain.same plain.pass;
+    }

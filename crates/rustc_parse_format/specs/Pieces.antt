@@ -1,0 +1,45 @@
+-- What a caller sees of the iterator over the pieces of a parser.
+use Rattle.std.specs.Prelude.{◌≡◌, ℕ, suc, Bool, true, false, not, if◌then◌else◌, length, Option, Some, None, option_map, Result, Ok, Err}
+use Rattle.std.specs.declared.alloc.AllocError.{AllocError}
+use Rattle.std.specs.Borrow.{GName}
+use Rattle.rustc_parse_format.specs.declared.pieces.Pieces.{Pieces}
+use Rattle.rustc_parse_format.specs.declared.types.Piece.{Piece as DeclaredPiece}
+use Rattle.rustc_parse_format.specs.Seen.{seen}
+use Rattle.rustc_parse_format.specs.State.{State, NeedsNoMemory, after, next_call}
+use Rattle.rustc_parse_format.specs.World.{piece_in}
+
+-- where its parser stands
+abbrev pub parser_of : Pieces → State
+parser_of it = it.parser.now
+
+-- the name under which the parser was lent to it
+abbrev pub lender_of : Pieces → GName
+lender_of it = it.parser.ghost_name
+
+-- it has given its last item
+abbrev pub has_ended : Pieces → Bool
+has_ended it = it.ended
+
+-- A call of the parser at s leaves it at t, and this is its item: the piece; the refusal, which moves nothing, and which a call that
+-- needs no memory never is; or none where the call gives no piece.
+abbrev pub IsCall : State → Option (Result DeclaredPiece AllocError) → State → Type 0
+IsCall s (Some (Ok p)) t = (Some (seen p) ≡ option_map (piece_in s.world) (next_call s).piece) × (t ≡ after s (next_call s))
+IsCall s (Some (Err e)) t = (NeedsNoMemory s (next_call s) → ⊥) × (t ≡ s)
+IsCall s None t = ((next_call s).piece ≡ None) × (t ≡ after s (next_call s))
+
+-- only after a piece another item may come
+abbrev pub is_piece : Option (Result DeclaredPiece AllocError) → Bool
+is_piece (Some (Ok p)) = true
+is_piece (Some (Err e)) = false
+is_piece None = false
+
+-- Such an item and such a state of the iterator come of one more step: the next call of the parser, or nothing where it has ended.
+pub record GivesItem (old : Pieces) (item : Option (Result DeclaredPiece AllocError)) (new : Pieces) : Type 0 where
+  pub called : has_ended old ≡ false → IsCall (parser_of old) item (parser_of new)
+  pub ended : has_ended old ≡ true → (item ≡ None) × (parser_of new ≡ parser_of old)
+  pub goes_on : has_ended new ≡ not (is_piece item)
+  pub same_parser : lender_of new ≡ lender_of old
+
+-- at most so many items are left: one for each character, and one more
+abbrev pub items_left : Pieces → ℕ
+items_left it = if has_ended it then 0 else suc (length (parser_of it).rest)
