@@ -80,7 +80,7 @@ placeholder_steps mode c b t e =
         numbered = refl;
       };
     })
-    (λ h f. absurd (told (cut_faults (cut mode t)) _ _ f))
+    (λ h f. absurd (told (cut_faults mode (cut mode t)) _ _ f))
   where
     told : (xs : List (Fault Span)) (x : Fault Span) (ys : List (Fault Span)) → xs ++ (x ∷ ys) ≡ [] → ⊥
     told xs x ys f = let k = none_right xs (x ∷ ys) f in cc k
@@ -151,7 +151,7 @@ opens_one mode (d ∷ t) r e = cond_free (d == 123) (λ h. again d t (eqb-true d
     again : (d : ℕ) (t : Text) → d ≡ 123 → behind_white (cut mode (d ∷ t)).rest ≡ 125 ∷ r → ⊥
     again d t h e = differ r t (sym e ∙ rw h (brace_stays mode t))
 
-call_closed : (mode : Mode) (c : ℕ) (t r : Text) → behind_white (cut mode t).rest ≡ 125 ∷ r → IsClean (cut mode t).field →
+call_closed : (mode : Mode) (c : ℕ) (t r : Text) → behind_white (cut mode t).rest ≡ 125 ∷ r → IsClean mode (cut mode t).field →
     Gives (NextArgument (argument_value c (cut mode t).field)) r (number_after_field c (cut mode t).field) (call mode c (123 ∷ t))
 unfolding call placeholder
 call_closed mode c t r e h =
@@ -169,7 +169,7 @@ call_closed mode c t r e h =
 moved : (mode : Mode) (c : ℕ) (t u : Text) (p : Piece (Unit {0})) (r : Text) (n : ℕ) → t ≡ u → Gives p r n (call mode c u) → Gives p r n (call mode c t)
 moved mode c t u p r n e g = rw e g
 
-part_call : (mode : Mode) (c : ℕ) (t : Text) (x : PieceText) (r : Text) → IsPart t (piece_part mode x) r → IsCleanPiece x →
+part_call : (mode : Mode) (c : ℕ) (t : Text) (x : PieceText) (r : Text) → IsPart t (piece_part mode x) r → IsCleanPiece mode x →
     Gives (piece_value c x) r (number_after c x) (call mode c t)
 part_call mode c t (RunText u) r w h =
     let k = some_run-complete is_no_brace t u r w in
@@ -182,7 +182,7 @@ part_call mode c t (DoubledText b u) r w h =
 part_call mode c t (PlaceholderText a space) r w h =
     let k = by_cut mode t a space r w in
     moved mode c t (123 ∷ k.inside) _ r _ k.opens
-    (given_as (call_closed mode c k.inside r k.closes (subst IsClean k.field h)) (ap (λ x. NextArgument (argument_value c x)) (sym k.field)) refl
+    (given_as (call_closed mode c k.inside r k.closes (subst (IsClean mode) k.field h)) (ap (λ x. NextArgument (argument_value c x)) (sym k.field)) refl
     (ap (number_after_field c) (sym k.field)))
 
 -- A call gives the piece that begins the text, with no fault.

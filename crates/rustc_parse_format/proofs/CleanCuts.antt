@@ -1,16 +1,19 @@
 -- A cut that a brace closes has no fault exactly where nothing in it is refused.
-use Rattle.std.proofs.Common.{◌≡◌, ◌++◌, ◌==◌, ℕ, Bool, true, false, ap, [], ◌∷◌, refl, sym, ◌∙◌, codes}
+use Rattle.std.proofs.Common.{◌≡◌, ◌++◌, ◌==◌, ℕ, Bool, true, false, not, ◌&&◌, cond, IsTrue, ap, [], ◌∷◌, refl, sym, ◌∙◌, codes}
 use Rattle.std.proofs.lemmas.Bool.{cond_both, eqb-true, false≢true, ne_eqb, or_from}
 use Rattle.std.specs.Char.{is_ascii_digit, is_whitespace}
-use Rattle.rustc_parse_format.specs.Characters.{Text, is_id_start, behind, word, first_passes, behind_first, behind_prefix, behind_white, begins_raw}
-use Rattle.rustc_parse_format.specs.Types.{Mode, Format, InlineAsm, Diagnostic, DebugHex, Lower, Upper}
+use Rattle.rustc_parse_format.specs.Characters.{Text, is_id_start, is_no_brace, front, behind, word, first_passes, behind_first, behind_prefix, behind_white, begins_raw}
+use Rattle.rustc_parse_format.specs.Types.{Mode, Format, InlineAsm, Diagnostic, DiagnosticNamed, wants_names, DebugHex, Position, Lower, Upper}
 use Rattle.rustc_parse_format.specs.Counts.{width, precision}
 use Rattle.rustc_parse_format.specs.Syntax.{TypeText, SpecText}
 use Rattle.rustc_parse_format.specs.Specification.{type, behind_hex, width_at, precision_at, type_at, format_text, specification, behind_colon}
 use Rattle.rustc_parse_format.specs.Placeholder.{position, cut}
 use Rattle.rustc_parse_format.specs.Grammar.{IsClean, IsCleanPosition, IsCleanType, IsCleanFormat, IsCleanSpec}
 use Rattle.rustc_parse_format.specs.PartFaults.{word_faults, raw_faults, position_faults, width_faults, precision_faults, type_faults, format_faults}
-use Rattle.rustc_parse_format.specs.PartFaults.{spec_faults, cut_faults, is_debug_flag, flag_faults}
+use Rattle.rustc_parse_format.specs.PartFaults.{name_faults, text_faults, spec_faults, cut_faults, is_debug_flag, flag_faults}
+use Rattle.rustc_parse_format.specs.Faults.{TextAfterColon}
+use Rattle.rustc_parse_format.specs.Marks.{up_to}
+use Rattle.rustc_parse_format.specs.Values.{given_position}
 use Rattle.rustc_parse_format.proofs.CleanWords.{none_left, none_right, none_both, named, small, unnamed, unlarge, choose, word_first, no_word_at_end}
 use Rattle.rustc_parse_format.proofs.PartPlaces.{format_faults-at}
 use Rattle.rustc_parse_format.proofs.CleanCounts.{width_clean, precision_clean}
@@ -125,39 +128,73 @@ format_faultless t h f =
     (precision_faultless (precision_at t) h.precision (λ z u. (underscore_stays (type_at t) u).1 h.type)))
     (type_faultless (type_at t) h.type f)
 
-colon_clean : (mode : Mode) (c : ℕ) (t : Text) → spec_faults (c ∷ t) (behind_colon mode t).0 (behind_colon mode t).1 ≡ [] → IsCleanSpec (behind_colon mode t).0
+-- Where a mode wants names and nothing else, text after a colon has its fault,
+text_clean : {A : Type 0} (mode : Mode) (u : Text) (s : A) → text_faults mode u s ≡ [] → IsTrue (wants_names mode) → u ≡ []
+text_clean mode [] s e h = refl
+text_clean mode (c ∷ u) s e h = let told : TextAfterColon s ∷ [] ≡ [] = sym (rw h refl) ∙ e in cc told
+
+text_faultless : {A : Type 0} (mode : Mode) (u : Text) (s : A) → (IsTrue (wants_names mode) → u ≡ []) → text_faults mode u s ≡ []
+text_faultless mode [] s h = quiet (wants_names mode)
+  where
+    quiet : (b : Bool) → cond (b && false) (TextAfterColon s ∷ []) [] ≡ []
+    quiet true = refl
+    quiet false = refl
+text_faultless mode (c ∷ u) s h = quiet (wants_names mode) (λ e. let none = h e in cc none)
+  where
+    quiet : (b : Bool) → (IsTrue b → ⊥) → cond (b && true) (TextAfterColon s ∷ []) [] ≡ []
+    quiet true f = absurd (f refl)
+    quiet false f = refl
+
+-- and a position that is no name has one.
+wanted : {A : Type 0} (b n : Bool) (x : A) → cond (b && not n) (x ∷ []) [] ≡ [] → IsTrue b → IsTrue n
+wanted true true x e h = refl
+wanted true false x e h = cc e
+wanted false n x e h = absurd (false≢true h)
+
+unwanted : {A : Type 0} (b n : Bool) (x : A) → (IsTrue b → IsTrue n) → cond (b && not n) (x ∷ []) [] ≡ []
+unwanted true true x h = refl
+unwanted true false x h = absurd (false≢true (h refl))
+unwanted false n x h = refl
+
+colon_clean : (mode : Mode) (c : ℕ) (t : Text) → spec_faults mode (c ∷ t) (behind_colon mode t).0 (behind_colon mode t).1 ≡ [] →
+    IsCleanSpec mode (behind_colon mode t).0
 colon_clean Format c t e = format_clean t e
 colon_clean InlineAsm c t e = named t e
-colon_clean Diagnostic c t e = tt
+colon_clean Diagnostic c t e = text_clean Diagnostic (front is_no_brace t) (up_to (c ∷ t) (behind is_no_brace t)) e
+colon_clean DiagnosticNamed c t e = text_clean DiagnosticNamed (front is_no_brace t) (up_to (c ∷ t) (behind is_no_brace t)) e
 
 -- what a specification that is read at t says of its rest
-abbrev SpecClean : Text → SpecText × Text → Type 0
-SpecClean t s = spec_faults t s.0 s.1 ≡ [] → IsCleanSpec s.0
+abbrev SpecClean : Mode → Text → SpecText × Text → Type 0
+SpecClean mode t s = spec_faults mode t s.0 s.1 ≡ [] → IsCleanSpec mode s.0
 
-specification_clean : (mode : Mode) (t : Text) → SpecClean t (specification mode t)
+specification_clean : (mode : Mode) (t : Text) → SpecClean mode t (specification mode t)
 specification_clean mode [] e = tt
 specification_clean mode (c ∷ t) e =
-    cond_both {A = SpecText × Text} (c == 58) _ _ (SpecClean (c ∷ t)) (λ z h. colon_clean mode c t h) (λ z h. tt) e
+    cond_both {A = SpecText × Text} (c == 58) _ _ (SpecClean mode (c ∷ t)) (λ z h. colon_clean mode c t h) (λ z h. tt) e
 
-abbrev SpecFaultless : Text → SpecText × Text → Type 0
-SpecFaultless t s = IsCleanSpec s.0 → IsUnflagged s.1 → spec_faults t s.0 s.1 ≡ []
+abbrev SpecFaultless : Mode → Text → SpecText × Text → Type 0
+SpecFaultless mode t s = IsCleanSpec mode s.0 → IsUnflagged s.1 → spec_faults mode t s.0 s.1 ≡ []
 
-colon_faultless : (mode : Mode) (c : ℕ) (t : Text) → SpecFaultless (c ∷ t) (behind_colon mode t)
+colon_faultless : (mode : Mode) (c : ℕ) (t : Text) → SpecFaultless mode (c ∷ t) (behind_colon mode t)
 colon_faultless Format c t = format_faultless t
 colon_faultless InlineAsm c t = λ h f. unnamed t h
-colon_faultless Diagnostic c t = λ h f. refl
+colon_faultless Diagnostic c t = λ h f. text_faultless Diagnostic (front is_no_brace t) (up_to (c ∷ t) (behind is_no_brace t)) h
+colon_faultless DiagnosticNamed c t = λ h f. text_faultless DiagnosticNamed (front is_no_brace t) (up_to (c ∷ t) (behind is_no_brace t)) h
 
-specification_faultless : (mode : Mode) (t : Text) → SpecFaultless t (specification mode t)
+specification_faultless : (mode : Mode) (t : Text) → SpecFaultless mode t (specification mode t)
 specification_faultless mode [] = λ h f. refl
 specification_faultless mode (c ∷ t) =
-    cond_both {A = SpecText × Text} (c == 58) _ _ (SpecFaultless (c ∷ t)) (λ z. colon_faultless mode c t) (λ z h f. refl)
+    cond_both {A = SpecText × Text} (c == 58) _ _ (SpecFaultless mode (c ∷ t)) (λ z. colon_faultless mode c t) (λ z h f. refl)
 
 -- In a cut without a fault nothing is refused.
-pub cut_clean : (mode : Mode) (t : Text) → cut_faults (cut mode t) ≡ [] → IsClean (cut mode t).field
+pub cut_clean : (mode : Mode) (t : Text) → cut_faults mode (cut mode t) ≡ [] → IsClean mode (cut mode t).field
 unfolding cut cut_faults
 cut_clean mode t e = record {
-  position = position_clean t (none_left _ _ e);
-  spec = specification_clean mode (behind_white (position t).1) (none_right (position_faults t (position t).0) _ e);
+  position = position_clean t (none_left _ _ (none_left _ _ e));
+  name = wanted _ _ _ (none_right (position_faults t (position t).0) _ (none_left _ _ e));
+  spec = specification_clean mode (behind_white (position t).1)
+      (none_right (position_faults t (position t).0
+      ++ name_faults mode (given_position (position t).0) (up_to t (behind_white (position t).1))) _ e);
 }
 
 another : (p : ℕ → Bool) (c n : ℕ) → p c ≡ true → p n ≡ false → c == n ≡ false
@@ -178,8 +215,8 @@ closed-unflagged (c ∷ t) r e =
     e
 
 -- A cut in which nothing is refused has no fault where a brace closes it.
-pub cut_faultless : (mode : Mode) (t r : Text) → IsClean (cut mode t).field → behind_white (cut mode t).rest ≡ 125 ∷ r → cut_faults (cut mode t) ≡ []
+pub cut_faultless : (mode : Mode) (t r : Text) → IsClean mode (cut mode t).field → behind_white (cut mode t).rest ≡ 125 ∷ r → cut_faults mode (cut mode t) ≡ []
 unfolding cut cut_faults
 cut_faultless mode t r h e =
-    none_both _ _ (position_faultless t h.position)
+    none_both _ _ (none_both _ _ (position_faultless t h.position) (unwanted _ _ _ h.name))
     (specification_faultless mode (behind_white (position t).1) h.spec (closed-unflagged (cut mode t).rest r e))

@@ -33,6 +33,11 @@ list_all-front p [] = refl
 list_all-front p (c ∷ t) = cond_both (p c) (c ∷ front p t) [] (λ s. list_all p s ≡ true)
     (λ yes. and_from _ _ yes (list_all-front p t)) (λ no. refl)
 
+-- Where the first character does not pass, all is left; and what is left begins with none that passes.
+pub behind-stays : (p : ℕ → Bool) (t : Text) → first_passes p t ≡ false → behind p t ≡ t
+behind-stays p [] h = refl
+behind-stays p (c ∷ t) h = ap (λ b. cond b (behind p t) (c ∷ t)) h
+
 pub first_passes-behind : (p : ℕ → Bool) (t : Text) → first_passes p (behind p t) ≡ false
 first_passes-behind p [] = refl
 first_passes-behind p (c ∷ t) = cond_both (p c) (behind p t) (c ∷ t) (λ s. first_passes p s ≡ false)

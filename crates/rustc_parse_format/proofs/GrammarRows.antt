@@ -111,7 +111,7 @@ padded_number-has_this_reading = (
   record {
     text = PlaceholderText (spec (record nothing { width = PaddedWidth (NumberCount (codes "5")) })) [];
     written = record { whole = refl; formed = refl; ends = refl };
-    clean = record { position = tt; spec = record { width = omega arith; precision = tt; type = λ e. cc e } };
+    clean = record { position = tt; name = λ e. cc e; spec = record { width = omega arith; precision = tt; type = λ e. cc e } };
     means = refl;
     numbered = refl;
   },

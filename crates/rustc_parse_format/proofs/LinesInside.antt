@@ -7,12 +7,12 @@ use Rattle.std.specs.List.{AllByRecursion}
 use Rattle.std.proofs.lemmas.Bool.{cond_both, and_parts, false≢true}
 use Rattle.rustc_parse_format.specs.Characters.{Text, is_brace, is_no_brace, begins_with, behind_first, behind_brace, behind_white, behind, front}
 use Rattle.rustc_parse_format.specs.Characters.{is_nil, byte_length}
-use Rattle.rustc_parse_format.specs.Types.{Mode, Format, InlineAsm, Diagnostic, Argument, Piece}
+use Rattle.rustc_parse_format.specs.Types.{Mode, Format, InlineAsm, Diagnostic, DiagnosticNamed, Argument, Piece}
 use Rattle.rustc_parse_format.specs.Spelling.{IsPart, fixed, run}
 use Rattle.rustc_parse_format.specs.Syntax.{SpecText, Default, Formatting, Modifier, DiagnosticText, spec_part}
 use Rattle.rustc_parse_format.specs.Placeholder.{cut}
 use Rattle.rustc_parse_format.specs.Marks.{Mark, Start, Span, marked, over_first}
-use Rattle.rustc_parse_format.specs.Faults.{Fault, UnmatchedBrace, MissingBrace, FillBrace, Underscore, TooLarge, RawIdentifier, LateFlag}
+use Rattle.rustc_parse_format.specs.Faults.{Fault, UnmatchedBrace, MissingBrace, FillBrace, Underscore, TooLarge, Unnamed, TextAfterColon, RawIdentifier, LateFlag}
 use Rattle.rustc_parse_format.specs.Faults.{Message, map_fault, message, is_front, add_errors}
 use Rattle.rustc_parse_format.specs.Call.{Call, IsWalk, GoesOn, call, placeholder, closed_call, unclosed_call}
 use Rattle.rustc_parse_format.specs.Values.{number_after_field}
@@ -104,14 +104,18 @@ run-between t =
     subst (λ u. AreBetween (length u) (marked (front is_no_brace t) (behind is_no_brace t)) (length (behind is_no_brace t)))
     (sym (front-behind is_no_brace t)) (marked-between (front is_no_brace t) (behind is_no_brace t))
 
+text-between : (t u r : Text) → IsPart t (spec_part Diagnostic (DiagnosticText u)) r → AreBetween (length t) (marked u r) (length r)
+text-between t u r h =
+    let s = two-split t (fixed (codes ":")) (run is_no_brace u) r h in
+    between-wider (length (u ++ r)) (length r) (length t) (length r) (marked u r)
+    (omega (arith, ap length s.first.whole, ap length s.second.whole)) (omega arith) (marked-between u r)
+
 spec-between : (mode : Mode) (t : Text) (s : SpecText) (r : Text) → IsPart t (spec_part mode s) r → AreBetween (length t) (spec_texts s r) (length r)
 spec-between mode t Default r h = IsRest-le (record { front = (spec_part mode Default).spelling; whole = h.whole })
 spec-between mode t (Formatting p) r h = IsRest-le (record { front = (spec_part mode (Formatting p)).spelling; whole = h.whole })
 spec-between mode t (Modifier w) r h = IsRest-le (record { front = (spec_part mode (Modifier w)).spelling; whole = h.whole })
-spec-between Diagnostic t (DiagnosticText u) r h =
-    let s = two-split t (fixed (codes ":")) (run is_no_brace u) r h in
-    between-wider (length (u ++ r)) (length r) (length t) (length r) (marked u r)
-    (omega (arith, ap length s.first.whole, ap length s.second.whole)) (omega arith) (marked-between u r)
+spec-between Diagnostic t (DiagnosticText u) r h = text-between t u r h
+spec-between DiagnosticNamed t (DiagnosticText u) r h = text-between t u r h
 spec-between Format t (DiagnosticText u) r h = absurd (false≢true h.formed)
 spec-between InlineAsm t (DiagnosticText u) r h = absurd (false≢true h.formed)
 
@@ -172,7 +176,7 @@ placeholder-between mode c b t =
     let white : length r ≤ length a.rest = IsRest-le (behind_white_rest a.rest) in
     let n = number_after_field c a.field in
     let k = recovery mode n (b ∷ t) (argument c a) r in
-    cond_both {A = Call} (begins_with 125 r) (closed_call c (b ∷ t) a r) (unclosed_call mode c (b ∷ t) a r) (IsBetween (b ∷ t))
+    cond_both {A = Call} (begins_with 125 r) (closed_call mode c (b ∷ t) a r) (unclosed_call mode c (b ∷ t) a r) (IsBetween (b ∷ t))
     (λ yes. between-wider (length a.spec_at) (length a.rest) (length (b ∷ t)) (length (behind_first r)) (spec_texts a.field.spec a.rest) first
     (omega (arith, white, IsRest-le (behind_first_rest r))) read)
     (λ no. between-append (length (b ∷ t)) (length r) (length k.rest) (spec_texts a.field.spec a.rest) k.texts
@@ -252,6 +256,8 @@ fault-spans P w (MissingBrace c s o) h = h
 fault-spans P w (FillBrace c s o) h = h
 fault-spans P w (Underscore s) h = h
 fault-spans P w (TooLarge ds s) h = h
+fault-spans P w (Unnamed s) h = h
+fault-spans P w (TextAfterColon s) h = h
 fault-spans P w (RawIdentifier s p) h = h
 fault-spans P w (LateFlag c s b) h = h
 fault-spans P w (MissingColon s) h = (h.0, h)

@@ -2,7 +2,7 @@
 use Rattle.std.proofs.Common.{ℕ, ◌+◌, ◌≤◌, ◌==◌, [], ◌∷◌, length, arith}
 use Rattle.std.proofs.lemmas.Bool.{cond_both}
 use Rattle.rustc_parse_format.specs.Characters.{Text, behind_white}
-use Rattle.rustc_parse_format.specs.Types.{Mode, Format, InlineAsm, Diagnostic}
+use Rattle.rustc_parse_format.specs.Types.{Mode, Format, InlineAsm, Diagnostic, DiagnosticNamed}
 use Rattle.rustc_parse_format.specs.Syntax.{PrecisionText, SpecText, PositionText, Digits, Word, RawWord, NoPosition}
 use Rattle.rustc_parse_format.specs.Counts.{precision, behind_dot}
 use Rattle.rustc_parse_format.specs.Specification.{align_at, precision_at, type_at, format_text, specification, behind_colon}
@@ -33,6 +33,7 @@ colon_number : (mode : Mode) (c : ℕ) (t : Text) → number_after_spec c (behin
 colon_number Format c t = omega (arith, format_number c t)
 colon_number InlineAsm c t = omega (arith, IsRest-le (specification_rest InlineAsm (58 ∷ t)))
 colon_number Diagnostic c t = omega (arith, IsRest-le (specification_rest Diagnostic (58 ∷ t)))
+colon_number DiagnosticNamed c t = omega (arith, IsRest-le (specification_rest DiagnosticNamed (58 ∷ t)))
 
 pub specification_number : (mode : Mode) (c : ℕ) (t : Text) → number_after_spec c (specification mode t).0 + length (specification mode t).1 ≤ c + length t
 specification_number mode c [] = omega arith

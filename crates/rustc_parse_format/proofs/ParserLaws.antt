@@ -14,7 +14,7 @@ use Rattle.rustc_parse_format.proofs.StateWalks.{after-more}
 use Rattle.rustc_parse_format.specs.Characters.{Text}
 use Rattle.rustc_parse_format.specs.Marks.{Span}
 use Rattle.rustc_parse_format.specs.Types.{Mode, Piece, bare}
-use Rattle.rustc_parse_format.specs.Faults.{Fault, UnmatchedBrace, MissingBrace, FillBrace, Underscore, TooLarge, RawIdentifier, LateFlag}
+use Rattle.rustc_parse_format.specs.Faults.{Fault, UnmatchedBrace, MissingBrace, FillBrace, Underscore, TooLarge, Unnamed, TextAfterColon, RawIdentifier, LateFlag}
 use Rattle.rustc_parse_format.specs.Faults.{Message, add_errors, bare_fault, bare_message, is_front, map_fault, message}
 use Rattle.rustc_parse_format.specs.Faults.{MissingColon, LateDebug, LateAlign, Grouping, DebugPrint, LateSign, FieldAccess, TupleIndex}
 use Rattle.rustc_parse_format.specs.Values.{number_after_field}
@@ -41,7 +41,7 @@ placeholder_rest mode c b t =
     let a = cut mode t in
     let r : Text = behind_white a.rest in
     let white : IsRest (b ∷ t) r = IsRest-cons b (IsRest-trans (cut_rest mode t) (behind_white_rest a.rest)) in
-    cond_both {A = Call} (begins_with 125 r) (closed_call c (b ∷ t) a r) (unclosed_call mode c (b ∷ t) a r) (λ k. IsRest (b ∷ t) k.rest)
+    cond_both {A = Call} (begins_with 125 r) (closed_call mode c (b ∷ t) a r) (unclosed_call mode c (b ∷ t) a r) (λ k. IsRest (b ∷ t) k.rest)
     (λ e. IsRest-trans white (behind_first_rest r))
     (λ e. IsRest-trans white (recovery_rest mode (number_after_field c a.field) (b ∷ t) (argument c a) r))
 
@@ -76,6 +76,8 @@ bare_fault-map f (MissingBrace c s o) = refl
 bare_fault-map f (FillBrace c s o) = refl
 bare_fault-map f (Underscore s) = refl
 bare_fault-map f (TooLarge ds s) = refl
+bare_fault-map f (Unnamed s) = refl
+bare_fault-map f (TextAfterColon s) = refl
 bare_fault-map f (RawIdentifier s p) = refl
 bare_fault-map f (LateFlag c s b) = refl
 bare_fault-map f (MissingColon s) = refl
@@ -98,6 +100,8 @@ bare-told (MissingBrace c s o) = (refl, refl)
 bare-told (FillBrace c s o) = (refl, refl)
 bare-told (Underscore s) = (refl, refl)
 bare-told (TooLarge ds s) = (refl, refl)
+bare-told (Unnamed s) = (refl, refl)
+bare-told (TextAfterColon s) = (refl, refl)
 bare-told (RawIdentifier s p) = (refl, refl)
 bare-told (LateFlag c s b) = (refl, refl)
 bare-told (MissingColon s) = (refl, refl)

@@ -5,7 +5,7 @@ use Rattle.std.specs.Prelude.{◌==◌, ◌||◌, not}
 use Rattle.std.proofs.lemmas.Bool.{cond_both, cond-true, cond-false, or_from, or_parts, or_cases, or_left, or_right, not-true, false≢true, eqb-true}
 use Rattle.rustc_parse_format.specs.Characters.{Text, is_align, is_no_brace, word, behind_word, behind_first, begins_with, first_passes}
 use Rattle.rustc_parse_format.specs.Spelling.{IsPart, fixed, absent, run, optional_identifier}
-use Rattle.rustc_parse_format.specs.Types.{Mode, Format, InlineAsm, Diagnostic, Alignment, Left, Right, Center, Unknown, Sign, Plus, Minus, DebugHex, Lower}
+use Rattle.rustc_parse_format.specs.Types.{Mode, Format, InlineAsm, Diagnostic, DiagnosticNamed, Alignment, Left, Right, Center, Unknown, Sign, Plus, Minus, DebugHex, Lower}
 use Rattle.rustc_parse_format.specs.Types.{Upper}
 use Rattle.rustc_parse_format.specs.Syntax.{WidthText, width_part, PrecisionText, precision_part, fill_part, align_part, is_sign, sign_part, alternate_part}
 use Rattle.rustc_parse_format.specs.Syntax.{is_type_character, TypeText, DebugHexType, CharacterType, WordType, type_part, FormatText, format_part, SpecText}
@@ -229,6 +229,7 @@ colon-sound : (mode : Mode) (t : Text) → IsPart (codes ":" ++ t) (spec_part mo
 colon-sound Format t = (then (fixed-there (codes ":") t) (last (format-sound t))).part
 colon-sound InlineAsm t = (then (fixed-there (codes ":") t) (last (optional_identifier-finds.sound t))).part
 colon-sound Diagnostic t = (then (fixed-there (codes ":") t) (last ((run-finds is_no_brace).sound t))).part
+colon-sound DiagnosticNamed t = (then (fixed-there (codes ":") t) (last ((run-finds is_no_brace).sound t))).part
 
 spec-sound : (mode : Mode) (t : Text) → IsPart t (spec_part mode (specification mode t).0) (specification mode t).1
 spec-sound mode [] = absent-here [] (begins_with (code ":")) refl
@@ -241,6 +242,15 @@ spec-none : (mode : Mode) (t : Text) → begins_with (code ":") t ≡ false → 
 spec-none mode [] e = refl
 spec-none mode (c ∷ t) e = cond-false (c == code ":") _ _ e
 
+text-complete : (t u r : Text) → IsPart t (spec_part Diagnostic (DiagnosticText u)) r → specification Diagnostic t ≡ (DiagnosticText u, r)
+text-complete t u r h =
+    let s = two-split t (fixed (codes ":")) (run is_no_brace u) r h in
+    ap (specification Diagnostic) s.first.whole ∙ ap (λ x. (DiagnosticText x.0, x.1)) ((run-finds is_no_brace).complete s.seam u r s.second)
+
+diagnostics-read_alike : (t : Text) → specification DiagnosticNamed t ≡ specification Diagnostic t
+diagnostics-read_alike [] = refl
+diagnostics-read_alike (c ∷ t) = refl
+
 spec-complete : (mode : Mode) (t : Text) (s : SpecText) (r : Text) → IsPart t (spec_part mode s) r → specification mode t ≡ (s, r)
 spec-complete mode t Default r h = ap (specification mode) (absent-same t _ r h) ∙ spec-none mode r (not-true _ h.ends)
 spec-complete Format t (Formatting p) r h =
@@ -249,15 +259,16 @@ spec-complete Format t (Formatting p) r h =
 spec-complete InlineAsm t (Modifier w) r h =
     let s = two-split t (fixed (codes ":")) (optional_identifier w) r h in
     ap (specification InlineAsm) s.first.whole ∙ ap (λ x. (Modifier x.0, x.1)) (optional_identifier-finds.complete s.seam w r s.second)
-spec-complete Diagnostic t (DiagnosticText u) r h =
-    let s = two-split t (fixed (codes ":")) (run is_no_brace u) r h in
-    ap (specification Diagnostic) s.first.whole ∙ ap (λ x. (DiagnosticText x.0, x.1)) ((run-finds is_no_brace).complete s.seam u r s.second)
+spec-complete Diagnostic t (DiagnosticText u) r h = text-complete t u r h
+spec-complete DiagnosticNamed t (DiagnosticText u) r h = diagnostics-read_alike t ∙ text-complete t u r h
 spec-complete Format t (Modifier w) r h = absurd (false≢true h.formed)
 spec-complete Format t (DiagnosticText u) r h = absurd (false≢true h.formed)
 spec-complete InlineAsm t (Formatting p) r h = absurd (false≢true h.formed)
 spec-complete InlineAsm t (DiagnosticText u) r h = absurd (false≢true h.formed)
 spec-complete Diagnostic t (Formatting p) r h = absurd (false≢true h.formed)
 spec-complete Diagnostic t (Modifier w) r h = absurd (false≢true h.formed)
+spec-complete DiagnosticNamed t (Formatting p) r h = absurd (false≢true h.formed)
+spec-complete DiagnosticNamed t (Modifier w) r h = absurd (false≢true h.formed)
 
 pub spec-finds : (mode : Mode) → Finds (spec_part mode) (specification mode)
 spec-finds mode = record { sound = spec-sound mode; complete = spec-complete mode }

@@ -65,7 +65,7 @@ closed_where false old s w p e f = rw e refl
 -- after the argument of a placeholder and white space
 abbrev pub behind_argument : Midway → Mode → Text → Midway
 behind_argument s mode t =
-    read_texts (read_to s (ending mode t) (number_after_field s.next (cut mode t).field) (cut_faults (cut mode t)))
+    read_texts (read_to s (ending mode t) (number_after_field s.next (cut mode t).field) (cut_faults mode (cut mode t)))
     (spec_texts (cut mode t).field.spec (cut mode t).rest)
 
 -- Where the closing brace stands, it is taken,
@@ -112,9 +112,9 @@ unclosed_read s mode o t =
     let k = recovery mode c o (argument s.next a) r in
     let ts = spec_texts a.field.spec a.rest in
     rw (closed_in-none s.world)
-    (ap (λ (x : Midway). read_texts (read_texts x ts) k.texts) (read_three s r r k.rest c c k.next (cut_faults a) (f ∷ []) k.faults)
-    ∙ (ap (λ fs. read_texts (read_texts (read_to s k.rest k.next fs) ts) k.texts) (append_assoc (cut_faults a) (f ∷ []) k.faults)
-    ∙ sym (read_texts-append (read_to s k.rest k.next (cut_faults a ++ f ∷ k.faults)) ts k.texts)))
+    (ap (λ (x : Midway). read_texts (read_texts x ts) k.texts) (read_three s r r k.rest c c k.next (cut_faults mode a) (f ∷ []) k.faults)
+    ∙ (ap (λ fs. read_texts (read_texts (read_to s k.rest k.next fs) ts) k.texts) (append_assoc (cut_faults mode a) (f ∷ []) k.faults)
+    ∙ sym (read_texts-append (read_to s k.rest k.next (cut_faults mode a ++ f ∷ k.faults)) ts k.texts)))
 
 -- A placeholder is read part by part: its argument, white space, and the closing brace, or its fault and the recovery.
 pub placeholder_read : (s : Midway) (mode : Mode) (o t : Text) →
@@ -124,7 +124,7 @@ placeholder_read s mode o t = read_either s (begins_with 125 (ending mode t)) _ 
 
 -- the same of a reader that stands at x after the argument
 pub placeholder_closed : (s x new : Midway) (mode : Mode) (o t : Text) (opening : Place) (seen : Argument Place) →
-    x ≡ (let a = cut mode t in read_texts (read_to s a.rest (number_after_field s.next a.field) (cut_faults a)) (spec_texts a.field.spec a.rest)) →
+    x ≡ (let a = cut mode t in read_texts (read_to s a.rest (number_after_field s.next a.field) (cut_faults mode a)) (spec_texts a.field.spec a.rest)) →
     opening ≡ place_of s.world (over_first o) → seen ≡ map_argument (place_of s.world) (argument s.next (cut mode t)) →
     ((q : Text) (a : Argument Span) → opening ≡ place_of x.world (over_first q) → seen ≡ map_argument (place_of x.world) a →
     new ≡ behind_closing mode q a (record x { rest = behind_white x.rest })) →

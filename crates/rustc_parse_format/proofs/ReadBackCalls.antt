@@ -68,7 +68,7 @@ field-forward n c mode m t h =
     let less : length u ≤ length t = IsRest-le (behind_first_rest t) in
     let span : IsForward n (record { from = m; to = f.position_span.to }) =
     record { from_start = h.start; in_order = omega (arith, h.left, less, cut-spec_at mode u); within = h.within } in
-    all-append _ (cut_faults a) _ (cut_faults-forward n mode u (omega (arith, h.left, h.within, less)))
+    all-append _ (cut_faults mode a) _ (cut_faults-forward n mode u (omega (arith, h.left, h.within, less)))
     (cond_both {A = List (Fault Span)} (begins_with 125 a.rest) _ _ (AreFaultsForward n) (λ e. field_fault-forward n f.position _ span) (λ e. tt))
 
 late_debug-forward : (n c : ℕ) (t : Text) → length t ≤ n → AreFaultsForward n (late_debug c t).faults
@@ -116,7 +116,7 @@ placeholder-forward mode c b t =
     let spans = argument-forward n c mode t inside in
     let start : IsInFront n (argument c a).position_span.from r =
     rw (argument-start c mode t) (record { start = tt; left = rest; within = inside }) in
-    cond_both {A = Call} (begins_with 125 r) (closed_call c (b ∷ t) a r) (unclosed_call mode c (b ∷ t) a r) (AllSpans (IsForward n))
+    cond_both {A = Call} (begins_with 125 r) (closed_call mode c (b ∷ t) a r) (unclosed_call mode c (b ∷ t) a r) (AllSpans (IsForward n))
     (λ yes. record {
       piece = spans;
       closes = (through-forward n (b ∷ t) r (omega (arith, rest)) (omega arith), tt);

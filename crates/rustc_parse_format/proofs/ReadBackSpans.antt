@@ -1,12 +1,12 @@
 -- Each span of an argument, of its faults and of a placeholder that is closed is forward in the text that is read.
-use Rattle.std.proofs.Common.{◌≡◌, ℕ, ◌+◌, ◌-◌, ◌≤◌, ◌++◌, ◌==◌, Bool, true, false, List, [], ◌∷◌, length, refl, ap, ◌∙◌, arith, Option, Some, None}
+use Rattle.std.proofs.Common.{◌≡◌, ℕ, ◌+◌, ◌-◌, ◌≤◌, ◌++◌, ◌==◌, Bool, true, false, not, ◌&&◌, List, [], ◌∷◌, length, refl, ap, ◌∙◌, arith, Option, Some, None}
 use Rattle.std.proofs.Common.{length-append, codes, cond}
-use Rattle.std.specs.Prelude.{bytes_eq}
+use Rattle.std.specs.Prelude.{bytes_eq, is_some}
 use Rattle.std.specs.List.{AllByRecursion}
 use Rattle.std.proofs.lemmas.Bool.{false≢true}
 use Rattle.rustc_parse_format.specs.Characters.{Text, word, behind_word, digits, behind_digits, first, behind_first, behind_prefix, behind_white, is_over}
 use Rattle.rustc_parse_format.specs.Spelling.{IsPart, fixed, optional_identifier}
-use Rattle.rustc_parse_format.specs.Types.{Mode, Format, InlineAsm, Diagnostic, NextArgument}
+use Rattle.rustc_parse_format.specs.Types.{Mode, Format, InlineAsm, Diagnostic, DiagnosticNamed, wants_names, Position, NextArgument}
 use Rattle.rustc_parse_format.specs.Syntax.{CountText, NumberCount, IndexCount, NameCount, NoCount, count_part, WidthText, PaddedWidth, ZeroIndexWidth}
 use Rattle.rustc_parse_format.specs.Syntax.{PlainWidth, width_part, PrecisionText, NoPrecision, StarPrecision, DotPrecision, precision_part, TypeText}
 use Rattle.rustc_parse_format.specs.Syntax.{DebugHexType, CharacterType, WordType, type_part, FormatText, format_part, SpecText, Default, Formatting}
@@ -17,9 +17,10 @@ use Rattle.rustc_parse_format.specs.Placeholder.{cut, position}
 use Rattle.rustc_parse_format.specs.Marks.{Span, Start, up_to, through, over_first}
 use Rattle.rustc_parse_format.specs.Meaning.{count_of, count_span, width_of, width_span, precision_of, precision_span, word_span, type_span, fill_span}
 use Rattle.rustc_parse_format.specs.Meaning.{from_type, from_precision, from_width, format_of, spec_of, argument}
-use Rattle.rustc_parse_format.specs.Faults.{Fault, Underscore, TooLarge, LateFlag}
+use Rattle.rustc_parse_format.specs.Faults.{Fault, Underscore, TooLarge, Unnamed, TextAfterColon, LateFlag}
 use Rattle.rustc_parse_format.specs.PartFaults.{word_faults, number_faults, argument_faults, width_faults, precision_faults, type_faults, format_faults}
-use Rattle.rustc_parse_format.specs.PartFaults.{raw_faults, position_faults, spec_faults, cut_faults, is_debug_flag, late_flag, flag_faults}
+use Rattle.rustc_parse_format.specs.PartFaults.{raw_faults, position_faults, name_faults, text_faults, spec_faults, cut_faults, is_debug_flag, late_flag, flag_faults}
+use Rattle.rustc_parse_format.specs.Values.{given_position, is_name}
 use Rattle.rustc_parse_format.specs.ReadBack.{IsForward, optional, spans_of_count, spans_of_spec, spans_of, spans_of_fault}
 use Rattle.rustc_parse_format.proofs.PartLaws.{IsRow, opened, only, two-split}
 use Rattle.rustc_parse_format.proofs.PartSpecs.{spec-finds}
@@ -196,6 +197,10 @@ spec_of-forward n c InlineAsm t (Formatting p) r h l = absurd (false≢true h.fo
 spec_of-forward n c InlineAsm t (DiagnosticText u) r h l = absurd (false≢true h.formed)
 spec_of-forward n c Diagnostic t (Formatting p) r h l = absurd (false≢true h.formed)
 spec_of-forward n c Diagnostic t (Modifier w) r h l = absurd (false≢true h.formed)
+spec_of-forward n c DiagnosticNamed t (DiagnosticText u) r h l =
+    (up_to-forward n t r (part-length t (spec_part DiagnosticNamed (DiagnosticText u)).spelling r h.whole) l, tt)
+spec_of-forward n c DiagnosticNamed t (Formatting p) r h l = absurd (false≢true h.formed)
+spec_of-forward n c DiagnosticNamed t (Modifier w) r h l = absurd (false≢true h.formed)
 
 -- the specification of a cut, and where it stands
 pub cut-spec : (mode : Mode) (t : Text) → IsPart (cut mode t).spec_at (spec_part mode (cut mode t).field.spec) (cut mode t).rest
@@ -292,25 +297,42 @@ format_faults-forward n t p r h l =
     (precision_faults-forward n (from_precision p r) p.precision (omega (arith, l, k.precision))))
     (type_faults-forward n (from_type p r) p.type (omega (arith, l, k.type)))
 
+name_faults-forward : (n : ℕ) (mode : Mode) (given : Option Position) (s : Span) → IsForward n s → AreFaultsForward n (name_faults mode given s)
+name_faults-forward n mode given s h = fault_either n (wants_names mode && not (is_name given)) (Unnamed s) (h, tt)
+
+text_faults-forward : (n : ℕ) (mode : Mode) (u : Text) (s : Span) → IsForward n s → AreFaultsForward n (text_faults mode u s)
+text_faults-forward n mode u s h = fault_either n (wants_names mode && is_some (first u)) (TextAfterColon s) (h, tt)
+
 spec_faults-forward : (n : ℕ) (mode : Mode) (t : Text) (s : SpecText) (r : Text) → IsPart t (spec_part mode s) r → length t ≤ n →
-    AreFaultsForward n (spec_faults t s r)
+    AreFaultsForward n (spec_faults mode t s r)
 spec_faults-forward n mode t Default r h l = tt
 spec_faults-forward n Format t (Formatting p) r h l =
     let s = two-split t (fixed (codes ":")) (format_part p) r h in
     format_faults-forward n s.seam p r s.second (omega (arith, l, part-length t (codes ":") s.seam s.first.whole))
 spec_faults-forward n InlineAsm t (Modifier w) r h l = word_faults-forward n (behind_first t) (omega (arith, l, behind_first-length t))
-spec_faults-forward n Diagnostic t (DiagnosticText u) r h l = tt
+spec_faults-forward n Diagnostic t (DiagnosticText u) r h l =
+    text_faults-forward n Diagnostic u (up_to t r)
+    (up_to-forward n t r (part-length t (spec_part Diagnostic (DiagnosticText u)).spelling r h.whole) l)
 spec_faults-forward n Format t (Modifier w) r h l = absurd (false≢true h.formed)
 spec_faults-forward n Format t (DiagnosticText u) r h l = absurd (false≢true h.formed)
 spec_faults-forward n InlineAsm t (Formatting p) r h l = absurd (false≢true h.formed)
 spec_faults-forward n InlineAsm t (DiagnosticText u) r h l = absurd (false≢true h.formed)
 spec_faults-forward n Diagnostic t (Formatting p) r h l = absurd (false≢true h.formed)
 spec_faults-forward n Diagnostic t (Modifier w) r h l = absurd (false≢true h.formed)
+spec_faults-forward n DiagnosticNamed t (DiagnosticText u) r h l =
+    text_faults-forward n DiagnosticNamed u (up_to t r)
+    (up_to-forward n t r (part-length t (spec_part DiagnosticNamed (DiagnosticText u)).spelling r h.whole) l)
+spec_faults-forward n DiagnosticNamed t (Formatting p) r h l = absurd (false≢true h.formed)
+spec_faults-forward n DiagnosticNamed t (Modifier w) r h l = absurd (false≢true h.formed)
 
-pub cut_faults-forward : (n : ℕ) (mode : Mode) (t : Text) → length t ≤ n → AreFaultsForward n (cut_faults (cut mode t))
+pub cut_faults-forward : (n : ℕ) (mode : Mode) (t : Text) → length t ≤ n → AreFaultsForward n (cut_faults mode (cut mode t))
 unfolding cut_faults
 cut_faults-forward n mode t l =
     let a = cut mode t in
-    all-append _ _ _
-    (position_faults-forward n a.position_at a.field.position (omega (arith, l, ap length (cut-position_at mode t))))
-    (spec_faults-forward n mode a.spec_at a.field.spec a.rest (cut-spec mode t) (omega (arith, l, cut-spec_at mode t)))
+    let here : length a.position_at ≡ length t = ap length (cut-position_at mode t) in
+    let later = cut-spec_at mode t in
+    all-append _ _ _ (all-append _ _ _
+    (position_faults-forward n a.position_at a.field.position (omega (arith, l, here)))
+    (name_faults-forward n mode (given_position a.field.position) (up_to a.position_at a.spec_at)
+    (up_to-forward n a.position_at a.spec_at (omega (arith, here, later)) (omega (arith, here, l)))))
+    (spec_faults-forward n mode a.spec_at a.field.spec a.rest (cut-spec mode t) (omega (arith, l, later)))

@@ -6,7 +6,7 @@ use Rattle.std.specs.List.{AllByRecursion, list_all}
 use Rattle.std.proofs.lemmas.Bool.{and_parts, not-true, false≢true}
 use Rattle.rustc_parse_format.specs.Characters.{Text}
 use Rattle.rustc_parse_format.specs.Marks.{Span}
-use Rattle.rustc_parse_format.specs.Types.{Mode, Format, InlineAsm, Diagnostic, Unknown, Position, Implicit, Index, Named, Star, Piece, Lit, NextArgument}
+use Rattle.rustc_parse_format.specs.Types.{Mode, Format, InlineAsm, Diagnostic, DiagnosticNamed, Unknown, Position, Implicit, Index, Named, Star, Piece, Lit, NextArgument}
 use Rattle.rustc_parse_format.specs.Types.{default_spec}
 use Rattle.rustc_parse_format.specs.Syntax.{Word, NoPosition, NoCount, PlainWidth, StarPrecision, WordType, FormatText, Default, Formatting, FieldText}
 use Rattle.rustc_parse_format.specs.Syntax.{PieceText, RunText, DoubledText, PlaceholderText, piece_part}
@@ -168,6 +168,21 @@ no_diagnostics-are_not_in : AreNotIn Diagnostic no_diagnostics
 unfolding computing
 no_diagnostics-are_not_in = are_not_in Diagnostic no_diagnostics refl
 
+-- where names are wanted, nothing else is in a placeholder, but for a colon with nothing after it
+abbrev names : List Text
+names = codes "{foo}" ∷ codes "{foo:}" ∷ codes "{foo }" ∷ codes "a{{{foo :}}}b" ∷ []
+
+names-are_in : AreIn DiagnosticNamed names
+unfolding computing
+names-are_in = are_in DiagnosticNamed names refl
+
+abbrev no_names : List Text
+no_names = codes "{}" ∷ codes "{0}" ∷ codes "{:}" ∷ codes "{foo:bar}" ∷ codes "{foo: }" ∷ codes "{a:_}" ∷ codes "{r#foo}" ∷ codes "{_}" ∷ codes "{65536}" ∷ []
+
+no_names-are_not_in : AreNotIn DiagnosticNamed no_names
+unfolding computing
+no_names-are_not_in = are_not_in DiagnosticNamed no_names refl
+
 -- Readings, each shown by what is written.
 abbrev bare_piece : Type 0
 bare_piece = Piece (Unit {0})
@@ -191,7 +206,7 @@ text_and_placeholder-have_this_reading = (
     record {
       text = PlaceholderText plain_field [];
       written = record { whole = refl; formed = refl; ends = refl };
-      clean = record { position = tt; spec = tt };
+      clean = record { position = tt; name = λ e. cc e; spec = tt };
       means = refl;
       numbered = refl;
     },
@@ -240,7 +255,7 @@ star-has_this_reading = (
   record {
     text = PlaceholderText (record plain_field { spec = Formatting star }) [];
     written = record { whole = refl; formed = refl; ends = refl };
-    clean = record { position = tt; spec = record { width = tt; precision = tt; type = λ e. cc e } };
+    clean = record { position = tt; name = λ e. cc e; spec = record { width = tt; precision = tt; type = λ e. cc e } };
     means = refl;
     numbered = refl;
   },

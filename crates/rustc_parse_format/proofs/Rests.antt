@@ -3,7 +3,7 @@ use Rattle.std.proofs.Common.{◌≡◌, ℕ, ◌≤◌, ◌++◌, ◌==◌, Boo
 use Rattle.std.specs.Char.{is_ascii_digit}
 use Rattle.rustc_parse_format.specs.Characters.{Text, is_align, is_no_brace, is_id_start, is_id_continue, behind, word, behind_word, digits, behind_digits}
 use Rattle.rustc_parse_format.specs.Characters.{behind_white, behind_first, behind_prefix, begins_raw}
-use Rattle.rustc_parse_format.specs.Types.{Mode, Format, InlineAsm, Diagnostic, DebugHex, Lower, Upper}
+use Rattle.rustc_parse_format.specs.Types.{Mode, Format, InlineAsm, Diagnostic, DiagnosticNamed, DebugHex, Lower, Upper}
 use Rattle.rustc_parse_format.specs.Syntax.{PaddedWidth, PlainWidth}
 use Rattle.rustc_parse_format.specs.Counts.{count, behind_number, behind_name, width, counted, behind_zero, precision, behind_dot}
 use Rattle.rustc_parse_format.specs.Specification.{fill, align, sign, alternate, type, behind_hex, align_at, sign_at, alternate_at, width_at, precision_at}
@@ -146,6 +146,7 @@ colon_rest : (mode : Mode) (t : Text) → IsRest t (behind_colon mode t).1
 colon_rest Format t = IsRest-trans (fill_rest t) (format_from_align t)
 colon_rest InlineAsm t = behind_word_rest t
 colon_rest Diagnostic t = behind_rest is_no_brace t
+colon_rest DiagnosticNamed t = behind_rest is_no_brace t
 
 pub specification_rest : (mode : Mode) (t : Text) → IsRest t (specification mode t).1
 specification_rest mode [] = IsRest-self []

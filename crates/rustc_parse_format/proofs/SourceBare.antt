@@ -7,7 +7,7 @@ use Rattle.std.specs.List.{list_all}
 use Rattle.std.proofs.Math.Seq.{take-append-add}
 use Rattle.std.proofs.Math.Utf8.{encodes}
 use Rattle.std.proofs.lemmas.Bool.{and_parts, and_from, false≢true, eqb-true, cases_eq}
-use Rattle.std.proofs.lemmas.List.{drop-drop, drop_more, get_or-take, length-take-le, take-append-drop, take-take}
+use Rattle.std.proofs.lemmas.List.{append_cancel_right, drop-drop, drop_more, get_or-take, length-take-le, take-append-drop, take-take}
 use Rattle.std.proofs.lemmas.List.Folds.{list_all-append, list_all_at}
 use Rattle.std.proofs.lemmas.Str.{IsCharBoundary-from_drop, IsUtf8-drop, IsUtf8-from_is_utf8, is_utf8-from_IsUtf8, encode_ascii, encodes-append, encodes-chars, len_utf8_bounds, length-encode}
 use Rattle.rustc_parse_format.specs.declared.source.Look.{Look}
@@ -16,13 +16,13 @@ use Rattle.rustc_parse_format.specs.Characters.{Text, behind_first, byte_length}
 use Rattle.rustc_parse_format.specs.Literal.{IsContent, content_value, newline}
 use Rattle.rustc_parse_format.specs.LiteralUnits.{LiteralUnit, Plain, SimpleEscape, ByteEscape, UnicodeEscape, Continuation}
 use Rattle.rustc_parse_format.specs.LiteralUnits.{is_plain}
-use Rattle.rustc_parse_format.specs.SeenSource.{IsBare, IsHere, IsLook, begins_continuation, closed_by_quote, is_bare}
-use Rattle.rustc_parse_format.specs.World.{World}
+use Rattle.rustc_parse_format.specs.SeenSource.{IsBare, IsHere, IsLook, begins_continuation, character_width, closed_by_quote, is_bare}
+use Rattle.rustc_parse_format.specs.World.{World, place_at}
 use Rattle.rustc_parse_format.proofs.LiteralWidths.{width-append, width-cons}
-use Rattle.rustc_parse_format.proofs.Places.{left, width_chars}
+use Rattle.rustc_parse_format.proofs.Places.{begun, behind_width, left, width_chars}
 use Rattle.rustc_parse_format.proofs.SourceContents.{gap-none}
-use Rattle.rustc_parse_format.proofs.SourceMarks.{Gaps, false_if, front_gone, here_plain}
-use Rattle.rustc_parse_format.proofs.SourceSteps.{cut_from}
+use Rattle.rustc_parse_format.proofs.SourceMarks.{Gaps, false_if, front_gone, here_plain, plain_width}
+use Rattle.rustc_parse_format.proofs.SourceSteps.{cut_from, through_character}
 
 -- In front of the closing quote there is always a byte.
 pub here_inside : (s : List ℕ) (w : World) (rest : Text) (at : ℕ) → IsHere s w rest at → at < length s
@@ -180,7 +180,7 @@ no_continuation x b y u e bare = false_if _ (λ is. by_chars (chars x) refl is)
         let same : b ≡ 92 = ap (λ (l : List ℕ). get_or l 0 0) (sym e ∙ bytes) in
         false≢true (sym (ap is_bare same) ∙ bare)
 
-bare_inside : (s : List ℕ) (w : World) (mark rest : List ℕ) (at : Look) → IsLook s w (chars mark) at → IsLeft mark rest → Moved mark rest < at.bare →
+pub bare_inside : (s : List ℕ) (w : World) (mark rest : List ℕ) (at : Look) → IsLook s w (chars mark) at → IsLeft mark rest → Moved mark rest < at.bare →
     IsHere s w (chars rest) (at.byte + Moved mark rest)
 bare_inside s w mark rest at h l more = of_moved (cases_eq (Moved mark rest) 0)
   where
@@ -208,6 +208,37 @@ pub bare_here : (s : List ℕ) (w : World) (mark rest : List ℕ) (at : Look) �
     (Moved mark rest ≡ 0) ⊎ ((Moved mark rest ≢ 0) × (Moved mark rest < at.bare)) → IsHere s w (chars rest) (at.byte + Moved mark rest)
 bare_here s w mark rest at h l (inl still) = bare_still s w mark rest at h l still
 bare_here s w mark rest at h l (inr (some, more)) = bare_inside s w mark rest at h l more
+
+-- A character that was passed within them ends as many bytes further on as there are in what was passed.
+pub bare_stop : (s : List ℕ) (w : World) (mark rest behind : List ℕ) (at : Look) → IsLook s w (chars mark) at → IsLeft mark rest → IsLeft mark behind →
+    chars behind ≡ behind_first (chars rest) → (length rest ≡ 0 → ⊥) → Moved mark behind ≤ at.bare →
+    at.byte + Moved mark behind ≡ (place_at w (length (chars rest))).1
+bare_stop s w mark rest behind at h l k e some more =
+    let u = IsUtf8-from_is_utf8 rest l.valid_rest in
+    let b = begun rest u some in
+    let c = b.head in
+    let size = behind_width rest behind c b.tail u (IsUtf8-from_is_utf8 behind k.valid_rest) b.chars_are e in
+    let wide = width-cons c [] in
+    let bytes = (len_utf8_bounds c).0 in
+    let front = left mark rest l in
+    let p = passed s w mark behind at h k more in
+    let within = l.within in
+    let within_behind = k.within in
+    let rest_is : chars rest ≡ c ∷ chars behind = b.chars_are ∙ ap (λ t. c ∷ t) (sym (e ∙ ap behind_first b.chars_are)) in
+    let front_is : p.front ≡ front.pre ++ c ∷ [] =
+    append_cancel_right p.front (front.pre ++ c ∷ []) (chars behind)
+    (sym p.whole ∙ (front.whole ∙ (ap (λ t. front.pre ++ t) rest_is ∙ sym (append_assoc front.pre (c ∷ []) (chars behind))))) in
+    let stands : chars (drop at.byte s) ≡ front.pre ++ c ∷ p.behind =
+    p.stands ∙ (ap (λ x. x ++ p.behind) front_is ∙ append_assoc front.pre (c ∷ []) p.behind) in
+    let here = bare_inside s w mark rest at h l (omega arith) in
+    let text = IsUtf8-from_is_utf8 (drop at.byte s) h.0.valid in
+    let cut = cut_from s at.byte (Moved mark rest) front.pre (c ∷ p.behind) h.0.within text stands (sym front.bytes) in
+    let parts : (list_all is_plain front.pre ≡ true) × (list_all is_plain (c ∷ []) ≡ true) =
+    and_parts _ _ (sym (ap (list_all is_plain) front_is ∙ list_all-append is_plain front.pre (c ∷ [])) ∙ p.plain) in
+    let plain = and_parts (is_plain c) true parts.1 in
+    let stop = through_character s w (chars rest) (at.byte + Moved mark rest) (byte_length (c ∷ [])) here
+    (sym (ap character_width cut.2 ∙ plain_width c p.behind plain.0)) (λ none. omega arith) in
+    omega (arith, stop)
 
 -- What is left of a text behind a front is one of the fronts of what is left behind more.
 pub left_over : (text rest : List ℕ) (n : ℕ) → IsCharBoundary text n → IsLeft text rest → n ≤ length text - length rest → IsLeft (drop n text) rest

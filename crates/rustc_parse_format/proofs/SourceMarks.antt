@@ -43,7 +43,7 @@ front_gone mark rest u v h (c ∷ front) f =
     ))
 
 -- A run that stands in the snippet as it is, and has no character that a literal writes in another way.
-plain_width : (c : ℕ) (t : Text) → IsTrue (is_plain c) → character_width (c ∷ t) ≡ byte_length (c ∷ [])
+pub plain_width : (c : ℕ) (t : Text) → IsTrue (is_plain c) → character_width (c ∷ t) ≡ byte_length (c ∷ [])
 plain_width c t p =
     omega (arith, width-read (c ∷ t) t c (ap meaning (unit_at-complete (Plain c) t p refl)), width-cons c t, width-cons c [])
 

@@ -1,7 +1,7 @@
 -- Where a cursor stands in its source: in a plain world by the bytes of what is left, else by the byte in the kept snippet.
-use Rattle.std.proofs.Common.{◌≡◌, ◌+◌, ◌-◌, ◌<◌, ◌^◌, drop, subst, ℕ, true, List, [], ◌∷◌, length, chars, refl, ap, sym, ◌∙◌, Option, Some, None, IsUtf8}
+use Rattle.std.proofs.Common.{◌≡◌, ◌+◌, ◌-◌, ◌<◌, ◌^◌, drop, subst, ℕ, true, List, [], length, chars, refl, ap, sym, ◌∙◌, Option, Some, None, IsUtf8}
 use Rattle.std.proofs.Common.{arith, string_bytes}
-use Rattle.std.proofs.lemmas.Str.{IsUtf8-from_is_utf8, is_utf8-from_IsUtf8, chars-nil}
+use Rattle.std.proofs.lemmas.Str.{is_utf8-from_IsUtf8, chars-nil}
 use Rattle.std.proofs.lemmas.List.{nil_from_length}
 use Rattle.std.specs.declared.string.String.{String}
 use Rattle.std.specs.declared.alloc.Global.{Global}
@@ -9,11 +9,11 @@ use Rattle.rustc_parse_format.specs.declared.source.Look.{Look}
 use Rattle.rustc_parse_format.specs.declared.source.Source.{Source}
 use Rattle.rustc_parse_format.specs.Characters.{Text, behind_first}
 use Rattle.rustc_parse_format.proofs.SourceEnds.{frame-units}
-use Rattle.rustc_parse_format.specs.World.{ordinary_end, World, place_at}
+use Rattle.rustc_parse_format.specs.World.{Place, ordinary_end, World, place_at}
 use Rattle.std.specs.Str.{is_utf8}
 use Rattle.rustc_parse_format.specs.Bytes.{IsLeft}
-use Rattle.rustc_parse_format.specs.SeenSource.{IsKept, IsKeptIn, IsHere, IsLook, IsPlaced, IsSpot, seen_world, world_with}
-use Rattle.rustc_parse_format.proofs.Places.{begun, place_end, start_left, stop_left}
+use Rattle.rustc_parse_format.specs.SeenSource.{IsKept, IsKeptIn, IsLook, IsPlaced, IsSpot, seen_world, world_with}
+use Rattle.rustc_parse_format.proofs.Places.{place_end, start_left, stop_left}
 
 placed_by : (o : Option (String Global)) (w : World) (rest : Text) (at : Look) (snippet : String Global) → IsPlaced o w rest at → o ≡ Some snippet →
     IsLook (string_bytes snippet) w rest at
@@ -40,20 +40,16 @@ pub plain_stop : (s : Source) (rest behind mark : List ℕ) (at : Look) → IsSp
     chars behind ≡ behind_first (chars rest) → s.offset + (length s.input.now - length behind) ≡ (place_at (seen_world s) (length (chars rest))).1
 plain_stop s rest behind mark at h e u some b = rw e (sym (stop_left s.is_literal s.offset s.end s.input.now rest behind h.is_left u some b))
 
+-- a place by its two ends
+pub place_by : (p : Place) (from to : ℕ) → from ≡ p.0 → to ≡ p.1 → (from, to) ≡ p
+place_by p from to e f = ap (λ (n : ℕ). (n, to)) e ∙ ap (λ (n : ℕ). (p.0, n)) f
+
 -- at the end of the text
 pub place_gone : (s : Source) (rest mark : List ℕ) (at : Look) → IsSpot s rest mark at → length rest ≡ 0 →
     place_at (seen_world s) (length (chars rest)) ≡ (s.end, s.end)
 place_gone s rest mark at h none =
     let nil : chars rest ≡ [] = ap chars (nil_from_length rest none) ∙ chars-nil in
     rw nil (place_end (seen_world s)) ∙ ap (λ (e : ℕ). (e, e)) (sym h.ending)
-
--- in a kept snippet
-pub kept_stop : (s : Source) (rest snippet : List ℕ) (at stop : ℕ) → IsLeft s.input.now rest → IsHere snippet (seen_world s) (chars rest) at →
-    (length rest ≡ 0 → ⊥) → ((w : World) (c : ℕ) (t : Text) → IsHere snippet w (c ∷ t) at → stop ≡ (place_at w (length (c ∷ t))).1) →
-    stop ≡ (place_at (seen_world s) (length (chars rest))).1
-kept_stop s rest snippet at stop l here some f =
-    let b = begun rest (IsUtf8-from_is_utf8 rest l.valid_rest) some in
-    rw b.chars_are (f (seen_world s) b.head b.tail (rw b.chars_are at here))
 
 -- What is left, as a rest of itself.
 pub left_self : (t : List ℕ) → is_utf8 t ≡ true → IsLeft t t

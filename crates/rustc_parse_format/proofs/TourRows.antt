@@ -88,7 +88,7 @@ input-reads_as_both = (
     record {
       text = placeholder;
       written = placeholder-is_written;
-      clean = record { position = name-is_no_underscore; spec = record { width = omega arith; precision = tt; type = λ e. cc e } };
+      clean = record { position = name-is_no_underscore; name = λ e. cc; spec = record { width = omega arith; precision = tt; type = λ e. cc e } };
       means = refl;
       numbered = refl;
     },

@@ -39,10 +39,10 @@ text_call c l t = record {
 }
 
 -- the placeholder at opening, closed by the brace in front of r
-abbrev pub closed_call : ℕ → Text → Cut → Text → Call
-closed_call c opening a r = record {
+abbrev pub closed_call : Mode → ℕ → Text → Cut → Text → Call
+closed_call mode c opening a r = record {
   piece = Some (NextArgument (argument c a));
-  faults = cut_faults a;
+  faults = cut_faults mode a;
   rest = behind_first r;
   next = number_after_field c a.field;
   texts = spec_texts a.field.spec a.rest;
@@ -55,7 +55,7 @@ unclosed_call mode c opening a r =
     let k = recovery mode (number_after_field c a.field) opening (argument c a) r in
     record {
       piece = Some (NextArgument (argument c a));
-      faults = cut_faults a ++ unclosed_fault opening (argument c a).format r ∷ k.faults;
+      faults = cut_faults mode a ++ unclosed_fault opening (argument c a).format r ∷ k.faults;
       rest = k.rest;
       next = k.next;
       texts = spec_texts a.field.spec a.rest ++ k.texts;
@@ -67,7 +67,7 @@ unfoldable pub placeholder : Mode → ℕ → Text → Text → Call
 placeholder mode c opening t =
     let a = cut mode t in
     let r = behind_white a.rest in
-    if begins_with (code "}") r then closed_call c opening a r else unclosed_call mode c opening a r
+    if begins_with (code "}") r then closed_call mode c opening a r else unclosed_call mode c opening a r
 
 abbrev pub unmatched_call : ℕ → Text → Text → Call
 unmatched_call c at t = record { piece = None; faults = UnmatchedBrace (over_first at) ∷ []; rest = t; next = c; texts = []; closes = None }

@@ -16,6 +16,10 @@ pub data Fault (Span : Type 0) : Type 0 where
   Underscore : Span → Fault Span
   -- the digits of a number above 65535
   TooLarge : Text → Span → Fault Span
+  -- a position that is no name, where the mode wants names
+  Unnamed : Span → Fault Span
+  -- and there, text after a colon
+  TextAfterColon : Span → Fault Span
   -- a raw identifier, and its `r#`
   RawIdentifier : Span → Span → Fault Span
   -- a flag after the type `?`, and the `?` with it
@@ -54,6 +58,8 @@ is_front (MissingBrace c s o) = false
 is_front (FillBrace c s o) = false
 is_front (Underscore s) = false
 is_front (TooLarge ds s) = false
+is_front (Unnamed s) = false
+is_front (TextAfterColon s) = false
 is_front (RawIdentifier s p) = true
 is_front (LateFlag c s b) = true
 is_front (MissingColon s) = true
@@ -71,6 +77,8 @@ map_fault f (MissingBrace c s o) = MissingBrace c (f s) (f o)
 map_fault f (FillBrace c s o) = FillBrace c (f s) (f o)
 map_fault f (Underscore s) = Underscore (f s)
 map_fault f (TooLarge ds s) = TooLarge ds (f s)
+map_fault f (Unnamed s) = Unnamed (f s)
+map_fault f (TextAfterColon s) = TextAfterColon (f s)
 map_fault f (RawIdentifier s p) = RawIdentifier (f s) (f p)
 map_fault f (LateFlag c s b) = LateFlag c (f s) (f b)
 map_fault f (MissingColon s) = MissingColon (f s)
@@ -181,6 +189,16 @@ message (TooLarge ds s) = error
     (out_of_range ds)
     None
     (codes "integer out of range for `u16`") s
+    None
+message (Unnamed s) = error
+    (codes "expected a named argument")
+    (Some (codes "only named arguments are allowed here"))
+    (codes "expected a name") s
+    None
+message (TextAfterColon s) = error
+    (codes "format specifiers are not allowed")
+    None
+    (codes "remove this text") s
     None
 message (RawIdentifier s p) = suggesting (RemoveRawIdent p) (error
     (codes "raw identifiers are not supported")

@@ -5,14 +5,15 @@ use Rattle.std.specs.List.{AllByRecursion}
 use Rattle.std.specs.Str.Parse.{digits_value}
 use Rattle.rustc_parse_format.specs.Characters.{Text}
 use Rattle.rustc_parse_format.specs.Spelling.{IsPart}
-use Rattle.rustc_parse_format.specs.Types.{Mode, Piece}
+use Rattle.rustc_parse_format.specs.Types.{Mode, wants_names, Piece}
 use Rattle.rustc_parse_format.specs.Syntax.{CountText, NumberCount, IndexCount, NameCount, NoCount, WidthText, PaddedWidth, ZeroIndexWidth, PlainWidth}
 use Rattle.rustc_parse_format.specs.Syntax.{PrecisionText, NoPrecision, StarPrecision, DotPrecision, TypeText, DebugHexType, CharacterType, WordType}
 use Rattle.rustc_parse_format.specs.Syntax.{FormatText, SpecText, Default, Formatting, Modifier, DiagnosticText, PositionText, Digits, Word, RawWord}
 use Rattle.rustc_parse_format.specs.Syntax.{NoPosition, FieldText, PieceText, RunText, DoubledText, PlaceholderText, piece_part}
-use Rattle.rustc_parse_format.specs.Values.{piece_value, number_after}
+use Rattle.rustc_parse_format.specs.Values.{given_position, is_name, piece_value, number_after}
 
--- What is refused of what is well formed: the word `_`, an integer that does not fit into 16 bits, and a raw identifier.
+-- What is refused of what is well formed: the word `_`, an integer that does not fit into 16 bits, and a raw identifier; and where
+-- the mode wants names, an argument that has none, and text after a colon.
 
 abbrev pub IsNamed : Text → Type 0
 IsNamed w = w ≢ codes "_"
@@ -53,26 +54,27 @@ pub record IsCleanFormat (p : FormatText) : Type 0 where
   pub type : IsCleanType p.type
 
 -- the text in a diagnostic is no word
-abbrev pub IsCleanSpec : SpecText → Type 0
-IsCleanSpec Default = Unit {0}
-IsCleanSpec (Formatting p) = IsCleanFormat p
-IsCleanSpec (Modifier w) = IsNamed w
-IsCleanSpec (DiagnosticText u) = Unit {0}
+abbrev pub IsCleanSpec : Mode → SpecText → Type 0
+IsCleanSpec mode Default = Unit {0}
+IsCleanSpec mode (Formatting p) = IsCleanFormat p
+IsCleanSpec mode (Modifier w) = IsNamed w
+IsCleanSpec mode (DiagnosticText u) = IsTrue (wants_names mode) → u ≡ []
 
-pub record IsClean (a : FieldText) : Type 0 where
+pub record IsClean (mode : Mode) (a : FieldText) : Type 0 where
   pub position : IsCleanPosition a.position
-  pub spec : IsCleanSpec a.spec
+  pub name : IsTrue (wants_names mode) → IsTrue (is_name (given_position a.position))
+  pub spec : IsCleanSpec mode a.spec
 
-abbrev pub IsCleanPiece : PieceText → Type 0
-IsCleanPiece (RunText u) = Unit {0}
-IsCleanPiece (DoubledText b u) = Unit {0}
-IsCleanPiece (PlaceholderText a space) = IsClean a
+abbrev pub IsCleanPiece : Mode → PieceText → Type 0
+IsCleanPiece mode (RunText u) = Unit {0}
+IsCleanPiece mode (DoubledText b u) = Unit {0}
+IsCleanPiece mode (PlaceholderText a space) = IsClean mode a
 
 -- t begins with the piece p, which takes its numbers from c on, and goes on with r and the number next
 pub record Begins (mode : Mode) (c : ℕ) (t : Text) (p : Piece (Unit {0})) (r : Text) (next : ℕ) : Type 0 where
   pub text : PieceText
   pub written : IsPart t (piece_part mode text) r
-  pub clean : IsCleanPiece text
+  pub clean : IsCleanPiece mode text
   pub means : p ≡ piece_value c text
   pub numbered : next ≡ number_after c text
 
@@ -106,6 +108,6 @@ spelled mode (x ∷ xs) = (piece_part mode x).spelling ++ spelled mode xs
 -- text again.
 pub record IsSpelled (mode : Mode) (c : ℕ) (t : Text) (ps : List (Piece (Unit {0}))) : Type 0 where
   pub texts : List PieceText
-  pub formed : AllByRecursion (λ x. IsTrue (piece_part mode x).is_formed × IsCleanPiece x) texts
+  pub formed : AllByRecursion (λ x. IsTrue (piece_part mode x).is_formed × IsCleanPiece mode x) texts
   pub means : piece_values c texts ≡ ps
   pub whole : spelled mode texts ≡ t

@@ -1,7 +1,7 @@
 -- An argument that is a name and nothing else.
 use Rattle.std.specs.Prelude.{◌≡◌, Bool, true, false, not, ◌&&◌, is_none}
 use Rattle.rustc_parse_format.specs.Characters.{Text, is_nil}
-use Rattle.rustc_parse_format.specs.Types.{Position, Implicit, Index, Named, Alignment, Left, Right, Center, Unknown, Count, Is, Name, Param, Star, Implied}
+use Rattle.rustc_parse_format.specs.Types.{Named, is_named, Alignment, Left, Right, Center, Unknown, Count, Is, Name, Param, Star, Implied}
 use Rattle.rustc_parse_format.specs.Types.{Spec, Argument, default_spec}
 
 pub record IsIdentifier {A : Type 0} (a : Argument A) : Type 0 where
@@ -12,11 +12,6 @@ pub record IsIdentifier {A : Type 0} (a : Argument A) : Type 0 where
   pub format : a.format ≡ default_spec
 
 -- The same by computing.
-abbrev pub is_named : Position → Bool
-is_named (Implicit n) = false
-is_named (Index n) = false
-is_named (Named w) = true
-
 abbrev pub is_unknown : Alignment → Bool
 is_unknown Left = false
 is_unknown Right = false

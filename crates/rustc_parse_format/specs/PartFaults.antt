@@ -1,6 +1,6 @@
 -- The faults of the parts of a placeholder, in the order in which they are found.
 use Prim.Native.Char.{code}
-use Rattle.std.specs.Prelude.{ℕ, ◌++◌, ◌||◌, ◌==◌, Bool, if◌then◌else◌, List, [], ◌∷◌, Option, Some, None, codes, bytes_eq}
+use Rattle.std.specs.Prelude.{is_some, ℕ, ◌++◌, ◌&&◌, not, ◌||◌, ◌==◌, Bool, if◌then◌else◌, List, [], ◌∷◌, Option, Some, None, codes, bytes_eq}
 use Rattle.rustc_parse_format.specs.Characters.{Text, word, behind_word, digits, behind_digits, first, behind_first, behind_prefix, is_over}
 use Rattle.rustc_parse_format.specs.Marks.{Span, up_to, through, over_first}
 use Rattle.rustc_parse_format.specs.Placeholder.{Cut}
@@ -9,7 +9,9 @@ use Rattle.rustc_parse_format.specs.Syntax.{WidthText, PaddedWidth, ZeroIndexWid
 use Rattle.rustc_parse_format.specs.Syntax.{TypeText, DebugHexType, CharacterType, WordType, FormatText, SpecText, Default, Formatting, Modifier}
 use Rattle.rustc_parse_format.specs.Syntax.{DiagnosticText}
 use Rattle.rustc_parse_format.specs.Meaning.{from_width, from_precision, from_type}
-use Rattle.rustc_parse_format.specs.Faults.{Fault, Underscore, TooLarge, RawIdentifier, LateFlag}
+use Rattle.rustc_parse_format.specs.Faults.{Fault, Underscore, TooLarge, Unnamed, TextAfterColon, RawIdentifier, LateFlag}
+use Rattle.rustc_parse_format.specs.Types.{Mode, wants_names, Position}
+use Rattle.rustc_parse_format.specs.Values.{given_position, is_name}
 
 -- a word `_` at the front of t
 abbrev pub word_faults : Text → List (Fault Span)
@@ -29,6 +31,10 @@ position_faults t (Digits ds) = number_faults t
 position_faults t (Word w) = word_faults t
 position_faults t (RawWord w) = raw_faults t
 position_faults t NoPosition = []
+
+-- a given position that stands at s is no name, and the mode wants one
+abbrev pub name_faults : {A : Type 0} → Mode → Option Position → A → List (Fault A)
+name_faults mode given s = if wants_names mode && not (is_name given) then Unnamed s ∷ [] else []
 
 -- A count at the front of t is an integer or a word, so at most one of these is there. A word is tried for a count, and so
 -- looked at, even where no `$` makes it one.
@@ -67,12 +73,19 @@ type_faults t (WordType w) = word_faults t
 unfoldable pub format_faults : FormatText → Text → List (Fault Span)
 format_faults p r = width_faults (from_width p r) p.width ++ precision_faults (from_precision p r) p.precision ++ type_faults (from_type p r) p.type
 
--- the specification that stands at t, with r after it
-abbrev pub spec_faults : Text → SpecText → Text → List (Fault Span)
-spec_faults t Default r = []
-spec_faults t (Formatting p) r = format_faults p r
-spec_faults t (Modifier w) r = word_faults (behind_first t)
-spec_faults t (DiagnosticText u) r = []
+-- the text u of a diagnostic with its colon at s, where the mode wants names alone
+abbrev pub text_faults : {A : Type 0} → Mode → Text → A → List (Fault A)
+text_faults mode u s = if wants_names mode && is_some (first u) then TextAfterColon s ∷ [] else []
 
-unfoldable pub cut_faults : Cut → List (Fault Span)
-cut_faults a = position_faults a.position_at a.field.position ++ spec_faults a.spec_at a.field.spec a.rest
+-- the specification that stands at t, with r after it
+abbrev pub spec_faults : Mode → Text → SpecText → Text → List (Fault Span)
+spec_faults mode t Default r = []
+spec_faults mode t (Formatting p) r = format_faults p r
+spec_faults mode t (Modifier w) r = word_faults (behind_first t)
+spec_faults mode t (DiagnosticText u) r = text_faults mode u (up_to t r)
+
+unfoldable pub cut_faults : Mode → Cut → List (Fault Span)
+cut_faults mode a =
+    position_faults a.position_at a.field.position
+    ++ name_faults mode (given_position a.field.position) (up_to a.position_at a.spec_at)
+    ++ spec_faults mode a.spec_at a.field.spec a.rest

@@ -7,7 +7,7 @@ use Rattle.rustc_parse_format.specs.LiteralUnits.{LiteralUnit, Plain, spelling, 
 use Rattle.rustc_parse_format.specs.Source.{units_between, unappended}
 use Rattle.rustc_parse_format.specs.Marks.{Mark, Start, End, Span}
 use Rattle.rustc_parse_format.specs.Types.{Count, Name, Spec, Piece, Lit, NextArgument}
-use Rattle.rustc_parse_format.specs.Faults.{Fault, UnmatchedBrace, MissingBrace, FillBrace, Underscore, TooLarge, RawIdentifier, LateFlag}
+use Rattle.rustc_parse_format.specs.Faults.{Fault, UnmatchedBrace, MissingBrace, FillBrace, Underscore, TooLarge, Unnamed, TextAfterColon, RawIdentifier, LateFlag}
 use Rattle.rustc_parse_format.specs.Faults.{MissingColon, LateDebug, LateAlign, Grouping, DebugPrint, LateSign, FieldAccess, TupleIndex}
 use Rattle.rustc_parse_format.specs.Faults.{Message, Suggestion, Nothing, UsePositional, RemoveRawIdent, ReorderFormatParameter, AddMissingColon}
 use Rattle.rustc_parse_format.specs.Faults.{UseRustDebugPrintingMacro}
@@ -90,6 +90,8 @@ spans_of_fault (MissingBrace c s o) = s ∷ o ∷ []
 spans_of_fault (FillBrace c s o) = s ∷ o ∷ []
 spans_of_fault (Underscore s) = s ∷ []
 spans_of_fault (TooLarge ds s) = s ∷ []
+spans_of_fault (Unnamed s) = s ∷ []
+spans_of_fault (TextAfterColon s) = s ∷ []
 spans_of_fault (RawIdentifier s p) = s ∷ p ∷ []
 spans_of_fault (LateFlag c s b) = s ∷ b ∷ []
 spans_of_fault (MissingColon s) = s ∷ []

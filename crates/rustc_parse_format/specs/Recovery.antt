@@ -58,7 +58,7 @@ field mode c from t =
     let a = cut mode (behind_first t) in
     let f = argument c a in
     record {
-      faults = cut_faults a ++ (if begins_with (code "}") a.rest then field_fault f.position (record { from = from; to = f.position_span.to }) else []);
+      faults = cut_faults mode a ++ (if begins_with (code "}") a.rest then field_fault f.position (record { from = from; to = f.position_span.to }) else []);
       rest = behind_brace a.rest;
       next = number_after_field c a.field;
       texts = spec_texts a.field.spec a.rest;

@@ -4,7 +4,7 @@ use Rattle.std.specs.declared.string.String.{String}
 use Rattle.std.specs.declared.alloc.Global.{Global}
 use Rattle.std.specs.declared.ops.Range.{Range}
 use Rattle.rustc_parse_format.specs.declared.types.ParseMode.{ParseMode as DeclaredMode}
-use Rattle.rustc_parse_format.specs.declared.types.ParseMode.TheVariants.{Format as FormatMode, InlineAsm as InlineAsmMode, Diagnostic as DiagnosticMode}
+use Rattle.rustc_parse_format.specs.declared.types.ParseMode.TheVariants.{Format as FormatMode, InlineAsm as InlineAsmMode, Diagnostic as DiagnosticMode, DiagnosticNamed as NamesMode}
 use Rattle.rustc_parse_format.specs.declared.types.Piece.{Piece as DeclaredPiece}
 use Rattle.rustc_parse_format.specs.declared.types.Piece.TheVariants.{Lit as LitPiece, NextArgument as ArgumentPiece}
 use Rattle.rustc_parse_format.specs.declared.types.Argument.{Argument as DeclaredArgument}
@@ -25,7 +25,7 @@ use Rattle.rustc_parse_format.specs.declared.types.Suggestion.TheVariants.{None 
 use Rattle.rustc_parse_format.specs.declared.types.Suggestion.TheVariants.{ReorderFormatParameter as Reorder, AddMissingColon as AddColon}
 use Rattle.rustc_parse_format.specs.declared.types.Suggestion.TheVariants.{UseRustDebugPrintingMacro as UseDebugMacro}
 use Rattle.rustc_parse_format.specs.Characters.{Text}
-use Rattle.rustc_parse_format.specs.Types.{Mode, Format, InlineAsm, Diagnostic, Alignment, Left, Right, Center, Unknown, Sign, Plus, Minus, DebugHex, Lower}
+use Rattle.rustc_parse_format.specs.Types.{Mode, Format, InlineAsm, Diagnostic, DiagnosticNamed, Alignment, Left, Right, Center, Unknown, Sign, Plus, Minus, DebugHex, Lower}
 use Rattle.rustc_parse_format.specs.Types.{Upper, Position, Implicit, Index, Named, Count, Is, Name, Param, Star, Implied, Spec, Argument, Piece, Lit}
 use Rattle.rustc_parse_format.specs.Types.{NextArgument}
 use Rattle.rustc_parse_format.specs.Faults.{Message, Suggestion, Nothing, UsePositional, RemoveRawIdent, ReorderFormatParameter, AddMissingColon}
@@ -43,6 +43,7 @@ abbrev pub seen_mode : DeclaredMode → Mode
 seen_mode FormatMode = Format
 seen_mode InlineAsmMode = InlineAsm
 seen_mode DiagnosticMode = Diagnostic
+seen_mode NamesMode = DiagnosticNamed
 
 abbrev pub seen_alignment : DeclaredAlignment → Alignment
 seen_alignment AlignLeft = Left

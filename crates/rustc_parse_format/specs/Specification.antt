@@ -2,8 +2,8 @@
 use Prim.Native.Char.{code}
 use Rattle.std.specs.Prelude.{ℕ, Bool, true, false, if◌then◌else◌, ◌==◌, [], ◌∷◌, Option, Some, None}
 use Rattle.rustc_parse_format.specs.Characters.{Text, is_align, is_no_brace, front, behind, word, behind_word}
-use Rattle.rustc_parse_format.specs.Types.{Mode, Format, InlineAsm, Diagnostic, Alignment, Left, Right, Center, Unknown, Sign, Plus, Minus, DebugHex, Lower}
-use Rattle.rustc_parse_format.specs.Types.{Upper}
+use Rattle.rustc_parse_format.specs.Types.{Mode, Format, InlineAsm, Diagnostic, DiagnosticNamed, Alignment, Left, Right, Center, Unknown, Sign, Plus, Minus}
+use Rattle.rustc_parse_format.specs.Types.{DebugHex, Lower, Upper}
 use Rattle.rustc_parse_format.specs.Syntax.{TypeText, DebugHexType, CharacterType, WordType, FormatText, SpecText, Default, Formatting, Modifier}
 use Rattle.rustc_parse_format.specs.Syntax.{DiagnosticText}
 use Rattle.rustc_parse_format.specs.Counts.{width, precision}
@@ -77,6 +77,7 @@ abbrev pub behind_colon : Mode → Text → SpecText × Text
 behind_colon Format t = (Formatting (format_text t).0, (format_text t).1)
 behind_colon InlineAsm t = (Modifier (word t), behind_word t)
 behind_colon Diagnostic t = (DiagnosticText (front is_no_brace t), behind is_no_brace t)
+behind_colon DiagnosticNamed t = (DiagnosticText (front is_no_brace t), behind is_no_brace t)
 
 -- the specification at the front, and the rest after it
 abbrev pub specification : Mode → Text → SpecText × Text

@@ -6,8 +6,8 @@ use Prim.Native.Char.{code}
 use Rattle.std.specs.Prelude.{◌≡◌, ℕ, Bool, true, false, not, ◌||◌, ◌==◌, [], ◌∷◌, Option, Some, None, codes}
 use Rattle.std.specs.Char.{is_ascii_digit, is_whitespace}
 use Rattle.rustc_parse_format.specs.Characters.{Text, is_align, is_brace, is_id_start, is_no_brace, behind_first, begins_raw, begins_with, first_passes}
-use Rattle.rustc_parse_format.specs.Types.{Mode, Format, InlineAsm, Diagnostic, Alignment, Left, Right, Center, Unknown, Sign, Plus, Minus, DebugHex, Lower}
-use Rattle.rustc_parse_format.specs.Types.{Upper}
+use Rattle.rustc_parse_format.specs.Types.{Mode, Format, InlineAsm, Diagnostic, DiagnosticNamed, Alignment, Left, Right, Center, Unknown, Sign, Plus, Minus}
+use Rattle.rustc_parse_format.specs.Types.{DebugHex, Lower, Upper}
 use Rattle.rustc_parse_format.specs.Spelling.{Part, IsPart, before, fixed, unless, absent, never, run, some_run, doubled, integer, identifier}
 use Rattle.rustc_parse_format.specs.Spelling.{identifier_before, optional_identifier, begins_with_part, row}
 
@@ -156,6 +156,9 @@ spec_part InlineAsm (DiagnosticText u) = never
 spec_part Diagnostic (Formatting p) = never
 spec_part Diagnostic (Modifier w) = never
 spec_part Diagnostic (DiagnosticText u) = row (fixed (codes ":") ∷ run is_no_brace u ∷ [])
+spec_part DiagnosticNamed (Formatting p) = never
+spec_part DiagnosticNamed (Modifier w) = never
+spec_part DiagnosticNamed (DiagnosticText u) = row (fixed (codes ":") ∷ run is_no_brace u ∷ [])
 
 -- what stands between the braces, but for white space in front of the closing one
 pub record FieldText : Type 0 where

@@ -1,11 +1,20 @@
 -- The pieces of a format string, over any kind of span: a pair of marks, a range of bytes, or nothing.
-use Rattle.std.specs.Prelude.{ℕ, Bool, false, [], Option, None, option_map}
+use Rattle.std.specs.Prelude.{ℕ, Bool, true, false, [], Option, None, option_map}
 use Rattle.rustc_parse_format.specs.Characters.{Text}
 
 pub data Mode : Type 0 where
   Format : Mode
   InlineAsm : Mode
   Diagnostic : Mode
+  -- a diagnostic whose arguments are names and nothing else
+  DiagnosticNamed : Mode
+
+-- every argument has to be a name, with nothing asked of how it is written
+abbrev pub wants_names : Mode → Bool
+wants_names Format = false
+wants_names InlineAsm = false
+wants_names Diagnostic = false
+wants_names DiagnosticNamed = true
 
 pub data Alignment : Type 0 where
   Left : Alignment
@@ -25,6 +34,11 @@ pub data Position : Type 0 where
   Implicit : ℕ → Position
   Index : ℕ → Position
   Named : Text → Position
+
+abbrev pub is_named : Position → Bool
+is_named (Implicit n) = false
+is_named (Index n) = false
+is_named (Named w) = true
 
 pub data Count (Span : Type 0) : Type 0 where
   Is : ℕ → Count Span

@@ -2,7 +2,7 @@
 -- The public rule is `std::fmt`, of positional parameters, widths and precisions.
 use Rattle.std.specs.Prelude.{ℕ, Bool, true, false, suc, if◌then◌else◌, [], ◌∷◌, Option, Some, None, codes, is_some, unwrap_or}
 use Rattle.rustc_parse_format.specs.Characters.{Text, number}
-use Rattle.rustc_parse_format.specs.Types.{DebugHex, Position, Implicit, Index, Named, Count, Is, Name, Param, Star, Implied, Spec, Argument, Piece, Lit}
+use Rattle.rustc_parse_format.specs.Types.{DebugHex, Position, Implicit, Index, Named, is_named, Count, Is, Name, Param, Star, Implied, Spec, Argument, Piece, Lit}
 use Rattle.rustc_parse_format.specs.Types.{NextArgument, default_spec}
 use Rattle.rustc_parse_format.specs.Syntax.{PositionText, Digits, Word, RawWord, NoPosition, CountText, NumberCount, IndexCount, NameCount, NoCount}
 use Rattle.rustc_parse_format.specs.Syntax.{WidthText, PaddedWidth, ZeroIndexWidth, PlainWidth, PrecisionText, NoPrecision, StarPrecision}
@@ -80,6 +80,11 @@ given_position (Digits ds) = Some (Index (number ds))
 given_position (Word w) = Some (Named w)
 given_position (RawWord w) = Some (Named w)
 given_position NoPosition = None
+
+-- and is a name
+abbrev pub is_name : Option Position → Bool
+is_name None = false
+is_name (Some p) = is_named p
 
 -- an implicit position takes the number that is next after the specification
 abbrev pub position_of : ℕ → PositionText → Position

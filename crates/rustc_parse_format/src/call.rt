@@ -78,9 +78,11 @@ fn take_brace<'input, L: Ledger>(
     ensures steps { Forward reader.old.rest trail.old reader.new.rest trail.new }
 {
     if reader.cursor.is_source_literal() {
-        reader.closed = Some(start..reader.cursor.stop());
+        let brace = reader.cursor.take_place(trail);
+        reader.closed = Some(start..brace.end);
+    } else {
+        reader.cursor.advance(trail);
     }
-    reader.cursor.advance(trail);
 }
 
 /// Moves over the closing brace, or finds that it is missing and goes on from there. The placeholder opens at `opening`.
@@ -127,10 +129,7 @@ fn read_braced<'input, L: Ledger>(
     ensures err { OnErr result (reader.new.source ≡ reader.old.source) }
     ensures steps { OnOk result (Paid reader.old.rest trail.old reader.new.rest trail.new) }
 {
-    reader.cursor.settle();
-    let opening = reader.cursor.start()..reader.cursor.stop();
-    reader.cursor.advance(trail);
-    reader.cursor.settle();
+    let opening = reader.cursor.take_place(trail);
     read_argument(mode, into, reader, trail)?;
     reader.cursor.skip_white(trail);
     close(mode, into, opening, reader, trail)?;
@@ -193,8 +192,7 @@ pub fn read_piece<'input, L: Ledger>(
         let piece = read_placeholder(alloc, mode, reader, trail)?;
         return Ok(Some(piece));
     }
-    let span = reader.cursor.start()..reader.cursor.stop();
-    reader.cursor.advance(trail);
+    let span = reader.cursor.take_place(trail);
     reader.found.push(Fault::UnmatchedBrace(span))?;
     Ok(None)
 }

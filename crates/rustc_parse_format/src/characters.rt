@@ -65,16 +65,13 @@ pub fn behind_first(text: &str) -> &str
 fn run_width(bytes: &[u8], class: Class) -> usize
     ensures { IsFront (passes class) bytes.now result }
 {
-    let few = bytes.len().min(2);
-    for k in 0..few {
-        if !class.passes(bytes[k] as char) {
-            return k;
-        }
+    if bytes.is_empty() || !class.passes(bytes[0] as char) {
+        return 0;
     }
     let seen = match class {
-        Class::Text if bytes.len() >= 16 => calm_front(bytes, 1, b'{', b'}', b'}'),
-        Class::Line if bytes.len() >= 16 => calm_front(bytes, 1, b'{', b'}', b'\n'),
-        _ => few,
+        Class::Text => calm_front(bytes, 1, b'{', b'}', b'}'),
+        Class::Line => calm_front(bytes, 1, b'{', b'}', b'\n'),
+        _ => 0,
     };
     for i in seen..bytes.len() {
         if !class.passes(bytes[i] as char) {

@@ -30,7 +30,7 @@ impl<'input> Model for Cursor<'input> {
 impl<'input> Cursor<'input> {
     ghost use Rattle.std.specs.Prelude.{◌≡◌, ◌++◌, chars, if◌then◌else◌, IsTrue, length, option_map, Some};
     ghost use Rattle.rustc_parse_format.specs.Characters.{Text, begins_raw, begins_with, first, behind_first, behind, behind_white, word, behind_word, digits, behind_digits, number, is_id_start, is_over, first_passes};
-    ghost use Rattle.std.specs.Char.{is_ascii_digit};
+    ghost use Rattle.std.specs.Char.{is_ascii_digit, is_whitespace};
     ghost use Rattle.rustc_parse_format.specs.Bytes.{IsOfAscii};
     ghost use Rattle.rustc_parse_format.specs.Classes.{passes};
     ghost use Rattle.rustc_parse_format.specs.Marks.{Start, End};
@@ -39,7 +39,7 @@ impl<'input> Cursor<'input> {
     ghost use Rattle.rustc_parse_format.specs.SeenSource.{IsSpot};
     ghost use Rattle.rustc_parse_format.specs.State.{first_of};
     ghost use Rattle.rustc_parse_format.specs.Steps.{Forward};
-    ghost use Rattle.rustc_parse_format.specs.World.{number_of};
+    ghost use Rattle.rustc_parse_format.specs.World.{number_of, place_at};
 
     /// At a spot of a source.
     pub fn new(source: Source<'input>, spot: Spot<'input>) -> Cursor<'input>
@@ -93,13 +93,33 @@ impl<'input> Cursor<'input> {
         first(behind_first(self.spot.rest))
     }
 
-    /// Moves over the next character, if there is one. Only this and `pass_run` move forward.
+    /// Moves over the next character, if there is one. Only this, `take_place` and `pass_run` move forward.
     pub fn advance<L: Ledger>(&mut self, trail: &mut Trail<'input, L>)
         ensures rest { self.new ≡ record self.old { rest = behind_first self.old.rest } }
         ensures steps { Forward self.old.rest trail.old self.new.rest trail.new }
     {
         trail.step(self.peek());
         self.pass();
+    }
+
+    /// Moves over the next character, if there is one, and gives its place, or that of the end of the text.
+    #[inline(always)]
+    pub fn take_place<L: Ledger>(&mut self, trail: &mut Trail<'input, L>) -> Range<usize>
+        ensures place { pair result ≡ place_at self.old.world (length self.old.rest) }
+        ensures rest { self.new ≡ record self.old { rest = behind_first self.old.rest } }
+        ensures steps { Forward self.old.rest trail.old self.new.rest trail.new }
+    {
+        trail.step(self.peek());
+        self.pass_place()
+    }
+
+    /// Passes the next character, if there is one, and gives its place.
+    #[inline(always)]
+    fn pass_place(&mut self) -> Range<usize>
+        ensures place { pair result ≡ place_at self.old.world (length self.old.rest) }
+        ensures rest { self.new ≡ record self.old { rest = behind_first self.old.rest } }
+    {
+        self.source.pass(&mut self.spot)
     }
 
     /// Passes the next character, if there is one.
@@ -258,6 +278,7 @@ impl<'input> Cursor<'input> {
     }
 
     /// Moves over the longest front of the class.
+    #[inline(always)]
     pub fn skip<L: Ledger>(&mut self, class: Class, trail: &mut Trail<'input, L>)
         ensures rest { self.new ≡ record self.old { rest = behind (passes class) self.old.rest } }
         ensures steps { Forward self.old.rest trail.old self.new.rest trail.new }
@@ -286,9 +307,29 @@ impl<'input> Cursor<'input> {
         self.spot.rest = rest;
     }
 
+    /// The next character is white space.
+    #[inline(always)]
+    fn starts_white(&self) -> bool
+        ensures { result ≡ first_passes is_whitespace self.now.rest }
+    {
+        self.peek().is_some_and(|c| c.is_whitespace())
+    }
+
+    /// Moves over the white space at the front, of which there is mostly none.
+    #[inline(always)]
+    pub fn skip_white<L: Ledger>(&mut self, trail: &mut Trail<'input, L>)
+        ensures rest { self.new ≡ record self.old { rest = behind_white self.old.rest } }
+        ensures steps { Forward self.old.rest trail.old self.new.rest trail.new }
+    {
+        if self.starts_white() {
+            self.skip_spaces(trail);
+        }
+    }
+
     /// Moves over the white space at the front.
     #[tactic(auto, unfolding(crate::specs::Characters::behind_white))]
-    pub fn skip_white<L: Ledger>(&mut self, trail: &mut Trail<'input, L>)
+    #[inline(never)]
+    fn skip_spaces<L: Ledger>(&mut self, trail: &mut Trail<'input, L>)
         ensures rest { self.new ≡ record self.old { rest = behind_white self.old.rest } }
         ensures steps { Forward self.old.rest trail.old self.new.rest trail.new }
     {

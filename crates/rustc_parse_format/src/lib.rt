@@ -11,6 +11,7 @@ mod faults;
 mod laws;
 mod lists;
 pub mod literal;
+mod messages;
 mod parser;
 mod pieces;
 mod placeholder;

@@ -1,17 +1,87 @@
-//! What a parser has found in all its calls so far.
+//! What a parser has found in all its calls so far, and the errors that faults become.
 
-ghost use Rattle.std.specs.Prelude.{◌≡◌, ◌++◌, [], IsOk, None, OnErr, OnOk, map, option_map};
-ghost use Rattle.rustc_parse_format.specs.Faults.{add_errors};
+ghost use Rattle.std.specs.Prelude.{◌≡◌, ◌≤◌, ◌+◌, ◌++◌, ◌∷◌, [], IfOk, IsOk, None, OnErr, OnOk, map, not, option_map, vec_capacity, vec_len};
+ghost use Rattle.std.specs.List.{filter};
+ghost use Rattle.rustc_parse_format.specs.Faults.{add_errors, is_front, message};
 ghost use Rattle.rustc_parse_format.specs.Lines.{ends_with, listed};
 ghost use Rattle.rustc_parse_format.specs.Midway.{HasFoundNothing};
-ghost use Rattle.rustc_parse_format.specs.Seen.{pair};
+ghost use Rattle.rustc_parse_format.specs.Seen.{pair, seen_error};
 ghost use Rattle.rustc_parse_format.specs.SeenFaults.{seen_fault};
 
-use crate::error_list::ErrorList;
-use crate::faults::{Fault, add_errors};
+use crate::error_list::{ErrorList, empty_error};
+use crate::faults::Fault;
+use crate::messages::tell;
 use crate::reader::Reader;
+use crate::types::ParseError;
 use std::alloc::{AllocError, Global};
+use std::mem;
 use std::ops::Range;
+
+/// The error that a fault becomes.
+fn error_of(alloc: Global, fault: Fault<'_>) -> Result<ParseError, AllocError>
+    ensures { IfOk result (λ e. seen_error e ≡ message (seen_fault fault.entry)) }
+{
+    let mut error = empty_error(alloc);
+    tell(alloc, &mut error, fault)?;
+    Ok(error)
+}
+
+/// The errors that faults become, those of the front and those of the back, each in the order in which they were found.
+fn errors_of(
+    alloc: Global,
+    found: Vec<Fault<'_>>,
+) -> Result<(Vec<ParseError>, Vec<ParseError>), AllocError>
+    ensures front { IfOk result
+        (λ es. map seen_error es.0.items ≡ map message (filter is_front (map seen_fault found.entry.items))) }
+    ensures back { IfOk result
+        (λ es. map seen_error es.1.items ≡ map message (filter (λ f. not (is_front f)) (map seen_fault found.entry.items))) }
+{
+    let mut front = Vec::new(alloc);
+    let mut back = Vec::new(alloc);
+    for fault in found {
+        if fault.is_front() {
+            front.push(error_of(alloc, fault)?)?;
+        } else {
+            back.push(error_of(alloc, fault)?)?;
+        }
+    }
+    Ok((front, back))
+}
+
+/// Adds the error of one fault, or nothing where memory is refused.
+fn add_error(alloc: Global, errors: &mut ErrorList, fault: Fault<'_>) -> Result<(), AllocError>
+    ensures ok { OnOk result (errors.new ≡ add_errors errors.old (seen_fault fault.entry ∷ [])) }
+    ensures err { OnErr result (errors.new ≡ errors.old) }
+{
+    let is_front = fault.is_front();
+    let mut error = empty_error(alloc);
+    tell(alloc, &mut error, fault)?;
+    if is_front {
+        errors.add_front(alloc, error)
+    } else {
+        errors.add_back(error)
+    }
+}
+
+/// Adds the faults to the errors, and takes them: all of them, or none where memory is refused. Of one fault, which is
+/// what a call mostly finds, the error is added as it is made.
+#[inline(never)]
+#[tactic(auto, using(crate::proofs::Errors::error_ends))]
+fn add_errors(
+    alloc: Global,
+    errors: &mut ErrorList,
+    found: &mut Vec<Fault<'_>>,
+) -> Result<(), AllocError>
+    ensures ok { OnOk result (errors.new ≡ add_errors errors.old (map seen_fault found.old.items)) }
+    ensures taken { OnOk result (found.new.items ≡ []) }
+    ensures err { OnErr result (errors.new ≡ errors.old) }
+{
+    if found.len() == 1 {
+        return add_error(alloc, errors, found.take_last());
+    }
+    let (front, back) = errors_of(alloc, mem::replace(found, Vec::new(alloc)))?;
+    errors.add(alloc, front, back)
+}
 
 /// The lists of a parser.
 #[derive(Drop)]
@@ -19,6 +89,20 @@ pub struct Lists {
     pub errors: ErrorList,
     pub arg_places: Vec<Range<usize>>,
     pub line_spans: Vec<Range<usize>>,
+}
+
+/// Moves lines to the end of a list that has room for them. One line, as most calls that find any find, is put there by itself.
+#[inline(always)]
+fn move_lines(to: &mut Vec<Range<usize>>, from: &mut Vec<Range<usize>>)
+    requires { vec_len to.old + vec_len from.old ≤ vec_capacity to.old }
+    ensures to { to.new.items ≡ to.old.items ++ from.old.items }
+    ensures from { from.new.items ≡ [] }
+{
+    if from.len() == 1 {
+        to.push_reserved(from.take_last());
+    } else {
+        to.append(from).unwrap();
+    }
 }
 
 impl Lists {
@@ -52,7 +136,7 @@ impl Lists {
     }
 
     /// Adds the errors of faults and lines, which are both taken, and a place: all of it, or nothing where memory is refused.
-    #[inline(never)]
+    #[inline(always)]
     fn add(
         &mut self,
         alloc: Global,
@@ -68,12 +152,21 @@ impl Lists {
         ensures err { OnErr result ((self.new.errors ≡ self.old.errors)
             × (self.new.arg_places.items ≡ self.old.arg_places.items) × (self.new.line_spans.items ≡ self.old.line_spans.items)) }
     {
-        self.line_spans.reserve(lines.len())?;
+        let is_first = self.line_spans.is_empty();
+        if !is_first {
+            self.line_spans.reserve(lines.len())?;
+        }
         if closed.is_some() {
             self.arg_places.reserve(1)?;
         }
-        add_errors(alloc, &mut self.errors, found)?;
-        self.line_spans.append(lines).unwrap();
+        if !found.is_empty() {
+            add_errors(alloc, &mut self.errors, found)?;
+        }
+        if is_first {
+            mem::swap(&mut self.line_spans, lines);
+        } else {
+            move_lines(&mut self.line_spans, lines);
+        }
         if let Some(place) = closed {
             self.arg_places.push_reserved(place);
         }

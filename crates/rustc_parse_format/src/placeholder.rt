@@ -1,17 +1,18 @@
 //! A placeholder after its opening brace: its position and its specification.
 
-ghost use Rattle.std.specs.Prelude.{◌+◌, ◌<◌, ◌^◌, ◌≡◌, chars, IfOk, if◌then◌else◌, is_some, length, OnErr, OnOk, option_map, Some, suc, unwrap_or};
+ghost use Rattle.std.specs.Prelude.{◌++◌, ◌+◌, ◌<◌, ◌^◌, ◌≡◌, chars, IfOk, if◌then◌else◌, is_some, length, OnErr, OnOk, option_map, Some, suc, unwrap_or};
 ghost use Rattle.rustc_parse_format.specs.Meaning.{spec_texts};
-ghost use Rattle.rustc_parse_format.specs.Characters.{behind_prefix, behind_word, number, word};
+ghost use Rattle.rustc_parse_format.specs.Characters.{behind_prefix, behind_white, behind_word, number, word};
+ghost use Rattle.rustc_parse_format.specs.Marks.{up_to};
 ghost use Rattle.rustc_parse_format.specs.Meaning.{argument};
-ghost use Rattle.rustc_parse_format.specs.PartFaults.{cut_faults, position_faults, raw_faults};
+ghost use Rattle.rustc_parse_format.specs.PartFaults.{cut_faults, name_faults, position_faults, raw_faults};
 ghost use Rattle.rustc_parse_format.specs.Placeholder.{cut, position};
-ghost use Rattle.rustc_parse_format.specs.Seen.{seen_argument, seen_mode, seen_position, seen_spec};
+ghost use Rattle.rustc_parse_format.specs.Seen.{pair, seen_argument, seen_mode, seen_position, seen_spec};
 ghost use Rattle.rustc_parse_format.specs.Midway.{read_texts, read_to};
 ghost use Rattle.rustc_parse_format.specs.Steps.{Forward, IsInWord, Paid};
 ghost use Rattle.rustc_parse_format.specs.Types.{Implicit, default_spec, map_argument};
 ghost use Rattle.rustc_parse_format.specs.Values.{given_position, number_after_field};
-ghost use Rattle.rustc_parse_format.specs.World.{place_of};
+ghost use Rattle.rustc_parse_format.specs.World.{faults_in, place_of};
 
 use crate::counts::{integer, word};
 use crate::cursor::Trail;
@@ -19,8 +20,9 @@ use crate::faults::Fault;
 use crate::laws::default_of_spec;
 use crate::reader::Reader;
 use crate::specification::specification;
-use crate::types::{Argument, ParseMode, Position};
+use crate::types::{Argument, ParseMode, Position, wants_names};
 use std::alloc::AllocError;
+use std::ops::Range;
 use std::sync::ledger::Ledger;
 
 /// Reads the raw identifier at the front, which is a fault: the word without its `r#`.
@@ -71,6 +73,52 @@ fn position<'input, L: Ledger>(
     Ok(None)
 }
 
+/// Notes a position that is no name, where the mode wants names.
+fn note_unnamed<'input>(
+    mode: ParseMode,
+    given: &Option<Position<'input>>,
+    span: Range<usize>,
+    reader: &mut Reader<'input>,
+) -> Result<(), AllocError>
+    ensures state { OnOk result (reader.new ≡ record reader.old {
+      faults = reader.old.faults ++ name_faults (seen_mode mode) (option_map seen_position given.now) (pair span);
+    }) }
+    ensures err { OnErr result (reader.new.source ≡ reader.old.source) }
+{
+    if wants_names(mode) && !matches!(given, Some(Position::ArgumentNamed(_))) {
+        reader.found.push(Fault::Unnamed(span))?;
+    }
+    Ok(())
+}
+
+/// Reads the position at the front and the white space after it, and says where they stand. Where the mode wants names, any
+/// other position is a fault.
+fn spaced_position<'input, L: Ledger>(
+    mode: ParseMode,
+    span: &mut Range<usize>,
+    reader: &mut Reader<'input>,
+    trail: &mut Trail<'input, L>,
+) -> Result<Option<Position<'input>>, AllocError>
+    ensures value { IfOk result (λ p. option_map seen_position p ≡ given_position (position reader.old.rest).0) }
+    ensures span { OnOk result (pair span.new
+        ≡ place_of reader.old.world (up_to reader.old.rest (behind_white (position reader.old.rest).1))) }
+    ensures state { OnOk result (reader.new ≡ (let p = position reader.old.rest in
+        record (read_to reader.old (behind_white p.1) reader.old.next (position_faults reader.old.rest p.0)) {
+          faults = (reader.old.faults ++ faults_in reader.old.world (position_faults reader.old.rest p.0))
+              ++ name_faults (seen_mode mode) (given_position p.0) (pair span.new);
+        })) }
+    ensures err { OnErr result (reader.new.source ≡ reader.old.source) }
+    ensures steps { OnOk result (Forward reader.old.rest trail.old reader.new.rest trail.new) }
+{
+    let start = reader.cursor.start();
+    let given = position(reader, trail)?;
+    reader.cursor.skip_white(trail);
+    let end = reader.cursor.start();
+    *span = start..end;
+    note_unnamed(mode, &given, start..end, reader)?;
+    Ok(given)
+}
+
 /// The position: the given one, or else the next argument.
 fn position_of<'input>(
     given: Option<Position<'input>>,
@@ -113,14 +161,11 @@ pub fn read_argument<'input, L: Ledger>(
     ensures value { OnOk result (seen_argument into.new
         ≡ map_argument (place_of reader.old.world) (argument reader.old.next (cut (seen_mode mode) reader.old.rest))) }
     ensures state { OnOk result (reader.new ≡ (let a = cut (seen_mode mode) reader.old.rest in
-        read_texts (read_to reader.old a.rest (number_after_field reader.old.next a.field) (cut_faults a)) (spec_texts a.field.spec a.rest))) }
+        read_texts (read_to reader.old a.rest (number_after_field reader.old.next a.field) (cut_faults (seen_mode mode) a)) (spec_texts a.field.spec a.rest))) }
     ensures err { OnErr result (reader.new.source ≡ reader.old.source) }
     ensures steps { OnOk result (Paid reader.old.rest trail.old reader.new.rest trail.new) }
 {
-    let start = reader.cursor.start();
-    let given = position(reader, trail)?;
-    reader.cursor.skip_white(trail);
-    into.position_span = start..reader.cursor.start();
+    let given = spaced_position(mode, &mut into.position_span, reader, trail)?;
     specification(mode, &mut into.format, reader, trail)?;
     into.position = position_of(given, reader);
     Ok(())

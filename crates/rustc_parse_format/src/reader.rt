@@ -2,7 +2,7 @@
 
 ghost use Rattle.std.specs.Prelude.{◌≡◌, ◌≢◌, ◌++◌, ◌+◌, ◌<◌, ◌^◌, ◌∷◌, [], ◌↔◌, IfOk, IsOk, IsTrue, None, OnErr, OnOk, Some, chars, length, map, option_map};
 ghost use Rattle.rustc_parse_format.specs.Characters.{behind, behind_first, first, front, is_in_line, is_no_brace, with_first};
-ghost use Rattle.rustc_parse_format.specs.Midway.{HasFoundNothing, IsInOneLine, IsPastIndent, midway, noted_next, passed_next, read_run, unread_at};
+ghost use Rattle.rustc_parse_format.specs.Midway.{HasFoundNothing, IsInOneLine, IsPastIndent, midway, passed_next, read_run, unread_at};
 ghost use Rattle.rustc_parse_format.specs.Marks.{Start};
 ghost use Rattle.rustc_parse_format.specs.Seen.{pair};
 ghost use Rattle.rustc_parse_format.specs.SeenSource.{IsSpot};
@@ -197,11 +197,12 @@ impl<'input> Reader<'input> {
             if !Class::Text.passes(c) {
                 break;
             }
-            let is_past = self.is_past_indent(c);
-            if is_past && Class::Line.passes(c) {
+            if c == '\n' {
+                self.take_newline(trail)?;
+            } else if self.is_past_indent(c) {
                 self.skip_line(trail);
             } else {
-                self.pass(c, trail)?;
+                self.pass_in_line(c, trail);
             }
         }
         Ok(())
@@ -225,32 +226,27 @@ impl<'input> Reader<'input> {
         self.cursor.skip(Class::Line, trail);
     }
 
-    /// Moves over the next character and notes it.
-    fn pass<L: Ledger>(&mut self, c: char, trail: &mut Trail<'input, L>) -> Result<(), AllocError>
-        ensures state { OnOk result (self.new ≡ passed_next c self.old) }
-        ensures spare { c ≢ 10 → IsOk result }
+    /// Moves over the newline at the front of what is left of a source literal: it ends the line that is read.
+    fn take_newline<L: Ledger>(&mut self, trail: &mut Trail<'input, L>) -> Result<(), AllocError>
+        ensures state { OnOk result (self.new ≡ passed_next 10 self.old) }
         ensures err { OnErr result (self.new.source ≡ self.old.source) }
         ensures steps { OnOk result (Forward self.old.rest trail.old self.new.rest trail.new) }
     {
-        self.note(c)?;
-        self.cursor.advance(trail);
+        let newline = self.cursor.take_place(trail);
+        self.lines.push(self.line_start..newline.start)?;
+        self.line_start = newline.end;
         Ok(())
     }
 
-    /// Notes the next character as read in a source literal: a newline ends the line that is read, and white space where the line
-    /// starts is left out of it.
-    fn note(&mut self, c: char) -> Result<(), AllocError>
-        ensures state { OnOk result (self.new ≡ noted_next c self.old) }
-        ensures spare { c ≢ 10 → IsOk result }
-        ensures err { OnErr result (self.new.source ≡ self.old.source) }
+    /// Moves over the next character of a source literal, which is no newline: white space where the line starts is left out of it.
+    fn pass_in_line<L: Ledger>(&mut self, c: char, trail: &mut Trail<'input, L>)
+        requires { c ≢ 10 }
+        ensures state { self.new ≡ passed_next c self.old }
+        ensures steps { Forward self.old.rest trail.old self.new.rest trail.new }
     {
-        if c == '\n' {
-            let line = self.line();
-            self.lines.push(line)?;
-            self.line_start = self.cursor.stop();
-        } else if self.cursor.start() == self.line_start && c.is_whitespace() {
-            self.line_start = self.cursor.stop();
+        let place = self.cursor.take_place(trail);
+        if place.start == self.line_start && c.is_whitespace() {
+            self.line_start = place.end;
         }
-        Ok(())
     }
 }

@@ -6,6 +6,7 @@ ghost use Rattle.rustc_parse_format.specs.Bytes.{IsFront, IsLeft};
 ghost use Rattle.rustc_parse_format.specs.Characters.{Text, behind_first};
 ghost use Rattle.rustc_parse_format.specs.Literal.{IsContent};
 ghost use Rattle.rustc_parse_format.specs.LiteralUnits.{LiteralUnit};
+ghost use Rattle.rustc_parse_format.specs.Seen.{pair};
 ghost use Rattle.rustc_parse_format.specs.SeenSource.{IsBare, IsHere, IsLook, character_width, closed_by_quote, gap, is_bare};
 ghost use Rattle.rustc_parse_format.specs.World.{World, place_at};
 
@@ -51,7 +52,11 @@ pub struct Spot<'input> {
 fn is_newline_escape(text: &str) -> bool
     ensures { IsTrue result → chars text.now ≡ 92 ∷ 110 ∷ behind_first (behind_first (chars text.now)) }
 {
-    first(text) == Some('\\') && first(behind_first(text)) == Some('n')
+    let bytes = text.as_bytes();
+    if bytes.len() < 2 {
+        return false;
+    }
+    bytes[0] == b'\\' && bytes[1] == b'n'
 }
 
 /// How many bytes the unit at the front takes, or 0 where none stands there that is a character.
@@ -60,8 +65,10 @@ fn is_newline_escape(text: &str) -> bool
 fn character_width(text: &str) -> usize
     ensures { result ≡ character_width (chars text.now) }
 {
+    if is_newline_escape(text) {
+        return 2;
+    }
     match first(text) {
-        Some('\\') if is_newline_escape(text) => 2,
         Some('\\') => {
             let mut rest = Rest::new(text);
             let total = rest.len();
@@ -94,29 +101,22 @@ pub fn continuations_width(text: &str) -> usize
     }
 }
 
-/// Where the character after the next one starts in a snippet that is kept, if the next one starts at a byte.
-pub fn byte_after(snippet: &str, at: usize) -> usize
+/// If the next character starts at a byte of a snippet that is kept: where it ends there, and where the one after it starts. An appended
+/// newline takes a byte.
+#[inline(always)]
+fn character_at(snippet: &str, at: usize) -> (usize, usize)
     requires within { at ≤ length snippet.now }
     requires valid { is_utf8 (drop at snippet.now) ≡ true }
-    ensures { (w : World) (rest : Text) → IsHere snippet.now w rest at → IsHere snippet.now w (behind_first rest) result }
+    ensures stop { (w : World) (c : ℕ) (rest : Text) → IsHere snippet.now w (c ∷ rest) at → result.0 ≡ (place_at w (length (c ∷ rest))).1 }
+    ensures after { (w : World) (rest : Text) → IsHere snippet.now w rest at → IsHere snippet.now w (behind_first rest) result.1 }
 {
     let text = &snippet[at..];
     let width = character_width(text);
     if width == 0 {
-        return at;
+        return (at + 1, at);
     }
-    at + width + continuations_width(&text[width..])
-}
-
-/// Where the next character ends in a snippet that is kept, if it starts at a byte. An appended newline takes a byte.
-#[inline(always)]
-pub fn byte_through(snippet: &str, at: usize) -> usize
-    requires within { at ≤ length snippet.now }
-    requires valid { is_utf8 (drop at snippet.now) ≡ true }
-    ensures { (w : World) (c : ℕ) (rest : Text) → IsHere snippet.now w (c ∷ rest) at → result ≡ (place_at w (length (c ∷ rest))).1 }
-{
-    let width = character_width(&snippet[at..]);
-    if width == 0 { at + 1 } else { at + width }
+    let stop = at + width;
+    (stop, stop + continuations_width(&text[width..]))
 }
 
 /// How many bytes are in front of the first backslash.
@@ -164,7 +164,7 @@ fn byte_by_byte(snippet: &str, marked: &str, byte: usize, rest: &str) -> usize
     let mut mark = marked;
     let mut at = byte;
     while mark.len() > rest.len() {
-        at = byte_after(snippet, at);
+        at = character_at(snippet, at).1;
         mark = behind_first(mark);
     }
     at
@@ -209,8 +209,8 @@ fn byte_beyond(snippet: &str, spot: &Spot<'_>) -> usize
 }
 
 /// The same, by a look at the snippet.
-#[inline(never)]
-fn byte_ahead(snippet: &str, spot: &Spot<'_>) -> usize
+#[inline(always)]
+fn byte_by_look(snippet: &str, spot: &Spot<'_>) -> usize
     requires after { IsLeft spot.now.mark.now spot.now.rest.now }
     requires here { (w : World) × IsLook snippet.now w (chars spot.now.mark.now) spot.now.at }
     ensures { (w : World) → IsLook snippet.now w (chars spot.now.mark.now) spot.now.at → IsHere snippet.now w (chars spot.now.rest.now) result }
@@ -219,6 +219,16 @@ fn byte_ahead(snippet: &str, spot: &Spot<'_>) -> usize
         return byte_beyond(snippet, spot);
     }
     byte_in_bare(snippet, spot.mark, spot.at, spot.rest)
+}
+
+/// The same, by a call.
+#[inline(never)]
+fn byte_ahead(snippet: &str, spot: &Spot<'_>) -> usize
+    requires after { IsLeft spot.now.mark.now spot.now.rest.now }
+    requires here { (w : World) × IsLook snippet.now w (chars spot.now.mark.now) spot.now.at }
+    ensures { (w : World) → IsLook snippet.now w (chars spot.now.mark.now) spot.now.at → IsHere snippet.now w (chars spot.now.rest.now) result }
+{
+    byte_by_look(snippet, spot)
 }
 
 /// The same. Where what was passed and the next byte stand in the snippet as they are, it is not looked at.
@@ -244,11 +254,65 @@ pub fn look_again(snippet: &str, spot: &Spot<'_>) -> Look
     look_at(snippet, byte_here(snippet, spot))
 }
 
+/// Where the next character ends, which is left.
+#[inline(never)]
+fn stop_by_look(snippet: &str, spot: &Spot<'_>) -> usize
+    requires after { IsLeft spot.now.mark.now spot.now.rest.now }
+    requires here { (w : World) × IsLook snippet.now w (chars spot.now.mark.now) spot.now.at }
+    requires some { length spot.now.rest.now ≡ 0 → ⊥ }
+    ensures { (w : World) → IsLook snippet.now w (chars spot.now.mark.now) spot.now.at → result ≡ (place_at w (length (chars spot.now.rest.now))).1 }
+{
+    character_at(snippet, byte_by_look(snippet, spot)).0
+}
+
+/// The place of the next character, which is left, and what a look behind it finds.
+#[inline(never)]
+fn place_by_look(snippet: &str, spot: &Spot<'_>) -> (Range<usize>, Look)
+    requires after { IsLeft spot.now.mark.now spot.now.rest.now }
+    requires here { (w : World) × IsLook snippet.now w (chars spot.now.mark.now) spot.now.at }
+    requires some { length spot.now.rest.now ≡ 0 → ⊥ }
+    ensures place { (w : World) → IsLook snippet.now w (chars spot.now.mark.now) spot.now.at
+        → pair result.0 ≡ place_at w (length (chars spot.now.rest.now)) }
+    ensures look { (w : World) → IsLook snippet.now w (chars spot.now.mark.now) spot.now.at
+        → IsLook snippet.now w (behind_first (chars spot.now.rest.now)) result.1 }
+{
+    let start = byte_by_look(snippet, spot);
+    let (stop, next) = character_at(snippet, start);
+    (start..stop, look_at(snippet, next))
+}
+
+/// Passes the next character, which is left: its place. Where it stands in the snippet as it is, that is not looked at.
+#[inline(always)]
+fn pass_kept(snippet: &str, spot: &mut Spot<'_>) -> Range<usize>
+    requires after { IsLeft spot.old.mark.now spot.old.rest.now }
+    requires here { (w : World) × IsLook snippet.now w (chars spot.old.mark.now) spot.old.at }
+    requires some { length spot.old.rest.now ≡ 0 → ⊥ }
+    ensures place { (w : World) → IsLook snippet.now w (chars spot.old.mark.now) spot.old.at
+        → pair result ≡ place_at w (length (chars spot.old.rest.now)) }
+    ensures rest { chars spot.new.rest.now ≡ behind_first (chars spot.old.rest.now) }
+    ensures left { (input : List ℕ) → IsLeft input spot.old.rest.now → IsLeft input spot.new.rest.now }
+    ensures after { IsLeft spot.new.mark.now spot.new.rest.now }
+    ensures look { (w : World) → IsLook snippet.now w (chars spot.old.mark.now) spot.old.at
+        → IsLook snippet.now w (chars spot.new.mark.now) spot.new.at }
+{
+    let behind = behind_first(spot.rest);
+    let moved = spot.mark.len() - behind.len();
+    if moved <= spot.at.bare {
+        let start = spot.at.byte + (spot.mark.len() - spot.rest.len());
+        spot.rest = behind;
+        return start..spot.at.byte + moved;
+    }
+    let (place, at) = place_by_look(snippet, spot);
+    spot.rest = behind;
+    spot.mark = behind;
+    spot.at = at;
+    place
+}
+
 impl<'input> Source<'input> {
     ghost use Rattle.std.specs.Prelude.{◌-◌, option_map};
     ghost use Rattle.rustc_parse_format.specs.Characters.{byte_length};
     ghost use Rattle.rustc_parse_format.specs.Marks.{End, Start};
-    ghost use Rattle.rustc_parse_format.specs.Seen.{pair};
     ghost use Rattle.rustc_parse_format.specs.SeenSource.{IsSpot, seen_world};
     ghost use Rattle.rustc_parse_format.specs.State.{first_of};
     ghost use Rattle.rustc_parse_format.specs.World.{number_of};
@@ -269,6 +333,7 @@ impl<'input> Source<'input> {
     }
 
     /// Where the next character ends, or where the text ends.
+    #[inline(always)]
     pub fn stop(&self, spot: &Spot<'_>) -> usize
         requires { IsSpot self.now spot.now.rest.now spot.now.mark.now spot.now.at }
         ensures { result ≡ number_of (seen_world self.now) (End (length (chars spot.now.rest.now))) }
@@ -277,11 +342,29 @@ impl<'input> Source<'input> {
             return self.end;
         }
         match &self.kept {
-            Some(snippet) => {
-                let at = byte_here(snippet.as_str(), spot);
-                byte_through(snippet.as_str(), at)
-            }
+            Some(snippet) => stop_by_look(snippet.as_str(), spot),
             None => self.offset + (self.input.len() - behind_first(spot.rest).len()),
+        }
+    }
+
+    /// Passes the next character, if there is one: its place, or that of the end of the text.
+    #[inline(always)]
+    pub fn pass(&self, spot: &mut Spot<'_>) -> Range<usize>
+        requires { IsSpot self.now spot.old.rest.now spot.old.mark.now spot.old.at }
+        ensures place { pair result ≡ place_at (seen_world self.now) (length (chars spot.old.rest.now)) }
+        ensures rest { chars spot.new.rest.now ≡ behind_first (chars spot.old.rest.now) }
+        ensures spot { IsSpot self.now spot.new.rest.now spot.new.mark.now spot.new.at }
+    {
+        if spot.rest.is_empty() {
+            return self.end..self.end;
+        }
+        match &self.kept {
+            Some(snippet) => pass_kept(snippet.as_str(), spot),
+            None => {
+                let start = self.start(spot);
+                spot.rest = behind_first(spot.rest);
+                start..self.offset + (self.input.len() - spot.rest.len())
+            }
         }
     }
 

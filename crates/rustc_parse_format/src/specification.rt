@@ -5,7 +5,7 @@ ghost use Rattle.rustc_parse_format.specs.Meaning.{spec_texts};
 ghost use Rattle.rustc_parse_format.specs.Characters.{begins_with, behind, behind_first, behind_word, first, front, is_no_brace, word};
 ghost use Rattle.rustc_parse_format.specs.Marks.{End, over_first, up_to};
 ghost use Rattle.rustc_parse_format.specs.Meaning.{fill_span, format_of, spec_of, type_span, word_span};
-ghost use Rattle.rustc_parse_format.specs.PartFaults.{flag_faults, format_faults, late_flag, spec_faults, type_faults, word_faults};
+ghost use Rattle.rustc_parse_format.specs.PartFaults.{flag_faults, format_faults, late_flag, spec_faults, text_faults, type_faults, word_faults};
 ghost use Rattle.rustc_parse_format.specs.Seen.{pair, seen_alignment, seen_debug_hex, seen_mode, seen_sign, seen_spec};
 ghost use Rattle.rustc_parse_format.specs.Specification.{align, alternate, fill, format_text, sign, specification, type};
 ghost use Rattle.rustc_parse_format.specs.Midway.{read_run, read_texts, read_to};
@@ -14,12 +14,13 @@ ghost use Rattle.rustc_parse_format.specs.Types.{default_spec, map_spec};
 ghost use Rattle.rustc_parse_format.specs.Values.{debug_hex_of, number_after_precision, number_after_spec, type_of};
 ghost use Rattle.rustc_parse_format.specs.World.{Place, number_of, place_of};
 
+use crate::characters::first;
 use crate::counts::{precision, width, word};
 use crate::cursor::{Cursor, Trail};
 use crate::faults::Fault;
 use crate::laws::default_of_spec;
 use crate::reader::Reader;
-use crate::types::{Alignment, DebugHex, FormatSpec, ParseMode, Sign};
+use crate::types::{Alignment, DebugHex, FormatSpec, ParseMode, Sign, wants_names};
 use std::alloc::AllocError;
 use std::ops::Range;
 use std::sync::ledger::Ledger;
@@ -287,8 +288,27 @@ fn modifier<'input, L: Ledger>(
     Ok(())
 }
 
+/// Notes the text of a diagnostic, where the mode wants names and nothing else.
+fn note_text<'input>(
+    mode: ParseMode,
+    text: &str,
+    span: Range<usize>,
+    reader: &mut Reader<'input>,
+) -> Result<(), AllocError>
+    ensures state { OnOk result (reader.new ≡ record reader.old {
+      faults = reader.old.faults ++ text_faults (seen_mode mode) (chars text.now) (pair span);
+    }) }
+    ensures err { OnErr result (reader.new.source ≡ reader.old.source) }
+{
+    if wants_names(mode) && first(text).is_some() {
+        reader.found.push(Fault::TextAfterColon(span))?;
+    }
+    Ok(())
+}
+
 /// Reads a colon and the text of a diagnostic, whose span takes in the colon, into the place of a specification.
 fn diagnostic_text<'input, L: Ledger>(
+    mode: ParseMode,
     format: &mut FormatSpec<'input>,
     reader: &mut Reader<'input>,
     trail: &mut Trail<'input, L>,
@@ -297,16 +317,22 @@ fn diagnostic_text<'input, L: Ledger>(
       ty = front is_no_brace (behind_first reader.old.rest);
       ty_span = Some (place_of reader.old.world (up_to reader.old.rest (behind is_no_brace (behind_first reader.old.rest))));
     }) }
-    ensures state { OnOk result (reader.new ≡ read_run (record reader.old { rest = behind_first reader.old.rest })) }
+    ensures state { OnOk result (reader.new ≡ (let t = behind_first reader.old.rest in
+        record (read_run (record reader.old { rest = t })) {
+          faults = reader.old.faults ++ text_faults (seen_mode mode) (front is_no_brace t)
+              (place_of reader.old.world (up_to reader.old.rest (behind is_no_brace t)));
+        })) }
     ensures err { OnErr result (reader.new.source ≡ reader.old.source) }
     ensures steps { OnOk result (Forward reader.old.rest trail.old reader.new.rest trail.new) }
 {
     let start = reader.cursor.start();
     reader.cursor.advance(trail);
     let ty = reader.take_text(trail)?;
+    let end = reader.cursor.start();
+    note_text(mode, ty, start..end, reader)?;
     *format = FormatSpec {
         ty,
-        ty_span: Some(start..reader.cursor.start()),
+        ty_span: Some(start..end),
         ..default_of_spec()
     };
     Ok(())
@@ -326,7 +352,7 @@ pub fn specification<'input, L: Ledger>(
     ensures value { OnOk result (seen_spec format.new ≡ map_spec (place_of reader.old.world) (spec_of reader.old.next reader.old.rest
         (specification (seen_mode mode) reader.old.rest).0 (specification (seen_mode mode) reader.old.rest).1)) }
     ensures state { OnOk result (reader.new ≡ (let s = specification (seen_mode mode) reader.old.rest in
-        read_texts (read_to reader.old s.1 (number_after_spec reader.old.next s.0) (spec_faults reader.old.rest s.0 s.1)) (spec_texts s.0 s.1))) }
+        read_texts (read_to reader.old s.1 (number_after_spec reader.old.next s.0) (spec_faults (seen_mode mode) reader.old.rest s.0 s.1)) (spec_texts s.0 s.1))) }
     ensures err { OnErr result (reader.new.source ≡ reader.old.source) }
     ensures steps { OnOk result (Paid reader.old.rest trail.old reader.new.rest trail.new) }
 {
@@ -342,6 +368,8 @@ pub fn specification<'input, L: Ledger>(
             reader.cursor.advance(trail);
             modifier(format, reader, trail)
         }
-        ParseMode::Diagnostic => diagnostic_text(format, reader, trail),
+        ParseMode::Diagnostic | ParseMode::DiagnosticNamed => {
+            diagnostic_text(mode, format, reader, trail)
+        }
     }
 }

@@ -1,5 +1,6 @@
 ghost use Rattle.std.specs.Prelude.{◌≡◌};
-ghost use Rattle.rustc_parse_format.specs.Seen.{index_of};
+ghost use Rattle.rustc_parse_format.specs.Seen.{index_of, seen_mode};
+ghost use Rattle.rustc_parse_format.specs.Types.{wants_names};
 
 use crate::laws::{clone_of_argument, default_of_spec, specs_are_equal};
 use std::alloc::{AllocError, Global};
@@ -14,6 +15,8 @@ pub enum ParseMode {
     InlineAsm,
     /// The text of a diagnostic attribute.
     Diagnostic,
+    /// The same, where each argument has to be a name and nothing else: `{name}`, or `{name:}`.
+    DiagnosticNamed,
 }
 
 /// A piece of the input: text as it stands, or a placeholder.
@@ -158,6 +161,13 @@ pub enum Suggestion {
     AddMissingColon(Range<usize>),
     /// Use the macro `dbg!`.
     UseRustDebugPrintingMacro,
+}
+
+/// Every argument has to be a name and nothing else.
+pub fn wants_names(mode: ParseMode) -> bool
+    ensures { result ≡ wants_names (seen_mode mode) }
+{
+    matches!(mode, ParseMode::DiagnosticNamed)
 }
 
 impl<'input> Piece<'input> {

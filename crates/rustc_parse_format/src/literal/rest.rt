@@ -156,12 +156,23 @@ pub fn plain_width(bytes: &[u8], others: &[u8]) -> usize
     most
 }
 
+/// Whether both begin with the same byte.
+#[inline(always)]
+fn begin_alike(bytes: &[u8], others: &[u8]) -> bool {
+    !bytes.is_empty() && !others.is_empty() && bytes[0] == others[0]
+}
+
 /// What is after the plain characters with which both begin. Where they differ, they may do so inside of a character.
 #[inline(always)]
 fn behind_plain<'a, 'b>(text: &'a str, other: &'b str) -> (&'a str, &'b str)
     ensures { SharePlain (chars text.now) (chars other.now) (chars result.0.now) (chars result.1.now) }
 {
-    let same = plain_width(text.as_bytes(), other.as_bytes());
+    let bytes = text.as_bytes();
+    let others = other.as_bytes();
+    if !begin_alike(bytes, others) {
+        return (text, other);
+    }
+    let same = plain_width(bytes, others);
     let width = text.floor_char_boundary(same);
     (&text[width..], &other[width..])
 }

@@ -1,4 +1,4 @@
-use Rattle.std.proofs.Common.{◌∙◌, ap, map, sym, refl, length, arith}
+use Rattle.std.proofs.Common.{◌∙◌, ap, map, sym, length, arith}
 use Rattle.std.specs.Prelude.{option_map}
 use Rattle.rustc_parse_format.specs.Characters.{behind_white, behind_first}
 use Rattle.rustc_parse_format.specs.Seen.{pair, seen_argument, seen_mode}
@@ -10,7 +10,7 @@ use Rattle.rustc_parse_format.proofs.call.read_braced.Goals as goal
 pub close-requires-clause-numbers : goal.close-requires-clause-numbers
 close-requires-clause-numbers g c =
     let u = c.reader.inside.cursor in
-    let given = rw (c.settle-2.ensures, c.advance.ensures.rest, c.settle.ensures) at c.in_ok-read_argument.ensures in
+    let given = rw c.take_place-opening.ensures.rest at c.in_ok-read_argument.ensures in
     let whole = c.reader-2.view_is ∙ given.state in
     let rest = ap (λ (x : Midway). x.rest) c.reader.view_is in
     let white = ap (λ (x : Unread). x.rest) c.skip_white.ensures.rest in
@@ -31,9 +31,7 @@ returns-clause-state g c =
       lines = map pair c.reader.inside.lines.items;
       closed = option_map pair c.reader.inside.closed;
     } in
-    let given = rw (c.settle-2.ensures, c.advance.ensures.rest, c.settle.ensures) at c.in_ok-read_argument.ensures in
-    let start = rw c.settle.ensures at c.start.ensures in
-    let stop = rw c.settle.ensures at c.stop.ensures in
-    rw (← c.reader.view_is) (placeholder_closed s _ c.close.new.reader (seen_mode c.args.mode) u.rest (behind_first u.rest) (c.start.result, c.stop.result)
-    (seen_argument c.read_argument.new.into) (c.reader-2.view_is ∙ given.state) (rw (start, stop) refl) given.value
+    let given = rw c.take_place-opening.ensures.rest at c.in_ok-read_argument.ensures in
+    rw (← c.reader.view_is) (placeholder_closed s _ c.close.new.reader (seen_mode c.args.mode) u.rest (behind_first u.rest) (pair c.take_place-opening.result)
+    (seen_argument c.read_argument.new.into) (c.reader-2.view_is ∙ given.state) c.take_place-opening.ensures.place given.value
     (rw c.skip_white.ensures.rest at c.in_ok-close.ensures.state))

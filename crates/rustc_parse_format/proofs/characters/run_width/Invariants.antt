@@ -5,6 +5,3 @@ use Rattle.rustc_parse_format.proofs.characters.run_width.Given as goal
 
 abbrev pub invariant-loop-i : goal.invariant-loop-i
 invariant-loop-i l = list_all (passes l.class) (take l.i l.bytes) ≡ true
-
-abbrev pub invariant-loop-k : goal.invariant-loop-k
-invariant-loop-k l = list_all (passes l.class) (take l.k l.bytes) ≡ true

@@ -1,15 +1,25 @@
-use Rattle.std.proofs.Common.{◌∙◌, ap}
+use Rattle.std.proofs.Common.{◌∙◌, refl}
 use Rattle.std.specs.Prelude.{option_map}
-use Rattle.rustc_parse_format.specs.Midway.{Midway}
+use Rattle.rustc_parse_format.specs.Meaning.{argument}
+use Rattle.rustc_parse_format.specs.Placeholder.{cut}
 use Rattle.rustc_parse_format.specs.Seen.{seen_mode, seen_position}
-use Rattle.rustc_parse_format.proofs.Readers.{argument_read, behind_specification}
+use Rattle.rustc_parse_format.proofs.Readers.{argument_read}
 use Rattle.rustc_parse_format.proofs.placeholder.read_argument.Goals as goal
+
+pub returns-clause-value : goal.returns-clause-value
+unfolding argument cut
+returns-clause-value g c =
+    let a = c.in_ok-given.ensures in
+    let read = rw a.span at a.state in
+    let state = rw read at c.in_ok-specification.ensures.state in
+    let spec = rw read at c.in_ok-specification.ensures.value in
+    let position = rw (state, a.value) at c.position_of-into.ensures.value in
+    rw (position, a.span, spec) refl
 
 pub returns-clause-state : goal.returns-clause-state
 returns-clause-state g c =
-    let m = seen_mode c.args.mode in
-    let given = option_map seen_position c.in_ok-given.given in
-    let spec = rw c.skip_white.ensures.rest at c.in_ok-specification.ensures.state in
-    rw spec at c.position_of-into.ensures.state
-    ∙ ap (λ (x : Midway). behind_specification m given x) (c.reader-2.view_is ∙ c.in_ok-given.ensures.state)
-    ∙ argument_read c.args.reader.now m given c.in_ok-given.ensures.value
+    let a = c.in_ok-given.ensures in
+    let read = rw a.span at a.state in
+    let state = rw read at c.in_ok-specification.ensures.state in
+    rw state at c.position_of-into.ensures.state
+    ∙ argument_read c.args.reader.now (seen_mode c.args.mode) (option_map seen_position c.in_ok-given.given) a.value

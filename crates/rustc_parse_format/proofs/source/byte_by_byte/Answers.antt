@@ -9,11 +9,11 @@ loop-mark-init c =
     let l = left c.args.marked.now c.args.rest.now c.requires.after in
     (IsUtf8-from_is_utf8 c.args.marked.now c.requires.after.valid, (l.pre, l.whole), λ w h. h)
 
-pub byte_after-at-requires-clause-within : goal.byte_after-at-requires-clause-within
-byte_after-at-requires-clause-within c = (c.loop-mark.invariant.2 c.requires.here.0 c.requires.here.1).within
+pub character_at-at-requires-clause-within : goal.character_at-at-requires-clause-within
+character_at-at-requires-clause-within c = (c.loop-mark.invariant.2 c.requires.here.0 c.requires.here.1).within
 
-pub byte_after-at-requires-clause-valid : goal.byte_after-at-requires-clause-valid
-byte_after-at-requires-clause-valid c = (c.loop-mark.invariant.2 c.requires.here.0 c.requires.here.1).valid
+pub character_at-at-requires-clause-valid : goal.character_at-at-requires-clause-valid
+character_at-at-requires-clause-valid c = (c.loop-mark.invariant.2 c.requires.here.0 c.requires.here.1).valid
 
 pub loop-mark-smaller : goal.loop-mark-smaller
 loop-mark-smaller c =
@@ -26,7 +26,7 @@ loop-mark-preserved c = (
   front_left c.loop-mark.mark.now c.behind_first-mark.result.now c.args.rest.now c.loop-mark.invariant.0
       (IsUtf8-from_is_utf8 _ c.requires.after.valid_rest) c.behind_first-mark.ensures.rest c.loop-mark-test.true c.loop-mark.invariant.1.0
       c.loop-mark.invariant.1.1,
-  λ w h. rw c.behind_first-mark.ensures.rest (c.byte_after-at.ensures w (chars c.loop-mark.mark.now) (c.loop-mark.invariant.2 w h)),
+  λ w h. rw c.behind_first-mark.ensures.rest (c.character_at-at.ensures.after w (chars c.loop-mark.mark.now) (c.loop-mark.invariant.2 w h)),
 )
 
 pub returns : goal.returns

@@ -14,5 +14,5 @@ overflow_sub-result c = rw (c.len-total.ensures, c.len.ensures) (meaning-narrowe
 pub returns-in-Some-Some : goal.returns-in-Some-Some
 returns-in-Some-Some c = rw (c.len-total.ensures, c.len.ensures, ← c.new-rest.ensures) (sym (width-read _ _ _ (read c)))
 
-pub returns-in-Some-eq92 : goal.returns-in-Some-eq92
-returns-in-Some-eq92 c = newline-width _ _ (c.is_newline_escape.ensures c.if-is_newline_escape.true)
+pub returns-then-is_newline_escape : goal.returns-then-is_newline_escape
+returns-then-is_newline_escape c = newline-width _ _ (c.is_newline_escape.ensures c.if-is_newline_escape.true)

@@ -1,5 +1,4 @@
-use Rattle.std.proofs.Common.{rules, ◌≡◌, ap, subst, sym, ◌∙◌, length, arith, Some, true}
-use Rattle.std.proofs.lemmas.Bool.{false≢true}
+use Rattle.std.proofs.Common.{rules, ◌≡◌, ap, subst, sym, ◌∙◌, length, arith, refl, Some, true}
 use Rattle.rustc_parse_format.specs.Characters.{first, is_no_brace, is_in_line}
 use Rattle.rustc_parse_format.specs.Midway.{Midway, IsInOneLine, IsPastIndent, read_run}
 use Rattle.rustc_parse_format.proofs.Steps.{forward_then}
@@ -7,20 +6,20 @@ use Rattle.rustc_parse_format.proofs.RunLines.{run-step, one_line-step, one_line
 use Rattle.rustc_parse_format.proofs.RunSkips.{run-skip, one_line-skip, behind-shorter}
 use Rattle.rustc_parse_format.proofs.reader.Reader.skip_lines.Goals as goal
 
-pub loop-c-smaller-then-passes : goal.loop-c-smaller-then-passes
-loop-c-smaller-then-passes g c =
+pub loop-c-smaller-then-is_past_indent : goal.loop-c-smaller-then-is_past_indent
+loop-c-smaller-then-is_past_indent g c =
     let next : first c.loop-c.self.rest ≡ Some c.in-Some.c = search rules in
     let passes : is_in_line c.in-Some.c ≡ true = search rules in
-    let skipped = rw c.is_past_indent-is_past.ensures.state at c.skip_line.ensures.state in
+    let skipped = rw c.is_past_indent.ensures.state at c.skip_line.ensures.state in
     omega (arith, ap (λ (s : Midway). length s.rest) skipped, behind-shorter is_in_line c.loop-c.self.rest c.in-Some.c next passes)
 
-pub loop-c-preserved-then-passes : goal.loop-c-preserved-then-passes
-loop-c-preserved-then-passes g c =
+pub loop-c-preserved-then-is_past_indent : goal.loop-c-preserved-then-is_past_indent
+loop-c-preserved-then-is_past_indent g c =
     let s = c.loop-c.self in
     let before = c.loop-c.invariant in
     let next : first s.rest ≡ Some c.in-Some.c = search rules in
-    let past : IsPastIndent c.in-Some.c s.line_start s.world s.rest = c.is_past_indent-is_past.ensures.past c.if-is_past.true next in
-    let skipped = rw c.is_past_indent-is_past.ensures.state at c.skip_line.ensures in
+    let past : IsPastIndent c.in-Some.c s.line_start s.world s.rest = c.is_past_indent.ensures.past c.if-is_past_indent.true next in
+    let skipped = rw c.is_past_indent.ensures.state at c.skip_line.ensures in
     record {
       source = search rules;
       run = ap read_run skipped.state ∙ (run-skip s c.in-Some.c before.source next past ∙ before.run);
@@ -34,7 +33,7 @@ loop-c-preserved g c =
     let before = c.loop-c.invariant in
     let next : first s.rest ≡ Some c.in-Some.c = search rules in
     let passes : is_no_brace c.in-Some.c ≡ true = search rules in
-    let passed = rw c.is_past_indent-is_past.ensures.state at c.in_ok-pass.ensures in
+    let passed = rw c.is_past_indent.ensures.state at c.pass_in_line.ensures in
     record {
       source = search rules;
       run = ap read_run passed.state ∙ (run-step s c.in-Some.c before.source next passes ∙ before.run);
@@ -42,10 +41,22 @@ loop-c-preserved g c =
       steps = forward_then before.steps passed.steps;
     }
 
-pub returns-in_err-pass-clause-spare : goal.returns-in_err-pass-clause-spare
-returns-in_err-pass-clause-spare g c one =
+pub loop-c-preserved-in-Continue-1 : goal.loop-c-preserved-in-Continue-1
+loop-c-preserved-in-Continue-1 g c =
     let s = c.loop-c.self in
     let before = c.loop-c.invariant in
-    let next : first s.rest ≡ Some c.in-Some.c = search rules in
-    let passes : is_no_brace c.in-Some.c ≡ true = search rules in
-    absurd (false≢true (c.in_err-pass.ensures.spare (one_line-no_newline s c.in-Some.c before.source next passes (before.spare one))))
+    let next : first s.rest ≡ Some 10 = search rules in
+    let ended = c.in_ok-take_newline.ensures in
+    record {
+      source = search rules;
+      run = ap read_run ended.state ∙ (run-step s 10 before.source next refl ∙ before.run);
+      spare = λ one. subst IsInOneLine (sym ended.state) (one_line-step s 10 before.source next refl (before.spare one));
+      steps = forward_then before.steps ended.steps;
+    }
+
+pub returns-in_err-take_newline-clause-spare : goal.returns-in_err-take_newline-clause-spare
+returns-in_err-take_newline-clause-spare g c one =
+    let s = c.loop-c.self in
+    let before = c.loop-c.invariant in
+    let next : first s.rest ≡ Some 10 = search rules in
+    absurd (one_line-no_newline s 10 before.source next refl (before.spare one) refl)

@@ -1,5 +1,5 @@
 use Rattle.std.proofs.lemmas.Str.{encodes-chars}
-use Rattle.rustc_parse_format.proofs.faults.debug_after.Goals as goal
+use Rattle.rustc_parse_format.proofs.messages.debug_after.Goals as goal
 
 pub returns : goal.returns
 returns c = rw (encodes-chars c.args.word.now c.utf8.word) c.format.ensures.ok

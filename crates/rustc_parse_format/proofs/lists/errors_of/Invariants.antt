@@ -3,7 +3,7 @@ use Rattle.std.specs.List.{filter}
 use Rattle.rustc_parse_format.specs.Faults.{is_front, message}
 use Rattle.rustc_parse_format.specs.Seen.{seen_error}
 use Rattle.rustc_parse_format.specs.SeenFaults.{seen_fault}
-use Rattle.rustc_parse_format.proofs.faults.errors_of.Given as goal
+use Rattle.rustc_parse_format.proofs.lists.errors_of.Given as goal
 
 abbrev pub invariant-loop-fault : goal.invariant-loop-fault
 invariant-loop-fault l =
