@@ -2,6 +2,7 @@ mod Numbers
 mod Firsts
 mod Noting
 mod Reports
-mod Unique
-mod Deciding
+pub mod Unique
+pub mod Deciding
 mod ReportRows
+mod NamedArguments

@@ -5,7 +5,9 @@ ghost use Rattle.rustc_parse_format.specs.Call.{pieces_of};
 ghost use Rattle.rustc_parse_format.specs.Grammar.{IsInGrammar};
 ghost use Rattle.rustc_parse_format.specs.Seen.{seen, seen_mode, seen_snippet};
 ghost use Rattle.rustc_parse_format.specs.State.{after_all, calls, first_state};
+ghost use Rattle.rustc_parse_format.specs.Types.{DiagnosticNamed};
 ghost use Rattle.rustc_parse_format.specs.World.{hashes, pieces_in};
+ghost use Rattle.placeholder_check.specs.Entries.{Lists};
 ghost use Rattle.placeholder_check.specs.Uses.{uses};
 ghost use Rattle.placeholder_check.specs.Report.{IsReport};
 ghost use Rattle.placeholder_check.specs.Reading.{IsReportOf};
@@ -39,6 +41,10 @@ pub fn read_and_check<'a>(
     ensures clean { IfOk result (λ x. (x.1.errors ≡ []) ↔ IsInGrammar (seen_mode mode) (chars input.now)) }
     ensures reading { IfOk result (λ x. x.1.errors ≡ []
         → IsReportOf (seen_mode mode) (chars input.now) positional (texts names.now) (seen_report x.2)) }
+
+    // Where the mode wants names, and no error is left, no number is missing and each one that is given is unused.
+    ensures names_alone { IfOk result (λ x. seen_mode mode ≡ DiagnosticNamed → x.1.errors ≡ []
+        → ((seen_report x.2).missing_index ≡ []) × Lists (λ n. n < positional) (seen_report x.2).unused_index) }
 {
     let (pieces, parser) = read_all(alloc, input, style, snippet, appended_newline, mode)?;
     let report = check(alloc, pieces.as_slice(), positional, names)?;

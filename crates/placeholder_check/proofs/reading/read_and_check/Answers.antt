@@ -1,6 +1,10 @@
-use Rattle.std.proofs.Common.{map}
+use Rattle.std.proofs.Common.{chars, map}
 use Rattle.rustc_parse_format.specs.Seen.{seen}
 use Rattle.rustc_parse_format.specs.Types.{bare}
+use Rattle.placeholder_check.specs.Report.{IsReport}
+use Rattle.placeholder_check.specs.Seen.{seen_report, texts}
+use Rattle.placeholder_check.specs.Uses.{uses}
+use Rattle.placeholder_check.proofs.NamedArguments.{named-report}
 use Rattle.placeholder_check.proofs.Reports.{uses-bare}
 use Rattle.placeholder_check.proofs.reading.read_and_check.Goals as goal
 
@@ -11,3 +15,11 @@ returns-clause-reading c = λ clean. record {
   are_only = λ others r. c.read_all.ensures.one_reading _ _ _ _ _ r (c.in_ok-pieces.ensures.reading clean);
   is_report = rw (uses-bare (map seen c.in_ok-pieces.pieces.items), ← c.as_slice.ensures.value) c.in_ok-report.ensures.report;
 }
+
+pub returns-clause-names_alone : goal.returns-clause-names_alone
+returns-clause-names_alone c = λ named. λ clean.
+    let ps = map seen c.in_ok-pieces.pieces.items in
+    let read = rw named at c.in_ok-pieces.ensures.reading clean in
+    let report : IsReport (uses (map bare ps)) c.args.positional (texts c.args.names.now) (seen_report c.in_ok-report.report) =
+    rw (uses-bare ps, ← c.as_slice.ensures.value) c.in_ok-report.ensures.report in
+    named-report (chars c.args.input.now) (map bare ps) read c.args.positional (texts c.args.names.now) (seen_report c.in_ok-report.report) report
