@@ -11,11 +11,14 @@ use Rattle.rustc_parse_format.specs.Call.{call, pieces_of, walk}
 use Rattle.rustc_parse_format.specs.Faults.{Message}
 use Rattle.rustc_parse_format.specs.State.{after_all, calls, fresh}
 use Rattle.rustc_parse_format.specs.World.{Place, World, pieces_in}
-use Rattle.formatread.specs.declared.run.Task.{Task as DeclaredTask}
+use Rattle.rustc_parse_format.specs.Seen.{seen_mode}
+use Rattle.formatread.specs.declared.given.Given.{Given as DeclaredGiven}
+use Rattle.formatread.specs.declared.task.Task.{Task as DeclaredTask}
 use Rattle.formatread.specs.declared.verdict.RunFault.{RunFault}
 use Rattle.formatread.specs.declared.verdict.RunFault.TheVariants.{NotLiteral}
-use Rattle.formatread.specs.Program.{Task, errors, listed, pieces}
-use Rattle.formatread.specs.SeenTask.{seen_task}
+use Rattle.formatread.specs.Listing.{report_lines}
+use Rattle.formatread.specs.Program.{IsListed, Task, errors, listed, no_entries, pieces}
+use Rattle.formatread.specs.SeenTask.{seen_given, seen_task}
 use Rattle.formatread.specs.Source.{IsSourceOf, Source, bare_source}
 use Rattle.formatread.proofs.Literals.{raw_frame-parts}
 
@@ -28,8 +31,8 @@ errors-nil : (mode : Mode) (w : World) (start : ℕ) → (after_all (fresh mode 
 unfolding walk call
 errors-nil mode w start = refl
 
-listed-nil : (mode : Mode) → listed mode (bare_source []) ≡ ([], false)
-unfolding pieces errors walk call
+listed-nil : (mode : Mode) → listed mode (bare_source []) no_entries ≡ ([], false)
+unfolding pieces errors walk call report_lines
 listed-nil mode = refl
 
 chars-empty : (bs : List ℕ) → bs ≡ [] → chars bs ≡ []
@@ -62,10 +65,15 @@ empty-no_literal bs e None t (content, us, h, is, v) = empty-no_frame bs e conte
 empty-no_literal bs e (Some n) t h = empty-not_raw bs e n t h
 
 -- what the words ask for, and what was read
+nothing-seen : (g : Option DeclaredGiven) → option_map seen_given g ≡ None → g ≡ None
+nothing-seen None e = refl
+nothing-seen (Some g) e = absurd cc
+
 pub asked-literal : (o : Option DeclaredTask) (t : DeclaredTask) (mode : Mode) (literal : Bool) (a : Option Task) → option_map seen_task o ≡ a → o ≡ Some t
-    → a ≡ Some (record { mode = mode; is_literal = literal }) → t.is_literal ≡ literal
+    → a ≡ Some (record { mode = mode; is_literal = literal; given = None }) → (t.is_literal ≡ literal) × (t.given ≡ None)
 asked-literal o t mode literal a seen is asked =
-    ap (λ (a : Task). a.is_literal) (same_Some (seen_task t) (record { mode = mode; is_literal = literal }) (ap (option_map seen_task) (sym is) ∙ seen ∙ asked))
+    let same = same_Some (seen_task t) (record { mode = mode; is_literal = literal; given = None }) (ap (option_map seen_task) (sym is) ∙ seen ∙ asked) in
+    (ap (λ (a : Task). a.is_literal) same, nothing-seen t.given (ap (λ (a : Task). a.given) same))
 
 pub empty-read : (remaining : Option (List ℕ)) (items slice text : List ℕ) → remaining ≡ Some [] → IfSome remaining (λ input. items ≡ input)
     → slice ≡ items → text ≡ slice → text ≡ []
@@ -79,11 +87,18 @@ nothing_found (Some y) x bs literal e short found is =
     empty-no_literal literal (nil_from_length literal (omega (arith, ap length e))) y.1 (chars (string_bytes y.0)) found
 
 -- what the program does with it
-pub empty-listed : (mode : Mode) (is_literal : Bool) (lines : String Global) (faulty : Bool) (bs : List ℕ) → bs ≡ []
-    → (bs ≡ [] → is_literal ≡ true → ◌≡◌ {A = Result (String Global × Bool) RunFault} (Ok (lines, faulty)) (Err NotLiteral))
-    → (s : Source) × IsSourceOf is_literal (chars bs) s × ((string_bytes lines, faulty) ≡ listed mode s)
-    → (is_literal ≡ false) × (string_bytes lines ≡ []) × (faulty ≡ false)
-empty-listed mode true lines faulty bs e refused given = absurd (let no_listing = refused e refl in cc)
-empty-listed mode false lines faulty bs e refused (s, bare, given) =
-    let none = given ∙ ap (listed mode) (bare ∙ ap bare_source (chars-empty bs e)) ∙ listed-nil mode in
-    (refl, ap (λ (x : List ℕ × Bool). x.0) none, ap (λ (x : List ℕ × Bool). x.1) none)
+pub empty-listed : (t : DeclaredTask) (lines : String Global) (told : Bool) (bs : List ℕ) → bs ≡ [] → t.given ≡ None
+    → (bs ≡ [] → t.is_literal ≡ true → ◌≡◌ {A = Result (String Global × Bool) RunFault} (Ok (lines, told)) (Err NotLiteral))
+    → (s : Source) × IsSourceOf t.is_literal (chars bs) s × IsListed (seen_task t) s (string_bytes lines, told)
+    → (t.is_literal ≡ false) × (string_bytes lines ≡ []) × (told ≡ false)
+empty-listed t lines told bs e bare refused found = by_literal t.is_literal refused found
+  where
+    by_literal : (literal : Bool) → (bs ≡ [] → literal ≡ true → ◌≡◌ {A = Result (String Global × Bool) RunFault} (Ok (lines, told)) (Err NotLiteral))
+        → (s : Source) × IsSourceOf literal (chars bs) s × IsListed (seen_task t) s (string_bytes lines, told)
+        → (literal ≡ false) × (string_bytes lines ≡ []) × (told ≡ false)
+    by_literal true refused found = absurd (let no_listing = refused e refl in cc)
+    by_literal false refused (s, is, (r, report, given)) =
+        let none : r ≡ no_entries = rw bare at report in
+        let same = given ∙ ap (listed (seen_mode t.mode) s) none ∙ ap (λ s. listed (seen_mode t.mode) s no_entries) (is ∙ ap bare_source (chars-empty bs e))
+        ∙ listed-nil (seen_mode t.mode) in
+        (refl, ap (λ (x : List ℕ × Bool). x.0) same, ap (λ (x : List ℕ × Bool). x.1) same)

@@ -1,6 +1,9 @@
 mod Texts
+mod Cuts
+mod ListNumbers
 mod Literals
 mod Contents
 mod OneLiteral
 mod OneAnswer
 mod Empty
+mod WordRows

@@ -1,4 +1,5 @@
 pub mod Listing
 pub mod Source
+pub mod Given
 pub mod Program
 pub mod SeenTask

@@ -1,4 +1,4 @@
--- The listing of pieces and errors, as bytes: a line for each.
+-- The listing of pieces, errors and a report, as bytes: a line for each piece, each error and each entry.
 use Rattle.std.specs.Prelude.{ℕ, Bool, true, false, List, [], ◌∷◌, ◌++◌, Option, Some, None, flat_map, codes, decimal}
 use Rattle.std.specs.Str.{encode_utf8_all}
 use Rattle.rustc_parse_format.specs.Characters.{Text}
@@ -7,6 +7,7 @@ use Rattle.rustc_parse_format.specs.Types.{Alignment, Left, Right, Center, Unkno
 use Rattle.rustc_parse_format.specs.Types.{Count, Is, Name, Param, Star, Implied, Spec, Piece, Lit, NextArgument}
 use Rattle.rustc_parse_format.specs.Faults.{Message}
 use Rattle.rustc_parse_format.specs.World.{Place}
+use Rattle.placeholder_check.specs.Report.{Report}
 
 -- a text between quotes, each character as it is written
 abbrev pub quoted : Text → List ℕ
@@ -105,6 +106,19 @@ piece_line (NextArgument a) =
 abbrev pub fault_line : Message Place → List ℕ
 fault_line m = codes "fault " ++ (span_text m.span ++ (codes " " ++ (m.description ++ codes "\n")))
 
--- a line for each piece, and then one for each error
-abbrev pub listing : List (Piece Place) → List (Message Place) → List ℕ
-listing ps ms = flat_map piece_line ps ++ flat_map fault_line ms
+-- of an entry of a report, a number or a name
+abbrev pub index_line : List ℕ → ℕ → List ℕ
+index_line label n = label ++ (decimal n ++ codes "\n")
+
+abbrev pub name_line : List ℕ → Text → List ℕ
+name_line label w = label ++ (quoted w ++ codes "\n")
+
+-- of all entries
+unfoldable pub report_lines : Report → List ℕ
+report_lines r =
+    flat_map (index_line (codes "missing index ")) r.missing_index ++ (flat_map (name_line (codes "missing name ")) r.missing_name
+    ++ (flat_map (index_line (codes "unused index ")) r.unused_index ++ flat_map (name_line (codes "unused name ")) r.unused_name))
+
+-- a line for each piece, then one for each error, and then those of the report
+abbrev pub listing : List (Piece Place) → List (Message Place) → Report → List ℕ
+listing ps ms r = flat_map piece_line ps ++ (flat_map fault_line ms ++ report_lines r)

@@ -1,8 +1,12 @@
 ghost use Rattle.std.specs.Prelude.{◌≡◌, ◌++◌, [], IfOk, IsOk, OnOk, map, chars, codes, encode_utf8_all, flat_map, option_map, string_bytes};
 ghost use Rattle.rustc_parse_format.specs.Written.{written};
 ghost use Rattle.rustc_parse_format.specs.Seen.{pair, seen, seen_alignment, seen_count, seen_debug_hex, seen_error, seen_position, seen_sign, seen_spec};
+ghost use Rattle.placeholder_check.specs.Seen.{seen_report};
+ghost use Rattle.formatread.specs.Program.{no_entries};
 ghost use Rattle.formatread.specs.Listing.{align_entry, at_entry, count_entry, count_text, fault_line, fill_entry, flag_entry, flag_entries, hex_entry, listing, piece_line, position_text, precision_entry, quoted, sign_entry, span_text, type_entry, value_entries, width_entry};
 
+use super::report_lines::put_report;
+use placeholder_check::Report;
 use rustc_parse_format::{
     Alignment, Argument, Count, DebugHex, FormatSpec, ParseError, Piece, Position, Sign,
     put_written,
@@ -22,7 +26,7 @@ fn put_characters(out: &mut String, text: &str) -> Result<(), AllocError>
 }
 
 /// Adds a text between quotes.
-fn put_quoted(out: &mut String, text: &str) -> Result<(), AllocError>
+pub fn put_quoted(out: &mut String, text: &str) -> Result<(), AllocError>
     ensures { OnOk result (string_bytes out.new ≡ string_bytes out.old ++ quoted (chars text.now)) }
 {
     out.push_str("\"")?;
@@ -326,18 +330,20 @@ fn put_faults(out: &mut String, errors: &[ParseError]) -> Result<(), AllocError>
     Ok(())
 }
 
-/// The listing of pieces and errors: a line for each.
+/// The listing of pieces, errors and a report: a line for each piece, each error and each entry.
 pub fn listing(
     alloc: Global,
     pieces: &[Piece<'_>],
     errors: &[ParseError],
+    report: &Report<'_>,
 ) -> Result<String, AllocError>
     ensures lines { IfOk result (λ text. string_bytes text
-        ≡ listing (map seen pieces.now) (map seen_error errors.now)) }
-    ensures empty { pieces.now ≡ [] → errors.now ≡ [] → IsOk result }
+        ≡ listing (map seen pieces.now) (map seen_error errors.now) (seen_report report.now)) }
+    ensures empty { pieces.now ≡ [] → errors.now ≡ [] → seen_report report.now ≡ no_entries → IsOk result }
 {
     let mut out = String::new(alloc);
     put_pieces(&mut out, pieces)?;
     put_faults(&mut out, errors)?;
+    put_report(&mut out, report)?;
     Ok(out)
 }

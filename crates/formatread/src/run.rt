@@ -1,14 +1,12 @@
-ghost use Rattle.std.specs.Prelude.{◌≡◌, ◌≢◌, ◌<◌, ◌≤◌, ◌↔◌, ◌⊎◌, ℕ, Bool, List, [], None, Some, Ok, Err, IfOk, IfErr, IfSome, IsErrOf, IsOk, IsOkUnless, OnOk, length, map, nat_lt, chars, option_map, string_bytes};
+ghost use Rattle.std.specs.Prelude.{◌≡◌, ◌≢◌, ◌<◌, ◌≤◌, ◌↔◌, ◌⊎◌, ℕ, Bool, List, [], None, Some, Ok, Err, IfOk, IfErr, IfSome, IsErrOf, IsOk, IsOkUnless, OnOk, length, map, string_bytes};
 ghost use Rattle.std.specs.Io.KnownBytes.{Appends};
 ghost use Rattle.rustc_parse_format.specs.Types.{Mode};
-ghost use Rattle.rustc_parse_format.specs.Seen.{seen_mode};
 ghost use Rattle.formatread.specs.declared.verdict.RunFault.TheVariants.{Words, TooLong, NotText, NotLiteral, Read as ReadFault, Write as WriteFault};
-ghost use Rattle.formatread.specs.Program.{Answer, IsOwed, asked, empty_answer, limit, mode_named};
-ghost use Rattle.formatread.specs.SeenTask.{seen_task};
+ghost use Rattle.formatread.specs.Program.{Answer, IsOwed, asked, empty_answer, limit};
 
 use super::input::list_input;
+use super::task::asked;
 use super::verdict::RunFault;
-use rustc_parse_format::ParseMode;
 use std::alloc::Global;
 use std::io::{Read, Write};
 
@@ -17,42 +15,6 @@ const LIMIT: usize = 1_048_576;
 
 /// How many bytes are asked for at once.
 const CHUNK: usize = 4096;
-
-/// What the words ask for.
-#[derive(Copy, Clone, Debug, Eq, PartialEq)]
-struct Task {
-    mode: ParseMode,
-    /// The input is a string literal.
-    is_literal: bool,
-}
-
-/// The mode that a word names.
-fn mode_named(word: &str) -> Option<ParseMode>
-    ensures { option_map seen_mode result ≡ mode_named word.now }
-{
-    if word == "format" {
-        Some(ParseMode::Format)
-    } else if word == "asm" {
-        Some(ParseMode::InlineAsm)
-    } else if word == "diagnostic" {
-        Some(ParseMode::Diagnostic)
-    } else {
-        None
-    }
-}
-
-/// What the words ask for.
-fn asked(words: &[String]) -> Option<Task>
-    ensures { option_map seen_task result ≡ asked (map string_bytes words.now) }
-{
-    let (word, is_literal) = match words {
-        [word] => (word.as_str(), false),
-        [word, option] if option.as_str() == "--literal" => (word.as_str(), true),
-        _ => return None,
-    };
-    let mode = mode_named(word)?;
-    Some(Task { mode, is_literal })
-}
 
 /// All bytes that the reader holds up to its end.
 fn read_input<R: Read>(alloc: Global, reader: &mut R) -> Result<Vec<u8>, RunFault>
@@ -99,8 +61,8 @@ fn write_whole<W: Write>(writer: &mut W, bytes: &[u8]) -> Result<(), RunFault>
     Ok(())
 }
 
-/// Lists the pieces and the faults of all that the reader holds, as the words ask, and answers
-/// whether there is a fault.
+/// Lists the pieces and the faults of all that the reader holds, as the words ask, and, where they
+/// give arguments, the report on these. Answers whether there is a line that is of no piece.
 ///
 /// A read or a write that fails is not tried again.
 pub fn run<R: Read, W: Write>(
@@ -110,8 +72,8 @@ pub fn run<R: Read, W: Write>(
     words: &[String],
 ) -> Result<bool, RunFault>
     // The listing is what is owed, and so is the answer.
-    ensures listing { IfOk result (λ faulty. IfSome (R.remaining reader.old) (λ input. (text : List ℕ)
-        × IsOwed (map string_bytes words.now) input (Ok (text, faulty))
+    ensures listing { IfOk result (λ told. IfSome (R.remaining reader.old) (λ input. (text : List ℕ)
+        × IsOwed (map string_bytes words.now) input (Ok (text, told))
         × Appends (W.contents writer.old) (W.contents writer.new) text)) }
     // A call owes one answer.
     ensures one_answer { (ws : List (List ℕ)) (input : List ℕ) (x y : Answer) → IsOwed ws input x → IsOwed ws input y → x ≡ y }
@@ -124,8 +86,8 @@ pub fn run<R: Read, W: Write>(
         (λ input. IsOwed (map string_bytes words.now) input (Err NotText)) }
     ensures not_literal { IsErrOf result NotLiteral → IfSome (R.remaining reader.old)
         (λ input. IsOwed (map string_bytes words.now) input (Err NotLiteral)) }
-    // With nothing to read nothing is written, and the answer is known but for a read that fails.
-    ensures empty { (mode : Mode) (literal : Bool) → asked (map string_bytes words.now) ≡ Some (record { mode = mode; is_literal = literal })
+    // With nothing to read, and no arguments, nothing is written, and the answer is known but for a read that fails.
+    ensures empty { (mode : Mode) (literal : Bool) → asked (map string_bytes words.now) ≡ Some (record { mode = mode; is_literal = literal; given = None })
         → R.remaining reader.old ≡ Some [] → (writer.new ≡ writer.old) × ((result ≡ empty_answer literal) ⊎ (result ≡ Err ReadFault)) }
     // Nothing is written before all is ready.
     ensures unwritten { IfErr result (λ fault. fault ≢ WriteFault → writer.new ≡ writer.old) }
@@ -138,7 +100,7 @@ pub fn run<R: Read, W: Write>(
     let Ok(text) = str::from_utf8(input.as_slice()) else {
         return Err(RunFault::NotText);
     };
-    let (lines, faulty) = list_input(alloc, text, task.mode, task.is_literal)?;
+    let (lines, told) = list_input(alloc, text, task)?;
     write_whole(writer, lines.as_bytes())?;
-    Ok(faulty)
+    Ok(told)
 }

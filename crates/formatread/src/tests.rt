@@ -1,12 +1,14 @@
 //! What the program does with its words, and readers and writers that fail.
+mod args;
 mod fakes;
 mod listings;
+mod memory;
+mod streams;
 
 use super::run::run;
 use super::verdict::{RunFault, verdict};
 use fakes::{Endless, Faltering, Sheet, Stuck, Stumbling};
 use std::alloc::{AllocError, Global};
-use std::io::Print;
 use std::process::Abort;
 use std::test::Fail;
 
@@ -94,7 +96,7 @@ fn refuses_what_is_too_long_or_no_text(rt: HostRuntime) -> Result<(), Fail> {
 
 #[test]
 fn refuses_other_words_unread(rt: HostRuntime) -> Result<(), Fail> {
-    let rows: [&[&str]; 8] = [
+    let rows: [&[&str]; 10] = [
         &[],
         &["format", "format"],
         &["--literal"],
@@ -103,6 +105,8 @@ fn refuses_other_words_unread(rt: HostRuntime) -> Result<(), Fail> {
         &["asm", "diagnostic"],
         &["Format"],
         &["formats"],
+        &["diagnostic-name"],
+        &["diagnosticnamed"],
     ];
     for row in rows {
         let words = words(rt.alloc(), row)?;
@@ -180,52 +184,10 @@ fn a_write_that_takes_no_byte_has_failed(rt: HostRuntime) -> Result<(), Fail> {
     Ok(())
 }
 
-/// This input is listed so, with or without a fault. Passes whether or not a request for memory is refused.
-fn check_out_of_memory(
-    rt: &(impl Abort + Print),
-    alloc: Global,
-    input: &[u8],
-    lines: &[u8],
-    faulty: bool,
-) -> Result<(), Fail> {
-    let words = match words(alloc, &["format"]) {
-        Ok(words) => words,
-        Err(AllocError) => {
-            println!(rt; "refused")?;
-            words(alloc, &["format"])?
-        }
-    };
-    let mut reader = input;
-    let mut sheet = Sheet::new();
-    let mut answer = run(alloc, &mut reader, &mut sheet, words.as_slice());
-    if answer == Err(RunFault::Memory) {
-        println!(rt; "refused")?;
-        assert!(rt; sheet.text().is_empty());
-        assert_eq!(rt; verdict(&answer).1, 3);
-        reader = input;
-        answer = run(alloc, &mut reader, &mut sheet, words.as_slice());
-    }
-    assert_eq!(rt; answer, Ok(faulty));
-    assert_eq!(rt; sheet.text(), lines);
-    assert!(rt; reader.is_empty());
-    Ok(())
-}
-
-#[test]
-fn writes_nothing_out_of_memory(rt: HostRuntime) -> Result<(), Fail> {
-    check_out_of_memory(&rt, rt.alloc(), HI, HI_LINES, false)
-}
-
-#[test]
-fn writes_no_fault_out_of_memory(rt: HostRuntime) -> Result<(), Fail> {
-    let lines =
-        b"arg name a 2..5\narg implicit 0 6..6\nfault 2..5 raw identifiers are not supported\nfault 6..6 expected `}` but string was terminated\n";
-    check_out_of_memory(&rt, rt.alloc(), b"{r#a}{", lines, true)
-}
-
 #[test]
 fn tells_each_answer(rt: HostRuntime) {
-    let usage = "usage: formatread format|asm|diagnostic [--literal]";
+    let usage =
+        "usage: formatread format|asm|diagnostic|diagnostic-named [--literal] [--args N,NAME,..]";
     let rows = [
         (Ok(false), "", 0),
         (Ok(true), "", 1),

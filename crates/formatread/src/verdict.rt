@@ -38,7 +38,10 @@ pub fn verdict(answer: &Result<bool, RunFault>) -> (&'static str, u8)
     match answer {
         Ok(false) => ("", 0),
         Ok(true) => ("", 1),
-        Err(RunFault::Words) => ("usage: formatread format|asm|diagnostic [--literal]", 2),
+        Err(RunFault::Words) => (
+            "usage: formatread format|asm|diagnostic|diagnostic-named [--literal] [--args N,NAME,..]",
+            2,
+        ),
         Err(RunFault::NotLiteral) => ("formatread: input is not a string literal", 2),
         Err(RunFault::Read) => ("formatread: reading failed", 3),
         Err(RunFault::TooLong) => ("formatread: input is longer than 1048576 bytes", 3),

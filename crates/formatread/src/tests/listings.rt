@@ -111,11 +111,16 @@ fn lists_faults_after_the_pieces(rt: HostRuntime) -> Result<(), Fail> {
 
 #[test]
 fn lists_in_each_mode(rt: HostRuntime) -> Result<(), Fail> {
-    let rows: [(&str, &[u8], &[u8]); 5] = [
+    let rows: [(&str, &[u8], &[u8]); 6] = [
         ("format", b"{0:e}", b"arg index 0 2..3 ty=\"e\"@4..5\n"),
         ("asm", b"", b""),
         ("asm", b"{0:e}", b"arg index 0 2..3 ty=\"e\"@4..5\n"),
         ("diagnostic", b"", b""),
+        (
+            "diagnostic-named",
+            b"{foo:}",
+            b"arg name foo 2..5 ty=\"\"@5..6\n",
+        ),
         (
             "diagnostic",
             b"{}{0}{a:}",

@@ -7,11 +7,11 @@ use Rattle.formatread.proofs.Empty.{no_errors, no_pieces}
 use Rattle.formatread.proofs.input.list_source.Goals as goal
 
 pub returns-in_err-lines-clause-empty : goal.returns-in_err-lines-clause-empty
-returns-in_err-lines-clause-empty c e without =
-    let mode = seen_mode c.args.mode in
+returns-in_err-lines-clause-empty c e without bare =
+    let mode = seen_mode c.args.task.mode in
     let w = world (chars c.args.text.now) c.args.style (seen_snippet c.args.snippet) false in
     let start = quote_offset c.args.style in
     let walk = c.in_ok-pieces.ensures.walk in
     let pieces = no_pieces seen c.in_ok-pieces.pieces.items mode w start c.args.text.now e walk.0 in
     let errors = no_errors seen_error c.errors.result.now mode w start c.args.text.now e (c.errors.ensures ∙ ap (λ (s : State). s.errors) walk.1) in
-    absurd (false≢true (c.in_err-lines.ensures.empty (c.as_slice.ensures.value ∙ pieces) errors))
+    absurd (false≢true (c.in_err-lines.ensures.empty (c.as_slice-2.ensures.value ∙ pieces) errors (c.in_ok-report.ensures.no_entries bare)))

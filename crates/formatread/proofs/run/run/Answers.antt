@@ -2,7 +2,6 @@ use Rattle.std.proofs.Common.{Err, Ok, inl, ap, map, option_map, string_bytes, s
 use Rattle.std.specs.Str.{IsUtf8}
 use Rattle.std.proofs.lemmas.Bool.{false≢true}
 use Rattle.std.proofs.lemmas.Option.{IfSome_then}
-use Rattle.rustc_parse_format.specs.Seen.{seen_mode}
 use Rattle.formatread.specs.declared.verdict.RunFault.TheVariants.{NotText}
 use Rattle.formatread.specs.Program.{IsOwed, IsShort, empty_answer}
 use Rattle.formatread.specs.SeenTask.{seen_task}
@@ -41,7 +40,8 @@ returns-in_err-write_whole-clause-empty g c mode literal a e =
     let task = c.in-Some.task in
     let none = empty-read _ c.in_ok-input.input.items c.as_slice.result.now c.in-Ok.text.now e c.in_ok-input.ensures.bytes
     c.as_slice.ensures.value c.in-Ok.ensures.cases.0 in
-    let listed = empty-listed (seen_mode task.mode) task.is_literal c.in_ok-lines.lines c.in_ok-lines.faulty c.in-Ok.text.now none
+    let asks = asked-literal c.asked.result task mode literal _ c.asked.ensures c.in-Some.is a in
+    let listed = empty-listed task c.in_ok-lines.lines c.in_ok-lines.told c.in-Ok.text.now none asks.1
     c.in_ok-lines.ensures.empty_literal c.in_ok-lines.ensures.lines in
     absurd (false≢true (c.in_err-write_whole.ensures.empty (c.as_bytes.ensures.value ∙ listed.1)).0)
 
@@ -50,7 +50,7 @@ returns-clause-empty g c mode literal a e =
     let task = c.in-Some.task in
     let none = empty-read _ c.in_ok-input.input.items c.as_slice.result.now c.in-Ok.text.now e c.in_ok-input.ensures.bytes
     c.as_slice.ensures.value c.in-Ok.ensures.cases.0 in
-    let listed = empty-listed (seen_mode task.mode) task.is_literal c.in_ok-lines.lines c.in_ok-lines.faulty c.in-Ok.text.now none
-    c.in_ok-lines.ensures.empty_literal c.in_ok-lines.ensures.lines in
     let asks = asked-literal c.asked.result task mode literal _ c.asked.ensures c.in-Some.is a in
-    ((c.in_ok-write_whole.ensures.empty (c.as_bytes.ensures.value ∙ listed.1)).1, inl (ap Ok listed.2 ∙ ap empty_answer (sym listed.0 ∙ asks)))
+    let listed = empty-listed task c.in_ok-lines.lines c.in_ok-lines.told c.in-Ok.text.now none asks.1
+    c.in_ok-lines.ensures.empty_literal c.in_ok-lines.ensures.lines in
+    ((c.in_ok-write_whole.ensures.empty (c.as_bytes.ensures.value ∙ listed.1)).1, inl (ap Ok listed.2 ∙ ap empty_answer (sym listed.0 ∙ asks.0)))
