@@ -6,16 +6,14 @@
 
 A line of library.tsv has, with tabs between them, a name, the mode, the style, whether a newline was appended, the
 snippet, the input and the answer, as crates/format_rows/src/row.rt says; but bytes are written as in cases.py, and the
-answer has a line `end N`, which no public call tells and which is dropped. The rules of stage.py are applied. The table
-of snippets has every row with a snippet, those that the rules leave out too, with nothing but whether it is the source
-literal of the input."""
+answer has a line `end N`, which no public call tells and which is dropped. The table
+of snippets has every row with a snippet, with nothing but whether it is the source literal of the input."""
 
 import os
 import re
 import sys
 
 import cases
-import stage
 
 HERE = os.path.dirname(os.path.abspath(__file__))
 SOURCES = os.path.join(HERE, "..", "crates", "format_rows", "src")
@@ -63,9 +61,7 @@ def files():
             columns = [escaped(name.encode()), mode, style, newline, escaped(snippet), escaped(text)]
             if snippet != b"-":
                 sources.append(row([columns[0], "format", *columns[2:]], answer[:1]))
-            answer = stage.row(mode, [answer[0], *answer[2:]])
-            if answer is not None:
-                (mixed if name.startswith("mixed-") else named).append(row(columns, answer))
+            (mixed if name.startswith("mixed-") else named).append(row(columns, [answer[0], *answer[2:]]))
     walked = "All that reading the inputs gives."
     return {
         "named_rows.rt": table("Worked rows: each shows one thing.", "ROWS", walked, named),

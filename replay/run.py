@@ -3,9 +3,8 @@
 
     replay/run.py [--program FILE] [--show N] [LIST ..]
 
-Each case compares standard output, standard error and the status with the answer of the whole program, brought to what
-this stage of it does (stage.py). With no --program, the program is built first. The last line counts the cases that
-passed and failed, and the status is 0 only if each passed."""
+Each case compares standard output, standard error and the status with the answer. With no --program, the program is
+built first. The last line counts the cases that passed and failed, and the status is 0 only if each passed."""
 
 import argparse
 import glob
@@ -15,15 +14,15 @@ import subprocess
 import sys
 from concurrent.futures import ThreadPoolExecutor
 
+import built
 import cases
-import stage
 
 HERE = os.path.dirname(os.path.abspath(__file__))
 LIMIT = 1048576
 SECONDS = 60
-USAGE = "usage: formatread format|asm|diagnostic|diagnostic-named [--literal] [--args N,NAME,..]"
 SAYS = {
     "": "",
+    "Words": "usage: formatread format|asm|diagnostic|diagnostic-named [--literal] [--args N,NAME,..]",
     "NotLiteral": "formatread: input is not a string literal",
     "Read": "formatread: reading failed",
     "TooLong": f"formatread: input is longer than {LIMIT} bytes",
@@ -35,7 +34,7 @@ SAYS = {
 
 def told(refusal):
     """What is on standard error."""
-    text = stage.usage(USAGE) if refusal == "Words" else SAYS[refusal]
+    text = SAYS[refusal]
     return text.encode() + b"\n" if text else b""
 
 
@@ -103,28 +102,23 @@ def main():
     parser.add_argument("--show", type=int, default=10)
     parser.add_argument("lists", nargs="*")
     said = parser.parse_args()
-    program = said.program
+    program = built.program(said.program)
     if not program:
-        built = subprocess.run([os.path.join(HERE, "..", ".ci", "build")], stdin=subprocess.DEVNULL, stdout=subprocess.PIPE)
-        program = built.stdout.decode().strip()
-        if built.returncode:
-            print("replay: 0 passed, 1 failed: the program was not built")
-            return 1
+        print("replay: 0 passed, 1 failed: the program was not built")
+        return 1
     lists = said.lists or sorted(glob.glob(os.path.join(HERE, "cases", "*.tsv")))
     read = [cases.read(file) for file in lists]
     if not all(read) or not read:
         print("replay: 0 passed, 1 failed: the lists are missing or empty")
         return 1
-    whole = [(case, None) for some in read for case in some]
-    whole += [(case[:6], case[6]) for case in made_cases()]
-    todo = [(case, fails) for case, fails in ((stage.case(case), fails) for case, fails in whole) if case]
+    todo = [(case, None) for some in read for case in some]
+    todo += [(case[:6], case[6]) for case in made_cases()]
     with ThreadPoolExecutor(os.cpu_count()) as pool:
-        why = list(pool.map(lambda it: run(os.path.abspath(program), *it), todo))
+        why = list(pool.map(lambda it: run(program, *it), todo))
     failed = [(case, it) for (case, _), it in zip(todo, why) if it]
     for case, it in failed[: said.show]:
         print(f"FAILED {case[0]}: words {cases.text_of_words(case[1])!r}, input {cases.text_of(case[2][:300])!r}")
         print(*(f"    {line}" for line in it), sep="\n")
-    print(f"{len(whole) - len(todo)} cases are left out: stage.py says which")
     print(f"replay: {len(todo) - len(failed)} passed, {len(failed)} failed")
     return 1 if failed else 0
 

@@ -120,22 +120,40 @@ fn a_new_parser_has_nothing(rt: HostRuntime) -> Result<(), Fail> {
     Ok(())
 }
 
-/// The one error is that of the brace at the start.
-fn check_lone_brace(rt: &impl Abort, parser: &Parser<'_>) {
+/// The errors are those of braces that close nothing, which stand here.
+fn check_lone_braces(rt: &impl Abort, parser: &Parser<'_>, places: &[Range<usize>]) {
     let errors = parser.errors();
-    assert_eq!(rt; errors.len(), 1);
-    assert_eq!(rt; errors[0].span, 1..2);
-    assert_eq!(rt; errors[0].description.as_str(), "unmatched `}` found");
+    assert_eq!(rt; errors.len(), places.len());
+    for (error, place) in errors.iter().zip(places.iter()) {
+        assert_eq!(rt; error.span, *place);
+        assert_eq!(rt; error.description.as_str(), "unmatched `}` found");
+    }
 }
 
 #[test]
 fn a_lone_brace_ends_no_parser(rt: HostRuntime) -> Result<(), Fail> {
     let mut parser = parser_of(rt.alloc(), "}a")?;
     check_none(&rt, &mut parser)?;
-    check_lone_brace(&rt, &parser);
+    check_lone_braces(&rt, &parser, &[1..2]);
     check_text(&rt, &mut parser, "a")?;
     check_none(&rt, &mut parser)?;
-    check_lone_brace(&rt, &parser);
+    check_lone_braces(&rt, &parser, &[1..2]);
+    Ok(())
+}
+
+/// At the end no brace is told again.
+#[test]
+fn each_lone_brace_is_told_once(rt: HostRuntime) -> Result<(), Fail> {
+    let mut parser = parser_of(rt.alloc(), "}}}a}")?;
+    check_text(&rt, &mut parser, "}")?;
+    check_none(&rt, &mut parser)?;
+    check_lone_braces(&rt, &parser, &[3..4]);
+    check_text(&rt, &mut parser, "a")?;
+    check_lone_braces(&rt, &parser, &[3..4]);
+    for _ in 0..2 {
+        check_none(&rt, &mut parser)?;
+        check_lone_braces(&rt, &parser, &[3..4, 5..6]);
+    }
     Ok(())
 }
 

@@ -1,9 +1,7 @@
 //! Parsers whose errors are taken out, or whose next number is set, between two calls; and clones of what they give.
 
-use crate::memory::{implicit, starred};
 use rustc_parse_format::{ParseMode, Parser, Piece, Position, read_all};
 use std::alloc::{AllocError, Global};
-use std::io::Print;
 use std::process::Abort;
 use std::test::Fail;
 
@@ -92,38 +90,6 @@ fn errors_come_again(rt: HostRuntime) -> Result<(), Fail> {
     assert_eq!(rt; parser.next()?, None);
     assert_eq!(rt; parser.errors().len(), 1);
     assert_eq!(rt; parser.errors()[0].span, 11..12);
-    Ok(())
-}
-
-/// A clone of a piece, made once more where that is refused memory.
-fn clone_again(
-    rt: &(impl Abort + Print),
-    alloc: Global,
-    piece: &Piece<'static>,
-) -> Result<Piece<'static>, Fail> {
-    if let Ok(copy) = piece.clone(alloc) {
-        return Ok(copy);
-    }
-    println!(rt; "refused")?;
-    Ok(piece.clone(alloc)?)
-}
-
-/// A placeholder with a star, made once more where that is refused memory.
-fn star_again(rt: &(impl Abort + Print), alloc: Global) -> Result<Piece<'static>, Fail> {
-    if let Ok(argument) = Box::new(alloc, implicit(2, 4, starred(1, 5..7))) {
-        return Ok(Piece::NextArgument(argument));
-    }
-    println!(rt; "refused")?;
-    let argument = Box::new(alloc, implicit(2, 4, starred(1, 5..7)))?;
-    Ok(Piece::NextArgument(argument))
-}
-
-#[test]
-fn clone_out_of_memory_is_called_again(rt: HostRuntime) -> Result<(), Fail> {
-    let star = star_again(&rt, rt.alloc())?;
-    let copy = clone_again(&rt, rt.alloc(), &star)?;
-    assert!(rt; copy == star);
-    assert!(rt; copy != Piece::Lit("{:.*}"));
     Ok(())
 }
 

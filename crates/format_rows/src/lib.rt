@@ -3,8 +3,8 @@
 //! `named_rows` and `mixed_rows` are tables of inputs with all that reading them gives. What they expect comes from
 //! outside (`replay/README.md` tells from where), and never from the parser itself. `snippets` is a table of snippets
 //! that are source literals of their inputs, or not. `calls`, `values` and `literals` have what no table shows,
-//! `iteration` the iterator over the pieces, `changes` what is done to a parser between two calls, `memory` calls that are
-//! refused memory, and `carried` the tests of the original. `names` is the example of the README.
+//! `iteration` the iterator over the pieces, `changes` what is done to a parser between two calls, and `carried` the tests
+//! of the original. `names` is the example of the README. Calls that are refused memory are in the crate `memory_rows`.
 #![tactic(auto)]
 
 #[cfg(test)]
@@ -20,8 +20,6 @@ mod listing;
 #[cfg(test)]
 mod literals;
 #[cfg(test)]
-mod memory;
-#[cfg(test)]
 mod mixed_rows;
 #[cfg(test)]
 mod named_rows;
@@ -35,5 +33,7 @@ mod snippets;
 mod tables;
 #[cfg(test)]
 mod values;
+#[cfg(test)]
+mod worlds;
 #[cfg(test)]
 mod written;

@@ -52,6 +52,16 @@ worked-047│format│1│0│=r#"foo"│foo│source no\nlit "foo"\nnone\ncurar
 worked-048│format│1│0│=r#"foo"##│foo│source no\nlit "foo"\nnone\ncurarg 0\n
 worked-049│format│1│0│=r"foo"│foo│source no\nlit "foo"\nnone\ncurarg 0\n
 worked-050│format│1│0│=r#"│foo│source no\nlit "foo"\nnone\ncurarg 0\n
+worked-051│diagnostic-named│-│0│-│{foo}│source no\narg name foo 2..5\nnone\ncurarg 0\n
+worked-052│diagnostic-named│-│0│-│{foo:}│source no\narg name foo 2..5 ty=""@5..6\nnone\ncurarg 0\n
+worked-053│diagnostic-named│-│0│-│{}{0}│source no\narg implicit 0 2..2\narg index 0 4..5\nnone\ncurarg 1\nfault 2..2 expected a named argument\nnote only named arguments are allowed here\nlabel expected a name\nfault 4..5 expected a named argument\nnote only named arguments are allowed here\nlabel expected a name\n
+worked-054│diagnostic-named│-│0│-│{foo:bar}│source no\narg name foo 2..5 ty="bar"@5..9\nnone\ncurarg 0\nfault 5..9 format specifiers are not allowed\nlabel remove this text\n
+worked-055│diagnostic-named│-│0│-│{ :x}│source no\narg implicit 0 2..3 ty="x"@3..5\nnone\ncurarg 1\nfault 2..3 expected a named argument\nnote only named arguments are allowed here\nlabel expected a name\nfault 3..5 format specifiers are not allowed\nlabel remove this text\n
+worked-056│diagnostic-named│-│0│-│{70000}│source no\narg index 4464 2..7\nnone\ncurarg 0\nfault 2..8 integer `70000` does not fit into the type `u16` whose range is `0..=65535`\nlabel integer out of range for `u16`\nfault 2..7 expected a named argument\nnote only named arguments are allowed here\nlabel expected a name\n
+worked-057│diagnostic-named│-│0│-│{foo.0}│source no\narg name foo 2..5\nnone\ncurarg 0\nfault 2..7 tuple index access isn't supported\nnote consider moving this expression to a local variable and then using the local here instead\nlabel not supported\nsuggest positional\nfault 5..5 expected `}`, found `.`\nnote if you intended to print `{`, you can escape it using `{{`\nlabel expected `}`\nsecond 1..2 because of this opening brace\nfault 6..7 expected a named argument\nnote only named arguments are allowed here\nlabel expected a name\n
+worked-058│diagnostic-named│-│0│-│{foo.}│source no\narg name foo 2..5\nnone\ncurarg 1\nfault 5..5 expected `}`, found `.`\nnote if you intended to print `{`, you can escape it using `{{`\nlabel expected `}`\nsecond 1..2 because of this opening brace\nfault 6..6 expected a named argument\nnote only named arguments are allowed here\nlabel expected a name\n
+worked-059│diagnostic-named│-│0│-│{r#foo}│source no\narg name foo 2..7\nnone\ncurarg 0\nfault 2..7 raw identifiers are not supported\nnote identifiers in format strings can be keywords and don't need to be prefixed with `r#`\nlabel raw identifier used here\nsuggest raw 2..4\n
+worked-060│diagnostic-named│-│0│-│{_}│source no\narg name _ 2..3\nnone\ncurarg 0\nfault 2..3 invalid argument name `_`\nnote argument name cannot be a single underscore\nlabel invalid argument name\n
 worked-061│format│-│0│-│{foo.bar}│source no\narg name foo 2..5\nnone\ncurarg 0\nfault 2..9 field access isn't supported\nnote consider moving this expression to a local variable and then using the local here instead\nlabel not supported\nsuggest positional\nfault 5..5 expected `}`, found `.`\nnote if you intended to print `{`, you can escape it using `{{`\nlabel expected `}`\nsecond 1..2 because of this opening brace\n
 worked-062│format│-│0│-│{foo.0}│source no\narg name foo 2..5\nnone\ncurarg 0\nfault 2..7 tuple index access isn't supported\nnote consider moving this expression to a local variable and then using the local here instead\nlabel not supported\nsuggest positional\nfault 5..5 expected `}`, found `.`\nnote if you intended to print `{`, you can escape it using `{{`\nlabel expected `}`\nsecond 1..2 because of this opening brace\n
 worked-063│format│-│0│-│{foo.bar.baz}│source no\narg name foo 2..5\nlit ".baz"\nnone\nnone\ncurarg 0\nfault 5..5 expected `}`, found `.`\nnote if you intended to print `{`, you can escape it using `{{`\nlabel expected `}`\nsecond 1..2 because of this opening brace\nfault 13..14 unmatched `}` found\nnote if you intended to print `}`, you can escape it using `}}`\nlabel unmatched `}`\n
@@ -148,4 +158,4 @@ written-8│format│-│0│-│{a:x\\}│source no\narg name a 2..3 ty="x"\nli
 "###;
 
 /// How many rows they are.
-pub const ROWS_COUNT: usize = 143;
+pub const ROWS_COUNT: usize = 153;

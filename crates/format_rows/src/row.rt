@@ -1,9 +1,9 @@
 //! A row of a table, and what reading its input gives.
 //!
-//! A row is a line with `│` between its columns: a name, the mode (`format`, `asm` or `diagnostic`), the style (`-` or
-//! how many `#`), whether a newline was appended (`0` or `1`), the snippet (`-`, or `=` and the snippet), the input, and
-//! the listing. A backslash stands before `n`, `t` and `r` for LF, HT and CR, before `u` and a code in braces, and before
-//! itself. A line that is written otherwise fails the test that reads it.
+//! A row is a line with `│` between its columns: a name, the mode (`format`, `asm`, `diagnostic` or `diagnostic-named`),
+//! the style (`-` or how many `#`), whether a newline was appended (`0` or `1`), the snippet (`-`, or `=` and the
+//! snippet), the input, and the listing. A backslash stands before `n`, `t` and `r` for LF, HT and CR, before `u` and a
+//! code in braces, and before itself. A line that is written otherwise fails the test that reads it.
 
 use crate::listing::{put_end, put_piece, put_source};
 use crate::written::text_of;
@@ -18,11 +18,11 @@ use std::test::Fail;
 pub struct Row {
     /// Names the row where it fails.
     pub name: String,
-    mode: ParseMode,
+    pub mode: ParseMode,
     style: Option<usize>,
     appended_newline: bool,
     snippet: Option<String>,
-    input: String,
+    pub input: String,
     /// The listing.
     pub wanted: String,
 }
@@ -46,6 +46,7 @@ fn mode_of(column: Option<&str>) -> Option<ParseMode> {
         Some("format") => Some(ParseMode::Format),
         Some("asm") => Some(ParseMode::InlineAsm),
         Some("diagnostic") => Some(ParseMode::Diagnostic),
+        Some("diagnostic-named") => Some(ParseMode::DiagnosticNamed),
         _ => None,
     }
 }

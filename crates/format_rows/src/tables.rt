@@ -7,7 +7,12 @@ use std::process::Abort;
 use std::test::Fail;
 
 /// The rows of a table, which are so many.
-fn rows_of(rt: &impl Abort, alloc: Global, table: &str, count: usize) -> Result<Vec<Row>, Fail> {
+pub fn rows_of(
+    rt: &impl Abort,
+    alloc: Global,
+    table: &str,
+    count: usize,
+) -> Result<Vec<Row>, Fail> {
     let mut rows = Vec::new(alloc);
     for line in table.split('\n').filter(|line| !line.is_empty()) {
         rows.push(row_of(rt, alloc, line)?)?;
