@@ -167,17 +167,27 @@ fn numbers_are_taken_call_by_call(rt: HostRuntime) -> Result<(), Fail> {
     Ok(())
 }
 
+/// Calls give pieces, behind each of which the next two characters are what is listed.
+fn check_next_peeks(
+    rt: &impl Abort,
+    parser: &mut Parser<'_>,
+    listed: Vec<(Peeked, Peeked)>,
+) -> Result<(), Fail> {
+    for (next, ahead) in listed {
+        check_some(rt, parser)?;
+        check_peeks(rt, parser, next, ahead);
+    }
+    Ok(())
+}
+
 #[test]
 fn peeks_show_what_is_next(rt: HostRuntime) -> Result<(), Fail> {
     let mut parser = Parser::new(rt.alloc(), "€{}x", Some(1), None, false, ParseMode::Format)?;
     check_peeks(&rt, &parser, Some((3..6, 0, '€')), Some((6..7, 3, '{')));
     check_text(&rt, &mut parser, "€")?;
     check_peeks(&rt, &parser, Some((6..7, 3, '{')), Some((7..8, 4, '}')));
-    check_some(&rt, &mut parser)?;
-    check_peeks(&rt, &parser, Some((8..9, 5, 'x')), None);
-    check_some(&rt, &mut parser)?;
-    check_peeks(&rt, &parser, None, None);
-    Ok(())
+    let listed = vec![in rt.alloc(); (Some((8..9, 5, 'x')), None), (None, None)]?;
+    check_next_peeks(&rt, &mut parser, listed)
 }
 
 /// A parser in an ordinary source literal.

@@ -1,7 +1,8 @@
 //! Parsers whose errors are taken out, or whose next number is set, between two calls; and clones of what they give.
 
-use rustc_parse_format::{ParseMode, Parser, Piece, Position, read_all};
+use rustc_parse_format::{ParseError, ParseMode, Parser, Piece, Position, read_all};
 use std::alloc::{AllocError, Global};
+use std::ops::Range;
 use std::process::Abort;
 use std::test::Fail;
 
@@ -46,16 +47,35 @@ fn a_number_may_be_large(rt: HostRuntime) -> Result<(), Fail> {
     Ok(())
 }
 
+/// The next call gives no piece.
+fn check_none(rt: &impl Abort, parser: &mut Parser<'_>) -> Result<(), Fail> {
+    assert!(rt; parser.next()?.is_none());
+    Ok(())
+}
+
+/// Errors have these spans and descriptions, in this order.
+fn check_errors(rt: &impl Abort, errors: &[ParseError], wanted: &[(Range<usize>, &'static str)]) {
+    assert_eq!(rt; errors.len(), wanted.len());
+    for (error, (span, description)) in errors.iter().zip(wanted.iter()) {
+        assert_eq!(rt; error.span, *span);
+        assert_eq!(rt; error.description.as_str(), *description);
+    }
+}
+
+/// The errors that are taken out are these, and none is left.
+fn check_taken(rt: &impl Abort, parser: &mut Parser<'_>, wanted: &[(Range<usize>, &'static str)]) {
+    let errors = parser.take_errors();
+    check_errors(rt, errors.as_slice(), wanted);
+    assert!(rt; parser.errors().is_empty());
+}
+
 #[test]
 fn errors_are_taken_out_once(rt: HostRuntime) -> Result<(), Fail> {
     let mut parser = parser_of(rt.alloc(), "}}}")?;
-    assert_eq!(rt; parser.next()?, Some(Piece::Lit("}")));
-    assert_eq!(rt; parser.next()?, None);
-    let errors = parser.take_errors();
-    assert_eq!(rt; errors.len(), 1);
-    assert_eq!(rt; errors[0].span, 3..4);
-    assert_eq!(rt; errors[0].description.as_str(), "unmatched `}` found");
-    assert_eq!(rt; parser.next()?, None);
+    assert!(rt; parser.next()? == Some(Piece::Lit("}")));
+    check_none(&rt, &mut parser)?;
+    check_taken(&rt, &mut parser, &[(3..4, "unmatched `}` found")]);
+    check_none(&rt, &mut parser)?;
     assert!(rt; parser.errors().is_empty());
     Ok(())
 }
@@ -64,32 +84,26 @@ fn errors_are_taken_out_once(rt: HostRuntime) -> Result<(), Fail> {
 #[test]
 fn errors_are_taken_out_in_order(rt: HostRuntime) -> Result<(), Fail> {
     let (_, mut parser) = read_all(rt.alloc(), "{foo:?#}", None, None, false, ParseMode::Format)?;
-    let errors = parser.take_errors();
-    assert_eq!(rt; errors.len(), 3);
-    for (error, span) in errors.iter().zip([7..8, 7..7, 8..9].iter()) {
-        assert_eq!(rt; error.span, *span);
-    }
-    assert!(rt; parser.errors().is_empty());
-    assert_eq!(rt; parser.next()?, None);
-    Ok(())
+    let wanted = [
+        (7..8, "expected `}`, found `#`"),
+        (7..7, "expected `}`, found `#`"),
+        (8..9, "unmatched `}` found"),
+    ];
+    check_taken(&rt, &mut parser, &wanted);
+    check_none(&rt, &mut parser)
 }
 
 /// New errors come after those that were taken out, at both ends.
 #[test]
 fn errors_come_again(rt: HostRuntime) -> Result<(), Fail> {
     let mut parser = parser_of(rt.alloc(), "{r#a}{r#b}}")?;
-    for _ in 0..2 {
+    for span in [2..5, 7..10] {
         assert!(rt; parser.next()?.is_some());
-        let errors = parser.take_errors();
-        assert_eq!(rt; errors.len(), 1);
-        assert_eq!(rt;
-            errors[0].description.as_str(),
-            "raw identifiers are not supported"
-        );
+        let wanted = [(span, "raw identifiers are not supported")];
+        check_taken(&rt, &mut parser, &wanted);
     }
-    assert_eq!(rt; parser.next()?, None);
-    assert_eq!(rt; parser.errors().len(), 1);
-    assert_eq!(rt; parser.errors()[0].span, 11..12);
+    check_none(&rt, &mut parser)?;
+    check_errors(&rt, parser.errors(), &[(11..12, "unmatched `}` found")]);
     Ok(())
 }
 

@@ -8,7 +8,7 @@
 use crate::listing::{put_end, put_piece, put_source};
 use crate::written::text_of;
 use rustc_parse_format::literal::is_source_literal;
-use rustc_parse_format::{ParseMode, Parser, read_all};
+use rustc_parse_format::{ParseMode, Parser, Piece, read_all};
 use std::alloc::{AllocError, Global};
 use std::process::Abort;
 use std::test::Fail;
@@ -180,14 +180,17 @@ fn has_more_nones(listing: &str, count: usize) -> bool {
     listing.split('\n').filter(|line| *line == "none").count() > count
 }
 
-/// What `read_all` gives, and then the calls of `next` on its parser up to the last one that the row lists. The first
-/// call without a piece is the one that ends `read_all`.
-pub fn by_read_all(rt: &impl Abort, alloc: Global, row: &Row) -> Result<String, Fail> {
+/// What `read_all` gives.
+fn read<'row>(
+    rt: &impl Abort,
+    alloc: Global,
+    row: &'row Row,
+) -> Result<(Vec<Piece<'row>>, Parser<'row>), Fail> {
     let input = row.input.as_str();
     assert!(rt; input.len() < 10000);
     assert!(rt; row.style.unwrap_or(0) <= usize::MAX - 2 - input.len());
     let snippet = snippet_of(row)?;
-    let (pieces, mut parser) = read_all(
+    let read = read_all(
         alloc,
         input,
         row.style,
@@ -195,17 +198,26 @@ pub fn by_read_all(rt: &impl Abort, alloc: Global, row: &Row) -> Result<String, 
         row.appended_newline,
         row.mode,
     )?;
+    Ok(read)
+}
+
+/// What `read_all` gives, and then the calls of `next` on its parser up to the last one that the row lists. The first
+/// call without a piece is the one that ends `read_all`.
+pub fn by_read_all(rt: &impl Abort, alloc: Global, row: &Row) -> Result<String, Fail> {
+    let (pieces, mut parser) = read(rt, alloc, row)?;
+    let len = row.input.len();
+    assert!(rt; len < 10000);
     let mut out = String::new(alloc);
     put_source(&mut out, parser.is_source_literal())?;
     for piece in pieces.iter() {
         put_piece(&mut out, piece)?;
     }
     out.push_str("none\n")?;
-    for nones in 1..input.len() + 2 {
+    for nones in 1..len + 2 {
         if !has_more_nones(row.wanted.as_str(), nones) {
             break;
         }
-        put_to_none(&mut out, &mut parser, input.len())?;
+        put_to_none(&mut out, &mut parser, len)?;
     }
     put_end(&mut out, &parser)?;
     Ok(out)
