@@ -58,7 +58,7 @@ fn read(rt: &(impl Abort + Print), alloc: Global, row: Row) -> Result<(), Fail> 
 #[test]
 fn pieces_out_of_memory_go_on_in_another_iterator(rt: HostRuntime) -> Result<(), Fail> {
     for row in ROWS {
-        read(&rt, rt.alloc(), row)?;
+        read(&rt, rt.alloc(), *row)?;
     }
     Ok(())
 }

@@ -30,7 +30,7 @@ pub const STAR: Row = Row {
     ],
 };
 
-pub const ROWS: [Row; 10] = [
+pub const ROWS: &[Row] = &[
     Row {
         mode: ParseMode::Format,
         style: None,

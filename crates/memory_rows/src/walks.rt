@@ -104,7 +104,7 @@ fn walk(rt: &(impl Abort + Print), alloc: Global, row: Row, way: Way) -> Result<
 /// Reads each row.
 fn walk_all(rt: &(impl Abort + Print), alloc: Global, way: Way) -> Result<(), Fail> {
     for row in ROWS {
-        walk(rt, alloc, row, way)?;
+        walk(rt, alloc, *row, way)?;
     }
     Ok(())
 }

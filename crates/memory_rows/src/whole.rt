@@ -50,7 +50,7 @@ fn check_read(rt: &(impl Abort + Print), alloc: Global, row: Row) -> Result<(), 
 #[test]
 fn read_all_out_of_memory_is_called_again(rt: HostRuntime) -> Result<(), Fail> {
     for row in ROWS {
-        check_read(&rt, rt.alloc(), row)?;
+        check_read(&rt, rt.alloc(), *row)?;
     }
     Ok(())
 }
