@@ -1,7 +1,7 @@
 //! What each fault says: the texts of its error, one row for each.
 
-ghost use Rattle.std.specs.Prelude.{◌≡◌, ◌∷◌, [], IfOk, None, OnOk, Some, chars, codes, encode_utf8_all, string_bytes};
-ghost use Rattle.rustc_parse_format.specs.Faults.{align_after, debug_after, error, expected, local_variable, message, out_of_range};
+ghost use Rattle.std.specs.Prelude.{◌≡◌, ◌∷◌, [], IfOk, None, OnOk, Some, chars, codes, encode_utf8_all, option_map, string_bytes};
+ghost use Rattle.rustc_parse_format.specs.Faults.{LateFlag, align_after, debug_after, error, expected, local_variable, message, out_of_range};
 ghost use Rattle.rustc_parse_format.specs.Written.{written};
 ghost use Rattle.rustc_parse_format.specs.Seen.{pair, seen_error};
 ghost use Rattle.rustc_parse_format.specs.SeenFaults.{seen_fault};
@@ -62,19 +62,14 @@ fn align_after(alloc: Global, sign: char) -> Result<String, AllocError>
     format!(in alloc; "expected `{sign}` to occur after `:`")
 }
 
-/// Writes the description of an error.
-fn describe(alloc: Global, into: &mut ParseError, text: &str) -> Result<(), AllocError>
-    ensures { OnOk result (seen_error into.new ≡ record (seen_error into.old) { description = text.now }) }
+/// Writes the note of an error, if it has one.
+fn remark(alloc: Global, into: &mut ParseError, note: Option<&str>) -> Result<(), AllocError>
+    requires { (seen_error into.old).note ≡ None }
+    ensures { OnOk result (seen_error into.new ≡ record (seen_error into.old) { note = option_map (λ t. t.now) note.entry }) }
 {
-    into.description = String::from_str(alloc, text)?;
-    Ok(())
-}
-
-/// Writes the note of an error.
-fn remark(alloc: Global, into: &mut ParseError, text: &str) -> Result<(), AllocError>
-    ensures { OnOk result (seen_error into.new ≡ record (seen_error into.old) { note = Some text.now }) }
-{
-    into.note = Some(String::from_str(alloc, text)?);
+    if let Some(text) = note {
+        into.note = Some(String::from_str(alloc, text)?);
+    }
     Ok(())
 }
 
@@ -92,6 +87,28 @@ fn show(
     Ok(())
 }
 
+/// Writes what an error says: its description, its note, if it has one, and what its span shows.
+fn say(
+    alloc: Global,
+    into: &mut ParseError,
+    description: &str,
+    note: Option<&str>,
+    label: &str,
+    span: Range<usize>,
+) -> Result<(), AllocError>
+    requires { (seen_error into.old).note ≡ None }
+    ensures { OnOk result (seen_error into.new ≡ record (seen_error into.old) {
+      description = description.now;
+      note = option_map (λ t. t.now) note.entry;
+      label = label.now;
+      span = pair span;
+    }) }
+{
+    into.description = String::from_str(alloc, description)?;
+    remark(alloc, into, note)?;
+    show(alloc, into, label, span)
+}
+
 /// Writes what another span of an error shows.
 fn show_second(
     alloc: Global,
@@ -105,6 +122,70 @@ fn show_second(
     Ok(())
 }
 
+/// Writes the error of a missing brace, which has a second span.
+fn tell_brace(
+    alloc: Global,
+    into: &mut ParseError,
+    found: Option<char>,
+    note: &str,
+    span: Range<usize>,
+    second: (&str, Range<usize>),
+) -> Result<(), AllocError>
+    requires { seen_error into.old ≡ error [] None [] (0, 0) None }
+    ensures { OnOk result (seen_error into.new
+        ≡ error (expected found) (Some note.now) (codes "expected `}`") (pair span) (Some (second.entry.0.now, pair second.entry.1))) }
+{
+    into.description = expected_brace(alloc, found)?;
+    remark(alloc, into, Some(note))?;
+    show(alloc, into, "expected `}`", span)?;
+    show_second(alloc, into, second.0, second.1)
+}
+
+/// Writes the error of what another language puts in place of a brace.
+fn tell_python(
+    alloc: Global,
+    into: &mut ParseError,
+    description: &str,
+    span: Range<usize>,
+    opening: Range<usize>,
+) -> Result<(), AllocError>
+    requires { (seen_error into.old).note ≡ None }
+    ensures { OnOk result (seen_error into.new ≡ record (seen_error into.old) {
+      description = description.now;
+      note = Some (codes "to print `{`, you can escape it using `{{`");
+      label = codes "expected `}`";
+      span = pair span;
+      second = Some (codes "because of this opening brace", pair opening);
+    }) }
+{
+    say(
+        alloc,
+        into,
+        description,
+        Some("to print `{`, you can escape it using `{{`"),
+        "expected `}`",
+        span,
+    )?;
+    show_second(alloc, into, "because of this opening brace", opening)
+}
+
+/// Writes the error of a flag after the type `?`.
+#[tactic(auto, unfolding(crate::specs::Faults::message))]
+fn tell_flag(
+    alloc: Global,
+    into: &mut ParseError,
+    flag: char,
+    span: Range<usize>,
+    both: Range<usize>,
+) -> Result<(), AllocError>
+    requires { seen_error into.old ≡ error [] None [] (0, 0) None }
+    ensures { OnOk result (seen_error into.new ≡ message (LateFlag flag (pair span) (pair both))) }
+{
+    into.suggestion = Suggestion::ReorderFormatParameter(both, flagged_type(alloc, flag)?);
+    into.description = expected_brace(alloc, Some(flag))?;
+    show(alloc, into, "expected `'}'`", span)
+}
+
 /// Writes the error of a field.
 fn tell_field(
     alloc: Global,
@@ -116,13 +197,16 @@ fn tell_field(
     ensures { OnOk result (seen_error into.new ≡ local_variable description.now (pair span)) }
 {
     into.suggestion = Suggestion::UsePositional;
-    describe(alloc, into, description)?;
-    remark(
+    say(
         alloc,
         into,
-        "consider moving this expression to a local variable and then using the local here instead",
-    )?;
-    show(alloc, into, "not supported", span)
+        description,
+        Some(
+            "consider moving this expression to a local variable and then using the local here instead",
+        ),
+        "not supported",
+        span,
+    )
 }
 
 /// Writes the error that a fault becomes into an empty one: a row for each.
@@ -132,133 +216,128 @@ pub fn tell(alloc: Global, into: &mut ParseError, fault: Fault<'_>) -> Result<()
     ensures { OnOk result (seen_error into.new ≡ message (seen_fault fault.entry)) }
 {
     match fault {
-        Fault::UnmatchedBrace(span) => {
-            describe(alloc, into, "unmatched `}` found")?;
-            remark(
-                alloc,
-                into,
-                "if you intended to print `}`, you can escape it using `}}`",
-            )?;
-            show(alloc, into, "unmatched `}`", span)
-        }
-        Fault::MissingBrace(found, span, opening) => {
-            into.description = expected_brace(alloc, found)?;
-            remark(
-                alloc,
-                into,
-                "if you intended to print `{`, you can escape it using `{{`",
-            )?;
-            show(alloc, into, "expected `}`", span)?;
-            show_second(alloc, into, "because of this opening brace", opening)
-        }
-        Fault::FillBrace(found, span, fill) => {
-            into.description = expected_brace(alloc, found)?;
-            remark(
-                alloc,
-                into,
-                "the character `}` is interpreted as a fill character because of the `:` that precedes it",
-            )?;
-            show(alloc, into, "expected `}`", span)?;
-            show_second(
-                alloc,
-                into,
+        Fault::UnmatchedBrace(span) => say(
+            alloc,
+            into,
+            "unmatched `}` found",
+            Some("if you intended to print `}`, you can escape it using `}}`"),
+            "unmatched `}`",
+            span,
+        ),
+        Fault::MissingBrace(found, span, opening) => tell_brace(
+            alloc,
+            into,
+            found,
+            "if you intended to print `{`, you can escape it using `{{`",
+            span,
+            ("because of this opening brace", opening),
+        ),
+        Fault::FillBrace(found, span, fill) => tell_brace(
+            alloc,
+            into,
+            found,
+            "the character `}` is interpreted as a fill character because of the `:` that precedes it",
+            span,
+            (
                 "this is not interpreted as a formatting closing brace",
                 fill,
-            )
-        }
-        Fault::Underscore(span) => {
-            describe(alloc, into, "invalid argument name `_`")?;
-            remark(alloc, into, "argument name cannot be a single underscore")?;
-            show(alloc, into, "invalid argument name", span)
-        }
+            ),
+        ),
+        Fault::Underscore(span) => say(
+            alloc,
+            into,
+            "invalid argument name `_`",
+            Some("argument name cannot be a single underscore"),
+            "invalid argument name",
+            span,
+        ),
         Fault::TooLarge(digits, span) => {
             into.description = out_of_range(alloc, digits)?;
             show(alloc, into, "integer out of range for `u16`", span)
         }
-        Fault::Unnamed(span) => {
-            describe(alloc, into, "expected a named argument")?;
-            remark(alloc, into, "only named arguments are allowed here")?;
-            show(alloc, into, "expected a name", span)
-        }
-        Fault::TextAfterColon(span) => {
-            describe(alloc, into, "format specifiers are not allowed")?;
-            show(alloc, into, "remove this text", span)
-        }
+        Fault::Unnamed(span) => say(
+            alloc,
+            into,
+            "expected a named argument",
+            Some("only named arguments are allowed here"),
+            "expected a name",
+            span,
+        ),
+        Fault::TextAfterColon(span) => say(
+            alloc,
+            into,
+            "format specifiers are not allowed",
+            None,
+            "remove this text",
+            span,
+        ),
         Fault::RawIdentifier(span, prefix) => {
             into.suggestion = Suggestion::RemoveRawIdent(prefix);
-            describe(alloc, into, "raw identifiers are not supported")?;
-            remark(
+            say(
                 alloc,
                 into,
-                "identifiers in format strings can be keywords and don't need to be prefixed with `r#`",
-            )?;
-            show(alloc, into, "raw identifier used here", span)
+                "raw identifiers are not supported",
+                Some(
+                    "identifiers in format strings can be keywords and don't need to be prefixed with `r#`",
+                ),
+                "raw identifier used here",
+                span,
+            )
         }
-        Fault::LateFlag(flag, span, both) => {
-            into.suggestion = Suggestion::ReorderFormatParameter(both, flagged_type(alloc, flag)?);
-            into.description = expected_brace(alloc, Some(flag))?;
-            show(alloc, into, "expected `'}'`", span)
-        }
+        Fault::LateFlag(flag, span, both) => tell_flag(alloc, into, flag, span, both),
         Fault::MissingColon(span) => {
             into.suggestion = Suggestion::AddMissingColon(span.start..span.end);
-            describe(alloc, into, "expected `}`, found `?`")?;
-            remark(alloc, into, "to print `{`, you can escape it using `{{`")?;
-            show(
+            say(
                 alloc,
                 into,
+                "expected `}`, found `?`",
+                Some("to print `{`, you can escape it using `{{`"),
                 "expected `:` before `?` to format with `Debug`",
                 span,
             )
         }
         Fault::LateDebug(word, span) => {
-            describe(alloc, into, "expected format parameter to occur after `:`")?;
             into.note = Some(debug_after(alloc, word)?);
+            into.description = String::from_str(
+                alloc,
+                "expected format parameter to occur after `:`",
+            )?;
             show(alloc, into, "expected `?` to occur after `:`", span)
         }
         Fault::LateAlign(sign, span) => {
-            describe(
-                alloc,
-                into,
-                "expected alignment specifier after `:` in format string; example: `{:>?}`",
-            )?;
             into.label = align_after(alloc, sign)?;
             into.span = span;
+            into.description = String::from_str(
+                alloc,
+                "expected alignment specifier after `:` in format string; example: `{:>?}`",
+            )?;
             Ok(())
         }
-        Fault::Grouping(span, opening) => {
-            describe(
-                alloc,
-                into,
-                "python's numeric grouping `,` is not supported in rust format strings",
-            )?;
-            remark(alloc, into, "to print `{`, you can escape it using `{{`")?;
-            show(alloc, into, "expected `}`", span)?;
-            show_second(alloc, into, "because of this opening brace", opening)
-        }
+        Fault::Grouping(span, opening) => tell_python(
+            alloc,
+            into,
+            "python's numeric grouping `,` is not supported in rust format strings",
+            span,
+            opening,
+        ),
         Fault::DebugPrint(span, opening) => {
             into.suggestion = Suggestion::UseRustDebugPrintingMacro;
-            describe(
+            tell_python(
                 alloc,
                 into,
                 "python's f-string debug `=` is not supported in rust, use `dbg(x)` instead",
-            )?;
-            remark(alloc, into, "to print `{`, you can escape it using `{{`")?;
-            show(alloc, into, "expected `}`", span)?;
-            show_second(alloc, into, "because of this opening brace", opening)
+                span,
+                opening,
+            )
         }
-        Fault::LateSign(span) => {
-            describe(
-                alloc,
-                into,
-                "the `+` sign flag must appear after `:` in a format string",
-            )?;
-            remark(
-                alloc,
-                into,
-                "`+` comes after `:`, try `{:+}` instead of `{+}`",
-            )?;
-            show(alloc, into, "expected `:` before `+` sign flag", span)
-        }
+        Fault::LateSign(span) => say(
+            alloc,
+            into,
+            "the `+` sign flag must appear after `:` in a format string",
+            Some("`+` comes after `:`, try `{:+}` instead of `{+}`"),
+            "expected `:` before `+` sign flag",
+            span,
+        ),
         Fault::FieldAccess(span) => {
             tell_field(alloc, into, "field access isn't supported", span)
         }
