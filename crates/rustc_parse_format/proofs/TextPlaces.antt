@@ -4,7 +4,7 @@ use Rattle.std.proofs.Common.{◌≡◌, ◌≢◌, ◌++◌, ◌⊎◌, ℕ, Bo
 use Rattle.std.proofs.Common.{Some, None}
 use Rattle.std.specs.Prelude.{◌==◌, ◌||◌}
 use Rattle.std.proofs.lemmas.Bool.{cond_both, false≢true, not-true, or_cases, eqb-true}
-use Rattle.rustc_parse_format.specs.Characters.{Text, begins_raw, begins_with, behind_first, first_passes, front, is_brace, is_no_brace}
+use Rattle.rustc_parse_format.specs.Characters.{Text, begins_raw, begins_with, behind_first, first_passes, is_brace, is_no_brace}
 use Rattle.rustc_parse_format.specs.Marks.{Mark, Start, Span}
 use Rattle.rustc_parse_format.specs.Types.{Mode, Format, InlineAsm, Diagnostic, DiagnosticNamed, Position, Implicit, Index, Named, Count, Is, Name, Param}
 use Rattle.rustc_parse_format.specs.Types.{Star, Implied, Spec, Argument, Piece, Lit, NextArgument}
