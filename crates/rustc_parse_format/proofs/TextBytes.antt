@@ -1,6 +1,6 @@
 -- Where the texts of a piece stand in the bytes of the input, in a world where each span is its place in the input, some bytes later.
-use Rattle.std.proofs.Common.{◌≡◌, ◌≢◌, ◌++◌, ◌+◌, ◌-◌, ◌≤◌, ◌⊎◌, ℕ, Bool, true, false, List, [], ◌∷◌, length, take, drop, chars, IsUtf8, refl, sym, subst, ◌∙◌, ap}
-use Rattle.std.proofs.Common.{append_assoc, length-append, arith, codes, inl, inr, Option, Some, None}
+use Rattle.std.proofs.Common.{◌≡◌, ◌≢◌, ◌++◌, ◌+◌, ◌-◌, ◌≤◌, ◌⊎◌, ℕ, Bool, true, false, List, [], ◌∷◌, length, take, drop, chars, IsUtf8, refl, sym, subst}
+use Rattle.std.proofs.Common.{◌∙◌, ap, append_assoc, length-append, arith, codes, inl, inr, Option, Some, None}
 use Rattle.std.specs.Prelude.{encode_utf8, encode_utf8_all, option_map, slice_range}
 use Rattle.std.specs.Char.{len_utf8}
 use Rattle.std.specs.Str.{IsCharBoundary}
@@ -9,19 +9,19 @@ use Rattle.std.proofs.lemmas.Bool.{cond_both, false≢true, and_parts}
 use Rattle.std.proofs.lemmas.List.{take-append-le, take_all}
 use Rattle.std.proofs.lemmas.List.Sums.{sum_by-cons}
 use Rattle.std.proofs.lemmas.Str.{IsUtf8-past_char, IsCharBoundary-at_seam, cons_from_encodes, encodes-append, encodes-chars}
-use Rattle.rustc_parse_format.specs.Characters.{Text, begins_raw, byte_length, is_id_start}
-use Rattle.rustc_parse_format.specs.Marks.{Mark, Start, Span}
-use Rattle.rustc_parse_format.specs.Types.{Mode, Position, Implicit, Index, Named, Count, Is, Name, Param, Star, Implied, Piece, Lit, NextArgument, map_count, map_piece}
+use Rattle.rustc_parse_format.specs.Characters.{Text, begins_raw, byte_length}
+use Rattle.rustc_parse_format.specs.Marks.{Mark, Span}
+use Rattle.rustc_parse_format.specs.Types.{Mode, Position, Implicit, Index, Named, Count, Is, Name, Param, Star, Implied, Piece, Lit, NextArgument, map_count}
+use Rattle.rustc_parse_format.specs.Types.{map_piece}
 use Rattle.rustc_parse_format.specs.Spelling.{is_word}
 use Rattle.rustc_parse_format.specs.Source.{is_source}
 use Rattle.rustc_parse_format.specs.State.{State, next_call}
-use Rattle.rustc_parse_format.specs.World.{World, Place, number_of, piece_in, place_at, place_of, plain_world, quote_offset, literal_world, foreign_end, raw_end}
-use Rattle.rustc_parse_format.specs.World.{input_end, world}
+use Rattle.rustc_parse_format.specs.World.{World, Place, number_of, piece_in, place_at, place_of, plain_world, quote_offset, literal_world, foreign_end}
+use Rattle.rustc_parse_format.specs.World.{raw_end, input_end, world}
 use Rattle.rustc_parse_format.proofs.LiteralWidths.{width-append}
 use Rattle.rustc_parse_format.proofs.Places.{place_inside, width_encodes}
 use Rattle.rustc_parse_format.proofs.Rests.{IsRest}
-use Rattle.rustc_parse_format.proofs.TextPlaces.{CountTexts, TypeTexts, SpecTexts, PositionTexts, ArgumentTexts, PieceTexts, StandsAt, IsPlainName, IsRawName}
-use Rattle.rustc_parse_format.proofs.TextPlaces.{NameStands, EndsAt, PieceStands, call_stands}
+use Rattle.rustc_parse_format.proofs.TextPlaces.{CountTexts, TypeTexts, PositionTexts, PieceTexts, StandsAt, NameStands, EndsAt, call_stands}
 
 -- The text w begins at a byte, among the characters that the bytes stand for.
 pub record TextAt (bytes : List ℕ) (from : ℕ) (w : Text) : Type 0 where
@@ -170,8 +170,8 @@ last_text bytes input rest r w c h x =
     record { before = h.front ++ x.0; after = r; whole = c ∙ whole; from_is = omega (arith, all) }
 
 -- Other properties of the same texts, with the spans put through a function.
-count_map : {A B : Type 0} (f : A → B) (P : A → Text → Type 0) (Q : B → Text → Type 0) → ((s : A) (w : Text) → P s w → Q (f s) w) → (k : Count A) → CountTexts P k
-    → CountTexts Q (map_count f k)
+count_map : {A B : Type 0} (f : A → B) (P : A → Text → Type 0) (Q : B → Text → Type 0) → ((s : A) (w : Text) → P s w → Q (f s) w) → (k : Count A)
+    → CountTexts P k → CountTexts Q (map_count f k)
 count_map f P Q g (Is n) h = tt
 count_map f P Q g (Name w s) h = g s w h
 count_map f P Q g (Param n) h = tt

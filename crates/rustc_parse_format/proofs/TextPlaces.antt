@@ -1,32 +1,33 @@
 -- Where the texts of a piece stand in what is left of the input, by the marks of their spans.
 use Prim.Native.Char.{code}
-use Rattle.std.proofs.Common.{◌≡◌, ◌≢◌, ◌++◌, ◌⊎◌, ℕ, Bool, true, false, [], ◌∷◌, length, refl, sym, subst, ◌∙◌, ap, append_assoc, codes, inl, inr, Option, Some, None}
+use Rattle.std.proofs.Common.{◌≡◌, ◌≢◌, ◌++◌, ◌⊎◌, ℕ, Bool, true, false, [], ◌∷◌, length, refl, sym, subst, ◌∙◌, ap, append_assoc, codes, inl, inr, Option}
+use Rattle.std.proofs.Common.{Some, None}
 use Rattle.std.specs.Prelude.{◌==◌, ◌||◌}
-use Rattle.std.specs.List.{list_all}
 use Rattle.std.proofs.lemmas.Bool.{cond_both, false≢true, not-true, or_cases, eqb-true}
-use Rattle.rustc_parse_format.specs.Characters.{Text, begins_raw, begins_with, behind, behind_first, first_passes, front, is_brace, is_id_start, is_no_brace}
+use Rattle.rustc_parse_format.specs.Characters.{Text, begins_raw, begins_with, behind_first, first_passes, is_brace, is_no_brace}
 use Rattle.rustc_parse_format.specs.Marks.{Mark, Start, Span}
-use Rattle.rustc_parse_format.specs.Types.{Mode, Format, InlineAsm, Diagnostic, DiagnosticNamed, Position, Implicit, Index, Named, Count, Is, Name, Param, Star}
-use Rattle.rustc_parse_format.specs.Types.{Implied, Spec, Argument, Piece, Lit, NextArgument, default_spec, map_count, map_spec, map_argument, map_piece}
+use Rattle.rustc_parse_format.specs.Types.{Mode, Format, InlineAsm, Diagnostic, DiagnosticNamed, Position, Implicit, Index, Named, Count, Is, Name, Param}
+use Rattle.rustc_parse_format.specs.Types.{Star, Implied, Spec, Argument, Piece, Lit, NextArgument}
 use Rattle.rustc_parse_format.specs.Spelling.{Part, IsPart, absent, fixed, identifier, is_word, optional_identifier, run, unless}
-use Rattle.rustc_parse_format.specs.Syntax.{PositionText, Digits, Word, RawWord, NoPosition, position_part, CountText, NumberCount, IndexCount, NameCount, NoCount}
-use Rattle.rustc_parse_format.specs.Syntax.{name_part, count_part, WidthText, PaddedWidth, ZeroIndexWidth, PlainWidth, width_part, PrecisionText, NoPrecision}
-use Rattle.rustc_parse_format.specs.Syntax.{StarPrecision, DotPrecision, precision_part, TypeText, DebugHexType, CharacterType, WordType, is_type_character, type_part}
-use Rattle.rustc_parse_format.specs.Syntax.{FormatText, format_part, fill_part, align_part, sign_part, alternate_part, SpecText, Default, Formatting, Modifier}
-use Rattle.rustc_parse_format.specs.Syntax.{DiagnosticText, spec_part, FieldText, field_part, IsCut}
+use Rattle.rustc_parse_format.specs.Syntax.{PositionText, Digits, Word, RawWord, NoPosition, position_part, CountText, NumberCount, IndexCount, NameCount}
+use Rattle.rustc_parse_format.specs.Syntax.{NoCount, name_part, count_part, WidthText, PaddedWidth, ZeroIndexWidth, PlainWidth, width_part, PrecisionText}
+use Rattle.rustc_parse_format.specs.Syntax.{NoPrecision, StarPrecision, DotPrecision, precision_part, TypeText, DebugHexType, CharacterType, WordType}
+use Rattle.rustc_parse_format.specs.Syntax.{is_type_character, type_part, FormatText, format_part, fill_part, align_part, sign_part, alternate_part, SpecText}
+use Rattle.rustc_parse_format.specs.Syntax.{Default, Formatting, Modifier, DiagnosticText, spec_part, FieldText, IsCut}
 use Rattle.std.specs.Char.{is_whitespace}
 use Rattle.rustc_parse_format.specs.Placeholder.{Cut, cut, placed}
 use Rattle.rustc_parse_format.specs.Values.{number_after_spec, position_of, type_of}
-use Rattle.rustc_parse_format.specs.Meaning.{argument, count_of, format_of, from_precision, from_type, from_width, precision_of, spec_of, type_span, width_of, word_span}
-use Rattle.rustc_parse_format.specs.Call.{Call, call, placeholder, text_call, unmatched_call}
+use Rattle.rustc_parse_format.specs.Meaning.{argument, count_of, format_of, from_precision, from_type, from_width, precision_of, spec_of, type_span, width_of}
+use Rattle.rustc_parse_format.specs.Meaning.{word_span}
+use Rattle.rustc_parse_format.specs.Call.{Call, call, placeholder, text_call}
 use Rattle.rustc_parse_format.proofs.Fronts.{front-behind}
 use Rattle.rustc_parse_format.proofs.PartCuts.{cut-sound, cut-placed}
 use Rattle.rustc_parse_format.proofs.PartLaws.{IsRow, absent-same, only, opened, two-split}
 use Rattle.rustc_parse_format.proofs.Placeholders.{placeholder-piece}
 use Rattle.rustc_parse_format.proofs.Rests.{IsRest, IsRest-cons, IsRest-self, IsRest-trans}
 
--- The texts of a piece, with spans of any kind. L is said of text; N of a name and its span, R of such a name that is raw, and P of
--- each other text and its span.
+-- The texts of a piece, with spans of any kind: L is said of text, N of the name of an argument and its span, and P of each other text
+-- and its span.
 
 -- a type without a span
 abbrev pub IsShort : Text → Type 0
