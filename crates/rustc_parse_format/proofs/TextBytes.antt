@@ -7,6 +7,7 @@ use Rattle.std.specs.Str.{IsCharBoundary}
 use Rattle.std.proofs.Math.Seq.{drop-append_seam}
 use Rattle.std.proofs.lemmas.Bool.{cond_both, false≢true, and_parts}
 use Rattle.std.proofs.lemmas.List.{take-append-le, take_all}
+use Rattle.std.proofs.lemmas.Iterator.Adapters.{option_map_id}
 use Rattle.std.proofs.lemmas.List.Sums.{sum_by-cons}
 use Rattle.std.proofs.lemmas.Str.{IsUtf8-past_char, IsCharBoundary-at_seam, cons_from_encodes, encodes-append, encodes-chars}
 use Rattle.rustc_parse_format.specs.Characters.{Text, begins_raw, byte_length}
@@ -243,18 +244,37 @@ name-has : (bytes : List ℕ) (at : ℕ) (p : Place) (w : Text) → IsUtf8 bytes
 name-has bytes at p w v (inl x) = inl (text-has bytes (p.0 - at) w v x.text.text)
 name-has bytes at p w v (inr x) = inr (text-has bytes (p.0 - at) (codes "r#" ++ w) v x.raw.text)
 
+count-stays : {A : Type 0} (k : Count A) → map_count (λ s. s) k ≡ k
+count-stays (Is n) = refl
+count-stays (Name w s) = refl
+count-stays (Param n) = refl
+count-stays (Star n) = refl
+count-stays Implied = refl
+
+piece-stays : {A : Type 0} (o : Option (Piece A)) → option_map (map_piece (λ s. s)) o ≡ o
+piece-stays None = refl
+piece-stays (Some (Lit w)) = refl
+piece-stays (Some (NextArgument a)) =
+    let f = a.format in
+    rw (
+      option_map_id f.fill_span,
+      count-stays f.width,
+      option_map_id f.width_span,
+      count-stays f.precision,
+      option_map_id f.precision_span,
+      option_map_id f.ty_span,
+    ) refl
+
 pub piece_has : (bytes : List ℕ) (b : Bool) (at e : ℕ) (s : State) (o : Option (Piece Place)) → IsUtf8 bytes → chars bytes ≡ s.input → IsRest s.input s.rest
     → s.world ≡ plain_world b at s.input e → o ≡ option_map (piece_in s.world) (next_call s).piece
     → PieceTexts (HasLast bytes s.input (next_call s).rest) (HasName bytes at) (HasText bytes at) s.mode o
 piece_has bytes b at e s o v c r w f =
-    let place = place_of (plain_world b at s.input e) in
-    rw (f, w)
-    (piece_map place (EndsAt s.rest (next_call s).rest) (HasLast bytes s.input (next_call s).rest)
-    (λ (m : Span) u. NameStands s.rest m.from u) (λ (m : Span) u. StandsAt s.rest m.from u) (HasName bytes at) (HasText bytes at)
-    (λ u x. text-has bytes _ u v (last_text bytes s.input s.rest (next_call s).rest u c r x))
-    (λ m u x. name-has bytes at (place m) u v (name_place bytes b at e s.input s.rest m u v c r x))
-    (λ m u x. text-has bytes _ u v (text_place bytes b at e s.input s.rest m u c r x).text)
-    s.mode (next_call s).piece (call_stands s.mode s.next s.rest))
+    let left = (next_call s).rest in
+    subst (PieceTexts (HasLast bytes s.input left) (HasName bytes at) (HasText bytes at) s.mode) (piece-stays o)
+    (piece_map (λ (p : Place). p) (LastText bytes s.input left) (HasLast bytes s.input left) (NamePlace bytes at) (TextPlace bytes at) (HasName bytes at)
+    (HasText bytes at)
+    (λ u x. text-has bytes _ u v x) (λ p u x. name-has bytes at p u v x) (λ p u x. text-has bytes _ u v x.text)
+    s.mode o (piece_bytes bytes b at e s o v c r w f))
 
 -- The world of what a parser is given is plain where there is no source literal, and where the style is that of a raw one.
 pub record IsPlain (input : Text) (style : Option ℕ) (w : World) : Type 0 where
