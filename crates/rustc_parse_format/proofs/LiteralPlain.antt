@@ -40,6 +40,8 @@ byte-escape (x ∷ y ∷ h ∷ d ∷ r) u long e f k l =
       four.1,
     )
 
-pub unit-byte : (t : Text) (h l : ℕ) (r : Text) (v : Option (Text × Text)) → t ≡ 92 ∷ 120 ∷ h ∷ l ∷ r → meaning (byte_at (h ∷ l ∷ r)) ≡ v → meaning (unit_at t) ≡ v
+-- what it means is what its digits mean
+pub unit-byte : (t : Text) (h l : ℕ) (r : Text) (v : Option (Text × Text)) → t ≡ 92 ∷ 120 ∷ h ∷ l ∷ r → meaning (byte_at (h ∷ l ∷ r)) ≡ v →
+    meaning (unit_at t) ≡ v
 unfolding unit_at escape_at
 unit-byte t h l r v e k = ap (λ s. meaning (unit_at s)) e ∙ k
