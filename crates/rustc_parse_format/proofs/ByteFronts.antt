@@ -73,19 +73,24 @@ left-behind input s n b l =
       tail = ap (λ k. drop k input) (sym at) ∙ (sym (drop-drop n (length input - length s) input) ∙ ap (drop n) l.tail);
     }
 
--- Fronts that two texts share: a part of one is one,
-shared-part : (p : ℕ → Bool) (s t : List ℕ) (m n : ℕ) → m ≤ n → IsSharedFront p s t n → IsSharedFront p s t m
-shared-part p s t m n l f =
-    let within = f.within in
-    let within_others = f.within_others in
+-- a part of a front that passes passes
+pub pass-part : (p : ℕ → Bool) (s : List ℕ) (m n : ℕ) → m ≤ n → list_all p (take n s) ≡ true → list_all p (take m s) ≡ true
+pass-part p s m n l h =
     let split : list_all p (take n s) ≡ (list_all p (take m s) && list_all p (drop m (take n s))) =
     ap (list_all p) (sym (take-append-drop m (take n s)) ∙ ap (λ x. x ++ drop m (take n s)) (take-take m n s l))
     ∙ list_all-append p (take m s) (drop m (take n s)) in
+    (and_parts _ _ (sym split ∙ h)).0
+
+-- Fronts that two texts share: a part of one is one,
+pub shared-part : (p : ℕ → Bool) (s t : List ℕ) (m n : ℕ) → m ≤ n → IsSharedFront p s t n → IsSharedFront p s t m
+shared-part p s t m n l f =
+    let within = f.within in
+    let within_others = f.within_others in
     record {
       within = omega arith;
       within_others = omega arith;
       same = sym (take-take m n s l) ∙ (ap (take m) f.same ∙ take-take m n t l);
-      pass = (and_parts _ _ (sym split ∙ f.pass)).0;
+      pass = pass-part p s m n l f.pass;
     }
 
 -- where it ends between characters of the one, it does so of the other,

@@ -1,9 +1,11 @@
--- The plain characters at the front of a text, by its bytes.
-use Rattle.std.proofs.Common.{◌≤◌, List, ℕ, chars, drop, IsUtf8, IsCharBoundary, arith}
+-- The plain characters at the front of a text, and an escape by `\x`, by its bytes.
+use Rattle.std.proofs.Common.{◌≡◌, ◌≤◌, ◌<◌, ◌++◌, List, ℕ, [], ◌∷◌, chars, drop, get_or, length, IsUtf8, IsCharBoundary, Option, refl, ap, sym, ◌∙◌, arith}
+use Rattle.std.proofs.lemmas.Str.{IsUtf8-past_char, chars_past_char, encode_ascii}
 use Rattle.std.proofs.lemmas.Bool.Decides.{nat_tests}
 use Rattle.rustc_parse_format.specs.Bytes.{IsOfAscii, IsSharedFront}
 use Rattle.rustc_parse_format.specs.LiteralReading.{SharePlain}
-use Rattle.rustc_parse_format.specs.LiteralUnits.{is_plain}
+use Rattle.rustc_parse_format.specs.Characters.{Text}
+use Rattle.rustc_parse_format.specs.LiteralUnits.{is_plain, meaning, byte_at, escape_at, unit_at}
 use Rattle.rustc_parse_format.proofs.ByteFronts.{shared-behind}
 
 -- a literal writes all that is not ASCII as it is
@@ -15,3 +17,31 @@ pub plain-behind : (s t : List ℕ) (m n : ℕ) → IsUtf8 s → IsUtf8 t → Is
 plain-behind s t m n u v b l f =
     let h = shared-behind is_plain plain-ascii s t m n u v b l f in
     record { front = h.0; text = h.1; other = h.2; plain = h.3 }
+
+-- a character of ASCII is its byte
+pub ascii-first : (b : ℕ) (r : List ℕ) → IsUtf8 (b ∷ r) → b < 128 → (chars (b ∷ r) ≡ b ∷ chars r) × IsUtf8 r
+ascii-first b r u l =
+    let e = ap (λ t. t ++ r) (sym (encode_ascii b l)) in
+    (chars_past_char (b ∷ r) r b u e, IsUtf8-past_char (b ∷ r) r b u e)
+
+-- a backslash, an `x` and two more bytes of ASCII
+pub byte-escape : (s : List ℕ) → IsUtf8 s → 4 ≤ length s → get_or s 0 0 ≡ 92 → get_or s 1 0 ≡ 120 → get_or s 2 0 < 128 → get_or s 3 0 < 128 →
+    (chars s ≡ 92 ∷ 120 ∷ get_or s 2 0 ∷ get_or s 3 0 ∷ chars (drop 4 s)) × IsUtf8 (drop 4 s)
+byte-escape [] u long e f k l = absurd (omega arith)
+byte-escape (x ∷ []) u long e f k l = absurd (omega arith)
+byte-escape (x ∷ y ∷ []) u long e f k l = absurd (omega arith)
+byte-escape (x ∷ y ∷ h ∷ []) u long e f k l = absurd (omega arith)
+byte-escape (x ∷ y ∷ h ∷ d ∷ r) u long e f k l =
+    let one = ascii-first x (y ∷ h ∷ d ∷ r) u (omega (arith, e)) in
+    let two = ascii-first y (h ∷ d ∷ r) one.1 (omega (arith, f)) in
+    let three = ascii-first h (d ∷ r) two.1 k in
+    let four = ascii-first d r three.1 l in (
+      rw (one.0, two.0, three.0, four.0, e, f) refl,
+      four.1,
+    )
+
+-- what it means is what its digits mean
+pub unit-byte : (t : Text) (h l : ℕ) (r : Text) (v : Option (Text × Text)) → t ≡ 92 ∷ 120 ∷ h ∷ l ∷ r → meaning (byte_at (h ∷ l ∷ r)) ≡ v →
+    meaning (unit_at t) ≡ v
+unfolding unit_at escape_at
+unit-byte t h l r v e k = ap (λ s. meaning (unit_at s)) e ∙ k

@@ -2,8 +2,7 @@
 use Rattle.std.proofs.Common.{◌≡◌, ◌≢◌, ◌≤◌, ◌<◌, ◌-◌, ◌++◌, ◌==◌, ℕ, Bool, true, false, List, [], ◌∷◌, length, refl, ap, sym, subst, ◌∙◌, arith}
 use Rattle.std.proofs.Common.{get_or, chars, IsUtf8}
 use Rattle.std.proofs.Common.{append_assoc, Some}
-use Rattle.std.specs.Prelude.{IsTrue, encode_utf8, is_some}
-use Rattle.std.proofs.lemmas.Str.{IsUtf8-past_char, chars_past_char, encode_ascii}
+use Rattle.std.specs.Prelude.{IsTrue, is_some}
 use Rattle.std.proofs.lemmas.Bool.{cond_both, and_parts, both_ways, false≢true, true≢false, eqb-true, or_parts, not-true}
 use Rattle.rustc_parse_format.specs.Characters.{Text, behind, behind_first, begins_with, byte_length}
 use Rattle.rustc_parse_format.specs.LiteralUnits.{LiteralUnit, Plain, SimpleEscape, ByteEscape, UnicodeEscape, Continuation}
@@ -11,6 +10,7 @@ use Rattle.rustc_parse_format.specs.LiteralUnits.{spelling, meaning, escaped, is
 use Rattle.rustc_parse_format.specs.Literal.{IsContent}
 use Rattle.rustc_parse_format.specs.SeenSource.{after_continuations, begins_continuation, character_width, taken, closed_by_quote, gap, gap_to, spelled_units}
 use Rattle.rustc_parse_format.proofs.LiteralWidths.{width-cons, width-append}
+use Rattle.rustc_parse_format.proofs.LiteralPlain.{ascii-first}
 use Rattle.rustc_parse_format.proofs.LiteralUnitLaws.{unit_at-complete}
 use Rattle.rustc_parse_format.proofs.Fronts.{behind-append}
 
@@ -209,9 +209,6 @@ pub newline-escape : (s : List ℕ) → IsUtf8 s → 2 ≤ length s → get_or s
 newline-escape [] u long e f = absurd (omega arith)
 newline-escape (x ∷ []) u long e f = absurd (omega arith)
 newline-escape (x ∷ y ∷ r) u long e f =
-    let first : x ∷ y ∷ r ≡ encode_utf8 92 ++ (y ∷ r) = ap (λ b. b ∷ y ∷ r) e ∙ ap (λ t. t ++ (y ∷ r)) (sym (encode_ascii 92 (omega arith))) in
-    let second : y ∷ r ≡ encode_utf8 110 ++ r = ap (λ b. b ∷ r) f ∙ ap (λ t. t ++ r) (sym (encode_ascii 110 (omega arith))) in
-    let v = IsUtf8-past_char (x ∷ y ∷ r) (y ∷ r) 92 u first in
-    let whole : chars (x ∷ y ∷ r) ≡ 92 ∷ 110 ∷ chars r =
-    chars_past_char (x ∷ y ∷ r) (y ∷ r) 92 u first ∙ ap (λ (t : Text). 92 ∷ t) (chars_past_char (y ∷ r) r 110 v second) in
+    let first = ascii-first x (y ∷ r) u (omega (arith, e)) in
+    let whole : chars (x ∷ y ∷ r) ≡ 92 ∷ 110 ∷ chars r = rw (first.0, (ascii-first y r first.1 (omega (arith, f))).0, e, f) refl in
     whole ∙ ap (λ (t : Text). 92 ∷ 110 ∷ t) (sym (ap (λ t. behind_first (behind_first t)) whole))

@@ -1,4 +1,5 @@
-//! Fronts of bytes, found sixteen bytes at a time. What is left behind the last whole block, the callers look at byte by byte.
+//! Fronts of bytes, found sixteen bytes at a time. The last block ends where the bytes end, and so it may lie over the one before it.
+//! What is shorter than a block, the callers look at byte by byte.
 
 ghost use Rattle.std.specs.Int.{bit_at};
 ghost use Rattle.std.specs.List.{list_all};
@@ -74,7 +75,7 @@ fn is_one_of(byte: u8, a: u8, b: u8, c: u8) -> bool {
     byte == a || byte == b || byte == c
 }
 
-/// How many bytes at the front are none of three, as far as whole blocks tell. No block is looked at where the byte at `probe` is one of
+/// How many bytes at the front are none of three, as far as blocks tell. No block is looked at where the byte at `probe` is one of
 /// them, since the front is then shorter than a block is worth.
 #[inline(always)]
 pub fn calm_front(bytes: &[u8], probe: usize, a: u8, b: u8, c: u8) -> usize
@@ -85,18 +86,19 @@ pub fn calm_front(bytes: &[u8], probe: usize, a: u8, b: u8, c: u8) -> usize
     if bytes.len() < 16 || is_one_of(bytes[probe], a, b, c) {
         return 0;
     }
+    let last = bytes.len() - 16;
     let mut at = 0;
-    while 16 <= bytes.len() - at {
+    while at < last {
         let calm = calm_lanes(u8x16::from_slice(&bytes[at..]), a, b, c);
-        at += calm;
         if calm < 16 {
-            return at;
+            return at + calm;
         }
+        at += 16;
     }
-    at
+    last + calm_lanes(u8x16::from_slice(&bytes[last..]), a, b, c)
 }
 
-/// How many bytes at the front are the same in both, and plain, as far as whole blocks tell. No block is looked at where the first bytes
+/// How many bytes at the front are the same in both, and plain, as far as blocks tell. No block is looked at where the first bytes
 /// differ.
 #[inline(always)]
 pub fn plain_front(bytes: &[u8], others: &[u8]) -> usize
@@ -106,16 +108,20 @@ pub fn plain_front(bytes: &[u8], others: &[u8]) -> usize
     if most < 16 || bytes[0] != others[0] {
         return 0;
     }
+    let last = most - 16;
     let mut at = 0;
-    while 16 <= most - at {
+    while at < last {
         let plain = plain_lanes(
             u8x16::from_slice(&bytes[at..]),
             u8x16::from_slice(&others[at..]),
         );
-        at += plain;
         if plain < 16 {
-            return at;
+            return at + plain;
         }
+        at += 16;
     }
-    at
+    last + plain_lanes(
+        u8x16::from_slice(&bytes[last..]),
+        u8x16::from_slice(&others[last..]),
+    )
 }

@@ -138,24 +138,29 @@ impl Lists {
         if reader.has_found_nothing() {
             return Ok(0);
         }
-        let closed = reader.take_closed();
-        self.add(alloc, &mut reader.found, &mut reader.lines, closed)
+        self.add(
+            alloc,
+            &mut reader.found,
+            &mut reader.lines,
+            &mut reader.closed,
+        )
     }
 
-    /// Adds the errors of faults and lines, which are both taken, and a place: all of it, or nothing where memory is refused.
-    /// Returns how many errors were put in front.
+    /// Adds the errors of faults, lines and a place, which are taken: all of it, or nothing where memory is refused. Returns how
+    /// many errors were put in front.
     #[inline(always)]
     fn add(
         &mut self,
         alloc: Global,
         found: &mut Vec<Fault<'_>>,
         lines: &mut Vec<Range<usize>>,
-        closed: Option<Range<usize>>,
+        closed: &mut Option<Range<usize>>,
     ) -> Result<usize, AllocError>
         ensures errors { OnOk result ((self.new.errors ≡ add_errors self.old.errors (map seen_fault found.old.items))
             × (found.new.items ≡ [])) }
         ensures fronts { IfOk result (λ n. n ≡ length (filter is_front (map seen_fault found.old.items))) }
-        ensures places { OnOk result (map pair self.new.arg_places.items ≡ map pair self.old.arg_places.items ++ listed (option_map pair closed)) }
+        ensures places { OnOk result ((map pair self.new.arg_places.items
+            ≡ map pair self.old.arg_places.items ++ listed (option_map pair closed.old)) × (closed.new ≡ None)) }
         ensures lines { OnOk result ((map pair self.new.line_spans.items ≡ map pair self.old.line_spans.items ++ map pair lines.old.items)
             × (lines.new.items ≡ [])) }
         ensures err { OnErr result ((self.new.errors ≡ self.old.errors)
@@ -177,7 +182,7 @@ impl Lists {
         } else {
             move_lines(&mut self.line_spans, lines);
         }
-        if let Some(place) = closed {
+        if let Some(place) = closed.take() {
             self.arg_places.push_reserved(place);
         }
         Ok(fronts)

@@ -112,14 +112,6 @@ impl<'input> Reader<'input> {
         self.found.is_empty() && self.lines.is_empty() && self.closed.is_none()
     }
 
-    /// Takes out the placeholder that was closed.
-    pub fn take_closed(&mut self) -> Option<Range<usize>>
-        ensures value { option_map pair result ≡ self.old.closed }
-        ensures state { self.new ≡ record self.old { closed = None } }
-    {
-        self.closed.take()
-    }
-
     /// The number of the next implicit argument, which is then one more.
     pub fn take_number(&mut self) -> usize
         requires { self.old.next + 1 < 2 ^ 64 }

@@ -33,6 +33,14 @@ impl<'a> Rest<'a> {
         Rest { text }
     }
 
+    /// What is left.
+    #[inline(always)]
+    pub fn text(&self) -> &'a str
+        ensures { chars result.now ≡ self.now }
+    {
+        self.text
+    }
+
     /// How many bytes are left.
     #[inline(always)]
     pub fn len(&self) -> usize
@@ -156,10 +164,10 @@ pub fn plain_width(bytes: &[u8], others: &[u8]) -> usize
     most
 }
 
-/// Whether both begin with the same byte.
+/// Whether both begin with the same byte, which is no backslash: often one escape comes after another.
 #[inline(always)]
 fn begin_alike(bytes: &[u8], others: &[u8]) -> bool {
-    !bytes.is_empty() && !others.is_empty() && bytes[0] == others[0]
+    !bytes.is_empty() && bytes[0] != b'\\' && !others.is_empty() && bytes[0] == others[0]
 }
 
 /// What is after the plain characters with which both begin. Where they differ, they may do so inside of a character.

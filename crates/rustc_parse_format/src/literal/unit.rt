@@ -1,9 +1,22 @@
 //! The unit at the front of the content of an ordinary string literal.
 
-ghost use Rattle.std.specs.Prelude.{◌≡◌, ◌∷◌, [], option_map};
+ghost use Rattle.std.specs.Prelude.{◌≡◌, ◌∷◌, ◌<◌, [], IfSome, Some, chars, option_map};
+ghost use Rattle.std.specs.Char.{digit_value};
+ghost use Rattle.rustc_parse_format.specs.Characters.{Text};
 ghost use Rattle.rustc_parse_format.specs.LiteralUnits.{at_most_one, byte_at, escape_at, escaped, meaning, unicode_at, unit_at};
 
 use super::rest::Rest;
+
+/// What two digits after `\x` stand for.
+#[tactic(auto, unfolding(crate::specs::LiteralUnits::byte_at))]
+#[inline(always)]
+fn byte_of(high: char, low: char) -> Option<char>
+    ensures { (r : Text) → meaning (byte_at (high ∷ low ∷ r)) ≡ option_map (λ c. (c ∷ [], r)) result }
+{
+    let high = high.to_digit(8)?;
+    let low = low.to_digit(16)?;
+    Some((high * 16 + low) as u8 as char)
+}
 
 /// Takes what is after `\x`.
 #[tactic(auto, unfolding(crate::specs::LiteralUnits::byte_at))]
@@ -11,9 +24,25 @@ use super::rest::Rest;
 fn read_byte(rest: &mut Rest<'_>) -> Option<char>
     ensures { meaning (byte_at rest.old) ≡ option_map (λ c. (c ∷ [], rest.new)) result }
 {
-    let high = rest.next()?.to_digit(8)?;
-    let low = rest.next()?.to_digit(16)?;
-    Some((high * 16 + low) as u8 as char)
+    let high = rest.next()?;
+    let low = rest.next()?;
+    byte_of(high, low)
+}
+
+/// What an escape with `\x` at the front stands for, and what is after it: by its bytes, since a literal may be made of such escapes.
+#[inline(always)]
+fn byte_escape(text: &str) -> Option<(char, &str)>
+    ensures { IfSome result (λ x. meaning (unit_at (chars text.now)) ≡ Some (x.0 ∷ [], chars x.1.now)) }
+{
+    let bytes = text.as_bytes();
+    if bytes.len() < 4 || bytes[0] != b'\\' || bytes[1] != b'x' {
+        return None;
+    }
+    let value = byte_of(bytes[2] as char, bytes[3] as char)?;
+    if bytes[2] >= 128 || bytes[3] >= 128 {
+        return None;
+    }
+    Some((value, &text[4..]))
 }
 
 /// Takes what is after `\u`.
@@ -80,6 +109,10 @@ fn read_escape(rest: &mut Rest<'_>) -> Option<Option<char>>
 pub fn read_unit(rest: &mut Rest<'_>) -> Option<Option<char>>
     ensures { meaning (unit_at rest.old) ≡ option_map (λ v. (at_most_one v, rest.new)) result }
 {
+    if let Some((c, behind)) = byte_escape(rest.text()) {
+        *rest = Rest::new(behind);
+        return Some(Some(c));
+    }
     match rest.next()? {
         '\\' => read_escape(rest),
         '"' | '\r' => None,
