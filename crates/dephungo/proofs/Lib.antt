@@ -1,0 +1,4 @@
+pub mod Buffers
+pub mod Cuts
+pub mod Widths
+pub mod Lists
