@@ -102,11 +102,19 @@ is_unknown Right = false
 is_unknown Center = false
 is_unknown Unknown = true
 
--- the specification asks for nothing, and has no span
+-- Nothing is asked for, and nothing has a span: of the flags, of the width and the precision, and of the type.
+abbrev pub has_no_flags : {A : Type 0} → Spec A → Bool
+has_no_flags s =
+    is_none s.fill && (is_none s.fill_span && (is_unknown s.align && (is_none s.sign && (not s.alternate && (not s.zero_pad && is_none s.debug_hex)))))
+
+abbrev pub has_no_counts : {A : Type 0} → Spec A → Bool
+has_no_counts s = is_implied s.width && (is_none s.width_span && (is_implied s.precision && is_none s.precision_span))
+
+abbrev pub has_no_type : {A : Type 0} → Spec A → Bool
+has_no_type s = is_nil s.ty && is_none s.ty_span
+
 abbrev pub is_default : {A : Type 0} → Spec A → Bool
-is_default s =
-    is_none s.fill && (is_none s.fill_span && (is_unknown s.align && (is_none s.sign && (not s.alternate && (not s.zero_pad && (is_none s.debug_hex
-    && (is_implied s.width && (is_none s.width_span && (is_implied s.precision && (is_none s.precision_span && (is_nil s.ty && is_none s.ty_span)))))))))))
+is_default s = has_no_flags s && (has_no_counts s && has_no_type s)
 
 -- how many records of specifications a piece takes: one where its specification is not the default one
 abbrev pub specs_in : {A : Type 0} → Option (Piece A) → ℕ

@@ -22,9 +22,9 @@ Stands input from t = HasBytes input from (encode_utf8_all t)
 abbrev pub StandsAt : List ℕ → ℕ → Text → Type 0
 StandsAt input from t = t ≢ [] → Stands input from t
 
--- a name stands there, or `r#` and the name
-abbrev pub NameStands : List ℕ → ℕ → Text → Type 0
-NameStands input from w = StandsAt input from w ⊎ Stands input from (codes "r#" ++ w)
+-- or it stands there behind these bytes
+abbrev pub StandsBehind : List ℕ → List ℕ → ℕ → Text → Type 0
+StandsBehind input prefix from t = StandsAt input from t ⊎ HasBytes input from (prefix ++ encode_utf8_all t)
 
 -- The texts of a piece stand at their spans less an offset, and that of a run in front of what was read.
 abbrev pub CountStands : List ℕ → ℕ → Count Place → Type 0
@@ -40,7 +40,7 @@ IsListed t = (t ≡ []) ⊎ ((t ≡ codes "x") ⊎ ((t ≡ codes "X") ⊎ (t ≡
 
 abbrev pub TypeStands : List ℕ → ℕ → Option Place → Text → Type 0
 TypeStands input offset None t = IsListed t
-TypeStands input offset (Some s) t = StandsAt input (s.0 - offset) t
+TypeStands input offset (Some s) t = StandsBehind input (codes ":") (s.0 - offset) t
 
 pub record SpecStands (input : List ℕ) (offset : ℕ) (s : Spec Place) : Type 0 where
   pub width : CountStands input offset s.width
@@ -50,7 +50,7 @@ pub record SpecStands (input : List ℕ) (offset : ℕ) (s : Spec Place) : Type 
 abbrev pub PositionStands : List ℕ → ℕ → Position → Type 0
 PositionStands input from (Implicit n) = Unit {0}
 PositionStands input from (Index n) = Unit {0}
-PositionStands input from (Named w) = NameStands input from w
+PositionStands input from (Named w) = StandsBehind input (codes "r#") from w
 
 pub record ArgumentStands (input : List ℕ) (offset : ℕ) (a : Argument Place) : Type 0 where
   pub position : PositionStands input (a.position_span.0 - offset) a.position

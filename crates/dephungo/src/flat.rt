@@ -1,10 +1,11 @@
 //! Pieces as records.
 
-ghost use Rattle.std.specs.Prelude.{◌≡◌, ℕ, ◌+◌, ◌<◌, ◌≤◌, if◌then◌else◌, List, Some, drop, length, option_map, take};
+ghost use Rattle.std.specs.Prelude.{◌≡◌, ℕ, ◌+◌, ◌<◌, ◌≤◌, if◌then◌else◌, List, Some, chars, drop, length, option_map, take};
 ghost use Rattle.rustc_parse_format.specs.Seen.{pair, seen, seen_alignment, seen_argument, seen_count, seen_debug_hex, seen_position, seen_sign, seen_spec};
+ghost use Rattle.rustc_parse_format.specs.Characters.{is_nil};
 ghost use Rattle.rustc_parse_format.specs.Types.{NextArgument};
 ghost use Rattle.dephungo.specs.declared.records.Extent.{Extent as ExtentRecord};
-ghost use Rattle.dephungo.specs.Events.{is_default, specs_in};
+ghost use Rattle.dephungo.specs.Events.{has_no_counts, has_no_flags, is_default, specs_in};
 ghost use Rattle.dephungo.specs.Meant.{align_meant, count_meant, fill_meant, hex_meant, is_set, maybe_place, piece_meant, place as place_meant, position_meant, sign_meant, spec_at, spec_meant, text_at};
 ghost use Rattle.dephungo.specs.Stand.{CountAt, PieceAt, PositionAt, SpecAt};
 
@@ -149,9 +150,8 @@ fn spec_record(spec: &FormatSpec<'_>, texts: &Texts) -> Spec
     }
 }
 
-/// Nothing is asked for.
-fn is_default(spec: &FormatSpec<'_>) -> bool
-    ensures { result ≡ is_default (seen_spec spec.now) }
+fn has_no_flags(spec: &FormatSpec<'_>) -> bool
+    ensures { result ≡ has_no_flags (seen_spec spec.now) }
 {
     spec.fill.is_none()
         && spec.fill_span.is_none()
@@ -160,12 +160,28 @@ fn is_default(spec: &FormatSpec<'_>) -> bool
         && !spec.alternate
         && !spec.zero_pad
         && spec.debug_hex.is_none()
-        && matches!(spec.width, Count::CountImplied)
+}
+
+fn has_no_counts(spec: &FormatSpec<'_>) -> bool
+    ensures { result ≡ has_no_counts (seen_spec spec.now) }
+{
+    matches!(spec.width, Count::CountImplied)
         && spec.width_span.is_none()
         && matches!(spec.precision, Count::CountImplied)
         && spec.precision_span.is_none()
-        && spec.ty.is_empty()
-        && spec.ty_span.is_none()
+}
+
+fn is_empty(text: &str) -> bool
+    ensures { result ≡ is_nil (chars text.now) }
+{
+    text.is_empty()
+}
+
+/// The specification is the default one.
+fn is_default(spec: &FormatSpec<'_>) -> bool
+    ensures { result ≡ is_default (seen_spec spec.now) }
+{
+    has_no_flags(spec) && has_no_counts(spec) && is_empty(spec.ty) && spec.ty_span.is_none()
 }
 
 /// Writes a specification behind the `used` records, if it is not the default one and there is room, and gives its number.

@@ -4,7 +4,7 @@ ghost use Rattle.std.specs.Prelude.{◌≡◌, ℕ, IsFalse, IsTrue, List, chars
 ghost use Rattle.rustc_parse_format.specs.Seen.{pair, seen, seen_argument, seen_count, seen_position, seen_spec};
 ghost use Rattle.dephungo.specs.declared.records.Extent.{Extent as ExtentRecord};
 ghost use Rattle.dephungo.specs.Meant.{text_at, type_meant};
-ghost use Rattle.dephungo.specs.Stand.{ArgumentStands, CountAt, CountStands, HasBytes, IsListed, NameStands, PieceAt, PieceStands, PositionAt, SpecAt, StandsAt, TypeStands};
+ghost use Rattle.dephungo.specs.Stand.{ArgumentStands, CountAt, CountStands, HasBytes, IsListed, PieceAt, PieceStands, PositionAt, SpecAt, StandsAt, StandsBehind, TypeStands};
 
 use crate::flat::NOWHERE;
 use crate::records::{Extent, TYPE_DEBUG, TYPE_LOWER_HEX, TYPE_NONE, TYPE_TEXT, TYPE_UPPER_HEX};
@@ -61,15 +61,15 @@ fn stands(input: &str, from: usize, bytes: &[u8]) -> bool
     }
 }
 
-/// The name that stands there, perhaps behind `r#`.
-fn name_extent(input: &str, from: usize, name: &str) -> Extent
-    requires { NameStands input.now from (chars name.now) }
-    ensures { text_at input.now result ≡ chars name.now }
+/// The text that stands there, perhaps behind a prefix.
+fn extent_behind(input: &str, prefix: &[u8], from: usize, text: &str) -> Extent
+    requires { StandsBehind input.now prefix.now from (chars text.now) }
+    ensures { text_at input.now result ≡ chars text.now }
 {
-    if stands(input, from, b"r#") && stands(input, from + 2, name.as_bytes()) {
-        extent_of(input, from + 2, name)
+    if stands(input, from, prefix) && stands(input, from + prefix.len(), text.as_bytes()) {
+        extent_of(input, from + prefix.len(), text)
     } else {
-        extent_of(input, from, name)
+        extent_of(input, from, text)
     }
 }
 
@@ -105,7 +105,7 @@ fn type_extent(input: &str, offset: usize, format: &FormatSpec<'_>) -> (u32, Ext
     match &format.ty_span {
         Some(span) => (
             TYPE_TEXT,
-            extent_of(input, span.start.saturating_sub(offset), format.ty),
+            extent_behind(input, b":", span.start.saturating_sub(offset), format.ty),
         ),
         None => (listed_type(format.ty), NOWHERE),
     }
@@ -120,11 +120,8 @@ fn argument_texts(input: &str, offset: usize, argument: &Argument<'_>) -> Texts
     let (type_kind, ty) = type_extent(input, offset, format);
     let text = match &argument.position {
         Position::ArgumentNamed(name) => {
-            name_extent(
-                input,
-                argument.position_span.start.saturating_sub(offset),
-                name,
-            )
+            let from = argument.position_span.start.saturating_sub(offset);
+            extent_behind(input, b"r#", from, name)
         }
         _ => NOWHERE,
     };

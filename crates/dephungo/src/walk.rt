@@ -77,8 +77,7 @@ fn call<'a>(parser: &mut Parser<'a>) -> Result<(Option<Piece<'a>>, usize), Alloc
     ensures fronts { IfOk result (λ p. p.1 ≡ fronts_in (next_call parser.old)) }
     ensures state { OnOk result (parser.new ≡ after parser.old (next_call parser.old)) }
 {
-    let piece = parser.next()?;
-    Ok((piece, 0))
+    parser.next_with_fronts()
 }
 
 /// Where the texts of the piece stand that a call gave: by its own spans, or by those of the guide's call.
