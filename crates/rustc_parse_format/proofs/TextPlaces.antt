@@ -79,6 +79,7 @@ pub record StandsAt (t : Text) (m : Mark) (w : Text) : Type 0 where
 
 -- The name w stands so, and no raw identifier does,
 pub record IsPlainName (t : Text) (m : Mark) (w : Text) : Type 0 where
+  pub formed : is_word w ≡ true
   pub stands : StandsAt t m w
   pub no_raw : begins_raw (w ++ stands.after) ≡ false
 
@@ -129,6 +130,7 @@ position_stands t r n (Word w) h =
     let s = two-split t (absent begins_raw) (identifier w) r h in
     let e : t ≡ w ++ r = absent-same t begins_raw s.seam s.first ∙ s.second.whole in
     inl (record {
+      formed = s.second.formed;
       stands = at_front t w r (is_some w s.second.formed) e;
       no_raw = ap begins_raw (sym s.second.whole) ∙ not-true _ s.first.ends;
     })
@@ -142,7 +144,7 @@ position_stands t r n NoPosition h = tt
 
 earlier_name : (t u : Text) (m : Mark) (w : Text) → IsRest t u → NameStands u m w → NameStands t m w
 unfolding earlier
-earlier_name t u m w h (inl x) = inl (record { stands = earlier h x.stands; no_raw = x.no_raw })
+earlier_name t u m w h (inl x) = inl (record { formed = x.formed; stands = earlier h x.stands; no_raw = x.no_raw })
 earlier_name t u m w h (inr x) = inr (record { some = x.some; stands = earlier h x.stands })
 
 earlier_position : (t u : Text) (m : Mark) (p : Position) → IsRest t u → PositionStands u m p → PositionStands t m p
