@@ -46,10 +46,34 @@ default_is {A = A} s e =
     let c1 = both rest.0 in let c2 = both c1.1 in let c3 = both c2.1 in
     let t = both rest.1 in
     let same : ◌≡◌ {A = Spec A} default_spec (record {
-      fill = s.fill; fill_span = s.fill_span; align = s.align; sign = s.sign; alternate = s.alternate; zero_pad = s.zero_pad; debug_hex = s.debug_hex;
-      width = s.width; width_span = s.width_span; precision = s.precision; precision_span = s.precision_span; ty = s.ty; ty_span = s.ty_span;
-    }) = rw (none s.fill f1.0, none s.fill_span f2.0, unknown s.align f3.0, none s.sign f4.0, unset s.alternate f5.0, unset s.zero_pad f6.0, none s.debug_hex f6.1,
-    implied s.width c1.0, none s.width_span c2.0, implied s.precision c3.0, none s.precision_span c3.1, no_text s.ty t.0, none s.ty_span t.1) refl in
+      fill = s.fill;
+      fill_span = s.fill_span;
+      align = s.align;
+      sign = s.sign;
+      alternate = s.alternate;
+      zero_pad = s.zero_pad;
+      debug_hex = s.debug_hex;
+      width = s.width;
+      width_span = s.width_span;
+      precision = s.precision;
+      precision_span = s.precision_span;
+      ty = s.ty;
+      ty_span = s.ty_span;
+    }) = rw (
+      none s.fill f1.0,
+      none s.fill_span f2.0,
+      unknown s.align f3.0,
+      none s.sign f4.0,
+      unset s.alternate f5.0,
+      unset s.zero_pad f6.0,
+      none s.debug_hex f6.1,
+      implied s.width c1.0,
+      none s.width_span c2.0,
+      implied s.precision c3.0,
+      none s.precision_span c3.1,
+      no_text s.ty t.0,
+      none s.ty_span t.1,
+    ) refl in
     same
 
 pub spec_at-default : (input : List ℕ) (specs : List SpecRecord) → spec_at input specs 0 ≡ default_spec

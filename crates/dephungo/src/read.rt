@@ -44,6 +44,7 @@ fn begin(alloc: Global, asked: Task<'_>) -> Result<Reading<'_>, AllocError>
     requires hashes { hashes asked.style ≤ limit }
     ensures start { IfOk result (λ r. r.parser ≡ asked_state asked.entry) }
     ensures guided { IfOk result (λ r. IsGuided r.parser r.offset r.guide) }
+    ensures short { IfOk result (λ r. length r.parser.rest ≤ length asked.entry.input.now) }
 {
     let Task {
         mode,

@@ -1,6 +1,7 @@
 //! Where the texts of a piece stand in the input.
 
-ghost use Rattle.std.specs.Prelude.{◌≡◌, ℕ, IsFalse, IsTrue, List, chars, option_map};
+ghost use Rattle.std.specs.Prelude.{◌≡◌, ℕ, ◌-◌, IsFalse, IsTrue, List, chars, option_map};
+ghost use Rattle.rustc_parse_format.specs.Characters.{byte_length};
 ghost use Rattle.rustc_parse_format.specs.Seen.{pair, seen, seen_argument, seen_count, seen_position, seen_spec};
 ghost use Rattle.dephungo.specs.declared.records.Extent.{Extent as ExtentRecord};
 ghost use Rattle.dephungo.specs.Meant.{text_at, type_meant};
@@ -134,6 +135,14 @@ fn argument_texts(input: &str, offset: usize, argument: &Argument<'_>) -> Texts
     }
 }
 
+/// The text that was read last.
+fn run_extent(input: &str, read: usize, text: &str) -> Extent
+    requires { StandsAt input.now (read - byte_length (chars text.now)) (chars text.now) }
+    ensures { text_at input.now result ≡ chars text.now }
+{
+    extent_of(input, read.saturating_sub(text.len()), text)
+}
+
 /// Where the texts of a piece stand, whose spans are so many bytes behind the places in the input, and which was read up to
 /// a byte of the input.
 pub fn texts_of(input: &str, offset: usize, read: usize, piece: &Option<Piece<'_>>) -> Texts
@@ -143,7 +152,7 @@ pub fn texts_of(input: &str, offset: usize, read: usize, piece: &Option<Piece<'_
     match piece {
         None => NO_TEXTS,
         Some(Piece::Lit(text)) => Texts {
-            text: extent_of(input, read.saturating_sub(text.len()), text),
+            text: run_extent(input, read, text),
             ..NO_TEXTS
         },
         Some(Piece::NextArgument(argument)) => argument_texts(input, offset, argument),
