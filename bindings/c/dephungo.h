@@ -188,7 +188,7 @@ enum {
     DEPHUNGO_NOT_TEXT = 3,         /* the input is not UTF-8; nothing is written, as with the codes behind this one */
     DEPHUNGO_SNIPPET_NOT_TEXT = 4, /* the snippet is not UTF-8 */
     DEPHUNGO_NO_SUCH_MODE = 5,     /* there is no such mode */
-    DEPHUNGO_TOO_LONG = 6,         /* the input, the snippet or the number of hashes is beyond 10^12 */
+    DEPHUNGO_TOO_LONG = 6,         /* the input has more than 10^12 bytes, or the raw literal more hashes */
 };
 
 /* dephungo_read reads a whole input; it answers one of CODE.

@@ -1,6 +1,6 @@
 /* Refuses in turn each request for memory of reading some inputs: the code is NO_MEMORY, the answer is as it was, and nothing
  * leaks. Where nothing is refused any more, the code is DONE. It is linked with --wrap=malloc, realloc and free. */
-#include "dephungo.h"
+#include "rows.h"
 #include <stdio.h>
 #include <string.h>
 
@@ -33,21 +33,6 @@ void __wrap_free(void *old) {
     __real_free(old);
 }
 
-typedef struct { const char *input, *snippet; dephungo_options options; } row;
-
-static const row rows[] = {
-    {"", NULL, {.mode = DEPHUNGO_MODE_FORMAT}},
-    {"plain text, no snippet", NULL, {.mode = DEPHUNGO_MODE_FORMAT}},
-    {"a{n:>w$.*x?}{}}{_:99999$}{", NULL, {.mode = DEPHUNGO_MODE_FORMAT}},
-    {"{r#a}{a.b}{:?#}{a?}{a+}{a,}{a=}{a<}{:}>", NULL, {.mode = DEPHUNGO_MODE_FORMAT}},
-    {"a{n}", "\"other\"", {.mode = DEPHUNGO_MODE_FORMAT, .has_snippet = 1}},
-    {"a{n:w$}\n  {}{:.*}}", "\"a{n:w$}\\n  \\x7b}{:.\\u{2a}}}\"", {.mode = DEPHUNGO_MODE_FORMAT, .has_snippet = 1}},
-    {"{_}\n{r#a}{a?}{", "\"{_}\\\n   \\n{r#a}{a?}{\"", {.mode = DEPHUNGO_MODE_FORMAT, .has_snippet = 1}},
-    {"a\nb{x}\n", "r#\"a\nb{x}\"#", {.is_raw = 1, .hashes = 1, .has_snippet = 1, .appended_newline = 1}},
-    {"mov {0:e}, {_}\n", "\"mov {0:e}, {_}\\n\"", {.mode = DEPHUNGO_MODE_INLINE_ASM, .has_snippet = 1}},
-    {"{a: text }{}", "\"{a: text }\\x7b}\"", {.mode = DEPHUNGO_MODE_DIAGNOSTIC_NAMED, .has_snippet = 1}},
-};
-
 static dephungo_step steps[64];
 static dephungo_spec specs[64];
 static dephungo_fault faults[64];
@@ -55,9 +40,8 @@ static dephungo_range lines[64];
 static uint8_t texts[8192];
 
 static uint32_t read_row(const row *r, dephungo_answer *answer) {
-    const char *snippet = r->snippet ? r->snippet : "";
     counting = 1;
-    uint32_t code = dephungo_read((const uint8_t *)r->input, strlen(r->input), (const uint8_t *)snippet, strlen(snippet),
+    uint32_t code = dephungo_read((const uint8_t *)r->input, strlen(r->input), (const uint8_t *)r->snippet, strlen(r->snippet),
                                   &r->options, steps, 64, specs, 64, faults, 64, texts, sizeof texts, lines, 64, answer);
     counting = 0;
     return code;
@@ -84,7 +68,7 @@ static long refuse_each(const row *r) {
 
 int main(void) {
     long passed = 0, failed = 0, requests = 0;
-    for (size_t i = 0; i < sizeof rows / sizeof rows[0]; i++) {
+    for (size_t i = 0; i < ROWS; i++) {
         long refused = refuse_each(&rows[i]);
         *(refused < 0 ? &failed : &passed) += 1;
         requests += refused < 0 ? 0 : refused;

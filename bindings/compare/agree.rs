@@ -31,7 +31,9 @@ macro_rules! seen_by {
                 Parser::new(&case.input, case.style, case.snippet.clone(), case.newline, mode(case.mode))
             }
 
-            pub fn error(e: &ParseError) -> (&Text, &Option<Text>, &Text, &Place, &Option<(Text, Place)>, (u8, Option<&Place>, Option<&Text>)) {
+            pub fn error(
+                e: &ParseError,
+            ) -> (&Text, &Option<Text>, &Text, &Place, &Option<(Text, Place)>, (u8, Option<&Place>, Option<&Text>)) {
                 let suggestion = match &e.suggestion {
                     Suggestion::None => (0, None, None),
                     Suggestion::UsePositional => (1, None, None),
@@ -127,7 +129,10 @@ fn same_state(case: &Case, a: &dephungo::Parser<'_>, b: &original::Parser<'_>, c
     for (x, y) in a.errors.iter().zip(&b.errors) {
         let (x, mut y) = (ours::error(x), theirs::error(y));
         if !cfg!(applied) && x.0 != y.0 && differ_by_an_escape(x.0, y.0) {
-            *counts.by_name.entry("(compared but for one text) a message that escapes a character beyond ASCII").or_default() += 1;
+            *counts
+                .by_name
+                .entry("(compared but for one text) a message that escapes a character beyond ASCII")
+                .or_default() += 1;
             y.0 = x.0;
         }
         assert_eq!(x, y, "error of {case:?}");
@@ -137,7 +142,12 @@ fn same_state(case: &Case, a: &dephungo::Parser<'_>, b: &original::Parser<'_>, c
 /// Both parsers side by side, up to two calls behind the end, with fields written in between.
 fn compare(case: &Case, random: &mut Random, counts: &mut Counts) {
     let (mut a, mut b) = (ours::parser(case), theirs::parser(case));
-    if !cfg!(applied) && a.is_source_literal && !b.is_source_literal && case.style.is_none() && warns(case.snippet.as_deref().unwrap_or("")) {
+    if !cfg!(applied)
+        && a.is_source_literal
+        && !b.is_source_literal
+        && case.style.is_none()
+        && warns(case.snippet.as_deref().unwrap_or(""))
+    {
         *counts.by_name.entry("a literal that a warning of the unescaper makes foreign").or_default() += 1;
         return;
     }

@@ -1,5 +1,5 @@
 //! The one call into the static library. All that is unsafe is in this file.
-use crate::records::{Answer, Extent, Fault, Options, SpecRecord, Step};
+use crate::records::{Answer, Extent, Fault, Options, Spec, Step};
 
 unsafe extern "C" {
     fn dephungo_read(
@@ -10,7 +10,7 @@ unsafe extern "C" {
         options: *const Options,
         steps: *mut Step,
         step_room: usize,
-        specs: *mut SpecRecord,
+        specs: *mut Spec,
         spec_room: usize,
         faults: *mut Fault,
         fault_room: usize,
@@ -26,7 +26,7 @@ unsafe extern "C" {
 #[derive(Default)]
 pub struct Buffers {
     pub steps: Vec<Step>,
-    pub specs: Vec<SpecRecord>,
+    pub specs: Vec<Spec>,
     pub faults: Vec<Fault>,
     pub texts: Vec<u8>,
     pub lines: Vec<Extent>,

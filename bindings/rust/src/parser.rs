@@ -1,6 +1,6 @@
 //! The parser: a reading, given out call by call.
 use crate::reading::Reading;
-use crate::records::{self, CountRecord, Extent, Fault, MaybeExtent, Options, SpecRecord, Step};
+use crate::records::{self, CountRecord, Extent, Fault, MaybeExtent, Options, Spec, Step};
 use crate::{Alignment::*, Argument, Count, Count::*, DebugHex, FormatSpec, ParseError, ParseMode, Piece, Position::*};
 use crate::{Sign, Suggestion};
 use std::ops::Range;
@@ -37,7 +37,7 @@ impl<'input> Parser<'input> {
     ///
     /// # Panics
     ///
-    /// Where memory is not found, or the input, the snippet or the number of hashes is beyond 10^12.
+    /// Where memory is not found, or the input has more than 10^12 bytes, or the literal more hashes.
     pub fn new(
         input: &'input str,
         style: Option<usize>,
@@ -162,7 +162,7 @@ impl MaybeExtent {
     }
 }
 
-fn piece<'input>(input: &'input str, step: &Step, spec: Option<&SpecRecord>, shift: usize) -> Option<Piece<'input>> {
+fn piece<'input>(input: &'input str, step: &Step, spec: Option<&Spec>, shift: usize) -> Option<Piece<'input>> {
     match step.kind {
         records::PIECE_TEXT => Some(Piece::Lit(&input[step.text.range()])),
         records::PIECE_ARGUMENT => Some(Piece::NextArgument(Box::new(Argument {
@@ -178,7 +178,7 @@ fn piece<'input>(input: &'input str, step: &Step, spec: Option<&SpecRecord>, shi
     }
 }
 
-fn format_spec<'input>(input: &'input str, spec: &SpecRecord, shift: usize) -> FormatSpec<'input> {
+fn format_spec<'input>(input: &'input str, spec: &Spec, shift: usize) -> FormatSpec<'input> {
     FormatSpec {
         fill: char::from_u32(spec.fill),
         fill_span: spec.fill_span.range(),
@@ -204,7 +204,7 @@ fn format_spec<'input>(input: &'input str, spec: &SpecRecord, shift: usize) -> F
         precision_span: spec.precision_span.range(),
         width: count(input, &spec.width, shift),
         width_span: spec.width_span.range(),
-        ty: match spec.ty_kind {
+        ty: match spec.type_kind {
             records::TYPE_TEXT => &input[spec.ty.range()],
             records::TYPE_LOWER_HEX => "x",
             records::TYPE_UPPER_HEX => "X",

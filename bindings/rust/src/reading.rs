@@ -1,11 +1,14 @@
 //! A whole reading of an input, in buffers that a thread keeps for its next one.
 use crate::call::{read, Buffers};
-use crate::records::{self, Answer, Extent, Fault, Options, SpecRecord, Step};
+use crate::records::{self, Answer, Extent, Fault, Options, Spec, Step};
 use std::cell::Cell;
 
 thread_local! {
     static SPARE: Cell<Option<Box<Buffers>>> = const { Cell::new(None) };
 }
+
+/// From this length on the room that an input takes is looked at before it is read.
+const LONG_INPUT: usize = 4096;
 
 /// Buffers with more steps, or more bytes of texts, are not kept.
 const KEPT_STEPS: usize = 4096;
@@ -22,7 +25,9 @@ impl Reading {
     /// Reads an input whole. Panics where the input is too long for the parser, or memory is not found.
     pub fn new(input: &str, snippet: &str, options: &Options) -> Self {
         let mut buffers = SPARE.try_with(Cell::take).ok().flatten().unwrap_or_else(small_buffers);
-        make_room(&mut buffers, input);
+        if input.len() >= LONG_INPUT {
+            make_room(&mut buffers, input);
+        }
         let mut answer = Answer::default();
         loop {
             match read(input, snippet, options, &mut buffers, &mut answer) {
@@ -35,7 +40,7 @@ impl Reading {
                     grow(&mut buffers.lines, answer.lines);
                 }
                 records::NO_MEMORY => panic!("the parser found no memory"),
-                records::TOO_LONG => panic!("the input, its snippet or its number of hashes is beyond 10^12"),
+                records::TOO_LONG => panic!("more than 10^12 bytes or hashes"),
                 code => unreachable!("a text and a mode of Rust are refused by {code}"),
             }
         }
@@ -51,7 +56,7 @@ impl Reading {
     }
 
     /// What a step asks for, if it asks for anything.
-    pub fn spec(&self, step: &Step) -> Option<&SpecRecord> {
+    pub fn spec(&self, step: &Step) -> Option<&Spec> {
         Some(&self.buffers().specs[step.spec.checked_sub(1)?])
     }
 
@@ -86,29 +91,25 @@ impl Drop for Reading {
     }
 }
 
+/// Enough for most inputs. Where they are not, they grow, and are kept so.
 fn small_buffers() -> Box<Buffers> {
     Box::new(Buffers {
-        steps: vec![Step::default(); 64],
-        specs: vec![SpecRecord::default(); 16],
+        steps: vec![Step::default(); 128],
+        specs: vec![Spec::default(); 64],
         faults: vec![Fault::default(); 8],
         texts: vec![0; 2048],
-        lines: vec![Extent::default(); 32],
+        lines: vec![Extent::default(); 64],
     })
 }
 
-/// Room for the steps, the specifications and the lines of an input. A step that reads text ends at a brace or at the end
-/// of the input, and any other takes a brace; a specification takes a colon, and each line but the last one a newline.
+/// Room for the steps, the specifications and the lines of a long input, which would else be read twice. A step that reads
+/// text ends at a brace or at the end of the input, and any other takes a brace; a specification takes a colon, and each
+/// line but the last one a newline.
 fn make_room(buffers: &mut Buffers, input: &str) {
     let count = |wanted: fn(u8) -> bool| input.bytes().filter(|&byte| wanted(byte)).count();
-    if input.len() >= buffers.steps.len() {
-        grow(&mut buffers.steps, 2 * count(|byte| matches!(byte, b'{' | b'}')) + 2);
-    }
-    if input.len() > buffers.specs.len() {
-        grow(&mut buffers.specs, count(|byte| byte == b':'));
-    }
-    if input.len() >= buffers.lines.len() {
-        grow(&mut buffers.lines, count(|byte| byte == b'\n') + 1);
-    }
+    grow(&mut buffers.steps, 2 * count(|byte| matches!(byte, b'{' | b'}')) + 2);
+    grow(&mut buffers.specs, count(|byte| byte == b':'));
+    grow(&mut buffers.lines, count(|byte| byte == b'\n') + 1);
 }
 
 fn grow<T: Clone + Default>(buffer: &mut Vec<T>, room: usize) {

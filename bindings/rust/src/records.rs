@@ -119,7 +119,7 @@ pub const NO_FILL: u32 = 0x110000;
 /// what a placeholder asks for behind its colon
 #[repr(C)]
 #[derive(Clone, Copy, Debug, Default, PartialEq, Eq)]
-pub struct SpecRecord {
+pub struct Spec {
     /// the character that fills the width, or NO_FILL
     pub fill: u32,
     /// one of ALIGN
@@ -133,7 +133,7 @@ pub struct SpecRecord {
     /// not 0 if the flag `0` is there
     pub zero_pad: u32,
     /// one of TYPE
-    pub ty_kind: u32,
+    pub type_kind: u32,
     /// the width
     pub width: CountRecord,
     /// the precision
@@ -273,7 +273,7 @@ pub const NOT_TEXT: u32 = 3;
 pub const SNIPPET_NOT_TEXT: u32 = 4;
 /// there is no such mode
 pub const NO_SUCH_MODE: u32 = 5;
-/// the input, the snippet or the number of hashes is beyond 10^12
+/// the input has more than 10^12 bytes, or the raw literal more hashes
 pub const TOO_LONG: u32 = 6;
 
 #[cfg(all(test, target_pointer_width = "64"))]
@@ -301,21 +301,21 @@ mod tests {
         assert_eq!(offset_of!(CountRecord, number), 8);
         assert_eq!(offset_of!(CountRecord, name), 16);
         assert_eq!(offset_of!(CountRecord, name_span), 32);
-        assert_eq!(size_of::<SpecRecord>(), 240);
-        assert_eq!(offset_of!(SpecRecord, fill), 0);
-        assert_eq!(offset_of!(SpecRecord, align), 4);
-        assert_eq!(offset_of!(SpecRecord, sign), 8);
-        assert_eq!(offset_of!(SpecRecord, debug_hex), 12);
-        assert_eq!(offset_of!(SpecRecord, alternate), 16);
-        assert_eq!(offset_of!(SpecRecord, zero_pad), 20);
-        assert_eq!(offset_of!(SpecRecord, ty_kind), 24);
-        assert_eq!(offset_of!(SpecRecord, width), 32);
-        assert_eq!(offset_of!(SpecRecord, precision), 80);
-        assert_eq!(offset_of!(SpecRecord, ty), 128);
-        assert_eq!(offset_of!(SpecRecord, fill_span), 144);
-        assert_eq!(offset_of!(SpecRecord, width_span), 168);
-        assert_eq!(offset_of!(SpecRecord, precision_span), 192);
-        assert_eq!(offset_of!(SpecRecord, ty_span), 216);
+        assert_eq!(size_of::<Spec>(), 240);
+        assert_eq!(offset_of!(Spec, fill), 0);
+        assert_eq!(offset_of!(Spec, align), 4);
+        assert_eq!(offset_of!(Spec, sign), 8);
+        assert_eq!(offset_of!(Spec, debug_hex), 12);
+        assert_eq!(offset_of!(Spec, alternate), 16);
+        assert_eq!(offset_of!(Spec, zero_pad), 20);
+        assert_eq!(offset_of!(Spec, type_kind), 24);
+        assert_eq!(offset_of!(Spec, width), 32);
+        assert_eq!(offset_of!(Spec, precision), 80);
+        assert_eq!(offset_of!(Spec, ty), 128);
+        assert_eq!(offset_of!(Spec, fill_span), 144);
+        assert_eq!(offset_of!(Spec, width_span), 168);
+        assert_eq!(offset_of!(Spec, precision_span), 192);
+        assert_eq!(offset_of!(Spec, ty_span), 216);
         assert_eq!(size_of::<Step>(), 152);
         assert_eq!(offset_of!(Step, kind), 0);
         assert_eq!(offset_of!(Step, position), 4);
