@@ -14,6 +14,8 @@ mod carried;
 #[cfg(test)]
 mod changes;
 #[cfg(test)]
+mod fronts;
+#[cfg(test)]
 mod iteration;
 #[cfg(test)]
 mod listing;

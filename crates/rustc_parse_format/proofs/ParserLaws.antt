@@ -1,9 +1,9 @@
 -- What a call and a walk say of places: spans read back, lie inside the snippet, and do not depend on the world; lines and places of
 -- arguments are those of what was read.
 use Rattle.std.proofs.Common.{◌≡◌, ◌≢◌, ℕ, ◌++◌, Bool, true, false, cond, List, [], ◌∷◌, length, map, refl, ap, sym, subst, ◌∙◌, arith, Option, Some, None}
-use Rattle.std.proofs.Common.{append_assoc, inl, inr, ◌⊎◌}
+use Rattle.std.proofs.Common.{append_assoc, inl, inr, ◌⊎◌, suc}
 use Rattle.std.specs.Prelude.{if◌then◌else◌, option_map}
-use Rattle.std.specs.List.{AllByRecursion}
+use Rattle.std.specs.List.{AllByRecursion, filter}
 use Rattle.std.proofs.lemmas.List.{append-nil, map-append}
 use Rattle.std.proofs.lemmas.Bool.{cond_both}
 use Rattle.std.proofs.lemmas.Option.{none-some}
@@ -127,6 +127,21 @@ bare_errors es (f ∷ fs) =
 
 pub after_errors : (s : State) (k : Call) → map bare_message (after s k).errors ≡ add_errors (map bare_message s.errors) (map bare_fault k.faults)
 after_errors s k = bare_errors s.errors (faults_in s.world k.faults) ∙ ap (add_errors (map bare_message s.errors)) (bare_faults-in s.world k.faults)
+
+-- How many go to the front does not either.
+front-map : (g : Span → Place) (f : Fault Span) → is_front (map_fault g f) ≡ is_front f
+front-map g f = sym (bare-told (map_fault g f)).1 ∙ ap is_front (bare_fault-map g f) ∙ (bare-told f).1
+
+one_in_front : {A B : Type 0} (b : Bool) (x : A) (y : B) (xs : List A) (ys : List B) → length xs ≡ length ys →
+    length (cond b (x ∷ xs) xs) ≡ length (cond b (y ∷ ys) ys)
+one_in_front true x y xs ys e = ap suc e
+one_in_front false x y xs ys e = e
+
+pub count_of_fronts : (w : World) (fs : List (Fault Span)) → length (filter is_front (faults_in w fs)) ≡ length (filter is_front fs)
+count_of_fronts w [] = refl
+count_of_fronts w (f ∷ fs) =
+    rw (front-map (place_of w) f)
+    (one_in_front (is_front f) (map_fault (place_of w) f) f (filter is_front (faults_in w fs)) (filter is_front fs) (count_of_fronts w fs))
 
 pub bare_given : (w : World) (o : Option (Piece Span)) → option_map bare (option_map (piece_in w) o) ≡ option_map bare o
 bare_given w None = refl

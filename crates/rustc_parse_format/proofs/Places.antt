@@ -11,7 +11,7 @@ use Rattle.rustc_parse_format.specs.Characters.{Text, behind_first, byte_length}
 use Rattle.rustc_parse_format.specs.World.{World, Place, place_at, plain_places, plain_world}
 use Rattle.rustc_parse_format.specs.Bytes.{IsLeft}
 
-width_encodes : (t : Text) → length (encodes t) ≡ byte_length t
+pub width_encodes : (t : Text) → length (encodes t) ≡ byte_length t
 width_encodes [] = refl
 width_encodes (c ∷ t) = length-append (encode_utf8 c) (encodes t) ∙ (ap (λ k. k + length (encodes t)) (length-encode c)
     ∙ (ap (λ k. len_utf8 c + k) (width_encodes t) ∙ sym (sum_by-cons len_utf8 c t)))

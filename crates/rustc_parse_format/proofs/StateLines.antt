@@ -33,6 +33,10 @@ unfolding call
 at_end s e =
     rw (e, lines_in-nil s.world s.line_start, closed_in-none s.world, append-nil s.line_spans, append-nil s.arg_places) (refl, refl)
 
+pub end_faults : (s : State) → s.rest ≡ [] → (next_call s).faults ≡ []
+unfolding call
+end_faults s e = rw e refl
+
 -- The last line at the end.
 last-kept : (s : State) (last : Place) → s.rest ≡ [] → s.world.has_source ≡ true → last ≡ (s.line_start, (place_at s.world (length s.rest)).0) →
     last_lines s s.line_spans ≡ (if ends_with last s.line_spans then s.line_spans else s.line_spans ++ last ∷ [])

@@ -1,6 +1,6 @@
 //! What a parser has found in all its calls so far, and the errors that faults become.
 
-ghost use Rattle.std.specs.Prelude.{◌≡◌, ◌≤◌, ◌+◌, ◌++◌, ◌∷◌, [], IfOk, IsOk, None, OnErr, OnOk, map, not, option_map, vec_capacity, vec_len};
+ghost use Rattle.std.specs.Prelude.{◌≡◌, ◌≤◌, ◌+◌, ◌++◌, ◌∷◌, [], IfOk, IsOk, None, OnErr, OnOk, length, map, not, option_map, vec_capacity, vec_len};
 ghost use Rattle.std.specs.List.{filter};
 ghost use Rattle.rustc_parse_format.specs.Faults.{add_errors, is_front, message};
 ghost use Rattle.rustc_parse_format.specs.Lines.{ends_with, listed};
@@ -48,31 +48,35 @@ fn errors_of(
     Ok((front, back))
 }
 
-/// Adds the error of one fault, or nothing where memory is refused.
-fn add_error(alloc: Global, errors: &mut ErrorList, fault: Fault<'_>) -> Result<(), AllocError>
+/// Adds the error of one fault, or nothing where memory is refused. Returns how many were put in front.
+fn add_error(alloc: Global, errors: &mut ErrorList, fault: Fault<'_>) -> Result<usize, AllocError>
     ensures ok { OnOk result (errors.new ≡ add_errors errors.old (seen_fault fault.entry ∷ [])) }
+    ensures fronts { IfOk result (λ n. n ≡ length (filter is_front (seen_fault fault.entry ∷ []))) }
     ensures err { OnErr result (errors.new ≡ errors.old) }
 {
     let is_front = fault.is_front();
     let mut error = empty_error(alloc);
     tell(alloc, &mut error, fault)?;
     if is_front {
-        errors.add_front(alloc, error)
+        errors.add_front(alloc, error)?;
+        Ok(1)
     } else {
-        errors.add_back(error)
+        errors.add_back(error)?;
+        Ok(0)
     }
 }
 
 /// Adds the faults to the errors, and takes them: all of them, or none where memory is refused. Of one fault, which is
-/// what a call mostly finds, the error is added as it is made.
+/// what a call mostly finds, the error is added as it is made. Returns how many were put in front.
 #[inline(never)]
 #[tactic(auto, using(crate::proofs::Errors::error_ends))]
 fn add_errors(
     alloc: Global,
     errors: &mut ErrorList,
     found: &mut Vec<Fault<'_>>,
-) -> Result<(), AllocError>
+) -> Result<usize, AllocError>
     ensures ok { OnOk result (errors.new ≡ add_errors errors.old (map seen_fault found.old.items)) }
+    ensures fronts { IfOk result (λ n. n ≡ length (filter is_front (map seen_fault found.old.items))) }
     ensures taken { OnOk result (found.new.items ≡ []) }
     ensures err { OnErr result (errors.new ≡ errors.old) }
 {
@@ -80,7 +84,9 @@ fn add_errors(
         return add_error(alloc, errors, found.take_last());
     }
     let (front, back) = errors_of(alloc, mem::replace(found, Vec::new(alloc)))?;
-    errors.add(alloc, front, back)
+    let fronts = front.len();
+    errors.add(alloc, front, back)?;
+    Ok(fronts)
 }
 
 /// The lists of a parser.
@@ -117,11 +123,12 @@ impl Lists {
         }
     }
 
-    /// Takes over what a call found: all of it, or nothing where memory is refused.
-    pub fn take_over(&mut self, alloc: Global, reader: &mut Reader<'_>) -> Result<(), AllocError>
+    /// Takes over what a call found: all of it, or nothing where memory is refused. Returns how many errors were put in front.
+    pub fn take_over(&mut self, alloc: Global, reader: &mut Reader<'_>) -> Result<usize, AllocError>
         ensures errors { OnOk result (self.new.errors ≡ add_errors self.old.errors reader.old.faults) }
         ensures places { OnOk result (map pair self.new.arg_places.items ≡ map pair self.old.arg_places.items ++ listed reader.old.closed) }
         ensures lines { OnOk result (map pair self.new.line_spans.items ≡ map pair self.old.line_spans.items ++ reader.old.lines) }
+        ensures fronts { IfOk result (λ n. n ≡ length (filter is_front reader.old.faults)) }
         ensures reader { OnOk result (reader.new ≡ record reader.old { faults = []; lines = []; closed = None }) }
         ensures source { OnErr result (reader.new.source ≡ reader.old.source) }
         ensures err { OnErr result ((self.new.errors ≡ self.old.errors)
@@ -129,13 +136,14 @@ impl Lists {
         ensures none { HasFoundNothing reader.old → IsOk result }
     {
         if reader.has_found_nothing() {
-            return Ok(());
+            return Ok(0);
         }
         let closed = reader.take_closed();
         self.add(alloc, &mut reader.found, &mut reader.lines, closed)
     }
 
     /// Adds the errors of faults and lines, which are both taken, and a place: all of it, or nothing where memory is refused.
+    /// Returns how many errors were put in front.
     #[inline(always)]
     fn add(
         &mut self,
@@ -143,9 +151,10 @@ impl Lists {
         found: &mut Vec<Fault<'_>>,
         lines: &mut Vec<Range<usize>>,
         closed: Option<Range<usize>>,
-    ) -> Result<(), AllocError>
+    ) -> Result<usize, AllocError>
         ensures errors { OnOk result ((self.new.errors ≡ add_errors self.old.errors (map seen_fault found.old.items))
             × (found.new.items ≡ [])) }
+        ensures fronts { IfOk result (λ n. n ≡ length (filter is_front (map seen_fault found.old.items))) }
         ensures places { OnOk result (map pair self.new.arg_places.items ≡ map pair self.old.arg_places.items ++ listed (option_map pair closed)) }
         ensures lines { OnOk result ((map pair self.new.line_spans.items ≡ map pair self.old.line_spans.items ++ map pair lines.old.items)
             × (lines.new.items ≡ [])) }
@@ -159,8 +168,9 @@ impl Lists {
         if closed.is_some() {
             self.arg_places.reserve(1)?;
         }
+        let mut fronts = 0;
         if !found.is_empty() {
-            add_errors(alloc, &mut self.errors, found)?;
+            fronts = add_errors(alloc, &mut self.errors, found)?;
         }
         if is_first {
             mem::swap(&mut self.line_spans, lines);
@@ -170,7 +180,7 @@ impl Lists {
         if let Some(place) = closed {
             self.arg_places.push_reserved(place);
         }
-        Ok(())
+        Ok(fronts)
     }
 }
 

@@ -49,7 +49,8 @@ impl<'input> Parser<'input> {
     ghost use Rattle.std.specs.Prelude.{◌≡◌, ◌≢◌, ◌+◌, ◌<◌, ◌≤◌, ◌^◌, ◌↔◌, ◌++◌, [], ℕ, Bool, true, false, List, Option, IfOk, IsNone, IsOk, IsTrue, OnErr, OnOk, chars, length, map, option_map};
     ghost use Rattle.rustc_parse_format.specs.Agreement.{Agree};
     ghost use Rattle.rustc_parse_format.specs.Characters.{Text, behind_first};
-    ghost use Rattle.rustc_parse_format.specs.Faults.{Keeps, add_errors, bare_fault, bare_message};
+    ghost use Rattle.std.specs.List.{filter};
+    ghost use Rattle.rustc_parse_format.specs.Faults.{Keeps, add_errors, bare_fault, bare_message, is_front};
     ghost use Rattle.rustc_parse_format.specs.Lines.{IsLines, listed, noted};
     ghost use Rattle.rustc_parse_format.specs.ReadBack.{AllSpans, IsInside, LiesInside, ReadsBack};
     ghost use Rattle.rustc_parse_format.specs.Grammar.{Begins};
@@ -105,9 +106,10 @@ impl<'input> Parser<'input> {
         })
     }
 
-    /// One call, on a trail.
+    /// One call, on a trail. It tells how many of its errors were put in front of the earlier ones.
     fn step<L: Ledger>(
         &mut self,
+        fronts: &mut usize,
         trail: &mut Trail<'input, L>,
     ) -> Result<Option<Piece<'input>>, AllocError>
         requires { IsInWord self.old.rest trail.old }
@@ -115,10 +117,12 @@ impl<'input> Parser<'input> {
         ensures state { OnOk result (self.new ≡ after self.old (next_call self.old)) }
         ensures err { OnErr result (self.new ≡ self.old) }
         ensures spare { NeedsNoMemory self.old (next_call self.old) → IsOk result }
+        ensures fronts { OnOk result (fronts.new ≡ length (filter is_front (next_call self.old).faults)) }
         ensures steps { OnOk result (Paid self.old.rest trail.old self.new.rest trail.new) }
     {
         if self.reader.is_at_end() {
             self.end_line()?;
+            *fronts = 0;
             return Ok(None);
         }
         let front = self.reader.front();
@@ -126,10 +130,11 @@ impl<'input> Parser<'input> {
             self.reader.go_back(self.alloc, front);
             return Err(AllocError);
         };
-        let Ok(_) = self.lists.take_over(self.alloc, &mut self.reader) else {
+        let Ok(count) = self.lists.take_over(self.alloc, &mut self.reader) else {
             self.reader.go_back(self.alloc, front);
             return Err(AllocError);
         };
+        *fronts = count;
         Ok(piece)
     }
 
@@ -160,6 +165,30 @@ impl<'input> Parser<'input> {
         self.reader.cursor.count(blank)
     }
 
+    /// One call, on a count. An error leaves the parser and the count as they were.
+    fn step_on<L: Ledger>(
+        &mut self,
+        fronts: &mut usize,
+        count: &mut StepCount<'input, L>,
+    ) -> Result<Option<Piece<'input>>, AllocError>
+        requires { IsInWord self.old.rest count.old }
+        ensures piece { IfOk result (λ p. option_map seen p ≡ option_map (piece_in self.old.world) (next_call self.old).piece) }
+        ensures state { OnOk result (self.new ≡ after self.old (next_call self.old)) }
+        ensures err { OnErr result (self.new ≡ self.old) }
+        ensures spare { NeedsNoMemory self.old (next_call self.old) → IsOk result }
+        ensures fronts { OnOk result (fronts.new ≡ length (filter is_front (next_call self.old).faults)) }
+        ensures steps { Paid self.old.rest count.old self.new.rest count.new }
+        ensures refused { OnErr result (count.new ≡ count.old) }
+    {
+        let result = self.step(fronts, &mut count.call);
+        if result.is_ok() {
+            count.before.keep(&mut count.call);
+        } else {
+            count.before.undo(&mut count.call);
+        }
+        result
+    }
+
     /// The next piece, as by [`Parser::next`], with its steps counted. An error leaves the parser and the count as they were.
     pub fn next_counted<L: Ledger>(
         &mut self,
@@ -173,18 +202,14 @@ impl<'input> Parser<'input> {
         ensures steps { Paid self.old.rest count.old self.new.rest count.new }
         ensures refused { OnErr result (count.new ≡ count.old) }
     {
-        let result = self.step(&mut count.call);
-        if result.is_ok() {
-            count.before.keep(&mut count.call);
-        } else {
-            count.before.undo(&mut count.call);
-        }
-        result
+        let mut fronts = 0;
+        self.step_on(&mut fronts, count)
     }
 
     /// A call whose steps nobody counts.
     fn next_uncounted<L: Ledger>(
         &mut self,
+        fronts: &mut usize,
         blank: Blank,
     ) -> Result<Option<Piece<'input>>, AllocError>
         requires name { blank.name ≡ L.name }
@@ -194,9 +219,21 @@ impl<'input> Parser<'input> {
         ensures state { OnOk result (self.new ≡ after self.old (next_call self.old)) }
         ensures err { OnErr result (self.new ≡ self.old) }
         ensures spare { NeedsNoMemory self.old (next_call self.old) → IsOk result }
+        ensures fronts { OnOk result (fronts.new ≡ length (filter is_front (next_call self.old).faults)) }
     {
         let mut count = self.count::<L>(blank);
-        self.next_counted(&mut count)
+        self.step_on(fronts, &mut count)
+    }
+
+    /// A call whose count is thrown away.
+    fn one_call(&mut self, fronts: &mut usize) -> Result<Option<Piece<'input>>, AllocError>
+        ensures piece { IfOk result (λ p. option_map seen p ≡ option_map (piece_in self.old.world) (next_call self.old).piece) }
+        ensures state { OnOk result (self.new ≡ after self.old (next_call self.old)) }
+        ensures err { OnErr result (self.new ≡ self.old) }
+        ensures spare { NeedsNoMemory self.old (next_call self.old) → IsOk result }
+        ensures fronts { OnOk result (fronts.new ≡ length (filter is_front (next_call self.old).faults)) }
+    {
+        self.next_uncounted::<Brand>(fronts, Blank::new(3))
     }
 
     /// What is left is a rest of the input. Nothing is done.
@@ -261,7 +298,22 @@ impl<'input> Parser<'input> {
         ensures short { length self.new.rest ≤ length self.old.rest }
     {
         self.reads_its_input();
-        self.next_uncounted::<Brand>(Blank::new(3))
+        let mut fronts = 0;
+        self.one_call(&mut fronts)
+    }
+
+    /// The next piece, as by [`Parser::next`], and how many errors of this call were put in front of all earlier ones. Its other
+    /// errors come after those. An error leaves the parser as it was.
+    pub fn next_with_fronts(&mut self) -> Result<(Option<Piece<'input>>, usize), AllocError>
+        ensures piece { IfOk result (λ x. option_map seen x.0 ≡ option_map (piece_in self.old.world) (next_call self.old).piece) }
+        ensures fronts { IfOk result (λ x. x.1 ≡ length (filter is_front (next_call self.old).faults)) }
+        ensures state { OnOk result (self.new ≡ after self.old (next_call self.old)) }
+        ensures err { OnErr result (self.new ≡ self.old) }
+        ensures spare { NeedsNoMemory self.old (next_call self.old) → IsOk result }
+    {
+        let mut fronts = 0;
+        let piece = self.one_call(&mut fronts)?;
+        Ok((piece, fronts))
     }
 
     /// The place of the next character in the source, its byte position in the input, and itself, or None at the end.

@@ -1,0 +1,9 @@
+pub mod Lists
+pub mod Buffers
+pub mod Cuts
+pub mod Widths
+pub mod Specs
+pub mod Finding
+pub mod Standing
+pub mod Worlds
+pub mod Walking

@@ -1,0 +1,5 @@
+pub mod Meant
+pub mod Events
+pub mod Stand
+pub mod Held
+pub mod Asked

@@ -1,0 +1,278 @@
+//! Pieces as records.
+
+ghost use Rattle.std.specs.Prelude.{◌≡◌, ℕ, ◌+◌, ◌<◌, ◌≤◌, if◌then◌else◌, List, Some, chars, drop, length, option_map, take};
+ghost use Rattle.rustc_parse_format.specs.Seen.{pair, seen, seen_alignment, seen_argument, seen_count, seen_debug_hex, seen_position, seen_sign, seen_spec};
+ghost use Rattle.rustc_parse_format.specs.Characters.{is_nil};
+ghost use Rattle.rustc_parse_format.specs.Types.{NextArgument};
+ghost use Rattle.dephungo.specs.declared.records.Extent.{Extent as ExtentRecord};
+ghost use Rattle.dephungo.specs.Events.{has_no_counts, has_no_flags, is_default, specs_in};
+ghost use Rattle.dephungo.specs.Meant.{align_meant, count_meant, fill_meant, hex_meant, is_set, maybe_place, piece_meant, place as place_meant, position_meant, sign_meant, spec_at, spec_meant, text_at};
+ghost use Rattle.dephungo.specs.Stand.{CountAt, PieceAt, PositionAt, SpecAt};
+
+use crate::records::{
+    ALIGN_CENTER, ALIGN_LEFT, ALIGN_RIGHT, ALIGN_UNKNOWN, COUNT_IMPLIED, COUNT_IS, COUNT_IS_NAME,
+    COUNT_IS_PARAM, COUNT_IS_STAR, CountRecord, Extent, HEX_LOWER, HEX_NONE, HEX_UPPER,
+    MaybeExtent, NO_FILL, PIECE_ARGUMENT, PIECE_NONE, PIECE_TEXT, POSITION_IMPLICIT,
+    POSITION_INDEX, POSITION_NAMED, SIGN_MINUS, SIGN_NONE, SIGN_PLUS, Spec, Step,
+};
+use crate::texts::Texts;
+use rustc_parse_format::{Alignment, Argument, Count, DebugHex, FormatSpec, Piece, Position, Sign};
+use std::ops::Range;
+
+pub const NOWHERE: Extent = Extent { from: 0, to: 0 };
+
+/// The extent of a range.
+pub fn extent(range: &Range<usize>) -> Extent
+    ensures { place_meant result ≡ pair range.now }
+{
+    Extent {
+        from: range.start,
+        to: range.end,
+    }
+}
+
+pub const NO_EXTENT: MaybeExtent = MaybeExtent {
+    there: 0,
+    from: 0,
+    to: 0,
+};
+
+/// The same of a range that may be there.
+pub fn maybe(range: &Option<Range<usize>>) -> MaybeExtent
+    ensures { maybe_place result ≡ option_map pair range.now }
+{
+    match range {
+        Some(range) => MaybeExtent {
+            there: 1,
+            from: range.start,
+            to: range.end,
+        },
+        None => NO_EXTENT,
+    }
+}
+
+pub fn flag(given: bool) -> u32
+    ensures { is_set result ≡ given }
+{
+    if given { 1 } else { 0 }
+}
+
+fn fill(fill: Option<char>) -> u32
+    ensures { fill_meant result ≡ fill }
+{
+    match fill {
+        Some(c) => u32::from(c),
+        None => NO_FILL,
+    }
+}
+
+fn align(align: Alignment) -> u32
+    ensures { align_meant result ≡ seen_alignment align }
+{
+    match align {
+        Alignment::AlignUnknown => ALIGN_UNKNOWN,
+        Alignment::AlignLeft => ALIGN_LEFT,
+        Alignment::AlignRight => ALIGN_RIGHT,
+        Alignment::AlignCenter => ALIGN_CENTER,
+    }
+}
+
+fn sign(sign: Option<Sign>) -> u32
+    ensures { sign_meant result ≡ option_map seen_sign sign }
+{
+    match sign {
+        None => SIGN_NONE,
+        Some(Sign::Plus) => SIGN_PLUS,
+        Some(Sign::Minus) => SIGN_MINUS,
+    }
+}
+
+fn debug_hex(hex: Option<DebugHex>) -> u32
+    ensures { hex_meant result ≡ option_map seen_debug_hex hex }
+{
+    match hex {
+        None => HEX_NONE,
+        Some(DebugHex::Lower) => HEX_LOWER,
+        Some(DebugHex::Upper) => HEX_UPPER,
+    }
+}
+
+fn numbered(kind: u32, number: usize) -> CountRecord
+    ensures { result ≡ record { kind = kind; number = number; name = record { from = 0; to = 0 }; name_span = record { from = 0; to = 0 } } }
+{
+    CountRecord {
+        kind,
+        number,
+        name: NOWHERE,
+        name_span: NOWHERE,
+    }
+}
+
+/// A count, whose name stands there in the input.
+#[tactic(auto, unfolding(crate::specs::Meant::count_meant))]
+fn count(count: &Count<'_>, name: Extent) -> CountRecord
+    ensures { (input : List ℕ) → CountAt (text_at input name) (seen_count count.now) → count_meant input result ≡ seen_count count.now }
+{
+    match count {
+        Count::CountImplied => numbered(COUNT_IMPLIED, 0),
+        Count::CountIs(number) => numbered(COUNT_IS, usize::from(*number)),
+        Count::CountIsParam(number) => numbered(COUNT_IS_PARAM, *number),
+        Count::CountIsStar(number) => numbered(COUNT_IS_STAR, *number),
+        Count::CountIsName(_, span) => CountRecord {
+            kind: COUNT_IS_NAME,
+            number: 0,
+            name,
+            name_span: extent(span),
+        },
+    }
+}
+
+/// A specification, whose texts stand there in the input.
+#[tactic(auto, unfolding(crate::specs::Meant::spec_meant))]
+fn spec_record(spec: &FormatSpec<'_>, texts: &Texts) -> Spec
+    ensures { (input : List ℕ) → SpecAt input texts.now (seen_spec spec.now) → spec_meant input result ≡ seen_spec spec.now }
+{
+    Spec {
+        fill: fill(spec.fill),
+        align: align(spec.align),
+        sign: sign(spec.sign),
+        debug_hex: debug_hex(spec.debug_hex),
+        alternate: flag(spec.alternate),
+        zero_pad: flag(spec.zero_pad),
+        type_kind: texts.type_kind,
+        width: count(&spec.width, texts.width),
+        precision: count(&spec.precision, texts.precision),
+        ty: texts.ty,
+        fill_span: maybe(&spec.fill_span),
+        width_span: maybe(&spec.width_span),
+        precision_span: maybe(&spec.precision_span),
+        ty_span: maybe(&spec.ty_span),
+    }
+}
+
+fn has_no_flags(spec: &FormatSpec<'_>) -> bool
+    ensures { result ≡ has_no_flags (seen_spec spec.now) }
+{
+    spec.fill.is_none()
+        && spec.fill_span.is_none()
+        && matches!(spec.align, Alignment::AlignUnknown)
+        && spec.sign.is_none()
+        && !spec.alternate
+        && !spec.zero_pad
+        && spec.debug_hex.is_none()
+}
+
+fn has_no_counts(spec: &FormatSpec<'_>) -> bool
+    ensures { result ≡ has_no_counts (seen_spec spec.now) }
+{
+    matches!(spec.width, Count::CountImplied)
+        && spec.width_span.is_none()
+        && matches!(spec.precision, Count::CountImplied)
+        && spec.precision_span.is_none()
+}
+
+fn is_empty(text: &str) -> bool
+    ensures { result ≡ is_nil (chars text.now) }
+{
+    text.is_empty()
+}
+
+/// The specification is the default one.
+fn is_default(spec: &FormatSpec<'_>) -> bool
+    ensures { result ≡ is_default (seen_spec spec.now) }
+{
+    has_no_flags(spec) && has_no_counts(spec) && is_empty(spec.ty) && spec.ty_span.is_none()
+}
+
+/// Writes a specification behind the `used` records, if it is not the default one and there is room, and gives its number.
+fn put_spec(spec: &FormatSpec<'_>, texts: &Texts, specs: &mut [Spec], used: &mut usize) -> usize
+    requires room { used.old < usize.MAX }
+    ensures told { (input : List ℕ) → SpecAt input texts.now (seen_spec spec.now) → used.new ≤ length specs.old → spec_at input specs.new result ≡ seen_spec spec.now }
+    ensures number { result ≤ used.new }
+    ensures used { used.new ≡ used.old + (if is_default (seen_spec spec.now) then 0 else 1) }
+    ensures front { take used.old specs.new ≡ take used.old specs.old }
+    ensures kept { drop used.new specs.new ≡ drop used.new specs.old }
+{
+    if is_default(spec) {
+        return 0;
+    }
+    if *used < specs.len() {
+        specs[*used] = spec_record(spec, texts);
+    }
+    *used += 1;
+    *used
+}
+
+const BLANK: Step = Step {
+    kind: PIECE_NONE,
+    position: POSITION_IMPLICIT,
+    number: 0,
+    text: NOWHERE,
+    position_span: NOWHERE,
+    spec: 0,
+    place: NO_EXTENT,
+    read: 0,
+    next: 0,
+    lines: 0,
+    peek: NO_EXTENT,
+    peek_ahead: NO_EXTENT,
+};
+
+/// A position: its kind and its number.
+fn position(position: &Position<'_>) -> (u32, usize)
+    ensures { (input : List ℕ) (r : ExtentRecord) → PositionAt (text_at input r) (seen_position position.now)
+        → position_meant input result.0 result.1 r ≡ seen_position position.now }
+{
+    match position {
+        Position::ArgumentImplicitlyIs(number) => (POSITION_IMPLICIT, *number),
+        Position::ArgumentIs(number) => (POSITION_INDEX, *number),
+        Position::ArgumentNamed(_) => (POSITION_NAMED, 0),
+    }
+}
+
+#[tactic(auto, unfolding(crate::specs::Meant::piece_meant))]
+fn argument(argument: &Argument<'_>, texts: &Texts, specs: &mut [Spec], used: &mut usize) -> Step
+    requires room { used.old < usize.MAX }
+    ensures told { (input : List ℕ) → PositionAt (text_at input texts.now.text) (seen_position argument.now.position)
+        → SpecAt input texts.now (seen_spec argument.now.format) → used.new ≤ length specs.old
+        → piece_meant input (spec_at input specs.new result.spec) result ≡ Some (NextArgument (seen_argument argument.now)) }
+    ensures number { result.spec ≤ used.new }
+    ensures used { used.new ≡ used.old + (if is_default (seen_spec argument.now.format) then 0 else 1) }
+    ensures front { take used.old specs.new ≡ take used.old specs.old }
+    ensures kept { drop used.new specs.new ≡ drop used.new specs.old }
+{
+    let (position, number) = position(&argument.position);
+    let spec = put_spec(&argument.format, texts, specs, used);
+    let mut step = BLANK;
+    step.kind = PIECE_ARGUMENT;
+    step.position = position;
+    step.number = number;
+    step.text = texts.text;
+    step.position_span = extent(&argument.position_span);
+    step.spec = spec;
+    step
+}
+
+/// The step of a piece whose texts stand there, with its piece alone. Its specification is written behind the `used`
+/// records, if it is not the default one and there is room.
+#[tactic(auto, unfolding(crate::specs::Meant::piece_meant))]
+pub fn piece(piece: &Option<Piece<'_>>, texts: &Texts, specs: &mut [Spec], used: &mut usize) -> Step
+    requires room { used.old < usize.MAX }
+    ensures told { (input : List ℕ) → PieceAt input texts.now (option_map seen piece.now) → used.new ≤ length specs.old
+        → piece_meant input (spec_at input specs.new result.spec) result ≡ option_map seen piece.now }
+    ensures number { result.spec ≤ used.new }
+    ensures used { used.new ≡ used.old + specs_in (option_map seen piece.now) }
+    ensures front { take used.old specs.new ≡ take used.old specs.old }
+    ensures kept { drop used.new specs.new ≡ drop used.new specs.old }
+{
+    match piece {
+        None => BLANK,
+        Some(Piece::Lit(_)) => {
+            let mut step = BLANK;
+            step.kind = PIECE_TEXT;
+            step.text = texts.text;
+            step
+        }
+        Some(Piece::NextArgument(argument_box)) => argument(argument_box, texts, specs, used),
+    }
+}

@@ -1,0 +1,67 @@
+//! The parser for callers in C and other languages: a whole input at once, into records of the caller's.
+#![tactic(auto)]
+
+mod errors;
+mod finders;
+mod flat;
+mod read;
+mod records;
+mod task;
+mod texts;
+mod walk;
+
+ghost use Rattle.std.specs.Prelude.{◌≡◌, ◌<◌, IfNone, IfSome, Some};
+ghost use Rattle.rustc_parse_format.specs.Types.{Mode};
+ghost use Rattle.dephungo.specs.Asked.{Buffers, Fits, IsCounted, IsKept, IsTold, begun, mode_meant, refusal};
+
+use crate::read::read;
+use crate::records::{Answer, DONE, Extent, Fault, NO_MEMORY, Options, SHORT, Spec, Step};
+use crate::task::task_of;
+use std::alloc::Global;
+
+/// Reads an input, call by call, up to and with the call at its end.
+#[unsafe(no_mangle)]
+pub extern "C" fn dephungo_read(
+    alloc: Global,
+    input: &[u8],
+    snippet: &[u8],
+    options: &Options,
+    steps: &mut [Step],
+    specs: &mut [Spec],
+    faults: &mut [Fault],
+    texts: &mut [u8],
+    lines: &mut [Extent],
+    answer: &mut Answer,
+) -> u32
+    // A call is refused exactly where it must be, and then nothing is written.
+    ensures refused { IfSome (refusal input.now snippet.now options.now) (λ e. result ≡ e) }
+    ensures accepted { IfNone (refusal input.now snippet.now options.now) (result < 3) }
+    ensures unwritten { IfSome (refusal input.now snippet.now options.now) (λ e. (answer.new ≡ answer.old)
+        × (◌≡◌ {A = Buffers} (record { steps = steps.new; specs = specs.new; faults = faults.new; texts = texts.new; lines = lines.new }) (record { steps = steps.old; specs = specs.old; faults = faults.old; texts = texts.old; lines = lines.old }))) }
+
+    // What is read is counted, and written where it fits, which the code says.
+    ensures counted { result < 2 → (m : Mode) → mode_meant options.now.mode ≡ Some m → IsCounted (begun m options.now input.now snippet.now) answer.new }
+    ensures told { result ≡ DONE → (m : Mode) → mode_meant options.now.mode ≡ Some m
+        → IsTold (begun m options.now input.now snippet.now) input.now
+        (record { steps = steps.new; specs = specs.new; faults = faults.new; texts = texts.new; lines = lines.new }) answer.new }
+    ensures done { result ≡ DONE → Fits (record { steps = steps.old; specs = specs.old; faults = faults.old; texts = texts.old; lines = lines.old }) answer.new }
+    ensures short { result ≡ SHORT → ¬ (Fits (record { steps = steps.old; specs = specs.old; faults = faults.old; texts = texts.old; lines = lines.old }) answer.new) }
+    ensures kept { result < 2 → IsKept answer.new (record { steps = steps.old; specs = specs.old; faults = faults.old; texts = texts.old; lines = lines.old })
+        (record { steps = steps.new; specs = specs.new; faults = faults.new; texts = texts.new; lines = lines.new }) }
+    ensures refused_memory { result ≡ NO_MEMORY → answer.new ≡ answer.old }
+{
+    let asked = match task_of(input, snippet, options) {
+        Ok(asked) => asked,
+        Err(code) => return code,
+    };
+    let Ok(found) = read(alloc, asked, steps, specs, faults, texts, lines) else {
+        return NO_MEMORY;
+    };
+    let fits = found.steps <= steps.len()
+        && found.specs <= specs.len()
+        && found.faults <= faults.len()
+        && found.texts <= texts.len()
+        && found.lines <= lines.len();
+    *answer = found;
+    if fits { DONE } else { SHORT }
+}

@@ -1,0 +1,190 @@
+//! The calls of a parser, one behind the other, as records.
+
+ghost use Rattle.std.specs.Prelude.{◌≡◌, ◌≢◌, ◌+◌, ◌<◌, ◌≤◌, ◌^◌, ◌++◌, [], List, Option, IfNone, IfOk, IfSome, IsFalse, IsTrue, OnOk, chars, drop, length, map, option_map, set, take};
+ghost use Rattle.rustc_parse_format.specs.Characters.{behind_first};
+ghost use Rattle.rustc_parse_format.specs.Lines.{listed};
+ghost use Rattle.rustc_parse_format.specs.Seen.{pair, seen};
+ghost use Rattle.rustc_parse_format.specs.State.{after, next_call};
+ghost use Rattle.rustc_parse_format.specs.World.{Place, piece_in};
+ghost use Rattle.dephungo.specs.Events.{add_finders, end_of, event, events, found_by, fronts_in, fronts_of, place_of_first, position, spec_count, specs_in, step_meant};
+ghost use Rattle.dephungo.specs.Meant.{maybe_place};
+ghost use Rattle.dephungo.specs.Stand.{EndsWith, IsAlong, IsGuided, PieceAt, PieceStands};
+
+use crate::finders::Finders;
+use crate::flat::{NO_EXTENT, maybe, piece};
+use crate::records::{MaybeExtent, Spec, Step};
+use crate::texts::{Texts, texts_of};
+use rustc_parse_format::{Parser, Piece};
+use std::alloc::AllocError;
+use std::ops::Range;
+
+/// A parser, and how the places of texts are known: its spans are so many bytes behind the places in the input; or else those
+/// of another parser are, which goes along, by one byte.
+#[derive(Drop)]
+pub struct Reading<'a> {
+    pub parser: Parser<'a>,
+    pub guide: Option<Parser<'a>>,
+    pub offset: usize,
+}
+
+/// How far the input was read, and where the next character stands in the source.
+pub fn next_place(parser: &Parser<'_>, input: &str) -> (usize, MaybeExtent)
+    requires { chars input.now ≡ parser.now.input }
+    ensures read { result.0 ≡ position parser.now.input parser.now.rest }
+    ensures place { maybe_place result.1 ≡ place_of_first parser.now parser.now.rest }
+{
+    match parser.peek() {
+        Some((place, at, _)) => (at, maybe(&Some(place))),
+        None => (input.len(), NO_EXTENT),
+    }
+}
+
+/// Where the character after the next one stands in the source.
+pub fn place_ahead(parser: &Parser<'_>) -> MaybeExtent
+    ensures { maybe_place result ≡ place_of_first parser.now (behind_first parser.now.rest) }
+{
+    match parser.peek_ahead() {
+        Some((place, _, _)) => maybe(&Some(place)),
+        None => NO_EXTENT,
+    }
+}
+
+/// The input is not at its end.
+fn has_more(parser: &Parser<'_>) -> bool
+    ensures more { IsTrue result → parser.now.rest ≢ [] }
+    ensures end { IsFalse result → parser.now.rest ≡ [] }
+{
+    parser.peek().is_some()
+}
+
+/// The place of an argument that came behind so many others.
+fn closed(places: &[Range<usize>], before: usize) -> MaybeExtent
+    ensures { (old : List Place) (p : Option Place) → before ≡ length old → map pair places.now ≡ old ++ listed p → maybe_place result ≡ p }
+{
+    match places.get(before) {
+        Some(place) => MaybeExtent {
+            there: 1,
+            from: place.start,
+            to: place.end,
+        },
+        None => NO_EXTENT,
+    }
+}
+
+/// One call, and how many of its errors were put in front.
+fn call<'a>(parser: &mut Parser<'a>) -> Result<(Option<Piece<'a>>, usize), AllocError>
+    ensures piece { IfOk result (λ p. option_map seen p.0 ≡ option_map (piece_in parser.old.world) (next_call parser.old).piece) }
+    ensures fronts { IfOk result (λ p. p.1 ≡ fronts_in (next_call parser.old)) }
+    ensures state { OnOk result (parser.new ≡ after parser.old (next_call parser.old)) }
+{
+    parser.next_with_fronts()
+}
+
+/// Where the texts of the piece stand that a call gave: by its own spans, or by those of the guide's call.
+fn texts_at(
+    guide: &mut Option<Parser<'_>>,
+    input: &str,
+    offset: usize,
+    read: usize,
+    given: &Option<Piece<'_>>,
+) -> Result<Texts, AllocError>
+    requires alone { IfNone guide.old (PieceStands input.now offset read (option_map seen given.now)) }
+    requires along { IfSome guide.old (λ g. IsAlong g input.now read) }
+    ensures alone { IfOk result (λ x. IfNone guide.old (PieceAt input.now x (option_map seen given.now))) }
+    ensures along { IfOk result (λ x. IfSome guide.old (λ g. PieceAt input.now x (option_map (piece_in g.world) (next_call g).piece))) }
+    ensures state { OnOk result (guide.new ≡ option_map (λ g. after g (next_call g)) guide.old) }
+{
+    match guide {
+        None => Ok(texts_of(input, offset, read, given)),
+        Some(parser) => {
+            let same = parser.next()?;
+            Ok(texts_of(input, 1, read, &same))
+        }
+    }
+}
+
+/// The call with this number, as its step.
+fn step(
+    reading: &mut Reading<'_>,
+    input: &str,
+    number: usize,
+    finders: &mut Finders,
+    specs: &mut [Spec],
+    used: &mut usize,
+) -> Result<Step, AllocError>
+    requires input { chars input.now ≡ reading.old.parser.input }
+    requires left { EndsWith reading.old.parser.input reading.old.parser.rest }
+    requires guided { IsGuided reading.old.parser reading.old.offset reading.old.guide }
+    requires room { used.old < usize.MAX }
+    ensures told { IfOk result (λ x. used.new ≤ length specs.old → step_meant input.now specs.new x ≡ event reading.old.parser) }
+    ensures number { IfOk result (λ x. x.spec ≤ used.new) }
+    ensures used { OnOk result (used.new ≡ used.old + specs_in (event reading.old.parser).piece) }
+    ensures front { OnOk result (take used.old specs.new ≡ take used.old specs.old) }
+    ensures kept { OnOk result (drop used.new specs.new ≡ drop used.new specs.old) }
+    ensures state { OnOk result (reading.new.parser ≡ after reading.old.parser (next_call reading.old.parser)) }
+    ensures guided { OnOk result (IsGuided reading.new.parser reading.new.offset reading.new.guide) }
+    ensures finders { OnOk result (finders.new.calls ≡ add_finders number finders.old.calls (next_call reading.old.parser).faults) }
+    ensures fronts { OnOk result (finders.new.fronts ≡ finders.old.fronts + fronts_in (next_call reading.old.parser)) }
+{
+    let faults = reading.parser.errors().len();
+    let places = reading.parser.arg_places().len();
+    let (given, fronts) = call(&mut reading.parser)?;
+    let (read, peek) = next_place(&reading.parser, input);
+    let texts = texts_at(&mut reading.guide, input, reading.offset, read, &given)?;
+    finders.add(number, fronts, reading.parser.errors().len() - faults)?;
+    let mut step = piece(&given, &texts, specs, used);
+    step.place = closed(reading.parser.arg_places(), places);
+    step.read = read;
+    step.next = reading.parser.curarg();
+    step.lines = reading.parser.line_spans().len();
+    step.peek = peek;
+    step.peek_ahead = place_ahead(&reading.parser);
+    Ok(step)
+}
+
+/// Writes a step behind so many others, if there is room.
+fn put(steps: &mut [Step], count: usize, step: Step)
+    ensures put { count < length steps.old → steps.new ≡ set steps.old count step }
+    ensures full { length steps.old ≤ count → steps.new ≡ steps.old }
+{
+    if count < steps.len() {
+        steps[count] = step;
+    }
+}
+
+/// All calls up to and with the one at the end of the input: how many there are, and how many specifications. What fits is
+/// written.
+pub fn walk(
+    reading: &mut Reading<'_>,
+    input: &str,
+    finders: &mut Finders,
+    steps: &mut [Step],
+    specs: &mut [Spec],
+) -> Result<(usize, usize), AllocError>
+    requires input { chars input.now ≡ reading.old.parser.input }
+    requires left { EndsWith reading.old.parser.input reading.old.parser.rest }
+    requires guided { IsGuided reading.old.parser reading.old.offset reading.old.guide }
+    requires small { length reading.old.parser.rest < 2 ^ 63 }
+    requires none { finders.old.calls ≡ [] }
+    requires no_fronts { finders.old.fronts ≡ 0 }
+    ensures count { IfOk result (λ k. k.0 ≡ length (events reading.old.parser)) }
+    ensures specs { IfOk result (λ k. k.1 ≡ spec_count reading.old.parser) }
+    ensures written { IfOk result (λ k. k.0 ≤ length steps.old → k.1 ≤ length specs.old
+        → map (step_meant input.now specs.new) (take k.0 steps.new) ≡ events reading.old.parser) }
+    ensures state { OnOk result (reading.new.parser ≡ end_of reading.old.parser) }
+    ensures finders { OnOk result (finders.new.calls ≡ found_by reading.old.parser) }
+    ensures fronts { OnOk result (finders.new.fronts ≡ fronts_of reading.old.parser) }
+    ensures kept_steps { IfOk result (λ k. drop k.0 steps.new ≡ drop k.0 steps.old) }
+    ensures kept_specs { IfOk result (λ k. drop k.1 specs.new ≡ drop k.1 specs.old) }
+{
+    let mut count = 0;
+    let mut used = 0;
+    while has_more(&reading.parser) {
+        let step = step(reading, input, count, finders, specs, &mut used)?;
+        put(steps, count, step);
+        count += 1;
+    }
+    let step = step(reading, input, count, finders, specs, &mut used)?;
+    put(steps, count, step);
+    Ok((count + 1, used))
+}
