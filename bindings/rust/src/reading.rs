@@ -2,6 +2,7 @@
 use crate::call::{read, Buffers};
 use crate::records::{self, Answer, Extent, Fault, Options, Spec, Step};
 use std::cell::Cell;
+use std::mem::size_of_val;
 
 thread_local! {
     static SPARE: Cell<Option<Box<Buffers>>> = const { Cell::new(None) };
@@ -10,9 +11,8 @@ thread_local! {
 /// From this length on the room that an input takes is looked at before it is read.
 const LONG_INPUT: usize = 4096;
 
-/// Buffers with more steps, or more bytes of texts, are not kept.
-const KEPT_STEPS: usize = 4096;
-const KEPT_TEXTS: usize = 1 << 18;
+/// Buffers that take more bytes are not kept.
+const KEPT_BYTES: usize = 1 << 20;
 
 /// What a call of the static library wrote.
 pub struct Reading {
@@ -84,7 +84,7 @@ impl Reading {
 impl Drop for Reading {
     fn drop(&mut self) {
         let spare = self.buffers.take();
-        if spare.as_ref().is_some_and(|b| b.steps.len() <= KEPT_STEPS && b.texts.len() <= KEPT_TEXTS) {
+        if spare.as_ref().is_some_and(|buffers| bytes_of(buffers) <= KEPT_BYTES) {
             // A thread that ends keeps nothing.
             let _ = SPARE.try_with(|kept| kept.set(spare));
         }
@@ -110,6 +110,14 @@ fn make_room(buffers: &mut Buffers, input: &str) {
     grow(&mut buffers.steps, 2 * count(|byte| matches!(byte, b'{' | b'}')) + 2);
     grow(&mut buffers.specs, count(|byte| byte == b':'));
     grow(&mut buffers.lines, count(|byte| byte == b'\n') + 1);
+}
+
+fn bytes_of(buffers: &Buffers) -> usize {
+    size_of_val(&buffers.steps[..])
+        + size_of_val(&buffers.specs[..])
+        + size_of_val(&buffers.faults[..])
+        + size_of_val(&buffers.texts[..])
+        + size_of_val(&buffers.lines[..])
 }
 
 fn grow<T: Clone + Default>(buffer: &mut Vec<T>, room: usize) {

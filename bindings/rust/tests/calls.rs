@@ -180,6 +180,8 @@ fn more_than_the_first_buffers_hold() {
 
 #[test]
 fn parsers_beside_each_other_and_in_threads() {
+    fn goes_anywhere<T: Send + Sync>() {}
+    goes_anywhere::<Parser<'_>>();
     let mut first = Parser::new("a{x}", None, None, false, ParseMode::Format);
     let mut second = Parser::new("b{y}", None, None, false, ParseMode::Format);
     assert_eq!((first.next(), second.next()), (Some(Piece::Lit("a")), Some(Piece::Lit("b"))));
