@@ -128,11 +128,11 @@ fn places_and_lines_of_a_source_literal() {
     assert_eq!(pieces.len(), 3);
     let Piece::NextArgument(argument) = &pieces[1] else { panic!("no argument") };
     assert_eq!((argument.position_span.clone(), &argument.format.width), (6..7, &CountIsName("w", 8..9)));
-    assert_eq!(parser.arg_places, [5..11]);
+    assert_eq!((parser.arg_places.len(), &parser.arg_places[0]), (1, &(5..11)));
     assert_eq!(parser.line_spans, [1..11, 15..16]);
     parser.line_spans.clear();
     parser.next();
-    assert_eq!(parser.line_spans, [15..16]);
+    assert_eq!((parser.line_spans.len(), &parser.line_spans[0]), (1, &(15..16)));
 }
 
 #[test]
