@@ -106,10 +106,13 @@ fn small_buffers() -> Box<Buffers> {
 /// text ends at a brace or at the end of the input, and any other takes a brace; a specification takes a colon, and each
 /// line but the last one a newline.
 fn make_room(buffers: &mut Buffers, input: &str) {
-    let count = |wanted: fn(u8) -> bool| input.bytes().filter(|&byte| wanted(byte)).count();
-    grow(&mut buffers.steps, 2 * count(|byte| matches!(byte, b'{' | b'}')) + 2);
-    grow(&mut buffers.specs, count(|byte| byte == b':'));
-    grow(&mut buffers.lines, count(|byte| byte == b'\n') + 1);
+    grow(&mut buffers.steps, 2 * count(input, |byte| matches!(byte, b'{' | b'}')) + 2);
+    grow(&mut buffers.specs, count(input, |byte| byte == b':'));
+    grow(&mut buffers.lines, count(input, |byte| byte == b'\n') + 1);
+}
+
+fn count(input: &str, wanted: impl Fn(u8) -> bool) -> usize {
+    input.bytes().filter(|&byte| wanted(byte)).count()
 }
 
 fn bytes_of(buffers: &Buffers) -> usize {
