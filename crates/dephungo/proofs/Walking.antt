@@ -16,6 +16,7 @@ use Rattle.rustc_parse_format.specs.Lines.{closed_in}
 use Rattle.dephungo.specs.Meant.{maybe_place, piece_meant, spec_at}
 use Rattle.dephungo.specs.Events.{place_of_first, position, Event, event, events, calls, end_of, found_by, finders_from, add_finders, fronts_in, fronts_of, spec_count, specs_in, is_default, states, states_for, step_meant}
 use Rattle.dephungo.specs.Held.{Found}
+use Rattle.dephungo.specs.Stand.{IsAdded}
 use Rattle.dephungo.proofs.Finding.{length-add_finders, length-after}
 use Rattle.dephungo.proofs.Lists.{keep_more, keep_put}
 use Rattle.dephungo.proofs.Specs.{spec_at-front}
@@ -99,8 +100,8 @@ pub record IsUpTo (input : List ℕ) (s0 : State) (todo : List State) (s : State
   pub few : AllFew used (take count steps)
   pub written : count ≤ length steps → used ≤ length specs → map (step_meant input specs) (take count steps) ++ map event todo ≡ events s0
 
--- a step that was put where there is room
-abbrev pub IsPut : List Step → ℕ → Step → List Step → Type 0
+-- a step was put where there is room
+abbrev IsPut : List Step → ℕ → Step → List Step → Type 0
 IsPut old count r new = (count < length old → new ≡ set old count r) × (length old ≤ count → new ≡ old)
 
 put_few : (k j : ℕ) (old new : List Step) (count : ℕ) (r : Step) → IsPut old count r new → k ≤ j → r.spec ≤ j → AllFew k (take count old) → AllFew j (take (count + 1) new)
@@ -117,12 +118,14 @@ put_length count old new r put = by_room (cases_lt count (length old))
     by_room (inl room) = ap length (put.0 room) ∙ length-set old count r
     by_room (inr full) = ap length (put.1 full)
 
-pub one_more : (input : List ℕ) (s0 s new : State) (todo : List State) (count used used' : ℕ) (found found' : Found) (steps steps' : List Step) (specs specs' : List SpecRecord) (r : Step) →
+pub one_more : (input : List ℕ) (s0 s new : State) (todo : List State) (count used used' : ℕ) (found found' : Found) (steps steps' : List Step) (specs specs' : List SpecRecord) →
     IsUpTo input s0 (s ∷ todo) s count used found steps specs → new ≡ after s (next_call s) → used' ≡ used + specs_in (event s).piece →
     found'.calls ≡ add_finders count found.calls (next_call s).faults → found'.fronts ≡ found.fronts + fronts_in (next_call s) →
-    r.spec ≤ used' → (used' ≤ length specs → step_meant input specs' r ≡ event s) → take used specs' ≡ take used specs → length specs' ≡ length specs → IsPut steps count r steps' →
+    IsAdded input s count used' steps steps' specs' → take used specs' ≡ take used specs → length specs' ≡ length specs →
     IsUpTo input s0 todo new (count + 1) used' found' steps' specs'
-one_more input s0 s new todo count used used' found found' steps steps' specs specs' r h state more finders fronts few told front long put =
+one_more input s0 s new todo count used used' found found' steps steps' specs specs' h state more finders fronts added front long =
+    let r = added.step in
+    let put = added.put in
     let one = specs_in-le (event s).piece in
     let wide : used ≤ used' = omega (arith, more) in
     record {
@@ -132,26 +135,26 @@ one_more input s0 s new todo count used used' found found' steps steps' specs sp
       state = rw state h.state;
       finders = rw (add-one, finders) h.finders;
       fronts = omega (arith, h.fronts, fronts, sum_by-cons fronts_in (next_call s) (map next_call todo));
-      few = put_few used used' steps steps' count r put wide few h.few;
+      few = put_few used used' steps steps' count r put wide added.few h.few;
       written = λ room specs_room.
           let there = put_length count steps steps' r put in
           let fits : count < length steps = omega (arith, there, room) in
-          let in_specs : used' ≤ length specs = omega (arith, long, specs_room) in
+          let in_specs : used' ≤ length specs' = omega (arith, long, specs_room) in
           let earlier = h.written (omega arith) (omega arith) in
           rw (put.0 fits, take_more_set steps count r fits, map-append (step_meant input specs') (take count steps) (r ∷ []))
           (append_assoc (map (step_meant input specs') (take count steps)) (step_meant input specs' r ∷ []) (map event todo)
           ∙ ap (λ l. l ++ (step_meant input specs' r ∷ map event todo)) (same_meant input specs' specs used (take count steps) front h.few)
-          ∙ ap (λ e. map (step_meant input specs) (take count steps) ++ (e ∷ map event todo)) (told in_specs)
+          ∙ ap (λ e. map (step_meant input specs) (take count steps) ++ (e ∷ map event todo)) (added.told in_specs)
           ∙ earlier);
     }
 
 -- What was not written yet.
-pub kept_put : (old new orig : List Step) (count : ℕ) (r : Step) → IsPut old count r new → drop count old ≡ drop count orig → drop (count + 1) new ≡ drop (count + 1) orig
-kept_put old new orig count r put h = by_room (cases_lt count (length old))
+pub kept_put : (input : List ℕ) (s : State) (old new orig : List Step) (specs : List SpecRecord) (count used : ℕ) → IsAdded input s count used old new specs → drop count old ≡ drop count orig → drop (count + 1) new ≡ drop (count + 1) orig
+kept_put input s old new orig specs count used added h = by_room (cases_lt count (length old))
   where
     by_room : (count < length old) ⊎ (length old ≤ count) → drop (count + 1) new ≡ drop (count + 1) orig
-    by_room (inl room) = rw (put.0 room) (keep_put old orig count r h)
-    by_room (inr full) = rw (put.1 full) (keep_more old orig count h)
+    by_room (inl room) = rw (added.put.0 room) (keep_put old orig count added.step h)
+    by_room (inr full) = rw (added.put.1 full) (keep_more old orig count h)
 
 -- A step tells of its call.
 pub told : (input : List ℕ) (specs : List SpecRecord) (r : Step) (s t : State) → t ≡ after s (next_call s) →

@@ -1,13 +1,17 @@
 -- Where the texts of a piece stand in the input: private words, for contracts of private functions.
-use Rattle.std.specs.Prelude.{◌≡◌, ◌≢◌, ℕ, ◌+◌, ◌-◌, ◌≤◌, ◌⊎◌, List, [], ◌∷◌, ◌++◌, length, Bool, Option, Some, None, chars, codes, encode_utf8_all, slice_range}
+use Rattle.std.specs.Prelude.{◌≡◌, ◌≢◌, ℕ, ◌+◌, ◌-◌, ◌<◌, ◌≤◌, ◌⊎◌, List, [], ◌∷◌, ◌++◌, length, set, option_map, Bool, Option, Some, None, chars, codes, encode_utf8_all, slice_range}
 use Rattle.rustc_parse_format.specs.Characters.{Text}
 use Rattle.rustc_parse_format.specs.Characters.{byte_length}
 use Rattle.rustc_parse_format.specs.Types.{Position, Implicit, Index, Named, Count, Is, Name, Param, Star, Implied, Spec, Argument, Piece, Lit, NextArgument}
 use Rattle.rustc_parse_format.specs.World.{Place, plain_world}
 use Rattle.rustc_parse_format.specs.State.{State, next_call}
 use Rattle.rustc_parse_format.specs.Agreement.{Agree}
+use Rattle.std.specs.declared.alloc.Global.{Global}
+use Rattle.std.specs.declared.boxed.Box.{Box}
+use Rattle.dephungo.specs.declared.records.Step.{Step}
+use Rattle.dephungo.specs.declared.records.Spec.{Spec as SpecRecord}
 use Rattle.dephungo.specs.declared.texts.Texts.{Texts}
-use Rattle.dephungo.specs.Events.{position}
+use Rattle.dephungo.specs.Events.{event, position, step_meant}
 use Rattle.dephungo.specs.Meant.{text_at, type_meant}
 
 -- these bytes stand there
@@ -88,6 +92,10 @@ PieceAt input x (Some (NextArgument a)) = PositionAt (text_at input x.text) a.po
 abbrev pub IsPlain : State → ℕ → Type 0
 IsPlain s offset = (b : Bool) × (e : ℕ) × (s.world ≡ plain_world b offset s.input e)
 
+-- the parser that goes along
+abbrev pub guide_of : Option (Box State Global) → Option State
+guide_of g = option_map (λ b. b.value) g
+
 -- so are its own, or those of another parser that goes along, one byte later
 abbrev pub IsGuided : State → ℕ → Option State → Type 0
 IsGuided s offset None = IsPlain s offset
@@ -103,3 +111,10 @@ pub record IsAlong (s : State) (input : List ℕ) (read : ℕ) : Type 0 where
   pub input_is : chars input ≡ s.input
   pub left : EndsWith s.input s.rest
   pub reads : read ≡ position s.input (next_call s).rest
+
+-- where there is room, a step was put that tells of the call at s, with so many specifications by then
+pub record IsAdded (input : List ℕ) (s : State) (count used : ℕ) (old new : List Step) (specs : List SpecRecord) : Type 0 where
+  pub step : Step
+  pub put : (count < length old → new ≡ set old count step) × (length old ≤ count → new ≡ old)
+  pub few : step.spec ≤ used
+  pub told : used ≤ length specs → step_meant input specs step ≡ event s

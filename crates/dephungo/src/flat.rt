@@ -203,21 +203,6 @@ fn put_spec(spec: &FormatSpec<'_>, texts: &Texts, specs: &mut [Spec], used: &mut
     *used
 }
 
-const BLANK: Step = Step {
-    kind: PIECE_NONE,
-    position: POSITION_IMPLICIT,
-    number: 0,
-    text: NOWHERE,
-    position_span: NOWHERE,
-    spec: 0,
-    place: NO_EXTENT,
-    read: 0,
-    next: 0,
-    lines: 0,
-    peek: NO_EXTENT,
-    peek_ahead: NO_EXTENT,
-};
-
 /// A position: its kind and its number.
 fn position(position: &Position<'_>) -> (u32, usize)
     ensures { (input : List ℕ) (r : ExtentRecord) → PositionAt (text_at input r) (seen_position position.now)
@@ -231,48 +216,66 @@ fn position(position: &Position<'_>) -> (u32, usize)
 }
 
 #[tactic(auto, unfolding(crate::specs::Meant::piece_meant))]
-fn argument(argument: &Argument<'_>, texts: &Texts, specs: &mut [Spec], used: &mut usize) -> Step
+fn argument(
+    argument: &Argument<'_>,
+    texts: &Texts,
+    specs: &mut [Spec],
+    used: &mut usize,
+    step: &mut Step,
+)
     requires room { used.old < usize.MAX }
     ensures told { (input : List ℕ) → PositionAt (text_at input texts.now.text) (seen_position argument.now.position)
         → SpecAt input texts.now (seen_spec argument.now.format) → used.new ≤ length specs.old
-        → piece_meant input (spec_at input specs.new result.spec) result ≡ Some (NextArgument (seen_argument argument.now)) }
-    ensures number { result.spec ≤ used.new }
+        → piece_meant input (spec_at input specs.new step.new.spec) step.new ≡ Some (NextArgument (seen_argument argument.now)) }
+    ensures number { step.new.spec ≤ used.new }
     ensures used { used.new ≡ used.old + (if is_default (seen_spec argument.now.format) then 0 else 1) }
     ensures front { take used.old specs.new ≡ take used.old specs.old }
     ensures kept { drop used.new specs.new ≡ drop used.new specs.old }
 {
     let (position, number) = position(&argument.position);
-    let spec = put_spec(&argument.format, texts, specs, used);
-    let mut step = BLANK;
     step.kind = PIECE_ARGUMENT;
     step.position = position;
     step.number = number;
     step.text = texts.text;
     step.position_span = extent(&argument.position_span);
-    step.spec = spec;
-    step
+    step.spec = put_spec(&argument.format, texts, specs, used);
 }
 
-/// The step of a piece whose texts stand there, with its piece alone. Its specification is written behind the `used`
-/// records, if it is not the default one and there is room.
+/// A step of no argument.
+fn bare(kind: u32, text: Extent, step: &mut Step)
+    ensures kind { step.new.kind ≡ kind }
+    ensures text { step.new.text ≡ text }
+    ensures spec { step.new.spec ≡ 0 }
+{
+    step.kind = kind;
+    step.position = POSITION_IMPLICIT;
+    step.number = 0;
+    step.text = text;
+    step.position_span = NOWHERE;
+    step.spec = 0;
+}
+
+/// Writes a piece whose texts stand there into its step, and its specification behind the `used` records, if it is not the
+/// default one and there is room.
 #[tactic(auto, unfolding(crate::specs::Meant::piece_meant))]
-pub fn piece(piece: &Option<Piece<'_>>, texts: &Texts, specs: &mut [Spec], used: &mut usize) -> Step
+pub fn put_piece(
+    piece: &Option<Piece<'_>>,
+    texts: &Texts,
+    specs: &mut [Spec],
+    used: &mut usize,
+    step: &mut Step,
+)
     requires room { used.old < usize.MAX }
     ensures told { (input : List ℕ) → PieceAt input texts.now (option_map seen piece.now) → used.new ≤ length specs.old
-        → piece_meant input (spec_at input specs.new result.spec) result ≡ option_map seen piece.now }
-    ensures number { result.spec ≤ used.new }
+        → piece_meant input (spec_at input specs.new step.new.spec) step.new ≡ option_map seen piece.now }
+    ensures number { step.new.spec ≤ used.new }
     ensures used { used.new ≡ used.old + specs_in (option_map seen piece.now) }
     ensures front { take used.old specs.new ≡ take used.old specs.old }
     ensures kept { drop used.new specs.new ≡ drop used.new specs.old }
 {
     match piece {
-        None => BLANK,
-        Some(Piece::Lit(_)) => {
-            let mut step = BLANK;
-            step.kind = PIECE_TEXT;
-            step.text = texts.text;
-            step
-        }
-        Some(Piece::NextArgument(argument_box)) => argument(argument_box, texts, specs, used),
+        None => bare(PIECE_NONE, NOWHERE, step),
+        Some(Piece::Lit(_)) => bare(PIECE_TEXT, texts.text, step),
+        Some(Piece::NextArgument(boxed)) => argument(boxed, texts, specs, used, step),
     }
 }

@@ -5,7 +5,7 @@ ghost use Rattle.rustc_parse_format.specs.Seen.{pair};
 ghost use Rattle.rustc_parse_format.specs.World.{hashes, quote_offset};
 ghost use Rattle.dephungo.specs.Asked.{Fits, IsCounted, IsKept, IsTold, asked_state, limit};
 ghost use Rattle.dephungo.specs.Meant.{place};
-ghost use Rattle.dephungo.specs.Stand.{IsGuided};
+ghost use Rattle.dephungo.specs.Stand.{IsGuided, guide_of};
 
 use crate::errors::put_errors;
 use crate::finders::Finders;
@@ -43,7 +43,7 @@ fn begin(alloc: Global, asked: Task<'_>) -> Result<Reading<'_>, AllocError>
     requires input_length { length asked.input.now ≤ limit }
     requires hashes { hashes asked.style ≤ limit }
     ensures start { IfOk result (λ r. r.parser ≡ asked_state asked.entry) }
-    ensures guided { IfOk result (λ r. IsGuided r.parser r.offset r.guide) }
+    ensures guided { IfOk result (λ r. IsGuided r.parser r.offset (guide_of r.guide)) }
     ensures short { IfOk result (λ r. length r.parser.rest ≤ length asked.entry.input.now) }
 {
     let Task {
@@ -56,7 +56,8 @@ fn begin(alloc: Global, asked: Task<'_>) -> Result<Reading<'_>, AllocError>
     let snippet = owned(alloc, snippet)?;
     let parser = Parser::new(alloc, input, style, snippet, appended_newline, mode)?;
     let guide = if parser.is_source_literal() && style.is_none() {
-        Some(Parser::new(alloc, input, None, None, false, mode)?)
+        let guide = Parser::new(alloc, input, None, None, false, mode)?;
+        Some(Box::new(alloc, guide)?)
     } else {
         None
     };

@@ -1,6 +1,6 @@
 //! The calls of a parser, one behind the other, as records.
 
-ghost use Rattle.std.specs.Prelude.{◌≡◌, ◌≢◌, ◌+◌, ◌<◌, ◌≤◌, ◌^◌, ◌++◌, [], List, Option, IfNone, IfOk, IfSome, IsFalse, IsTrue, OnOk, chars, drop, length, map, option_map, set, take};
+ghost use Rattle.std.specs.Prelude.{◌≡◌, ◌+◌, ◌<◌, ◌≤◌, ◌^◌, ◌++◌, [], List, Option, IfNone, IfOk, IfSome, OnOk, chars, drop, length, map, option_map, take};
 ghost use Rattle.rustc_parse_format.specs.Characters.{behind_first};
 ghost use Rattle.rustc_parse_format.specs.Lines.{listed};
 ghost use Rattle.rustc_parse_format.specs.Seen.{pair, seen};
@@ -8,22 +8,38 @@ ghost use Rattle.rustc_parse_format.specs.State.{after, next_call};
 ghost use Rattle.rustc_parse_format.specs.World.{Place, piece_in};
 ghost use Rattle.dephungo.specs.Events.{add_finders, end_of, event, events, found_by, fronts_in, fronts_of, place_of_first, position, spec_count, specs_in, step_meant};
 ghost use Rattle.dephungo.specs.Meant.{maybe_place};
-ghost use Rattle.dephungo.specs.Stand.{EndsWith, IsAlong, IsGuided, PieceAt, PieceStands};
+ghost use Rattle.dephungo.specs.Stand.{EndsWith, IsAdded, IsAlong, IsGuided, PieceAt, PieceStands, guide_of};
 
 use crate::finders::Finders;
-use crate::flat::{NO_EXTENT, maybe, piece};
-use crate::records::{MaybeExtent, Spec, Step};
+use crate::flat::{NO_EXTENT, NOWHERE, maybe, put_piece};
+use crate::records::{MaybeExtent, PIECE_NONE, POSITION_IMPLICIT, Spec, Step};
 use crate::texts::{Texts, texts_of};
 use rustc_parse_format::{Parser, Piece};
 use std::alloc::AllocError;
 use std::ops::Range;
+
+/// A step that tells of nothing.
+const BLANK: Step = Step {
+    kind: PIECE_NONE,
+    position: POSITION_IMPLICIT,
+    number: 0,
+    text: NOWHERE,
+    position_span: NOWHERE,
+    spec: 0,
+    place: NO_EXTENT,
+    read: 0,
+    next: 0,
+    lines: 0,
+    peek: NO_EXTENT,
+    peek_ahead: NO_EXTENT,
+};
 
 /// A parser, and how the places of texts are known: its spans are so many bytes behind the places in the input; or else those
 /// of another parser are, which goes along, by one byte.
 #[derive(Drop)]
 pub struct Reading<'a> {
     pub parser: Parser<'a>,
-    pub guide: Option<Parser<'a>>,
+    pub guide: Option<Box<Parser<'a>>>,
     pub offset: usize,
 }
 
@@ -49,14 +65,6 @@ pub fn place_ahead(parser: &Parser<'_>) -> MaybeExtent
     }
 }
 
-/// The input is not at its end.
-fn has_more(parser: &Parser<'_>) -> bool
-    ensures more { IsTrue result → parser.now.rest ≢ [] }
-    ensures end { IsFalse result → parser.now.rest ≡ [] }
-{
-    parser.peek().is_some()
-}
-
 /// The place of an argument that came behind so many others.
 fn closed(places: &[Range<usize>], before: usize) -> MaybeExtent
     ensures { (old : List Place) (p : Option Place) → before ≡ length old → map pair places.now ≡ old ++ listed p → maybe_place result ≡ p }
@@ -71,28 +79,19 @@ fn closed(places: &[Range<usize>], before: usize) -> MaybeExtent
     }
 }
 
-/// One call, and how many of its errors were put in front.
-fn call<'a>(parser: &mut Parser<'a>) -> Result<(Option<Piece<'a>>, usize), AllocError>
-    ensures piece { IfOk result (λ p. option_map seen p.0 ≡ option_map (piece_in parser.old.world) (next_call parser.old).piece) }
-    ensures fronts { IfOk result (λ p. p.1 ≡ fronts_in (next_call parser.old)) }
-    ensures state { OnOk result (parser.new ≡ after parser.old (next_call parser.old)) }
-{
-    parser.next_with_fronts()
-}
-
 /// Where the texts of the piece stand that a call gave: by its own spans, or by those of the guide's call.
 fn texts_at(
-    guide: &mut Option<Parser<'_>>,
+    guide: &mut Option<Box<Parser<'_>>>,
     input: &str,
     offset: usize,
     read: usize,
     given: &Option<Piece<'_>>,
 ) -> Result<Texts, AllocError>
-    requires alone { IfNone guide.old (PieceStands input.now offset read (option_map seen given.now)) }
-    requires along { IfSome guide.old (λ g. IsAlong g input.now read) }
-    ensures alone { IfOk result (λ x. IfNone guide.old (PieceAt input.now x (option_map seen given.now))) }
-    ensures along { IfOk result (λ x. IfSome guide.old (λ g. PieceAt input.now x (option_map (piece_in g.world) (next_call g).piece))) }
-    ensures state { OnOk result (guide.new ≡ option_map (λ g. after g (next_call g)) guide.old) }
+    requires alone { IfNone (guide_of guide.old) (PieceStands input.now offset read (option_map seen given.now)) }
+    requires along { IfSome (guide_of guide.old) (λ g. IsAlong g input.now read) }
+    ensures alone { IfOk result (λ x. IfNone (guide_of guide.old) (PieceAt input.now x (option_map seen given.now))) }
+    ensures along { IfOk result (λ x. IfSome (guide_of guide.old) (λ g. PieceAt input.now x (option_map (piece_in g.world) (next_call g).piece))) }
+    ensures state { OnOk result (guide_of guide.new ≡ option_map (λ g. after g (next_call g)) (guide_of guide.old)) }
 {
     match guide {
         None => Ok(texts_of(input, offset, read, given)),
@@ -103,7 +102,7 @@ fn texts_at(
     }
 }
 
-/// The call with this number, as its step.
+/// The call with this number, into its step.
 fn step(
     reading: &mut Reading<'_>,
     input: &str,
@@ -111,44 +110,71 @@ fn step(
     finders: &mut Finders,
     specs: &mut [Spec],
     used: &mut usize,
-) -> Result<Step, AllocError>
+    step: &mut Step,
+) -> Result<(), AllocError>
     requires input { chars input.now ≡ reading.old.parser.input }
     requires left { EndsWith reading.old.parser.input reading.old.parser.rest }
-    requires guided { IsGuided reading.old.parser reading.old.offset reading.old.guide }
+    requires guided { IsGuided reading.old.parser reading.old.offset (guide_of reading.old.guide) }
     requires room { used.old < usize.MAX }
-    ensures told { IfOk result (λ x. used.new ≤ length specs.old → step_meant input.now specs.new x ≡ event reading.old.parser) }
-    ensures number { IfOk result (λ x. x.spec ≤ used.new) }
+    ensures told { OnOk result (used.new ≤ length specs.old → step_meant input.now specs.new step.new ≡ event reading.old.parser) }
+    ensures number { OnOk result (step.new.spec ≤ used.new) }
     ensures used { OnOk result (used.new ≡ used.old + specs_in (event reading.old.parser).piece) }
     ensures front { OnOk result (take used.old specs.new ≡ take used.old specs.old) }
     ensures kept { OnOk result (drop used.new specs.new ≡ drop used.new specs.old) }
     ensures state { OnOk result (reading.new.parser ≡ after reading.old.parser (next_call reading.old.parser)) }
-    ensures guided { OnOk result (IsGuided reading.new.parser reading.new.offset reading.new.guide) }
+    ensures read { OnOk result (step.new.read ≡ position reading.new.parser.input reading.new.parser.rest) }
+    ensures guided { OnOk result (IsGuided reading.new.parser reading.new.offset (guide_of reading.new.guide)) }
     ensures finders { OnOk result (finders.new.calls ≡ add_finders number finders.old.calls (next_call reading.old.parser).faults) }
     ensures fronts { OnOk result (finders.new.fronts ≡ finders.old.fronts + fronts_in (next_call reading.old.parser)) }
 {
     let faults = reading.parser.errors().len();
     let places = reading.parser.arg_places().len();
-    let (given, fronts) = call(&mut reading.parser)?;
+    let (given, fronts) = reading.parser.next_with_fronts()?;
     let (read, peek) = next_place(&reading.parser, input);
     let texts = texts_at(&mut reading.guide, input, reading.offset, read, &given)?;
     finders.add(number, fronts, reading.parser.errors().len() - faults)?;
-    let mut step = piece(&given, &texts, specs, used);
+    put_piece(&given, &texts, specs, used, step);
     step.place = closed(reading.parser.arg_places(), places);
     step.read = read;
     step.next = reading.parser.curarg();
     step.lines = reading.parser.line_spans().len();
     step.peek = peek;
     step.peek_ahead = place_ahead(&reading.parser);
-    Ok(step)
+    Ok(())
 }
 
-/// Writes a step behind so many others, if there is room.
-fn put(steps: &mut [Step], count: usize, step: Step)
-    ensures put { count < length steps.old → steps.new ≡ set steps.old count step }
-    ensures full { length steps.old ≤ count → steps.new ≡ steps.old }
+/// The call with this number, written behind so many steps, if there is room: how far the input was read.
+fn add_step(
+    reading: &mut Reading<'_>,
+    input: &str,
+    number: usize,
+    finders: &mut Finders,
+    steps: &mut [Step],
+    specs: &mut [Spec],
+    used: &mut usize,
+) -> Result<usize, AllocError>
+    requires input { chars input.now ≡ reading.old.parser.input }
+    requires left { EndsWith reading.old.parser.input reading.old.parser.rest }
+    requires guided { IsGuided reading.old.parser reading.old.offset (guide_of reading.old.guide) }
+    requires room { used.old < usize.MAX }
+    ensures added { OnOk result (IsAdded input.now reading.old.parser number used.new steps.old steps.new specs.new) }
+    ensures used { OnOk result (used.new ≡ used.old + specs_in (event reading.old.parser).piece) }
+    ensures front { OnOk result (take used.old specs.new ≡ take used.old specs.old) }
+    ensures kept { OnOk result (drop used.new specs.new ≡ drop used.new specs.old) }
+    ensures state { OnOk result (reading.new.parser ≡ after reading.old.parser (next_call reading.old.parser)) }
+    ensures read { IfOk result (λ n. n ≡ position reading.new.parser.input reading.new.parser.rest) }
+    ensures guided { OnOk result (IsGuided reading.new.parser reading.new.offset (guide_of reading.new.guide)) }
+    ensures finders { OnOk result (finders.new.calls ≡ add_finders number finders.old.calls (next_call reading.old.parser).faults) }
+    ensures fronts { OnOk result (finders.new.fronts ≡ finders.old.fronts + fronts_in (next_call reading.old.parser)) }
 {
-    if count < steps.len() {
-        steps[count] = step;
+    if number < steps.len() {
+        let place = &mut steps[number];
+        step(reading, input, number, finders, specs, used, place)?;
+        Ok(steps[number].read)
+    } else {
+        let mut spare = BLANK;
+        step(reading, input, number, finders, specs, used, &mut spare)?;
+        Ok(spare.read)
     }
 }
 
@@ -162,11 +188,11 @@ pub fn walk(
     specs: &mut [Spec],
 ) -> Result<(usize, usize), AllocError>
     requires input { chars input.now ≡ reading.old.parser.input }
-    requires left { EndsWith reading.old.parser.input reading.old.parser.rest }
-    requires guided { IsGuided reading.old.parser reading.old.offset reading.old.guide }
+    requires guided { IsGuided reading.old.parser reading.old.offset (guide_of reading.old.guide) }
     requires small { length reading.old.parser.rest < 2 ^ 63 }
     requires none { finders.old.calls ≡ [] }
     requires no_fronts { finders.old.fronts ≡ 0 }
+    requires start { reading.old.parser.rest ≡ reading.old.parser.input }
     ensures count { IfOk result (λ k. k.0 ≡ length (events reading.old.parser)) }
     ensures specs { IfOk result (λ k. k.1 ≡ spec_count reading.old.parser) }
     ensures written { IfOk result (λ k. k.0 ≤ length steps.old → k.1 ≤ length specs.old
@@ -179,12 +205,11 @@ pub fn walk(
 {
     let mut count = 0;
     let mut used = 0;
-    while has_more(&reading.parser) {
-        let step = step(reading, input, count, finders, specs, &mut used)?;
-        put(steps, count, step);
+    let mut read = 0;
+    while read < input.len() {
+        read = add_step(reading, input, count, finders, steps, specs, &mut used)?;
         count += 1;
     }
-    let step = step(reading, input, count, finders, specs, &mut used)?;
-    put(steps, count, step);
+    add_step(reading, input, count, finders, steps, specs, &mut used)?;
     Ok((count + 1, used))
 }

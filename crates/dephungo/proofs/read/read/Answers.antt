@@ -7,9 +7,6 @@ use Rattle.dephungo.specs.Events.{calls}
 use Rattle.dephungo.proofs.Walking.{length-finders}
 use Rattle.dephungo.proofs.read.read.Goals as goal
 
-pub walk-requires-clause-left : goal.walk-requires-clause-left
-walk-requires-clause-left c = rw c.in_ok-reading.ensures.start ([], refl)
-
 pub walk-requires-clause-small : goal.walk-requires-clause-small
 walk-requires-clause-small c = omega (arith, c.in_ok-reading.ensures.short, c.requires.input_length)
 

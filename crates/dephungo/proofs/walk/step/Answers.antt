@@ -10,12 +10,13 @@ use Rattle.dephungo.proofs.Walking.{told}
 use Rattle.dephungo.specs.Events.{fronts_in, position}
 use Rattle.dephungo.proofs.Standing.{alone, along, given_texts, still_guided}
 use Rattle.dephungo.proofs.Finding.{add_finders-is, few_fronts, length-after}
+use Rattle.dephungo.specs.Stand.{guide_of}
 use Rattle.dephungo.proofs.walk.step.Goals as goal
 
 pub texts_at-requires-clause-alone : goal.texts_at-requires-clause-alone
 texts_at-requires-clause-alone c =
     let read = c.next_place-read.ensures.read ∙ ap (λ (s : State). position s.input s.rest) c.in_ok-given.ensures.state in
-    alone c.args.input.now c.args.reading.now.parser c.args.reading.now.offset _ c.args.reading.now.guide _ c.utf8.input c.requires.input c.requires.left c.requires.guided read c.in_ok-given.ensures.piece
+    alone c.args.input.now c.args.reading.now.parser c.args.reading.now.offset _ (guide_of c.args.reading.now.guide) _ c.utf8.input c.requires.input c.requires.left c.requires.guided read c.in_ok-given.ensures.piece
 
 pub overflow_sub-errors : goal.overflow_sub-errors
 overflow_sub-errors c =
@@ -38,35 +39,35 @@ unfolding piece_meant
 returns-clause-told c = λ room.
     let s = c.args.reading.now.parser in
     let state = c.in_ok-given.ensures.state in
-    let texts = given_texts c.args.input.now c.in_ok-texts.texts s c.args.reading.now.offset c.args.reading.now.guide (option_map seen c.in_ok-given.given) c.requires.guided
+    let texts = given_texts c.args.input.now c.in_ok-texts.texts s c.args.reading.now.offset (guide_of c.args.reading.now.guide) (option_map seen c.in_ok-given.given) c.requires.guided
     c.in_ok-given.ensures.piece c.in_ok-texts.ensures.alone c.in_ok-texts.ensures.along in
     let r : Step = record {
-      kind = c.piece-step.result.kind;
-      position = c.piece-step.result.position;
-      number = c.piece-step.result.number;
-      text = c.piece-step.result.text;
-      position_span = c.piece-step.result.position_span;
-      spec = c.piece-step.result.spec;
+      kind = c.put_piece.new.step.kind;
+      position = c.put_piece.new.step.position;
+      number = c.put_piece.new.step.number;
+      text = c.put_piece.new.step.text;
+      position_span = c.put_piece.new.step.position_span;
+      spec = c.put_piece.new.step.spec;
       place = c.closed-step.result;
       read = c.next_place-read.result.0;
-      next = c.curarg.result;
+      next = c.curarg-step.result;
       lines = length c.line_spans.result.now;
       peek = c.next_place-read.result.1;
       peek_ahead = c.place_ahead-step.result;
     } in
-    told c.args.input.now c.piece-step.new.specs r s c.call.new.parser state
-    (c.piece-step.ensures.told c.args.input.now texts room ∙ c.in_ok-given.ensures.piece)
+    told c.args.input.now c.put_piece.new.specs r s c.next_with_fronts.new.self state
+    (c.put_piece.ensures.told c.args.input.now texts room ∙ c.in_ok-given.ensures.piece)
     (c.closed-step.ensures s.arg_places (closed_in s.world (next_call s).closes) (sym (length-map c.arg_places-places.result.now pair) ∙ ap length c.arg_places-places.ensures)
     (c.arg_places.ensures ∙ ap (λ (t : State). t.arg_places) state))
     c.next_place-read.ensures.read
-    c.curarg.ensures.value
+    c.curarg-step.ensures.value
     (sym (length-map c.line_spans.result.now pair) ∙ ap length c.line_spans.ensures)
     c.next_place-read.ensures.place
     c.place_ahead-step.ensures
 
 pub returns-clause-guided : goal.returns-clause-guided
 returns-clause-guided c =
-    rw (c.in_ok-given.ensures.state, c.in_ok-texts.ensures.state) (still_guided c.args.reading.now.parser c.args.reading.now.offset c.args.reading.now.guide c.requires.guided)
+    rw (c.in_ok-given.ensures.state, c.in_ok-texts.ensures.state) (still_guided c.args.reading.now.parser c.args.reading.now.offset (guide_of c.args.reading.now.guide) c.requires.guided)
 
 pub returns-clause-finders : goal.returns-clause-finders
 returns-clause-finders c =
