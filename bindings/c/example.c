@@ -1,0 +1,34 @@
+/* Lists the pieces and the faults of a format string, its argument. */
+#include "dephungo.h"
+#include <stdio.h>
+#include <string.h>
+
+int main(int argc, char **argv) {
+    const char *input = argc > 1 ? argv[1] : "hi {name:>8}{}{";
+    dephungo_options options = {.mode = DEPHUNGO_MODE_FORMAT};
+    dephungo_step steps[64];
+    dephungo_spec specs[32];
+    dephungo_fault faults[16];
+    uint8_t texts[4096];
+    dephungo_range lines[1]; /* there are none without a snippet */
+    dephungo_answer answer;
+    uint32_t code = dephungo_read((const uint8_t *)input, strlen(input), (const uint8_t *)"", 0, &options, steps, 64,
+                                  specs, 32, faults, 16, texts, sizeof texts, lines, 1, &answer);
+    if (code == DEPHUNGO_SHORT) fprintf(stderr, "%zu steps and %zu faults are too many here\n", answer.steps, answer.faults);
+    if (code != DEPHUNGO_DONE) return fprintf(stderr, "code %u\n", (unsigned)code), 2;
+    for (size_t i = 0; i < answer.steps; i++) {
+        dephungo_step *s = &steps[i];
+        int length = (int)(s->text.to - s->text.from);
+        if (s->kind == DEPHUNGO_PIECE_TEXT) printf("text \"%.*s\"\n", length, input + s->text.from);
+        if (s->kind != DEPHUNGO_PIECE_ARGUMENT) continue;
+        if (s->position == DEPHUNGO_POSITION_NAMED) printf("argument %.*s", length, input + s->text.from);
+        else printf("argument %zu", s->number);
+        if (s->spec && specs[s->spec - 1].width.kind == DEPHUNGO_COUNT_IS) printf(" width %zu", specs[s->spec - 1].width.number);
+        printf(" at %zu..%zu\n", s->position_span.from, s->position_span.to);
+    }
+    for (size_t i = 0; i < answer.faults; i++) {
+        dephungo_range d = faults[i].description, at = faults[i].span;
+        printf("fault at %zu..%zu: %.*s\n", at.from, at.to, (int)(d.to - d.from), (const char *)texts + d.from);
+    }
+    return answer.faults != 0;
+}

@@ -1,0 +1,131 @@
+//! A whole reading of an input, in buffers that a thread keeps for its next one.
+use crate::call::{read, Buffers};
+use crate::records::{self, Answer, Extent, Fault, Options, Spec, Step};
+use std::cell::Cell;
+use std::mem::size_of_val;
+
+thread_local! {
+    static SPARE: Cell<Option<Box<Buffers>>> = const { Cell::new(None) };
+}
+
+/// From this length on the room that an input takes is looked at before it is read.
+const LONG_INPUT: usize = 4096;
+
+/// Buffers that take more bytes are not kept.
+const KEPT_BYTES: usize = 1 << 20;
+
+/// What a call of the static library wrote.
+pub struct Reading {
+    /// None only while it is dropped.
+    buffers: Option<Box<Buffers>>,
+    answer: Answer,
+}
+
+impl Reading {
+    /// Reads an input whole. Panics where the input is too long for the parser, or memory is not found.
+    pub fn new(input: &str, snippet: &str, options: &Options) -> Self {
+        let mut buffers = SPARE.try_with(Cell::take).ok().flatten().unwrap_or_else(small_buffers);
+        if input.len() >= LONG_INPUT {
+            make_room(&mut buffers, input);
+        }
+        let mut answer = Answer::default();
+        loop {
+            match read(input, snippet, options, &mut buffers, &mut answer) {
+                records::DONE => return Reading { buffers: Some(buffers), answer },
+                records::SHORT => {
+                    grow(&mut buffers.steps, answer.steps);
+                    grow(&mut buffers.specs, answer.specs);
+                    grow(&mut buffers.faults, answer.faults);
+                    grow(&mut buffers.texts, answer.texts);
+                    grow(&mut buffers.lines, answer.lines);
+                }
+                records::NO_MEMORY => panic!("the parser found no memory"),
+                records::TOO_LONG => panic!("more than 10^12 bytes or hashes"),
+                code => unreachable!("a text and a mode of Rust are refused by {code}"),
+            }
+        }
+    }
+
+    fn buffers(&self) -> &Buffers {
+        self.buffers.as_deref().expect("buffers are there until the end")
+    }
+
+    /// The calls of the parser; the last one is that at the end of the input.
+    pub fn steps(&self) -> &[Step] {
+        &self.buffers().steps[..self.answer.steps]
+    }
+
+    /// What a step asks for, if it asks for anything.
+    pub fn spec(&self, step: &Step) -> Option<&Spec> {
+        Some(&self.buffers().specs[step.spec.checked_sub(1)?])
+    }
+
+    /// The faults, in the order of the parser's list.
+    pub fn faults(&self) -> &[Fault] {
+        &self.buffers().faults[..self.answer.faults]
+    }
+
+    /// A text of a fault.
+    pub fn text(&self, at: Extent) -> String {
+        let text = std::str::from_utf8(&self.buffers().texts[at.from..at.to]);
+        text.expect("texts of faults are UTF-8").to_owned()
+    }
+
+    /// The lines of a source literal.
+    pub fn lines(&self) -> &[Extent] {
+        &self.buffers().lines[..self.answer.lines]
+    }
+
+    pub fn answer(&self) -> &Answer {
+        &self.answer
+    }
+}
+
+impl Drop for Reading {
+    fn drop(&mut self) {
+        let spare = self.buffers.take();
+        if spare.as_ref().is_some_and(|buffers| bytes_of(buffers) <= KEPT_BYTES) {
+            // A thread that ends keeps nothing.
+            let _ = SPARE.try_with(|kept| kept.set(spare));
+        }
+    }
+}
+
+/// Enough for most inputs. Where they are not, they grow, and are kept so.
+fn small_buffers() -> Box<Buffers> {
+    Box::new(Buffers {
+        steps: vec![Step::default(); 128],
+        specs: vec![Spec::default(); 64],
+        faults: vec![Fault::default(); 8],
+        texts: vec![0; 2048],
+        lines: vec![Extent::default(); 64],
+    })
+}
+
+/// Room for the steps, the specifications and the lines of a long input, which would else be read twice. A step that reads
+/// text ends at a brace or at the end of the input, and any other takes a brace; a specification takes a colon, and each
+/// line but the last one a newline.
+fn make_room(buffers: &mut Buffers, input: &str) {
+    grow(&mut buffers.steps, 2 * count(input, |byte| matches!(byte, b'{' | b'}')) + 2);
+    grow(&mut buffers.specs, count(input, |byte| byte == b':'));
+    grow(&mut buffers.lines, count(input, |byte| byte == b'\n') + 1);
+}
+
+fn count(input: &str, wanted: impl Fn(u8) -> bool) -> usize {
+    input.bytes().filter(|&byte| wanted(byte)).count()
+}
+
+fn bytes_of(buffers: &Buffers) -> usize {
+    size_of_val(&buffers.steps[..])
+        + size_of_val(&buffers.specs[..])
+        + size_of_val(&buffers.faults[..])
+        + size_of_val(&buffers.texts[..])
+        + size_of_val(&buffers.lines[..])
+}
+
+fn grow<T: Clone + Default>(buffer: &mut Vec<T>, room: usize) {
+    if buffer.len() < room {
+        buffer.clear();
+        buffer.resize(room, T::default());
+    }
+}
