@@ -97,29 +97,33 @@ fn check_position(rt: &impl Abort, position: &Position<'_>) -> Result<(), AllocE
     Ok(())
 }
 
+/// So it is of each part of an argument.
+fn check_parts(rt: &impl Abort, argument: &Argument<'_>) -> Result<(), AllocError> {
+    check_argument(rt, argument)?;
+    check_spec(rt, &argument.format)?;
+    check_position(rt, &argument.position)
+}
+
 #[test]
 fn clones_of_placeholders_are_equal(rt: HostRuntime) -> Result<(), AllocError> {
-    for argument in [example(), plain()] {
-        check_argument(&rt, &argument)?;
-        check_spec(&rt, &argument.format)?;
-        check_position(&rt, &argument.position)?;
-    }
+    check_parts(&rt, &example())?;
+    check_parts(&rt, &plain())
+}
+
+/// A clone of a count is equal to it.
+fn check_count(rt: &impl Abort, count: &Count<'_>) -> Result<(), AllocError> {
+    let copy = count.clone()?;
+    assert_eq!(rt; copy, *count);
     Ok(())
 }
 
 #[test]
 fn clones_of_counts_are_equal(rt: HostRuntime) -> Result<(), AllocError> {
-    for count in [
-        Count::CountIs(65535),
-        Count::CountIsName("p", 12..13),
-        Count::CountIsParam(7),
-        Count::CountIsStar(8),
-        Count::CountImplied,
-    ] {
-        let copy = count.clone()?;
-        assert_eq!(rt; copy, count);
-    }
-    Ok(())
+    check_count(&rt, &Count::CountIs(65535))?;
+    check_count(&rt, &Count::CountIsName("p", 12..13))?;
+    check_count(&rt, &Count::CountIsParam(7))?;
+    check_count(&rt, &Count::CountIsStar(8))?;
+    check_count(&rt, &Count::CountImplied)
 }
 
 #[test]
