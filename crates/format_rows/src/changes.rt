@@ -1,40 +1,28 @@
 //! Parsers whose errors are taken out, or whose next number is set, between two calls; and clones of what they give.
 
-use rustc_parse_format::{ParseError, ParseMode, Parser, Piece, Position, read_all};
-use std::alloc::{AllocError, Global};
-use std::ops::Range;
+use crate::script::{check_calls, check_parser};
+use crate::start::{plain, read};
+use rustc_parse_format::{ParseMode, Parser, Piece};
+use std::alloc::Global;
 use std::process::Abort;
 use std::test::Fail;
-
-fn parser_of(alloc: Global, input: &'static str) -> Result<Parser<'static>, AllocError> {
-    Parser::new(alloc, input, None, None, false, ParseMode::Format)
-}
-
-/// The next piece is a placeholder without a position, which has this number.
-fn check_implicit(rt: &impl Abort, parser: &mut Parser<'_>, number: usize) -> Result<(), Fail> {
-    let wanted = Position::ArgumentImplicitlyIs(number);
-    assert!(rt; matches!(parser.next()?, Some(Piece::NextArgument(it)) if it.position == wanted));
-    Ok(())
-}
 
 #[test]
 fn a_number_that_is_set_is_taken_next(rt: HostRuntime) -> Result<(), Fail> {
     let mut parser = Parser::new(rt.alloc(), "{}", None, None, false, ParseMode::Format)?;
     parser.set_curarg(7);
-    assert_eq!(rt; parser.curarg(), 7);
-    check_implicit(&rt, &mut parser, 7)?;
-    assert_eq!(rt; parser.curarg(), 8);
-    Ok(())
+    let lines = &["curarg 7", "next arg implicit 7 2..2", "curarg 8"];
+    check_calls(&rt, rt.alloc(), &mut parser, lines)
 }
 
 #[test]
 fn a_number_can_be_taken_twice(rt: HostRuntime) -> Result<(), Fail> {
-    let mut parser = parser_of(rt.alloc(), "{}{}")?;
-    check_implicit(&rt, &mut parser, 0)?;
+    let mut parser = Parser::new(rt.alloc(), "{}{}", None, None, false, ParseMode::Format)?;
+    let lines = &["next arg implicit 0 2..2"];
+    check_calls(&rt, rt.alloc(), &mut parser, lines)?;
     parser.set_curarg(0);
-    check_implicit(&rt, &mut parser, 0)?;
-    assert_eq!(rt; parser.curarg(), 1);
-    Ok(())
+    let lines = &["next arg implicit 0 4..4", "curarg 1"];
+    check_calls(&rt, rt.alloc(), &mut parser, lines)
 }
 
 /// A number as large as there is room for.
@@ -42,87 +30,84 @@ fn a_number_can_be_taken_twice(rt: HostRuntime) -> Result<(), Fail> {
 fn a_number_may_be_large(rt: HostRuntime) -> Result<(), Fail> {
     let mut parser = Parser::new(rt.alloc(), "{}", None, None, false, ParseMode::Format)?;
     parser.set_curarg(usize::MAX - 2);
-    check_implicit(&rt, &mut parser, usize::MAX - 2)?;
-    assert_eq!(rt; parser.curarg(), usize::MAX - 1);
-    Ok(())
-}
-
-/// The next call gives no piece.
-fn check_none(rt: &impl Abort, parser: &mut Parser<'_>) -> Result<(), Fail> {
-    assert!(rt; parser.next()?.is_none());
-    Ok(())
-}
-
-/// Errors have these spans and descriptions, in this order.
-fn check_errors(rt: &impl Abort, errors: &[ParseError], wanted: &[(Range<usize>, &'static str)]) {
-    assert_eq!(rt; errors.len(), wanted.len());
-    for (error, (span, description)) in errors.iter().zip(wanted.iter()) {
-        assert_eq!(rt; error.span, *span);
-        assert_eq!(rt; error.description.as_str(), *description);
-    }
-}
-
-/// The errors that are taken out are these, and none is left.
-fn check_taken(rt: &impl Abort, parser: &mut Parser<'_>, wanted: &[(Range<usize>, &'static str)]) {
-    let errors = parser.take_errors();
-    check_errors(rt, errors.as_slice(), wanted);
-    assert!(rt; parser.errors().is_empty());
+    let lines = &[
+        "next arg implicit 18446744073709551613 2..2",
+        "curarg 18446744073709551614",
+    ];
+    check_calls(&rt, rt.alloc(), &mut parser, lines)
 }
 
 #[test]
 fn errors_are_taken_out_once(rt: HostRuntime) -> Result<(), Fail> {
-    let mut parser = parser_of(rt.alloc(), "}}}")?;
-    assert!(rt; parser.next()? == Some(Piece::Lit("}")));
-    check_none(&rt, &mut parser)?;
-    check_taken(&rt, &mut parser, &[(3..4, "unmatched `}` found")]);
-    check_none(&rt, &mut parser)?;
-    assert!(rt; parser.errors().is_empty());
-    Ok(())
+    let lines = &[
+        "next lit \"}\"",
+        "next none",
+        "take_errors 3..4 unmatched `}` found;",
+        "errors ",
+        "next none",
+        "errors ",
+    ];
+    check_parser(&rt, rt.alloc(), plain(), "}}}", lines)
 }
 
 /// Two of three errors are those of a flag after its type, one of them in front.
 #[test]
 fn errors_are_taken_out_in_order(rt: HostRuntime) -> Result<(), Fail> {
-    let (_, mut parser) = read_all(rt.alloc(), "{foo:?#}", None, None, false, ParseMode::Format)?;
-    let wanted = [
-        (7..8, "expected `}`, found `#`"),
-        (7..7, "expected `}`, found `#`"),
-        (8..9, "unmatched `}` found"),
+    let (_, mut parser) = read(&rt, rt.alloc(), plain(), "{foo:?#}")?;
+    let lines = &[
+        "take_errors 7..8 expected `}`, found `#`;7..7 expected `}`, found `#`;8..9 unmatched `}` found;",
+        "errors ",
+        "next none",
     ];
-    check_taken(&rt, &mut parser, &wanted);
-    check_none(&rt, &mut parser)
+    check_calls(&rt, rt.alloc(), &mut parser, lines)
 }
 
 /// New errors come after those that were taken out, at both ends.
 #[test]
 fn errors_come_again(rt: HostRuntime) -> Result<(), Fail> {
-    let mut parser = parser_of(rt.alloc(), "{r#a}{r#b}}")?;
-    for span in [2..5, 7..10] {
-        assert!(rt; parser.next()?.is_some());
-        let wanted = [(span, "raw identifiers are not supported")];
-        check_taken(&rt, &mut parser, &wanted);
-    }
-    check_none(&rt, &mut parser)?;
-    check_errors(&rt, parser.errors(), &[(11..12, "unmatched `}` found")]);
+    let lines = &[
+        "next arg name a 2..5",
+        "take_errors 2..5 raw identifiers are not supported;",
+        "errors ",
+        "next arg name b 7..10",
+        "take_errors 7..10 raw identifiers are not supported;",
+        "errors ",
+        "next none",
+        "errors 11..12 unmatched `}` found;",
+    ];
+    check_parser(&rt, rt.alloc(), plain(), "{r#a}{r#b}}", lines)
+}
+
+/// A clone of a piece is equal to it.
+fn check_clone(rt: &impl Abort, alloc: Global, piece: &Piece<'_>) -> Result<(), Fail> {
+    let copy = piece.clone(alloc)?;
+    assert_eq!(rt; copy, *piece);
     Ok(())
+}
+
+/// And to no other piece.
+fn check_other<'a>(
+    rt: &impl Abort,
+    alloc: Global,
+    piece: &Piece<'a>,
+    other: &Piece<'a>,
+) -> Result<(), Fail> {
+    let copy = piece.clone(alloc)?;
+    assert!(rt; copy != *other);
+    Ok(())
+}
+
+/// Clones of four pieces.
+fn check_clones(rt: &impl Abort, alloc: Global, pieces: &[Piece<'_>]) -> Result<(), Fail> {
+    assert_eq!(rt; pieces.len(), 4);
+    for piece in pieces {
+        check_clone(rt, alloc, piece)?;
+    }
+    check_other(rt, alloc, &pieces[1], &pieces[0])
 }
 
 #[test]
 fn clones_of_pieces_are_equal(rt: HostRuntime) -> Result<(), Fail> {
-    let (pieces, _) = read_all(
-        rt.alloc(),
-        "{}{:.*}{}x",
-        None,
-        None,
-        false,
-        ParseMode::Format,
-    )?;
-    assert_eq!(rt; pieces.len(), 4);
-    for piece in &pieces {
-        let copy = piece.clone(rt.alloc())?;
-        assert_eq!(rt; copy, *piece);
-    }
-    let second = pieces[1].clone(rt.alloc())?;
-    assert_ne!(rt; second, pieces[0]);
-    Ok(())
+    let (pieces, _) = read(&rt, rt.alloc(), plain(), "{}{:.*}{}x")?;
+    check_clones(&rt, rt.alloc(), pieces.as_slice())
 }

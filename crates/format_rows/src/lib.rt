@@ -30,7 +30,11 @@ mod names;
 #[cfg(test)]
 mod row;
 #[cfg(test)]
+mod script;
+#[cfg(test)]
 mod snippets;
+#[cfg(test)]
+mod start;
 #[cfg(test)]
 mod tables;
 #[cfg(test)]

@@ -42,7 +42,7 @@ fn put_quoted(out: &mut String, text: &str) -> Result<(), AllocError> {
     out.push('"')
 }
 
-fn put_range(out: &mut String, label: &str, range: &Range<usize>) -> Result<(), AllocError> {
+pub fn put_range(out: &mut String, label: &str, range: &Range<usize>) -> Result<(), AllocError> {
     let (start, end) = (range.start, range.end);
     write!(out, "{label}{start}..{end}")
 }
@@ -122,15 +122,20 @@ fn put_argument(out: &mut String, argument: &Argument<'_>) -> Result<(), AllocEr
     put_values(out, &argument.format)
 }
 
-/// Adds the line of a piece.
+/// Adds a piece.
 pub fn put_piece(out: &mut String, piece: &Piece<'_>) -> Result<(), AllocError> {
     match piece {
         Piece::Lit(text) => {
             out.push_str("lit ")?;
-            put_quoted(out, text)?;
+            put_quoted(out, text)
         }
-        Piece::NextArgument(argument) => put_argument(out, argument)?,
+        Piece::NextArgument(argument) => put_argument(out, argument),
     }
+}
+
+/// Adds the line of a piece.
+pub fn put_line(out: &mut String, piece: &Piece<'_>) -> Result<(), AllocError> {
+    put_piece(out, piece)?;
     out.push_str("\n")
 }
 

@@ -2,6 +2,7 @@
 
 use rustc_parse_format::literal::{is_source_literal, read_content};
 use std::alloc::AllocError;
+use std::process::Abort;
 
 #[test]
 fn refuses_what_is_no_content(rt: HostRuntime) -> Result<(), AllocError> {
@@ -22,56 +23,62 @@ fn refuses_what_is_no_content(rt: HostRuntime) -> Result<(), AllocError> {
     Ok(())
 }
 
+/// Whether a snippet is the source literal of an input.
+fn check_source(
+    rt: &impl Abort,
+    style: Option<usize>,
+    snippet: &str,
+    input: &str,
+    appended: bool,
+    wanted: bool,
+) {
+    let found = is_source_literal(input, style, snippet, appended);
+    assert_eq!(rt; found, wanted, "{snippet}");
+}
+
 #[test]
 fn decides_source_literals(rt: HostRuntime) {
-    for (style, snippet, input, appended, wanted) in [
-        (None, "\"\"", "", false, true),
-        (None, "\"foo\\n\"", "foo\n", false, true),
-        (None, "\"foo\\n\"", "foo\n", true, false),
-        (None, "\"a\\\n b\"", "ab", false, true),
-        (None, "\"a\"b\"", "a\"b", false, false),
-        (None, "\"a\\\"", "a\"", false, false),
-        (None, "\"foo\"x", "foo", false, false),
-        (Some(0), "r\"\"", "", false, true),
-        (Some(0), "r\"\"", "", true, false),
-        (Some(0), "r\"a\"b\"", "a\"b", false, true),
-        (Some(1), "r##\"\"##", "", false, false),
-        (Some(1), "r#\"a\"#", "a\n", true, true),
-        (Some(0), "r\"a\"", "ab", true, false),
-    ] {
-        assert_eq!(rt;
-            is_source_literal(input, style, snippet, appended),
-            wanted,
-            "{snippet}"
-        );
-    }
+    check_source(&rt, None, "\"\"", "", false, true);
+    check_source(&rt, None, "\"foo\\n\"", "foo\n", false, true);
+    check_source(&rt, None, "\"foo\\n\"", "foo\n", true, false);
+    check_source(&rt, None, "\"a\\\n b\"", "ab", false, true);
+    check_source(&rt, None, "\"a\"b\"", "a\"b", false, false);
+    check_source(&rt, None, "\"a\\\"", "a\"", false, false);
+    check_source(&rt, None, "\"foo\"x", "foo", false, false);
+    check_source(&rt, Some(0), "r\"\"", "", false, true);
+    check_source(&rt, Some(0), "r\"\"", "", true, false);
+    check_source(&rt, Some(0), "r\"a\"b\"", "a\"b", false, true);
+    check_source(&rt, Some(1), "r##\"\"##", "", false, false);
+    check_source(&rt, Some(1), "r#\"a\"#", "a\n", true, true);
+    check_source(&rt, Some(0), "r\"a\"", "ab", true, false);
+}
+
+/// A snippet is not the source literal of this input.
+fn check_foreign(rt: &impl Abort, style: Option<usize>, snippet: &str) {
+    assert!(rt;
+        !is_source_literal("foo", style, snippet, false),
+        "{snippet}"
+    );
 }
 
 #[test]
 fn refuses_foreign_snippets(rt: HostRuntime) {
-    for (style, snippet) in [
-        (None, ""),
-        (None, "\""),
-        (None, "\"foo"),
-        (None, "foo\""),
-        (None, "\"foo\\\""),
-        (None, "\"fo\\u{6f\""),
-        (None, "'foo'"),
-        (Some(0), ""),
-        (Some(0), "r"),
-        (Some(0), "r\""),
-        (Some(0), "\"foo\""),
-        (Some(0), "r\"foo"),
-        (Some(1), "r#\"foo\""),
-        (Some(1), "r#\"foo\"##"),
-        (Some(1), "r\"foo\""),
-        (Some(1), "r#\""),
-        (Some(2), "r\""),
-        (Some(usize::MAX), "r#\"foo\"#"),
-    ] {
-        assert!(rt;
-            !is_source_literal("foo", style, snippet, false),
-            "{snippet}"
-        );
-    }
+    check_foreign(&rt, None, "");
+    check_foreign(&rt, None, "\"");
+    check_foreign(&rt, None, "\"foo");
+    check_foreign(&rt, None, "foo\"");
+    check_foreign(&rt, None, "\"foo\\\"");
+    check_foreign(&rt, None, "\"fo\\u{6f\"");
+    check_foreign(&rt, None, "'foo'");
+    check_foreign(&rt, Some(0), "");
+    check_foreign(&rt, Some(0), "r");
+    check_foreign(&rt, Some(0), "r\"");
+    check_foreign(&rt, Some(0), "\"foo\"");
+    check_foreign(&rt, Some(0), "r\"foo");
+    check_foreign(&rt, Some(1), "r#\"foo\"");
+    check_foreign(&rt, Some(1), "r#\"foo\"##");
+    check_foreign(&rt, Some(1), "r\"foo\"");
+    check_foreign(&rt, Some(1), "r#\"");
+    check_foreign(&rt, Some(2), "r\"");
+    check_foreign(&rt, Some(usize::MAX), "r#\"foo\"#");
 }

@@ -1,87 +1,46 @@
 //! The inputs of the tables, each read as it is, and then as if it came from an ordinary literal that is nothing but
 //! escapes, from a raw literal, and from a snippet that is no literal. Pieces and errors are the same, but for spans.
 
-use crate::tables::rows_of;
+use crate::row::{row_of, text_in};
+use crate::start::{World, plain_in, read, start};
+use crate::tables::{check_count, random_table, worked_table};
 use crate::{mixed_rows, named_rows};
 use rustc_parse_format::literal::is_source_literal;
 use rustc_parse_format::{
-    Argument, Count, FormatSpec, ParseError, ParseMode, Parser, Piece, Suggestion, read_all,
+    Argument, Count, FormatSpec, ParseError, ParseMode, Parser, Piece, Suggestion,
 };
 use std::alloc::{AllocError, Global};
 use std::process::Abort;
 use std::test::Fail;
 
-/// An input and its mode.
+/// An input, which is read from no literal and in a world.
 #[derive(Clone, Copy)]
-struct Case<'row> {
-    name: &'row str,
-    mode: ParseMode,
-    input: &'row str,
-}
-
-/// What an input comes from.
-#[derive(Drop)]
-struct World {
-    /// Names it where a case fails.
-    name: &'static str,
-    style: Option<usize>,
-    snippet: Option<String>,
-    appended_newline: bool,
+struct Case<'a> {
+    /// Names it where it fails.
+    name: &'a str,
+    input: &'a str,
+    world: World<'a>,
     /// Whether the snippet is the source literal of the input.
     is_source: bool,
 }
 
-/// No literal.
-fn plain() -> World {
-    World {
-        name: "no literal",
-        style: None,
-        snippet: None,
-        appended_newline: false,
-        is_source: false,
-    }
-}
-
 /// An ordinary literal, in which each character is an escape, with a continuation after it.
-fn escaped(alloc: Global, input: &str) -> Result<World, AllocError> {
+fn escaped(alloc: Global, input: &str) -> Result<String, AllocError> {
     let mut snippet = String::from_str(alloc, "\"")?;
     for c in input.chars() {
         let code = u32::from(c);
         write!(snippet, "\\u{{{code:x}}}\\\n ")?;
     }
     snippet.push('"')?;
-    Ok(World {
-        name: "escapes",
-        style: None,
-        snippet: Some(snippet),
-        appended_newline: false,
-        is_source: true,
-    })
+    Ok(snippet)
 }
 
 /// A raw literal with three hashes.
-fn raw(alloc: Global, input: &str) -> Result<World, AllocError> {
+fn raw(alloc: Global, input: &str) -> Result<String, AllocError> {
     let mut snippet = String::from_str(alloc, "r###\"")?;
     snippet.push_str(input)?;
     snippet.push_str("\"###")?;
-    Ok(World {
-        name: "a raw literal",
-        style: Some(3),
-        snippet: Some(snippet),
-        appended_newline: false,
-        is_source: true,
-    })
-}
-
-/// A snippet that is no literal at all, and a newline that is said to be appended.
-fn foreign(alloc: Global) -> Result<World, AllocError> {
-    Ok(World {
-        name: "a foreign snippet",
-        style: Some(5),
-        snippet: Some(String::from_str(alloc, "\"")?),
-        appended_newline: true,
-        is_source: false,
-    })
+    Ok(snippet)
 }
 
 /// Two counts are the same, but for the span of a name.
@@ -140,11 +99,12 @@ fn same_answer(one: &Option<Piece<'_>>, other: &Option<Piece<'_>>) -> bool {
     }
 }
 
-/// The second label of an error, without its span.
-fn second_label(error: &ParseError) -> Option<&str> {
-    match &error.secondary_label {
-        Some((label, _)) => Some(label.as_str()),
-        None => None,
+/// Two errors have the same second label, but for its span, or none.
+fn same_second_label(one: &ParseError, other: &ParseError) -> bool {
+    match (&one.secondary_label, &other.secondary_label) {
+        (Some((label, _)), Some((found, _))) => label == found,
+        (None, None) => true,
+        _ => false,
     }
 }
 
@@ -165,7 +125,7 @@ fn same_error(one: &ParseError, other: &ParseError) -> bool {
     one.description == other.description
         && one.note == other.note
         && one.label == other.label
-        && second_label(one) == second_label(other)
+        && same_second_label(one, other)
         && suggested(&one.suggestion) == suggested(&other.suggestion)
 }
 
@@ -187,58 +147,23 @@ fn same_pieces(one: &[Piece<'_>], other: &[Piece<'_>]) -> bool {
             .all(|(piece, read)| same_piece(piece, read))
 }
 
-/// A parser over an input that is said to come from this world.
-fn start<'row>(
-    rt: &impl Abort,
-    alloc: Global,
-    case: Case<'row>,
-    world: &World,
-) -> Result<Parser<'row>, Fail> {
-    let Case { mode, input, .. } = case;
-    assert!(rt; input.len() < 10000);
-    assert!(rt; world.style.unwrap_or(0) < 10);
-    let snippet = snippet_of(world)?;
-    let newline = world.appended_newline;
-    let parser = Parser::new(alloc, input, world.style, snippet, newline, mode)?;
-    Ok(parser)
-}
-
-/// What `read_all` gives for it.
-fn read<'row>(
-    rt: &impl Abort,
-    alloc: Global,
-    case: Case<'row>,
-    world: &World,
-) -> Result<(Vec<Piece<'row>>, Parser<'row>), Fail> {
-    let Case { mode, input, .. } = case;
-    assert!(rt; input.len() < 10000);
-    assert!(rt; world.style.unwrap_or(0) < 10);
-    let snippet = snippet_of(world)?;
-    let newline = world.appended_newline;
-    let found = read_all(alloc, input, world.style, snippet, newline, mode)?;
-    Ok(found)
-}
-
-/// A snippet of its own.
-fn snippet_of(world: &World) -> Result<Option<String>, AllocError> {
-    Ok(match &world.snippet {
-        Some(text) => Some(text.clone()?),
-        None => None,
-    })
-}
-
-/// A new parser says of the world's snippet what the world says, and so does the test of literals.
-fn check_source(rt: &impl Abort, case: Case<'_>, world: &World, parser: &Parser<'_>) {
-    let (name, from) = (case.name, world.name);
+/// A new parser says of the snippet what the case says, and so does the test of literals.
+fn check_source(rt: &impl Abort, case: Case<'_>, parser: &Parser<'_>) {
+    let Case {
+        name,
+        input,
+        world,
+        ..
+    } = case;
+    let style = world.style;
     assert_eq!(rt;
         parser.is_source_literal(),
-        world.is_source,
-        "{name} from {from}"
+        case.is_source,
+        "{name} with {style:?}"
     );
-    if let Some(snippet) = &world.snippet {
-        let (style, newline) = (world.style, world.appended_newline);
-        let is_source = is_source_literal(case.input, style, snippet.as_str(), newline);
-        assert_eq!(rt; is_source, world.is_source, "{name} from {from}");
+    if let Some(snippet) = world.snippet {
+        let is_source = is_source_literal(input, style, snippet, world.appended_newline);
+        assert_eq!(rt; is_source, case.is_source, "{name} with {style:?}");
     }
 }
 
@@ -283,72 +208,121 @@ fn check_calls(
     check_call(rt, name, one, other)
 }
 
-/// An input is read by `next` in the same way from no literal and from this world.
-fn check_next(rt: &impl Abort, alloc: Global, case: Case<'_>, world: &World) -> Result<(), Fail> {
-    let mut one = start(rt, alloc, case, &plain())?;
-    let mut other = start(rt, alloc, case, world)?;
-    check_source(rt, case, world, &other);
+/// A case is read by `next` in the same way from no literal and from its world.
+fn check_next(rt: &impl Abort, alloc: Global, case: Case<'_>) -> Result<(), Fail> {
+    let mut one = start(rt, alloc, plain_in(case.world.mode), case.input)?;
+    let mut other = start(rt, alloc, case.world, case.input)?;
+    check_source(rt, case, &other);
     check_calls(rt, case.name, case.input.len(), &mut one, &mut other)
 }
 
 /// And so by `read_all`.
-fn check_read(rt: &impl Abort, alloc: Global, case: Case<'_>, world: &World) -> Result<(), Fail> {
+fn check_read(rt: &impl Abort, alloc: Global, case: Case<'_>) -> Result<(), Fail> {
     let name = case.name;
-    let (pieces, one) = read(rt, alloc, case, &plain())?;
-    let (found, other) = read(rt, alloc, case, world)?;
+    let (pieces, one) = read(rt, alloc, plain_in(case.world.mode), case.input)?;
+    let (found, other) = read(rt, alloc, case.world, case.input)?;
     let is_same = same_pieces(pieces.as_slice(), found.as_slice());
     assert!(rt; is_same, "pieces of {name}");
     check_state(rt, name, &one, &other);
     Ok(())
 }
 
-/// By both.
-fn check_world(rt: &impl Abort, alloc: Global, case: Case<'_>, world: &World) -> Result<(), Fail> {
-    check_next(rt, alloc, case, world)?;
-    check_read(rt, alloc, case, world)
+/// An input and its mode.
+#[derive(Clone, Copy)]
+struct Input<'a> {
+    name: &'a str,
+    mode: ParseMode,
+    text: &'a str,
 }
 
-/// In each world.
-fn check_case(rt: &impl Abort, alloc: Global, case: Case<'_>) -> Result<(), Fail> {
-    check_world(rt, alloc, case, &escaped(alloc, case.input)?)?;
-    check_world(rt, alloc, case, &raw(alloc, case.input)?)?;
-    check_world(rt, alloc, case, &foreign(alloc)?)
+/// An input is read in the same way, by both, from no literal and with this snippet.
+fn check_world<'a>(
+    rt: &impl Abort,
+    alloc: Global,
+    input: Input<'a>,
+    snippet: &'a str,
+    style: Option<usize>,
+    is_source: bool,
+) -> Result<(), Fail> {
+    let world = World {
+        mode: input.mode,
+        style,
+        snippet: Some(snippet),
+        // Of a snippet that is no literal it is said that a newline was appended.
+        appended_newline: !is_source,
+    };
+    let case = Case {
+        name: input.name,
+        input: input.text,
+        world,
+        is_source,
+    };
+    check_next(rt, alloc, case)?;
+    check_read(rt, alloc, case)
+}
+
+/// From a literal of escapes.
+fn check_escaped(rt: &impl Abort, alloc: Global, input: Input<'_>) -> Result<(), Fail> {
+    let snippet = escaped(alloc, input.text)?;
+    check_world(rt, alloc, input, snippet.as_str(), None, true)
+}
+
+/// From a raw literal.
+fn check_raw(rt: &impl Abort, alloc: Global, input: Input<'_>) -> Result<(), Fail> {
+    let snippet = raw(alloc, input.text)?;
+    check_world(rt, alloc, input, snippet.as_str(), Some(3), true)
+}
+
+/// From both, and with a snippet that is no literal at all.
+fn check_input(rt: &impl Abort, alloc: Global, input: Input<'_>) -> Result<(), Fail> {
+    check_escaped(rt, alloc, input)?;
+    check_raw(rt, alloc, input)?;
+    check_world(rt, alloc, input, "\"", Some(5), false)
+}
+
+/// The input of a row.
+fn check_line(rt: &impl Abort, alloc: Global, line: &str) -> Result<(), Fail> {
+    let text = text_in(rt, alloc, line)?;
+    let row = row_of(rt, text.as_str());
+    let input = Input {
+        name: row.name,
+        mode: row.world.mode,
+        text: row.input,
+    };
+    check_input(rt, alloc, input)
 }
 
 /// Each input of a table, which has so many rows.
 fn check_table(rt: &impl Abort, alloc: Global, table: &str, count: usize) -> Result<(), Fail> {
-    for row in rows_of(rt, alloc, table, count)? {
-        let (name, input) = (row.name.as_str(), row.input.as_str());
-        let mode = row.mode;
-        check_case(rt, alloc, Case { name, mode, input })?;
+    check_count(rt, table, count);
+    for line in table.split('\n') {
+        if !line.is_empty() {
+            check_line(rt, alloc, line)?;
+        }
     }
     Ok(())
 }
 
 #[test]
 fn named_inputs_are_read_the_same_from_each_literal(rt: HostRuntime) -> Result<(), Fail> {
-    check_table(&rt, rt.alloc(), named_rows::ROWS, named_rows::ROWS_COUNT)
+    check_table(&rt, rt.alloc(), worked_table(), named_rows::ROWS_COUNT)
 }
 
 #[test]
 fn mixed_inputs_are_read_the_same_from_each_literal(rt: HostRuntime) -> Result<(), Fail> {
-    check_table(&rt, rt.alloc(), mixed_rows::ROWS, mixed_rows::ROWS_COUNT)
+    check_table(&rt, rt.alloc(), random_table(), mixed_rows::ROWS_COUNT)
 }
 
 /// After a brace that closes nothing, reading goes on. The tables have no such input.
 #[test]
 fn lone_braces_are_read_the_same_from_each_literal(rt: HostRuntime) -> Result<(), Fail> {
-    for input in ["}a", "}}}a}"] {
-        let mode = ParseMode::Format;
-        check_case(
-            &rt,
-            rt.alloc(),
-            Case {
-                name: input,
-                mode,
-                input,
-            },
-        )?;
+    for text in ["}a", "}}}a}"] {
+        let input = Input {
+            name: text,
+            mode: ParseMode::Format,
+            text,
+        };
+        check_input(&rt, rt.alloc(), input)?;
     }
     Ok(())
 }

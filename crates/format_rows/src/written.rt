@@ -45,17 +45,13 @@ fn step(reading: Reading, c: char) -> Option<(Option<char>, Reading)> {
     }
 }
 
-/// The text that a column writes, or None where there is no column or it writes no text.
-pub fn text_of(alloc: Global, column: Option<&str>) -> Result<Option<String>, AllocError> {
-    let Some(column) = column else {
-        return Ok(None);
-    };
+/// The text that a line writes, or None where it writes none.
+pub fn text_of(alloc: Global, line: &str) -> Result<Option<String>, AllocError> {
     let mut text = String::new(alloc);
     let mut reading = Reading::Plain;
-    for c in column.chars() {
-        let (value, then) = match step(reading, c) {
-            Some(step) => step,
-            None => return Ok(None),
+    for c in line.chars() {
+        let Some((value, then)) = step(reading, c) else {
+            return Ok(None);
         };
         if let Some(value) = value {
             text.push(value)?;
