@@ -10,16 +10,16 @@ use std::test::Fail;
 
 #[test]
 fn positions_have_their_index(rt: HostRuntime) {
-    assert_eq!(rt; Position::ArgumentImplicitlyIs(3).index(), Some(3));
-    assert_eq!(rt; Position::ArgumentIs(65535).index(), Some(65535));
-    assert_eq!(rt; Position::ArgumentNamed("3").index(), None);
+    assert!(rt; Position::ArgumentImplicitlyIs(3).index() == Some(3));
+    assert!(rt; Position::ArgumentIs(65535).index() == Some(65535));
+    assert!(rt; Position::ArgumentNamed("3").index() == None);
 }
 
 #[test]
 fn variants_are_exported_by_name(rt: HostRuntime) {
-    assert_eq!(rt; AlignCenter, Alignment::AlignCenter);
-    assert_eq!(rt; CountIs(3), Count::CountIs(3));
-    assert_eq!(rt; ArgumentIs(3), Position::ArgumentIs(3));
+    assert!(rt; AlignCenter == Alignment::AlignCenter);
+    assert!(rt; CountIs(3) == Count::CountIs(3));
+    assert!(rt; ArgumentIs(3) == Position::ArgumentIs(3));
     assert!(rt; matches!(Position::ArgumentIs(4), ArgumentIs(4)));
 }
 
@@ -40,9 +40,9 @@ fn defaults_ask_for_nothing(rt: HostRuntime) {
         ty: "",
         ty_span: None,
     };
-    assert_eq!(rt; FormatSpec::default(), nothing);
-    assert_eq!(rt; Alignment::default(), Alignment::AlignUnknown);
-    assert_eq!(rt; Count::default(), Count::CountImplied);
+    assert!(rt; FormatSpec::default() == nothing);
+    assert!(rt; Alignment::default() == Alignment::AlignUnknown);
+    assert!(rt; Count::default() == Count::CountImplied);
 }
 
 fn example() -> Argument<'static> {
@@ -86,14 +86,14 @@ fn check_argument(rt: &impl Abort, argument: &Argument<'_>) -> Result<(), AllocE
 /// A clone of a specification is equal to it.
 fn check_spec(rt: &impl Abort, spec: &FormatSpec<'_>) -> Result<(), AllocError> {
     let copy = spec.clone()?;
-    assert_eq!(rt; copy, *spec);
+    assert!(rt; copy == *spec);
     Ok(())
 }
 
 /// A clone of a position is equal to it.
 fn check_position(rt: &impl Abort, position: &Position<'_>) -> Result<(), AllocError> {
     let copy = position.clone()?;
-    assert_eq!(rt; copy, *position);
+    assert!(rt; copy == *position);
     Ok(())
 }
 
@@ -129,18 +129,18 @@ fn clones_of_counts_are_equal(rt: HostRuntime) -> Result<(), AllocError> {
 #[test]
 fn clones_of_modes_and_signs_are_equal(rt: HostRuntime) -> Result<(), AllocError> {
     let mode = ParseMode::InlineAsm.clone()?;
-    assert_eq!(rt; mode, ParseMode::InlineAsm);
+    assert!(rt; mode == ParseMode::InlineAsm);
     let sign = Sign::Minus.clone()?;
-    assert_eq!(rt; sign, Sign::Minus);
+    assert!(rt; sign == Sign::Minus);
     Ok(())
 }
 
 #[test]
 fn clones_are_equal_to_nothing_else(rt: HostRuntime) -> Result<(), AllocError> {
     let alignment = Alignment::AlignLeft.clone()?;
-    assert_ne!(rt; alignment, Alignment::default());
+    assert!(rt; alignment != Alignment::default());
     let hex = DebugHex::Lower.clone()?;
-    assert_ne!(rt; hex, DebugHex::Upper);
+    assert!(rt; hex != DebugHex::Upper);
     Ok(())
 }
 
@@ -167,10 +167,10 @@ fn each_part_of_a_value_counts_in_equality(rt: HostRuntime) {
 
 #[test]
 fn variants_are_different(rt: HostRuntime) {
-    assert_ne!(rt; Alignment::AlignLeft, Alignment::AlignRight);
-    assert_ne!(rt; Sign::Plus, Sign::Minus);
-    assert_ne!(rt; DebugHex::Lower, DebugHex::Upper);
-    assert_ne!(rt; ParseMode::Format, ParseMode::InlineAsm);
+    assert!(rt; Alignment::AlignLeft != Alignment::AlignRight);
+    assert!(rt; Sign::Plus != Sign::Minus);
+    assert!(rt; DebugHex::Lower != DebugHex::Upper);
+    assert!(rt; ParseMode::Format != ParseMode::InlineAsm);
 }
 
 #[test]

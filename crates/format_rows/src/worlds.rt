@@ -99,11 +99,12 @@ fn same_answer(one: &Option<Piece<'_>>, other: &Option<Piece<'_>>) -> bool {
     }
 }
 
-/// The second label of an error, without its span.
-fn second_label(error: &ParseError) -> Option<&str> {
-    match &error.secondary_label {
-        Some((label, _)) => Some(label.as_str()),
-        None => None,
+/// Two errors have the same second label, but for its span, or none.
+fn same_second_label(one: &ParseError, other: &ParseError) -> bool {
+    match (&one.secondary_label, &other.secondary_label) {
+        (Some((label, _)), Some((found, _))) => label == found,
+        (None, None) => true,
+        _ => false,
     }
 }
 
@@ -124,7 +125,7 @@ fn same_error(one: &ParseError, other: &ParseError) -> bool {
     one.description == other.description
         && one.note == other.note
         && one.label == other.label
-        && second_label(one) == second_label(other)
+        && same_second_label(one, other)
         && suggested(&one.suggestion) == suggested(&other.suggestion)
 }
 
