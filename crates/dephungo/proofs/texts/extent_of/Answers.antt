@@ -1,4 +1,4 @@
-use Rattle.std.proofs.Common.{◌≡◌, ◌+◌, ◌≤◌, length, sym, ◌∙◌, arith}
+use Rattle.std.proofs.Common.{◌+◌, ◌≤◌, length, sym, ◌∙◌, arith}
 use Rattle.dephungo.proofs.Cuts.{cut_text, has_bytes, no_text, is_none_of, is_some_of}
 use Rattle.dephungo.proofs.texts.extent_of.Goals as goal
 
@@ -16,4 +16,5 @@ overflow_add-result c =
 pub returns : goal.returns
 returns c =
     let some = is_some_of (length c.args.text.now) (sym c.is_empty.ensures ∙ c.if-is_empty.false) in
-    cut_text c.args.input.now c.args.text.now c.args.from c.utf8.input c.utf8.text some (has_bytes c.args.input.now c.args.text.now c.args.from c.utf8.text some c.requires)
+    cut_text c.args.input.now c.args.text.now c.args.from c.utf8.input c.utf8.text some (has_bytes c.args.input.now c.args.text.now c.args.from c.utf8.text
+    some c.requires)

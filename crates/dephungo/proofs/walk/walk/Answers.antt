@@ -1,7 +1,7 @@
-use Rattle.std.proofs.Common.{[], length, map, refl, sym, ap, ◌∙◌, arith}
+use Rattle.std.proofs.Common.{[], length, refl, sym, ap, ◌∙◌, arith}
 use Rattle.std.proofs.lemmas.List.{append-nil, length-map}
 use Rattle.rustc_parse_format.specs.State.{State}
-use Rattle.dephungo.specs.Events.{event, events, specs_in, states}
+use Rattle.dephungo.specs.Events.{event, states}
 use Rattle.dephungo.proofs.Lists.{still_behind}
 use Rattle.dephungo.proofs.Standing.{still_ends}
 use Rattle.dephungo.proofs.Widths.{none_left, some_left}
@@ -15,22 +15,24 @@ loop-read-init c = record {
   read = rw c.requires.start (omega arith);
   guided = c.requires.guided;
   room = omega arith;
-  up_to = begin c.args.input.now c.args.reading.now.parser c.args.finders.now c.args.steps.now c.args.specs.now c.requires.none c.requires.no_fronts;
+  up_to = begin c.args.input.now c.args.parser.now c.args.finders.now c.args.steps.now c.args.specs.now c.requires.none c.requires.no_fronts;
   kept_steps = refl;
   kept_specs = refl;
 }
 
 pub loop-read-smaller : goal.loop-read-smaller
 loop-read-smaller c =
-    let s = c.loop-read.reading.parser in
+    let s = c.loop-read.parser in
     rw (ap (λ (s : State). length s.rest) c.in_ok-read.ensures.state)
-    (goes_on c.loop-read.reading.parser (some_left c.args.input.now s.input s.rest c.loop-read.read c.utf8.input (c.requires.input ∙ sym c.loop-read.invariant.input) c.loop-read.invariant.read c.loop-read-test.true))
+    (goes_on c.loop-read.parser (some_left c.args.input.now s.input s.rest c.loop-read.read c.utf8.input (c.requires.input
+    ∙ sym c.loop-read.invariant.input) c.loop-read.invariant.read c.loop-read-test.true))
 
 pub loop-read-preserved : goal.loop-read-preserved
 loop-read-preserved c =
-    let s = c.loop-read.reading.parser in
-    let t = c.add_step.new.reading.parser in
-    let more = some_left c.args.input.now s.input s.rest c.loop-read.read c.utf8.input (c.requires.input ∙ sym c.loop-read.invariant.input) c.loop-read.invariant.read c.loop-read-test.true in
+    let s = c.loop-read.parser in
+    let t = c.add_step.new.parser in
+    let more = some_left c.args.input.now s.input s.rest c.loop-read.read c.utf8.input (c.requires.input
+    ∙ sym c.loop-read.invariant.input) c.loop-read.invariant.read c.loop-read-test.true in
     let fewer = goes_on s more in
     let state = c.in_ok-read.ensures.state in
     let used = c.in_ok-read.ensures.used in
@@ -41,20 +43,25 @@ loop-read-preserved c =
       guided = c.in_ok-read.ensures.guided;
       read = c.in_ok-read.ensures.read;
       room = omega (arith, invariant.room, fewer, ap (λ (s : State). length s.rest) state);
-      up_to = one_more c.args.input.now c.args.reading.now.parser s t (states t) c.loop-read.count c.loop-read.used c.add_step.new.used
+      up_to = one_more c.args.input.now c.args.parser.now s t (states t) c.loop-read.count c.loop-read.used c.add_step.new.used
           c.loop-read.finders c.add_step.new.finders c.loop-read.steps c.add_step.new.steps c.loop-read.specs c.add_step.new.specs
           (rw (states-more s t more state) at invariant.up_to) state used c.in_ok-read.ensures.finders c.in_ok-read.ensures.fronts
           c.in_ok-read.ensures.added c.in_ok-read.ensures.front c.add_step.auto.specs;
-      kept_steps = kept_put c.args.input.now s c.loop-read.steps c.add_step.new.steps c.args.steps.now c.add_step.new.specs c.loop-read.count c.add_step.new.used c.in_ok-read.ensures.added invariant.kept_steps;
-      kept_specs = c.in_ok-read.ensures.kept ∙ still_behind c.loop-read.specs c.args.specs.now c.loop-read.used c.add_step.new.used (omega (arith, used)) invariant.kept_specs;
+      kept_steps = kept_put c.args.input.now s c.loop-read.steps c.add_step.new.steps c.args.steps.now c.add_step.new.specs c.loop-read.count
+          c.add_step.new.used c.in_ok-read.ensures.added invariant.kept_steps;
+      kept_specs = c.in_ok-read.ensures.kept ∙ still_behind c.loop-read.specs c.args.specs.now c.loop-read.used c.add_step.new.used (omega (
+        arith,
+        used,
+      )) invariant.kept_specs;
     }
 
 pub returns : goal.returns
 returns c =
-    let s = c.loop-read.reading.parser in
-    let s0 = c.args.reading.now.parser in
-    let t = c.add_step-2.new.reading.parser in
-    let end = none_left c.args.input.now s.input s.rest c.loop-read.read c.utf8.input (c.requires.input ∙ sym c.loop-read.invariant.input) c.loop-read.invariant.left c.loop-read.invariant.read c.loop-read-test.false in
+    let s = c.loop-read.parser in
+    let s0 = c.args.parser.now in
+    let t = c.add_step-2.new.parser in
+    let end = none_left c.args.input.now s.input s.rest c.loop-read.read c.utf8.input (c.requires.input
+    ∙ sym c.loop-read.invariant.input) c.loop-read.invariant.left c.loop-read.invariant.read c.loop-read-test.false in
     let invariant = c.loop-read.invariant in
     let state = c.in_ok-add_step.ensures.state in
     let used = c.in_ok-add_step.ensures.used in
@@ -65,10 +72,19 @@ returns c =
     record {
       count = omega (arith, last.counted, length-map (states s0) event);
       specs = omega (arith, last.specs_counted);
-      written = λ room specs_room. sym (append-nil _) ∙ last.written (omega (arith, c.add_step-2.auto.steps, c.loop-read.auto.steps, room)) (omega (arith, c.add_step-2.auto.specs, c.loop-read.auto.specs, specs_room));
+      written = λ room specs_room. sym (append-nil _) ∙ last.written (omega (arith, c.add_step-2.auto.steps, c.loop-read.auto.steps, room)) (omega (
+        arith,
+        c.add_step-2.auto.specs,
+        c.loop-read.auto.specs,
+        specs_room,
+      ));
       state = last.state;
       finders = last.finders;
       fronts = omega (arith, last.fronts);
-      kept_steps = kept_put c.args.input.now s c.loop-read.steps c.add_step-2.new.steps c.args.steps.now c.add_step-2.new.specs c.loop-read.count c.add_step-2.new.used c.in_ok-add_step.ensures.added invariant.kept_steps;
-      kept_specs = c.in_ok-add_step.ensures.kept ∙ still_behind c.loop-read.specs c.args.specs.now c.loop-read.used c.add_step-2.new.used (omega (arith, used)) invariant.kept_specs;
+      kept_steps = kept_put c.args.input.now s c.loop-read.steps c.add_step-2.new.steps c.args.steps.now c.add_step-2.new.specs c.loop-read.count
+          c.add_step-2.new.used c.in_ok-add_step.ensures.added invariant.kept_steps;
+      kept_specs = c.in_ok-add_step.ensures.kept ∙ still_behind c.loop-read.specs c.args.specs.now c.loop-read.used c.add_step-2.new.used (omega (
+        arith,
+        used,
+      )) invariant.kept_specs;
     }
