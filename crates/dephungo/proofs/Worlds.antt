@@ -5,6 +5,7 @@ use Rattle.rustc_parse_format.specs.Types.{Mode}
 use Rattle.rustc_parse_format.specs.World.{input_end, quote_offset, world}
 use Rattle.rustc_parse_format.specs.State.{State, first_state}
 use Rattle.rustc_parse_format.proofs.TextBytes.{no_source-plain, raw-plain}
+use Rattle.rustc_parse_format.specs.Agreement.{Agree}
 use Rattle.dephungo.specs.Stand.{IsPlain}
 
 pub guide_plain : (mode : Mode) (input : Text) → IsPlain (first_state mode input None None false) 1
@@ -21,3 +22,7 @@ pub raw_plain : (mode : Mode) (input : Text) (style : Option ℕ) (snippet : Opt
 raw_plain mode input None snippet appended at e h = cc
 raw_plain mode input (Some n) snippet appended at e h =
     let p = raw-plain input n snippet appended in rw e (p.literal, p.end, p.is)
+
+pub guide_agrees : (mode : Mode) (input : Text) (style : Option ℕ) (snippet : Option Text) (appended : Bool) →
+    Agree (first_state mode input style snippet appended) (first_state mode input None None false)
+guide_agrees mode input style snippet appended = record { mode = refl; input = refl; rest = refl; next = refl; errors = refl }

@@ -1,7 +1,9 @@
 //! A whole input at once.
 
-ghost use Rattle.std.specs.Prelude.{◌≡◌, ◌≤◌, IfOk, chars, drop, length, map, option_map, string_bytes, take};
-ghost use Rattle.rustc_parse_format.specs.Seen.{pair};
+ghost use Rattle.std.specs.Prelude.{◌≡◌, ◌≤◌, Bool, IfOk, Option, chars, drop, length, map, option_map, string_bytes, take};
+ghost use Rattle.rustc_parse_format.specs.Seen.{pair, seen_mode};
+ghost use Rattle.rustc_parse_format.specs.Characters.{Text};
+ghost use Rattle.rustc_parse_format.specs.State.{first_state};
 ghost use Rattle.rustc_parse_format.specs.World.{hashes, quote_offset};
 ghost use Rattle.dephungo.specs.Asked.{Fits, IsCounted, IsKept, IsTold, asked_state, limit};
 ghost use Rattle.dephungo.specs.Meant.{place};
@@ -12,8 +14,8 @@ use crate::finders::Finders;
 use crate::flat::{extent, flag};
 use crate::records::{Answer, Extent, Fault, Spec, Step};
 use crate::task::Task;
-use crate::walk::{Reading, next_place, place_ahead, walk};
-use rustc_parse_format::Parser;
+use crate::walk::{next_place, place_ahead, walk};
+use rustc_parse_format::{ParseMode, Parser};
 use std::alloc::{AllocError, Global};
 use std::ops::Range;
 
@@ -37,35 +39,24 @@ fn offset_of(style: Option<usize>) -> usize
     }
 }
 
-/// A parser at the start of what is asked for. In an ordinary source literal places are not as in the input, so another
-/// parser goes along.
-fn begin(alloc: Global, asked: Task<'_>) -> Result<Reading<'_>, AllocError>
-    requires input_length { length asked.input.now ≤ limit }
-    requires hashes { hashes asked.style ≤ limit }
-    ensures start { IfOk result (λ r. r.parser ≡ asked_state asked.entry) }
-    ensures guided { IfOk result (λ r. IsGuided r.parser r.offset (guide_of r.guide)) }
-    ensures short { IfOk result (λ r. length r.parser.rest ≤ length asked.entry.input.now) }
+/// In an ordinary source literal places are not as in the input, so another parser goes along.
+fn guide_for<'a>(
+    alloc: Global,
+    parser: &Parser<'_>,
+    mode: ParseMode,
+    input: &'a str,
+    style: Option<usize>,
+) -> Result<Option<Box<Parser<'a>>>, AllocError>
+    requires { length input.now ≤ limit }
+    ensures { IfOk result (λ g. (snippet : Option Text) (appended : Bool)
+        → parser.now ≡ first_state (seen_mode mode) (chars input.now) style snippet appended → IsGuided parser.now (quote_offset style) (guide_of g)) }
 {
-    let Task {
-        mode,
-        input,
-        style,
-        snippet,
-        appended_newline,
-    } = asked;
-    let snippet = owned(alloc, snippet)?;
-    let parser = Parser::new(alloc, input, style, snippet, appended_newline, mode)?;
-    let guide = if parser.is_source_literal() && style.is_none() {
+    if parser.is_source_literal() && style.is_none() {
         let guide = Parser::new(alloc, input, None, None, false, mode)?;
-        Some(Box::new(alloc, guide)?)
+        Ok(Some(Box::new(alloc, guide)?))
     } else {
-        None
-    };
-    Ok(Reading {
-        parser,
-        guide,
-        offset: offset_of(style),
-    })
+        Ok(None)
+    }
 }
 
 /// Writes the lines, as far as there is room.
@@ -98,15 +89,32 @@ pub fn read(
     ensures kept { IfOk result (λ a. IsKept a (record { steps = steps.old; specs = specs.old; faults = faults.old; texts = texts.old; lines = lines.old })
         (record { steps = steps.new; specs = specs.new; faults = faults.new; texts = texts.new; lines = lines.new })) }
 {
-    let input = asked.input;
-    let mut reading = begin(alloc, asked)?;
-    let is_source_literal = flag(reading.parser.is_source_literal());
-    let (_, peek) = next_place(&reading.parser, input);
-    let peek_ahead = place_ahead(&reading.parser);
+    let Task {
+        mode,
+        input,
+        style,
+        snippet,
+        appended_newline,
+    } = asked;
+    let snippet = owned(alloc, snippet)?;
+    let mut parser = Parser::new(alloc, input, style, snippet, appended_newline, mode)?;
+    let mut guide = guide_for(alloc, &parser, mode, input, style)?;
+    let is_source_literal = flag(parser.is_source_literal());
+    let (_, peek) = next_place(&parser, input);
+    let peek_ahead = place_ahead(&parser);
     let mut finders = Finders::new(alloc);
-    let (count, used) = walk(&mut reading, input, &mut finders, steps, specs)?;
-    let errors = reading.parser.errors();
-    let spans = reading.parser.line_spans();
+    let offset = offset_of(style);
+    let (count, used) = walk(
+        &mut parser,
+        &mut guide,
+        offset,
+        input,
+        &mut finders,
+        steps,
+        specs,
+    )?;
+    let errors = parser.errors();
+    let spans = parser.line_spans();
     put_lines(spans, lines);
     Ok(Answer {
         steps: count,

@@ -34,15 +34,6 @@ const BLANK: Step = Step {
     peek_ahead: NO_EXTENT,
 };
 
-/// A parser, and how the places of texts are known: its spans are so many bytes behind the places in the input; or else those
-/// of another parser are, which goes along, by one byte.
-#[derive(Drop)]
-pub struct Reading<'a> {
-    pub parser: Parser<'a>,
-    pub guide: Option<Box<Parser<'a>>>,
-    pub offset: usize,
-}
-
 /// How far the input was read, and where the next character stands in the source.
 pub fn next_place(parser: &Parser<'_>, input: &str) -> (usize, MaybeExtent)
     requires { chars input.now ≡ parser.now.input }
@@ -102,9 +93,12 @@ fn texts_at(
     }
 }
 
-/// The call with this number, into its step.
+/// The call with this number, into its step. The places of texts are those of the parser's spans, so many bytes behind the
+/// places in the input; or those of the spans of a guide, which goes along, one byte behind them.
 fn step(
-    reading: &mut Reading<'_>,
+    parser: &mut Parser<'_>,
+    guide: &mut Option<Box<Parser<'_>>>,
+    offset: usize,
     input: &str,
     number: usize,
     finders: &mut Finders,
@@ -112,40 +106,42 @@ fn step(
     used: &mut usize,
     step: &mut Step,
 ) -> Result<(), AllocError>
-    requires input { chars input.now ≡ reading.old.parser.input }
-    requires left { EndsWith reading.old.parser.input reading.old.parser.rest }
-    requires guided { IsGuided reading.old.parser reading.old.offset (guide_of reading.old.guide) }
+    requires input { chars input.now ≡ parser.old.input }
+    requires left { EndsWith parser.old.input parser.old.rest }
+    requires guided { IsGuided parser.old offset (guide_of guide.old) }
     requires room { used.old < usize.MAX }
-    ensures told { OnOk result (used.new ≤ length specs.old → step_meant input.now specs.new step.new ≡ event reading.old.parser) }
+    ensures told { OnOk result (used.new ≤ length specs.old → step_meant input.now specs.new step.new ≡ event parser.old) }
     ensures number { OnOk result (step.new.spec ≤ used.new) }
-    ensures used { OnOk result (used.new ≡ used.old + specs_in (event reading.old.parser).piece) }
+    ensures used { OnOk result (used.new ≡ used.old + specs_in (event parser.old).piece) }
     ensures front { OnOk result (take used.old specs.new ≡ take used.old specs.old) }
     ensures kept { OnOk result (drop used.new specs.new ≡ drop used.new specs.old) }
-    ensures state { OnOk result (reading.new.parser ≡ after reading.old.parser (next_call reading.old.parser)) }
-    ensures read { OnOk result (step.new.read ≡ position reading.new.parser.input reading.new.parser.rest) }
-    ensures guided { OnOk result (IsGuided reading.new.parser reading.new.offset (guide_of reading.new.guide)) }
-    ensures finders { OnOk result (finders.new.calls ≡ add_finders number finders.old.calls (next_call reading.old.parser).faults) }
-    ensures fronts { OnOk result (finders.new.fronts ≡ finders.old.fronts + fronts_in (next_call reading.old.parser)) }
+    ensures state { OnOk result (parser.new ≡ after parser.old (next_call parser.old)) }
+    ensures read { OnOk result (step.new.read ≡ position parser.new.input parser.new.rest) }
+    ensures guided { OnOk result (IsGuided parser.new offset (guide_of guide.new)) }
+    ensures finders { OnOk result (finders.new.calls ≡ add_finders number finders.old.calls (next_call parser.old).faults) }
+    ensures fronts { OnOk result (finders.new.fronts ≡ finders.old.fronts + fronts_in (next_call parser.old)) }
 {
-    let faults = reading.parser.errors().len();
-    let places = reading.parser.arg_places().len();
-    let (given, fronts) = reading.parser.next_with_fronts()?;
-    let (read, peek) = next_place(&reading.parser, input);
-    let texts = texts_at(&mut reading.guide, input, reading.offset, read, &given)?;
-    finders.add(number, fronts, reading.parser.errors().len() - faults)?;
+    let faults = parser.errors().len();
+    let places = parser.arg_places().len();
+    let (given, fronts) = parser.next_with_fronts()?;
+    let (read, peek) = next_place(parser, input);
+    let texts = texts_at(guide, input, offset, read, &given)?;
+    finders.add(number, fronts, parser.errors().len() - faults)?;
     put_piece(&given, &texts, specs, used, step);
-    step.place = closed(reading.parser.arg_places(), places);
+    step.place = closed(parser.arg_places(), places);
     step.read = read;
-    step.next = reading.parser.curarg();
-    step.lines = reading.parser.line_spans().len();
+    step.next = parser.curarg();
+    step.lines = parser.line_spans().len();
     step.peek = peek;
-    step.peek_ahead = place_ahead(&reading.parser);
+    step.peek_ahead = place_ahead(parser);
     Ok(())
 }
 
 /// The call with this number, written behind so many steps, if there is room: how far the input was read.
 fn add_step(
-    reading: &mut Reading<'_>,
+    parser: &mut Parser<'_>,
+    guide: &mut Option<Box<Parser<'_>>>,
+    offset: usize,
     input: &str,
     number: usize,
     finders: &mut Finders,
@@ -153,27 +149,31 @@ fn add_step(
     specs: &mut [Spec],
     used: &mut usize,
 ) -> Result<usize, AllocError>
-    requires input { chars input.now ≡ reading.old.parser.input }
-    requires left { EndsWith reading.old.parser.input reading.old.parser.rest }
-    requires guided { IsGuided reading.old.parser reading.old.offset (guide_of reading.old.guide) }
+    requires input { chars input.now ≡ parser.old.input }
+    requires left { EndsWith parser.old.input parser.old.rest }
+    requires guided { IsGuided parser.old offset (guide_of guide.old) }
     requires room { used.old < usize.MAX }
-    ensures added { OnOk result (IsAdded input.now reading.old.parser number used.new steps.old steps.new specs.new) }
-    ensures used { OnOk result (used.new ≡ used.old + specs_in (event reading.old.parser).piece) }
+    ensures added { OnOk result (IsAdded input.now parser.old number used.new steps.old steps.new specs.new) }
+    ensures used { OnOk result (used.new ≡ used.old + specs_in (event parser.old).piece) }
     ensures front { OnOk result (take used.old specs.new ≡ take used.old specs.old) }
     ensures kept { OnOk result (drop used.new specs.new ≡ drop used.new specs.old) }
-    ensures state { OnOk result (reading.new.parser ≡ after reading.old.parser (next_call reading.old.parser)) }
-    ensures read { IfOk result (λ n. n ≡ position reading.new.parser.input reading.new.parser.rest) }
-    ensures guided { OnOk result (IsGuided reading.new.parser reading.new.offset (guide_of reading.new.guide)) }
-    ensures finders { OnOk result (finders.new.calls ≡ add_finders number finders.old.calls (next_call reading.old.parser).faults) }
-    ensures fronts { OnOk result (finders.new.fronts ≡ finders.old.fronts + fronts_in (next_call reading.old.parser)) }
+    ensures state { OnOk result (parser.new ≡ after parser.old (next_call parser.old)) }
+    ensures read { IfOk result (λ n. n ≡ position parser.new.input parser.new.rest) }
+    ensures guided { OnOk result (IsGuided parser.new offset (guide_of guide.new)) }
+    ensures finders { OnOk result (finders.new.calls ≡ add_finders number finders.old.calls (next_call parser.old).faults) }
+    ensures fronts { OnOk result (finders.new.fronts ≡ finders.old.fronts + fronts_in (next_call parser.old)) }
 {
     if number < steps.len() {
         let place = &mut steps[number];
-        step(reading, input, number, finders, specs, used, place)?;
+        step(
+            parser, guide, offset, input, number, finders, specs, used, place,
+        )?;
         Ok(steps[number].read)
     } else {
         let mut spare = BLANK;
-        step(reading, input, number, finders, specs, used, &mut spare)?;
+        step(
+            parser, guide, offset, input, number, finders, specs, used, &mut spare,
+        )?;
         Ok(spare.read)
     }
 }
@@ -181,25 +181,27 @@ fn add_step(
 /// All calls up to and with the one at the end of the input: how many there are, and how many specifications. What fits is
 /// written.
 pub fn walk(
-    reading: &mut Reading<'_>,
+    parser: &mut Parser<'_>,
+    guide: &mut Option<Box<Parser<'_>>>,
+    offset: usize,
     input: &str,
     finders: &mut Finders,
     steps: &mut [Step],
     specs: &mut [Spec],
 ) -> Result<(usize, usize), AllocError>
-    requires input { chars input.now ≡ reading.old.parser.input }
-    requires guided { IsGuided reading.old.parser reading.old.offset (guide_of reading.old.guide) }
-    requires small { length reading.old.parser.rest < 2 ^ 63 }
+    requires input { chars input.now ≡ parser.old.input }
+    requires guided { IsGuided parser.old offset (guide_of guide.old) }
+    requires small { length parser.old.rest < 2 ^ 63 }
     requires none { finders.old.calls ≡ [] }
     requires no_fronts { finders.old.fronts ≡ 0 }
-    requires start { reading.old.parser.rest ≡ reading.old.parser.input }
-    ensures count { IfOk result (λ k. k.0 ≡ length (events reading.old.parser)) }
-    ensures specs { IfOk result (λ k. k.1 ≡ spec_count reading.old.parser) }
+    requires start { parser.old.rest ≡ parser.old.input }
+    ensures count { IfOk result (λ k. k.0 ≡ length (events parser.old)) }
+    ensures specs { IfOk result (λ k. k.1 ≡ spec_count parser.old) }
     ensures written { IfOk result (λ k. k.0 ≤ length steps.old → k.1 ≤ length specs.old
-        → map (step_meant input.now specs.new) (take k.0 steps.new) ≡ events reading.old.parser) }
-    ensures state { OnOk result (reading.new.parser ≡ end_of reading.old.parser) }
-    ensures finders { OnOk result (finders.new.calls ≡ found_by reading.old.parser) }
-    ensures fronts { OnOk result (finders.new.fronts ≡ fronts_of reading.old.parser) }
+        → map (step_meant input.now specs.new) (take k.0 steps.new) ≡ events parser.old) }
+    ensures state { OnOk result (parser.new ≡ end_of parser.old) }
+    ensures finders { OnOk result (finders.new.calls ≡ found_by parser.old) }
+    ensures fronts { OnOk result (finders.new.fronts ≡ fronts_of parser.old) }
     ensures kept_steps { IfOk result (λ k. drop k.0 steps.new ≡ drop k.0 steps.old) }
     ensures kept_specs { IfOk result (λ k. drop k.1 specs.new ≡ drop k.1 specs.old) }
 {
@@ -207,9 +209,13 @@ pub fn walk(
     let mut used = 0;
     let mut read = 0;
     while read < input.len() {
-        read = add_step(reading, input, count, finders, steps, specs, &mut used)?;
+        read = add_step(
+            parser, guide, offset, input, count, finders, steps, specs, &mut used,
+        )?;
         count += 1;
     }
-    add_step(reading, input, count, finders, steps, specs, &mut used)?;
+    add_step(
+        parser, guide, offset, input, count, finders, steps, specs, &mut used,
+    )?;
     Ok((count + 1, used))
 }

@@ -8,10 +8,10 @@ use Rattle.dephungo.proofs.Walking.{length-finders}
 use Rattle.dephungo.proofs.read.read.Goals as goal
 
 pub walk-requires-clause-small : goal.walk-requires-clause-small
-walk-requires-clause-small c = omega (arith, c.in_ok-reading.ensures.short, c.requires.input_length)
+walk-requires-clause-small c = omega (arith, c.in_ok-parser.ensures.short, c.requires.input_length)
 
 pub put_errors-requires : goal.put_errors-requires
 put_errors-requires c =
-    let s = c.in_ok-reading.reading.parser in
-    ap length c.in_ok-count.ensures.finders ∙ length-finders 0 [] s (calls s) (sym (ap (λ (t : State). length t.errors) c.in_ok-reading.ensures.start))
+    let s = c.in_ok-parser.parser in
+    ap length c.in_ok-count.ensures.finders ∙ length-finders 0 [] s (calls s) (sym (ap (λ (t : State). length t.errors) c.in_ok-parser.ensures.start))
     ∙ sym (ap (λ (t : State). length t.errors) c.in_ok-count.ensures.state) ∙ sym (ap length c.errors-errors.ensures) ∙ length-map c.errors-errors.result.now seen_error

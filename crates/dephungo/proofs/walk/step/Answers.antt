@@ -16,30 +16,30 @@ use Rattle.dephungo.proofs.walk.step.Goals as goal
 pub texts_at-requires-clause-alone : goal.texts_at-requires-clause-alone
 texts_at-requires-clause-alone c =
     let read = c.next_place-read.ensures.read ∙ ap (λ (s : State). position s.input s.rest) c.in_ok-given.ensures.state in
-    alone c.args.input.now c.args.reading.now.parser c.args.reading.now.offset _ (guide_of c.args.reading.now.guide) _ c.utf8.input c.requires.input c.requires.left c.requires.guided read c.in_ok-given.ensures.piece
+    alone c.args.input.now c.args.parser.now c.args.offset _ (guide_of c.args.guide.now) _ c.utf8.input c.requires.input c.requires.left c.requires.guided read c.in_ok-given.ensures.piece
 
 pub overflow_sub-errors : goal.overflow_sub-errors
 overflow_sub-errors c =
     let before = sym (length-map c.errors-faults.result.now seen_error) ∙ ap length c.errors-faults.ensures in
     let behind = sym (length-map c.errors.result.now seen_error) ∙ ap length c.errors.ensures in
-    let grown = ap (λ (s : State). length s.errors) c.in_ok-given.ensures.state ∙ length-after c.args.reading.now.parser (next_call c.args.reading.now.parser) in
+    let grown = ap (λ (s : State). length s.errors) c.in_ok-given.ensures.state ∙ length-after c.args.parser.now (next_call c.args.parser.now) in
     omega (arith, before, behind, grown)
 
 pub add-requires : goal.add-requires
 add-requires c =
     let before = sym (length-map c.errors-faults.result.now seen_error) ∙ ap length c.errors-faults.ensures in
     let behind = sym (length-map c.errors.result.now seen_error) ∙ ap length c.errors.ensures in
-    let grown = ap (λ (s : State). length s.errors) c.in_ok-given.ensures.state ∙ length-after c.args.reading.now.parser (next_call c.args.reading.now.parser) in
-    let few = few_fronts (next_call c.args.reading.now.parser).faults in
-    let fronts : c.in_ok-given.fronts ≡ fronts_in (next_call c.args.reading.now.parser) = c.in_ok-given.ensures.fronts in
+    let grown = ap (λ (s : State). length s.errors) c.in_ok-given.ensures.state ∙ length-after c.args.parser.now (next_call c.args.parser.now) in
+    let few = few_fronts (next_call c.args.parser.now).faults in
+    let fronts : c.in_ok-given.fronts ≡ fronts_in (next_call c.args.parser.now) = c.in_ok-given.ensures.fronts in
     omega (arith, before, behind, grown, few, fronts)
 
 pub returns-clause-told : goal.returns-clause-told
 unfolding piece_meant
 returns-clause-told c = λ room.
-    let s = c.args.reading.now.parser in
+    let s = c.args.parser.now in
     let state = c.in_ok-given.ensures.state in
-    let texts = given_texts c.args.input.now c.in_ok-texts.texts s c.args.reading.now.offset (guide_of c.args.reading.now.guide) (option_map seen c.in_ok-given.given) c.requires.guided
+    let texts = given_texts c.args.input.now c.in_ok-texts.texts s c.args.offset (guide_of c.args.guide.now) (option_map seen c.in_ok-given.given) c.requires.guided
     c.in_ok-given.ensures.piece c.in_ok-texts.ensures.alone c.in_ok-texts.ensures.along in
     let r : Step = record {
       kind = c.put_piece.new.step.kind;
@@ -67,14 +67,14 @@ returns-clause-told c = λ room.
 
 pub returns-clause-guided : goal.returns-clause-guided
 returns-clause-guided c =
-    rw (c.in_ok-given.ensures.state, c.in_ok-texts.ensures.state) (still_guided c.args.reading.now.parser c.args.reading.now.offset (guide_of c.args.reading.now.guide) c.requires.guided)
+    rw (c.in_ok-given.ensures.state, c.in_ok-texts.ensures.state) (still_guided c.args.parser.now c.args.offset (guide_of c.args.guide.now) c.requires.guided)
 
 pub returns-clause-finders : goal.returns-clause-finders
 returns-clause-finders c =
     let before = sym (length-map c.errors-faults.result.now seen_error) ∙ ap length c.errors-faults.ensures in
     let behind = sym (length-map c.errors.result.now seen_error) ∙ ap length c.errors.ensures in
-    let grown = ap (λ (s : State). length s.errors) c.in_ok-given.ensures.state ∙ length-after c.args.reading.now.parser (next_call c.args.reading.now.parser) in
-    let fs = (next_call c.args.reading.now.parser).faults in
-    let fronts : c.in_ok-given.fronts ≡ fronts_in (next_call c.args.reading.now.parser) = c.in_ok-given.ensures.fronts in
+    let grown = ap (λ (s : State). length s.errors) c.in_ok-given.ensures.state ∙ length-after c.args.parser.now (next_call c.args.parser.now) in
+    let fs = (next_call c.args.parser.now).faults in
+    let fronts : c.in_ok-given.fronts ≡ fronts_in (next_call c.args.parser.now) = c.in_ok-given.ensures.fronts in
     let found : length c.errors.result.now - length c.errors-faults.result.now ≡ length fs = omega (arith, before, behind, grown) in
     rw (found, fronts) at c.in_ok-add.ensures.calls ∙ sym (add_finders-is c.args.number c.args.finders.now.calls fs)

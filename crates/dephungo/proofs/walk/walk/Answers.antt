@@ -15,21 +15,21 @@ loop-read-init c = record {
   read = rw c.requires.start (omega arith);
   guided = c.requires.guided;
   room = omega arith;
-  up_to = begin c.args.input.now c.args.reading.now.parser c.args.finders.now c.args.steps.now c.args.specs.now c.requires.none c.requires.no_fronts;
+  up_to = begin c.args.input.now c.args.parser.now c.args.finders.now c.args.steps.now c.args.specs.now c.requires.none c.requires.no_fronts;
   kept_steps = refl;
   kept_specs = refl;
 }
 
 pub loop-read-smaller : goal.loop-read-smaller
 loop-read-smaller c =
-    let s = c.loop-read.reading.parser in
+    let s = c.loop-read.parser in
     rw (ap (λ (s : State). length s.rest) c.in_ok-read.ensures.state)
-    (goes_on c.loop-read.reading.parser (some_left c.args.input.now s.input s.rest c.loop-read.read c.utf8.input (c.requires.input ∙ sym c.loop-read.invariant.input) c.loop-read.invariant.read c.loop-read-test.true))
+    (goes_on c.loop-read.parser (some_left c.args.input.now s.input s.rest c.loop-read.read c.utf8.input (c.requires.input ∙ sym c.loop-read.invariant.input) c.loop-read.invariant.read c.loop-read-test.true))
 
 pub loop-read-preserved : goal.loop-read-preserved
 loop-read-preserved c =
-    let s = c.loop-read.reading.parser in
-    let t = c.add_step.new.reading.parser in
+    let s = c.loop-read.parser in
+    let t = c.add_step.new.parser in
     let more = some_left c.args.input.now s.input s.rest c.loop-read.read c.utf8.input (c.requires.input ∙ sym c.loop-read.invariant.input) c.loop-read.invariant.read c.loop-read-test.true in
     let fewer = goes_on s more in
     let state = c.in_ok-read.ensures.state in
@@ -41,7 +41,7 @@ loop-read-preserved c =
       guided = c.in_ok-read.ensures.guided;
       read = c.in_ok-read.ensures.read;
       room = omega (arith, invariant.room, fewer, ap (λ (s : State). length s.rest) state);
-      up_to = one_more c.args.input.now c.args.reading.now.parser s t (states t) c.loop-read.count c.loop-read.used c.add_step.new.used
+      up_to = one_more c.args.input.now c.args.parser.now s t (states t) c.loop-read.count c.loop-read.used c.add_step.new.used
           c.loop-read.finders c.add_step.new.finders c.loop-read.steps c.add_step.new.steps c.loop-read.specs c.add_step.new.specs
           (rw (states-more s t more state) at invariant.up_to) state used c.in_ok-read.ensures.finders c.in_ok-read.ensures.fronts
           c.in_ok-read.ensures.added c.in_ok-read.ensures.front c.add_step.auto.specs;
@@ -51,9 +51,9 @@ loop-read-preserved c =
 
 pub returns : goal.returns
 returns c =
-    let s = c.loop-read.reading.parser in
-    let s0 = c.args.reading.now.parser in
-    let t = c.add_step-2.new.reading.parser in
+    let s = c.loop-read.parser in
+    let s0 = c.args.parser.now in
+    let t = c.add_step-2.new.parser in
     let end = none_left c.args.input.now s.input s.rest c.loop-read.read c.utf8.input (c.requires.input ∙ sym c.loop-read.invariant.input) c.loop-read.invariant.left c.loop-read.invariant.read c.loop-read-test.false in
     let invariant = c.loop-read.invariant in
     let state = c.in_ok-add_step.ensures.state in
