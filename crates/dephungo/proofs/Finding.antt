@@ -1,13 +1,12 @@
 -- Which calls found the errors: the faults of a call, those in front and those behind.
-use Rattle.std.proofs.Common.{◌≡◌, ℕ, zero, suc, ◌+◌, ◌-◌, ◌≤◌, ◌++◌, Bool, true, false, cond, List, [], ◌∷◌, length, map, replicate, reverse, refl, sym, ap, ◌∙◌, append_assoc, arith, add-one, length-append}
+use Rattle.std.proofs.Common.{◌≡◌, ℕ, zero, suc, ◌+◌, ◌-◌, ◌≤◌, ◌++◌, Bool, true, false, cond, List, [], ◌∷◌, length, replicate, reverse, refl, sym, ap, ◌∙◌, append_assoc, arith, add-one, length-append}
 use Rattle.std.specs.List.{filter}
 use Rattle.std.proofs.lemmas.List.{append-nil, length-map, reverse-append, replicate_more, length-replicate}
 use Rattle.rustc_parse_format.specs.Faults.{Fault, Message, add_errors, is_front, message}
-use Rattle.rustc_parse_format.specs.World.{World, faults_in}
-use Rattle.rustc_parse_format.specs.Marks.{Span}
+use Rattle.rustc_parse_format.specs.World.{faults_in}
 use Rattle.rustc_parse_format.specs.Call.{Call}
 use Rattle.rustc_parse_format.specs.State.{State, after}
-use Rattle.dephungo.specs.Events.{add_finders, fronts_in}
+use Rattle.dephungo.specs.Events.{add_finders}
 
 pub length-add_errors : {A : Type 0} (old : List (Message A)) (fs : List (Fault A)) → length (add_errors old fs) ≡ length old + length fs
 length-add_errors old [] = omega arith

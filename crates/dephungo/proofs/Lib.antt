@@ -7,3 +7,4 @@ pub mod Finding
 pub mod Standing
 pub mod Worlds
 pub mod Walking
+pub mod Rows

@@ -3,7 +3,6 @@ use Rattle.std.proofs.Common.{◌≡◌, ℕ, zero, suc, ◌+◌, ◌<◌, ◌�
 use Rattle.std.proofs.lemmas.List.{get_or-map, get_or-take, get_or-set_same, take-map}
 use Rattle.rustc_parse_format.specs.Types.{Spec, Alignment, Left, Right, Center, Unknown, Count, Is, Name, Param, Star, Implied, default_spec}
 use Rattle.rustc_parse_format.specs.Characters.{Text, is_nil}
-use Rattle.rustc_parse_format.specs.World.{Place}
 use Rattle.dephungo.specs.declared.records.Spec.{Spec as SpecRecord}
 use Rattle.dephungo.specs.Meant.{spec_at, spec_meant}
 use Rattle.dephungo.specs.Events.{is_default, is_implied, is_unknown}

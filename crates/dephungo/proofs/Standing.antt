@@ -1,10 +1,10 @@
 -- The texts of a call's piece stand in the input where they are looked for.
-use Rattle.std.proofs.Common.{◌≡◌, ℕ, ◌-◌, ◌++◌, ◌⊎◌, append_assoc, List, [], Bool, Option, Some, None, chars, IsUtf8, inl, inr, refl, subst, sym, ap, ◌∙◌}
-use Rattle.std.specs.Prelude.{IfNone, IfSome, codes, option_map}
-use Rattle.rustc_parse_format.specs.Characters.{Text, byte_length}
+use Rattle.std.proofs.Common.{◌≡◌, ℕ, ◌-◌, ◌++◌, append_assoc, List, Option, Some, None, chars, IsUtf8, inl, inr, refl, subst, sym, ap, ◌∙◌}
+use Rattle.std.specs.Prelude.{IfNone, IfSome, option_map}
+use Rattle.rustc_parse_format.specs.Characters.{Text}
 use Rattle.rustc_parse_format.specs.Types.{Mode, Format, InlineAsm, Diagnostic, DiagnosticNamed, Position, Implicit, Index, Named, Count, Is, Name, Param, Star, Implied}
-use Rattle.rustc_parse_format.specs.Types.{Spec, Argument, Piece, Lit, NextArgument, map_piece, bare, bare_count}
-use Rattle.rustc_parse_format.specs.World.{Place, piece_in, plain_world}
+use Rattle.rustc_parse_format.specs.Types.{Piece, Lit, NextArgument, bare, bare_count}
+use Rattle.rustc_parse_format.specs.World.{Place, piece_in}
 use Rattle.rustc_parse_format.specs.State.{State, next_call, after}
 use Rattle.rustc_parse_format.specs.Agreement.{Agree}
 use Rattle.rustc_parse_format.proofs.Agreement.{next_agrees}
@@ -13,7 +13,7 @@ use Rattle.rustc_parse_format.proofs.TextPlaces.{CountTexts, TypeTexts, Position
 use Rattle.rustc_parse_format.proofs.TextBytes.{HasLast, HasName, HasText, piece_has}
 use Rattle.dephungo.specs.declared.texts.Texts.{Texts}
 use Rattle.dephungo.specs.Events.{position}
-use Rattle.dephungo.specs.Stand.{ArgumentStands, CountAt, CountStands, EndsWith, IsAlong, IsGuided, IsPlain, PieceAt, PieceStands, PositionAt, PositionStands, TypeStands}
+use Rattle.dephungo.specs.Stand.{CountAt, CountStands, EndsWith, IsAlong, IsGuided, IsPlain, PieceAt, PieceStands, PositionStands, TypeStands}
 
 count_stands : (bytes : List ℕ) (at : ℕ) (k : Count Place) → CountTexts (HasText bytes at) k → CountStands bytes at k
 count_stands bytes at (Is n) h = tt

@@ -1,12 +1,12 @@
 -- The loop over the calls: what is written so far, and what is left to do.
 use Rattle.std.proofs.Common.{◌≡◌, ◌≢◌, ℕ, zero, suc, ◌+◌, ◌<◌, ◌≤◌, ◌++◌, ◌⊎◌, inl, inr, Bool, true, false, cond, List, [], ◌∷◌, Option, Some, None, length, map, take, drop, set, sum_by, refl, sym, ap, ◌∙◌, append_assoc, arith, add-one, length-set}
 use Rattle.std.specs.Prelude.{option_map}
-use Rattle.std.proofs.lemmas.List.{append-nil, map-append, take_more_set, take_all, length-map, length-take-le}
+use Rattle.std.proofs.lemmas.List.{map-append, take_more_set, take_all}
 use Rattle.std.proofs.lemmas.List.Sums.{sum_by-cons}
 use Rattle.std.proofs.lemmas.Bool.{cases_lt}
 use Rattle.rustc_parse_format.specs.Characters.{Text, is_nil, behind_first}
 use Rattle.rustc_parse_format.specs.Types.{Piece, Lit, NextArgument}
-use Rattle.rustc_parse_format.specs.World.{Place, piece_in}
+use Rattle.rustc_parse_format.specs.World.{piece_in}
 use Rattle.rustc_parse_format.specs.Call.{Call}
 use Rattle.rustc_parse_format.specs.State.{State, next_call, after, after_all}
 use Rattle.rustc_parse_format.proofs.Progress.{call-lt}
@@ -14,7 +14,7 @@ use Rattle.dephungo.specs.declared.records.Step.{Step}
 use Rattle.dephungo.specs.declared.records.Spec.{Spec as SpecRecord}
 use Rattle.rustc_parse_format.specs.Lines.{closed_in}
 use Rattle.dephungo.specs.Meant.{maybe_place, piece_meant, spec_at}
-use Rattle.dephungo.specs.Events.{place_of_first, position, Event, event, events, calls, end_of, found_by, finders_from, add_finders, fronts_in, fronts_of, spec_count, specs_in, is_default, states, states_for, step_meant}
+use Rattle.dephungo.specs.Events.{place_of_first, position, Event, event, events, end_of, found_by, finders_from, add_finders, fronts_in, fronts_of, spec_count, specs_in, is_default, states, states_for, step_meant}
 use Rattle.dephungo.specs.Held.{Found}
 use Rattle.dephungo.specs.Stand.{IsAdded}
 use Rattle.dephungo.proofs.Finding.{length-add_finders, length-after}

@@ -1,9 +1,9 @@
 -- A parser at the start, where its places are those of a plain text.
-use Rattle.std.proofs.Common.{◌≡◌, ℕ, ◌⊎◌, Bool, true, false, Option, Some, None, inl, inr, refl, sym, ◌∙◌, is_some}
+use Rattle.std.proofs.Common.{◌≡◌, ℕ, Bool, true, false, Option, Some, None, refl, is_some}
 use Rattle.rustc_parse_format.specs.Characters.{Text}
 use Rattle.rustc_parse_format.specs.Types.{Mode}
 use Rattle.rustc_parse_format.specs.World.{input_end, quote_offset, world}
-use Rattle.rustc_parse_format.specs.State.{State, first_state}
+use Rattle.rustc_parse_format.specs.State.{first_state}
 use Rattle.rustc_parse_format.proofs.TextBytes.{no_source-plain, raw-plain}
 use Rattle.rustc_parse_format.specs.Agreement.{Agree}
 use Rattle.dephungo.specs.Stand.{IsPlain}

@@ -1,4 +1,4 @@
-use Rattle.std.proofs.Common.{◌≡◌, ◌∙◌}
+use Rattle.std.proofs.Common.{◌∙◌}
 use Rattle.dephungo.proofs.Cuts.{nil_test}
 use Rattle.dephungo.proofs.flat.is_empty.Goals as goal
 

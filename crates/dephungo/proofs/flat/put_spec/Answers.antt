@@ -1,4 +1,4 @@
-use Rattle.std.proofs.Common.{◌≡◌, sym, ◌∙◌, arith}
+use Rattle.std.proofs.Common.{sym, ◌∙◌, arith}
 use Rattle.dephungo.proofs.Specs.{default_is, spec_at-default, spec_at-put}
 use Rattle.rustc_parse_format.specs.Seen.{seen_spec}
 use Rattle.dephungo.proofs.flat.put_spec.Goals as goal

@@ -1,8 +1,7 @@
-use Rattle.std.proofs.Common.{[], length, refl, sym, ap, ◌∙◌, arith}
+use Rattle.std.proofs.Common.{[], length, sym, ap, ◌∙◌, arith}
 use Rattle.std.proofs.lemmas.List.{length-map}
 use Rattle.rustc_parse_format.specs.Seen.{seen_error}
 use Rattle.rustc_parse_format.specs.State.{State}
-use Rattle.dephungo.specs.Asked.{asked_state}
 use Rattle.dephungo.specs.Events.{calls}
 use Rattle.dephungo.proofs.Walking.{length-finders}
 use Rattle.dephungo.proofs.read.read.Goals as goal

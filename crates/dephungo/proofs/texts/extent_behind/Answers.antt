@@ -1,5 +1,4 @@
-use Rattle.std.proofs.Common.{◌≡◌, ◌++◌, ◌⊎◌, inl, inr, ℕ, List, ◌+◌, length, chars, IsUtf8}
-use Rattle.std.specs.Prelude.{encode_utf8_all}
+use Rattle.std.proofs.Common.{inl, inr, ℕ, List, ◌+◌, length, chars, IsUtf8}
 use Rattle.std.proofs.lemmas.Str.{encodes-chars}
 use Rattle.dephungo.specs.Stand.{HasBytes, StandsAt, StandsBehind}
 use Rattle.dephungo.proofs.Cuts.{has_behind, has_prefix, has_text}

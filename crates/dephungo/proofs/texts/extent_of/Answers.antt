@@ -1,4 +1,4 @@
-use Rattle.std.proofs.Common.{◌≡◌, ◌+◌, ◌≤◌, length, sym, ◌∙◌, arith}
+use Rattle.std.proofs.Common.{◌+◌, ◌≤◌, length, sym, ◌∙◌, arith}
 use Rattle.dephungo.proofs.Cuts.{cut_text, has_bytes, no_text, is_none_of, is_some_of}
 use Rattle.dephungo.proofs.texts.extent_of.Goals as goal
 

@@ -1,4 +1,4 @@
-use Rattle.std.proofs.Common.{◌≡◌, ℕ, ◌+◌, ◌-◌, ◌++◌, length, replicate, sym, ap, ◌∙◌, arith}
+use Rattle.std.proofs.Common.{◌≡◌, ◌-◌, length, sym, ap, ◌∙◌, arith}
 use Rattle.std.proofs.lemmas.List.{length-map}
 use Rattle.rustc_parse_format.specs.Seen.{pair, seen, seen_error}
 use Rattle.rustc_parse_format.specs.State.{State, next_call}
@@ -8,7 +8,7 @@ use Rattle.dephungo.specs.declared.records.Step.{Step}
 use Rattle.dephungo.specs.Meant.{piece_meant}
 use Rattle.dephungo.proofs.Walking.{told}
 use Rattle.dephungo.specs.Events.{fronts_in, position}
-use Rattle.dephungo.proofs.Standing.{alone, along, given_texts, still_guided}
+use Rattle.dephungo.proofs.Standing.{alone, given_texts, still_guided}
 use Rattle.dephungo.proofs.Finding.{add_finders-is, few_fronts, length-after}
 use Rattle.dephungo.specs.Stand.{guide_of}
 use Rattle.dephungo.proofs.walk.step.Goals as goal

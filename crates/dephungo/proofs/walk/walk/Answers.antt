@@ -1,7 +1,7 @@
-use Rattle.std.proofs.Common.{[], length, map, refl, sym, ap, ◌∙◌, arith}
+use Rattle.std.proofs.Common.{[], length, refl, sym, ap, ◌∙◌, arith}
 use Rattle.std.proofs.lemmas.List.{append-nil, length-map}
 use Rattle.rustc_parse_format.specs.State.{State}
-use Rattle.dephungo.specs.Events.{event, events, specs_in, states}
+use Rattle.dephungo.specs.Events.{event, states}
 use Rattle.dephungo.proofs.Lists.{still_behind}
 use Rattle.dephungo.proofs.Standing.{still_ends}
 use Rattle.dephungo.proofs.Widths.{none_left, some_left}
