@@ -168,7 +168,11 @@ fn spoilt(random: &mut Random, mut snippet: String) -> String {
 }
 
 pub fn case(random: &mut Random, modes: usize) -> Case {
-    let parts = if random.one_in(40) { random.below(60) } else { random.below(10) };
+    let parts = match random.below(20_000) {
+        0 => 1000 + random.below(2000),
+        1..=500 => random.below(60),
+        _ => random.below(10),
+    };
     let mut input: String = (0..parts).map(|_| random.of(PARTS)).collect();
     if random.one_in(6) {
         input.push('\n');
