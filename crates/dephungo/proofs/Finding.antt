@@ -1,5 +1,6 @@
 -- Which calls found the errors: the faults of a call, those in front and those behind.
-use Rattle.std.proofs.Common.{◌≡◌, ℕ, zero, suc, ◌+◌, ◌-◌, ◌≤◌, ◌++◌, Bool, true, false, cond, List, [], ◌∷◌, length, replicate, reverse, refl, sym, ap, ◌∙◌, append_assoc, arith, add-one, length-append}
+use Rattle.std.proofs.Common.{◌≡◌, ℕ, zero, suc, ◌+◌, ◌-◌, ◌≤◌, ◌++◌, Bool, true, false, cond, List, [], ◌∷◌, length, replicate, reverse, refl, sym}
+use Rattle.std.proofs.Common.{ap, ◌∙◌, append_assoc, arith, add-one, length-append}
 use Rattle.std.specs.List.{filter}
 use Rattle.std.proofs.lemmas.List.{append-nil, length-map, reverse-append, replicate_more, length-replicate}
 use Rattle.rustc_parse_format.specs.Faults.{Fault, Message, add_errors, is_front, message}
@@ -30,7 +31,8 @@ few_fronts (f ∷ fs) = by_end (is_front f) (few_fronts fs)
 
 more_front : (n k m : ℕ) (old : List ℕ) → replicate k n ++ ((n ∷ old) ++ replicate m n) ≡ replicate (suc k) n ++ (old ++ replicate m n)
 more_front n k m old =
-    sym (append_assoc (replicate k n) (n ∷ []) (old ++ replicate m n)) ∙ ap (λ l. l ++ (old ++ replicate m n)) (replicate_more k n ∙ ap (λ j. replicate j n) (add-one k))
+    sym (append_assoc (replicate k n) (n ∷ []) (old ++ replicate m n)) ∙ ap (λ l. l ++ (old ++ replicate m n)) (replicate_more k n
+    ∙ ap (λ j. replicate j n) (add-one k))
 
 more_back : (n k m : ℕ) (old : List ℕ) → replicate k n ++ ((old ++ n ∷ []) ++ replicate m n) ≡ replicate k n ++ (old ++ replicate (suc m) n)
 more_back n k m old = ap (λ l. replicate k n ++ l) (append_assoc old (n ∷ []) (replicate m n))
@@ -40,9 +42,11 @@ pub add_finders-is : {A : Type 0} (n : ℕ) (old : List ℕ) (fs : List (Fault A
 add_finders-is n old [] = sym (append-nil old)
 add_finders-is n old (f ∷ fs) = by_end (is_front f) (λ ms. add_finders-is n ms fs)
   where
-    by_end : (b : Bool) → ((ms : List ℕ) → add_finders n ms fs ≡ replicate (length (filter is_front fs)) n ++ (ms ++ replicate (length fs - length (filter is_front fs)) n))
+    by_end : (b : Bool) → ((ms : List ℕ) → add_finders n ms fs ≡ replicate (length (filter is_front fs)) n ++ (ms ++ replicate (length fs - length (filter
+        is_front fs)) n))
         → add_finders n (cond b (n ∷ old) (old ++ n ∷ [])) fs
-        ≡ replicate (length (cond b (f ∷ filter is_front fs) (filter is_front fs))) n ++ (old ++ replicate (length (f ∷ fs) - length (cond b (f ∷ filter is_front fs) (filter is_front fs))) n)
+        ≡ replicate (length (cond b (f ∷ filter is_front fs) (filter is_front fs))) n ++ (old ++ replicate (length (f ∷ fs) - length (cond b (f ∷ filter
+        is_front fs) (filter is_front fs))) n)
     by_end true h =
         let k = length (filter is_front fs) in
         let e : length fs - k ≡ suc (length fs) - suc k = omega arith in

@@ -1,5 +1,6 @@
 -- The specifications of the buffer, by their numbers.
-use Rattle.std.proofs.Common.{◌≡◌, ℕ, zero, suc, ◌+◌, ◌<◌, ◌≤◌, Bool, true, false, ◌&&◌, not, List, [], ◌∷◌, Option, Some, None, length, take, map, set, get_or, refl, sym, ap, ◌∙◌, arith, add-one, is_none, length-set}
+use Rattle.std.proofs.Common.{◌≡◌, ℕ, zero, suc, ◌+◌, ◌<◌, ◌≤◌, Bool, true, false, ◌&&◌, not, List, [], ◌∷◌, Option, Some, None, length, take, map}
+use Rattle.std.proofs.Common.{set, get_or, refl, sym, ap, ◌∙◌, arith, add-one, is_none, length-set}
 use Rattle.std.proofs.lemmas.List.{get_or-map, get_or-take, get_or-set_same, take-map}
 use Rattle.rustc_parse_format.specs.Types.{Spec, Alignment, Left, Right, Center, Unknown, Count, Is, Name, Param, Star, Implied, default_spec}
 use Rattle.rustc_parse_format.specs.Characters.{Text, is_nil}
@@ -79,7 +80,8 @@ pub spec_at-default : (input : List ℕ) (specs : List SpecRecord) → spec_at i
 unfolding spec_at
 spec_at-default input specs = refl
 
-pub spec_at-put : (input : List ℕ) (specs : List SpecRecord) (n : ℕ) (r : SpecRecord) → n < length specs → spec_at input (set specs n r) (n + 1) ≡ spec_meant input r
+pub spec_at-put : (input : List ℕ) (specs : List SpecRecord) (n : ℕ) (r : SpecRecord) → n < length specs → spec_at input (set specs n r) (n + 1)
+    ≡ spec_meant input r
 unfolding spec_at
 spec_at-put input specs n r h =
     let long : n < length (set specs n r) = omega (arith, length-set specs n r) in

@@ -2,7 +2,8 @@
 use Rattle.std.proofs.Common.{◌≡◌, ℕ, ◌-◌, ◌++◌, append_assoc, List, Option, Some, None, chars, IsUtf8, inl, inr, refl, subst, sym, ap, ◌∙◌}
 use Rattle.std.specs.Prelude.{IfNone, IfSome, option_map}
 use Rattle.rustc_parse_format.specs.Characters.{Text}
-use Rattle.rustc_parse_format.specs.Types.{Mode, Format, InlineAsm, Diagnostic, DiagnosticNamed, Position, Implicit, Index, Named, Count, Is, Name, Param, Star, Implied}
+use Rattle.rustc_parse_format.specs.Types.{Mode, Format, InlineAsm, Diagnostic, DiagnosticNamed, Position, Implicit, Index, Named, Count, Is, Name}
+use Rattle.rustc_parse_format.specs.Types.{Param, Star, Implied}
 use Rattle.rustc_parse_format.specs.Types.{Piece, Lit, NextArgument, bare, bare_count}
 use Rattle.rustc_parse_format.specs.World.{Place, piece_in}
 use Rattle.rustc_parse_format.specs.State.{State, next_call, after}
@@ -50,7 +51,8 @@ piece_stands bytes at input r read mode (Some (NextArgument a)) e h = record {
   };
 }
 
-pub call_stands : (bytes : List ℕ) (s : State) (at read : ℕ) (o : Option (Piece Place)) → IsUtf8 bytes → chars bytes ≡ s.input → EndsWith s.input s.rest → IsPlain s at →
+pub call_stands : (bytes : List ℕ) (s : State) (at read : ℕ) (o : Option (Piece Place)) → IsUtf8 bytes → chars bytes ≡ s.input
+    → EndsWith s.input s.rest → IsPlain s at →
     read ≡ position s.input (next_call s).rest → o ≡ option_map (piece_in s.world) (next_call s).piece → PieceStands bytes at read o
 call_stands bytes s at read o u c left p e f =
     piece_stands bytes at s.input (next_call s).rest read s.mode o e
@@ -92,8 +94,10 @@ pub same_texts : (input : List ℕ) (x : Texts) (s t : State) (o : Option (Piece
     PieceAt input x (option_map (piece_in t.world) (next_call t).piece) → PieceAt input x o
 same_texts input x s t o g e h =
     let bares = bare_given s.world (next_call s).piece ∙ (next_agrees s t g).0 ∙ sym (bare_given t.world (next_call t).piece) in
-    let there : PieceAt {A = Unit {0}} input x (option_map bare (option_map (piece_in t.world) (next_call t).piece)) = bare_at {A = Place} input x (option_map (piece_in t.world) (next_call t).piece) h in
-    let here : PieceAt {A = Unit {0}} input x (option_map bare (option_map (piece_in s.world) (next_call s).piece)) = subst (PieceAt {A = Unit {0}} input x) (sym bares) there in
+    let there : PieceAt {A = Unit {0}} input x (option_map bare (option_map (piece_in t.world) (next_call t).piece)) = bare_at {A = Place} input x
+    (option_map (piece_in t.world) (next_call t).piece) h in
+    let here : PieceAt {A = Unit {0}} input x (option_map bare (option_map (piece_in s.world) (next_call s).piece)) = subst (PieceAt {A = Unit {0}} input
+    x) (sym bares) there in
     rw e (at_bare {A = Place} input x (option_map (piece_in s.world) (next_call s).piece) here)
 
 -- The places stay known.
@@ -101,7 +105,8 @@ pub still_guided : (s : State) (at : ℕ) (o : Option State) → IsGuided s at o
 still_guided s at None p = p
 still_guided s at (Some g) p = ((next_agrees s g p.0).1, p.1)
 
-pub alone : (bytes : List ℕ) (s : State) (at read : ℕ) (g : Option State) (o : Option (Piece Place)) → IsUtf8 bytes → chars bytes ≡ s.input → EndsWith s.input s.rest → IsGuided s at g →
+pub alone : (bytes : List ℕ) (s : State) (at read : ℕ) (g : Option State) (o : Option (Piece Place)) → IsUtf8 bytes → chars bytes ≡ s.input
+    → EndsWith s.input s.rest → IsGuided s at g →
     read ≡ position s.input (next_call s).rest → o ≡ option_map (piece_in s.world) (next_call s).piece → IfNone g (PieceStands bytes at read o)
 alone bytes s at read None o u c left p e f = call_stands bytes s at read o u c left p e f
 alone bytes s at read (Some t) o u c left p e f = tt
@@ -119,7 +124,8 @@ along bytes s at read (Some t) c left p e =
       reads = e ∙ rw (a.input, r.rest) refl;
     }
 
-pub given_texts : (input : List ℕ) (x : Texts) (s : State) (at : ℕ) (g : Option State) (o : Option (Piece Place)) → IsGuided s at g → o ≡ option_map (piece_in s.world) (next_call s).piece →
+pub given_texts : (input : List ℕ) (x : Texts) (s : State) (at : ℕ) (g : Option State) (o : Option (Piece Place)) → IsGuided s at g → o
+    ≡ option_map (piece_in s.world) (next_call s).piece →
     IfNone g (PieceAt input x o) → IfSome g (λ t. PieceAt input x (option_map (piece_in t.world) (next_call t).piece)) → PieceAt input x o
 given_texts input x s at None o p e h k = h
 given_texts input x s at (Some t) o p e h k = same_texts input x s t o p.0 e k

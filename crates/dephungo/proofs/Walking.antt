@@ -1,5 +1,6 @@
 -- The loop over the calls: what is written so far, and what is left to do.
-use Rattle.std.proofs.Common.{◌≡◌, ◌≢◌, ℕ, zero, suc, ◌+◌, ◌<◌, ◌≤◌, ◌++◌, ◌⊎◌, inl, inr, Bool, true, false, cond, List, [], ◌∷◌, Option, Some, None, length, map, take, drop, set, sum_by, refl, sym, ap, ◌∙◌, append_assoc, arith, add-one, length-set}
+use Rattle.std.proofs.Common.{◌≡◌, ◌≢◌, ℕ, zero, suc, ◌+◌, ◌<◌, ◌≤◌, ◌++◌, ◌⊎◌, inl, inr, Bool, true, false, cond, List, [], ◌∷◌, Option, Some, None}
+use Rattle.std.proofs.Common.{length, map, take, drop, set, sum_by, refl, sym, ap, ◌∙◌, append_assoc, arith, add-one, length-set}
 use Rattle.std.specs.Prelude.{option_map}
 use Rattle.std.proofs.lemmas.List.{map-append, take_more_set, take_all}
 use Rattle.std.proofs.lemmas.List.Sums.{sum_by-cons}
@@ -14,7 +15,8 @@ use Rattle.dephungo.specs.declared.records.Step.{Step}
 use Rattle.dephungo.specs.declared.records.Spec.{Spec as SpecRecord}
 use Rattle.rustc_parse_format.specs.Lines.{closed_in}
 use Rattle.dephungo.specs.Meant.{maybe_place, piece_meant, spec_at}
-use Rattle.dephungo.specs.Events.{place_of_first, position, Event, event, events, end_of, found_by, finders_from, add_finders, fronts_in, fronts_of, spec_count, specs_in, is_default, states, states_for, step_meant}
+use Rattle.dephungo.specs.Events.{place_of_first, position, Event, event, events, end_of, found_by, finders_from, add_finders, fronts_in, fronts_of}
+use Rattle.dephungo.specs.Events.{spec_count, specs_in, is_default, states, states_for, step_meant}
 use Rattle.dephungo.specs.Held.{Found}
 use Rattle.dephungo.specs.Stand.{IsAdded}
 use Rattle.dephungo.proofs.Finding.{length-add_finders, length-after}
@@ -74,7 +76,8 @@ few_more : (k : ℕ) (rs : List Step) (r : Step) → AllFew k rs → r.spec ≤ 
 few_more k [] r few h = (h, tt)
 few_more k (q ∷ rs) r few h = (few.0, few_more k rs r few.1 h)
 
-same_meant : (input : List ℕ) (xs ys : List SpecRecord) (k : ℕ) (rs : List Step) → take k xs ≡ take k ys → AllFew k rs → map (step_meant input xs) rs ≡ map (step_meant input ys) rs
+same_meant : (input : List ℕ) (xs ys : List SpecRecord) (k : ℕ) (rs : List Step) → take k xs ≡ take k ys → AllFew k rs → map (step_meant input xs) rs
+    ≡ map (step_meant input ys) rs
 same_meant input xs ys k [] e few = refl
 same_meant input xs ys k (r ∷ rs) e few =
     let one : step_meant input xs r ≡ step_meant input ys r = rw (spec_at-front input xs ys k r.spec few.0 e) refl in
@@ -90,7 +93,8 @@ specs_in-le (Some (NextArgument a)) = by_test (is_default a.format)
     by_test false = omega arith
 
 -- So far so many steps and specifications are told of the calls from the state s0 on, which came to s; the calls at the states `todo` are left.
-pub record IsUpTo (input : List ℕ) (s0 : State) (todo : List State) (s : State) (count used : ℕ) (found : Found) (steps : List Step) (specs : List SpecRecord) : Type 0 where
+pub record IsUpTo (input : List ℕ) (s0 : State) (todo : List State) (s : State) (count used : ℕ) (found : Found) (steps : List Step) (specs : List
+    SpecRecord) : Type 0 where
   pub counted : count + length todo ≡ length (states s0)
   pub specs_counted : used + sum_by (λ (e : Event). specs_in e.piece) (map event todo) ≡ spec_count s0
   pub fewer : used ≤ count
@@ -104,7 +108,8 @@ pub record IsUpTo (input : List ℕ) (s0 : State) (todo : List State) (s : State
 abbrev IsPut : List Step → ℕ → Step → List Step → Type 0
 IsPut old count r new = (count < length old → new ≡ set old count r) × (length old ≤ count → new ≡ old)
 
-put_few : (k j : ℕ) (old new : List Step) (count : ℕ) (r : Step) → IsPut old count r new → k ≤ j → r.spec ≤ j → AllFew k (take count old) → AllFew j (take (count + 1) new)
+put_few : (k j : ℕ) (old new : List Step) (count : ℕ) (r : Step) → IsPut old count r new → k ≤ j → r.spec ≤ j → AllFew k (take count old)
+    → AllFew j (take (count + 1) new)
 put_few k j old new count r put h few all = by_room (cases_lt count (length old))
   where
     by_room : (count < length old) ⊎ (length old ≤ count) → AllFew j (take (count + 1) new)
@@ -118,7 +123,8 @@ put_length count old new r put = by_room (cases_lt count (length old))
     by_room (inl room) = ap length (put.0 room) ∙ length-set old count r
     by_room (inr full) = ap length (put.1 full)
 
-pub one_more : (input : List ℕ) (s0 s new : State) (todo : List State) (count used used' : ℕ) (found found' : Found) (steps steps' : List Step) (specs specs' : List SpecRecord) →
+pub one_more : (input : List ℕ) (s0 s new : State) (todo : List State) (count used used' : ℕ) (found found' : Found) (steps steps' : List Step) (specs
+    specs' : List SpecRecord) →
     IsUpTo input s0 (s ∷ todo) s count used found steps specs → new ≡ after s (next_call s) → used' ≡ used + specs_in (event s).piece →
     found'.calls ≡ add_finders count found.calls (next_call s).faults → found'.fronts ≡ found.fronts + fronts_in (next_call s) →
     IsAdded input s count used' steps steps' specs' → take used specs' ≡ take used specs → length specs' ≡ length specs →
@@ -149,7 +155,8 @@ one_more input s0 s new todo count used used' found found' steps steps' specs sp
     }
 
 -- What was not written yet.
-pub kept_put : (input : List ℕ) (s : State) (old new orig : List Step) (specs : List SpecRecord) (count used : ℕ) → IsAdded input s count used old new specs → drop count old ≡ drop count orig → drop (count + 1) new ≡ drop (count + 1) orig
+pub kept_put : (input : List ℕ) (s : State) (old new orig : List Step) (specs : List SpecRecord) (count used : ℕ)
+    → IsAdded input s count used old new specs → drop count old ≡ drop count orig → drop (count + 1) new ≡ drop (count + 1) orig
 kept_put input s old new orig specs count used added h = by_room (cases_lt count (length old))
   where
     by_room : (count < length old) ⊎ (length old ≤ count) → drop (count + 1) new ≡ drop (count + 1) orig
@@ -158,13 +165,15 @@ kept_put input s old new orig specs count used added h = by_room (cases_lt count
 
 -- A step tells of its call.
 pub told : (input : List ℕ) (specs : List SpecRecord) (r : Step) (s t : State) → t ≡ after s (next_call s) →
-    piece_meant input (spec_at input specs r.spec) r ≡ option_map (piece_in s.world) (next_call s).piece → maybe_place r.place ≡ closed_in s.world (next_call s).closes →
+    piece_meant input (spec_at input specs r.spec) r ≡ option_map (piece_in s.world) (next_call s).piece → maybe_place r.place
+    ≡ closed_in s.world (next_call s).closes →
     r.read ≡ position t.input t.rest → r.next ≡ t.next → r.lines ≡ length t.line_spans → maybe_place r.peek ≡ place_of_first t t.rest →
     maybe_place r.peek_ahead ≡ place_of_first t (behind_first t.rest) → step_meant input specs r ≡ event s
 told input specs r s t state piece place read next lines peek ahead = rw (piece, place, read, next, lines, peek, ahead, state) refl
 
 -- As many finders as errors.
-pub length-finders : (n : ℕ) (old : List ℕ) (s : State) (ks : List Call) → length old ≡ length s.errors → length (finders_from n old ks) ≡ length (after_all s ks).errors
+pub length-finders : (n : ℕ) (old : List ℕ) (s : State) (ks : List Call) → length old ≡ length s.errors → length (finders_from n old ks)
+    ≡ length (after_all s ks).errors
 length-finders n old s [] e = e
 length-finders n old s (k ∷ ks) e =
     length-finders (suc n) (add_finders n old k.faults) (after s k) ks (omega (arith, length-add_finders n old k.faults, length-after s k, e))

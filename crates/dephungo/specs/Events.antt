@@ -1,5 +1,6 @@
 -- The calls of a parser up to and with the one at the end of its input, as a caller sees them, and what a step says of its call.
-use Rattle.std.specs.Prelude.{ℕ, zero, suc, ◌-◌, ◌++◌, Bool, true, false, not, ◌&&◌, if◌then◌else◌, List, [], ◌∷◌, length, map, Option, Some, None, option_map, is_none, sum_by}
+use Rattle.std.specs.Prelude.{ℕ, zero, suc, ◌-◌, ◌++◌, Bool, true, false, not, ◌&&◌, if◌then◌else◌, List, [], ◌∷◌, length, map, Option, Some, None}
+use Rattle.std.specs.Prelude.{option_map, is_none, sum_by}
 use Rattle.std.specs.List.{filter}
 use Rattle.rustc_parse_format.specs.Characters.{Text, byte_length, is_nil, behind_first}
 use Rattle.rustc_parse_format.specs.Types.{Alignment, Left, Right, Center, Unknown, Count, Is, Name, Param, Star, Implied, Spec, Piece, Lit, NextArgument}

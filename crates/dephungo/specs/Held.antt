@@ -1,6 +1,7 @@
 -- What the records of errors say, over the buffer of texts.
 use Rattle.std.specs.Prelude.{◌≡◌, ℕ, ◌+◌, ◌≤◌, ◌++◌, List, [], ◌∷◌, length, take, drop, Option, Some, None, slice_range, sum_by}
-use Rattle.rustc_parse_format.specs.Faults.{Message, Suggestion, Nothing, UsePositional, RemoveRawIdent, ReorderFormatParameter, AddMissingColon, UseRustDebugPrintingMacro}
+use Rattle.rustc_parse_format.specs.Faults.{Message, Suggestion, Nothing, UsePositional, RemoveRawIdent, ReorderFormatParameter, AddMissingColon}
+use Rattle.rustc_parse_format.specs.Faults.{UseRustDebugPrintingMacro}
 use Rattle.rustc_parse_format.specs.World.{Place}
 use Rattle.dephungo.specs.declared.records.Extent.{Extent}
 use Rattle.dephungo.specs.declared.records.MaybeExtent.{MaybeExtent}

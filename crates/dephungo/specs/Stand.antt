@@ -1,5 +1,6 @@
 -- Where the texts of a piece stand in the input: private words, for contracts of private functions.
-use Rattle.std.specs.Prelude.{◌≡◌, ◌≢◌, ℕ, ◌+◌, ◌-◌, ◌<◌, ◌≤◌, ◌⊎◌, List, [], ◌++◌, length, set, option_map, Bool, Option, Some, None, chars, codes, encode_utf8_all, slice_range}
+use Rattle.std.specs.Prelude.{◌≡◌, ◌≢◌, ℕ, ◌+◌, ◌-◌, ◌<◌, ◌≤◌, ◌⊎◌, List, [], ◌++◌, length, set, option_map, Bool, Option, Some, None, chars, codes}
+use Rattle.std.specs.Prelude.{encode_utf8_all, slice_range}
 use Rattle.rustc_parse_format.specs.Characters.{Text}
 use Rattle.rustc_parse_format.specs.Characters.{byte_length}
 use Rattle.rustc_parse_format.specs.Types.{Position, Implicit, Index, Named, Count, Is, Name, Param, Star, Implied, Spec, Argument, Piece, Lit, NextArgument}

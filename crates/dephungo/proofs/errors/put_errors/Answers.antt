@@ -14,11 +14,17 @@ loop-i-preserved c =
     let grows = c.put_error-fault.ensures.grows in
     let forward = grows.forward in
     let length_texts = c.put_error-fault.auto.texts in
-    let more = take_more c.args.errors.now c.loop-i.i c.index-errors-i.result c.loop-i-test.true ∙ ap (λ e. take c.loop-i.i c.args.errors.now ++ e ∷ []) (sym c.index-errors-i.is) in
+    let more = take_more c.args.errors.now c.loop-i.i c.index-errors-i.result c.loop-i-test.true
+    ∙ ap (λ e. take c.loop-i.i c.args.errors.now ++ e ∷ []) (sym c.index-errors-i.is) in
     record {
       grows = Grows-trans _ _ _ _ _ _ c.loop-i.auto.texts c.loop-i.invariant.grows grows;
       holds = λ fit few. elim c.if-i-faults.branch [
-        | then-i-faults w ↦ rw (w.faults-is, take_more_set c.loop-i.faults c.loop-i.i c.put_error-fault.result w.if-i-faults.true, more, map-append seen_error (take c.loop-i.i c.args.errors.now) (c.index-errors-i.result ∷ []))
+        | then-i-faults w ↦ rw (
+          w.faults-is,
+          take_more_set c.loop-i.faults c.loop-i.i c.put_error-fault.result w.if-i-faults.true,
+          more,
+          map-append seen_error (take c.loop-i.i c.args.errors.now) (c.index-errors-i.result ∷ []),
+        )
             (HoldsErrors-more _ _ _ c.put_error-fault.result _
             (HoldsErrors-grow _ _ _ _ (grows.front (omega (arith, length_texts)))
             (c.loop-i.invariant.holds (omega (arith, length_texts)) (omega (arith, w.if-i-faults.true))))
@@ -26,7 +32,13 @@ loop-i-preserved c =
         | else-i-faults w ↦ absurd (omega (arith, w.if-i-faults.false, few, ap length w.faults-is))
       ];
       found = λ few. elim c.if-i-faults.branch [
-        | then-i-faults w ↦ rw (w.faults-is, take_more_set c.loop-i.faults c.loop-i.i c.put_error-fault.result w.if-i-faults.true, map-append (λ (f : Fault). f.step) (take c.loop-i.i c.loop-i.faults) (c.put_error-fault.result ∷ []), c.put_error-fault.ensures.step, c.get.ensures)
+        | then-i-faults w ↦ rw (
+          w.faults-is,
+          take_more_set c.loop-i.faults c.loop-i.i c.put_error-fault.result w.if-i-faults.true,
+          map-append (λ (f : Fault). f.step) (take c.loop-i.i c.loop-i.faults) (c.put_error-fault.result ∷ []),
+          c.put_error-fault.ensures.step,
+          c.get.ensures,
+        )
             (ap (λ l. l ++ get_or c.args.finders.now.calls c.loop-i.i 0 ∷ []) (c.loop-i.invariant.found (omega (arith, w.if-i-faults.true)))
             ∙ sym (take_more c.args.finders.now.calls c.loop-i.i 0 (omega (arith, c.requires, c.loop-i-test.true))))
         | else-i-faults w ↦ absurd (omega (arith, w.if-i-faults.false, few, ap length w.faults-is))
@@ -52,7 +64,10 @@ returns-clause-holds c = λ fit few.
 pub returns-clause-found : goal.returns-clause-found
 returns-clause-found c = λ few.
     let all : c.loop-i.i ≡ length c.args.errors.now = omega (arith, c.loop-i-test.false, c.loop-i.auto.i-end) in
-    rw (all, take_all (length c.args.errors.now) c.args.finders.now.calls (omega (arith, c.requires))) at c.loop-i.invariant.found (omega (arith, c.loop-i.auto.faults))
+    rw (all, take_all (length c.args.errors.now) c.args.finders.now.calls (omega (arith, c.requires))) at c.loop-i.invariant.found (omega (
+      arith,
+      c.loop-i.auto.faults,
+    ))
 
 pub returns-clause-counted : goal.returns-clause-counted
 returns-clause-counted c = λ small.

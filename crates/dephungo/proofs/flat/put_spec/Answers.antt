@@ -10,6 +10,7 @@ returns-then-is_default-clause-told c = λ input at room.
 
 pub returns-clause-told : goal.returns-clause-told
 returns-clause-told c = λ input at room. elim c.if-used-specs.branch [
-  | then-used-specs w ↦ rw w.specs-is (spec_at-put input c.args.specs.now c.args.used.now w.spec_record.result w.if-used-specs.true ∙ w.spec_record.ensures input at)
+  | then-used-specs w ↦ rw w.specs-is (spec_at-put input c.args.specs.now c.args.used.now w.spec_record.result w.if-used-specs.true
+      ∙ w.spec_record.ensures input at)
   | else-used-specs w ↦ absurd (omega (arith, w.if-used-specs.false, room))
 ]

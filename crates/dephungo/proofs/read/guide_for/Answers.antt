@@ -3,7 +3,8 @@ use Rattle.rustc_parse_format.specs.Seen.{seen_mode}
 use Rattle.rustc_parse_format.specs.State.{State}
 use Rattle.dephungo.proofs.Worlds.{guide_agrees, guide_plain, raw_plain, sourceless_plain}
 use Rattle.dephungo.proofs.read.guide_for.Goals as goal
-use Rattle.dephungo.proofs.read.guide_for.Goals.{else-is_source_literal-via-then-is_source_literal+else-is_none, else-is_source_literal-via-else-is_source_literal}
+use Rattle.dephungo.proofs.read.guide_for.Goals.{else-is_source_literal-via-then-is_source_literal+else-is_none}
+use Rattle.dephungo.proofs.read.guide_for.Goals.{else-is_source_literal-via-else-is_source_literal}
 
 pub returns-in_ok-new : goal.returns-in_ok-new
 returns-in_ok-new c = λ snippet appended start. rw (c.in_ok-new.ensures.ok, c.in_ok-guide.ensures.start, start) (

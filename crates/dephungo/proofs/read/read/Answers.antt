@@ -13,4 +13,5 @@ pub put_errors-requires : goal.put_errors-requires
 put_errors-requires c =
     let s = c.in_ok-parser.parser in
     ap length c.in_ok-count.ensures.finders ∙ length-finders 0 [] s (calls s) (sym (ap (λ (t : State). length t.errors) c.in_ok-parser.ensures.start))
-    ∙ sym (ap (λ (t : State). length t.errors) c.in_ok-count.ensures.state) ∙ sym (ap length c.errors-errors.ensures) ∙ length-map c.errors-errors.result.now seen_error
+    ∙ sym (ap (λ (t : State). length t.errors) c.in_ok-count.ensures.state) ∙ sym (ap length c.errors-errors.ensures)
+    ∙ length-map c.errors-errors.result.now seen_error

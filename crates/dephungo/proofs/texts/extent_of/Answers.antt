@@ -16,4 +16,5 @@ overflow_add-result c =
 pub returns : goal.returns
 returns c =
     let some = is_some_of (length c.args.text.now) (sym c.is_empty.ensures ∙ c.if-is_empty.false) in
-    cut_text c.args.input.now c.args.text.now c.args.from c.utf8.input c.utf8.text some (has_bytes c.args.input.now c.args.text.now c.args.from c.utf8.text some c.requires)
+    cut_text c.args.input.now c.args.text.now c.args.from c.utf8.input c.utf8.text some (has_bytes c.args.input.now c.args.text.now c.args.from c.utf8.text
+    some c.requires)

@@ -16,7 +16,8 @@ use Rattle.dephungo.proofs.walk.step.Goals as goal
 pub texts_at-requires-clause-alone : goal.texts_at-requires-clause-alone
 texts_at-requires-clause-alone c =
     let read = c.next_place-read.ensures.read ∙ ap (λ (s : State). position s.input s.rest) c.in_ok-given.ensures.state in
-    alone c.args.input.now c.args.parser.now c.args.offset _ (guide_of c.args.guide.now) _ c.utf8.input c.requires.input c.requires.left c.requires.guided read c.in_ok-given.ensures.piece
+    alone c.args.input.now c.args.parser.now c.args.offset _ (guide_of c.args.guide.now) _ c.utf8.input c.requires.input c.requires.left c.requires.guided
+    read c.in_ok-given.ensures.piece
 
 pub overflow_sub-errors : goal.overflow_sub-errors
 overflow_sub-errors c =
@@ -39,7 +40,8 @@ unfolding piece_meant
 returns-clause-told c = λ room.
     let s = c.args.parser.now in
     let state = c.in_ok-given.ensures.state in
-    let texts = given_texts c.args.input.now c.in_ok-texts.texts s c.args.offset (guide_of c.args.guide.now) (option_map seen c.in_ok-given.given) c.requires.guided
+    let texts = given_texts c.args.input.now c.in_ok-texts.texts s c.args.offset (guide_of c.args.guide.now) (option_map seen c.in_ok-given.given)
+    c.requires.guided
     c.in_ok-given.ensures.piece c.in_ok-texts.ensures.alone c.in_ok-texts.ensures.along in
     let r : Step = record {
       kind = c.put_piece.new.step.kind;
@@ -57,7 +59,8 @@ returns-clause-told c = λ room.
     } in
     told c.args.input.now c.put_piece.new.specs r s c.next_with_fronts.new.self state
     (c.put_piece.ensures.told c.args.input.now texts room ∙ c.in_ok-given.ensures.piece)
-    (c.closed-step.ensures s.arg_places (closed_in s.world (next_call s).closes) (sym (length-map c.arg_places-places.result.now pair) ∙ ap length c.arg_places-places.ensures)
+    (c.closed-step.ensures s.arg_places (closed_in s.world (next_call s).closes) (sym (length-map c.arg_places-places.result.now pair)
+    ∙ ap length c.arg_places-places.ensures)
     (c.arg_places.ensures ∙ ap (λ (t : State). t.arg_places) state))
     c.next_place-read.ensures.read
     c.curarg-step.ensures.value

@@ -24,13 +24,15 @@ pub loop-read-smaller : goal.loop-read-smaller
 loop-read-smaller c =
     let s = c.loop-read.parser in
     rw (ap (λ (s : State). length s.rest) c.in_ok-read.ensures.state)
-    (goes_on c.loop-read.parser (some_left c.args.input.now s.input s.rest c.loop-read.read c.utf8.input (c.requires.input ∙ sym c.loop-read.invariant.input) c.loop-read.invariant.read c.loop-read-test.true))
+    (goes_on c.loop-read.parser (some_left c.args.input.now s.input s.rest c.loop-read.read c.utf8.input (c.requires.input
+    ∙ sym c.loop-read.invariant.input) c.loop-read.invariant.read c.loop-read-test.true))
 
 pub loop-read-preserved : goal.loop-read-preserved
 loop-read-preserved c =
     let s = c.loop-read.parser in
     let t = c.add_step.new.parser in
-    let more = some_left c.args.input.now s.input s.rest c.loop-read.read c.utf8.input (c.requires.input ∙ sym c.loop-read.invariant.input) c.loop-read.invariant.read c.loop-read-test.true in
+    let more = some_left c.args.input.now s.input s.rest c.loop-read.read c.utf8.input (c.requires.input
+    ∙ sym c.loop-read.invariant.input) c.loop-read.invariant.read c.loop-read-test.true in
     let fewer = goes_on s more in
     let state = c.in_ok-read.ensures.state in
     let used = c.in_ok-read.ensures.used in
@@ -45,8 +47,12 @@ loop-read-preserved c =
           c.loop-read.finders c.add_step.new.finders c.loop-read.steps c.add_step.new.steps c.loop-read.specs c.add_step.new.specs
           (rw (states-more s t more state) at invariant.up_to) state used c.in_ok-read.ensures.finders c.in_ok-read.ensures.fronts
           c.in_ok-read.ensures.added c.in_ok-read.ensures.front c.add_step.auto.specs;
-      kept_steps = kept_put c.args.input.now s c.loop-read.steps c.add_step.new.steps c.args.steps.now c.add_step.new.specs c.loop-read.count c.add_step.new.used c.in_ok-read.ensures.added invariant.kept_steps;
-      kept_specs = c.in_ok-read.ensures.kept ∙ still_behind c.loop-read.specs c.args.specs.now c.loop-read.used c.add_step.new.used (omega (arith, used)) invariant.kept_specs;
+      kept_steps = kept_put c.args.input.now s c.loop-read.steps c.add_step.new.steps c.args.steps.now c.add_step.new.specs c.loop-read.count
+          c.add_step.new.used c.in_ok-read.ensures.added invariant.kept_steps;
+      kept_specs = c.in_ok-read.ensures.kept ∙ still_behind c.loop-read.specs c.args.specs.now c.loop-read.used c.add_step.new.used (omega (
+        arith,
+        used,
+      )) invariant.kept_specs;
     }
 
 pub returns : goal.returns
@@ -54,7 +60,8 @@ returns c =
     let s = c.loop-read.parser in
     let s0 = c.args.parser.now in
     let t = c.add_step-2.new.parser in
-    let end = none_left c.args.input.now s.input s.rest c.loop-read.read c.utf8.input (c.requires.input ∙ sym c.loop-read.invariant.input) c.loop-read.invariant.left c.loop-read.invariant.read c.loop-read-test.false in
+    let end = none_left c.args.input.now s.input s.rest c.loop-read.read c.utf8.input (c.requires.input
+    ∙ sym c.loop-read.invariant.input) c.loop-read.invariant.left c.loop-read.invariant.read c.loop-read-test.false in
     let invariant = c.loop-read.invariant in
     let state = c.in_ok-add_step.ensures.state in
     let used = c.in_ok-add_step.ensures.used in
@@ -65,10 +72,19 @@ returns c =
     record {
       count = omega (arith, last.counted, length-map (states s0) event);
       specs = omega (arith, last.specs_counted);
-      written = λ room specs_room. sym (append-nil _) ∙ last.written (omega (arith, c.add_step-2.auto.steps, c.loop-read.auto.steps, room)) (omega (arith, c.add_step-2.auto.specs, c.loop-read.auto.specs, specs_room));
+      written = λ room specs_room. sym (append-nil _) ∙ last.written (omega (arith, c.add_step-2.auto.steps, c.loop-read.auto.steps, room)) (omega (
+        arith,
+        c.add_step-2.auto.specs,
+        c.loop-read.auto.specs,
+        specs_room,
+      ));
       state = last.state;
       finders = last.finders;
       fronts = omega (arith, last.fronts);
-      kept_steps = kept_put c.args.input.now s c.loop-read.steps c.add_step-2.new.steps c.args.steps.now c.add_step-2.new.specs c.loop-read.count c.add_step-2.new.used c.in_ok-add_step.ensures.added invariant.kept_steps;
-      kept_specs = c.in_ok-add_step.ensures.kept ∙ still_behind c.loop-read.specs c.args.specs.now c.loop-read.used c.add_step-2.new.used (omega (arith, used)) invariant.kept_specs;
+      kept_steps = kept_put c.args.input.now s c.loop-read.steps c.add_step-2.new.steps c.args.steps.now c.add_step-2.new.specs c.loop-read.count
+          c.add_step-2.new.used c.in_ok-add_step.ensures.added invariant.kept_steps;
+      kept_specs = c.in_ok-add_step.ensures.kept ∙ still_behind c.loop-read.specs c.args.specs.now c.loop-read.used c.add_step-2.new.used (omega (
+        arith,
+        used,
+      )) invariant.kept_specs;
     }
