@@ -55,6 +55,9 @@ pub record Buffers : Type 0 where
   pub texts : List ℕ
   pub lines : List Extent
 
+abbrev pub buffers : List Step → List SpecRecord → List Fault → List ℕ → List Extent → Buffers
+buffers steps specs faults texts lines = record { steps = steps; specs = specs; faults = faults; texts = texts; lines = lines }
+
 -- The answer of all calls from s on is exact, but for texts beyond the greatest number.
 pub record IsCounted (s : State) (a : Answer) : Type 0 where
   pub steps : a.steps ≡ length (events s)

@@ -12,7 +12,7 @@ mod walk;
 
 ghost use Rattle.std.specs.Prelude.{◌≡◌, ◌<◌, IfNone, IfSome, Some};
 ghost use Rattle.rustc_parse_format.specs.Types.{Mode};
-ghost use Rattle.dephungo.specs.Asked.{Buffers, Fits, IsCounted, IsKept, IsTold, begun, mode_meant, refusal};
+ghost use Rattle.dephungo.specs.Asked.{Fits, IsCounted, IsKept, IsTold, begun, buffers, mode_meant, refusal};
 
 use crate::read::read;
 use crate::records::{Answer, DONE, Extent, Fault, NO_MEMORY, Options, SHORT, Spec, Step};
@@ -37,17 +37,17 @@ pub extern "C" fn dephungo_read(
     ensures refused { IfSome (refusal input.now snippet.now options.now) (λ e. result ≡ e) }
     ensures accepted { IfNone (refusal input.now snippet.now options.now) (result < 3) }
     ensures unwritten { IfSome (refusal input.now snippet.now options.now) (λ e. (answer.new ≡ answer.old)
-        × (◌≡◌ {A = Buffers} (record { steps = steps.new; specs = specs.new; faults = faults.new; texts = texts.new; lines = lines.new }) (record { steps = steps.old; specs = specs.old; faults = faults.old; texts = texts.old; lines = lines.old }))) }
+        × ((buffers steps.new specs.new faults.new texts.new lines.new) ≡ (buffers steps.old specs.old faults.old texts.old lines.old))) }
 
     // What is read is counted, and written where it fits, which the code says.
     ensures counted { result < 2 → (m : Mode) → mode_meant options.now.mode ≡ Some m → IsCounted (begun m options.now input.now snippet.now) answer.new }
     ensures told { result ≡ DONE → (m : Mode) → mode_meant options.now.mode ≡ Some m
         → IsTold (begun m options.now input.now snippet.now) input.now
-        (record { steps = steps.new; specs = specs.new; faults = faults.new; texts = texts.new; lines = lines.new }) answer.new }
-    ensures done { result ≡ DONE → Fits (record { steps = steps.old; specs = specs.old; faults = faults.old; texts = texts.old; lines = lines.old }) answer.new }
-    ensures short { result ≡ SHORT → ¬ (Fits (record { steps = steps.old; specs = specs.old; faults = faults.old; texts = texts.old; lines = lines.old }) answer.new) }
-    ensures kept { result < 2 → IsKept answer.new (record { steps = steps.old; specs = specs.old; faults = faults.old; texts = texts.old; lines = lines.old })
-        (record { steps = steps.new; specs = specs.new; faults = faults.new; texts = texts.new; lines = lines.new }) }
+        (buffers steps.new specs.new faults.new texts.new lines.new) answer.new }
+    ensures done { result ≡ DONE → Fits (buffers steps.old specs.old faults.old texts.old lines.old) answer.new }
+    ensures short { result ≡ SHORT → ¬ (Fits (buffers steps.old specs.old faults.old texts.old lines.old) answer.new) }
+    ensures kept { result < 2 → IsKept answer.new (buffers steps.old specs.old faults.old texts.old lines.old)
+        (buffers steps.new specs.new faults.new texts.new lines.new) }
     ensures refused_memory { result ≡ NO_MEMORY → answer.new ≡ answer.old }
 {
     let asked = match task_of(input, snippet, options) {

@@ -5,7 +5,7 @@ ghost use Rattle.rustc_parse_format.specs.Seen.{pair, seen_mode};
 ghost use Rattle.rustc_parse_format.specs.Characters.{Text};
 ghost use Rattle.rustc_parse_format.specs.State.{first_state};
 ghost use Rattle.rustc_parse_format.specs.World.{hashes, quote_offset};
-ghost use Rattle.dephungo.specs.Asked.{Fits, IsCounted, IsKept, IsTold, asked_state, limit};
+ghost use Rattle.dephungo.specs.Asked.{Fits, IsCounted, IsKept, IsTold, asked_state, buffers, limit};
 ghost use Rattle.dephungo.specs.Meant.{place};
 ghost use Rattle.dephungo.specs.Stand.{IsGuided, guide_of};
 
@@ -84,10 +84,10 @@ pub fn read(
     requires input_length { length asked.input.now ≤ limit }
     requires hashes { hashes asked.style ≤ limit }
     ensures counted { IfOk result (λ a. IsCounted (asked_state asked.entry) a) }
-    ensures told { IfOk result (λ a. Fits (record { steps = steps.old; specs = specs.old; faults = faults.old; texts = texts.old; lines = lines.old }) a
-        → IsTold (asked_state asked.entry) asked.entry.input.now (record { steps = steps.new; specs = specs.new; faults = faults.new; texts = texts.new; lines = lines.new }) a) }
-    ensures kept { IfOk result (λ a. IsKept a (record { steps = steps.old; specs = specs.old; faults = faults.old; texts = texts.old; lines = lines.old })
-        (record { steps = steps.new; specs = specs.new; faults = faults.new; texts = texts.new; lines = lines.new })) }
+    ensures told { IfOk result (λ a. Fits (buffers steps.old specs.old faults.old texts.old lines.old) a
+        → IsTold (asked_state asked.entry) asked.entry.input.now (buffers steps.new specs.new faults.new texts.new lines.new) a) }
+    ensures kept { IfOk result (λ a. IsKept a (buffers steps.old specs.old faults.old texts.old lines.old)
+        (buffers steps.new specs.new faults.new texts.new lines.new)) }
 {
     let Task {
         mode,
