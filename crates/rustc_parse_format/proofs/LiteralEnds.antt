@@ -1,6 +1,6 @@
 -- Where the text ends for which a content stands, by the unit at its front.
-use Rattle.std.proofs.Common.{◌≡◌, ◌≢◌, ℕ, ◌+◌, Bool, true, false, ◌&&◌, ◌↔◌, List, [], ◌∷◌, refl, sym, ap, ◌∙◌, Option, Some, None, IsTrue, if◌then◌else◌}
-use Rattle.std.proofs.Common.{◌++◌, ◌≤◌, arith, length, length-append}
+use Rattle.std.proofs.Common.{◌≡◌, ◌≢◌, ℕ, ◌+◌, ◌-◌, Bool, true, false, ◌&&◌, ◌↔◌, List, [], ◌∷◌, refl, sym, ap, ◌∙◌, Option, Some, None, IsTrue, if◌then◌else◌}
+use Rattle.std.proofs.Common.{◌++◌, arith, length, length-append}
 use Rattle.std.specs.Prelude.{bytes_eq, ◌==◌}
 use Rattle.std.specs.Char.{len_utf8}
 use Rattle.std.specs.List.{list_all}
@@ -11,7 +11,7 @@ use Rattle.rustc_parse_format.specs.Characters.{Text, behind_first, begins_with,
 use Rattle.rustc_parse_format.specs.LiteralUnits.{LiteralUnit, Plain, spelling, value, meaning, unit_at, at_most_one, is_plain}
 use Rattle.rustc_parse_format.specs.Literal.{units, more, content_value}
 use Rattle.rustc_parse_format.specs.World.{content_places, last_stop}
-use Rattle.rustc_parse_format.specs.LiteralReading.{SharePlain, end_of, spelled_end}
+use Rattle.rustc_parse_format.specs.LiteralReading.{SameEnds, SharePlain, end_of, spelled_end}
 use Rattle.rustc_parse_format.proofs.LiteralContents.{units-nil, units-some, units-none}
 use Rattle.rustc_parse_format.proofs.LiteralMeanings.{meaning-none, meaning-some, meaning-shorter, meaning-narrower}
 use Rattle.rustc_parse_format.proofs.LiteralPlaces.{past}
@@ -79,17 +79,38 @@ end-plain at f (c ∷ u) t w h l =
     ∙ (ap (λ b. if b then spelled_end next next (u ++ t) (u ++ w) else None) (eq-eqb c c refl)
     ∙ end-plain next f u t w parts.1 (omega (arith, width-cons c u)))
 
--- the same where they are taken off both
-pub share-narrower : (t w r v : Text) → SharePlain t w r v → byte_length r ≤ byte_length t
-share-narrower t w r v p = omega (arith, ap byte_length p.text, width-append p.front r)
+-- what is left of both, where they are the same in front
+pub ends-same : (t w : Text) → SameEnds t w t w
+ends-same t w = record {
+  narrower = omega arith;
+  shorter = omega arith;
+  ends = λ at f l. let e : at ≡ f = omega arith in ap (λ k. spelled_end k k t w) e;
+}
 
-pub share-shorter : (t w r v : Text) → SharePlain t w r v → length r ≤ length t
-share-shorter t w r v p = omega (arith, ap length p.text, length-append p.front r)
+pub ends-after : (t w r v p q : Text) → SameEnds t w r v → SameEnds r v p q → SameEnds t w p q
+ends-after t w r v p q a b =
+    let m = a.narrower in let n = b.narrower in let k = a.shorter in let o = b.shorter in
+    record {
+      narrower = omega arith;
+      shorter = omega arith;
+      ends = λ at f l. let k = at + byte_length t - byte_length r in a.ends at k (omega arith) ∙ b.ends k f (omega arith);
+    }
 
-pub end-share : (at f : ℕ) (t w r v : Text) → SharePlain t w r v → at + byte_length t ≡ f + byte_length r → spelled_end at at t w ≡ spelled_end f f r v
-end-share at f t w r v p l =
-    ap (λ x. spelled_end at at x w) p.text ∙ (ap (λ x. spelled_end at at (p.front ++ r) x) p.other
-    ∙ end-plain at f p.front r v p.plain (omega (arith, ap byte_length p.text, width-append p.front r)))
+pub ends-plain : (t w r v : Text) → SharePlain t w r v → SameEnds t w r v
+ends-plain t w r v p = record {
+  narrower = omega (arith, ap byte_length p.text, width-append p.front r);
+  shorter = omega (arith, ap length p.text, length-append p.front r);
+  ends = λ at f l. ap (λ x. spelled_end at at x w) p.text ∙ (ap (λ x. spelled_end at at (p.front ++ r) x) p.other
+      ∙ end-plain at f p.front r v p.plain (omega (arith, ap byte_length p.text, width-append p.front r)));
+}
+
+-- a unit that stands for the character with which the text goes on
+pub ends-unit : (t r w : Text) (c : ℕ) → meaning (unit_at t) ≡ Some (c ∷ [], r) → begins_with c w ≡ true → SameEnds t w r (behind_first w)
+ends-unit t r w c h b = record {
+  narrower = meaning-narrower t (c ∷ []) r h;
+  shorter = let less = meaning-shorter t (c ∷ []) r h in omega arith;
+  ends = λ at f l. end-character at f at t r w c h l ∙ ap (λ x. if x then spelled_end f f r (behind_first w) else None) b;
+}
 
 pub end-over : (at e : ℕ) (t w : Text) (b : Bool) → t ≡ [] → (IsTrue b ↔ (w ≡ [])) → spelled_end at e t w ≡ (if b then Some e else None)
 unfolding spelled_end

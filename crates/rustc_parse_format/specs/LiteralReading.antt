@@ -1,5 +1,5 @@
 -- Literals by computing, as the functions that read them go: what a content gives, and what is after a prefix.
-use Rattle.std.specs.Prelude.{◌≡◌, ℕ, Bool, ◌==◌, if◌then◌else◌, List, [], ◌∷◌, map, Option, Some, None, option_map, bytes_eq, not, ◌+◌, ◌++◌, false, IsTrue}
+use Rattle.std.specs.Prelude.{◌≡◌, ◌≤◌, length, ℕ, Bool, ◌==◌, if◌then◌else◌, List, [], ◌∷◌, map, Option, Some, None, option_map, bytes_eq, not, ◌+◌, ◌++◌, false, IsTrue}
 use Rattle.std.specs.List.{list_all}
 use Rattle.std.specs.declared.ops.Range.{Range}
 use Rattle.rustc_parse_format.specs.Characters.{Text, byte_length}
@@ -42,6 +42,12 @@ end_of at e (Some us) t = if bytes_eq t (content_value us) then Some (last_stop 
 -- the same of a content
 unfoldable pub spelled_end : ℕ → ℕ → Text → Text → Option ℕ
 spelled_end at e content t = end_of at e (units content) t
+
+-- what is left of a content and of a text: the text ends for which the whole content stands where it ends for which its rest does
+pub record SameEnds (t w r v : Text) : Type 0 where
+  pub narrower : byte_length r ≤ byte_length t
+  pub shorter : length r ≤ length t
+  pub ends : (at f : ℕ) → at + byte_length t ≡ f + byte_length r → spelled_end at at t w ≡ spelled_end f f r v
 
 -- the snippet is the source literal of the input, and the text ends there
 abbrev pub IsSourceTo : Text → Option ℕ → Text → Bool → ℕ → Type 0

@@ -3,7 +3,7 @@
 
 ghost use Rattle.std.specs.Prelude.{◌≡◌, ◌↔◌, ◌++◌, ℕ, Bool, List, [], Some, None, IsTrue, IfOk, IsOk, IfSome, IfNone, MatchOption, chars, map, option_map, true, replicate};
 ghost use Rattle.rustc_parse_format.specs.Literal.{IsNoContent, IsOrdinaryLiteral, IsReadAs, IsSource, newline, ordinary_frame, raw_closing, raw_frame, raw_opening};
-ghost use Rattle.rustc_parse_format.specs.LiteralReading.{IsSourceTo, IsTaken, placed, seen_characters, spelled_end};
+ghost use Rattle.rustc_parse_format.specs.LiteralReading.{IsSourceTo, IsTaken, SameEnds, placed, seen_characters, spelled_end};
 ghost use Rattle.rustc_parse_format.specs.Characters.{Text};
 ghost use Rattle.rustc_parse_format.specs.World.{later, literal_end, newline_places, world};
 
@@ -13,6 +13,7 @@ mod unit;
 pub(crate) use rest::{Rest, plain_width};
 use std::alloc::{AllocError, Global};
 use std::ops::Range;
+use unit::byte_escape;
 pub(crate) use unit::read_unit;
 
 /// The characters that a content stands for, each with its bytes, by computing.
@@ -92,6 +93,29 @@ pub fn between_quotes(snippet: &str) -> Option<&str>
     }
 }
 
+/// Takes the escapes with `\x` at the front of a content, as far as a text goes on with what they stand for.
+#[inline(always)]
+fn take_bytes(rest: &mut Rest<'_>, wanted: &mut Rest<'_>)
+    ensures { SameEnds rest.old wanted.old rest.new wanted.new }
+{
+    while let Some((c, behind)) = byte_escape(rest.text()) {
+        if !wanted.begins_with(c) {
+            return;
+        }
+        wanted.next();
+        *rest = Rest::new(behind);
+    }
+}
+
+/// Takes the plain characters with which a content and a text go on, and the escapes with `\x` after them.
+#[inline(always)]
+fn take_alike(rest: &mut Rest<'_>, wanted: &mut Rest<'_>)
+    ensures { SameEnds rest.old wanted.old rest.new wanted.new }
+{
+    rest.take_plain(wanted);
+    take_bytes(rest, wanted);
+}
+
 /// Where the text ends for which the content stands, one byte more for the quote in front of it, or `None` if the
 /// content does not stand for the text.
 #[tactic(auto, using(crate::proofs::LiteralEnds::end_steps))]
@@ -101,7 +125,7 @@ fn spelled_end(content: &str, text: &str) -> Option<usize>
     let total = content.len() + 1;
     let mut rest = Rest::new(content);
     let mut wanted = Rest::new(text);
-    rest.take_plain(&mut wanted);
+    take_alike(&mut rest, &mut wanted);
     let mut end = total - rest.len();
     while !rest.is_empty() {
         let Some(value) = read_unit(&mut rest) else {
@@ -111,7 +135,7 @@ fn spelled_end(content: &str, text: &str) -> Option<usize>
             if !wanted.next_is(c) {
                 return None;
             }
-            rest.take_plain(&mut wanted);
+            take_alike(&mut rest, &mut wanted);
             end = total - rest.len();
         }
     }

@@ -31,7 +31,7 @@ fn read_byte(rest: &mut Rest<'_>) -> Option<char>
 
 /// What an escape with `\x` at the front stands for, and what is after it: by its bytes, since a literal may be made of such escapes.
 #[inline(always)]
-fn byte_escape(text: &str) -> Option<(char, &str)>
+pub fn byte_escape(text: &str) -> Option<(char, &str)>
     ensures { IfSome result (λ x. meaning (unit_at (chars text.now)) ≡ Some (x.0 ∷ [], chars x.1.now)) }
 {
     let bytes = text.as_bytes();

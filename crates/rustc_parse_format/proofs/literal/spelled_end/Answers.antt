@@ -1,26 +1,25 @@
 use Rattle.std.proofs.Common.{◌≡◌, ◌≢◌, ◌+◌, ◌-◌, ◌≤◌, None, Some, [], true, false, ap, sym, ◌∙◌, chars, length, arith, if◌then◌else◌}
 use Rattle.std.proofs.lemmas.Bool.{both_ways}
-use Rattle.rustc_parse_format.specs.Characters.{behind_first, byte_length, begins_with}
+use Rattle.rustc_parse_format.specs.Characters.{byte_length, begins_with}
 use Rattle.rustc_parse_format.specs.LiteralUnits.{meaning, unit_at, at_most_one}
 use Rattle.rustc_parse_format.proofs.LiteralMeanings.{meaning-narrower, meaning-shorter}
 use Rattle.rustc_parse_format.proofs.LiteralWidths.{width-chars}
-use Rattle.rustc_parse_format.proofs.LiteralEnds.{end-none, end-nothing, end-differs, end-agrees, end-over, end-share, share-narrower, share-shorter}
+use Rattle.rustc_parse_format.proofs.LiteralEnds.{end-none, end-nothing, end-differs, end-agrees, end-over}
 use Rattle.rustc_parse_format.proofs.literal.spelled_end.Goals as goal
 
 pub overflow_sub-end : goal.overflow_sub-end
 overflow_sub-end c =
-    let shared = rw (c.new-rest.ensures, c.new-wanted.ensures) at c.take_plain.ensures in
-    omega (arith, c.len.ensures, share-narrower _ _ _ _ shared, width-chars c.args.content.now c.utf8.content)
+    let shared = rw (c.new-rest.ensures, c.new-wanted.ensures) at c.take_alike.ensures in
+    omega (arith, c.len.ensures, shared.narrower, width-chars c.args.content.now c.utf8.content)
 
 pub loop-rest-init : goal.loop-rest-init
 loop-rest-init c =
     let total = length c.args.content.now + 1 in
-    let shared = rw (c.new-rest.ensures, c.new-wanted.ensures) at c.take_plain.ensures in
+    let shared = rw (c.new-rest.ensures, c.new-wanted.ensures) at c.take_alike.ensures in
     let size = width-chars c.args.content.now c.utf8.content in
-    let narrower : byte_length c.take_plain.new.self ≤ byte_length (chars c.args.content.now) = share-narrower _ _ _ _ shared in
+    let narrower : byte_length c.take_alike.new.rest ≤ byte_length (chars c.args.content.now) = shared.narrower in
     record {
-      answer = rw (c.len.ensures) (sym (end-share 1 (total - byte_length c.take_plain.new.self) (chars c.args.content.now) (chars c.args.text.now)
-          c.take_plain.new.self c.take_plain.new.other shared (omega arith)));
+      answer = rw (c.len.ensures) (sym (shared.ends 1 (total - byte_length c.take_alike.new.rest) (omega arith)));
       within = omega arith;
     }
 
@@ -46,7 +45,7 @@ overflow_sub-end-in-Some-value c =
     omega (
       arith,
       c.len-in-Some-value.ensures,
-      share-narrower _ _ _ _ c.take_plain-in-Some-value.ensures,
+      c.take_alike-in-Some-value.ensures.narrower,
       meaning-narrower c.loop-rest.rest
           (at_most_one c.in-Some.value) c.read_unit.new.rest c.in-Some.ensures,
     )
@@ -55,7 +54,7 @@ pub loop-rest-smaller-in-Some-value : goal.loop-rest-smaller-in-Some-value
 loop-rest-smaller-in-Some-value c =
     omega (
       arith,
-      share-shorter _ _ _ _ c.take_plain-in-Some-value.ensures,
+      c.take_alike-in-Some-value.ensures.shorter,
       meaning-shorter c.loop-rest.rest (at_most_one c.in-Some.value)
           c.read_unit.new.rest c.in-Some.ensures,
     )
@@ -66,17 +65,16 @@ loop-rest-preserved-in-Some-value c =
     let within = c.loop-rest.invariant.within in
     let at = total - byte_length c.loop-rest.rest in
     let f = total - byte_length c.read_unit.new.rest in
-    let n = total - byte_length c.take_plain-in-Some-value.new.self in
+    let n = total - byte_length c.take_alike-in-Some-value.new.rest in
     let narrower : byte_length c.read_unit.new.rest ≤ byte_length c.loop-rest.rest = meaning-narrower c.loop-rest.rest
     (at_most_one c.in-Some.value) c.read_unit.new.rest c.in-Some.ensures in
     let agrees : begins_with c.in-Some-value.c c.loop-rest.wanted ≡ true = sym c.next_is.ensures.value ∙ c.if-not-next_is.false in
-    let shared = rw (c.next_is.ensures.rest) at c.take_plain-in-Some-value.ensures in
-    let less : byte_length c.take_plain-in-Some-value.new.self ≤ byte_length c.read_unit.new.rest = share-narrower _ _ _ _ shared in
+    let shared = rw (c.next_is.ensures.rest) at c.take_alike-in-Some-value.ensures in
+    let less : byte_length c.take_alike-in-Some-value.new.rest ≤ byte_length c.read_unit.new.rest = shared.narrower in
     record {
       answer = rw (c.len-in-Some-value.ensures) (sym (end-agrees at f c.loop-rest.end c.loop-rest.rest c.read_unit.new.rest c.loop-rest.wanted
           c.in-Some.value c.in-Some-value.c c.in-Some.ensures c.in-Some-value.is (omega arith) agrees
-          ∙ end-share f n c.read_unit.new.rest (behind_first c.loop-rest.wanted) c.take_plain-in-Some-value.new.self
-          c.take_plain-in-Some-value.new.other shared (omega arith))
+          ∙ shared.ends f n (omega arith))
           ∙ c.loop-rest.invariant.answer);
       within = omega arith;
     }
