@@ -47,15 +47,6 @@ fn answer<R: Read, W: Write>(
     Ok(run(alloc, reader, writer, words.as_slice()))
 }
 
-/// Words and an input, and what the program answers and writes.
-#[derive(Clone, Copy)]
-struct Row<'a> {
-    words: &'a [&'a str],
-    input: &'a [u8],
-    answer: Result<bool, RunFault>,
-    lines: &'a [u8],
-}
-
 /// So many bytes of an input may be left: none of one that is listed, and all where the words are refused.
 fn may_be_left(answer: &Result<bool, RunFault>, input: &[u8], left: usize) -> bool {
     match answer {
@@ -65,14 +56,21 @@ fn may_be_left(answer: &Result<bool, RunFault>, input: &[u8], left: usize) -> bo
     }
 }
 
-/// The row is so.
-fn check_row(rt: &impl Abort, alloc: Global, row: &Row<'_>) -> Result<(), Fail> {
-    let mut reader = row.input;
+/// For words and an input this is answered and written.
+fn check_answer(
+    rt: &impl Abort,
+    alloc: Global,
+    words: &[&str],
+    input: &[u8],
+    wanted: Result<bool, RunFault>,
+    lines: &[u8],
+) -> Result<(), Fail> {
+    let mut reader = input;
     let mut written = Vec::new(alloc);
-    let answer = answer(alloc, row.words, &mut reader, &mut written)?;
-    assert_eq!(rt; answer, row.answer);
-    assert_eq!(rt; written.as_slice(), row.lines);
-    assert!(rt; may_be_left(&answer, row.input, reader.len()));
+    let answer = answer(alloc, words, &mut reader, &mut written)?;
+    assert_eq!(rt; answer, wanted);
+    assert_eq!(rt; written.as_slice(), lines);
+    assert!(rt; may_be_left(&answer, input, reader.len()));
     Ok(())
 }
 
@@ -84,17 +82,7 @@ fn check_listings(
     rows: &[(&[u8], &[u8], bool)],
 ) -> Result<(), Fail> {
     for (input, lines, told) in rows {
-        let answer = Ok(*told);
-        check_row(
-            rt,
-            alloc,
-            &Row {
-                words,
-                input,
-                answer,
-                lines,
-            },
-        )?;
+        check_answer(rt, alloc, words, input, Ok(*told), lines)?;
     }
     Ok(())
 }
@@ -107,17 +95,7 @@ fn check_refused(
     input: &[u8],
     fault: RunFault,
 ) -> Result<(), Fail> {
-    let answer = Err(fault);
-    check_row(
-        rt,
-        alloc,
-        &Row {
-            words,
-            input,
-            answer,
-            lines: b"",
-        },
-    )
+    check_answer(rt, alloc, words, input, Err(fault), b"")
 }
 
 #[test]
