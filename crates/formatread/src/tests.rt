@@ -9,6 +9,7 @@ use super::run::run;
 use super::verdict::{RunFault, verdict};
 use fakes::{Endless, Faltering, Sheet, Stuck, Stumbling};
 use std::alloc::{AllocError, Global};
+use std::io::{Read, Write};
 use std::process::Abort;
 use std::test::Fail;
 
@@ -35,63 +36,107 @@ fn repeated(alloc: Global, byte: u8, count: usize) -> Result<Vec<u8>, AllocError
     vec![in alloc; byte; count]
 }
 
-/// Each of these inputs is refused, and then nothing is written.
-fn check_refusals(
+/// What the program answers for these words.
+fn answer<R: Read, W: Write>(
+    alloc: Global,
+    list: &[&str],
+    reader: &mut R,
+    writer: &mut W,
+) -> Result<Result<bool, RunFault>, AllocError> {
+    let words = words(alloc, list)?;
+    Ok(run(alloc, reader, writer, words.as_slice()))
+}
+
+/// So many bytes of an input may be left: none of one that is listed, and all where the words are refused.
+fn may_be_left(answer: &Result<bool, RunFault>, input: &[u8], left: usize) -> bool {
+    match answer {
+        Ok(_) => left == 0,
+        Err(RunFault::Words) => left == input.len(),
+        Err(_) => true,
+    }
+}
+
+/// For words and an input this is answered and written.
+fn check_answer(
     rt: &impl Abort,
     alloc: Global,
-    words: &[String],
-    rows: &[(&[u8], RunFault)],
+    words: &[&str],
+    input: &[u8],
+    wanted: Result<bool, RunFault>,
+    lines: &[u8],
 ) -> Result<(), Fail> {
-    for (input, fault) in rows {
-        let mut reader = *input;
-        let mut written = Vec::new(alloc);
-        let answer = run(alloc, &mut reader, &mut written, words);
-        assert_eq!(rt; answer, Err(*fault));
-        assert!(rt; written.is_empty());
+    let mut reader = input;
+    let mut written = Vec::new(alloc);
+    let answer = answer(alloc, words, &mut reader, &mut written)?;
+    assert_eq!(rt; answer, wanted);
+    assert_eq!(rt; written.as_slice(), lines);
+    assert!(rt; may_be_left(&answer, input, reader.len()));
+    Ok(())
+}
+
+/// Each of these inputs, with what is listed for it and whether a line of that is of no piece.
+fn check_listings(
+    rt: &impl Abort,
+    alloc: Global,
+    words: &[&str],
+    rows: &[(&[u8], &[u8], bool)],
+) -> Result<(), Fail> {
+    for (input, lines, told) in rows {
+        check_answer(rt, alloc, words, input, Ok(*told), lines)?;
     }
     Ok(())
 }
 
+/// This input is refused, and then nothing is written.
+fn check_refused(
+    rt: &impl Abort,
+    alloc: Global,
+    words: &[&str],
+    input: &[u8],
+    fault: RunFault,
+) -> Result<(), Fail> {
+    check_answer(rt, alloc, words, input, Err(fault), b"")
+}
+
 #[test]
 fn refuses_what_is_no_literal(rt: HostRuntime) -> Result<(), Fail> {
-    let words = words(rt.alloc(), &["format", "--literal"])?;
-    let rows: [(&[u8], RunFault); 8] = [
-        (b"\"a", RunFault::NotLiteral),
-        (b"\"a\"\n\n", RunFault::NotLiteral),
-        (b"\"a\"\r\n", RunFault::NotLiteral),
-        (b"", RunFault::NotLiteral),
-        (b"\"\\q\"", RunFault::NotLiteral),
-        (b"r#\"a\"", RunFault::NotLiteral),
-        (b"b\"a\"", RunFault::NotLiteral),
-        (b"\xFF", RunFault::NotText),
+    let rows: [&[u8]; 7] = [
+        b"\"a\"\n\n",
+        b"\"a",
+        b"\"a\"\r\n",
+        b"",
+        b"\"\\q\"",
+        b"r#\"a\"",
+        b"b\"a\"",
     ];
-    check_refusals(&rt, rt.alloc(), words.as_slice(), &rows)
+    let words = ["format", "--literal"];
+    for input in rows {
+        check_refused(&rt, rt.alloc(), &words, input, RunFault::NotLiteral)?;
+    }
+    check_refused(&rt, rt.alloc(), &words, b"\xFF", RunFault::NotText)
 }
 
 #[test]
 fn lists_the_longest_input(rt: HostRuntime) -> Result<(), Fail> {
-    let words = words(rt.alloc(), &["format"])?;
     let input = repeated(rt.alloc(), b'a', LIMIT)?;
-    let mut reader = input.as_slice();
-    let mut written = Vec::new(rt.alloc());
-    let answer = run(rt.alloc(), &mut reader, &mut written, words.as_slice());
-    assert_eq!(rt; answer, Ok(false));
-    let mut line = Vec::from_slice(rt.alloc(), b"lit \"")?;
-    line.extend_from_slice(input.as_slice())?;
-    line.extend_from_slice(b"\"\n")?;
-    assert!(rt; written.as_slice() == line.as_slice());
-    Ok(())
+    let mut lines = Vec::from_slice(rt.alloc(), b"lit \"")?;
+    lines.extend_from_slice(input.as_slice())?;
+    lines.extend_from_slice(b"\"\n")?;
+    let rows = [(input.as_slice(), lines.as_slice(), false)];
+    check_listings(&rt, rt.alloc(), &["format"], &rows)
 }
 
 #[test]
 fn refuses_what_is_too_long_or_no_text(rt: HostRuntime) -> Result<(), Fail> {
-    let words = words(rt.alloc(), &["format"])?;
     let long = repeated(rt.alloc(), b'a', LIMIT + 1)?;
-    let rows: [(&[u8], RunFault); 2] = [
-        (long.as_slice(), RunFault::TooLong),
-        (b"\xFF", RunFault::NotText),
-    ];
-    check_refusals(&rt, rt.alloc(), words.as_slice(), &rows)
+    check_refused(
+        &rt,
+        rt.alloc(),
+        &["format"],
+        long.as_slice(),
+        RunFault::TooLong,
+    )?;
+    check_refused(&rt, rt.alloc(), &["format"], b"\xFF", RunFault::NotText)
 }
 
 #[test]
@@ -108,78 +153,83 @@ fn refuses_other_words_unread(rt: HostRuntime) -> Result<(), Fail> {
         &["diagnostic-name"],
         &["diagnosticnamed"],
     ];
-    for row in rows {
-        let words = words(rt.alloc(), row)?;
-        let mut reader = HI;
-        let mut written = Vec::new(rt.alloc());
-        let answer = run(rt.alloc(), &mut reader, &mut written, words.as_slice());
-        assert_eq!(rt; answer, Err(RunFault::Words));
-        assert_eq!(rt; verdict(&answer).1, 2);
-        assert_eq!(rt; reader.len(), HI.len());
-        assert!(rt; written.is_empty());
+    for words in rows {
+        check_refused(&rt, rt.alloc(), words, HI, RunFault::Words)?;
     }
+    Ok(())
+}
+
+/// Of a reader, whose bytes are a text of the mode `format`, this is answered and written.
+fn check_reader<R: Read>(
+    rt: &impl Abort,
+    alloc: Global,
+    reader: &mut R,
+    wanted: Result<bool, RunFault>,
+    lines: &[u8],
+) -> Result<(), Fail> {
+    let mut sheet = Sheet::new();
+    let answer = answer(alloc, &["format"], reader, &mut sheet)?;
+    assert_eq!(rt; answer, wanted);
+    assert_eq!(rt; sheet.text(), lines);
+    Ok(())
+}
+
+/// Where a writer is to take the listing of an input, this is answered.
+fn check_writer<W: Write>(
+    rt: &impl Abort,
+    alloc: Global,
+    words: &[&str],
+    input: &[u8],
+    writer: &mut W,
+    wanted: Result<bool, RunFault>,
+) -> Result<(), Fail> {
+    let mut reader = input;
+    let answer = answer(alloc, words, &mut reader, writer)?;
+    assert_eq!(rt; answer, wanted);
     Ok(())
 }
 
 #[test]
 fn a_failed_read_is_not_tried_again(rt: HostRuntime) -> Result<(), Fail> {
-    let words = words(rt.alloc(), &["format"])?;
     // One read for each byte, and one more finds the end.
     for before in 0..HI.len() + 1 {
         let mut reader = Stumbling::new(HI, before);
-        let mut sheet = Sheet::new();
-        let answer = run(rt.alloc(), &mut reader, &mut sheet, words.as_slice());
-        assert_eq!(rt; answer, Err(RunFault::Read));
+        check_reader(&rt, rt.alloc(), &mut reader, Err(RunFault::Read), b"")?;
         assert_eq!(rt; reader.calls, before + 1);
-        assert!(rt; sheet.text().is_empty());
     }
     let mut reader = Stumbling::new(HI, HI.len() + 1);
-    let mut sheet = Sheet::new();
-    let answer = run(rt.alloc(), &mut reader, &mut sheet, words.as_slice());
-    assert_eq!(rt; answer, Ok(false));
+    check_reader(&rt, rt.alloc(), &mut reader, Ok(false), HI_LINES)?;
     assert_eq!(rt; reader.calls, HI.len() + 1);
-    assert_eq!(rt; sheet.text(), HI_LINES);
     Ok(())
 }
 
 #[test]
 fn a_reader_without_end_is_given_up(rt: HostRuntime) -> Result<(), Fail> {
-    let words = words(rt.alloc(), &["format"])?;
     for (step, calls) in [(1, LIMIT + 1), (1000, 1049)] {
         let mut reader = Endless { step, calls: 0 };
-        let mut sheet = Sheet::new();
-        let answer = run(rt.alloc(), &mut reader, &mut sheet, words.as_slice());
-        assert_eq!(rt; answer, Err(RunFault::TooLong));
+        check_reader(&rt, rt.alloc(), &mut reader, Err(RunFault::TooLong), b"")?;
         assert_eq!(rt; reader.calls, calls);
-        assert!(rt; sheet.text().is_empty());
     }
     Ok(())
 }
 
 #[test]
 fn a_failed_write_is_not_tried_again(rt: HostRuntime) -> Result<(), Fail> {
-    let words = words(rt.alloc(), &["format"])?;
     for before in 0..HI_LINES.len() {
-        let mut reader = HI;
         let mut writer = Faltering::new(before);
-        let answer = run(rt.alloc(), &mut reader, &mut writer, words.as_slice());
-        assert_eq!(rt; answer, Err(RunFault::Write));
+        let wanted = Err(RunFault::Write);
+        check_writer(&rt, rt.alloc(), &["format"], HI, &mut writer, wanted)?;
         assert_eq!(rt; writer.calls, before + 1);
     }
-    let mut reader = HI;
     let mut writer = Faltering::new(HI_LINES.len());
-    let answer = run(rt.alloc(), &mut reader, &mut writer, words.as_slice());
-    assert_eq!(rt; answer, Ok(false));
-    Ok(())
+    check_writer(&rt, rt.alloc(), &["format"], HI, &mut writer, Ok(false))
 }
 
 #[test]
 fn a_write_that_takes_no_byte_has_failed(rt: HostRuntime) -> Result<(), Fail> {
-    let words = words(rt.alloc(), &["format"])?;
-    let mut reader = HI;
     let mut writer = Stuck { calls: 0 };
-    let answer = run(rt.alloc(), &mut reader, &mut writer, words.as_slice());
-    assert_eq!(rt; answer, Err(RunFault::Write));
+    let wanted = Err(RunFault::Write);
+    check_writer(&rt, rt.alloc(), &["format"], HI, &mut writer, wanted)?;
     assert_eq!(rt; writer.calls, 1);
     Ok(())
 }

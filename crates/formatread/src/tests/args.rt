@@ -1,7 +1,6 @@
 //! Rows of the program with a list of arguments.
-use super::super::run::run;
-use super::super::verdict::{RunFault, verdict};
-use super::{HI, words};
+use super::{HI, answer, check_answer, check_refused};
+use crate::verdict::RunFault;
 use std::alloc::Global;
 use std::process::Abort;
 use std::test::Fail;
@@ -18,14 +17,7 @@ struct Row {
 /// Each of these rows is so.
 fn check_rows(rt: &impl Abort, alloc: Global, rows: &[Row]) -> Result<(), Fail> {
     for row in rows {
-        let words = words(alloc, row.words)?;
-        let mut reader = row.input;
-        let mut written = Vec::new(alloc);
-        let answer = run(alloc, &mut reader, &mut written, words.as_slice());
-        assert_eq!(rt; answer, Ok(row.told));
-        assert_eq!(rt; verdict(&answer).1, u8::from(row.told));
-        assert_eq!(rt; written.as_slice(), row.lines);
-        assert!(rt; reader.is_empty());
+        check_answer(rt, alloc, row.words, row.input, Ok(row.told), row.lines)?;
     }
     Ok(())
 }
@@ -124,19 +116,6 @@ fn lists_the_report_on_a_literal(rt: HostRuntime) -> Result<(), Fail> {
     check_rows(&rt, rt.alloc(), &rows)
 }
 
-/// No listing is made for these words, and nothing is read.
-fn check_refused(rt: &impl Abort, alloc: Global, list: &[&str]) -> Result<(), Fail> {
-    let words = words(alloc, list)?;
-    let mut reader = HI;
-    let mut written = Vec::new(alloc);
-    let answer = run(alloc, &mut reader, &mut written, words.as_slice());
-    assert_eq!(rt; answer, Err(RunFault::Words));
-    assert_eq!(rt; verdict(&answer).1, 2);
-    assert_eq!(rt; reader.len(), HI.len());
-    assert!(rt; written.is_empty());
-    Ok(())
-}
-
 #[test]
 fn refuses_what_is_no_list(rt: HostRuntime) -> Result<(), Fail> {
     let lists = [
@@ -144,8 +123,10 @@ fn refuses_what_is_no_list(rt: HostRuntime) -> Result<(), Fail> {
         "\u{0663}",
     ];
     for list in lists {
-        check_refused(&rt, rt.alloc(), &["format", "--args", list])?;
-        check_refused(&rt, rt.alloc(), &["format", "--literal", "--args", list])?;
+        let plain = ["format", "--args", list];
+        check_refused(&rt, rt.alloc(), &plain, HI, RunFault::Words)?;
+        let literal = ["format", "--literal", "--args", list];
+        check_refused(&rt, rt.alloc(), &literal, HI, RunFault::Words)?;
     }
     Ok(())
 }
@@ -162,18 +143,18 @@ fn refuses_words_in_another_order(rt: HostRuntime) -> Result<(), Fail> {
         &["format", "--literal", "--args", "1", "a"],
         &["form", "--args", "1"],
     ];
-    for row in rows {
-        check_refused(&rt, rt.alloc(), row)?;
+    for words in rows {
+        check_refused(&rt, rt.alloc(), words, HI, RunFault::Words)?;
     }
     Ok(())
 }
 
 #[test]
 fn takes_the_greatest_number(rt: HostRuntime) -> Result<(), Fail> {
-    let words = words(rt.alloc(), &["format", "--args", "65535"])?;
+    let words = ["format", "--args", "65535"];
     let mut reader: &[u8] = b"{65535}";
     let mut written = Vec::new(rt.alloc());
-    let answer = run(rt.alloc(), &mut reader, &mut written, words.as_slice());
+    let answer = answer(rt.alloc(), &words, &mut reader, &mut written)?;
     assert_eq!(rt; answer, Ok(true));
     let text = written.as_slice();
     let front = b"arg index 65535 2..7\nmissing index 65535\nunused index 0\nunused index 1\n";

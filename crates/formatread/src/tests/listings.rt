@@ -1,31 +1,9 @@
 //! Rows of the program.
-use super::super::run::run;
-use super::{HI, HI_LINES, words};
-use std::alloc::Global;
-use std::process::Abort;
+use super::{HI, HI_LINES, check_listings};
 use std::test::Fail;
-
-/// Each of these inputs is listed so, with or without a fault.
-fn check_listings(
-    rt: &impl Abort,
-    alloc: Global,
-    words: &[String],
-    rows: &[(&[u8], &[u8], bool)],
-) -> Result<(), Fail> {
-    for (input, lines, faulty) in rows {
-        let mut reader = *input;
-        let mut written = Vec::new(alloc);
-        let answer = run(alloc, &mut reader, &mut written, words);
-        assert_eq!(rt; answer, Ok(*faulty));
-        assert_eq!(rt; written.as_slice(), *lines);
-        assert!(rt; reader.is_empty());
-    }
-    Ok(())
-}
 
 #[test]
 fn lists_short_inputs(rt: HostRuntime) -> Result<(), Fail> {
-    let words = words(rt.alloc(), &["format"])?;
     let rows: [(&[u8], &[u8], bool); 4] = [
         (HI, HI_LINES, false),
         (b"", b"", false),
@@ -40,12 +18,11 @@ fn lists_short_inputs(rt: HostRuntime) -> Result<(), Fail> {
             false,
         ),
     ];
-    check_listings(&rt, rt.alloc(), words.as_slice(), &rows)
+    check_listings(&rt, rt.alloc(), &["format"], &rows)
 }
 
 #[test]
 fn lists_each_part_with_its_span(rt: HostRuntime) -> Result<(), Fail> {
-    let words = words(rt.alloc(), &["format"])?;
     let rows: [(&[u8], &[u8], bool); 4] = [
         (
             b"{:*>8.w$x?}",
@@ -68,12 +45,11 @@ fn lists_each_part_with_its_span(rt: HostRuntime) -> Result<(), Fail> {
             true,
         ),
     ];
-    check_listings(&rt, rt.alloc(), words.as_slice(), &rows)
+    check_listings(&rt, rt.alloc(), &["format"], &rows)
 }
 
 #[test]
 fn lists_faults_after_the_pieces(rt: HostRuntime) -> Result<(), Fail> {
-    let words = words(rt.alloc(), &["format"])?;
     let rows: [(&[u8], &[u8], bool); 6] = [
         (
             b"{r#type}",
@@ -106,7 +82,7 @@ fn lists_faults_after_the_pieces(rt: HostRuntime) -> Result<(), Fail> {
             true,
         ),
     ];
-    check_listings(&rt, rt.alloc(), words.as_slice(), &rows)
+    check_listings(&rt, rt.alloc(), &["format"], &rows)
 }
 
 #[test]
@@ -128,19 +104,13 @@ fn lists_in_each_mode(rt: HostRuntime) -> Result<(), Fail> {
         ),
     ];
     for (mode, input, lines) in rows {
-        let words = words(rt.alloc(), &[mode])?;
-        let mut reader = input;
-        let mut written = Vec::new(rt.alloc());
-        let answer = run(rt.alloc(), &mut reader, &mut written, words.as_slice());
-        assert_eq!(rt; answer, Ok(false));
-        assert_eq!(rt; written.as_slice(), lines);
+        check_listings(&rt, rt.alloc(), &[mode], &[(input, lines, false)])?;
     }
     Ok(())
 }
 
 #[test]
 fn lists_what_a_literal_stands_for(rt: HostRuntime) -> Result<(), Fail> {
-    let words = words(rt.alloc(), &["format", "--literal"])?;
     let rows: [(&[u8], &[u8], bool); 4] = [
         (b"\"a\"\n", b"lit \"a\"\n", false),
         (b"\"\"", b"", false),
@@ -151,12 +121,11 @@ fn lists_what_a_literal_stands_for(rt: HostRuntime) -> Result<(), Fail> {
         ),
         (b"r\"\n\"", b"lit \"\\n\"\n", false),
     ];
-    check_listings(&rt, rt.alloc(), words.as_slice(), &rows)
+    check_listings(&rt, rt.alloc(), &["format", "--literal"], &rows)
 }
 
 #[test]
 fn lists_spans_of_the_literal(rt: HostRuntime) -> Result<(), Fail> {
-    let words = words(rt.alloc(), &["format", "--literal"])?;
     let rows: [(&[u8], &[u8], bool); 6] = [
         (
             b"\"a\\n{0:?#}\"",
@@ -185,5 +154,5 @@ fn lists_spans_of_the_literal(rt: HostRuntime) -> Result<(), Fail> {
             true,
         ),
     ];
-    check_listings(&rt, rt.alloc(), words.as_slice(), &rows)
+    check_listings(&rt, rt.alloc(), &["format", "--literal"], &rows)
 }

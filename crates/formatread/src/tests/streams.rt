@@ -1,8 +1,7 @@
 //! Each read of a reader over memory fails in turn, and each write of a listing with faults. How many they are is counted.
-use super::super::run::run;
-use super::super::verdict::RunFault;
-use super::fakes::{Faltering, Sheet};
-use super::{HI, HI_LINES, words};
+use super::fakes::Faltering;
+use super::{HI, HI_LINES, check_reader, check_writer};
+use crate::verdict::RunFault;
 use std::alloc::Global;
 use std::io;
 use std::io::{ErrorKind, Read};
@@ -42,16 +41,12 @@ fn reads(
     wanted: Result<bool, RunFault>,
     lines: &[u8],
 ) -> Result<usize, Fail> {
-    let words = words(alloc, &["format"])?;
     let mut reader = Failing {
         rest: HI,
         before,
         calls: 0,
     };
-    let mut sheet = Sheet::new();
-    let answer = run(alloc, &mut reader, &mut sheet, words.as_slice());
-    assert_eq!(rt; answer, wanted, "after {before} reads");
-    assert_eq!(rt; sheet.text(), lines, "after {before} reads");
+    check_reader(rt, alloc, &mut reader, wanted, lines)?;
     Ok(reader.calls)
 }
 
@@ -73,11 +68,9 @@ fn writes(
     before: usize,
     wanted: Result<bool, RunFault>,
 ) -> Result<usize, Fail> {
-    let words = words(alloc, &["format", "--literal"])?;
-    let mut reader = FLAG;
+    let words = ["format", "--literal"];
     let mut writer = Faltering::new(before);
-    let answer = run(alloc, &mut reader, &mut writer, words.as_slice());
-    assert_eq!(rt; answer, wanted, "after {before} writes");
+    check_writer(rt, alloc, &words, FLAG, &mut writer, wanted)?;
     Ok(writer.calls)
 }
 
