@@ -12,6 +12,7 @@ ghost use Rattle.rustc_parse_format.specs.World.{number_of};
 use crate::characters::{Class, before};
 use crate::cursor::{Cursor, Trail};
 use crate::faults::Fault;
+use crate::range_list::RangeList;
 use crate::source::Spot;
 use std::alloc::{AllocError, Global};
 use std::marker::Model;
@@ -29,7 +30,7 @@ pub struct Reader<'input> {
     /// Where the line starts that is read.
     pub line_start: usize,
     /// The lines that ended in this call.
-    pub lines: Vec<Range<usize>>,
+    pub lines: RangeList,
     /// The placeholder that was closed.
     pub closed: Option<Range<usize>>,
 }
@@ -44,7 +45,7 @@ impl<'input> Model for Reader<'input> {
 
     ghost view = { λ r. record (midway r.cursor r.curarg r.line_start) {
       faults = map seen_fault r.found.items;
-      lines = map pair r.lines.items;
+      lines = r.lines;
       closed = option_map pair r.closed;
     } };
 }
@@ -67,7 +68,7 @@ impl<'input> Reader<'input> {
             curarg: 0,
             found: Vec::new(alloc),
             line_start,
-            lines: Vec::new(alloc),
+            lines: RangeList::new(alloc),
             closed: None,
         }
     }
@@ -94,7 +95,7 @@ impl<'input> Reader<'input> {
         self.curarg = front.curarg;
         self.found = Vec::new(alloc);
         self.line_start = front.line_start;
-        self.lines = Vec::new(alloc);
+        self.lines = RangeList::new(alloc);
         self.closed = None;
     }
 
