@@ -98,17 +98,19 @@ pub struct Lists {
     pub line_spans: RangeList,
 }
 
-/// Moves lines to the end of a list, or none where memory is refused.
+/// Moves lines to the end of a list, or none where memory is refused. One line, as most calls that find any find, is put there by itself.
 #[inline(always)]
-fn move_lines(to: &mut RangeList, from: &mut RangeList) -> Result<(), AllocError>
-    ensures ok { OnOk result ((to.new ≡ to.old ++ from.old) × (from.new ≡ [])) }
+fn move_lines(to: &mut RangeList, from: &mut Vec<Range<usize>>) -> Result<(), AllocError>
+    ensures ok { OnOk result ((to.new ≡ to.old ++ map pair from.old.items) × (from.new.items ≡ [])) }
     ensures err { OnErr result (to.new ≡ to.old) }
 {
-    if to.is_empty() {
-        mem::swap(to, from);
+    if from.len() == 1 {
+        to.push(from.take_last())?;
+    } else if to.is_empty() {
+        to.take_from(from);
     } else {
         to.extend(from.as_slice())?;
-        from.truncate(0);
+        from.clear();
     }
     Ok(())
 }
@@ -132,14 +134,14 @@ impl Lists {
         &mut self,
         alloc: Global,
         found: &mut Vec<Fault<'_>>,
-        lines: &mut RangeList,
+        lines: &mut Vec<Range<usize>>,
         closed: &mut Option<Range<usize>>,
     ) -> Result<usize, AllocError>
         ensures errors { OnOk result ((self.new.errors ≡ add_errors self.old.errors (map seen_fault found.old.items))
             × (found.new.items ≡ [])) }
         ensures fronts { IfOk result (λ n. n ≡ length (filter is_front (map seen_fault found.old.items))) }
         ensures places { OnOk result ((self.new.arg_places ≡ self.old.arg_places ++ listed (option_map pair closed.old)) × (closed.new ≡ None)) }
-        ensures lines { OnOk result ((self.new.line_spans ≡ self.old.line_spans ++ lines.old) × (lines.new ≡ [])) }
+        ensures lines { OnOk result ((self.new.line_spans ≡ self.old.line_spans ++ map pair lines.old.items) × (lines.new.items ≡ [])) }
         ensures err { OnErr result ((self.new.errors ≡ self.old.errors)
             × (take (length self.old.arg_places) self.new.arg_places ≡ self.old.arg_places)
             × (take (length self.old.line_spans) self.new.line_spans ≡ self.old.line_spans)) }

@@ -5,6 +5,7 @@ ghost use Rattle.rustc_parse_format.specs.Seen.{pair};
 
 use std::alloc::{AllocError, Global};
 use std::marker::Model;
+use std::mem;
 use std::ops::Range;
 
 /// Ranges in order. Few of them are the first `held` of `few`, and then `many` is empty; more are in `many`.
@@ -105,6 +106,16 @@ impl RangeList {
             return;
         }
         self.many.truncate(count);
+    }
+
+    /// Takes ranges in the place of its own, and leaves none.
+    pub fn take_from(&mut self, ranges: &mut Vec<Range<usize>>)
+        ensures value { self.new ≡ map pair ranges.old.items }
+        ensures taken { ranges.new.items ≡ [] }
+    {
+        self.held = 0;
+        mem::swap(&mut self.many, ranges);
+        ranges.clear();
     }
 
     /// Adds copies of ranges at the end, or none where memory is refused.

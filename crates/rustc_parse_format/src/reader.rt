@@ -12,7 +12,6 @@ ghost use Rattle.rustc_parse_format.specs.World.{number_of};
 use crate::characters::{Class, before};
 use crate::cursor::{Cursor, Trail};
 use crate::faults::Fault;
-use crate::range_list::RangeList;
 use crate::source::Spot;
 use std::alloc::{AllocError, Global};
 use std::marker::Model;
@@ -30,7 +29,7 @@ pub struct Reader<'input> {
     /// Where the line starts that is read.
     pub line_start: usize,
     /// The lines that ended in this call.
-    pub lines: RangeList,
+    pub lines: Vec<Range<usize>>,
     /// The placeholder that was closed.
     pub closed: Option<Range<usize>>,
 }
@@ -45,7 +44,7 @@ impl<'input> Model for Reader<'input> {
 
     ghost view = { λ r. record (midway r.cursor r.curarg r.line_start) {
       faults = map seen_fault r.found.items;
-      lines = r.lines;
+      lines = map pair r.lines.items;
       closed = option_map pair r.closed;
     } };
 }
@@ -68,7 +67,7 @@ impl<'input> Reader<'input> {
             curarg: 0,
             found: Vec::new(alloc),
             line_start,
-            lines: RangeList::new(alloc),
+            lines: Vec::new(alloc),
             closed: None,
         }
     }
@@ -95,7 +94,7 @@ impl<'input> Reader<'input> {
         self.curarg = front.curarg;
         self.found = Vec::new(alloc);
         self.line_start = front.line_start;
-        self.lines = RangeList::new(alloc);
+        self.lines = Vec::new(alloc);
         self.closed = None;
     }
 

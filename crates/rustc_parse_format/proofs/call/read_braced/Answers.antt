@@ -28,7 +28,7 @@ returns-clause-state g c =
     let u = c.reader.inside.cursor in
     let s = record (midway u c.reader.inside.curarg c.reader.inside.line_start) {
       faults = map seen_fault c.reader.inside.found.items;
-      lines = c.reader.inside.lines;
+      lines = map pair c.reader.inside.lines.items;
       closed = option_map pair c.reader.inside.closed;
     } in
     let given = rw c.take_place-opening.ensures.rest at c.in_ok-read_argument.ensures in

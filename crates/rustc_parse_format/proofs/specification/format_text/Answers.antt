@@ -33,7 +33,7 @@ returns-clause-state g c =
     let n = c.reader.inside.curarg in
     let s = record (midway c.reader.inside.cursor n c.reader.inside.line_start) {
       faults = map seen_fault c.reader.inside.found.items;
-      lines = c.reader.inside.lines;
+      lines = map pair c.reader.inside.lines.items;
       closed = option_map pair c.reader.inside.closed;
     } in
     let m = number_after_precision n (precision (precision_at t)).0 in
