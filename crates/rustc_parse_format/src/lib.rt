@@ -15,6 +15,7 @@ mod messages;
 mod parser;
 mod pieces;
 mod placeholder;
+mod range_list;
 mod reader;
 mod reading;
 mod recover;

@@ -1,6 +1,6 @@
 //! What a parser has found in all its calls so far, and the errors that faults become.
 
-ghost use Rattle.std.specs.Prelude.{◌≡◌, ◌≤◌, ◌+◌, ◌++◌, ◌∷◌, [], IfOk, IsOk, None, OnErr, OnOk, length, map, not, option_map, vec_capacity, vec_len};
+ghost use Rattle.std.specs.Prelude.{◌≡◌, ◌++◌, ◌∷◌, [], IfOk, IsOk, None, OnErr, OnOk, length, map, not, option_map, take};
 ghost use Rattle.std.specs.List.{filter};
 ghost use Rattle.rustc_parse_format.specs.Faults.{add_errors, is_front, message};
 ghost use Rattle.rustc_parse_format.specs.Lines.{ends_with, listed};
@@ -11,6 +11,7 @@ ghost use Rattle.rustc_parse_format.specs.SeenFaults.{seen_fault};
 use crate::error_list::{ErrorList, empty_error};
 use crate::faults::Fault;
 use crate::messages::tell;
+use crate::range_list::RangeList;
 use crate::reader::Reader;
 use crate::types::ParseError;
 use std::alloc::{AllocError, Global};
@@ -93,61 +94,41 @@ fn add_errors(
 #[derive(Drop)]
 pub struct Lists {
     pub errors: ErrorList,
-    pub arg_places: Vec<Range<usize>>,
-    pub line_spans: Vec<Range<usize>>,
+    pub arg_places: RangeList,
+    pub line_spans: RangeList,
 }
 
-/// Moves lines to the end of a list that has room for them. One line, as most calls that find any find, is put there by itself.
+/// Moves lines to the end of a list, or none where memory is refused. One line, as most calls that find any find, is put there by itself.
 #[inline(always)]
-fn move_lines(to: &mut Vec<Range<usize>>, from: &mut Vec<Range<usize>>)
-    requires { vec_len to.old + vec_len from.old ≤ vec_capacity to.old }
-    ensures to { to.new.items ≡ to.old.items ++ from.old.items }
-    ensures from { from.new.items ≡ [] }
+fn move_lines(to: &mut RangeList, from: &mut Vec<Range<usize>>) -> Result<(), AllocError>
+    ensures ok { OnOk result ((to.new ≡ to.old ++ map pair from.old.items) × (from.new.items ≡ [])) }
+    ensures err { OnErr result (to.new ≡ to.old) }
 {
     if from.len() == 1 {
-        to.push_reserved(from.take_last());
+        to.push(from.take_last())?;
+    } else if to.is_empty() {
+        to.take_from(from);
     } else {
-        to.append(from).unwrap();
+        to.extend(from.as_slice())?;
+        from.clear();
     }
+    Ok(())
 }
 
 impl Lists {
     /// Empty lists.
     pub fn new(alloc: Global) -> Lists
-        ensures { (result.errors ≡ []) × (result.arg_places.items ≡ []) × (result.line_spans.items ≡ []) }
+        ensures { (result.errors ≡ []) × (result.arg_places ≡ []) × (result.line_spans ≡ []) }
     {
         Lists {
             errors: ErrorList::new(alloc),
-            arg_places: Vec::new(alloc),
-            line_spans: Vec::new(alloc),
+            arg_places: RangeList::new(alloc),
+            line_spans: RangeList::new(alloc),
         }
     }
 
-    /// Takes over what a call found: all of it, or nothing where memory is refused. Returns how many errors were put in front.
-    pub fn take_over(&mut self, alloc: Global, reader: &mut Reader<'_>) -> Result<usize, AllocError>
-        ensures errors { OnOk result (self.new.errors ≡ add_errors self.old.errors reader.old.faults) }
-        ensures places { OnOk result (map pair self.new.arg_places.items ≡ map pair self.old.arg_places.items ++ listed reader.old.closed) }
-        ensures lines { OnOk result (map pair self.new.line_spans.items ≡ map pair self.old.line_spans.items ++ reader.old.lines) }
-        ensures fronts { IfOk result (λ n. n ≡ length (filter is_front reader.old.faults)) }
-        ensures reader { OnOk result (reader.new ≡ record reader.old { faults = []; lines = []; closed = None }) }
-        ensures source { OnErr result (reader.new.source ≡ reader.old.source) }
-        ensures err { OnErr result ((self.new.errors ≡ self.old.errors)
-            × (self.new.arg_places.items ≡ self.old.arg_places.items) × (self.new.line_spans.items ≡ self.old.line_spans.items)) }
-        ensures none { HasFoundNothing reader.old → IsOk result }
-    {
-        if reader.has_found_nothing() {
-            return Ok(0);
-        }
-        self.add(
-            alloc,
-            &mut reader.found,
-            &mut reader.lines,
-            &mut reader.closed,
-        )
-    }
-
-    /// Adds the errors of faults, lines and a place, which are taken: all of it, or nothing where memory is refused. Returns how
-    /// many errors were put in front.
+    /// Adds the errors of faults, lines and a place, which are taken. Where memory is refused, no errors are added, and the others
+    /// at most behind those that there are. Returns how many errors were put in front.
     #[inline(always)]
     fn add(
         &mut self,
@@ -159,33 +140,52 @@ impl Lists {
         ensures errors { OnOk result ((self.new.errors ≡ add_errors self.old.errors (map seen_fault found.old.items))
             × (found.new.items ≡ [])) }
         ensures fronts { IfOk result (λ n. n ≡ length (filter is_front (map seen_fault found.old.items))) }
-        ensures places { OnOk result ((map pair self.new.arg_places.items
-            ≡ map pair self.old.arg_places.items ++ listed (option_map pair closed.old)) × (closed.new ≡ None)) }
-        ensures lines { OnOk result ((map pair self.new.line_spans.items ≡ map pair self.old.line_spans.items ++ map pair lines.old.items)
-            × (lines.new.items ≡ [])) }
+        ensures places { OnOk result ((self.new.arg_places ≡ self.old.arg_places ++ listed (option_map pair closed.old)) × (closed.new ≡ None)) }
+        ensures lines { OnOk result ((self.new.line_spans ≡ self.old.line_spans ++ map pair lines.old.items) × (lines.new.items ≡ [])) }
         ensures err { OnErr result ((self.new.errors ≡ self.old.errors)
-            × (self.new.arg_places.items ≡ self.old.arg_places.items) × (self.new.line_spans.items ≡ self.old.line_spans.items)) }
+            × (take (length self.old.arg_places) self.new.arg_places ≡ self.old.arg_places)
+            × (take (length self.old.line_spans) self.new.line_spans ≡ self.old.line_spans)) }
     {
-        let is_first = self.line_spans.is_empty();
-        if !is_first {
-            self.line_spans.reserve(lines.len())?;
-        }
-        if closed.is_some() {
-            self.arg_places.reserve(1)?;
-        }
-        let mut fronts = 0;
-        if !found.is_empty() {
-            fronts = add_errors(alloc, &mut self.errors, found)?;
-        }
-        if is_first {
-            mem::swap(&mut self.line_spans, lines);
-        } else {
-            move_lines(&mut self.line_spans, lines);
-        }
         if let Some(place) = closed.take() {
-            self.arg_places.push_reserved(place);
+            self.arg_places.push(place)?;
         }
-        Ok(fronts)
+        if !lines.is_empty() {
+            move_lines(&mut self.line_spans, lines)?;
+        }
+        if found.is_empty() {
+            return Ok(0);
+        }
+        add_errors(alloc, &mut self.errors, found)
+    }
+
+    /// Takes over what a call found: all of it, or nothing where memory is refused. Returns how many errors were put in front.
+    pub fn take_over(&mut self, alloc: Global, reader: &mut Reader<'_>) -> Result<usize, AllocError>
+        ensures errors { OnOk result (self.new.errors ≡ add_errors self.old.errors reader.old.faults) }
+        ensures places { OnOk result (self.new.arg_places ≡ self.old.arg_places ++ listed reader.old.closed) }
+        ensures lines { OnOk result (self.new.line_spans ≡ self.old.line_spans ++ reader.old.lines) }
+        ensures fronts { IfOk result (λ n. n ≡ length (filter is_front reader.old.faults)) }
+        ensures reader { OnOk result (reader.new ≡ record reader.old { faults = []; lines = []; closed = None }) }
+        ensures source { OnErr result (reader.new.source ≡ reader.old.source) }
+        ensures err { OnErr result ((self.new.errors ≡ self.old.errors)
+            × (self.new.arg_places ≡ self.old.arg_places) × (self.new.line_spans ≡ self.old.line_spans)) }
+        ensures none { HasFoundNothing reader.old → IsOk result }
+    {
+        if reader.has_found_nothing() {
+            return Ok(0);
+        }
+        let places = self.arg_places.len();
+        let lines = self.line_spans.len();
+        let added = self.add(
+            alloc,
+            &mut reader.found,
+            &mut reader.lines,
+            &mut reader.closed,
+        );
+        if added.is_err() {
+            self.arg_places.truncate(places);
+            self.line_spans.truncate(lines);
+        }
+        added
     }
 }
 

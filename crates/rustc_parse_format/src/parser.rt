@@ -23,10 +23,10 @@ pub struct Parser<'input> {
 }
 
 impl<'input> Model for Parser<'input> {
-    ghost use Rattle.std.specs.Prelude.{◌+◌, ◌<◌, ◌^◌, length, map};
+    ghost use Rattle.std.specs.Prelude.{◌+◌, ◌<◌, ◌^◌, length};
     ghost use Rattle.rustc_parse_format.specs.Midway.{HasFoundNothing};
     ghost use Rattle.rustc_parse_format.specs.State.{State};
-    ghost use Rattle.rustc_parse_format.specs.Seen.{pair, seen_mode};
+    ghost use Rattle.rustc_parse_format.specs.Seen.{seen_mode};
 
     ghost Value = { State };
 
@@ -37,9 +37,9 @@ impl<'input> Model for Parser<'input> {
       rest = p.reader.rest;
       next = p.reader.next;
       errors = p.lists.errors;
-      arg_places = map pair p.lists.arg_places.items;
+      arg_places = p.lists.arg_places;
       line_start = p.reader.line_start;
-      line_spans = map pair p.lists.line_spans.items;
+      line_spans = p.lists.line_spans;
     } };
 
     ghost invariant = { λ p. (p.reader.next + length p.reader.rest < 2 ^ 64) × HasFoundNothing p.reader };
