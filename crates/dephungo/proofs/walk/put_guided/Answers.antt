@@ -1,14 +1,11 @@
-use Rattle.std.proofs.Common.{Some, ap}
-use Rattle.rustc_parse_format.specs.State.{State}
 use Rattle.dephungo.proofs.Standing.{call_stands}
-use Rattle.dephungo.proofs.walk.texts_at.Goals as goal
+use Rattle.dephungo.proofs.walk.put_guided.Goals as goal
 
-pub texts_of-requires-in-Some : goal.texts_of-requires-in-Some
-texts_of-requires-in-Some c =
-    let h = rw c.in-Some.is at c.requires.along in
-    call_stands c.args.input.now c.in-Some.parser.value 1 c.args.read _ c.utf8.input h.input_is h.left h.is_plain h.reads (rw c.deref_mut.ensures.value at
-    c.in_ok-same-in-Some.ensures.piece)
+pub texts_of-texts-requires : goal.texts_of-texts-requires
+texts_of-texts-requires c =
+    let h = c.requires.along in
+    call_stands c.args.input.now c.args.guide.now 1 c.args.read _ c.utf8.input h.input_is h.left h.is_plain h.reads c.in_ok-same.ensures.piece
 
-pub returns-in_ok-same-in-Some-clause-state : goal.returns-in_ok-same-in-Some-clause-state
-returns-in_ok-same-in-Some-clause-state c =
-    rw c.in-Some.is (ap (λ (s : State). Some s) (rw c.deref_mut.ensures.value at c.in_ok-same-in-Some.ensures.state))
+pub returns-clause-told : goal.returns-clause-told
+returns-clause-told c = λ alike room.
+    c.put_piece.ensures.told c.args.input.now (alike c.texts_of-texts.result (rw c.in_ok-same.ensures.piece at c.texts_of-texts.ensures)) room
