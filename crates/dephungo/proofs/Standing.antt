@@ -14,7 +14,7 @@ use Rattle.rustc_parse_format.proofs.TextPlaces.{CountTexts, TypeTexts, Position
 use Rattle.rustc_parse_format.proofs.TextBytes.{HasLast, HasName, HasText, piece_has}
 use Rattle.dephungo.specs.declared.texts.Texts.{Texts}
 use Rattle.dephungo.specs.Events.{position}
-use Rattle.dephungo.specs.Stand.{CountAt, CountStands, EndsWith, IsAlong, IsGuided, IsPlain, PieceAt, PieceStands, PositionStands, TypeStands}
+use Rattle.dephungo.specs.Stand.{CountAt, CountStands, EndsWith, IsAlong, IsGuided, IsPlain, PieceAt, PieceStands, PositionStands, StandsAlike, TypeStands}
 
 count_stands : (bytes : List ℕ) (at : ℕ) (k : Count Place) → CountTexts (HasText bytes at) k → CountStands bytes at k
 count_stands bytes at (Is n) h = tt
@@ -124,8 +124,7 @@ along bytes s at read (Some t) c left p e =
       reads = e ∙ rw (a.input, r.rest) refl;
     }
 
-pub given_texts : (input : List ℕ) (x : Texts) (s : State) (at : ℕ) (g : Option State) (o : Option (Piece Place)) → IsGuided s at g → o
-    ≡ option_map (piece_in s.world) (next_call s).piece →
-    IfNone g (PieceAt input x o) → IfSome g (λ t. PieceAt input x (option_map (piece_in t.world) (next_call t).piece)) → PieceAt input x o
-given_texts input x s at None o p e h k = h
-given_texts input x s at (Some t) o p e h k = same_texts input x s t o p.0 e k
+pub alike : (input : List ℕ) (s : State) (at : ℕ) (g : Option State) (o : Option (Piece Place)) → IsGuided s at g → o
+    ≡ option_map (piece_in s.world) (next_call s).piece → IfSome g (λ t. StandsAlike input t o)
+alike input s at None o p e = tt
+alike input s at (Some t) o p e = λ x h. same_texts input x s t o p.0 e h

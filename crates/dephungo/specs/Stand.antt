@@ -4,7 +4,7 @@ use Rattle.std.specs.Prelude.{encode_utf8_all, slice_range}
 use Rattle.rustc_parse_format.specs.Characters.{Text}
 use Rattle.rustc_parse_format.specs.Characters.{byte_length}
 use Rattle.rustc_parse_format.specs.Types.{Position, Implicit, Index, Named, Count, Is, Name, Param, Star, Implied, Spec, Argument, Piece, Lit, NextArgument}
-use Rattle.rustc_parse_format.specs.World.{Place, plain_world}
+use Rattle.rustc_parse_format.specs.World.{Place, piece_in, plain_world}
 use Rattle.rustc_parse_format.specs.State.{State, next_call}
 use Rattle.rustc_parse_format.specs.Agreement.{Agree}
 use Rattle.std.specs.declared.alloc.Global.{Global}
@@ -119,3 +119,13 @@ pub record IsAdded (input : List ℕ) (s : State) (count used : ℕ) (old new : 
   pub put : (count < length old → new ≡ set old count step) × (length old ≤ count → new ≡ old)
   pub few : step.spec ≤ used
   pub told : used ≤ length specs → step_meant input specs step ≡ event s
+
+-- the guide's texts are those of the piece
+abbrev pub StandsAlike : List ℕ → State → Option (Piece Place) → Type 0
+StandsAlike input g o = (x : Texts) → PieceAt input x (option_map (piece_in g.world) (next_call g).piece) → PieceAt input x o
+
+-- what stands behind the call is the same
+abbrev pub SameBehind : Step → Step → Type 0
+SameBehind old new =
+    (new.place ≡ old.place) × (new.read ≡ old.read) × (new.next ≡ old.next) × (new.lines ≡ old.lines) × (new.peek ≡ old.peek)
+    × (new.peek_ahead ≡ old.peek_ahead)

@@ -7,7 +7,7 @@ ghost use Rattle.rustc_parse_format.specs.Types.{NextArgument};
 ghost use Rattle.dephungo.specs.declared.records.Extent.{Extent as ExtentRecord};
 ghost use Rattle.dephungo.specs.Events.{has_no_counts, has_no_flags, is_default, specs_in};
 ghost use Rattle.dephungo.specs.Meant.{align_meant, count_meant, fill_meant, hex_meant, is_set, maybe_place, piece_meant, place as place_meant, position_meant, sign_meant, spec_at, spec_meant, text_at};
-ghost use Rattle.dephungo.specs.Stand.{CountAt, PieceAt, PositionAt, SpecAt};
+ghost use Rattle.dephungo.specs.Stand.{CountAt, PieceAt, PieceStands, PositionAt, SameBehind, SpecAt};
 
 use crate::records::{
     ALIGN_CENTER, ALIGN_LEFT, ALIGN_RIGHT, ALIGN_UNKNOWN, COUNT_IMPLIED, COUNT_IS, COUNT_IS_NAME,
@@ -15,7 +15,7 @@ use crate::records::{
     MaybeExtent, NO_FILL, PIECE_ARGUMENT, PIECE_NONE, PIECE_TEXT, POSITION_IMPLICIT,
     POSITION_INDEX, POSITION_NAMED, SIGN_MINUS, SIGN_NONE, SIGN_PLUS, Spec, Step,
 };
-use crate::texts::Texts;
+use crate::texts::{Texts, argument_texts, run_extent};
 use rustc_parse_format::{Alignment, Argument, Count, DebugHex, FormatSpec, Piece, Position, Sign};
 use std::ops::Range;
 
@@ -37,16 +37,24 @@ pub const NO_EXTENT: MaybeExtent = MaybeExtent {
     to: 0,
 };
 
+/// The same of a range that is there.
+#[inline(always)]
+pub fn there(range: &Range<usize>) -> MaybeExtent
+    ensures { maybe_place result ≡ Some (pair range.now) }
+{
+    MaybeExtent {
+        there: 1,
+        from: range.start,
+        to: range.end,
+    }
+}
+
 /// The same of a range that may be there.
-pub fn maybe(range: &Option<Range<usize>>) -> MaybeExtent
+fn maybe(range: &Option<Range<usize>>) -> MaybeExtent
     ensures { maybe_place result ≡ option_map pair range.now }
 {
     match range {
-        Some(range) => MaybeExtent {
-            there: 1,
-            from: range.start,
-            to: range.end,
-        },
+        Some(range) => there(range),
         None => NO_EXTENT,
     }
 }
@@ -129,6 +137,7 @@ fn count(count: &Count<'_>, name: Extent) -> CountRecord
 
 /// A specification, whose texts stand there in the input.
 #[tactic(auto, unfolding(crate::specs::Meant::spec_meant))]
+#[inline(never)]
 fn spec_record(spec: &FormatSpec<'_>, texts: &Texts) -> Spec
     ensures { (input : List ℕ) → SpecAt input texts.now (seen_spec spec.now) → spec_meant input result ≡ seen_spec spec.now }
 {
@@ -178,6 +187,7 @@ fn is_empty(text: &str) -> bool
 }
 
 /// The specification is the default one.
+#[inline(always)]
 fn is_default(spec: &FormatSpec<'_>) -> bool
     ensures { result ≡ is_default (seen_spec spec.now) }
 {
@@ -185,6 +195,7 @@ fn is_default(spec: &FormatSpec<'_>) -> bool
 }
 
 /// Writes a specification behind the `used` records, if it is not the default one and there is room, and gives its number.
+#[inline(always)]
 fn put_spec(spec: &FormatSpec<'_>, texts: &Texts, specs: &mut [Spec], used: &mut usize) -> usize
     requires room { used.old < usize.MAX }
     ensures told { (input : List ℕ) → SpecAt input texts.now (seen_spec spec.now) → used.new ≤ length specs.old → spec_at input specs.new result ≡ seen_spec spec.now }
@@ -204,6 +215,7 @@ fn put_spec(spec: &FormatSpec<'_>, texts: &Texts, specs: &mut [Spec], used: &mut
 }
 
 /// A position: its kind and its number.
+#[inline(always)]
 fn position(position: &Position<'_>) -> (u32, usize)
     ensures { (input : List ℕ) (r : ExtentRecord) → PositionAt (text_at input r) (seen_position position.now)
         → position_meant input result.0 result.1 r ≡ seen_position position.now }
@@ -216,6 +228,7 @@ fn position(position: &Position<'_>) -> (u32, usize)
 }
 
 #[tactic(auto, unfolding(crate::specs::Meant::piece_meant))]
+#[inline(always)]
 fn argument(
     argument: &Argument<'_>,
     texts: &Texts,
@@ -231,6 +244,7 @@ fn argument(
     ensures used { used.new ≡ used.old + (if is_default (seen_spec argument.now.format) then 0 else 1) }
     ensures front { take used.old specs.new ≡ take used.old specs.old }
     ensures kept { drop used.new specs.new ≡ drop used.new specs.old }
+    ensures others { SameBehind step.old step.new }
 {
     let (position, number) = position(&argument.position);
     step.kind = PIECE_ARGUMENT;
@@ -242,10 +256,12 @@ fn argument(
 }
 
 /// A step of no argument.
+#[inline(always)]
 fn bare(kind: u32, text: Extent, step: &mut Step)
     ensures kind { step.new.kind ≡ kind }
     ensures text { step.new.text ≡ text }
     ensures spec { step.new.spec ≡ 0 }
+    ensures others { SameBehind step.old step.new }
 {
     step.kind = kind;
     step.position = POSITION_IMPLICIT;
@@ -272,10 +288,43 @@ pub fn put_piece(
     ensures used { used.new ≡ used.old + specs_in (option_map seen piece.now) }
     ensures front { take used.old specs.new ≡ take used.old specs.old }
     ensures kept { drop used.new specs.new ≡ drop used.new specs.old }
+    ensures others { SameBehind step.old step.new }
 {
     match piece {
         None => bare(PIECE_NONE, NOWHERE, step),
         Some(Piece::Lit(_)) => bare(PIECE_TEXT, texts.text, step),
         Some(Piece::NextArgument(boxed)) => argument(boxed, texts, specs, used, step),
+    }
+}
+
+/// The same where the texts stand at the spans of the piece, less an offset, and a run of text in front of what was read.
+#[tactic(auto, unfolding(crate::specs::Meant::piece_meant))]
+#[inline(always)]
+pub fn put_plain(
+    piece: &Option<Piece<'_>>,
+    input: &str,
+    offset: usize,
+    read: usize,
+    specs: &mut [Spec],
+    used: &mut usize,
+    step: &mut Step,
+)
+    requires stands { PieceStands input.now offset read (option_map seen piece.now) }
+    requires room { used.old < usize.MAX }
+    ensures told { used.new ≤ length specs.old
+        → piece_meant input.now (spec_at input.now specs.new step.new.spec) step.new ≡ option_map seen piece.now }
+    ensures number { step.new.spec ≤ used.new }
+    ensures used { used.new ≡ used.old + specs_in (option_map seen piece.now) }
+    ensures front { take used.old specs.new ≡ take used.old specs.old }
+    ensures kept { drop used.new specs.new ≡ drop used.new specs.old }
+    ensures others { SameBehind step.old step.new }
+{
+    match piece {
+        None => bare(PIECE_NONE, NOWHERE, step),
+        Some(Piece::Lit(text)) => bare(PIECE_TEXT, run_extent(input, read, text), step),
+        Some(Piece::NextArgument(boxed)) => {
+            let texts = argument_texts(input, offset, boxed);
+            argument(boxed, &texts, specs, used, step)
+        }
     }
 }

@@ -54,14 +54,13 @@ pub extern "C" fn dephungo_read(
         Ok(asked) => asked,
         Err(code) => return code,
     };
-    let Ok(found) = read(alloc, asked, steps, specs, faults, texts, lines) else {
+    let Ok(()) = read(alloc, asked, steps, specs, faults, texts, lines, answer) else {
         return NO_MEMORY;
     };
-    let fits = found.steps <= steps.len()
-        && found.specs <= specs.len()
-        && found.faults <= faults.len()
-        && found.texts <= texts.len()
-        && found.lines <= lines.len();
-    *answer = found;
+    let fits = answer.steps <= steps.len()
+        && answer.specs <= specs.len()
+        && answer.faults <= faults.len()
+        && answer.texts <= texts.len()
+        && answer.lines <= lines.len();
     if fits { DONE } else { SHORT }
 }

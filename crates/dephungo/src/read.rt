@@ -1,20 +1,22 @@
 //! A whole input at once.
 
-ghost use Rattle.std.specs.Prelude.{◌≡◌, ◌≤◌, Bool, IfOk, Option, chars, drop, length, map, option_map, string_bytes, take};
+ghost use Rattle.std.specs.Prelude.{◌≡◌, ◌≤◌, ℕ, Bool, IfOk, IsFalse, None, OnErr, OnOk, Option, Some, chars, drop, length, map, option_map, string_bytes, take};
 ghost use Rattle.rustc_parse_format.specs.Seen.{pair, seen_mode};
 ghost use Rattle.rustc_parse_format.specs.Characters.{Text};
+ghost use Rattle.rustc_parse_format.specs.LiteralReading.{is_longer};
+ghost use Rattle.rustc_parse_format.specs.Types.{Mode};
 ghost use Rattle.rustc_parse_format.specs.State.{first_state};
 ghost use Rattle.rustc_parse_format.specs.World.{hashes, quote_offset};
 ghost use Rattle.dephungo.specs.Asked.{Fits, IsCounted, IsKept, IsTold, asked_state, buffers, limit};
 ghost use Rattle.dephungo.specs.Meant.{place};
-ghost use Rattle.dephungo.specs.Stand.{IsGuided, guide_of};
+ghost use Rattle.dephungo.specs.Stand.{IsGuided, IsPlain, guide_of};
 
 use crate::errors::put_errors;
 use crate::finders::Finders;
 use crate::flat::{extent, flag};
 use crate::records::{Answer, Extent, Fault, Spec, Step};
 use crate::task::Task;
-use crate::walk::{next_place, place_ahead, walk};
+use crate::walk::{next_places, walk};
 use rustc_parse_format::{ParseMode, Parser};
 use std::alloc::{AllocError, Global};
 use std::ops::Range;
@@ -39,24 +41,74 @@ fn offset_of(style: Option<usize>) -> usize
     }
 }
 
-/// In an ordinary source literal places are not as in the input, so another parser goes along.
+/// An ordinary literal is longer than what it stands for and two quotes, which an appended newline does not belong to: so it may
+/// have escapes.
+fn is_longer(input: &str, literal: &str, appended_newline: bool) -> bool
+    requires { length input.now ≤ limit }
+    ensures { result ≡ is_longer (chars input.now) None (Some (chars literal.now)) appended_newline }
+{
+    let quotes = if appended_newline { 1 } else { 2 };
+    literal.len() != input.len() + quotes
+}
+
+/// The literal is an ordinary one that may have escapes.
+fn may_have_escapes(
+    input: &str,
+    style: Option<usize>,
+    snippet: Option<&str>,
+    appended_newline: bool,
+) -> bool
+    requires { length input.now ≤ limit }
+    ensures { IsFalse result → (mode : Mode)
+        → IsPlain (first_state mode (chars input.now) style (option_map (λ t. chars t.now) snippet.entry) appended_newline) (quote_offset style) }
+{
+    if style.is_some() {
+        return false;
+    }
+    match snippet {
+        Some(literal) => is_longer(input, literal, appended_newline),
+        None => false,
+    }
+}
+
+/// Another parser over the input, whose places are those in it, one byte later.
+#[inline(never)]
+fn new_guide<'a>(
+    alloc: Global,
+    mode: ParseMode,
+    input: &'a str,
+) -> Result<Option<Box<Parser<'a>>>, AllocError>
+    requires { length input.now ≤ limit }
+    ensures { IfOk result (λ g. (style : Option ℕ) (snippet : Option Text) (appended : Bool)
+        → IsGuided (first_state (seen_mode mode) (chars input.now) style snippet appended) (quote_offset style) (guide_of g)) }
+{
+    let guide = Parser::new(alloc, input, None, None, false, mode)?;
+    Ok(Some(Box::new(alloc, guide)?))
+}
+
+/// In an ordinary source literal with escapes places are not as in the input, so another parser goes along.
 fn guide_for<'a>(
     alloc: Global,
     parser: &Parser<'_>,
     mode: ParseMode,
     input: &'a str,
     style: Option<usize>,
+    snippet: Option<&str>,
+    appended_newline: bool,
 ) -> Result<Option<Box<Parser<'a>>>, AllocError>
     requires { length input.now ≤ limit }
-    ensures { IfOk result (λ g. (snippet : Option Text) (appended : Bool)
-        → parser.now ≡ first_state (seen_mode mode) (chars input.now) style snippet appended → IsGuided parser.now (quote_offset style) (guide_of g)) }
+    ensures { IfOk result (λ g. parser.now
+        ≡ first_state (seen_mode mode) (chars input.now) style (option_map (λ t. chars t.now) snippet.entry) appended_newline
+        → IsGuided parser.now (quote_offset style) (guide_of g)) }
 {
-    if parser.is_source_literal() && style.is_none() {
-        let guide = Parser::new(alloc, input, None, None, false, mode)?;
-        Ok(Some(Box::new(alloc, guide)?))
-    } else {
-        Ok(None)
+    if parser.is_source_literal() {
+        if may_have_escapes(input, style, snippet, appended_newline) {
+            let guide = new_guide(alloc, mode, input)?;
+            return Ok(guide);
+        }
+        return Ok(None);
     }
+    Ok(None)
 }
 
 /// Writes the lines, as far as there is room.
@@ -71,7 +123,7 @@ fn put_lines(spans: &[Range<usize>], lines: &mut [Extent])
     }
 }
 
-/// Reads an input to its end.
+/// Reads an input to its end. An error leaves the answer as it was.
 pub fn read(
     alloc: Global,
     asked: Task<'_>,
@@ -80,14 +132,16 @@ pub fn read(
     faults: &mut [Fault],
     texts: &mut [u8],
     lines: &mut [Extent],
-) -> Result<Answer, AllocError>
+    answer: &mut Answer,
+) -> Result<(), AllocError>
     requires input_length { length asked.input.now ≤ limit }
     requires hashes { hashes asked.style ≤ limit }
-    ensures counted { IfOk result (λ a. IsCounted (asked_state asked.entry) a) }
-    ensures told { IfOk result (λ a. Fits (buffers steps.old specs.old faults.old texts.old lines.old) a
-        → IsTold (asked_state asked.entry) asked.entry.input.now (buffers steps.new specs.new faults.new texts.new lines.new) a) }
-    ensures kept { IfOk result (λ a. IsKept a (buffers steps.old specs.old faults.old texts.old lines.old)
+    ensures counted { OnOk result (IsCounted (asked_state asked.entry) answer.new) }
+    ensures told { OnOk result (Fits (buffers steps.old specs.old faults.old texts.old lines.old) answer.new
+        → IsTold (asked_state asked.entry) asked.entry.input.now (buffers steps.new specs.new faults.new texts.new lines.new) answer.new) }
+    ensures kept { OnOk result (IsKept answer.new (buffers steps.old specs.old faults.old texts.old lines.old)
         (buffers steps.new specs.new faults.new texts.new lines.new)) }
+    ensures err { OnErr result (answer.new ≡ answer.old) }
 {
     let Task {
         mode,
@@ -96,12 +150,19 @@ pub fn read(
         snippet,
         appended_newline,
     } = asked;
-    let snippet = owned(alloc, snippet)?;
-    let mut parser = Parser::new(alloc, input, style, snippet, appended_newline, mode)?;
-    let mut guide = guide_for(alloc, &parser, mode, input, style)?;
+    let literal = owned(alloc, snippet)?;
+    let mut parser = Parser::new(alloc, input, style, literal, appended_newline, mode)?;
+    let mut guide = guide_for(
+        alloc,
+        &parser,
+        mode,
+        input,
+        style,
+        snippet,
+        appended_newline,
+    )?;
     let is_source_literal = flag(parser.is_source_literal());
-    let (_, peek) = next_place(&parser, input);
-    let peek_ahead = place_ahead(&parser);
+    let (_, peek, peek_ahead) = next_places(&parser, input);
     let mut finders = Finders::new(alloc);
     let offset = offset_of(style);
     let (count, used) = walk(
@@ -116,7 +177,7 @@ pub fn read(
     let errors = parser.errors();
     let spans = parser.line_spans();
     put_lines(spans, lines);
-    Ok(Answer {
+    *answer = Answer {
         steps: count,
         specs: used,
         faults: errors.len(),
@@ -126,5 +187,6 @@ pub fn read(
         is_source_literal,
         peek,
         peek_ahead,
-    })
+    };
+    Ok(())
 }

@@ -35,6 +35,7 @@ const NO_TEXTS: Texts = Texts {
 };
 
 /// The text that stands there. An empty one stands at the start of the input, so that no place is inside a character.
+#[inline(always)]
 fn extent_of(input: &str, from: usize, text: &str) -> Extent
     requires { StandsAt input.now from (chars text.now) }
     ensures { text_at input.now result ≡ chars text.now }
@@ -63,6 +64,7 @@ fn stands(input: &str, from: usize, bytes: &[u8]) -> bool
 }
 
 /// The text that stands there, perhaps behind a prefix.
+#[inline(never)]
 fn extent_behind(input: &str, prefix: &[u8], from: usize, text: &str) -> Extent
     requires { StandsBehind input.now prefix.now from (chars text.now) }
     ensures { text_at input.now result ≡ chars text.now }
@@ -74,6 +76,7 @@ fn extent_behind(input: &str, prefix: &[u8], from: usize, text: &str) -> Extent
     }
 }
 
+#[inline(always)]
 fn count_extent(input: &str, offset: usize, count: &Count<'_>) -> Extent
     requires { CountStands input.now offset (seen_count count.now) }
     ensures { CountAt (text_at input.now result) (seen_count count.now) }
@@ -99,6 +102,7 @@ fn listed_type(ty: &str) -> u32
 }
 
 /// A type: its kind, and where it stands.
+#[inline(always)]
 fn type_extent(input: &str, offset: usize, format: &FormatSpec<'_>) -> (u32, Extent)
     requires { TypeStands input.now offset (option_map pair format.now.ty_span) (chars format.now.ty.now) }
     ensures { type_meant input.now result.0 result.1 ≡ chars format.now.ty.now }
@@ -112,7 +116,8 @@ fn type_extent(input: &str, offset: usize, format: &FormatSpec<'_>) -> (u32, Ext
     }
 }
 
-fn argument_texts(input: &str, offset: usize, argument: &Argument<'_>) -> Texts
+#[inline(always)]
+pub fn argument_texts(input: &str, offset: usize, argument: &Argument<'_>) -> Texts
     requires { ArgumentStands input.now offset (seen_argument argument.now) }
     ensures position { PositionAt (text_at input.now result.text) (seen_position argument.now.position) }
     ensures format { SpecAt input.now result (seen_spec argument.now.format) }
@@ -136,7 +141,8 @@ fn argument_texts(input: &str, offset: usize, argument: &Argument<'_>) -> Texts
 }
 
 /// The text that was read last.
-fn run_extent(input: &str, read: usize, text: &str) -> Extent
+#[inline(always)]
+pub fn run_extent(input: &str, read: usize, text: &str) -> Extent
     requires { StandsAt input.now (read - byte_length (chars text.now)) (chars text.now) }
     ensures { text_at input.now result ≡ chars text.now }
 {

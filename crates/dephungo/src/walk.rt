@@ -5,15 +5,16 @@ ghost use Rattle.rustc_parse_format.specs.Characters.{behind_first};
 ghost use Rattle.rustc_parse_format.specs.Lines.{listed};
 ghost use Rattle.rustc_parse_format.specs.Seen.{pair, seen};
 ghost use Rattle.rustc_parse_format.specs.State.{after, next_call};
-ghost use Rattle.rustc_parse_format.specs.World.{Place, piece_in};
+ghost use Rattle.rustc_parse_format.specs.World.{Place};
+ghost use Rattle.dephungo.specs.declared.records.Step.{Step as StepRecord};
 ghost use Rattle.dephungo.specs.Events.{add_finders, end_of, event, events, found_by, fronts_in, fronts_of, place_of_first, position, spec_count, specs_in, step_meant};
-ghost use Rattle.dephungo.specs.Meant.{maybe_place};
-ghost use Rattle.dephungo.specs.Stand.{EndsWith, IsAdded, IsAlong, IsGuided, PieceAt, PieceStands, guide_of};
+ghost use Rattle.dephungo.specs.Meant.{maybe_place, piece_meant, spec_at};
+ghost use Rattle.dephungo.specs.Stand.{EndsWith, IsAdded, IsAlong, IsGuided, PieceStands, SameBehind, StandsAlike, guide_of};
 
 use crate::finders::Finders;
-use crate::flat::{NO_EXTENT, NOWHERE, maybe, put_piece};
+use crate::flat::{NO_EXTENT, NOWHERE, put_piece, put_plain, there};
 use crate::records::{MaybeExtent, PIECE_NONE, POSITION_IMPLICIT, Spec, Step};
-use crate::texts::{Texts, texts_of};
+use crate::texts::texts_of;
 use rustc_parse_format::{Parser, Piece};
 use std::alloc::AllocError;
 use std::ops::Range;
@@ -34,67 +35,109 @@ const BLANK: Step = Step {
     peek_ahead: NO_EXTENT,
 };
 
-/// How far the input was read, and where the next character stands in the source.
-pub fn next_place(parser: &Parser<'_>, input: &str) -> (usize, MaybeExtent)
+/// How far the input was read, and where the next character and the one after it stand in the source.
+#[inline(always)]
+pub fn next_places(parser: &Parser<'_>, input: &str) -> (usize, MaybeExtent, MaybeExtent)
     requires { chars input.now ≡ parser.now.input }
     ensures read { result.0 ≡ position parser.now.input parser.now.rest }
     ensures place { maybe_place result.1 ≡ place_of_first parser.now parser.now.rest }
+    ensures ahead { maybe_place result.2 ≡ place_of_first parser.now (behind_first parser.now.rest) }
 {
     match parser.peek() {
-        Some((place, at, _)) => (at, maybe(&Some(place))),
-        None => (input.len(), NO_EXTENT),
+        Some((place, at, _)) => (at, there(&place), place_ahead(parser)),
+        None => (input.len(), NO_EXTENT, NO_EXTENT),
     }
 }
 
 /// Where the character after the next one stands in the source.
-pub fn place_ahead(parser: &Parser<'_>) -> MaybeExtent
+#[inline(always)]
+fn place_ahead(parser: &Parser<'_>) -> MaybeExtent
     ensures { maybe_place result ≡ place_of_first parser.now (behind_first parser.now.rest) }
 {
     match parser.peek_ahead() {
-        Some((place, _, _)) => maybe(&Some(place)),
+        Some((place, _, _)) => there(&place),
         None => NO_EXTENT,
     }
 }
 
 /// The place of an argument that came behind so many others.
+#[inline(always)]
 fn closed(places: &[Range<usize>], before: usize) -> MaybeExtent
     ensures { (old : List Place) (p : Option Place) → before ≡ length old → map pair places.now ≡ old ++ listed p → maybe_place result ≡ p }
 {
     match places.get(before) {
-        Some(place) => MaybeExtent {
-            there: 1,
-            from: place.start,
-            to: place.end,
-        },
+        Some(place) => there(place),
         None => NO_EXTENT,
     }
 }
 
-/// Where the texts of the piece stand that a call gave: by its own spans, or by those of the guide's call.
-fn texts_at(
+/// Writes the piece that a call gave. Its texts stand at the spans of the guide's call.
+#[inline(never)]
+fn put_guided(
+    guide: &mut Parser<'_>,
+    input: &str,
+    read: usize,
+    given: &Option<Piece<'_>>,
+    specs: &mut [Spec],
+    used: &mut usize,
+    step: &mut Step,
+) -> Result<(), AllocError>
+    requires along { IsAlong guide.old input.now read }
+    requires room { used.old < usize.MAX }
+    ensures told { OnOk result (StandsAlike input.now guide.old (option_map seen given.now) → used.new ≤ length specs.old
+        → piece_meant input.now (spec_at input.now specs.new step.new.spec) step.new ≡ option_map seen given.now) }
+    ensures number { OnOk result (step.new.spec ≤ used.new) }
+    ensures used { OnOk result (used.new ≡ used.old + specs_in (option_map seen given.now)) }
+    ensures front { OnOk result (take used.old specs.new ≡ take used.old specs.old) }
+    ensures kept { OnOk result (drop used.new specs.new ≡ drop used.new specs.old) }
+    ensures others { OnOk result (SameBehind step.old step.new) }
+    ensures state { OnOk result (guide.new ≡ after guide.old (next_call guide.old)) }
+{
+    let same = guide.next()?;
+    let texts = texts_of(input, 1, read, &same);
+    put_piece(given, &texts, specs, used, step);
+    Ok(())
+}
+
+/// Writes the piece that a call gave. Its texts stand at its own spans, or at those of the guide's call.
+#[inline(always)]
+fn put_given(
     guide: &mut Option<Box<Parser<'_>>>,
     input: &str,
     offset: usize,
     read: usize,
     given: &Option<Piece<'_>>,
-) -> Result<Texts, AllocError>
+    specs: &mut [Spec],
+    used: &mut usize,
+    step: &mut Step,
+) -> Result<(), AllocError>
     requires alone { IfNone (guide_of guide.old) (PieceStands input.now offset read (option_map seen given.now)) }
     requires along { IfSome (guide_of guide.old) (λ g. IsAlong g input.now read) }
-    ensures alone { IfOk result (λ x. IfNone (guide_of guide.old) (PieceAt input.now x (option_map seen given.now))) }
-    ensures along { IfOk result (λ x. IfSome (guide_of guide.old) (λ g. PieceAt input.now x (option_map (piece_in g.world) (next_call g).piece))) }
+    requires room { used.old < usize.MAX }
+    ensures told { OnOk result (IfSome (guide_of guide.old) (λ g. StandsAlike input.now g (option_map seen given.now)) → used.new ≤ length specs.old
+        → piece_meant input.now (spec_at input.now specs.new step.new.spec) step.new ≡ option_map seen given.now) }
+    ensures number { OnOk result (step.new.spec ≤ used.new) }
+    ensures used { OnOk result (used.new ≡ used.old + specs_in (option_map seen given.now)) }
+    ensures front { OnOk result (take used.old specs.new ≡ take used.old specs.old) }
+    ensures kept { OnOk result (drop used.new specs.new ≡ drop used.new specs.old) }
+    ensures others { OnOk result (SameBehind step.old step.new) }
     ensures state { OnOk result (guide_of guide.new ≡ option_map (λ g. after g (next_call g)) (guide_of guide.old)) }
 {
     match guide {
-        None => Ok(texts_of(input, offset, read, given)),
-        Some(parser) => {
-            let same = parser.next()?;
-            Ok(texts_of(input, 1, read, &same))
+        None => {
+            put_plain(given, input, offset, read, specs, used, step);
+            Ok(())
+        }
+        Some(guide) => {
+            put_guided(guide, input, read, given, specs, used, step)?;
+            Ok(())
         }
     }
 }
 
 /// The call with this number, into its step. The places of texts are those of the parser's spans, so many bytes behind the
 /// places in the input; or those of the spans of a guide, which goes along, one byte behind them.
+#[inline(always)]
 fn step(
     parser: &mut Parser<'_>,
     guide: &mut Option<Box<Parser<'_>>>,
@@ -124,20 +167,53 @@ fn step(
     let faults = parser.errors().len();
     let places = parser.arg_places().len();
     let (given, fronts) = parser.next_with_fronts()?;
-    let (read, peek) = next_place(parser, input);
-    let texts = texts_at(guide, input, offset, read, &given)?;
-    finders.add(number, fronts, parser.errors().len() - faults)?;
-    put_piece(&given, &texts, specs, used, step);
+    let (read, peek, peek_ahead) = next_places(parser, input);
     step.place = closed(parser.arg_places(), places);
     step.read = read;
     step.next = parser.curarg();
     step.lines = parser.line_spans().len();
     step.peek = peek;
-    step.peek_ahead = place_ahead(parser);
+    step.peek_ahead = peek_ahead;
+    finders.add(number, fronts, parser.errors().len() - faults)?;
+    put_given(guide, input, offset, read, &given, specs, used, step)?;
     Ok(())
 }
 
+/// The call with this number, where there is no room for its step: how far the input was read.
+#[inline(never)]
+fn step_unwritten(
+    parser: &mut Parser<'_>,
+    guide: &mut Option<Box<Parser<'_>>>,
+    offset: usize,
+    input: &str,
+    number: usize,
+    finders: &mut Finders,
+    specs: &mut [Spec],
+    used: &mut usize,
+) -> Result<usize, AllocError>
+    requires input { chars input.now ≡ parser.old.input }
+    requires left { EndsWith parser.old.input parser.old.rest }
+    requires guided { IsGuided parser.old offset (guide_of guide.old) }
+    requires room { used.old < usize.MAX }
+    ensures added { OnOk result ((full : List StepRecord) → length full ≤ number → IsAdded input.now parser.old number used.new full full specs.new) }
+    ensures used { OnOk result (used.new ≡ used.old + specs_in (event parser.old).piece) }
+    ensures front { OnOk result (take used.old specs.new ≡ take used.old specs.old) }
+    ensures kept { OnOk result (drop used.new specs.new ≡ drop used.new specs.old) }
+    ensures state { OnOk result (parser.new ≡ after parser.old (next_call parser.old)) }
+    ensures read { IfOk result (λ n. n ≡ position parser.new.input parser.new.rest) }
+    ensures guided { OnOk result (IsGuided parser.new offset (guide_of guide.new)) }
+    ensures finders { OnOk result (finders.new.calls ≡ add_finders number finders.old.calls (next_call parser.old).faults) }
+    ensures fronts { OnOk result (finders.new.fronts ≡ finders.old.fronts + fronts_in (next_call parser.old)) }
+{
+    let mut spare = BLANK;
+    step(
+        parser, guide, offset, input, number, finders, specs, used, &mut spare,
+    )?;
+    Ok(spare.read)
+}
+
 /// The call with this number, written behind so many steps, if there is room: how far the input was read.
+#[inline(always)]
 fn add_step(
     parser: &mut Parser<'_>,
     guide: &mut Option<Box<Parser<'_>>>,
@@ -170,11 +246,7 @@ fn add_step(
         )?;
         Ok(steps[number].read)
     } else {
-        let mut spare = BLANK;
-        step(
-            parser, guide, offset, input, number, finders, specs, used, &mut spare,
-        )?;
-        Ok(spare.read)
+        step_unwritten(parser, guide, offset, input, number, finders, specs, used)
     }
 }
 

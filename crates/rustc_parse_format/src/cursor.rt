@@ -205,6 +205,7 @@ impl<'input> Cursor<'input> {
     }
 
     /// The place of the next character, its byte position in the input, and itself, or None at the end.
+    #[inline(always)]
     pub fn next_place(&self) -> Option<(Range<usize>, usize, char)>
         ensures { option_map (λ x. (pair x.0, x.1, x.2)) result
             ≡ first_of self.now.world self.now.input self.now.rest }
@@ -213,6 +214,7 @@ impl<'input> Cursor<'input> {
     }
 
     /// The same of the character after the next one.
+    #[inline(always)]
     pub fn place_ahead(&self) -> Option<(Range<usize>, usize, char)>
         ensures { option_map (λ x. (pair x.0, x.1, x.2)) result
             ≡ first_of self.now.world self.now.input (behind_first self.now.rest) }

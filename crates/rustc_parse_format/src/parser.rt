@@ -70,6 +70,7 @@ impl<'input> Parser<'input> {
     /// A parser at the start of an input, which stands in a literal of this style: None for an ordinary literal, or the
     /// number of the hashes of a raw one. The snippet is the source that the input is said to come from. The hashes, the
     /// bytes of the input and 2 together must fit `usize`. Takes no memory and always succeeds.
+    #[inline(always)]
     pub fn new(
         alloc: Global,
         input: &'input str,
@@ -318,6 +319,7 @@ impl<'input> Parser<'input> {
 
     /// The place of the next character in the source, its byte position in the input, and itself, or None at the end.
     /// All positions are bytes. Nothing is moved.
+    #[inline(always)]
     pub fn peek(&self) -> Option<(Range<usize>, usize, char)>
         ensures { option_map (λ x. (pair x.0, x.1, x.2)) result ≡ first_of self.now.world self.now.input self.now.rest }
     {
@@ -325,6 +327,7 @@ impl<'input> Parser<'input> {
     }
 
     /// The same of the character after the next one.
+    #[inline(always)]
     pub fn peek_ahead(&self) -> Option<(Range<usize>, usize, char)>
         ensures { option_map (λ x. (pair x.0, x.1, x.2)) result
             ≡ first_of self.now.world self.now.input (behind_first self.now.rest) }

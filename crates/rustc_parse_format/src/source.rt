@@ -377,6 +377,7 @@ impl<'input> Source<'input> {
     }
 
     /// The place of the next character, its byte position in the input, and itself, or None at the end.
+    #[inline(always)]
     pub fn next_place(&self, spot: &Spot<'_>) -> Option<(Range<usize>, usize, char)>
         requires { IsSpot self.now spot.now.rest.now spot.now.mark.now spot.now.at }
         ensures { option_map (λ x. (pair x.0, x.1, x.2)) result

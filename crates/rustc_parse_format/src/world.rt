@@ -76,6 +76,7 @@ fn kept_if(is_kept: bool, snippet: Option<String>) -> Option<String>
 }
 
 /// Where an input stands in its source, by the style of its literal, the snippet, and whether a newline was appended.
+#[inline(always)]
 pub fn source_of<'input>(
     input: &'input str,
     style: Option<usize>,

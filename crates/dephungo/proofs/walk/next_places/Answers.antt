@@ -1,6 +1,6 @@
 use Rattle.rustc_parse_format.specs.Seen.{pair}
 use Rattle.dephungo.proofs.Widths.{end_position, nothing_left}
-use Rattle.dephungo.proofs.walk.next_place.Goals as goal
+use Rattle.dephungo.proofs.walk.next_places.Goals as goal
 
 pub returns-in-None-clause-read : goal.returns-in-None-clause-read
 returns-in-None-clause-read c =
