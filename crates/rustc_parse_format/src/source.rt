@@ -155,22 +155,8 @@ pub fn look_at(snippet: &str, at: usize) -> Look
     }
 }
 
-/// Where the next character starts in a snippet that is kept: from where it was last looked at on, character by character.
-fn byte_by_byte(snippet: &str, marked: &str, byte: usize, rest: &str) -> usize
-    requires after { IsLeft marked.now rest.now }
-    requires here { (w : World) × IsHere snippet.now w (chars marked.now) byte }
-    ensures { (w : World) → IsHere snippet.now w (chars marked.now) byte → IsHere snippet.now w (chars rest.now) result }
-{
-    let mut mark = marked;
-    let mut at = byte;
-    while mark.len() > rest.len() {
-        at = character_at(snippet, at).1;
-        mark = behind_first(mark);
-    }
-    at
-}
-
-/// The same, where all from there to the next character stands in the snippet as it is.
+/// Where the next character starts in a snippet that is kept, from where it was last looked at on, where all in between stands in the
+/// snippet as it is.
 #[inline(always)]
 fn byte_in_bare(snippet: &str, mark: &str, at: Look, rest: &str) -> usize
     requires after { IsLeft mark.now rest.now }
@@ -194,6 +180,44 @@ fn behind_bytes(text: &str, bytes: usize) -> &str
     ensures width { length text.now - length result.now ≤ bytes }
 {
     &text[text.floor_char_boundary(bytes)..]
+}
+
+/// Passes what stands in the snippet as it is, as far as the next character: what is then left, and where that starts.
+#[inline(always)]
+fn pass_bare<'a>(snippet: &str, mark: &'a str, at: usize, rest: &'a str) -> (&'a str, usize)
+    requires after { IsLeft mark.now rest.now }
+    requires here { (w : World) × IsHere snippet.now w (chars mark.now) at }
+    ensures after { IsLeft result.0.now rest.now }
+    ensures here { (w : World) → IsHere snippet.now w (chars mark.now) at → IsHere snippet.now w (chars result.0.now) result.1 }
+    ensures shorter { length result.0.now ≤ length mark.now }
+{
+    if snippet.as_bytes()[at] == b'\\' {
+        return (mark, at);
+    }
+    let look = look_at(snippet, at);
+    if mark.len() - rest.len() <= look.bare {
+        return (rest, byte_in_bare(snippet, mark, look, rest));
+    }
+    let behind = behind_bytes(mark, look.bare);
+    (behind, byte_in_bare(snippet, mark, look, behind))
+}
+
+/// The same, where at least one character in between is an escape or comes after a continuation: character by character, but for what
+/// stands in the snippet as it is.
+fn byte_by_byte(snippet: &str, marked: &str, byte: usize, rest: &str) -> usize
+    requires after { IsLeft marked.now rest.now }
+    requires here { (w : World) × IsHere snippet.now w (chars marked.now) byte }
+    ensures { (w : World) → IsHere snippet.now w (chars marked.now) byte → IsHere snippet.now w (chars rest.now) result }
+{
+    let mut mark = marked;
+    let mut at = byte;
+    while mark.len() > rest.len() {
+        let next = character_at(snippet, at).1;
+        let (left, start) = pass_bare(snippet, behind_first(mark), next, rest);
+        mark = left;
+        at = start;
+    }
+    at
 }
 
 /// The same, where an escape or a continuation comes in between.
