@@ -1,6 +1,6 @@
 //! Where an input stands in its source, and how a place in a snippet goes on from character to character.
 
-ghost use Rattle.std.specs.Prelude.{IsTrue, ◌≡◌, ◌≤◌, ◌<◌, ◌-◌, ◌∷◌, List, ℕ, chars, drop, length, true};
+ghost use Rattle.std.specs.Prelude.{◌≡◌, ◌≤◌, ◌<◌, ◌-◌, ◌∷◌, List, ℕ, chars, drop, length, true};
 ghost use Rattle.std.specs.Str.{is_utf8};
 ghost use Rattle.rustc_parse_format.specs.Bytes.{IsFront, IsLeft};
 ghost use Rattle.rustc_parse_format.specs.Characters.{Text, behind_first};
@@ -12,7 +12,7 @@ ghost use Rattle.rustc_parse_format.specs.World.{World, place_at};
 
 use crate::blocks::calm_front;
 use crate::characters::{behind_first, first};
-use crate::literal::{Rest, read_unit};
+use crate::literal::{Rest, is_newline_escape, read_unit};
 use std::ops::Range;
 
 /// Where an input stands in its source.
@@ -45,18 +45,6 @@ pub struct Spot<'input> {
     pub rest: &'input str,
     pub mark: &'input str,
     pub at: Look,
-}
-
-/// The most common escape is at the front.
-#[inline(always)]
-fn is_newline_escape(text: &str) -> bool
-    ensures { IsTrue result → chars text.now ≡ 92 ∷ 110 ∷ behind_first (behind_first (chars text.now)) }
-{
-    let bytes = text.as_bytes();
-    if bytes.len() < 2 {
-        return false;
-    }
-    bytes[0] == b'\\' && bytes[1] == b'n'
 }
 
 /// How many bytes the unit at the front takes, or 0 where none stands there that is a character.
