@@ -1,10 +1,14 @@
 -- A mark that is moved forward to a rest, character by character.
-use Rattle.std.proofs.Common.{◌≡◌, ◌≢◌, ◌++◌, ◌+◌, ◌<◌, ◌≤◌, Bool, true, false, List, ℕ, [], ◌∷◌, drop, length, chars, IsUtf8, ap, refl, subst}
-use Rattle.std.proofs.Common.{sym, ◌∙◌, arith}
+use Rattle.std.proofs.Common.{◌≡◌, ◌≢◌, ◌++◌, ◌+◌, ◌-◌, ◌<◌, ◌≤◌, Bool, true, false, List, ℕ, [], ◌∷◌, drop, length, chars, IsUtf8, ap, refl, subst}
+use Rattle.std.proofs.Common.{sym, ◌∙◌, arith, length-append}
 use Rattle.std.specs.Prelude.{IsTrue}
+use Rattle.std.specs.Str.{is_utf8}
+use Rattle.std.proofs.Math.Seq.{drop-append_seam}
+use Rattle.std.proofs.Math.Utf8.{encodes}
 use Rattle.std.specs.List.{list_all}
 use Rattle.std.proofs.lemmas.Bool.{and_parts}
-use Rattle.std.proofs.lemmas.Str.{IsUtf8-from_is_utf8, len_utf8_bounds}
+use Rattle.std.proofs.lemmas.Str.{IsUtf8-from_is_utf8, encodes-append, encodes-chars, len_utf8_bounds}
+use Rattle.rustc_parse_format.specs.Bytes.{IsLeft}
 use Rattle.rustc_parse_format.specs.World.{World}
 use Rattle.rustc_parse_format.specs.LiteralUnits.{LiteralUnit, Plain, is_plain, meaning}
 use Rattle.rustc_parse_format.specs.Literal.{IsContent}
@@ -41,6 +45,19 @@ front_gone mark rest u v h (c ∷ front) f =
       width-append front (chars rest),
       (len_utf8_bounds c).0,
     ))
+
+-- what ends with the rest has it left
+pub left_from : (s rest : List ℕ) (front : Text) → is_utf8 s ≡ true → is_utf8 rest ≡ true → chars s ≡ front ++ chars rest → IsLeft s rest
+left_from s rest front u v e =
+    let bytes : s ≡ encodes front ++ rest = sym (encodes-chars s (IsUtf8-from_is_utf8 s u)) ∙ (ap encodes e
+    ∙ (encodes-append front (chars rest) ∙ ap (λ x. encodes front ++ x) (encodes-chars rest (IsUtf8-from_is_utf8 rest v)))) in
+    let size : length s - length rest ≡ length (encodes front) = omega (arith, ap length bytes, length-append (encodes front) rest) in
+    record {
+      valid = u;
+      valid_rest = v;
+      within = omega (arith, ap length bytes, length-append (encodes front) rest);
+      tail = ap (λ k. drop k s) size ∙ (ap (drop (length (encodes front))) bytes ∙ drop-append_seam (encodes front) rest);
+    }
 
 -- A run that stands in the snippet as it is, and has no character that a literal writes in another way.
 pub plain_width : (c : ℕ) (t : Text) → IsTrue (is_plain c) → character_width (c ∷ t) ≡ byte_length (c ∷ [])

@@ -14,7 +14,7 @@ pub(crate) use rest::{Rest, plain_width};
 use std::alloc::{AllocError, Global};
 use std::ops::Range;
 use unit::byte_escape;
-pub(crate) use unit::read_unit;
+pub(crate) use unit::{is_newline_escape, read_unit};
 
 /// The characters that a content stands for, each with its bytes, by computing.
 fn read_characters(

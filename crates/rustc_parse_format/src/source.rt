@@ -1,6 +1,6 @@
 //! Where an input stands in its source, and how a place in a snippet goes on from character to character.
 
-ghost use Rattle.std.specs.Prelude.{IsTrue, ◌≡◌, ◌≤◌, ◌<◌, ◌-◌, ◌∷◌, List, ℕ, chars, drop, length, true};
+ghost use Rattle.std.specs.Prelude.{◌≡◌, ◌≤◌, ◌<◌, ◌-◌, ◌∷◌, List, ℕ, chars, drop, length, true};
 ghost use Rattle.std.specs.Str.{is_utf8};
 ghost use Rattle.rustc_parse_format.specs.Bytes.{IsFront, IsLeft};
 ghost use Rattle.rustc_parse_format.specs.Characters.{Text, behind_first};
@@ -12,7 +12,7 @@ ghost use Rattle.rustc_parse_format.specs.World.{World, place_at};
 
 use crate::blocks::calm_front;
 use crate::characters::{behind_first, first};
-use crate::literal::{Rest, read_unit};
+use crate::literal::{Rest, is_newline_escape, read_unit};
 use std::ops::Range;
 
 /// Where an input stands in its source.
@@ -45,18 +45,6 @@ pub struct Spot<'input> {
     pub rest: &'input str,
     pub mark: &'input str,
     pub at: Look,
-}
-
-/// The most common escape is at the front.
-#[inline(always)]
-fn is_newline_escape(text: &str) -> bool
-    ensures { IsTrue result → chars text.now ≡ 92 ∷ 110 ∷ behind_first (behind_first (chars text.now)) }
-{
-    let bytes = text.as_bytes();
-    if bytes.len() < 2 {
-        return false;
-    }
-    bytes[0] == b'\\' && bytes[1] == b'n'
 }
 
 /// How many bytes the unit at the front takes, or 0 where none stands there that is a character.
@@ -155,22 +143,8 @@ pub fn look_at(snippet: &str, at: usize) -> Look
     }
 }
 
-/// Where the next character starts in a snippet that is kept: from where it was last looked at on, character by character.
-fn byte_by_byte(snippet: &str, marked: &str, byte: usize, rest: &str) -> usize
-    requires after { IsLeft marked.now rest.now }
-    requires here { (w : World) × IsHere snippet.now w (chars marked.now) byte }
-    ensures { (w : World) → IsHere snippet.now w (chars marked.now) byte → IsHere snippet.now w (chars rest.now) result }
-{
-    let mut mark = marked;
-    let mut at = byte;
-    while mark.len() > rest.len() {
-        at = character_at(snippet, at).1;
-        mark = behind_first(mark);
-    }
-    at
-}
-
-/// The same, where all from there to the next character stands in the snippet as it is.
+/// Where the next character starts in a snippet that is kept, from where it was last looked at on, where all in between stands in the
+/// snippet as it is.
 #[inline(always)]
 fn byte_in_bare(snippet: &str, mark: &str, at: Look, rest: &str) -> usize
     requires after { IsLeft mark.now rest.now }
@@ -194,6 +168,44 @@ fn behind_bytes(text: &str, bytes: usize) -> &str
     ensures width { length text.now - length result.now ≤ bytes }
 {
     &text[text.floor_char_boundary(bytes)..]
+}
+
+/// Passes what stands in the snippet as it is, as far as the next character: what is then left, and where that starts.
+#[inline(always)]
+fn pass_bare<'a>(snippet: &str, mark: &'a str, at: usize, rest: &'a str) -> (&'a str, usize)
+    requires after { IsLeft mark.now rest.now }
+    requires here { (w : World) × IsHere snippet.now w (chars mark.now) at }
+    ensures after { IsLeft result.0.now rest.now }
+    ensures here { (w : World) → IsHere snippet.now w (chars mark.now) at → IsHere snippet.now w (chars result.0.now) result.1 }
+    ensures shorter { length result.0.now ≤ length mark.now }
+{
+    if snippet.as_bytes()[at] == b'\\' {
+        return (mark, at);
+    }
+    let look = look_at(snippet, at);
+    if mark.len() - rest.len() <= look.bare {
+        return (rest, byte_in_bare(snippet, mark, look, rest));
+    }
+    let behind = behind_bytes(mark, look.bare);
+    (behind, byte_in_bare(snippet, mark, look, behind))
+}
+
+/// The same, where at least one character in between is an escape or comes after a continuation: character by character, but for what
+/// stands in the snippet as it is.
+fn byte_by_byte(snippet: &str, marked: &str, byte: usize, rest: &str) -> usize
+    requires after { IsLeft marked.now rest.now }
+    requires here { (w : World) × IsHere snippet.now w (chars marked.now) byte }
+    ensures { (w : World) → IsHere snippet.now w (chars marked.now) byte → IsHere snippet.now w (chars rest.now) result }
+{
+    let mut mark = marked;
+    let mut at = byte;
+    while mark.len() > rest.len() {
+        let next = character_at(snippet, at).1;
+        let (left, start) = pass_bare(snippet, behind_first(mark), next, rest);
+        mark = left;
+        at = start;
+    }
+    at
 }
 
 /// The same, where an escape or a continuation comes in between.

@@ -1,8 +1,8 @@
 //! The unit at the front of the content of an ordinary string literal.
 
-ghost use Rattle.std.specs.Prelude.{◌≡◌, ◌∷◌, ◌<◌, [], IfSome, Some, chars, option_map};
+ghost use Rattle.std.specs.Prelude.{◌≡◌, ◌∷◌, ◌<◌, [], IfSome, IsTrue, Some, chars, option_map};
 ghost use Rattle.std.specs.Char.{digit_value};
-ghost use Rattle.rustc_parse_format.specs.Characters.{Text};
+ghost use Rattle.rustc_parse_format.specs.Characters.{Text, behind_first};
 ghost use Rattle.rustc_parse_format.specs.LiteralUnits.{at_most_one, byte_at, escape_at, escaped, meaning, unicode_at, unit_at};
 
 use super::rest::Rest;
@@ -27,6 +27,18 @@ fn read_byte(rest: &mut Rest<'_>) -> Option<char>
     let high = rest.next()?;
     let low = rest.next()?;
     byte_of(high, low)
+}
+
+/// The most common escape is at the front.
+#[inline(always)]
+pub fn is_newline_escape(text: &str) -> bool
+    ensures { IsTrue result → chars text.now ≡ 92 ∷ 110 ∷ behind_first (behind_first (chars text.now)) }
+{
+    let bytes = text.as_bytes();
+    if bytes.len() < 2 {
+        return false;
+    }
+    bytes[0] == b'\\' && bytes[1] == b'n'
 }
 
 /// What an escape with `\x` at the front stands for, and what is after it: by its bytes, since a literal may be made of such escapes.
@@ -112,6 +124,11 @@ pub fn read_unit(rest: &mut Rest<'_>) -> Option<Option<char>>
     if let Some((c, behind)) = byte_escape(rest.text()) {
         *rest = Rest::new(behind);
         return Some(Some(c));
+    }
+    if is_newline_escape(rest.text()) {
+        rest.next();
+        rest.next();
+        return Some(Some('\n'));
     }
     match rest.next()? {
         '\\' => read_escape(rest),

@@ -1,7 +1,7 @@
 use Rattle.std.proofs.Common.{◌≤◌, length, rules}
 use Rattle.std.proofs.lemmas.Bool.{eqb-true}
 use Rattle.rustc_parse_format.proofs.SourceContents.{newline-escape}
-use Rattle.rustc_parse_format.proofs.source.is_newline_escape.Goals as goal
+use Rattle.rustc_parse_format.proofs.literal.unit.is_newline_escape.Goals as goal
 
 pub returns-then-bytes-eq92 : goal.returns-then-bytes-eq92
 returns-then-bytes-eq92 c e =
