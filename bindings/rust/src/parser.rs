@@ -2,7 +2,7 @@
 use crate::reading::Reading;
 use crate::records::{self, CountRecord, Extent, Fault, MaybeExtent, Options, Spec, Step};
 use crate::{Alignment::*, Argument, Count, Count::*, DebugHex, FormatSpec, ParseError, ParseMode, Piece, Position::*};
-use crate::{Sign, Suggestion};
+use crate::{Position, Sign, Suggestion};
 use std::ops::Range;
 
 /// A parser over an input: an iterator over its pieces.
@@ -12,13 +12,16 @@ use std::ops::Range;
 pub struct Parser<'input> {
     input: &'input str,
     reading: Reading,
-    /// How many calls there were, up to that at the end of the input.
+    /// How many calls there were, up to that at the end of the input, which has this number.
     calls: usize,
+    end: usize,
     /// What `curarg` is by the reading, where nobody sets it.
     number: usize,
     /// The faults that are not told yet: of those in front the first ones, and of the others those from here on.
     fronts: usize,
     backs: usize,
+    /// How many these are.
+    untold: usize,
     /// The faults so far. Some come to the front of the list. They may be taken out.
     pub errors: Vec<ParseError>,
     /// The number of the next implicit argument, which may be set.
@@ -58,16 +61,19 @@ impl<'input> Parser<'input> {
             appended_newline: appended_newline.into(),
         };
         let reading = Reading::new(input, snippet.as_deref().unwrap_or(""), &options);
+        let answer = reading.answer();
         Parser {
             input,
             calls: 0,
+            end: answer.steps - 1,
             number: 0,
-            fronts: reading.answer().fronts,
-            backs: reading.answer().fronts,
+            fronts: answer.fronts,
+            backs: answer.fronts,
+            untold: answer.faults,
             errors: Vec::new(),
             curarg: 0,
             arg_places: Vec::new(),
-            is_source_literal: reading.answer().is_source_literal != 0,
+            is_source_literal: answer.is_source_literal != 0,
             line_spans: Vec::new(),
             reading,
         }
@@ -90,7 +96,7 @@ impl<'input> Parser<'input> {
     fn ahead(&self) -> (usize, MaybeExtent, MaybeExtent) {
         match self.calls.checked_sub(1) {
             Some(last) => {
-                let step = &self.reading.steps()[last];
+                let step = self.reading.step(last);
                 (step.read, step.peek, step.peek_ahead)
             }
             None => (0, self.reading.answer().peek, self.reading.answer().peek_ahead),
@@ -98,15 +104,18 @@ impl<'input> Parser<'input> {
     }
 
     /// Tells the faults that a step found.
+    #[cold]
     fn tell_errors(&mut self, step: usize) {
         let faults = self.reading.faults();
         while self.fronts > 0 && faults[self.fronts - 1].step == step {
             self.fronts -= 1;
             self.errors.insert(0, error(&self.reading, &faults[self.fronts]));
+            self.untold -= 1;
         }
         while self.backs < faults.len() && faults[self.backs].step == step {
             self.errors.push(error(&self.reading, &faults[self.backs]));
             self.backs += 1;
+            self.untold -= 1;
         }
     }
 
@@ -114,8 +123,8 @@ impl<'input> Parser<'input> {
     fn add_lines(&mut self, step: usize, is_end: bool) {
         let lines = self.reading.lines();
         if !is_end {
-            let before = step.checked_sub(1).map_or(0, |last| self.reading.steps()[last].lines);
-            let ended = &lines[before..self.reading.steps()[step].lines];
+            let before = step.checked_sub(1).map_or(0, |last| self.reading.step(last).lines);
+            let ended = &lines[before..self.reading.step(step).lines];
             self.line_spans.extend(ended.iter().map(|line| line.range()));
         } else if let Some(last) = lines.last().map(|line| line.range()) {
             if self.line_spans.last() != Some(&last) {
@@ -130,19 +139,20 @@ impl<'input> Iterator for Parser<'input> {
 
     fn next(&mut self) -> Option<Piece<'input>> {
         // A call behind the end is one at the end.
-        let end = self.reading.steps().len() - 1;
-        let at = self.calls.min(end);
-        let step = &self.reading.steps()[at];
+        let at = self.calls.min(self.end);
+        let step = self.reading.step(at);
         // What is set moves all numbers of implicit arguments behind it.
         let shift = self.curarg.wrapping_sub(self.number);
-        let piece = piece(self.input, step, self.reading.spec(step), shift);
+        let piece = piece(self.input, &self.reading, step, shift);
         self.number = step.next;
         self.curarg = step.next.wrapping_add(shift);
         if self.is_source_literal {
             self.arg_places.extend(step.place.range());
-            self.add_lines(at, at == end);
+            self.add_lines(at, at == self.end);
         }
-        self.tell_errors(at);
+        if self.untold > 0 {
+            self.tell_errors(at);
+        }
         self.calls = at + 1;
         piece
     }
@@ -162,19 +172,36 @@ impl MaybeExtent {
     }
 }
 
-fn piece<'input>(input: &'input str, step: &Step, spec: Option<&Spec>, shift: usize) -> Option<Piece<'input>> {
+fn piece<'input>(input: &'input str, reading: &Reading, step: &Step, shift: usize) -> Option<Piece<'input>> {
     match step.kind {
         records::PIECE_TEXT => Some(Piece::Lit(&input[step.text.range()])),
-        records::PIECE_ARGUMENT => Some(Piece::NextArgument(Box::new(Argument {
-            position: match step.position {
-                records::POSITION_INDEX => ArgumentIs(step.number),
-                records::POSITION_NAMED => ArgumentNamed(&input[step.text.range()]),
-                _ => ArgumentImplicitlyIs(step.number.wrapping_add(shift)),
-            },
-            position_span: step.position_span.range(),
-            format: spec.map_or_else(FormatSpec::default, |spec| format_spec(input, spec, shift)),
-        }))),
+        records::PIECE_ARGUMENT => Some(Piece::NextArgument(match reading.spec(step) {
+            Some(spec) => asking(input, step, spec, shift),
+            None => Box::new(Argument {
+                position: position(input, step, shift),
+                position_span: step.position_span.range(),
+                format: FormatSpec::default(),
+            }),
+        })),
         _ => None,
+    }
+}
+
+/// An argument that asks for something. Most ask for nothing, and are made in place.
+#[inline(never)]
+fn asking<'input>(input: &'input str, step: &Step, spec: &Spec, shift: usize) -> Box<Argument<'input>> {
+    Box::new(Argument {
+        position: position(input, step, shift),
+        position_span: step.position_span.range(),
+        format: format_spec(input, spec, shift),
+    })
+}
+
+fn position<'input>(input: &'input str, step: &Step, shift: usize) -> Position<'input> {
+    match step.position {
+        records::POSITION_INDEX => ArgumentIs(step.number),
+        records::POSITION_NAMED => ArgumentNamed(&input[step.text.range()]),
+        _ => ArgumentImplicitlyIs(step.number.wrapping_add(shift)),
     }
 }
 

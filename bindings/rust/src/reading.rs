@@ -5,7 +5,13 @@ use std::cell::Cell;
 use std::mem::size_of_val;
 
 thread_local! {
-    static SPARE: Cell<Option<Box<Buffers>>> = const { Cell::new(None) };
+    static SPARE: Cell<Option<Box<Kept>>> = const { Cell::new(None) };
+}
+
+/// What a thread keeps: the buffers of a reading, and its answer.
+struct Kept {
+    buffers: Buffers,
+    answer: Answer,
 }
 
 /// From this length on the room that an input takes is looked at before it is read.
@@ -17,28 +23,21 @@ const KEPT_BYTES: usize = 1 << 20;
 /// What a call of the static library wrote.
 pub struct Reading {
     /// None only while it is dropped.
-    buffers: Option<Box<Buffers>>,
-    answer: Answer,
+    kept: Option<Box<Kept>>,
 }
 
 impl Reading {
     /// Reads an input whole. Panics where the input is too long for the parser, or memory is not found.
     pub fn new(input: &str, snippet: &str, options: &Options) -> Self {
-        let mut buffers = SPARE.try_with(Cell::take).ok().flatten().unwrap_or_else(small_buffers);
+        let mut kept = SPARE.try_with(Cell::take).ok().flatten().unwrap_or_else(small_buffers);
+        let Kept { buffers, answer } = &mut *kept;
         if input.len() >= LONG_INPUT {
-            make_room(&mut buffers, input);
+            make_room(buffers, input);
         }
-        let mut answer = Answer::default();
         loop {
-            match read(input, snippet, options, &mut buffers, &mut answer) {
-                records::DONE => return Reading { buffers: Some(buffers), answer },
-                records::SHORT => {
-                    grow(&mut buffers.steps, answer.steps);
-                    grow(&mut buffers.specs, answer.specs);
-                    grow(&mut buffers.faults, answer.faults);
-                    grow(&mut buffers.texts, answer.texts);
-                    grow(&mut buffers.lines, answer.lines);
-                }
+            match read(input, snippet, options, buffers, answer) {
+                records::DONE => return Reading { kept: Some(kept) },
+                records::SHORT => make_room_for(buffers, answer),
                 records::NO_MEMORY => panic!("the parser found no memory"),
                 records::TOO_LONG => panic!("more than 10^12 bytes or hashes"),
                 code => unreachable!("a text and a mode of Rust are refused by {code}"),
@@ -46,45 +45,45 @@ impl Reading {
         }
     }
 
-    fn buffers(&self) -> &Buffers {
-        self.buffers.as_deref().expect("buffers are there until the end")
+    fn kept(&self) -> &Kept {
+        self.kept.as_deref().expect("buffers are there until the end")
     }
 
-    /// The calls of the parser; the last one is that at the end of the input.
-    pub fn steps(&self) -> &[Step] {
-        &self.buffers().steps[..self.answer.steps]
+    /// A call of the parser, by its number; the last one is that at the end of the input.
+    pub fn step(&self, number: usize) -> &Step {
+        &self.kept().buffers.steps[number]
     }
 
     /// What a step asks for, if it asks for anything.
     pub fn spec(&self, step: &Step) -> Option<&Spec> {
-        Some(&self.buffers().specs[step.spec.checked_sub(1)?])
+        Some(&self.kept().buffers.specs[step.spec.checked_sub(1)?])
     }
 
     /// The faults, in the order of the parser's list.
     pub fn faults(&self) -> &[Fault] {
-        &self.buffers().faults[..self.answer.faults]
+        &self.kept().buffers.faults[..self.answer().faults]
     }
 
     /// A text of a fault.
     pub fn text(&self, at: Extent) -> String {
-        let text = std::str::from_utf8(&self.buffers().texts[at.from..at.to]);
+        let text = std::str::from_utf8(&self.kept().buffers.texts[at.from..at.to]);
         text.expect("texts of faults are UTF-8").to_owned()
     }
 
     /// The lines of a source literal.
     pub fn lines(&self) -> &[Extent] {
-        &self.buffers().lines[..self.answer.lines]
+        &self.kept().buffers.lines[..self.answer().lines]
     }
 
     pub fn answer(&self) -> &Answer {
-        &self.answer
+        &self.kept().answer
     }
 }
 
 impl Drop for Reading {
     fn drop(&mut self) {
-        let spare = self.buffers.take();
-        if spare.as_ref().is_some_and(|buffers| bytes_of(buffers) <= KEPT_BYTES) {
+        let spare = self.kept.take();
+        if spare.as_ref().is_some_and(|kept| bytes_of(&kept.buffers) <= KEPT_BYTES) {
             // A thread that ends keeps nothing.
             let _ = SPARE.try_with(|kept| kept.set(spare));
         }
@@ -92,14 +91,26 @@ impl Drop for Reading {
 }
 
 /// Enough for most inputs. Where they are not, they grow, and are kept so.
-fn small_buffers() -> Box<Buffers> {
-    Box::new(Buffers {
+#[cold]
+fn small_buffers() -> Box<Kept> {
+    let buffers = Buffers {
         steps: vec![Step::default(); 128],
         specs: vec![Spec::default(); 64],
         faults: vec![Fault::default(); 8],
         texts: vec![0; 2048],
         lines: vec![Extent::default(); 64],
-    })
+    };
+    Box::new(Kept { buffers, answer: Answer::default() })
+}
+
+/// The room that an answer tells of.
+#[cold]
+fn make_room_for(buffers: &mut Buffers, answer: &Answer) {
+    grow(&mut buffers.steps, answer.steps);
+    grow(&mut buffers.specs, answer.specs);
+    grow(&mut buffers.faults, answer.faults);
+    grow(&mut buffers.texts, answer.texts);
+    grow(&mut buffers.lines, answer.lines);
 }
 
 /// Room for the steps, the specifications and the lines of a long input, which would else be read twice. A step that reads

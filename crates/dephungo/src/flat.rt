@@ -137,7 +137,6 @@ fn count(count: &Count<'_>, name: Extent) -> CountRecord
 
 /// A specification, whose texts stand there in the input.
 #[tactic(auto, unfolding(crate::specs::Meant::spec_meant))]
-#[inline(never)]
 fn spec_record(spec: &FormatSpec<'_>, texts: &Texts) -> Spec
     ensures { (input : List ℕ) → SpecAt input texts.now (seen_spec spec.now) → spec_meant input result ≡ seen_spec spec.now }
 {
@@ -194,7 +193,24 @@ fn is_default(spec: &FormatSpec<'_>) -> bool
     has_no_flags(spec) && has_no_counts(spec) && is_empty(spec.ty) && spec.ty_span.is_none()
 }
 
-/// Writes a specification behind the `used` records, if it is not the default one and there is room, and gives its number.
+/// Writes a specification behind the `used` records, if there is room, and gives its number.
+#[inline(never)]
+fn add_spec(spec: &FormatSpec<'_>, texts: &Texts, specs: &mut [Spec], used: &mut usize) -> usize
+    requires room { used.old < usize.MAX }
+    ensures told { (input : List ℕ) → SpecAt input texts.now (seen_spec spec.now) → used.new ≤ length specs.old → spec_at input specs.new result ≡ seen_spec spec.now }
+    ensures number { result ≡ used.new }
+    ensures used { used.new ≡ used.old + 1 }
+    ensures front { take used.old specs.new ≡ take used.old specs.old }
+    ensures kept { drop used.new specs.new ≡ drop used.new specs.old }
+{
+    if *used < specs.len() {
+        specs[*used] = spec_record(spec, texts);
+    }
+    *used += 1;
+    *used
+}
+
+/// The same, if it is not the default one, whose number is 0.
 #[inline(always)]
 fn put_spec(spec: &FormatSpec<'_>, texts: &Texts, specs: &mut [Spec], used: &mut usize) -> usize
     requires room { used.old < usize.MAX }
@@ -207,11 +223,7 @@ fn put_spec(spec: &FormatSpec<'_>, texts: &Texts, specs: &mut [Spec], used: &mut
     if is_default(spec) {
         return 0;
     }
-    if *used < specs.len() {
-        specs[*used] = spec_record(spec, texts);
-    }
-    *used += 1;
-    *used
+    add_spec(spec, texts, specs, used)
 }
 
 /// A position: its kind and its number.

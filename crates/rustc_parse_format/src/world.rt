@@ -107,6 +107,7 @@ pub fn source_of<'input>(
 }
 
 /// What a look at the first character finds in the snippet, if that is kept.
+#[inline(always)]
 pub fn first_look(source: &Source<'_>) -> Look
     requires { IsKept source.now }
     ensures { IsPlaced source.now.kept
