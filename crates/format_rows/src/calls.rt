@@ -2,32 +2,11 @@
 
 use super::names::names;
 use crate::script::{check_calls, check_parser};
-use crate::start::{World, ordinary, plain, plain_in, read, start};
-use rustc_parse_format::{ParseMode, Parser, Piece, Position, read_all};
+use crate::start::{World, ordinary, plain, plain_in, read};
+use rustc_parse_format::{ParseError, ParseMode, Parser, Piece, Position, read_all};
 use std::alloc::{AllocError, Global};
 use std::process::Abort;
 use std::test::Fail;
-
-/// The argument of a placeholder is a name and nothing else.
-fn is_identifier(piece: &Option<Piece<'_>>) -> Option<bool> {
-    match piece {
-        Some(Piece::NextArgument(argument)) => Some(argument.is_identifier()),
-        _ => None,
-    }
-}
-
-fn check_identifier(
-    rt: &impl Abort,
-    alloc: Global,
-    input: &str,
-    mode: ParseMode,
-    wanted: bool,
-) -> Result<(), Fail> {
-    let mut parser = start(rt, alloc, plain_in(mode), input)?;
-    let found = is_identifier(&parser.next()?);
-    assert_eq!(rt; found, Some(wanted), "{input} in {mode:?}");
-    Ok(())
-}
 
 /// The names in a text without a fault are these.
 fn check_names(rt: &impl Abort, alloc: Global, text: &str, wanted: &[&str]) -> Result<(), Fail> {
@@ -47,15 +26,15 @@ fn the_example_of_the_readme_gives_names(rt: HostRuntime) -> Result<(), Fail> {
 
 #[test]
 fn an_identifier_is_a_name_and_nothing_else(rt: HostRuntime) -> Result<(), Fail> {
-    for (input, mode, wanted) in [
-        ("{foo}", ParseMode::Format, true),
-        ("{foo:}", ParseMode::Format, true),
-        ("{foo:}", ParseMode::Diagnostic, false),
-        ("{foo:5}", ParseMode::Format, false),
-        ("{}", ParseMode::Format, false),
-        ("{3}", ParseMode::Format, false),
+    for (input, mode, line) in [
+        ("{foo}", ParseMode::Format, "is_identifier yes"),
+        ("{foo:}", ParseMode::Format, "is_identifier yes"),
+        ("{foo:}", ParseMode::Diagnostic, "is_identifier no"),
+        ("{foo:5}", ParseMode::Format, "is_identifier no"),
+        ("{}", ParseMode::Format, "is_identifier no"),
+        ("{3}", ParseMode::Format, "is_identifier no"),
     ] {
-        check_identifier(&rt, rt.alloc(), input, mode, wanted)?;
+        check_parser(&rt, rt.alloc(), plain_in(mode), input, &[line])?;
     }
     Ok(())
 }
@@ -294,12 +273,20 @@ fn raw_names(alloc: Global, count: usize) -> Result<String, AllocError> {
     Ok(input)
 }
 
+/// There is an error, and it begins here.
+fn check_begin(rt: &impl Abort, error: Option<&ParseError>, start: usize) {
+    let Some(error) = error else {
+        panic!(rt; "there is no error")
+    };
+    assert_eq!(rt; error.span.start, start);
+}
+
 /// There are so many errors, and the first and the last begin here.
 fn check_many(rt: &impl Abort, parser: &Parser<'_>, count: usize, first: usize, last: usize) {
     let errors = parser.errors();
     assert_eq!(rt; errors.len(), count);
-    assert_eq!(rt; errors.first().map(|error| error.span.start), Some(first));
-    assert_eq!(rt; errors.last().map(|error| error.span.start), Some(last));
+    check_begin(rt, errors.first(), first);
+    check_begin(rt, errors.last(), last);
 }
 
 fn check_many_faults(rt: &impl Abort, alloc: Global, input: &str) -> Result<(), Fail> {

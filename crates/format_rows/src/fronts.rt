@@ -1,63 +1,33 @@
 //! How many errors of a call were put in front of those of earlier calls.
 
-use rustc_parse_format::{ParseError, ParseMode, Parser, Piece};
-use std::alloc::{AllocError, Global};
-use std::ops::Range;
-use std::process::Abort;
+use crate::script::check_parser;
+use crate::start::plain;
 use std::test::Fail;
-
-fn parser_of(alloc: Global, input: &'static str) -> Result<Parser<'static>, AllocError> {
-    Parser::new(alloc, input, None, None, false, ParseMode::Format)
-}
-
-/// The next call puts so many errors in front, and there are so many errors then.
-fn check_call(
-    rt: &impl Abort,
-    parser: &mut Parser<'_>,
-    fronts: usize,
-    errors: usize,
-) -> Result<(), Fail> {
-    let (_, found) = parser.next_with_fronts()?;
-    assert_eq!(rt; found, fronts);
-    assert_eq!(rt; parser.errors().len(), errors);
-    Ok(())
-}
-
-/// Errors have these spans, in this order.
-fn check_spans(rt: &impl Abort, errors: &[ParseError], wanted: &[Range<usize>]) {
-    assert_eq!(rt; errors.len(), wanted.len());
-    for (error, span) in errors.iter().zip(wanted.iter()) {
-        assert_eq!(rt; error.span, *span);
-    }
-}
 
 /// The first call finds an error of the back, the second two of the front around one of the back, the third one of each, and
 /// the fourth, over a lone brace, one of the back again. Then comes the end.
 #[test]
 fn errors_in_front_are_counted(rt: HostRuntime) -> Result<(), Fail> {
-    let mut parser = parser_of(rt.alloc(), "{_}{foo.r#bar}{foo?}")?;
-    for (fronts, errors) in [(0, 1), (2, 4), (1, 6), (0, 7), (0, 7)] {
-        check_call(&rt, &mut parser, fronts, errors)?;
-    }
-    let wanted = [19..20, 5..14, 9..14, 2..3, 8..8, 19..19, 20..21];
-    check_spans(&rt, parser.errors(), &wanted);
-    Ok(())
+    let lines = &[
+        "fronts 0 of 1",
+        "fronts 2 of 4",
+        "fronts 1 of 6",
+        "fronts 0 of 7",
+        "fronts 0 of 7",
+        "spans 19..20;5..14;9..14;2..3;8..8;19..19;20..21;",
+    ];
+    check_parser(&rt, rt.alloc(), plain(), "{_}{foo.r#bar}{foo?}", lines)
 }
 
 /// Of one error alone, at either end of the list.
 #[test]
 fn one_error_is_counted_in_front_or_not(rt: HostRuntime) -> Result<(), Fail> {
-    let mut parser = parser_of(rt.alloc(), "{r#foo}{_}")?;
-    check_call(&rt, &mut parser, 1, 1)?;
-    check_call(&rt, &mut parser, 0, 2)?;
-    Ok(())
+    let lines = &["fronts 1 of 1", "fronts 0 of 2"];
+    check_parser(&rt, rt.alloc(), plain(), "{r#foo}{_}", lines)
 }
 
 #[test]
 fn the_piece_comes_with_the_count(rt: HostRuntime) -> Result<(), Fail> {
-    let mut parser = parser_of(rt.alloc(), "text")?;
-    let (piece, found) = parser.next_with_fronts()?;
-    assert_eq!(rt; piece, Some(Piece::Lit("text")));
-    assert_eq!(rt; found, 0);
-    Ok(())
+    let lines = &["next_with_fronts lit \"text\" and 0"];
+    check_parser(&rt, rt.alloc(), plain(), "text", lines)
 }

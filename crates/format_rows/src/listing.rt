@@ -139,20 +139,26 @@ pub fn put_line(out: &mut String, piece: &Piece<'_>) -> Result<(), AllocError> {
     out.push_str("\n")
 }
 
+/// Adds a line that ends in a range.
+fn put_place(out: &mut String, label: &str, range: &Range<usize>) -> Result<(), AllocError> {
+    put_range(out, label, range)?;
+    out.push_str("\n")
+}
+
+fn put_reorder(out: &mut String, range: &Range<usize>, text: &str) -> Result<(), AllocError> {
+    put_range(out, "suggest reorder ", range)?;
+    write!(out, " {text}\n")
+}
+
 fn put_suggestion(out: &mut String, suggestion: &Suggestion) -> Result<(), AllocError> {
     match suggestion {
-        Suggestion::None => return Ok(()),
-        Suggestion::UsePositional => out.push_str("suggest positional")?,
-        Suggestion::RemoveRawIdent(range) => put_range(out, "suggest raw ", range)?,
-        Suggestion::ReorderFormatParameter(range, text) => {
-            put_range(out, "suggest reorder ", range)?;
-            let text = text.as_str();
-            write!(out, " {text}")?;
-        }
-        Suggestion::AddMissingColon(range) => put_range(out, "suggest colon ", range)?,
-        Suggestion::UseRustDebugPrintingMacro => out.push_str("suggest dbg")?,
+        Suggestion::None => Ok(()),
+        Suggestion::UsePositional => out.push_str("suggest positional\n"),
+        Suggestion::RemoveRawIdent(range) => put_place(out, "suggest raw ", range),
+        Suggestion::ReorderFormatParameter(range, text) => put_reorder(out, range, text.as_str()),
+        Suggestion::AddMissingColon(range) => put_place(out, "suggest colon ", range),
+        Suggestion::UseRustDebugPrintingMacro => out.push_str("suggest dbg\n"),
     }
-    out.push_str("\n")
 }
 
 fn put_error(out: &mut String, error: &ParseError) -> Result<(), AllocError> {
@@ -175,8 +181,7 @@ fn put_error(out: &mut String, error: &ParseError) -> Result<(), AllocError> {
 /// Adds a line for each range.
 fn put_ranges(out: &mut String, label: &str, ranges: &[Range<usize>]) -> Result<(), AllocError> {
     for range in ranges {
-        put_range(out, label, range)?;
-        out.push_str("\n")?;
+        put_place(out, label, range)?;
     }
     Ok(())
 }

@@ -200,12 +200,13 @@ fn put_read(
 
 /// Adds what the calls of `next` give up to the next one without a piece. The input has so many bytes.
 fn put_to_none(out: &mut String, parser: &mut Parser<'_>, len: usize) -> Result<(), AllocError> {
+    let mut is_piece = true;
     for _ in 0..len {
-        if !put_next(out, parser)? {
-            return Ok(());
+        if is_piece {
+            is_piece = put_next(out, parser)?;
         }
     }
-    out.push_str("none\n")
+    out.push_str(if is_piece { "none\n" } else { "" })
 }
 
 /// Adds what `read_all` gives of a row, and what its parser gives after that.

@@ -1,12 +1,14 @@
 //! Calls of a parser, one after the other, each with what it has to give, as text.
 //!
 //! A line is the name of a call, a space, and what it gives. A piece is written as in a listing, and `none` stands for no
-//! piece and for no character. A `;` is behind each range, and behind each error, of which the span and the description
-//! are written.
+//! piece and for no character. A `;` is behind each range, behind each error, of which the span and the description are
+//! written, and behind each item of an iterator over the pieces. Some lines are no call alone: `step` and `skip` take the
+//! next piece and all pieces and show nothing, `is_identifier` asks the next piece, `fronts` tells how many errors the next
+//! call puts in front, and how many there are then, and `spans`, `labels` and `has_errors` tell that of the errors.
 
 use crate::listing::{put_piece, put_range};
 use crate::start::{World, start};
-use rustc_parse_format::{ParseError, Parser, Piece};
+use rustc_parse_format::{ParseError, Parser, Piece, Pieces};
 use std::alloc::{AllocError, Global};
 use std::ops::Range;
 use std::process::Abort;
@@ -46,6 +48,111 @@ fn put_errors(out: &mut String, errors: &[ParseError]) -> Result<(), AllocError>
     Ok(())
 }
 
+fn put_spans(out: &mut String, errors: &[ParseError]) -> Result<(), AllocError> {
+    for error in errors {
+        put_range(out, "", &error.span)?;
+        out.push(';')?;
+    }
+    Ok(())
+}
+
+fn put_labels(out: &mut String, errors: &[ParseError]) -> Result<(), AllocError> {
+    for error in errors {
+        out.push_str(error.label.as_str())?;
+        out.push(';')?;
+    }
+    Ok(())
+}
+
+fn put_bool(out: &mut String, is_so: bool) -> Result<(), AllocError> {
+    out.push_str(if is_so { "yes" } else { "no" })
+}
+
+/// Adds whether a piece is an argument that is a name and nothing else.
+fn put_identifier(out: &mut String, piece: &Piece<'_>) -> Result<(), AllocError> {
+    match piece {
+        Piece::NextArgument(argument) => put_bool(out, argument.is_identifier()),
+        Piece::Lit(_) => out.push_str("text"),
+    }
+}
+
+fn put_next_identifier(out: &mut String, piece: &Option<Piece<'_>>) -> Result<(), AllocError> {
+    match piece {
+        Some(piece) => put_identifier(out, piece),
+        None => out.push_str("none"),
+    }
+}
+
+/// Adds all items of a new iterator.
+fn put_pieces(out: &mut String, parser: &mut Parser<'_>) -> Result<(), AllocError> {
+    for item in parser.pieces() {
+        put_piece(out, &item?)?;
+        out.push(';')?;
+    }
+    Ok(())
+}
+
+fn put_item(out: &mut String, pieces: &mut Pieces<'_, '_>) -> Result<(), AllocError> {
+    let item = pieces.next().transpose()?;
+    put_optional_piece(out, &item)?;
+    out.push(';')
+}
+
+/// Adds so many items of an iterator.
+fn put_items(
+    out: &mut String,
+    pieces: &mut Pieces<'_, '_>,
+    count: usize,
+) -> Result<(), AllocError> {
+    for _ in 0..count {
+        put_item(out, pieces)?;
+    }
+    Ok(())
+}
+
+/// Adds how many errors the next call puts in front, and how many there are then.
+fn put_fronts(out: &mut String, parser: &mut Parser<'_>) -> Result<(), AllocError> {
+    let (_, fronts) = parser.next_with_fronts()?;
+    let errors = parser.errors().len();
+    write!(out, "{fronts} of {errors}")
+}
+
+fn put_with_fronts(out: &mut String, parser: &mut Parser<'_>) -> Result<(), AllocError> {
+    let (piece, fronts) = parser.next_with_fronts()?;
+    put_optional_piece(out, &piece)?;
+    write!(out, " and {fronts}")
+}
+
+/// Adds what a line shows that is no call alone.
+fn put_more(
+    rt: &impl Abort,
+    out: &mut String,
+    parser: &mut Parser<'_>,
+    call: &str,
+) -> Result<(), AllocError> {
+    match call {
+        "step" => {
+            let _piece = parser.next()?;
+            Ok(())
+        }
+        "skip" => {
+            put_pieces(out, parser)?;
+            out.clear();
+            Ok(())
+        }
+        "is_identifier" => put_next_identifier(out, &parser.next()?),
+        "fronts" => put_fronts(out, parser),
+        "spans" => put_spans(out, parser.errors()),
+        "labels" => put_labels(out, parser.errors()),
+        "has_errors" => put_bool(out, !parser.errors().is_empty()),
+        "one_item" => put_items(out, &mut parser.pieces(), 1),
+        "three_items" => put_items(out, &mut parser.pieces(), 3),
+        "four_items" => put_items(out, &mut parser.pieces(), 4),
+        "five_items" => put_items(out, &mut parser.pieces(), 5),
+        _ => panic!(rt; "no call has the name {call}"),
+    }
+}
+
 /// Adds what a call gives.
 fn put_answer(
     rt: &impl Abort,
@@ -55,22 +162,20 @@ fn put_answer(
 ) -> Result<(), AllocError> {
     match call {
         "next" => put_optional_piece(out, &parser.next()?),
+        "next_with_fronts" => put_with_fronts(out, parser),
+        "pieces" => put_pieces(out, parser),
         "peek" => put_peek(out, parser.peek()),
         "peek_ahead" => put_peek(out, parser.peek_ahead()),
         "curarg" => {
             let next = parser.curarg();
             write!(out, "{next}")
         }
-        "is_source_literal" => out.push_str(if parser.is_source_literal() {
-            "yes"
-        } else {
-            "no"
-        }),
+        "is_source_literal" => put_bool(out, parser.is_source_literal()),
         "errors" => put_errors(out, parser.errors()),
         "take_errors" => put_errors(out, parser.take_errors().as_slice()),
         "arg_places" => put_ranges(out, parser.arg_places()),
         "line_spans" => put_ranges(out, parser.line_spans()),
-        _ => panic!(rt; "no call has the name {call}"),
+        _ => put_more(rt, out, parser, call),
     }
 }
 
@@ -111,31 +216,4 @@ pub fn check_parser(
 ) -> Result<(), Fail> {
     let mut parser = start(rt, alloc, world, input)?;
     check_calls(rt, alloc, &mut parser, lines)
-}
-
-/// A piece is listed so.
-fn check_piece(
-    rt: &impl Abort,
-    alloc: Global,
-    piece: &Piece<'_>,
-    wanted: &str,
-) -> Result<(), Fail> {
-    let mut out = String::new(alloc);
-    put_piece(&mut out, piece)?;
-    assert_eq!(rt; out.as_str(), wanted);
-    Ok(())
-}
-
-/// Pieces are listed so.
-pub fn check_pieces(
-    rt: &impl Abort,
-    alloc: Global,
-    pieces: &[Piece<'_>],
-    wanted: &[&str],
-) -> Result<(), Fail> {
-    assert_eq!(rt; pieces.len(), wanted.len());
-    for (piece, line) in pieces.iter().zip(wanted.iter()) {
-        check_piece(rt, alloc, piece, line)?;
-    }
-    Ok(())
 }

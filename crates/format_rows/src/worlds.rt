@@ -131,40 +131,41 @@ fn same_error(one: &ParseError, other: &ParseError) -> bool {
 
 /// Two parsers have found the same errors, but for their spans.
 fn same_errors(one: &[ParseError], other: &[ParseError]) -> bool {
-    one.len() == other.len()
-        && one
-            .iter()
-            .zip(other.iter())
-            .all(|(error, found)| same_error(error, found))
+    let mut is_same = one.len() == other.len();
+    for (error, found) in one.iter().zip(other.iter()) {
+        is_same = is_same && same_error(error, found);
+    }
+    is_same
 }
 
 /// Two lists of pieces are the same, but for their spans.
 fn same_pieces(one: &[Piece<'_>], other: &[Piece<'_>]) -> bool {
-    one.len() == other.len()
-        && one
-            .iter()
-            .zip(other.iter())
-            .all(|(piece, read)| same_piece(piece, read))
+    let mut is_same = one.len() == other.len();
+    for (piece, read) in one.iter().zip(other.iter()) {
+        is_same = is_same && same_piece(piece, read);
+    }
+    is_same
 }
 
-/// A new parser says of the snippet what the case says, and so does the test of literals.
+/// The test of literals says of the snippet of a case what the case says.
+fn check_by_literal(rt: &impl Abort, case: Case<'_>) {
+    let world = case.world;
+    let is_source = match world.snippet {
+        Some(snippet) => {
+            is_source_literal(case.input, world.style, snippet, world.appended_newline)
+        }
+        None => false,
+    };
+    let name = case.name;
+    assert_eq!(rt; is_source, case.is_source, "the snippet of {name}");
+}
+
+/// A new parser says the same.
 fn check_source(rt: &impl Abort, case: Case<'_>, parser: &Parser<'_>) {
-    let Case {
-        name,
-        input,
-        world,
-        ..
-    } = case;
-    let style = world.style;
-    assert_eq!(rt;
-        parser.is_source_literal(),
-        case.is_source,
-        "{name} with {style:?}"
-    );
-    if let Some(snippet) = world.snippet {
-        let is_source = is_source_literal(input, style, snippet, world.appended_newline);
-        assert_eq!(rt; is_source, case.is_source, "{name} with {style:?}");
-    }
+    let name = case.name;
+    let is_source = parser.is_source_literal();
+    assert_eq!(rt; is_source, case.is_source, "the parser of {name}");
+    check_by_literal(rt, case);
 }
 
 /// Two parsers have found the same errors, but for their spans, and take the same number next.
