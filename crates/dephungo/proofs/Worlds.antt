@@ -1,5 +1,5 @@
 -- A parser at the start, where its places are those of a plain text.
-use Rattle.std.proofs.Common.{◌≡◌, ℕ, ◌+◌, ◌++◌, Bool, true, false, Option, Some, None, [], ◌∷◌, refl, sym, ap, ◌∙◌, arith, is_some}
+use Rattle.std.proofs.Common.{◌≡◌, ℕ, ◌+◌, ◌++◌, Bool, true, false, Option, Some, None, [], ◌∷◌, refl, ap, ◌∙◌, arith, is_some}
 use Rattle.std.proofs.lemmas.Bool.{cond_both, not-false, eqb-true}
 use Rattle.rustc_parse_format.specs.Characters.{Text, byte_length}
 use Rattle.rustc_parse_format.specs.Literal.{content_value, newline, ordinary_frame}

@@ -79,14 +79,7 @@ end-plain at f (c ∷ u) t w h l =
     ∙ (ap (λ b. if b then spelled_end next next (u ++ t) (u ++ w) else None) (eq-eqb c c refl)
     ∙ end-plain next f u t w parts.1 (omega (arith, width-cons c u)))
 
--- what is left of both, where they are the same in front
-pub ends-same : (t w : Text) → SameEnds t w t w
-ends-same t w = record {
-  narrower = omega arith;
-  shorter = omega arith;
-  ends = λ at f l. let e : at ≡ f = omega arith in ap (λ k. spelled_end k k t w) e;
-}
-
+-- what is left of both, where what is in front of it stands for the same
 pub ends-after : (t w r v p q : Text) → SameEnds t w r v → SameEnds r v p q → SameEnds t w p q
 ends-after t w r v p q a b =
     let m = a.narrower in let n = b.narrower in let k = a.shorter in let o = b.shorter in

@@ -1,5 +1,4 @@
-use Rattle.std.proofs.Common.{◌≡◌, None, chars, is_some, refl}
-use Rattle.std.specs.Prelude.{option_map}
+use Rattle.std.proofs.Common.{◌≡◌, None, chars, refl}
 use Rattle.dephungo.proofs.Worlds.{bare_plain, literal_plain, no_style, raw_plain}
 use Rattle.dephungo.proofs.read.may_have_escapes.Goals as goal
 
