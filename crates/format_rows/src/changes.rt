@@ -1,14 +1,12 @@
-//! Parsers whose errors are taken out, or whose next number is set, between two calls; and clones of what they give.
+//! Parsers whose errors are taken out, or whose next number is set, between two calls.
 
-use crate::script::{check_calls, check_parser};
-use crate::start::{plain, read};
-use rustc_parse_format::{ParseMode, Parser, Piece};
-use std::alloc::Global;
-use std::process::Abort;
-use std::test::Fail;
+use crate::script::{check_calls, check_parser, check_read};
+use crate::start::plain;
+use rustc_parse_format::{ParseMode, Parser};
+use std::alloc::AllocError;
 
 #[test]
-fn a_number_that_is_set_is_taken_next(rt: HostRuntime) -> Result<(), Fail> {
+fn a_number_that_is_set_is_taken_next(rt: HostRuntime) -> Result<(), AllocError> {
     let mut parser = Parser::new(rt.alloc(), "{}", None, None, false, ParseMode::Format)?;
     parser.set_curarg(7);
     let lines = &["curarg 7", "next arg implicit 7 2..2", "curarg 8"];
@@ -16,7 +14,7 @@ fn a_number_that_is_set_is_taken_next(rt: HostRuntime) -> Result<(), Fail> {
 }
 
 #[test]
-fn a_number_can_be_taken_twice(rt: HostRuntime) -> Result<(), Fail> {
+fn a_number_can_be_taken_twice(rt: HostRuntime) -> Result<(), AllocError> {
     let mut parser = Parser::new(rt.alloc(), "{}{}", None, None, false, ParseMode::Format)?;
     let lines = &["next arg implicit 0 2..2"];
     check_calls(&rt, rt.alloc(), &mut parser, lines)?;
@@ -27,7 +25,7 @@ fn a_number_can_be_taken_twice(rt: HostRuntime) -> Result<(), Fail> {
 
 /// A number as large as there is room for.
 #[test]
-fn a_number_may_be_large(rt: HostRuntime) -> Result<(), Fail> {
+fn a_number_may_be_large(rt: HostRuntime) -> Result<(), AllocError> {
     let mut parser = Parser::new(rt.alloc(), "{}", None, None, false, ParseMode::Format)?;
     parser.set_curarg(usize::MAX - 2);
     let lines = &[
@@ -38,7 +36,7 @@ fn a_number_may_be_large(rt: HostRuntime) -> Result<(), Fail> {
 }
 
 #[test]
-fn errors_are_taken_out_once(rt: HostRuntime) -> Result<(), Fail> {
+fn errors_are_taken_out_once(rt: HostRuntime) {
     let lines = &[
         "next lit \"}\"",
         "next none",
@@ -47,24 +45,23 @@ fn errors_are_taken_out_once(rt: HostRuntime) -> Result<(), Fail> {
         "next none",
         "errors ",
     ];
-    check_parser(&rt, rt.alloc(), plain(), "}}}", lines)
+    check_parser(&rt, rt.alloc(), plain(), "}}}", lines);
 }
 
 /// Two of three errors are those of a flag after its type, one of them in front.
 #[test]
-fn errors_are_taken_out_in_order(rt: HostRuntime) -> Result<(), Fail> {
-    let (_, mut parser) = read(&rt, rt.alloc(), plain(), "{foo:?#}")?;
+fn errors_are_taken_out_in_order(rt: HostRuntime) {
     let lines = &[
         "take_errors 7..8 expected `}`, found `#`;7..7 expected `}`, found `#`;8..9 unmatched `}` found;",
         "errors ",
         "next none",
     ];
-    check_calls(&rt, rt.alloc(), &mut parser, lines)
+    check_read(&rt, rt.alloc(), "{foo:?#}", 2, lines);
 }
 
 /// New errors come after those that were taken out, at both ends.
 #[test]
-fn errors_come_again(rt: HostRuntime) -> Result<(), Fail> {
+fn errors_come_again(rt: HostRuntime) {
     let lines = &[
         "next arg name a 2..5",
         "take_errors 2..5 raw identifiers are not supported;",
@@ -75,39 +72,5 @@ fn errors_come_again(rt: HostRuntime) -> Result<(), Fail> {
         "next none",
         "errors 11..12 unmatched `}` found;",
     ];
-    check_parser(&rt, rt.alloc(), plain(), "{r#a}{r#b}}", lines)
-}
-
-/// A clone of a piece is equal to it.
-fn check_clone(rt: &impl Abort, alloc: Global, piece: &Piece<'_>) -> Result<(), Fail> {
-    let copy = piece.clone(alloc)?;
-    assert!(rt; copy == *piece);
-    Ok(())
-}
-
-/// And to no other piece.
-fn check_other<'a>(
-    rt: &impl Abort,
-    alloc: Global,
-    piece: &Piece<'a>,
-    other: &Piece<'a>,
-) -> Result<(), Fail> {
-    let copy = piece.clone(alloc)?;
-    assert!(rt; copy != *other);
-    Ok(())
-}
-
-/// Clones of four pieces.
-fn check_clones(rt: &impl Abort, alloc: Global, pieces: &[Piece<'_>]) -> Result<(), Fail> {
-    assert_eq!(rt; pieces.len(), 4);
-    for piece in pieces {
-        check_clone(rt, alloc, piece)?;
-    }
-    check_other(rt, alloc, &pieces[1], &pieces[0])
-}
-
-#[test]
-fn clones_of_pieces_are_equal(rt: HostRuntime) -> Result<(), Fail> {
-    let (pieces, _) = read(&rt, rt.alloc(), plain(), "{}{:.*}{}x")?;
-    check_clones(&rt, rt.alloc(), pieces.as_slice())
+    check_parser(&rt, rt.alloc(), plain(), "{r#a}{r#b}}", lines);
 }

@@ -2,9 +2,10 @@
 //!
 //! `named_rows` and `mixed_rows` are tables of inputs with all that reading them gives. What they expect comes from
 //! outside (`replay/README.md` tells from where), and never from the parser itself. `snippets` is a table of snippets
-//! that are source literals of their inputs, or not. `calls`, `values` and `literals` have what no table shows,
-//! `iteration` the iterator over the pieces, `changes` what is done to a parser between two calls, and `carried` the tests
-//! of the original. `names` is the example of the README. Calls that are refused memory are in the crate `memory_rows`.
+//! that are source literals of their inputs, or not. `calls` has what no table shows, `iteration` the iterator over the
+//! pieces, `changes` what is done to a parser between two calls, and `carried` the tests of the original. `names` is the
+//! example of the README. What no listing shows is in the crate `public_values`, and calls that are refused memory are in
+//! `memory_rows`.
 #![tactic(auto)]
 
 #[cfg(test)]
@@ -19,8 +20,6 @@ mod fronts;
 mod iteration;
 #[cfg(test)]
 mod listing;
-#[cfg(test)]
-mod literals;
 #[cfg(test)]
 mod mixed_rows;
 #[cfg(test)]
@@ -37,8 +36,6 @@ mod snippets;
 mod start;
 #[cfg(test)]
 mod tables;
-#[cfg(test)]
-mod values;
 #[cfg(test)]
 mod worlds;
 #[cfg(test)]

@@ -1,6 +1,6 @@
 //! What reading gives, as a text of lines: pieces as the program lists them, `none` for a call without a piece, and
 //! then `curarg`, the errors, each with the lines `note`, `label`, `second` and `suggest` that it has, and the places of
-//! arguments and of lines.
+//! arguments and of lines. Where `spans` is false, each span is left out with its label kept, and no place is listed.
 
 use rustc_parse_format::{
     Alignment, Argument, Count, DebugHex, FormatSpec, ParseError, Parser, Piece, Position, Sign,
@@ -47,20 +47,38 @@ pub fn put_range(out: &mut String, label: &str, range: &Range<usize>) -> Result<
     write!(out, "{label}{start}..{end}")
 }
 
-fn put_optional_range(out: &mut String, range: &Option<Range<usize>>) -> Result<(), AllocError> {
+/// Adds a label, and behind it a range where spans are listed.
+fn put_span(
+    out: &mut String,
+    spans: bool,
+    label: &str,
+    range: &Range<usize>,
+) -> Result<(), AllocError> {
+    if spans {
+        put_range(out, label, range)
+    } else {
+        out.push_str(label)
+    }
+}
+
+fn put_optional_span(
+    out: &mut String,
+    spans: bool,
+    range: &Option<Range<usize>>,
+) -> Result<(), AllocError> {
     match range {
-        Some(range) => put_range(out, "@", range),
+        Some(range) => put_span(out, spans, "@", range),
         None => Ok(()),
     }
 }
 
-fn put_flags(out: &mut String, spec: &FormatSpec<'_>) -> Result<(), AllocError> {
+fn put_flags(out: &mut String, spans: bool, spec: &FormatSpec<'_>) -> Result<(), AllocError> {
     if let Some(fill) = spec.fill {
         out.push_str(" fill=\"")?;
         put_escaped(out, fill)?;
         out.push('"')?;
     }
-    put_optional_range(out, &spec.fill_span)?;
+    put_optional_span(out, spans, &spec.fill_span)?;
     out.push_str(match spec.align {
         Alignment::AlignLeft => " align=left",
         Alignment::AlignRight => " align=right",
@@ -76,13 +94,18 @@ fn put_flags(out: &mut String, spec: &FormatSpec<'_>) -> Result<(), AllocError> 
     out.push_str(if spec.zero_pad { " zero" } else { "" })
 }
 
-fn put_count(out: &mut String, label: &str, count: &Count<'_>) -> Result<(), AllocError> {
+fn put_count(
+    out: &mut String,
+    spans: bool,
+    label: &str,
+    count: &Count<'_>,
+) -> Result<(), AllocError> {
     out.push_str(label)?;
     match count {
         Count::CountIs(n) => write!(out, "is:{n}"),
         Count::CountIsName(name, range) => {
             write!(out, "name:{name}")?;
-            put_range(out, "@", range)
+            put_span(out, spans, "@", range)
         }
         Count::CountIsParam(n) => write!(out, "param:{n}"),
         Count::CountIsStar(n) => write!(out, "star:{n}"),
@@ -90,15 +113,15 @@ fn put_count(out: &mut String, label: &str, count: &Count<'_>) -> Result<(), All
     }
 }
 
-fn put_values(out: &mut String, spec: &FormatSpec<'_>) -> Result<(), AllocError> {
+fn put_values(out: &mut String, spans: bool, spec: &FormatSpec<'_>) -> Result<(), AllocError> {
     if spec.width != Count::CountImplied {
-        put_count(out, " width=", &spec.width)?;
+        put_count(out, spans, " width=", &spec.width)?;
     }
-    put_optional_range(out, &spec.width_span)?;
+    put_optional_span(out, spans, &spec.width_span)?;
     if spec.precision != Count::CountImplied || spec.precision_span.is_some() {
-        put_count(out, " precision=", &spec.precision)?;
+        put_count(out, spans, " precision=", &spec.precision)?;
     }
-    put_optional_range(out, &spec.precision_span)?;
+    put_optional_span(out, spans, &spec.precision_span)?;
     out.push_str(match spec.debug_hex {
         Some(DebugHex::Lower) => " hex=lower",
         Some(DebugHex::Upper) => " hex=upper",
@@ -108,61 +131,77 @@ fn put_values(out: &mut String, spec: &FormatSpec<'_>) -> Result<(), AllocError>
         out.push_str(" ty=")?;
         put_quoted(out, spec.ty)?;
     }
-    put_optional_range(out, &spec.ty_span)
+    put_optional_span(out, spans, &spec.ty_span)
 }
 
-fn put_argument(out: &mut String, argument: &Argument<'_>) -> Result<(), AllocError> {
+fn put_argument(out: &mut String, spans: bool, argument: &Argument<'_>) -> Result<(), AllocError> {
     match &argument.position {
         Position::ArgumentImplicitlyIs(n) => write!(out, "arg implicit {n}")?,
         Position::ArgumentIs(n) => write!(out, "arg index {n}")?,
         Position::ArgumentNamed(name) => write!(out, "arg name {name}")?,
     }
-    put_range(out, " ", &argument.position_span)?;
-    put_flags(out, &argument.format)?;
-    put_values(out, &argument.format)
+    put_span(out, spans, " ", &argument.position_span)?;
+    put_flags(out, spans, &argument.format)?;
+    put_values(out, spans, &argument.format)
 }
 
 /// Adds a piece.
-pub fn put_piece(out: &mut String, piece: &Piece<'_>) -> Result<(), AllocError> {
+pub fn put_piece(out: &mut String, spans: bool, piece: &Piece<'_>) -> Result<(), AllocError> {
     match piece {
         Piece::Lit(text) => {
             out.push_str("lit ")?;
             put_quoted(out, text)
         }
-        Piece::NextArgument(argument) => put_argument(out, argument),
+        Piece::NextArgument(argument) => put_argument(out, spans, argument),
     }
 }
 
 /// Adds the line of a piece.
-pub fn put_line(out: &mut String, piece: &Piece<'_>) -> Result<(), AllocError> {
-    put_piece(out, piece)?;
+pub fn put_line(out: &mut String, spans: bool, piece: &Piece<'_>) -> Result<(), AllocError> {
+    put_piece(out, spans, piece)?;
     out.push_str("\n")
 }
 
-/// Adds a line that ends in a range.
-fn put_place(out: &mut String, label: &str, range: &Range<usize>) -> Result<(), AllocError> {
-    put_range(out, label, range)?;
+/// Adds a line that ends in a span.
+fn put_place(
+    out: &mut String,
+    spans: bool,
+    label: &str,
+    range: &Range<usize>,
+) -> Result<(), AllocError> {
+    put_span(out, spans, label, range)?;
     out.push_str("\n")
 }
 
-fn put_reorder(out: &mut String, range: &Range<usize>, text: &str) -> Result<(), AllocError> {
-    put_range(out, "suggest reorder ", range)?;
+fn put_reorder(
+    out: &mut String,
+    spans: bool,
+    range: &Range<usize>,
+    text: &str,
+) -> Result<(), AllocError> {
+    put_span(out, spans, "suggest reorder ", range)?;
     write!(out, " {text}\n")
 }
 
-fn put_suggestion(out: &mut String, suggestion: &Suggestion) -> Result<(), AllocError> {
+fn put_suggestion(
+    out: &mut String,
+    spans: bool,
+    suggestion: &Suggestion,
+) -> Result<(), AllocError> {
     match suggestion {
         Suggestion::None => Ok(()),
         Suggestion::UsePositional => out.push_str("suggest positional\n"),
-        Suggestion::RemoveRawIdent(range) => put_place(out, "suggest raw ", range),
-        Suggestion::ReorderFormatParameter(range, text) => put_reorder(out, range, text.as_str()),
-        Suggestion::AddMissingColon(range) => put_place(out, "suggest colon ", range),
+        Suggestion::RemoveRawIdent(range) => put_place(out, spans, "suggest raw ", range),
+        Suggestion::ReorderFormatParameter(range, text) => {
+            put_reorder(out, spans, range, text.as_str())
+        }
+        Suggestion::AddMissingColon(range) => put_place(out, spans, "suggest colon ", range),
         Suggestion::UseRustDebugPrintingMacro => out.push_str("suggest dbg\n"),
     }
 }
 
-fn put_error(out: &mut String, error: &ParseError) -> Result<(), AllocError> {
-    put_range(out, "fault ", &error.span)?;
+fn put_error(out: &mut String, spans: bool, error: &ParseError) -> Result<(), AllocError> {
+    put_span(out, spans, "fault ", &error.span)?;
     let (description, label) = (error.description.as_str(), error.label.as_str());
     write!(out, " {description}\n")?;
     if let Some(note) = &error.note {
@@ -171,28 +210,34 @@ fn put_error(out: &mut String, error: &ParseError) -> Result<(), AllocError> {
     }
     write!(out, "label {label}\n")?;
     if let Some((label, range)) = &error.secondary_label {
-        put_range(out, "second ", range)?;
+        put_span(out, spans, "second ", range)?;
         let label = label.as_str();
         write!(out, " {label}\n")?;
     }
-    put_suggestion(out, &error.suggestion)
+    put_suggestion(out, spans, &error.suggestion)
 }
 
 /// Adds a line for each range.
-fn put_ranges(out: &mut String, label: &str, ranges: &[Range<usize>]) -> Result<(), AllocError> {
+fn put_places(out: &mut String, label: &str, ranges: &[Range<usize>]) -> Result<(), AllocError> {
     for range in ranges {
-        put_place(out, label, range)?;
+        put_place(out, true, label, range)?;
     }
     Ok(())
 }
 
-/// Adds what is kept beside the pieces.
-pub fn put_end(out: &mut String, parser: &Parser<'_>) -> Result<(), AllocError> {
+/// Adds the next number and the errors.
+pub fn put_state(out: &mut String, spans: bool, parser: &Parser<'_>) -> Result<(), AllocError> {
     let next = parser.curarg();
     write!(out, "curarg {next}\n")?;
     for error in parser.errors() {
-        put_error(out, error)?;
+        put_error(out, spans, error)?;
     }
-    put_ranges(out, "place ", parser.arg_places())?;
-    put_ranges(out, "line ", parser.line_spans())
+    Ok(())
+}
+
+/// Adds all that is kept beside the pieces.
+pub fn put_end(out: &mut String, parser: &Parser<'_>) -> Result<(), AllocError> {
+    put_state(out, true, parser)?;
+    put_places(out, "place ", parser.arg_places())?;
+    put_places(out, "line ", parser.line_spans())
 }

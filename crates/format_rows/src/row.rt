@@ -4,8 +4,11 @@
 //! the style (`-` or how many `#`), whether a newline was appended (`0` or `1`), the snippet (`-`, or `=` and the
 //! snippet), the input, and the listing. A backslash stands before `n`, `t` and `r` for LF, HT and CR, before `u` and a
 //! code in braces, and before itself. A line that is written otherwise fails the test that reads it.
+//!
+//! Without spans, a listing has what is the same in each literal: the source, the places and the lines are left out, and the
+//! next number and the errors stand after each call.
 
-use crate::listing::{put_end, put_line, put_source};
+use crate::listing::{put_end, put_line, put_source, put_state};
 use crate::start::{World, read, start};
 use crate::written::text_of;
 use rustc_parse_format::literal::is_source_literal;
@@ -57,17 +60,18 @@ fn snippet_of(column: &str) -> Option<Option<&str>> {
     }
 }
 
-/// The row of a line in which the backslashes are read, if it is one.
+/// The row of a line in which the backslashes are read, if it is one. A column that is not there is an empty one, as no mode,
+/// style, newline, snippet or listing is.
 fn read_row(line: &str) -> Option<Row<'_>> {
     let mut columns = line.split('│');
-    let name = columns.next()?;
-    let mode = mode_of(columns.next()?)?;
-    let style = style_of(columns.next()?)?;
-    let appended_newline = newline_of(columns.next()?)?;
-    let snippet = snippet_of(columns.next()?)?;
-    let input = columns.next()?;
-    let wanted = columns.next()?;
-    if columns.next().is_some() {
+    let name = columns.next().unwrap_or("");
+    let mode = mode_of(columns.next().unwrap_or(""))?;
+    let style = style_of(columns.next().unwrap_or(""))?;
+    let appended_newline = newline_of(columns.next().unwrap_or(""))?;
+    let snippet = snippet_of(columns.next().unwrap_or(""))?;
+    let input = columns.next().unwrap_or("");
+    let wanted = columns.next().unwrap_or("");
+    if wanted.is_empty() || columns.next().is_some() {
         return None;
     }
     let world = World {
@@ -128,32 +132,60 @@ pub fn put_source_by_literal(rt: &impl Abort, row: Row<'_>, out: &mut String) ->
     Ok(())
 }
 
-/// Adds what the calls of `next` give up to the first one at the end of the input, which has so many bytes, and what the
-/// parser then has.
-fn put_calls(out: &mut String, parser: &mut Parser<'_>, len: usize) -> Result<(), AllocError> {
-    put_source(out, parser.is_source_literal())?;
-    for _ in 0..len {
-        if parser.peek().is_none() {
-            break;
-        }
-        let _is_piece = put_next(out, parser)?;
-    }
-    let _is_piece = put_next(out, parser)?;
-    put_end(out, parser)
-}
-
 /// Adds what a call gave. Returns whether it is a piece.
-fn put_answer(out: &mut String, answer: &Option<Piece<'_>>) -> Result<bool, AllocError> {
+fn put_answer(
+    out: &mut String,
+    spans: bool,
+    answer: &Option<Piece<'_>>,
+) -> Result<bool, AllocError> {
     match answer {
-        Some(piece) => put_line(out, piece)?,
+        Some(piece) => put_line(out, spans, piece)?,
         None => out.push_str("none\n")?,
     }
     Ok(answer.is_some())
 }
 
 /// Adds what a call of `next` gives. Returns whether it is a piece.
-fn put_next(out: &mut String, parser: &mut Parser<'_>) -> Result<bool, AllocError> {
-    put_answer(out, &parser.next()?)
+fn put_next(out: &mut String, spans: bool, parser: &mut Parser<'_>) -> Result<bool, AllocError> {
+    put_answer(out, spans, &parser.next()?)
+}
+
+/// Adds what a call of `next` gives, and without spans what the parser then has.
+fn put_call(out: &mut String, spans: bool, parser: &mut Parser<'_>) -> Result<(), AllocError> {
+    let _is_piece = put_next(out, spans, parser)?;
+    if spans {
+        return Ok(());
+    }
+    put_state(out, false, parser)
+}
+
+/// Adds what the calls of `next` give up to the first one at the end of the input, which has so many bytes.
+fn put_calls(
+    out: &mut String,
+    spans: bool,
+    parser: &mut Parser<'_>,
+    len: usize,
+) -> Result<(), AllocError> {
+    for _ in 0..len {
+        if parser.peek().is_none() {
+            break;
+        }
+        put_call(out, spans, parser)?;
+    }
+    put_call(out, spans, parser)
+}
+
+/// Adds all that a new parser gives and then has.
+fn put_walk(out: &mut String, parser: &mut Parser<'_>, len: usize) -> Result<(), AllocError> {
+    put_source(out, parser.is_source_literal())?;
+    put_calls(out, true, parser, len)?;
+    put_end(out, parser)
+}
+
+/// The calls of a row have come to the end of its input.
+fn check_end(rt: &impl Abort, row: Row<'_>, parser: &Parser<'_>) {
+    let name = row.name;
+    assert!(rt; parser.peek().is_none(), "no end of row {name}");
 }
 
 /// Adds what a row's parser gives by `next`.
@@ -161,10 +193,16 @@ pub fn put_by_next(
     rt: &impl Abort,
     alloc: Global,
     row: Row<'_>,
+    spans: bool,
     out: &mut String,
 ) -> Result<(), Fail> {
     let mut parser = start(rt, alloc, row.world, row.input)?;
-    put_calls(out, &mut parser, row.input.len())?;
+    if spans {
+        put_walk(out, &mut parser, row.input.len())?;
+    } else {
+        put_calls(out, false, &mut parser, row.input.len())?;
+    }
+    check_end(rt, row, &parser);
     Ok(())
 }
 
@@ -179,23 +217,12 @@ fn nones_in(listing: &str) -> usize {
     count
 }
 
-/// Adds the pieces that `read_all` gave, then what the calls of `next` on its parser give up to the last one that the row
-/// lists, and what the parser then has. The first call without a piece is the one that ended `read_all`.
-fn put_read(
-    out: &mut String,
-    row: Row<'_>,
-    pieces: &[Piece<'_>],
-    parser: &mut Parser<'_>,
-) -> Result<(), AllocError> {
-    put_source(out, parser.is_source_literal())?;
+/// Adds the pieces that `read_all` gave, and the call without a piece that ended it.
+fn put_pieces(out: &mut String, spans: bool, pieces: &[Piece<'_>]) -> Result<(), AllocError> {
     for piece in pieces {
-        put_line(out, piece)?;
+        put_line(out, spans, piece)?;
     }
-    out.push_str("none\n")?;
-    for _ in 1..nones_in(row.wanted) {
-        put_to_none(out, parser, row.input.len())?;
-    }
-    put_end(out, parser)
+    out.push_str("none\n")
 }
 
 /// Adds what the calls of `next` give up to the next one without a piece. The input has so many bytes.
@@ -203,10 +230,41 @@ fn put_to_none(out: &mut String, parser: &mut Parser<'_>, len: usize) -> Result<
     let mut is_piece = true;
     for _ in 0..len {
         if is_piece {
-            is_piece = put_next(out, parser)?;
+            is_piece = put_next(out, true, parser)?;
         }
     }
     out.push_str(if is_piece { "none\n" } else { "" })
+}
+
+/// Adds the pieces that `read_all` gave, then what the calls of `next` on its parser give up to the last one that the row
+/// lists, and what the parser then has.
+fn put_whole(
+    out: &mut String,
+    row: Row<'_>,
+    pieces: &[Piece<'_>],
+    parser: &mut Parser<'_>,
+) -> Result<(), AllocError> {
+    put_source(out, parser.is_source_literal())?;
+    put_pieces(out, true, pieces)?;
+    for _ in 1..nones_in(row.wanted) {
+        put_to_none(out, parser, row.input.len())?;
+    }
+    put_end(out, parser)
+}
+
+/// Adds the pieces that `read_all` gave, and without spans what its parser has.
+fn put_read(
+    out: &mut String,
+    row: Row<'_>,
+    spans: bool,
+    pieces: &[Piece<'_>],
+    parser: &mut Parser<'_>,
+) -> Result<(), AllocError> {
+    if spans {
+        return put_whole(out, row, pieces, parser);
+    }
+    put_pieces(out, false, pieces)?;
+    put_state(out, false, parser)
 }
 
 /// Adds what `read_all` gives of a row, and what its parser gives after that.
@@ -214,9 +272,10 @@ pub fn put_by_read_all(
     rt: &impl Abort,
     alloc: Global,
     row: Row<'_>,
+    spans: bool,
     out: &mut String,
 ) -> Result<(), Fail> {
     let (pieces, mut parser) = read(rt, alloc, row.world, row.input)?;
-    put_read(out, row, pieces.as_slice(), &mut parser)?;
+    put_read(out, row, spans, pieces.as_slice(), &mut parser)?;
     Ok(())
 }

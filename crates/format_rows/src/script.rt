@@ -7,16 +7,15 @@
 //! call puts in front, and how many there are then, and `spans`, `labels` and `has_errors` tell that of the errors.
 
 use crate::listing::{put_piece, put_range};
-use crate::start::{World, start};
+use crate::start::{World, plain, read, start};
 use rustc_parse_format::{ParseError, Parser, Piece, Pieces};
 use std::alloc::{AllocError, Global};
 use std::ops::Range;
 use std::process::Abort;
-use std::test::Fail;
 
 fn put_optional_piece(out: &mut String, piece: &Option<Piece<'_>>) -> Result<(), AllocError> {
     match piece {
-        Some(piece) => put_piece(out, piece),
+        Some(piece) => put_piece(out, true, piece),
         None => out.push_str("none"),
     }
 }
@@ -86,7 +85,7 @@ fn put_next_identifier(out: &mut String, piece: &Option<Piece<'_>>) -> Result<()
 /// Adds all items of a new iterator.
 fn put_pieces(out: &mut String, parser: &mut Parser<'_>) -> Result<(), AllocError> {
     for item in parser.pieces() {
-        put_piece(out, &item?)?;
+        put_piece(out, true, &item?)?;
         out.push(';')?;
     }
     Ok(())
@@ -185,7 +184,7 @@ fn check_call(
     alloc: Global,
     parser: &mut Parser<'_>,
     line: &str,
-) -> Result<(), Fail> {
+) -> Result<(), AllocError> {
     let (call, wanted) = line.split_once(' ').unwrap_or((line, ""));
     let mut out = String::new(alloc);
     put_answer(rt, &mut out, parser, call)?;
@@ -199,21 +198,44 @@ pub fn check_calls(
     alloc: Global,
     parser: &mut Parser<'_>,
     lines: &[&str],
-) -> Result<(), Fail> {
+) -> Result<(), AllocError> {
     for line in lines {
         check_call(rt, alloc, parser, line)?;
     }
     Ok(())
 }
 
-/// So do those of a new parser.
-pub fn check_parser(
+fn follow(
     rt: &impl Abort,
     alloc: Global,
     world: World<'_>,
     input: &str,
     lines: &[&str],
-) -> Result<(), Fail> {
+) -> Result<(), AllocError> {
     let mut parser = start(rt, alloc, world, input)?;
     check_calls(rt, alloc, &mut parser, lines)
+}
+
+/// So do those of a new parser. A test that gives no error is one function less to prove.
+pub fn check_parser(rt: &impl Abort, alloc: Global, world: World<'_>, input: &str, lines: &[&str]) {
+    let done = follow(rt, alloc, world, input, lines);
+    assert!(rt; done.is_ok(), "no memory for {input}");
+}
+
+fn follow_read(
+    rt: &impl Abort,
+    alloc: Global,
+    text: &str,
+    count: usize,
+    lines: &[&str],
+) -> Result<(), AllocError> {
+    let (pieces, mut parser) = read(rt, alloc, plain(), text)?;
+    assert_eq!(rt; pieces.len(), count, "the pieces of {text}");
+    check_calls(rt, alloc, &mut parser, lines)
+}
+
+/// So do those of the parser that `read_all` leaves, after so many pieces of a text that comes from no literal.
+pub fn check_read(rt: &impl Abort, alloc: Global, text: &str, count: usize, lines: &[&str]) {
+    let done = follow_read(rt, alloc, text, count, lines);
+    assert!(rt; done.is_ok(), "no memory for {text}");
 }

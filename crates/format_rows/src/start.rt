@@ -3,7 +3,6 @@
 use rustc_parse_format::{ParseMode, Parser, Piece, read_all};
 use std::alloc::{AllocError, Global};
 use std::process::Abort;
-use std::test::Fail;
 
 /// What a parser is given beside its input.
 #[derive(Clone, Copy)]
@@ -53,7 +52,7 @@ pub fn start<'a>(
     alloc: Global,
     world: World<'_>,
     input: &'a str,
-) -> Result<Parser<'a>, Fail> {
+) -> Result<Parser<'a>, AllocError> {
     let World { mode, style, .. } = world;
     assert!(rt; input.len() < 10000);
     assert!(rt; style.unwrap_or(0) <= usize::MAX - 2 - input.len());
@@ -68,7 +67,7 @@ pub fn read<'a>(
     alloc: Global,
     world: World<'_>,
     input: &'a str,
-) -> Result<(Vec<Piece<'a>>, Parser<'a>), Fail> {
+) -> Result<(Vec<Piece<'a>>, Parser<'a>), AllocError> {
     let World { mode, style, .. } = world;
     assert!(rt; input.len() < 10000);
     assert!(rt; style.unwrap_or(0) <= usize::MAX - 2 - input.len());

@@ -31,7 +31,7 @@ pub fn check_count(rt: &impl Abort, table: &str, wanted: usize) {
 }
 
 /// What was listed is what the row says.
-fn check_listing(rt: &impl Abort, row: Row<'_>, found: &str, way: &str) {
+pub fn check_listing(rt: &impl Abort, row: Row<'_>, found: &str, way: &str) {
     let name = row.name;
     assert_eq!(rt; found, row.wanted, "row {name} by {way}");
 }
@@ -39,7 +39,7 @@ fn check_listing(rt: &impl Abort, row: Row<'_>, found: &str, way: &str) {
 /// Reads a row by `next` alone.
 fn check_next(rt: &impl Abort, alloc: Global, row: Row<'_>) -> Result<(), Fail> {
     let mut out = String::new(alloc);
-    put_by_next(rt, alloc, row, &mut out)?;
+    put_by_next(rt, alloc, row, true, &mut out)?;
     check_listing(rt, row, out.as_str(), "next");
     Ok(())
 }
@@ -47,7 +47,7 @@ fn check_next(rt: &impl Abort, alloc: Global, row: Row<'_>) -> Result<(), Fail> 
 /// Reads a row by `read_all`.
 fn check_read_all(rt: &impl Abort, alloc: Global, row: Row<'_>) -> Result<(), Fail> {
     let mut out = String::new(alloc);
-    put_by_read_all(rt, alloc, row, &mut out)?;
+    put_by_read_all(rt, alloc, row, true, &mut out)?;
     check_listing(rt, row, out.as_str(), "read_all");
     Ok(())
 }
@@ -87,12 +87,16 @@ fn check_by_literal(rt: &impl Abort, alloc: Global, row: Row<'_>) -> Result<(), 
     Ok(())
 }
 
-/// Asks both of the row of a line.
-fn check_source(rt: &impl Abort, alloc: Global, line: &str) -> Result<(), Fail> {
-    let text = text_in(rt, alloc, line)?;
-    let row = row_of(rt, text.as_str());
+/// Asks both.
+pub fn check_source(rt: &impl Abort, alloc: Global, row: Row<'_>) -> Result<(), Fail> {
     check_by_parser(rt, alloc, row)?;
     check_by_literal(rt, alloc, row)
+}
+
+/// Asks both of the row of a line.
+fn check_source_row(rt: &impl Abort, alloc: Global, line: &str) -> Result<(), Fail> {
+    let text = text_in(rt, alloc, line)?;
+    check_source(rt, alloc, row_of(rt, text.as_str()))
 }
 
 /// Asks of each row of a table.
@@ -100,7 +104,7 @@ fn check_sources(rt: &impl Abort, alloc: Global, table: &str, count: usize) -> R
     check_count(rt, table, count);
     for line in table.split('\n') {
         if !line.is_empty() {
-            check_source(rt, alloc, line)?;
+            check_source_row(rt, alloc, line)?;
         }
     }
     Ok(())

@@ -1,0 +1,15 @@
+//! Tests of the library by the values that its calls take and give, where the tables and scripts of `format_rows` show too
+//! little.
+//!
+//! `values` has what is exported, the defaults, clones and equality, `pieces` the pieces themselves, `faults` very many
+//! faults, and `literals` the calls that read literals without a parser.
+#![tactic(auto)]
+
+#[cfg(test)]
+mod faults;
+#[cfg(test)]
+mod literals;
+#[cfg(test)]
+mod pieces;
+#[cfg(test)]
+mod values;
