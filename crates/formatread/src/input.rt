@@ -1,27 +1,41 @@
 //! The listing of an input that is a text.
 
-ghost use Rattle.std.specs.Prelude.{◌≡◌, ◌≢◌, ◌≤◌, [], Err, None, IfOk, IfErr, IsErrOf, IsOk, false, length, nat_lt, chars, string_bytes, true};
-ghost use Rattle.rustc_parse_format.specs.Seen.{seen_snippet};
+ghost use Rattle.std.specs.Prelude.{◌≡◌, ◌≢◌, ◌≤◌, ◌||◌, ℕ, Bool, List, [], Err, None, Some, IfOk, IfErr, IsErrOf, IsOk, false, length, map, nat_lt, option_map, chars, string_bytes, true};
+ghost use Rattle.rustc_parse_format.specs.Seen.{seen, seen_error, seen_snippet};
 ghost use Rattle.rustc_parse_format.specs.Source.{HasSource};
 ghost use Rattle.rustc_parse_format.specs.World.{hashes};
+ghost use Rattle.placeholder_check.specs.Report.{Report};
 ghost use Rattle.formatread.specs.declared.verdict.RunFault.TheVariants.{Words, TooLong, NotText, NotLiteral};
 ghost use Rattle.formatread.specs.Source.{IsInLiteral, IsSourceOf, Source, bare_source};
-ghost use Rattle.formatread.specs.Program.{IsListed, IsShort, limit};
-ghost use Rattle.formatread.specs.SeenTask.{seen_task};
+ghost use Rattle.formatread.specs.Listing.{listing};
+ghost use Rattle.formatread.specs.Program.{IsListed, IsReportFor, IsShort, has_entries, limit};
+ghost use Rattle.formatread.specs.SeenTask.{seen_given, seen_task};
 
+use super::given::Given;
 use super::listing::listing;
 use super::literal::{literal_text, without_newline};
 use super::report_lines::{has_entries, report_for};
 use super::task::Task;
 use super::verdict::RunFault;
-use rustc_parse_format::{Parser, read_all};
+use rustc_parse_format::{ParseError, Piece, read_all};
 use std::alloc::{AllocError, Global};
 
-/// Whether the parser found a fault.
-fn has_errors(parser: &Parser<'_>) -> bool
-    ensures { result ≡ nat_lt 0 (length parser.now.errors) }
+/// The listing of what was read, with the report that is asked for, and whether there is a line that is of no piece.
+fn list_read<'a>(
+    alloc: Global,
+    pieces: &[Piece<'a>],
+    errors: &[ParseError],
+    given: Option<Given<'a>>,
+) -> Result<(String, bool), AllocError>
+    ensures lines { IfOk result (λ x. (r : Report) × IsReportFor (option_map seen_given given.entry) (map seen pieces.now) r
+        × ◌≡◌ {A = List ℕ × Bool} (string_bytes x.0, x.1)
+        (listing (map seen pieces.now) (map seen_error errors.now) r, nat_lt 0 (length (map seen_error errors.now)) || has_entries r)) }
+    ensures empty { pieces.now ≡ [] → errors.now ≡ [] → given.entry ≡ None → IsOk result }
 {
-    parser.errors().len() > 0
+    let report = report_for(alloc, pieces, given)?;
+    let lines = listing(alloc, pieces, errors, &report)?;
+    let told = errors.len() > 0 || has_entries(&report);
+    Ok((lines, told))
 }
 
 /// The listing of what the parser is given, and whether there is a line that is of no piece.
@@ -40,10 +54,23 @@ fn list_source(
     ensures empty { text.now ≡ [] → (HasSource (chars text.now) style (seen_snippet snippet) false → ⊥) → task.entry.given ≡ None → IsOk result }
 {
     let (pieces, parser) = read_all(alloc, text, style, snippet, false, task.mode)?;
-    let report = report_for(alloc, pieces.as_slice(), task.given)?;
-    let lines = listing(alloc, pieces.as_slice(), parser.errors(), &report)?;
-    let told = has_errors(&parser) || has_entries(&report);
-    Ok((lines, told))
+    list_read(alloc, pieces.as_slice(), parser.errors(), task.given)
+}
+
+/// The listing of what a literal stands for, and whether there is a line that is of no piece.
+fn list_text_of(
+    alloc: Global,
+    literal: &str,
+    text: &str,
+    style: Option<usize>,
+    task: Task<'_>,
+) -> Result<(String, bool), AllocError>
+    requires { hashes style ≤ limit }
+    ensures { IfOk result (λ x. IsListed (seen_task task.entry)
+        (record { text = chars text.now; style = style; snippet = Some (chars literal.now) }) (string_bytes x.0, x.1)) }
+{
+    let snippet = String::from_str(alloc, literal)?;
+    list_source(alloc, text, style, Some(snippet), task)
 }
 
 /// The listing of what the input stands for as a literal, and whether there is a line that is of no piece.
@@ -61,8 +88,7 @@ fn list_literal(alloc: Global, input: &str, task: Task<'_>) -> Result<(String, b
     let Some((text, style)) = literal_text(alloc, literal)? else {
         return Err(RunFault::NotLiteral);
     };
-    let snippet = String::from_str(alloc, literal)?;
-    Ok(list_source(alloc, text.as_str(), style, Some(snippet), task)?)
+    Ok(list_text_of(alloc, literal, text.as_str(), style, task)?)
 }
 
 /// The listing of an input, which may have to be a literal, and whether there is a line that is of no piece.

@@ -1,4 +1,4 @@
-ghost use Rattle.std.specs.Prelude.{◌≡◌, ◌++◌, [], IfOk, IsOk, OnOk, map, chars, codes, encode_utf8_all, flat_map, option_map, string_bytes};
+ghost use Rattle.std.specs.Prelude.{◌≡◌, ◌++◌, [], IfOk, IsOk, OnOk, map, chars, codes, decimal, encode_utf8_all, flat_map, option_map, string_bytes};
 ghost use Rattle.rustc_parse_format.specs.Written.{written};
 ghost use Rattle.rustc_parse_format.specs.Seen.{pair, seen, seen_alignment, seen_count, seen_debug_hex, seen_error, seen_position, seen_sign, seen_spec};
 ghost use Rattle.placeholder_check.specs.Seen.{seen_report};
@@ -56,6 +56,14 @@ fn put_name(out: &mut String, label: &str, name: &str) -> Result<(), AllocError>
     Ok(())
 }
 
+/// Adds a number after a label.
+fn put_number(out: &mut String, label: &str, number: usize) -> Result<(), AllocError>
+    ensures { OnOk result (string_bytes out.new ≡ string_bytes out.old ++ (label.now ++ decimal number)) }
+{
+    write!(out, "{label}{number}")?;
+    Ok(())
+}
+
 /// Adds a span after a mark.
 fn put_span(out: &mut String, mark: &str, span: &Range<usize>) -> Result<(), AllocError>
     ensures { OnOk result (string_bytes out.new ≡ string_bytes out.old ++
@@ -82,8 +90,8 @@ fn put_position(out: &mut String, position: &Position<'_>) -> Result<(), AllocEr
         position_text (seen_position position.now)) }
 {
     match position {
-        Position::ArgumentImplicitlyIs(n) => write!(out, "implicit {n}")?,
-        Position::ArgumentIs(n) => write!(out, "index {n}")?,
+        Position::ArgumentImplicitlyIs(n) => put_number(out, "implicit ", *n)?,
+        Position::ArgumentIs(n) => put_number(out, "index ", *n)?,
         Position::ArgumentNamed(name) => put_name(out, "name ", name)?,
     }
     Ok(())
@@ -166,13 +174,13 @@ fn put_count(out: &mut String, count: &Count<'_>) -> Result<(), AllocError>
         count_text (seen_count count.now)) }
 {
     match count {
-        Count::CountIs(n) => write!(out, "is:{n}")?,
+        Count::CountIs(n) => put_number(out, "is:", usize::from(*n))?,
         Count::CountIsName(name, span) => {
             put_name(out, "name:", name)?;
             put_span(out, "@", span)?;
         }
-        Count::CountIsParam(n) => write!(out, "param:{n}")?,
-        Count::CountIsStar(n) => write!(out, "star:{n}")?,
+        Count::CountIsParam(n) => put_number(out, "param:", *n)?,
+        Count::CountIsStar(n) => put_number(out, "star:", *n)?,
         Count::CountImplied => out.push_str("implied")?,
     }
     Ok(())

@@ -2,8 +2,9 @@
 
 ghost use Rattle.std.specs.Prelude.{◌≡◌, map, option_map, string_bytes};
 ghost use Rattle.rustc_parse_format.specs.Seen.{seen_mode};
-ghost use Rattle.formatread.specs.Program.{asked, mode_named};
-ghost use Rattle.formatread.specs.SeenTask.{seen_task};
+ghost use Rattle.formatread.specs.Given.{given_by};
+ghost use Rattle.formatread.specs.Program.{asked, mode_named, task, task_with};
+ghost use Rattle.formatread.specs.SeenTask.{seen_given, seen_task};
 
 use super::given::{Given, given_by};
 use rustc_parse_format::ParseMode;
@@ -36,28 +37,53 @@ fn mode_named(word: &str) -> Option<ParseMode>
     }
 }
 
-/// What the words ask for.
-pub fn asked(words: &[String]) -> Option<Task<'_>>
-    ensures { option_map seen_task result ≡ asked (map string_bytes words.now) }
+/// The task with the mode that a word names.
+fn task_in<'a>(word: &str, is_literal: bool, given: Option<Given<'a>>) -> Option<Task<'a>>
+    ensures { option_map seen_task result ≡ task is_literal (option_map seen_given given.entry) (mode_named word.now) }
 {
-    let (word, is_literal, list) = match words {
-        [word] => (word, false, None),
-        [word, first] if first.as_str() == "--literal" => (word, true, None),
-        [word, first, list] if first.as_str() == "--args" => (word, false, Some(list)),
-        [word, first, second, list]
-            if first.as_str() == "--literal" && second.as_str() == "--args" => {
-            (word, true, Some(list))
-        }
-        _ => return None,
-    };
-    let given = match list {
-        Some(list) => Some(given_by(list.as_str())?),
-        None => None,
-    };
-    let mode = mode_named(word.as_str())?;
+    let mode = mode_named(word)?;
     Some(Task {
         mode,
         is_literal,
         given,
     })
+}
+
+/// The same with a list of arguments, where the word for it is one.
+fn task_with<'a>(word: &str, is_literal: bool, list: &'a str) -> Option<Task<'a>>
+    ensures { option_map seen_task result ≡ task_with is_literal (given_by list.now) (mode_named word.now) }
+{
+    let given = given_by(list)?;
+    task_in(word, is_literal, Some(given))
+}
+
+/// What the words ask for.
+pub fn asked(words: &[String]) -> Option<Task<'_>>
+    ensures { option_map seen_task result ≡ asked (map string_bytes words.now) }
+{
+    match words {
+        [word] => task_in(word.as_str(), false, None),
+        [word, first] => {
+            if first.as_str() == "--literal" {
+                task_in(word.as_str(), true, None)
+            } else {
+                None
+            }
+        }
+        [word, first, list] => {
+            if first.as_str() == "--args" {
+                task_with(word.as_str(), false, list.as_str())
+            } else {
+                None
+            }
+        }
+        [word, first, second, list] => {
+            if first.as_str() == "--literal" && second.as_str() == "--args" {
+                task_with(word.as_str(), true, list.as_str())
+            } else {
+                None
+            }
+        }
+        _ => None,
+    }
 }

@@ -56,6 +56,18 @@ fn may_be_left(answer: &Result<bool, RunFault>, input: &[u8], left: usize) -> bo
     }
 }
 
+/// This is answered and written.
+fn check_told(
+    rt: &impl Abort,
+    answer: Result<bool, RunFault>,
+    wanted: Result<bool, RunFault>,
+    written: &[u8],
+    lines: &[u8],
+) {
+    assert_eq!(rt; answer, wanted);
+    assert_eq!(rt; written, lines);
+}
+
 /// For words and an input this is answered and written.
 fn check_answer(
     rt: &impl Abort,
@@ -68,18 +80,20 @@ fn check_answer(
     let mut reader = input;
     let mut written = Vec::new(alloc);
     let answer = answer(alloc, words, &mut reader, &mut written)?;
-    assert_eq!(rt; answer, wanted);
-    assert_eq!(rt; written.as_slice(), lines);
+    check_told(rt, answer, wanted, written.as_slice(), lines);
     assert!(rt; may_be_left(&answer, input, reader.len()));
     Ok(())
 }
 
-/// Each of these inputs, with what is listed for it and whether a line of that is of no piece.
+/// An input, what is listed for it, and whether a line of that is of no piece.
+type Listing<'a> = (&'a [u8], &'a [u8], bool);
+
+/// Each of these inputs is listed so.
 fn check_listings(
     rt: &impl Abort,
     alloc: Global,
     words: &[&str],
-    rows: &[(&[u8], &[u8], bool)],
+    rows: &[Listing<'_>],
 ) -> Result<(), Fail> {
     for (input, lines, told) in rows {
         check_answer(rt, alloc, words, input, Ok(*told), lines)?;
@@ -98,22 +112,45 @@ fn check_refused(
     check_answer(rt, alloc, words, input, Err(fault), b"")
 }
 
+/// Each of these inputs is refused for the same.
+fn check_inputs_refused(
+    rt: &impl Abort,
+    alloc: Global,
+    words: &[&str],
+    inputs: &[&[u8]],
+    fault: RunFault,
+) -> Result<(), Fail> {
+    for input in inputs {
+        check_refused(rt, alloc, words, input, fault)?;
+    }
+    Ok(())
+}
+
+/// Each of these words is refused, and nothing is read.
+fn check_words_refused(rt: &impl Abort, alloc: Global, rows: &[&[&str]]) -> Result<(), Fail> {
+    for words in rows {
+        check_refused(rt, alloc, words, HI, RunFault::Words)?;
+    }
+    Ok(())
+}
+
+const AS_LITERAL: &[&str] = &["format", "--literal"];
+
+const NO_LITERALS: &[&[u8]] = &[
+    b"\"a\"\n\n",
+    b"\"a",
+    b"\"a\"\r\n",
+    b"",
+    b"\"\\q\"",
+    b"r#\"a\"",
+    b"b\"a\"",
+];
+
 #[test]
 fn refuses_what_is_no_literal(rt: HostRuntime) -> Result<(), Fail> {
-    let rows: [&[u8]; 7] = [
-        b"\"a\"\n\n",
-        b"\"a",
-        b"\"a\"\r\n",
-        b"",
-        b"\"\\q\"",
-        b"r#\"a\"",
-        b"b\"a\"",
-    ];
-    let words = ["format", "--literal"];
-    for input in rows {
-        check_refused(&rt, rt.alloc(), &words, input, RunFault::NotLiteral)?;
-    }
-    check_refused(&rt, rt.alloc(), &words, b"\xFF", RunFault::NotText)
+    let fault = RunFault::NotLiteral;
+    check_inputs_refused(&rt, rt.alloc(), AS_LITERAL, NO_LITERALS, fault)?;
+    check_refused(&rt, rt.alloc(), AS_LITERAL, b"\xFF", RunFault::NotText)
 }
 
 #[test]
@@ -139,24 +176,22 @@ fn refuses_what_is_too_long_or_no_text(rt: HostRuntime) -> Result<(), Fail> {
     check_refused(&rt, rt.alloc(), &["format"], b"\xFF", RunFault::NotText)
 }
 
+const OTHER_WORDS: &[&[&str]] = &[
+    &[],
+    &["format", "format"],
+    &["--literal"],
+    &["--literal", "format"],
+    &["format", "--literal", "--literal"],
+    &["asm", "diagnostic"],
+    &["Format"],
+    &["formats"],
+    &["diagnostic-name"],
+    &["diagnosticnamed"],
+];
+
 #[test]
 fn refuses_other_words_unread(rt: HostRuntime) -> Result<(), Fail> {
-    let rows: [&[&str]; 10] = [
-        &[],
-        &["format", "format"],
-        &["--literal"],
-        &["--literal", "format"],
-        &["format", "--literal", "--literal"],
-        &["asm", "diagnostic"],
-        &["Format"],
-        &["formats"],
-        &["diagnostic-name"],
-        &["diagnosticnamed"],
-    ];
-    for words in rows {
-        check_refused(&rt, rt.alloc(), words, HI, RunFault::Words)?;
-    }
-    Ok(())
+    check_words_refused(&rt, rt.alloc(), OTHER_WORDS)
 }
 
 /// Of a reader, whose bytes are a text of the mode `format`, this is answered and written.
@@ -169,8 +204,7 @@ fn check_reader<R: Read>(
 ) -> Result<(), Fail> {
     let mut sheet = Sheet::new();
     let answer = answer(alloc, &["format"], reader, &mut sheet)?;
-    assert_eq!(rt; answer, wanted);
-    assert_eq!(rt; sheet.text(), lines);
+    check_told(rt, answer, wanted, sheet.text(), lines);
     Ok(())
 }
 
@@ -189,18 +223,30 @@ fn check_writer<W: Write>(
     Ok(())
 }
 
+/// So many reads of single bytes are made, one of which fails after so many others, if there are more.
+fn check_reads(
+    rt: &impl Abort,
+    alloc: Global,
+    before: usize,
+    wanted: Result<bool, RunFault>,
+    lines: &[u8],
+    calls: usize,
+) -> Result<(), Fail> {
+    let mut reader = Stumbling::new(HI, before);
+    check_reader(rt, alloc, &mut reader, wanted, lines)?;
+    assert_eq!(rt; reader.calls, calls);
+    Ok(())
+}
+
 #[test]
 fn a_failed_read_is_not_tried_again(rt: HostRuntime) -> Result<(), Fail> {
     // One read for each byte, and one more finds the end.
-    for before in 0..HI.len() + 1 {
-        let mut reader = Stumbling::new(HI, before);
-        check_reader(&rt, rt.alloc(), &mut reader, Err(RunFault::Read), b"")?;
-        assert_eq!(rt; reader.calls, before + 1);
+    let count = HI.len() + 1;
+    for before in 0..count {
+        let wanted = Err(RunFault::Read);
+        check_reads(&rt, rt.alloc(), before, wanted, b"", before + 1)?;
     }
-    let mut reader = Stumbling::new(HI, HI.len() + 1);
-    check_reader(&rt, rt.alloc(), &mut reader, Ok(false), HI_LINES)?;
-    assert_eq!(rt; reader.calls, HI.len() + 1);
-    Ok(())
+    check_reads(&rt, rt.alloc(), count, Ok(false), HI_LINES, count)
 }
 
 #[test]
@@ -234,30 +280,33 @@ fn a_write_that_takes_no_byte_has_failed(rt: HostRuntime) -> Result<(), Fail> {
     Ok(())
 }
 
+const USAGE: &str =
+    "usage: formatread format|asm|diagnostic|diagnostic-named [--literal] [--args N,NAME,..]";
+
+/// Each answer, with what is told and the status.
+const ANSWERS: &[(Result<bool, RunFault>, &str, u8)] = &[
+    (Ok(false), "", 0),
+    (Ok(true), "", 1),
+    (Err(RunFault::Words), USAGE, 2),
+    (
+        Err(RunFault::NotLiteral),
+        "formatread: input is not a string literal",
+        2,
+    ),
+    (Err(RunFault::Read), "formatread: reading failed", 3),
+    (
+        Err(RunFault::TooLong),
+        "formatread: input is longer than 1048576 bytes",
+        3,
+    ),
+    (Err(RunFault::NotText), "formatread: input is not UTF-8", 3),
+    (Err(RunFault::Memory), "formatread: out of memory", 3),
+    (Err(RunFault::Write), "formatread: writing failed", 3),
+];
+
 #[test]
 fn tells_each_answer(rt: HostRuntime) {
-    let usage =
-        "usage: formatread format|asm|diagnostic|diagnostic-named [--literal] [--args N,NAME,..]";
-    let rows = [
-        (Ok(false), "", 0),
-        (Ok(true), "", 1),
-        (Err(RunFault::Words), usage, 2),
-        (
-            Err(RunFault::NotLiteral),
-            "formatread: input is not a string literal",
-            2,
-        ),
-        (Err(RunFault::Read), "formatread: reading failed", 3),
-        (
-            Err(RunFault::TooLong),
-            "formatread: input is longer than 1048576 bytes",
-            3,
-        ),
-        (Err(RunFault::NotText), "formatread: input is not UTF-8", 3),
-        (Err(RunFault::Memory), "formatread: out of memory", 3),
-        (Err(RunFault::Write), "formatread: writing failed", 3),
-    ];
-    for (answer, text, status) in rows {
-        assert_eq!(rt; verdict(&answer), (text, status));
+    for (answer, text, status) in ANSWERS {
+        assert_eq!(rt; verdict(answer), (*text, *status));
     }
 }

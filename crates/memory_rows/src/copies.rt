@@ -23,12 +23,31 @@ fn clone_again(
     Ok(piece.clone(alloc)?)
 }
 
+/// A clone of a piece is equal to it, and not to another.
+fn check_clone(
+    rt: &(impl Abort + Print),
+    alloc: Global,
+    piece: &Piece<'static>,
+    other: &Piece<'static>,
+) -> Result<(), Fail> {
+    let copy = clone_again(rt, alloc, piece)?;
+    assert!(rt; copy == *piece);
+    assert!(rt; copy != *other);
+    Ok(())
+}
+
+/// Of the pieces of the row, which are three, the second is cloned.
+fn check_pieces(
+    rt: &(impl Abort + Print),
+    alloc: Global,
+    pieces: &[Piece<'static>],
+) -> Result<(), Fail> {
+    assert_eq!(rt; pieces.len(), 3);
+    check_clone(rt, alloc, &pieces[1], &pieces[0])
+}
+
 #[test]
 fn clone_out_of_memory_is_called_again(rt: HostRuntime) -> Result<(), Fail> {
-    let (pieces, _parser) = read_again(&rt, rt.alloc(), STAR)?;
-    assert_eq!(rt; pieces.len(), 3);
-    let copy = clone_again(&rt, rt.alloc(), &pieces[1])?;
-    assert!(rt; copy == pieces[1]);
-    assert!(rt; copy != pieces[0]);
-    Ok(())
+    let read = read_again(&rt, rt.alloc(), STAR)?;
+    check_pieces(&rt, rt.alloc(), read.0.as_slice())
 }

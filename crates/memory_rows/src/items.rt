@@ -1,11 +1,11 @@
 //! The pieces of a parser as an iterator, which ends for good where it is refused memory.
 
 use crate::listing::put_piece;
-use crate::rows::{ROWS, Row};
+use crate::rows::{Row, rows};
 use crate::sheet::Sheet;
 use crate::spare::{check_spare, touch};
 use crate::start::{check_row, start};
-use rustc_parse_format::Pieces;
+use rustc_parse_format::{Parser, Pieces};
 use std::alloc::Global;
 use std::io::Print;
 use std::process::Abort;
@@ -41,23 +41,57 @@ fn put_items(
     Ok(is_refused)
 }
 
-/// Reads a row. Where an item is refused memory, another iterator goes on.
+/// Where an item was refused memory, another iterator goes on to the end.
+fn go_on(
+    rt: &(impl Abort + Print),
+    alloc: Global,
+    parser: &mut Parser<'_>,
+    most: usize,
+    out: &mut Sheet,
+) -> Result<(), Fail> {
+    check_spare(rt, alloc)?;
+    touch(parser);
+    let is_refused = put_items(rt, &mut parser.pieces(), most, out)?;
+    assert!(rt; !is_refused);
+    Ok(())
+}
+
+/// Adds all items, by one iterator, or by two where an item is refused memory.
+fn put_all(
+    rt: &(impl Abort + Print),
+    alloc: Global,
+    parser: &mut Parser<'_>,
+    most: usize,
+    out: &mut Sheet,
+) -> Result<(), Fail> {
+    check_spare(rt, alloc)?;
+    if put_items(rt, &mut parser.pieces(), most, out)? {
+        go_on(rt, alloc, parser, most, out)?;
+    }
+    Ok(())
+}
+
+/// Reads a row from its start, by this parser.
+fn read_from(
+    rt: &(impl Abort + Print),
+    alloc: Global,
+    row: Row,
+    parser: &mut Parser<'_>,
+) -> Result<(), Fail> {
+    let mut out = Sheet::new();
+    put_all(rt, alloc, parser, row.input.len(), &mut out)?;
+    check_row(rt, row, &mut out, &Sheet::new(), parser)
+}
+
+/// Reads a row.
 fn read(rt: &(impl Abort + Print), alloc: Global, row: Row) -> Result<(), Fail> {
     let mut parser = start(rt, alloc, row)?;
-    let most = row.input.len();
-    let mut out = Sheet::new();
-    check_spare(rt, alloc)?;
-    if put_items(rt, &mut parser.pieces(), most, &mut out)? {
-        check_spare(rt, alloc)?;
-        touch(&mut parser);
-        assert!(rt; !put_items(rt, &mut parser.pieces(), most, &mut out)?);
-    }
-    check_row(rt, row, out, &Sheet::new(), &mut parser)
+    read_from(rt, alloc, row, &mut parser)
 }
 
 #[test]
 fn pieces_out_of_memory_go_on_in_another_iterator(rt: HostRuntime) -> Result<(), Fail> {
-    for row in ROWS {
+    for row in rows() {
         read(&rt, rt.alloc(), *row)?;
     }
     Ok(())

@@ -1,32 +1,74 @@
 //! Calls that take no memory, so that none of them is ever refused.
 
 use rustc_parse_format::literal::is_source_literal;
-use rustc_parse_format::{Argument, FormatSpec, ParseMode, Parser, Piece, Position, read_all};
-use std::alloc::Global;
+use rustc_parse_format::{
+    Argument, FormatSpec, ParseMode, Parser, Piece, Pieces, Position, read_all,
+};
+use std::alloc::{AllocError, Global};
 use std::process::Abort;
 use std::test::Fail;
 
-/// A new parser reads text, and comes to the end.
+fn is_text(piece: &Piece<'_>, text: &str) -> bool {
+    match piece {
+        Piece::Lit(it) => *it == text,
+        Piece::NextArgument(_) => false,
+    }
+}
+
+/// The next piece is this text.
+fn next_is(parser: &mut Parser<'_>, text: &str) -> Result<bool, AllocError> {
+    match parser.next()? {
+        Some(piece) => Ok(is_text(&piece, text)),
+        None => Ok(false),
+    }
+}
+
+/// Such a parser reads its text, and comes to the end.
+fn check_calls(rt: &impl Abort, parser: &mut Parser<'_>, text: &str) -> Result<(), Fail> {
+    let is_first = next_is(parser, text)?;
+    assert!(rt; is_first);
+    let is_end = parser.next()?.is_none();
+    assert!(rt; is_end);
+    Ok(())
+}
+
+/// A new parser reads text.
 fn check_text(rt: &impl Abort, alloc: Global) -> Result<(), Fail> {
     let mut parser = Parser::new(alloc, "ab\n", Some(1), None, true, ParseMode::Format)?;
-    assert!(rt; matches!(parser.next()?, Some(Piece::Lit("ab\n"))));
-    assert!(rt; parser.next()?.is_none());
-    Ok(())
+    check_calls(rt, &mut parser, "ab\n")
+}
+
+/// The next item is this text.
+fn item_is(pieces: &mut Pieces<'_, '_>, text: &str) -> bool {
+    match pieces.next() {
+        Some(Ok(piece)) => is_text(&piece, text),
+        _ => false,
+    }
+}
+
+/// The items of such an iterator are its text, and then none.
+fn check_items(rt: &impl Abort, pieces: &mut Pieces<'_, '_>, text: &str) {
+    assert!(rt; item_is(pieces, text));
+    assert!(rt; pieces.next().is_none());
 }
 
 /// So does an iterator over its pieces.
 fn check_item(rt: &impl Abort, alloc: Global) -> Result<(), Fail> {
     let mut parser = Parser::new(alloc, "}}ab", None, None, false, ParseMode::InlineAsm)?;
-    let mut pieces = parser.pieces();
-    assert!(rt; matches!(pieces.next(), Some(Ok(Piece::Lit("}ab")))));
-    assert!(rt; pieces.next().is_none());
+    check_items(rt, &mut parser.pieces(), "}ab");
     Ok(())
+}
+
+/// Nothing was read.
+fn check_empty(rt: &impl Abort, pieces: &[Piece<'_>], parser: &Parser<'_>) {
+    assert!(rt; pieces.is_empty());
+    assert!(rt; parser.errors().is_empty());
 }
 
 /// Nothing is read of nothing.
 fn check_nothing(rt: &impl Abort, alloc: Global) -> Result<(), Fail> {
-    let (pieces, parser) = read_all(alloc, "", None, None, false, ParseMode::Diagnostic)?;
-    assert!(rt; pieces.is_empty() && parser.errors().is_empty());
+    let read = read_all(alloc, "", None, None, false, ParseMode::Diagnostic)?;
+    check_empty(rt, read.0.as_slice(), &read.1);
     Ok(())
 }
 
@@ -39,13 +81,20 @@ fn named() -> Argument<'static> {
     }
 }
 
-/// Values, their clones, and what is asked of them.
-fn check_values(rt: &impl Abort, alloc: Global) -> Result<(), Fail> {
-    let argument = named();
+/// What is asked of it, and its clone.
+fn check_argument(rt: &impl Abort, argument: &Argument<'static>) -> Result<(), Fail> {
     assert!(rt; argument.is_identifier());
     assert!(rt; argument.position.index().is_none());
-    assert!(rt; argument.clone()? == argument);
-    assert!(rt; Piece::Lit("a").clone(alloc)? == Piece::Lit("a"));
+    let copy = argument.clone()?;
+    assert!(rt; copy == *argument);
+    Ok(())
+}
+
+/// Values, their clones, and what is asked of them.
+fn check_values(rt: &impl Abort, alloc: Global) -> Result<(), Fail> {
+    check_argument(rt, &named())?;
+    let copy = Piece::Lit("a").clone(alloc)?;
+    assert!(rt; copy == Piece::Lit("a"));
     assert!(rt; is_source_literal("a", None, "\"\\x61\"", false));
     Ok(())
 }

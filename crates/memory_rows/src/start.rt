@@ -5,7 +5,6 @@ use crate::rows::Row;
 use crate::sheet::Sheet;
 use rustc_parse_format::Parser;
 use std::alloc::{AllocError, Global};
-use std::fmt;
 use std::fmt::Write;
 use std::io::Print;
 use std::process::Abort;
@@ -32,16 +31,6 @@ pub fn start(rt: &(impl Abort + Print), alloc: Global, row: Row) -> Result<Parse
     let snippet = snippet_again(rt, alloc, row)?;
     assert!(rt; row.input.len() < 10000 && row.style.unwrap_or(0) < 10000);
     Ok(Parser::new(alloc, row.input, row.style, snippet, false, row.mode)?)
-}
-
-/// What the row says.
-fn wanted(row: Row) -> Result<Sheet, fmt::Error> {
-    let mut out = Sheet::new();
-    for line in row.lines {
-        out.write_str(line)?;
-        out.write_str("\n")?;
-    }
-    Ok(out)
 }
 
 /// A parser shows the same again.
@@ -77,16 +66,15 @@ pub fn put_taken(rt: &impl Abort, parser: &mut Parser<'_>, out: &mut Sheet) -> R
 pub fn check_row(
     rt: &impl Abort,
     row: Row,
-    mut out: Sheet,
+    out: &mut Sheet,
     taken: &Sheet,
     parser: &mut Parser<'_>,
 ) -> Result<(), Fail> {
     check_end(rt, parser)?;
-    put_number(&mut out, parser)?;
-    put_taken(rt, parser, &mut out)?;
-    put_kept(&mut out, parser)?;
-    let wanted = wanted(row)?;
-    let (front, back) = wanted.text().split_once(taken.text()).unwrap_or(("", ""));
+    put_number(out, parser)?;
+    put_taken(rt, parser, out)?;
+    put_kept(out, parser)?;
+    let (front, back) = row.lines.split_once(taken.text()).unwrap_or(("", ""));
     assert_eq!(rt; out.text().strip_prefix(front), Some(back));
     Ok(())
 }

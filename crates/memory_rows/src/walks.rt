@@ -1,7 +1,7 @@
 //! Calls one after the other, each made again where it is refused memory.
 
 use crate::listing::{put_piece, shown};
-use crate::rows::{ROWS, Row};
+use crate::rows::{Row, rows};
 use crate::sheet::Sheet;
 use crate::spare::{check_spare, touch};
 use crate::start::{check_row, check_shown, put_taken, start};
@@ -87,23 +87,49 @@ fn call_again<'input>(
     second_call(rt, parser, way)
 }
 
-/// Reads a row up to the first call without a piece.
-fn walk(rt: &(impl Abort + Print), alloc: Global, row: Row, way: Way) -> Result<(), Fail> {
-    let mut parser = start(rt, alloc, row)?;
-    let mut out = Sheet::new();
-    let mut taken = Sheet::new();
-    for _ in 0..row.input.len() {
-        match call_again(rt, alloc, &mut parser, way, &mut taken)? {
-            Some(piece) => put_piece(&mut out, &piece)?,
+/// Adds so many pieces at most, up to the first call without one.
+fn put_pieces(
+    rt: &(impl Abort + Print),
+    alloc: Global,
+    parser: &mut Parser<'_>,
+    way: Way,
+    most: usize,
+    out: &mut Sheet,
+    taken: &mut Sheet,
+) -> Result<(), Fail> {
+    for _ in 0..most {
+        match call_again(rt, alloc, parser, way, taken)? {
+            Some(piece) => put_piece(out, &piece)?,
             None => break,
         }
     }
-    check_row(rt, row, out, &taken, &mut parser)
+    Ok(())
+}
+
+/// Reads a row from its start, by this parser.
+fn walk_from(
+    rt: &(impl Abort + Print),
+    alloc: Global,
+    row: Row,
+    way: Way,
+    parser: &mut Parser<'_>,
+) -> Result<(), Fail> {
+    let mut out = Sheet::new();
+    let mut taken = Sheet::new();
+    let most = row.input.len();
+    put_pieces(rt, alloc, parser, way, most, &mut out, &mut taken)?;
+    check_row(rt, row, &mut out, &taken, parser)
+}
+
+/// Reads a row up to the first call without a piece.
+fn walk(rt: &(impl Abort + Print), alloc: Global, row: Row, way: Way) -> Result<(), Fail> {
+    let mut parser = start(rt, alloc, row)?;
+    walk_from(rt, alloc, row, way, &mut parser)
 }
 
 /// Reads each row.
 fn walk_all(rt: &(impl Abort + Print), alloc: Global, way: Way) -> Result<(), Fail> {
-    for row in ROWS {
+    for row in rows() {
         walk(rt, alloc, *row, way)?;
     }
     Ok(())

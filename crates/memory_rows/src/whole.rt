@@ -1,12 +1,13 @@
 //! All pieces at once.
 
 use crate::listing::put_piece;
-use crate::rows::{ROWS, Row};
+use crate::rows::{Row, rows};
 use crate::sheet::Sheet;
 use crate::spare::check_spare;
 use crate::start::{check_row, snippet_again};
 use rustc_parse_format::{Parser, Piece, read_all};
 use std::alloc::{AllocError, Global};
+use std::fmt;
 use std::io::Print;
 use std::process::Abort;
 use std::test::Fail;
@@ -24,32 +25,54 @@ fn read(
     read_all(alloc, row.input, row.style, snippet, false, row.mode)
 }
 
-/// Reads a row, and once more where that is refused memory.
-pub fn read_again(rt: &(impl Abort + Print), alloc: Global, row: Row) -> Result<Read, Fail> {
+/// Reads a row, which may be refused memory.
+fn try_read(
+    rt: &(impl Abort + Print),
+    alloc: Global,
+    row: Row,
+) -> Result<Result<Read, AllocError>, Fail> {
     check_spare(rt, alloc)?;
     let snippet = snippet_again(rt, alloc, row)?;
-    if let Ok(read) = read(rt, alloc, row, snippet) {
+    Ok(read(rt, alloc, row, snippet))
+}
+
+/// Reads a row, and once more where that is refused memory.
+pub fn read_again(rt: &(impl Abort + Print), alloc: Global, row: Row) -> Result<Read, Fail> {
+    if let Ok(read) = try_read(rt, alloc, row)? {
         return Ok(read);
     }
     println!(rt; "refused")?;
-    check_spare(rt, alloc)?;
-    let snippet = snippet_again(rt, alloc, row)?;
-    Ok(read(rt, alloc, row, snippet)?)
+    Ok(try_read(rt, alloc, row)??)
+}
+
+fn put_pieces(out: &mut Sheet, pieces: &[Piece<'_>]) -> fmt::Result {
+    for piece in pieces {
+        put_piece(out, piece)?;
+    }
+    Ok(())
+}
+
+/// These pieces, and the parser after them, are what the row says.
+fn check_parts(
+    rt: &impl Abort,
+    row: Row,
+    pieces: &[Piece<'_>],
+    parser: &mut Parser<'_>,
+) -> Result<(), Fail> {
+    let mut out = Sheet::new();
+    put_pieces(&mut out, pieces)?;
+    check_row(rt, row, &mut out, &Sheet::new(), parser)
 }
 
 /// What is read of a row is what it says.
 fn check_read(rt: &(impl Abort + Print), alloc: Global, row: Row) -> Result<(), Fail> {
     let (pieces, mut parser) = read_again(rt, alloc, row)?;
-    let mut out = Sheet::new();
-    for piece in &pieces {
-        put_piece(&mut out, piece)?;
-    }
-    check_row(rt, row, out, &Sheet::new(), &mut parser)
+    check_parts(rt, row, pieces.as_slice(), &mut parser)
 }
 
 #[test]
 fn read_all_out_of_memory_is_called_again(rt: HostRuntime) -> Result<(), Fail> {
-    for row in ROWS {
+    for row in rows() {
         check_read(&rt, rt.alloc(), *row)?;
     }
     Ok(())

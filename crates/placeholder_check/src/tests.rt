@@ -1,7 +1,7 @@
 //! Reports on texts: worked rows, refused memory, and many uses.
 
 use super::{Report, check, read_and_check};
-use rustc_parse_format::{ParseMode, Piece, read_all};
+use rustc_parse_format::{ParseMode, Parser, Piece, read_all};
 use std::alloc::{AllocError, Global};
 use std::io::Print;
 use std::process::Abort;
@@ -30,28 +30,24 @@ const COUNTS: Row = Row {
     unused_name: &[],
 };
 
+/// The first list of a report that is not the row's, if there is one.
+fn differing(report: &Report<'_>, row: Row) -> &'static str {
+    if report.missing_index.as_slice() != row.missing_index {
+        "missing_index"
+    } else if report.missing_name.as_slice() != row.missing_name {
+        "missing_name"
+    } else if report.unused_index.as_slice() != row.unused_index {
+        "unused_index"
+    } else if report.unused_name.as_slice() != row.unused_name {
+        "unused_name"
+    } else {
+        ""
+    }
+}
+
 /// The report is that of the row.
 fn check_report(rt: &impl Abort, report: &Report<'_>, row: Row) {
-    assert!(rt;
-        report.missing_index.as_slice() == row.missing_index,
-        "at {}",
-        row.input
-    );
-    assert!(rt;
-        report.missing_name.as_slice() == row.missing_name,
-        "at {}",
-        row.input
-    );
-    assert!(rt;
-        report.unused_index.as_slice() == row.unused_index,
-        "at {}",
-        row.input
-    );
-    assert!(rt;
-        report.unused_name.as_slice() == row.unused_name,
-        "at {}",
-        row.input
-    );
+    assert_eq!(rt; differing(report, row), "", "at {}", row.input);
 }
 
 /// The pieces of a text.
@@ -63,118 +59,139 @@ fn pieces_of(alloc: Global, input: &'static str) -> Result<Vec<Piece<'static>>, 
 /// What the pieces of a text give is that of the row.
 fn check_row(rt: &impl Abort, alloc: Global, row: Row) -> Result<(), Fail> {
     let pieces = pieces_of(alloc, row.input)?;
-    check_report(rt, &check(alloc, &pieces, row.positional, row.names)?, row);
+    let report = check(alloc, pieces.as_slice(), row.positional, row.names)?;
+    check_report(rt, &report, row);
     Ok(())
 }
+
+/// Each of these rows is so.
+fn check_rows(rt: &impl Abort, alloc: Global, rows: &[Row]) -> Result<(), Fail> {
+    for row in rows {
+        check_row(rt, alloc, *row)?;
+    }
+    Ok(())
+}
+
+const ON_NUMBERS: &[Row] = &[
+    Row {
+        input: "{2}{}{}{2}",
+        positional: 2,
+        names: &[],
+        missing_index: &[2],
+        missing_name: &[],
+        unused_index: &[],
+        unused_name: &[],
+    },
+    Row {
+        input: "{65535}",
+        positional: 0,
+        names: &[],
+        missing_index: &[65535],
+        missing_name: &[],
+        unused_index: &[],
+        unused_name: &[],
+    },
+    Row {
+        input: "{:1$}{q:0$}",
+        positional: 3,
+        names: &["q"],
+        missing_index: &[],
+        missing_name: &[],
+        unused_index: &[2],
+        unused_name: &[],
+    },
+    Row {
+        input: "{7}{3}{5}{3}",
+        positional: 4,
+        names: &["a"],
+        missing_index: &[5, 7],
+        missing_name: &[],
+        unused_index: &[0, 1, 2],
+        unused_name: &["a"],
+    },
+];
 
 #[test]
 fn numbers_are_reported(rt: HostRuntime) -> Result<(), Fail> {
-    let rows = [
-        Row {
-            input: "{2}{}{}{2}",
-            positional: 2,
-            names: &[],
-            missing_index: &[2],
-            missing_name: &[],
-            unused_index: &[],
-            unused_name: &[],
-        },
-        Row {
-            input: "{65535}",
-            positional: 0,
-            names: &[],
-            missing_index: &[65535],
-            missing_name: &[],
-            unused_index: &[],
-            unused_name: &[],
-        },
-        Row {
-            input: "{:1$}{q:0$}",
-            positional: 3,
-            names: &["q"],
-            missing_index: &[],
-            missing_name: &[],
-            unused_index: &[2],
-            unused_name: &[],
-        },
-        Row {
-            input: "{7}{3}{5}{3}",
-            positional: 4,
-            names: &["a"],
-            missing_index: &[5, 7],
-            missing_name: &[],
-            unused_index: &[0, 1, 2],
-            unused_name: &["a"],
-        },
-    ];
-    for row in rows {
-        check_row(&rt, rt.alloc(), row)?;
-    }
-    Ok(())
+    check_rows(&rt, rt.alloc(), ON_NUMBERS)
 }
+
+const ON_NAMES: &[Row] = &[
+    COUNTS,
+    Row {
+        input: "",
+        positional: 2,
+        names: &["a", "b", "a"],
+        missing_index: &[],
+        missing_name: &[],
+        unused_index: &[0, 1],
+        unused_name: &["a", "b"],
+    },
+    Row {
+        input: "{foo.}{}",
+        positional: 1,
+        names: &[],
+        missing_index: &[1],
+        missing_name: &["foo"],
+        unused_index: &[0],
+        unused_name: &[],
+    },
+    Row {
+        input: "{z:b$}{a}{z}{c:.a$}",
+        positional: 0,
+        names: &["y", "c", "x", "y"],
+        missing_index: &[],
+        missing_name: &["z", "b", "a"],
+        unused_index: &[],
+        unused_name: &["y", "x"],
+    },
+];
 
 #[test]
 fn names_are_reported(rt: HostRuntime) -> Result<(), Fail> {
-    let rows = [
-        COUNTS,
-        Row {
-            input: "",
-            positional: 2,
-            names: &["a", "b", "a"],
-            missing_index: &[],
-            missing_name: &[],
-            unused_index: &[0, 1],
-            unused_name: &["a", "b"],
-        },
-        Row {
-            input: "{foo.}{}",
-            positional: 1,
-            names: &[],
-            missing_index: &[1],
-            missing_name: &["foo"],
-            unused_index: &[0],
-            unused_name: &[],
-        },
-        Row {
-            input: "{z:b$}{a}{z}{c:.a$}",
-            positional: 0,
-            names: &["y", "c", "x", "y"],
-            missing_index: &[],
-            missing_name: &["z", "b", "a"],
-            unused_index: &[],
-            unused_name: &["y", "x"],
-        },
-    ];
-    for row in rows {
-        check_row(&rt, rt.alloc(), row)?;
-    }
-    Ok(())
+    check_rows(&rt, rt.alloc(), ON_NAMES)
+}
+
+/// What was read of the row: two pieces, no error, and the report.
+fn check_read(
+    rt: &impl Abort,
+    read: &(Vec<Piece<'static>>, Parser<'static>, Report<'static>),
+    row: Row,
+) {
+    assert!(rt; read.0.len() == 2);
+    assert!(rt; read.1.errors().is_empty());
+    check_report(rt, &read.2, row);
 }
 
 #[test]
 fn reads_and_checks(rt: HostRuntime) -> Result<(), Fail> {
-    let (pieces, parser, report) = read_and_check(
+    let row = COUNTS;
+    let mode = ParseMode::Format;
+    let read = read_and_check(
         rt.alloc(),
-        COUNTS.input,
+        row.input,
         None,
         None,
         false,
-        ParseMode::Format,
-        COUNTS.positional,
-        COUNTS.names,
+        mode,
+        row.positional,
+        row.names,
     )?;
-    assert!(rt; pieces.len() == 2);
-    assert!(rt; parser.errors().is_empty());
-    check_report(&rt, &report, COUNTS);
+    check_read(&rt, &read, row);
     Ok(())
+}
+
+/// Whether the report on a text is refused where so many arguments are given by position.
+fn is_refused(alloc: Global, input: &'static str, positional: usize) -> Result<bool, AllocError> {
+    let pieces = pieces_of(alloc, input)?;
+    Ok(check(alloc, pieces.as_slice(), positional, &[]).is_err())
 }
 
 /// No memory holds so many numbers, so they are refused at once.
 #[test]
 fn greatest_positional_is_refused(rt: HostRuntime) -> Result<(), Fail> {
-    let pieces = pieces_of(rt.alloc(), "{}")?;
-    assert!(rt; check(rt.alloc(), &pieces, usize::MAX, &[]).is_err());
-    assert!(rt; check(rt.alloc(), &pieces, usize::MAX / 8, &[]).is_err());
+    assert!(rt; is_refused(rt.alloc(), "{}", usize::MAX)?);
+    assert!(rt; is_refused(rt.alloc(), "{}", usize::MAX / 8)?);
     Ok(())
 }
 

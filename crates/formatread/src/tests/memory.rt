@@ -21,7 +21,7 @@ struct Row {
     told: bool,
 }
 
-const ROWS: [Row; 10] = [
+const ROWS: &[Row] = &[
     Row {
         words: &["format"],
         input: b"hi {name}{}",
@@ -171,7 +171,7 @@ fn check_row(rt: &(impl Abort + Print), alloc: Global, row: Row) -> Result<(), F
 #[test]
 fn run_out_of_memory_writes_nothing(rt: HostRuntime) -> Result<(), Fail> {
     for row in ROWS {
-        check_row(&rt, rt.alloc(), row)?;
+        check_row(&rt, rt.alloc(), *row)?;
     }
     Ok(())
 }
