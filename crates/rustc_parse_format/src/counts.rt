@@ -35,11 +35,11 @@ fn note_number<'input>(
     }) }
     ensures err { OnErr result (reader.new.source ≡ reader.old.source) }
 {
-    if over {
-        let fault = Fault::TooLarge(digits, start..reader.cursor.stop());
-        reader.found.push(fault)?;
+    if !over {
+        return Ok(());
     }
-    Ok(())
+    let fault = Fault::TooLarge(digits, start..reader.stop());
+    reader.note(fault)
 }
 
 /// Reads the integer at the front, where there is one: its number modulo 65536. One above 65535 is a fault.
@@ -52,7 +52,7 @@ pub fn integer<'input, L: Ledger>(
     ensures err { OnErr result (reader.new.source ≡ reader.old.source) }
     ensures steps { OnOk result (Forward reader.old.rest trail.old reader.new.rest trail.new) }
 {
-    let start = reader.cursor.start();
+    let start = reader.start();
     let (digits, number, over) = reader.cursor.number(trail);
     note_number(reader, digits, over, start)?;
     Ok(number)
@@ -141,11 +141,11 @@ fn spanned_count<'input, L: Ledger>(
     ensures err { OnErr result (reader.new.source ≡ reader.old.source) }
     ensures steps { OnOk result (Paid reader.old.rest trail.old reader.new.rest trail.new) }
 {
-    let start = reader.cursor.start();
+    let start = reader.start();
     let count = count(reader, trail)?;
     let span = match count {
         Count::CountImplied => None,
-        _ => Some(start..reader.cursor.start()),
+        _ => Some(start..reader.start()),
     };
     Ok((count, span))
 }
@@ -237,16 +237,13 @@ pub fn precision<'input, L: Ledger>(
     if !reader.cursor.is_next('.') {
         return Ok((Count::CountImplied, None));
     }
-    let start = reader.cursor.start();
-    reader.cursor.advance(trail);
+    let start = reader.start();
+    reader.advance(trail);
     if reader.cursor.is_next('*') {
         let number = reader.take_number();
-        reader.cursor.advance(trail);
-        return Ok((
-            Count::CountIsStar(number),
-            Some(start..reader.cursor.start()),
-        ));
+        reader.advance(trail);
+        return Ok((Count::CountIsStar(number), Some(start..reader.start())));
     }
     let count = count(reader, trail)?;
-    Ok((count, Some(start..reader.cursor.start())))
+    Ok((count, Some(start..reader.start())))
 }

@@ -54,12 +54,12 @@ fn take_sign<'input, L: Ledger>(
     ensures err { OnErr result (reader.new.source ≡ reader.old.source) }
     ensures steps { OnOk result (Forward reader.old.rest trail.old reader.new.rest trail.new) }
 {
-    let span = reader.cursor.start()..reader.cursor.stop();
-    if let Some(fault) = sign_fault(sign, next, span, opening) {
-        reader.cursor.advance(trail);
-        reader.found.push(fault)?;
-    }
-    Ok(())
+    let span = reader.start()..reader.stop();
+    let Some(fault) = sign_fault(sign, next, span, opening) else {
+        return Ok(());
+    };
+    reader.advance(trail);
+    reader.note(fault)
 }
 
 /// Takes the `?` at the front, and a colon with a word where they follow.
@@ -72,13 +72,13 @@ fn late_debug<'input, L: Ledger>(
     ensures err { OnErr result (reader.new.source ≡ reader.old.source) }
     ensures steps { OnOk result (Forward reader.old.rest trail.old reader.new.rest trail.new) }
 {
-    let span = reader.cursor.start()..reader.cursor.stop();
-    reader.cursor.advance(trail);
-    if reader.cursor.take_char(':', trail) {
-        let word = word(reader, trail)?;
-        reader.found.push(Fault::LateDebug(word, span))?;
+    let span = reader.start()..reader.stop();
+    reader.advance(trail);
+    if !reader.cursor.take_char(':', trail) {
+        return Ok(());
     }
-    Ok(())
+    let word = word(reader, trail)?;
+    reader.note(Fault::LateDebug(word, span))
 }
 
 /// Notes a field with this position, which a brace closes.

@@ -108,9 +108,9 @@ fn spanned_word<'input, L: Ledger>(
     if !reader.cursor.starts_word() {
         return Ok(("", None));
     }
-    let start = reader.cursor.start();
+    let start = reader.start();
     let word = word(reader, trail)?;
-    Ok((word, Some(start..reader.cursor.start())))
+    Ok((word, Some(start..reader.start())))
 }
 
 /// A type, the case of its hexadecimal digits, and where it stands if it is a word.
@@ -171,12 +171,12 @@ fn note_flag(reader: &mut Reader<'_>, start: usize) -> Result<(), AllocError>
     let Some(flag) = reader.cursor.peek() else {
         return Ok(());
     };
-    if matches!(flag, '#' | 'x' | 'X') {
-        let (from, to) = (reader.cursor.start(), reader.cursor.stop());
-        let fault = Fault::LateFlag(flag, from..to, start..to);
-        reader.found.push(fault)?;
+    if !matches!(flag, '#' | 'x' | 'X') {
+        return Ok(());
     }
-    Ok(())
+    let (from, to) = (reader.start(), reader.stop());
+    let fault = Fault::LateFlag(flag, from..to, start..to);
+    reader.note(fault)
 }
 
 /// Reads the type `?` at the front, and notes a flag after it, which is left.
@@ -188,8 +188,8 @@ fn debug_type<'input, L: Ledger>(
     ensures err { OnErr result (reader.new.source ≡ reader.old.source) }
     ensures steps { OnOk result (Forward reader.old.rest trail.old reader.new.rest trail.new) }
 {
-    let start = reader.cursor.start();
-    reader.cursor.advance(trail);
+    let start = reader.start();
+    reader.advance(trail);
     note_flag(reader, start)
 }
 
@@ -301,7 +301,7 @@ fn note_text<'input>(
     ensures err { OnErr result (reader.new.source ≡ reader.old.source) }
 {
     if wants_names(mode) && first(text).is_some() {
-        reader.found.push(Fault::TextAfterColon(span))?;
+        return reader.note(Fault::TextAfterColon(span));
     }
     Ok(())
 }
@@ -325,10 +325,10 @@ fn diagnostic_text<'input, L: Ledger>(
     ensures err { OnErr result (reader.new.source ≡ reader.old.source) }
     ensures steps { OnOk result (Forward reader.old.rest trail.old reader.new.rest trail.new) }
 {
-    let start = reader.cursor.start();
-    reader.cursor.advance(trail);
+    let start = reader.start();
+    reader.advance(trail);
     let ty = reader.take_text(trail)?;
-    let end = reader.cursor.start();
+    let end = reader.start();
     note_text(mode, ty, start..end, reader)?;
     *format = FormatSpec {
         ty,
