@@ -127,7 +127,7 @@ impl<'input> Reader<'input> {
     /// Notes a fault.
     pub fn note(&mut self, fault: Fault<'input>) -> Result<(), AllocError>
         ensures state { OnOk result (self.new ≡ record self.old { faults = self.old.faults ++ seen_fault fault.entry ∷ [] }) }
-        ensures err { OnErr result (self.new.source ≡ self.old.source) }
+        ensures source { self.new.source ≡ self.old.source }
     {
         self.found.push(fault)?;
         Ok(())
