@@ -40,9 +40,9 @@ fn errors_of(
     let mut front = Vec::new(alloc);
     let mut back = Vec::new(alloc);
     for fault in found {
-        let is_front = fault.is_front();
+        let goes_first = fault.is_front();
         let error = error_of(alloc, fault)?;
-        if is_front {
+        if goes_first {
             front.push(error)?;
         } else {
             back.push(error)?;
