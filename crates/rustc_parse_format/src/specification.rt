@@ -12,13 +12,12 @@ ghost use Rattle.rustc_parse_format.specs.Midway.{read_run, read_texts, read_to}
 ghost use Rattle.rustc_parse_format.specs.Steps.{Forward, IsFurthest, IsInWord, Paid};
 ghost use Rattle.rustc_parse_format.specs.Types.{default_spec, map_spec};
 ghost use Rattle.rustc_parse_format.specs.Values.{debug_hex_of, number_after_precision, number_after_spec, type_of};
-ghost use Rattle.rustc_parse_format.specs.World.{Place, number_of, place_of};
+ghost use Rattle.rustc_parse_format.specs.World.{number_of, place_of};
 
 use crate::characters::first;
 use crate::counts::{precision, width, word};
 use crate::cursor::{Cursor, Trail};
 use crate::faults::Fault;
-use crate::laws::default_of_spec;
 use crate::reader::Reader;
 use crate::types::{Alignment, DebugHex, FormatSpec, ParseMode, Sign, wants_names};
 use std::alloc::AllocError;
@@ -265,13 +264,13 @@ fn format_text<'input, L: Ledger>(
     Ok(())
 }
 
-/// Reads the modifier of inline assembly at the front into the place of a specification.
+/// Reads the modifier of inline assembly at the front into the place of a default specification.
 fn modifier<'input, L: Ledger>(
     format: &mut FormatSpec<'input>,
     reader: &mut Reader<'input>,
     trail: &mut Trail<'input, L>,
 ) -> Result<(), AllocError>
-    ensures value { OnOk result (seen_spec format.new ≡ record (default_spec {A = Place}) {
+    ensures value { OnOk result (seen_spec format.new ≡ record (seen_spec format.old) {
       ty = word reader.old.rest;
       ty_span = option_map (place_of reader.old.world) (word_span reader.old.rest (word reader.old.rest) (behind_word reader.old.rest));
     }) }
@@ -280,11 +279,8 @@ fn modifier<'input, L: Ledger>(
     ensures steps { OnOk result (Forward reader.old.rest trail.old reader.new.rest trail.new) }
 {
     let (ty, ty_span) = spanned_word(reader, trail)?;
-    *format = FormatSpec {
-        ty,
-        ty_span,
-        ..default_of_spec()
-    };
+    format.ty = ty;
+    format.ty_span = ty_span;
     Ok(())
 }
 
@@ -306,14 +302,14 @@ fn note_text<'input>(
     Ok(())
 }
 
-/// Reads a colon and the text of a diagnostic, whose span takes in the colon, into the place of a specification.
+/// Reads a colon and the text of a diagnostic, whose span takes in the colon, into the place of a default specification.
 fn diagnostic_text<'input, L: Ledger>(
     mode: ParseMode,
     format: &mut FormatSpec<'input>,
     reader: &mut Reader<'input>,
     trail: &mut Trail<'input, L>,
 ) -> Result<(), AllocError>
-    ensures value { OnOk result (seen_spec format.new ≡ record (default_spec {A = Place}) {
+    ensures value { OnOk result (seen_spec format.new ≡ record (seen_spec format.old) {
       ty = front is_no_brace (behind_first reader.old.rest);
       ty_span = Some (place_of reader.old.world (up_to reader.old.rest (behind is_no_brace (behind_first reader.old.rest))));
     }) }
@@ -329,13 +325,9 @@ fn diagnostic_text<'input, L: Ledger>(
     reader.advance(trail);
     let ty = reader.take_text(trail)?;
     let end = reader.start();
-    note_text(mode, ty, start..end, reader)?;
-    *format = FormatSpec {
-        ty,
-        ty_span: Some(start..end),
-        ..default_of_spec()
-    };
-    Ok(())
+    format.ty = ty;
+    format.ty_span = Some(start..end);
+    note_text(mode, ty, start..end, reader)
 }
 
 /// Reads the specification at the front into the place of a default one: a colon and what the mode has after it, or nothing.
