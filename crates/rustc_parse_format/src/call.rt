@@ -60,9 +60,8 @@ fn note_missing<'input>(
     ensures err { OnErr result (reader.new.source ≡ reader.old.source) }
 {
     let fill = brace_fill(&argument.format);
-    let fault = no_brace(fill, reader.cursor.peek(), reader.cursor.start(), opening);
-    reader.found.push(fault)?;
-    Ok(())
+    let fault = no_brace(fill, reader.cursor.peek(), reader.start(), opening);
+    reader.note(fault)
 }
 
 /// Moves over the closing brace of the placeholder that starts at a byte. In a source literal it has its place.
@@ -193,6 +192,6 @@ pub fn read_piece<'input, L: Ledger>(
         return Ok(Some(piece));
     }
     let span = reader.cursor.take_place(trail);
-    reader.found.push(Fault::UnmatchedBrace(span))?;
+    reader.note(Fault::UnmatchedBrace(span))?;
     Ok(None)
 }

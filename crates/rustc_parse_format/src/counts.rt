@@ -1,9 +1,9 @@
 //! Integers, words and counts, and the sizes of a format specification that are made of them: its width and its precision.
 
-ghost use Rattle.std.specs.Prelude.{[], ◌+◌, ◌++◌, ◌<◌, ◌^◌, ◌∷◌, ◌≡◌, chars, IfOk, if◌then◌else◌, length, OnErr, OnOk, option_map};
+ghost use Rattle.std.specs.Prelude.{[], ◌+◌, ◌++◌, ◌<◌, ◌^◌, ◌∷◌, ◌≡◌, bytes_eq, chars, codes, IfOk, if◌then◌else◌, length, OnErr, OnOk, option_map};
 ghost use Rattle.rustc_parse_format.specs.Characters.{behind_digits, behind_word, digits, number, word};
 ghost use Rattle.rustc_parse_format.specs.Counts.{behind_name, count, precision, width};
-ghost use Rattle.rustc_parse_format.specs.Faults.{TooLarge};
+ghost use Rattle.rustc_parse_format.specs.Faults.{TooLarge, Underscore};
 ghost use Rattle.rustc_parse_format.specs.Marks.{End};
 ghost use Rattle.rustc_parse_format.specs.Meaning.{count_of, count_span, precision_of, precision_span, width_of, width_span};
 ghost use Rattle.rustc_parse_format.specs.PartFaults.{argument_faults, number_faults, precision_faults, width_faults, word_faults};
@@ -14,8 +14,9 @@ ghost use Rattle.rustc_parse_format.specs.Types.{map_count};
 ghost use Rattle.rustc_parse_format.specs.Values.{is_padded, number_after_precision};
 ghost use Rattle.rustc_parse_format.specs.World.{number_of, place_of};
 
+use crate::characters::is_underscore;
 use crate::cursor::Trail;
-use crate::faults::{Fault, note_word};
+use crate::faults::Fault;
 use crate::reader::Reader;
 use crate::types::Count;
 use std::alloc::AllocError;
@@ -35,9 +36,22 @@ fn note_number<'input>(
     }) }
     ensures err { OnErr result (reader.new.source ≡ reader.old.source) }
 {
-    if over {
-        let fault = Fault::TooLarge(digits, start..reader.cursor.stop());
-        reader.found.push(fault)?;
+    if !over {
+        return Ok(());
+    }
+    let fault = Fault::TooLarge(digits, start..reader.stop());
+    reader.note(fault)
+}
+
+/// Notes a word that is `_`.
+fn note_word(reader: &mut Reader<'_>, word: &str, span: Range<usize>) -> Result<(), AllocError>
+    ensures state { OnOk result (reader.new ≡ record reader.old {
+      faults = reader.old.faults ++ (if bytes_eq (chars word.now) (codes "_") then Underscore (pair span) ∷ [] else []);
+    }) }
+    ensures err { OnErr result (reader.new.source ≡ reader.old.source) }
+{
+    if is_underscore(word) {
+        return reader.note(Fault::Underscore(span));
     }
     Ok(())
 }
@@ -52,7 +66,7 @@ pub fn integer<'input, L: Ledger>(
     ensures err { OnErr result (reader.new.source ≡ reader.old.source) }
     ensures steps { OnOk result (Forward reader.old.rest trail.old reader.new.rest trail.new) }
 {
-    let start = reader.cursor.start();
+    let start = reader.start();
     let (digits, number, over) = reader.cursor.number(trail);
     note_number(reader, digits, over, start)?;
     Ok(number)
@@ -68,10 +82,10 @@ pub fn word<'input, L: Ledger>(
     ensures err { OnErr result (reader.new.source ≡ reader.old.source) }
     ensures steps { OnOk result (Forward reader.old.rest trail.old reader.new.rest trail.new) }
 {
-    let start = reader.cursor.start();
+    let start = reader.start();
     let word = reader.cursor.word(trail);
     reader.cursor.settle();
-    note_word(&mut reader.found, word, start..reader.cursor.start())?;
+    note_word(reader, word, start..reader.start())?;
     Ok(word)
 }
 
@@ -141,11 +155,11 @@ fn spanned_count<'input, L: Ledger>(
     ensures err { OnErr result (reader.new.source ≡ reader.old.source) }
     ensures steps { OnOk result (Paid reader.old.rest trail.old reader.new.rest trail.new) }
 {
-    let start = reader.cursor.start();
+    let start = reader.start();
     let count = count(reader, trail)?;
     let span = match count {
         Count::CountImplied => None,
-        _ => Some(start..reader.cursor.start()),
+        _ => Some(start..reader.start()),
     };
     Ok((count, span))
 }
@@ -237,16 +251,13 @@ pub fn precision<'input, L: Ledger>(
     if !reader.cursor.is_next('.') {
         return Ok((Count::CountImplied, None));
     }
-    let start = reader.cursor.start();
-    reader.cursor.advance(trail);
+    let start = reader.start();
+    reader.advance(trail);
     if reader.cursor.is_next('*') {
         let number = reader.take_number();
-        reader.cursor.advance(trail);
-        return Ok((
-            Count::CountIsStar(number),
-            Some(start..reader.cursor.start()),
-        ));
+        reader.advance(trail);
+        return Ok((Count::CountIsStar(number), Some(start..reader.start())));
     }
     let count = count(reader, trail)?;
-    Ok((count, Some(start..reader.cursor.start())))
+    Ok((count, Some(start..reader.start())))
 }

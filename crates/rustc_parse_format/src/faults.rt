@@ -1,12 +1,9 @@
 //! Faults as they are found.
 
-ghost use Rattle.std.specs.Prelude.{◌≡◌, ◌++◌, ◌∷◌, [], OnOk, bytes_eq, chars, codes, map, if◌then◌else◌};
-ghost use Rattle.rustc_parse_format.specs.Faults.{Underscore, is_front};
-ghost use Rattle.rustc_parse_format.specs.Seen.{pair};
+ghost use Rattle.std.specs.Prelude.{◌≡◌};
+ghost use Rattle.rustc_parse_format.specs.Faults.{is_front};
 ghost use Rattle.rustc_parse_format.specs.SeenFaults.{seen_fault};
 
-use crate::characters::is_underscore;
-use std::alloc::AllocError;
 use std::ops::Range;
 
 /// A fault, as plain data.
@@ -46,21 +43,6 @@ pub enum Fault<'input> {
     FieldAccess(Range<usize>),
     /// A field that is a number, with its argument.
     TupleIndex(Range<usize>),
-}
-
-/// Notes a word that is `_`.
-pub fn note_word<'input>(
-    found: &mut Vec<Fault<'input>>,
-    word: &str,
-    span: Range<usize>,
-) -> Result<(), AllocError>
-    ensures { OnOk result (map seen_fault found.new.items ≡ map seen_fault found.old.items
-        ++ (if bytes_eq (chars word.now) (codes "_") then Underscore (pair span) ∷ [] else [])) }
-{
-    if is_underscore(word) {
-        found.push(Fault::Underscore(span))?;
-    }
-    Ok(())
 }
 
 impl Fault<'_> {

@@ -40,10 +40,12 @@ fn errors_of(
     let mut front = Vec::new(alloc);
     let mut back = Vec::new(alloc);
     for fault in found {
-        if fault.is_front() {
-            front.push(error_of(alloc, fault)?)?;
+        let goes_first = fault.is_front();
+        let error = error_of(alloc, fault)?;
+        if goes_first {
+            front.push(error)?;
         } else {
-            back.push(error_of(alloc, fault)?)?;
+            back.push(error)?;
         }
     }
     Ok((front, back))

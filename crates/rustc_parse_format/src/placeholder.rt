@@ -36,13 +36,13 @@ fn raw_word<'input, L: Ledger>(
     ensures err { OnErr result (reader.new.source ≡ reader.old.source) }
     ensures steps { OnOk result (Forward reader.old.rest trail.old reader.new.rest trail.new) }
 {
-    let from = reader.cursor.start();
-    reader.cursor.advance(trail);
-    let prefix = from..reader.cursor.stop();
-    reader.cursor.advance(trail);
+    let from = reader.start();
+    reader.advance(trail);
+    let prefix = from..reader.stop();
+    reader.advance(trail);
     let word = word(reader, trail)?;
-    let span = from..reader.cursor.start();
-    reader.found.push(Fault::RawIdentifier(span, prefix))?;
+    let span = from..reader.start();
+    reader.note(Fault::RawIdentifier(span, prefix))?;
     Ok(word)
 }
 
@@ -86,7 +86,7 @@ fn note_unnamed<'input>(
     ensures err { OnErr result (reader.new.source ≡ reader.old.source) }
 {
     if wants_names(mode) && !matches!(given, Some(Position::ArgumentNamed(_))) {
-        reader.found.push(Fault::Unnamed(span))?;
+        return reader.note(Fault::Unnamed(span));
     }
     Ok(())
 }
@@ -110,10 +110,10 @@ fn spaced_position<'input, L: Ledger>(
     ensures err { OnErr result (reader.new.source ≡ reader.old.source) }
     ensures steps { OnOk result (Forward reader.old.rest trail.old reader.new.rest trail.new) }
 {
-    let start = reader.cursor.start();
+    let start = reader.start();
     let given = position(reader, trail)?;
     reader.cursor.skip_white(trail);
-    let end = reader.cursor.start();
+    let end = reader.start();
     *span = start..end;
     note_unnamed(mode, &given, start..end, reader)?;
     Ok(given)

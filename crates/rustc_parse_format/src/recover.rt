@@ -54,12 +54,12 @@ fn take_sign<'input, L: Ledger>(
     ensures err { OnErr result (reader.new.source ≡ reader.old.source) }
     ensures steps { OnOk result (Forward reader.old.rest trail.old reader.new.rest trail.new) }
 {
-    let span = reader.cursor.start()..reader.cursor.stop();
-    if let Some(fault) = sign_fault(sign, next, span, opening) {
-        reader.cursor.advance(trail);
-        reader.found.push(fault)?;
-    }
-    Ok(())
+    let span = reader.start()..reader.stop();
+    let Some(fault) = sign_fault(sign, next, span, opening) else {
+        return Ok(());
+    };
+    reader.advance(trail);
+    reader.note(fault)
 }
 
 /// Takes the `?` at the front, and a colon with a word where they follow.
@@ -72,30 +72,31 @@ fn late_debug<'input, L: Ledger>(
     ensures err { OnErr result (reader.new.source ≡ reader.old.source) }
     ensures steps { OnOk result (Forward reader.old.rest trail.old reader.new.rest trail.new) }
 {
-    let span = reader.cursor.start()..reader.cursor.stop();
-    reader.cursor.advance(trail);
-    if reader.cursor.take_char(':', trail) {
-        let word = word(reader, trail)?;
-        reader.found.push(Fault::LateDebug(word, span))?;
+    let span = reader.start()..reader.stop();
+    reader.advance(trail);
+    if !reader.cursor.take_char(':', trail) {
+        return Ok(());
     }
-    Ok(())
+    let word = word(reader, trail)?;
+    reader.note(Fault::LateDebug(word, span))
 }
 
 /// Notes a field with this position, which a brace closes.
-fn note_field<'input>(
-    found: &mut Vec<Fault<'input>>,
-    position: &Position<'input>,
+fn note_field(
+    position: &Position<'_>,
     span: Range<usize>,
+    reader: &mut Reader<'_>,
 ) -> Result<(), AllocError>
-    ensures { OnOk result (map seen_fault found.new.items
-        ≡ map seen_fault found.old.items ++ field_fault (seen_position position.now) (pair span)) }
+    ensures state { OnOk result (reader.new ≡ record reader.old {
+      faults = reader.old.faults ++ field_fault (seen_position position.now) (pair span);
+    }) }
+    ensures source { reader.new.source ≡ reader.old.source }
 {
     match position {
-        Position::ArgumentNamed(_) => found.push(Fault::FieldAccess(span))?,
-        Position::ArgumentIs(_) => found.push(Fault::TupleIndex(span))?,
-        Position::ArgumentImplicitlyIs(_) => {}
+        Position::ArgumentNamed(_) => reader.note(Fault::FieldAccess(span)),
+        Position::ArgumentIs(_) => reader.note(Fault::TupleIndex(span)),
+        Position::ArgumentImplicitlyIs(_) => Ok(()),
     }
-    Ok(())
 }
 
 /// Takes the `.` at the front, the field after it, and the brace that follows it at once. The argument starts at `from`.
@@ -119,7 +120,7 @@ fn field<'input, L: Ledger>(
     read_argument(mode, &mut field, reader, trail)?;
     let span = from..field.position_span.end;
     if reader.cursor.take_char('}', trail) {
-        note_field(&mut reader.found, &field.position, span)?;
+        note_field(&field.position, span, reader)?;
     }
     Ok(())
 }

@@ -12,13 +12,12 @@ ghost use Rattle.rustc_parse_format.specs.Midway.{read_run, read_texts, read_to}
 ghost use Rattle.rustc_parse_format.specs.Steps.{Forward, IsFurthest, IsInWord, Paid};
 ghost use Rattle.rustc_parse_format.specs.Types.{default_spec, map_spec};
 ghost use Rattle.rustc_parse_format.specs.Values.{debug_hex_of, number_after_precision, number_after_spec, type_of};
-ghost use Rattle.rustc_parse_format.specs.World.{Place, number_of, place_of};
+ghost use Rattle.rustc_parse_format.specs.World.{number_of, place_of};
 
 use crate::characters::first;
 use crate::counts::{precision, width, word};
 use crate::cursor::{Cursor, Trail};
 use crate::faults::Fault;
-use crate::laws::default_of_spec;
 use crate::reader::Reader;
 use crate::types::{Alignment, DebugHex, FormatSpec, ParseMode, Sign, wants_names};
 use std::alloc::AllocError;
@@ -108,9 +107,9 @@ fn spanned_word<'input, L: Ledger>(
     if !reader.cursor.starts_word() {
         return Ok(("", None));
     }
-    let start = reader.cursor.start();
+    let start = reader.start();
     let word = word(reader, trail)?;
-    Ok((word, Some(start..reader.cursor.start())))
+    Ok((word, Some(start..reader.start())))
 }
 
 /// A type, the case of its hexadecimal digits, and where it stands if it is a word.
@@ -171,12 +170,12 @@ fn note_flag(reader: &mut Reader<'_>, start: usize) -> Result<(), AllocError>
     let Some(flag) = reader.cursor.peek() else {
         return Ok(());
     };
-    if matches!(flag, '#' | 'x' | 'X') {
-        let (from, to) = (reader.cursor.start(), reader.cursor.stop());
-        let fault = Fault::LateFlag(flag, from..to, start..to);
-        reader.found.push(fault)?;
+    if !matches!(flag, '#' | 'x' | 'X') {
+        return Ok(());
     }
-    Ok(())
+    let (from, to) = (reader.start(), reader.stop());
+    let fault = Fault::LateFlag(flag, from..to, start..to);
+    reader.note(fault)
 }
 
 /// Reads the type `?` at the front, and notes a flag after it, which is left.
@@ -188,8 +187,8 @@ fn debug_type<'input, L: Ledger>(
     ensures err { OnErr result (reader.new.source ≡ reader.old.source) }
     ensures steps { OnOk result (Forward reader.old.rest trail.old reader.new.rest trail.new) }
 {
-    let start = reader.cursor.start();
-    reader.cursor.advance(trail);
+    let start = reader.start();
+    reader.advance(trail);
     note_flag(reader, start)
 }
 
@@ -265,13 +264,13 @@ fn format_text<'input, L: Ledger>(
     Ok(())
 }
 
-/// Reads the modifier of inline assembly at the front into the place of a specification.
+/// Reads the modifier of inline assembly at the front into the place of a default specification.
 fn modifier<'input, L: Ledger>(
     format: &mut FormatSpec<'input>,
     reader: &mut Reader<'input>,
     trail: &mut Trail<'input, L>,
 ) -> Result<(), AllocError>
-    ensures value { OnOk result (seen_spec format.new ≡ record (default_spec {A = Place}) {
+    ensures value { OnOk result (seen_spec format.new ≡ record (seen_spec format.old) {
       ty = word reader.old.rest;
       ty_span = option_map (place_of reader.old.world) (word_span reader.old.rest (word reader.old.rest) (behind_word reader.old.rest));
     }) }
@@ -280,11 +279,8 @@ fn modifier<'input, L: Ledger>(
     ensures steps { OnOk result (Forward reader.old.rest trail.old reader.new.rest trail.new) }
 {
     let (ty, ty_span) = spanned_word(reader, trail)?;
-    *format = FormatSpec {
-        ty,
-        ty_span,
-        ..default_of_spec()
-    };
+    format.ty = ty;
+    format.ty_span = ty_span;
     Ok(())
 }
 
@@ -301,19 +297,19 @@ fn note_text<'input>(
     ensures err { OnErr result (reader.new.source ≡ reader.old.source) }
 {
     if wants_names(mode) && first(text).is_some() {
-        reader.found.push(Fault::TextAfterColon(span))?;
+        return reader.note(Fault::TextAfterColon(span));
     }
     Ok(())
 }
 
-/// Reads a colon and the text of a diagnostic, whose span takes in the colon, into the place of a specification.
+/// Reads a colon and the text of a diagnostic, whose span takes in the colon, into the place of a default specification.
 fn diagnostic_text<'input, L: Ledger>(
     mode: ParseMode,
     format: &mut FormatSpec<'input>,
     reader: &mut Reader<'input>,
     trail: &mut Trail<'input, L>,
 ) -> Result<(), AllocError>
-    ensures value { OnOk result (seen_spec format.new ≡ record (default_spec {A = Place}) {
+    ensures value { OnOk result (seen_spec format.new ≡ record (seen_spec format.old) {
       ty = front is_no_brace (behind_first reader.old.rest);
       ty_span = Some (place_of reader.old.world (up_to reader.old.rest (behind is_no_brace (behind_first reader.old.rest))));
     }) }
@@ -325,17 +321,13 @@ fn diagnostic_text<'input, L: Ledger>(
     ensures err { OnErr result (reader.new.source ≡ reader.old.source) }
     ensures steps { OnOk result (Forward reader.old.rest trail.old reader.new.rest trail.new) }
 {
-    let start = reader.cursor.start();
-    reader.cursor.advance(trail);
+    let start = reader.start();
+    reader.advance(trail);
     let ty = reader.take_text(trail)?;
-    let end = reader.cursor.start();
-    note_text(mode, ty, start..end, reader)?;
-    *format = FormatSpec {
-        ty,
-        ty_span: Some(start..end),
-        ..default_of_spec()
-    };
-    Ok(())
+    let end = reader.start();
+    format.ty = ty;
+    format.ty_span = Some(start..end);
+    note_text(mode, ty, start..end, reader)
 }
 
 /// Reads the specification at the front into the place of a default one: a colon and what the mode has after it, or nothing.
