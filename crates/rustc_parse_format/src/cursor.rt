@@ -35,7 +35,7 @@ impl<'input> Cursor<'input> {
     ghost use Rattle.rustc_parse_format.specs.Classes.{passes};
     ghost use Rattle.rustc_parse_format.specs.Marks.{Start, End};
     ghost use Rattle.rustc_parse_format.specs.Seen.{pair};
-    ghost use Rattle.rustc_parse_format.specs.Midway.{IsPastIndent, unread_at};
+    ghost use Rattle.rustc_parse_format.specs.Midway.{IsPastIndent, opens_placeholder, unread_at};
     ghost use Rattle.rustc_parse_format.specs.SeenSource.{IsSpot};
     ghost use Rattle.rustc_parse_format.specs.State.{first_of};
     ghost use Rattle.rustc_parse_format.specs.Steps.{Forward};
@@ -254,6 +254,14 @@ impl<'input> Cursor<'input> {
         ensures { result ≡ begins_with c (behind_first self.now.rest) }
     {
         self.peek_ahead() == Some(c)
+    }
+
+    /// A placeholder opens here: an opening brace, and no other one behind it.
+    #[inline(always)]
+    pub fn opens_placeholder(&self) -> bool
+        ensures { result ≡ opens_placeholder self.now.rest }
+    {
+        self.is_next('{') && !self.goes_on_with('{')
     }
 
     /// The next character is a digit.
