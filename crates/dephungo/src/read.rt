@@ -17,7 +17,7 @@ use crate::flat::{extent, flag};
 use crate::records::{Answer, Extent, Fault, Spec, Step};
 use crate::task::Task;
 use crate::walk::{next_places, walk};
-use rustc_parse_format::{ParseMode, Parser};
+use rustc_parse_format::{Argument, FormatSpec, ParseMode, Parser, Position};
 use std::alloc::{AllocError, Global};
 use std::ops::Range;
 
@@ -111,6 +111,16 @@ fn guide_for<'a>(
     Ok(None)
 }
 
+/// An argument before anything is read into it.
+#[inline(always)]
+fn blank_argument<'a>() -> Argument<'a> {
+    Argument {
+        position: Position::ArgumentImplicitlyIs(0),
+        position_span: 0..0,
+        format: FormatSpec::default(),
+    }
+}
+
 /// Writes the lines, as far as there is room.
 fn put_lines(spans: &[Range<usize>], lines: &mut [Extent])
     ensures held { length spans.now ≤ length lines.old → map place (take (length spans.now) lines.new) ≡ map pair spans.now }
@@ -165,8 +175,10 @@ pub fn read(
     let (_, peek, peek_ahead) = next_places(&parser, input);
     let mut finders = Finders::new(alloc);
     let offset = offset_of(style);
+    let mut argument = blank_argument();
     let (count, used) = walk(
         &mut parser,
+        &mut argument,
         &mut guide,
         offset,
         input,

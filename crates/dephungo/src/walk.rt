@@ -3,7 +3,7 @@
 ghost use Rattle.std.specs.Prelude.{◌≡◌, ◌+◌, ◌<◌, ◌≤◌, ◌^◌, ◌++◌, [], List, Option, IfNone, IfOk, IfSome, OnOk, chars, drop, length, map, option_map, take};
 ghost use Rattle.rustc_parse_format.specs.Characters.{behind_first};
 ghost use Rattle.rustc_parse_format.specs.Lines.{listed};
-ghost use Rattle.rustc_parse_format.specs.Seen.{pair, seen};
+ghost use Rattle.rustc_parse_format.specs.Seen.{pair, seen_taken};
 ghost use Rattle.rustc_parse_format.specs.State.{after, next_call};
 ghost use Rattle.rustc_parse_format.specs.World.{Place};
 ghost use Rattle.dephungo.specs.declared.records.Step.{Step as StepRecord};
@@ -15,7 +15,7 @@ use crate::finders::Finders;
 use crate::flat::{NO_EXTENT, NOWHERE, put_piece, put_plain, there};
 use crate::records::{MaybeExtent, PIECE_NONE, POSITION_IMPLICIT, Spec, Step};
 use crate::texts::texts_of;
-use rustc_parse_format::{Parser, Piece};
+use rustc_parse_format::{Argument, Parser, Taken};
 use std::alloc::AllocError;
 use std::ops::Range;
 
@@ -77,17 +77,18 @@ fn put_guided(
     guide: &mut Parser<'_>,
     input: &str,
     read: usize,
-    given: &Option<Piece<'_>>,
+    given: &Option<Taken<'_>>,
+    argument: &Argument<'_>,
     specs: &mut [Spec],
     used: &mut usize,
     step: &mut Step,
 ) -> Result<(), AllocError>
     requires along { IsAlong guide.old input.now read }
     requires room { used.old < usize.MAX }
-    ensures told { OnOk result (StandsAlike input.now guide.old (option_map seen given.now) → used.new ≤ length specs.old
-        → piece_meant input.now (spec_at input.now specs.new step.new.spec) step.new ≡ option_map seen given.now) }
+    ensures told { OnOk result (StandsAlike input.now guide.old (option_map (seen_taken argument.now) given.now) → used.new ≤ length specs.old
+        → piece_meant input.now (spec_at input.now specs.new step.new.spec) step.new ≡ option_map (seen_taken argument.now) given.now) }
     ensures number { OnOk result (step.new.spec ≤ used.new) }
-    ensures used { OnOk result (used.new ≡ used.old + specs_in (option_map seen given.now)) }
+    ensures used { OnOk result (used.new ≡ used.old + specs_in (option_map (seen_taken argument.now) given.now)) }
     ensures front { OnOk result (take used.old specs.new ≡ take used.old specs.old) }
     ensures kept { OnOk result (drop used.new specs.new ≡ drop used.new specs.old) }
     ensures others { OnOk result (SameBehind step.old step.new) }
@@ -95,7 +96,7 @@ fn put_guided(
 {
     let same = guide.next()?;
     let texts = texts_of(input, 1, read, &same);
-    put_piece(given, &texts, specs, used, step);
+    put_piece(given, argument, &texts, specs, used, step);
     Ok(())
 }
 
@@ -106,18 +107,19 @@ fn put_given(
     input: &str,
     offset: usize,
     read: usize,
-    given: &Option<Piece<'_>>,
+    given: &Option<Taken<'_>>,
+    argument: &Argument<'_>,
     specs: &mut [Spec],
     used: &mut usize,
     step: &mut Step,
 ) -> Result<(), AllocError>
-    requires alone { IfNone (guide_of guide.old) (PieceStands input.now offset read (option_map seen given.now)) }
+    requires alone { IfNone (guide_of guide.old) (PieceStands input.now offset read (option_map (seen_taken argument.now) given.now)) }
     requires along { IfSome (guide_of guide.old) (λ g. IsAlong g input.now read) }
     requires room { used.old < usize.MAX }
-    ensures told { OnOk result (IfSome (guide_of guide.old) (λ g. StandsAlike input.now g (option_map seen given.now)) → used.new ≤ length specs.old
-        → piece_meant input.now (spec_at input.now specs.new step.new.spec) step.new ≡ option_map seen given.now) }
+    ensures told { OnOk result (IfSome (guide_of guide.old) (λ g. StandsAlike input.now g (option_map (seen_taken argument.now) given.now)) → used.new ≤ length specs.old
+        → piece_meant input.now (spec_at input.now specs.new step.new.spec) step.new ≡ option_map (seen_taken argument.now) given.now) }
     ensures number { OnOk result (step.new.spec ≤ used.new) }
-    ensures used { OnOk result (used.new ≡ used.old + specs_in (option_map seen given.now)) }
+    ensures used { OnOk result (used.new ≡ used.old + specs_in (option_map (seen_taken argument.now) given.now)) }
     ensures front { OnOk result (take used.old specs.new ≡ take used.old specs.old) }
     ensures kept { OnOk result (drop used.new specs.new ≡ drop used.new specs.old) }
     ensures others { OnOk result (SameBehind step.old step.new) }
@@ -125,11 +127,11 @@ fn put_given(
 {
     match guide {
         None => {
-            put_plain(given, input, offset, read, specs, used, step);
+            put_plain(given, argument, input, offset, read, specs, used, step);
             Ok(())
         }
         Some(guide) => {
-            put_guided(guide, input, read, given, specs, used, step)?;
+            put_guided(guide, input, read, given, argument, specs, used, step)?;
             Ok(())
         }
     }
@@ -138,8 +140,9 @@ fn put_given(
 /// The call with this number, into its step. The places of texts are those of the parser's spans, so many bytes behind the
 /// places in the input; or those of the spans of a guide, which goes along, one byte behind them.
 #[inline(always)]
-fn step(
-    parser: &mut Parser<'_>,
+fn step<'a>(
+    parser: &mut Parser<'a>,
+    argument: &mut Argument<'a>,
     guide: &mut Option<Box<Parser<'_>>>,
     offset: usize,
     input: &str,
@@ -166,7 +169,7 @@ fn step(
 {
     let faults = parser.errors().len();
     let places = parser.arg_places().len();
-    let (given, fronts) = parser.next_with_fronts()?;
+    let (given, fronts) = parser.next_into(argument)?;
     let (read, peek, peek_ahead) = next_places(parser, input);
     step.place = closed(parser.arg_places(), places);
     step.read = read;
@@ -175,14 +178,17 @@ fn step(
     step.peek = peek;
     step.peek_ahead = peek_ahead;
     finders.add(number, fronts, parser.errors().len() - faults)?;
-    put_given(guide, input, offset, read, &given, specs, used, step)?;
+    put_given(
+        guide, input, offset, read, &given, argument, specs, used, step,
+    )?;
     Ok(())
 }
 
 /// The call with this number, where there is no room for its step: how far the input was read.
 #[inline(never)]
-fn step_unwritten(
-    parser: &mut Parser<'_>,
+fn step_unwritten<'a>(
+    parser: &mut Parser<'a>,
+    argument: &mut Argument<'a>,
     guide: &mut Option<Box<Parser<'_>>>,
     offset: usize,
     input: &str,
@@ -207,15 +213,16 @@ fn step_unwritten(
 {
     let mut spare = BLANK;
     step(
-        parser, guide, offset, input, number, finders, specs, used, &mut spare,
+        parser, argument, guide, offset, input, number, finders, specs, used, &mut spare,
     )?;
     Ok(spare.read)
 }
 
 /// The call with this number, written behind so many steps, if there is room: how far the input was read.
 #[inline(always)]
-fn add_step(
-    parser: &mut Parser<'_>,
+fn add_step<'a>(
+    parser: &mut Parser<'a>,
+    argument: &mut Argument<'a>,
     guide: &mut Option<Box<Parser<'_>>>,
     offset: usize,
     input: &str,
@@ -242,18 +249,21 @@ fn add_step(
     if number < steps.len() {
         let place = &mut steps[number];
         step(
-            parser, guide, offset, input, number, finders, specs, used, place,
+            parser, argument, guide, offset, input, number, finders, specs, used, place,
         )?;
         Ok(steps[number].read)
     } else {
-        step_unwritten(parser, guide, offset, input, number, finders, specs, used)
+        step_unwritten(
+            parser, argument, guide, offset, input, number, finders, specs, used,
+        )
     }
 }
 
 /// All calls up to and with the one at the end of the input: how many there are, and how many specifications. What fits is
 /// written.
-pub fn walk(
-    parser: &mut Parser<'_>,
+pub fn walk<'a>(
+    parser: &mut Parser<'a>,
+    argument: &mut Argument<'a>,
     guide: &mut Option<Box<Parser<'_>>>,
     offset: usize,
     input: &str,
@@ -282,12 +292,12 @@ pub fn walk(
     let mut read = 0;
     while read < input.len() {
         read = add_step(
-            parser, guide, offset, input, count, finders, steps, specs, &mut used,
+            parser, argument, guide, offset, input, count, finders, steps, specs, &mut used,
         )?;
         count += 1;
     }
     add_step(
-        parser, guide, offset, input, count, finders, steps, specs, &mut used,
+        parser, argument, guide, offset, input, count, finders, steps, specs, &mut used,
     )?;
     Ok((count + 1, used))
 }

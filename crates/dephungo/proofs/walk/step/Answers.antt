@@ -1,6 +1,6 @@
 use Rattle.std.proofs.Common.{◌≡◌, ◌-◌, length, sym, ap, ◌∙◌, arith}
 use Rattle.std.proofs.lemmas.List.{length-map}
-use Rattle.rustc_parse_format.specs.Seen.{pair, seen, seen_error}
+use Rattle.rustc_parse_format.specs.Seen.{pair, seen_error, seen_taken}
 use Rattle.rustc_parse_format.specs.State.{State, next_call}
 use Rattle.std.specs.Prelude.{option_map}
 use Rattle.rustc_parse_format.specs.Lines.{closed_in}
@@ -38,10 +38,10 @@ pub returns-clause-told : goal.returns-clause-told
 returns-clause-told c = λ room.
     let s = c.args.parser.now in
     let state = c.in_ok-given.ensures.state in
-    let same = alike c.args.input.now s c.args.offset (guide_of c.args.guide.now) (option_map seen c.in_ok-given.given) c.requires.guided
+    let same = alike c.args.input.now s c.args.offset (guide_of c.args.guide.now) (option_map (seen_taken c.next_into.new.argument) c.in_ok-given.given) c.requires.guided
     c.in_ok-given.ensures.piece in
     let kept = c.in_ok-put_given.ensures.others in
-    told c.args.input.now c.put_given.new.specs c.put_given.new.step s c.next_with_fronts.new.self state
+    told c.args.input.now c.put_given.new.specs c.put_given.new.step s c.next_into.new.self state
     (c.in_ok-put_given.ensures.told same room ∙ c.in_ok-given.ensures.piece)
     (ap maybe_place kept.0
     ∙ c.closed-step.ensures s.arg_places (closed_in s.world (next_call s).closes) (sym (length-map c.arg_places-places.result.now pair)
