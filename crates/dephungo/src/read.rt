@@ -146,9 +146,9 @@ pub fn read(
 ) -> Result<(), AllocError>
     requires input_length { length asked.input.now ≤ limit }
     requires hashes { hashes asked.style ≤ limit }
-    ensures counted { OnOk result (IsCounted (asked_state asked.entry) answer.new) }
+    ensures counted { OnOk result (IsCounted asked.entry.peeks (asked_state asked.entry) answer.new) }
     ensures told { OnOk result (Fits (buffers steps.old specs.old faults.old texts.old lines.old) answer.new
-        → IsTold (asked_state asked.entry) asked.entry.input.now (buffers steps.new specs.new faults.new texts.new lines.new) answer.new) }
+        → IsTold asked.entry.peeks (asked_state asked.entry) asked.entry.input.now (buffers steps.new specs.new faults.new texts.new lines.new) answer.new) }
     ensures kept { OnOk result (IsKept answer.new (buffers steps.old specs.old faults.old texts.old lines.old)
         (buffers steps.new specs.new faults.new texts.new lines.new)) }
     ensures err { OnErr result (answer.new ≡ answer.old) }
@@ -159,6 +159,7 @@ pub fn read(
         style,
         snippet,
         appended_newline,
+        peeks,
     } = asked;
     let literal = owned(alloc, snippet)?;
     let mut parser = Parser::new(alloc, input, style, literal, appended_newline, mode)?;
@@ -172,7 +173,7 @@ pub fn read(
         appended_newline,
     )?;
     let is_source_literal = flag(parser.is_source_literal());
-    let (_, peek, peek_ahead) = next_places(&parser, input);
+    let (peek, peek_ahead) = next_places(&parser, peeks);
     let mut finders = Finders::new(alloc);
     let offset = offset_of(style);
     let mut argument = blank_argument();
@@ -181,6 +182,7 @@ pub fn read(
         &mut argument,
         &mut guide,
         offset,
+        peeks,
         input,
         &mut finders,
         steps,

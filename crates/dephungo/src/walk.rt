@@ -7,7 +7,7 @@ ghost use Rattle.rustc_parse_format.specs.Seen.{pair, seen_taken};
 ghost use Rattle.rustc_parse_format.specs.State.{after, next_call};
 ghost use Rattle.rustc_parse_format.specs.World.{Place};
 ghost use Rattle.dephungo.specs.declared.records.Step.{Step as StepRecord};
-ghost use Rattle.dephungo.specs.Events.{add_finders, end_of, event, events, found_by, fronts_in, fronts_of, place_of_first, position, spec_count, specs_in, step_meant};
+ghost use Rattle.dephungo.specs.Events.{add_finders, end_of, event, events, found_by, fronts_in, fronts_of, given, looked_for, place_of_first, position, spec_count, specs_in, states, step_meant};
 ghost use Rattle.dephungo.specs.Meant.{maybe_place, piece_meant, spec_at};
 ghost use Rattle.dephungo.specs.Stand.{EndsWith, IsAdded, IsAlong, IsGuided, PieceStands, SameBehind, StandsAlike, guide_of};
 
@@ -35,17 +35,24 @@ const BLANK: Step = Step {
     peek_ahead: NO_EXTENT,
 };
 
-/// How far the input was read, and where the next character and the one after it stand in the source.
+/// Where the next character and the one after it stand in the source, where that is asked for.
 #[inline(always)]
-pub fn next_places(parser: &Parser<'_>, input: &str) -> (usize, MaybeExtent, MaybeExtent)
-    requires { chars input.now ≡ parser.now.input }
-    ensures read { result.0 ≡ position parser.now.input parser.now.rest }
-    ensures place { maybe_place result.1 ≡ place_of_first parser.now parser.now.rest }
-    ensures ahead { maybe_place result.2 ≡ place_of_first parser.now (behind_first parser.now.rest) }
+pub fn next_places(parser: &Parser<'_>, peeks: bool) -> (MaybeExtent, MaybeExtent)
+    ensures place { maybe_place result.0 ≡ looked_for peeks (place_of_first parser.now parser.now.rest) }
+    ensures ahead { maybe_place result.1 ≡ looked_for peeks (place_of_first parser.now (behind_first parser.now.rest)) }
+{
+    if peeks { places_ahead(parser) } else { (NO_EXTENT, NO_EXTENT) }
+}
+
+/// The same where it is asked for.
+#[inline(never)]
+fn places_ahead(parser: &Parser<'_>) -> (MaybeExtent, MaybeExtent)
+    ensures place { maybe_place result.0 ≡ place_of_first parser.now parser.now.rest }
+    ensures ahead { maybe_place result.1 ≡ place_of_first parser.now (behind_first parser.now.rest) }
 {
     match parser.peek() {
-        Some((place, at, _)) => (at, there(&place), place_ahead(parser)),
-        None => (input.len(), NO_EXTENT, NO_EXTENT),
+        Some((place, _, _)) => (there(&place), place_ahead(parser)),
+        None => (NO_EXTENT, NO_EXTENT),
     }
 }
 
@@ -145,6 +152,7 @@ fn step<'a>(
     argument: &mut Argument<'a>,
     guide: &mut Option<Box<Parser<'_>>>,
     offset: usize,
+    peeks: bool,
     input: &str,
     number: usize,
     finders: &mut Finders,
@@ -156,9 +164,9 @@ fn step<'a>(
     requires left { EndsWith parser.old.input parser.old.rest }
     requires guided { IsGuided parser.old offset (guide_of guide.old) }
     requires room { used.old < usize.MAX }
-    ensures told { OnOk result (used.new ≤ length specs.old → step_meant input.now specs.new step.new ≡ event parser.old) }
+    ensures told { OnOk result (used.new ≤ length specs.old → step_meant input.now specs.new step.new ≡ event peeks parser.old) }
     ensures number { OnOk result (step.new.spec ≤ used.new) }
-    ensures used { OnOk result (used.new ≡ used.old + specs_in (event parser.old).piece) }
+    ensures used { OnOk result (used.new ≡ used.old + specs_in (given parser.old)) }
     ensures front { OnOk result (take used.old specs.new ≡ take used.old specs.old) }
     ensures kept { OnOk result (drop used.new specs.new ≡ drop used.new specs.old) }
     ensures state { OnOk result (parser.new ≡ after parser.old (next_call parser.old)) }
@@ -170,7 +178,8 @@ fn step<'a>(
     let faults = parser.errors().len();
     let places = parser.arg_places().len();
     let (given, fronts) = parser.next_into(argument)?;
-    let (read, peek, peek_ahead) = next_places(parser, input);
+    let read = parser.position();
+    let (peek, peek_ahead) = next_places(parser, peeks);
     step.place = closed(parser.arg_places(), places);
     step.read = read;
     step.next = parser.curarg();
@@ -191,6 +200,7 @@ fn step_unwritten<'a>(
     argument: &mut Argument<'a>,
     guide: &mut Option<Box<Parser<'_>>>,
     offset: usize,
+    peeks: bool,
     input: &str,
     number: usize,
     finders: &mut Finders,
@@ -201,8 +211,8 @@ fn step_unwritten<'a>(
     requires left { EndsWith parser.old.input parser.old.rest }
     requires guided { IsGuided parser.old offset (guide_of guide.old) }
     requires room { used.old < usize.MAX }
-    ensures added { OnOk result ((full : List StepRecord) → length full ≤ number → IsAdded input.now parser.old number used.new full full specs.new) }
-    ensures used { OnOk result (used.new ≡ used.old + specs_in (event parser.old).piece) }
+    ensures added { OnOk result ((full : List StepRecord) → length full ≤ number → IsAdded peeks input.now parser.old number used.new full full specs.new) }
+    ensures used { OnOk result (used.new ≡ used.old + specs_in (given parser.old)) }
     ensures front { OnOk result (take used.old specs.new ≡ take used.old specs.old) }
     ensures kept { OnOk result (drop used.new specs.new ≡ drop used.new specs.old) }
     ensures state { OnOk result (parser.new ≡ after parser.old (next_call parser.old)) }
@@ -213,7 +223,7 @@ fn step_unwritten<'a>(
 {
     let mut spare = BLANK;
     step(
-        parser, argument, guide, offset, input, number, finders, specs, used, &mut spare,
+        parser, argument, guide, offset, peeks, input, number, finders, specs, used, &mut spare,
     )?;
     Ok(spare.read)
 }
@@ -225,6 +235,7 @@ fn add_step<'a>(
     argument: &mut Argument<'a>,
     guide: &mut Option<Box<Parser<'_>>>,
     offset: usize,
+    peeks: bool,
     input: &str,
     number: usize,
     finders: &mut Finders,
@@ -236,8 +247,8 @@ fn add_step<'a>(
     requires left { EndsWith parser.old.input parser.old.rest }
     requires guided { IsGuided parser.old offset (guide_of guide.old) }
     requires room { used.old < usize.MAX }
-    ensures added { OnOk result (IsAdded input.now parser.old number used.new steps.old steps.new specs.new) }
-    ensures used { OnOk result (used.new ≡ used.old + specs_in (event parser.old).piece) }
+    ensures added { OnOk result (IsAdded peeks input.now parser.old number used.new steps.old steps.new specs.new) }
+    ensures used { OnOk result (used.new ≡ used.old + specs_in (given parser.old)) }
     ensures front { OnOk result (take used.old specs.new ≡ take used.old specs.old) }
     ensures kept { OnOk result (drop used.new specs.new ≡ drop used.new specs.old) }
     ensures state { OnOk result (parser.new ≡ after parser.old (next_call parser.old)) }
@@ -249,12 +260,12 @@ fn add_step<'a>(
     if number < steps.len() {
         let place = &mut steps[number];
         step(
-            parser, argument, guide, offset, input, number, finders, specs, used, place,
+            parser, argument, guide, offset, peeks, input, number, finders, specs, used, place,
         )?;
         Ok(steps[number].read)
     } else {
         step_unwritten(
-            parser, argument, guide, offset, input, number, finders, specs, used,
+            parser, argument, guide, offset, peeks, input, number, finders, specs, used,
         )
     }
 }
@@ -266,6 +277,7 @@ pub fn walk<'a>(
     argument: &mut Argument<'a>,
     guide: &mut Option<Box<Parser<'_>>>,
     offset: usize,
+    peeks: bool,
     input: &str,
     finders: &mut Finders,
     steps: &mut [Step],
@@ -277,10 +289,10 @@ pub fn walk<'a>(
     requires none { finders.old.calls ≡ [] }
     requires no_fronts { finders.old.fronts ≡ 0 }
     requires start { parser.old.rest ≡ parser.old.input }
-    ensures count { IfOk result (λ k. k.0 ≡ length (events parser.old)) }
+    ensures count { IfOk result (λ k. k.0 ≡ length (states parser.old)) }
     ensures specs { IfOk result (λ k. k.1 ≡ spec_count parser.old) }
     ensures written { IfOk result (λ k. k.0 ≤ length steps.old → k.1 ≤ length specs.old
-        → map (step_meant input.now specs.new) (take k.0 steps.new) ≡ events parser.old) }
+        → map (step_meant input.now specs.new) (take k.0 steps.new) ≡ events peeks parser.old) }
     ensures state { OnOk result (parser.new ≡ end_of parser.old) }
     ensures finders { OnOk result (finders.new.calls ≡ found_by parser.old) }
     ensures fronts { OnOk result (finders.new.fronts ≡ fronts_of parser.old) }
@@ -292,12 +304,12 @@ pub fn walk<'a>(
     let mut read = 0;
     while read < input.len() {
         read = add_step(
-            parser, argument, guide, offset, input, count, finders, steps, specs, &mut used,
+            parser, argument, guide, offset, peeks, input, count, finders, steps, specs, &mut used,
         )?;
         count += 1;
     }
     add_step(
-        parser, argument, guide, offset, input, count, finders, steps, specs, &mut used,
+        parser, argument, guide, offset, peeks, input, count, finders, steps, specs, &mut used,
     )?;
     Ok((count + 1, used))
 }

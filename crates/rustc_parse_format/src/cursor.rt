@@ -28,8 +28,8 @@ impl<'input> Model for Cursor<'input> {
 }
 
 impl<'input> Cursor<'input> {
-    ghost use Rattle.std.specs.Prelude.{◌≡◌, ◌++◌, chars, if◌then◌else◌, IsTrue, length, option_map, Some};
-    ghost use Rattle.rustc_parse_format.specs.Characters.{Text, begins_raw, begins_with, first, behind_first, behind, behind_white, word, behind_word, digits, behind_digits, number, is_id_start, is_over, first_passes};
+    ghost use Rattle.std.specs.Prelude.{◌≡◌, ◌-◌, ◌++◌, chars, if◌then◌else◌, IsTrue, length, option_map, Some};
+    ghost use Rattle.rustc_parse_format.specs.Characters.{Text, byte_length, begins_raw, begins_with, first, behind_first, behind, behind_white, word, behind_word, digits, behind_digits, number, is_id_start, is_over, first_passes};
     ghost use Rattle.std.specs.Char.{is_ascii_digit, is_whitespace};
     ghost use Rattle.rustc_parse_format.specs.Bytes.{IsOfAscii};
     ghost use Rattle.rustc_parse_format.specs.Classes.{passes};
@@ -225,6 +225,14 @@ impl<'input> Cursor<'input> {
             at: self.spot.at,
         };
         self.source.next_place(&ahead)
+    }
+
+    /// The byte position of the next character in the input, or of its end.
+    #[inline(always)]
+    pub fn position(&self) -> usize
+        ensures { result ≡ byte_length self.now.input - byte_length self.now.rest }
+    {
+        self.source.position(&self.spot)
     }
 
     /// The next character is this one.

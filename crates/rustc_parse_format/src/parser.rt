@@ -47,9 +47,9 @@ impl<'input> Model for Parser<'input> {
 }
 
 impl<'input> Parser<'input> {
-    ghost use Rattle.std.specs.Prelude.{◌≡◌, ◌≢◌, ◌+◌, ◌<◌, ◌≤◌, ◌^◌, ◌↔◌, ◌++◌, [], ℕ, Bool, true, false, List, Option, IfOk, IsNone, IsOk, IsTrue, OnErr, OnOk, chars, length, map, option_map};
+    ghost use Rattle.std.specs.Prelude.{◌≡◌, ◌≢◌, ◌+◌, ◌-◌, ◌<◌, ◌≤◌, ◌^◌, ◌↔◌, ◌++◌, [], ℕ, Bool, true, false, List, Option, IfOk, IsNone, IsOk, IsTrue, OnErr, OnOk, chars, length, map, option_map};
     ghost use Rattle.rustc_parse_format.specs.Agreement.{Agree};
-    ghost use Rattle.rustc_parse_format.specs.Characters.{Text, behind_first};
+    ghost use Rattle.rustc_parse_format.specs.Characters.{Text, behind_first, byte_length};
     ghost use Rattle.std.specs.List.{filter};
     ghost use Rattle.rustc_parse_format.specs.Faults.{Keeps, add_errors, bare_fault, bare_message, is_front};
     ghost use Rattle.rustc_parse_format.specs.Lines.{IsLines, listed, noted};
@@ -313,6 +313,14 @@ impl<'input> Parser<'input> {
             ≡ first_of self.now.world self.now.input (behind_first self.now.rest) }
     {
         self.reader.cursor.place_ahead()
+    }
+
+    /// How many bytes of the input were read: the byte position of the next character, or the length of the input at its end.
+    #[inline(always)]
+    pub fn position(&self) -> usize
+        ensures { result ≡ byte_length self.now.input - byte_length self.now.rest }
+    {
+        self.reader.cursor.position()
     }
 
     /// The errors of all calls so far, in their order.
