@@ -13,10 +13,10 @@ ghost use Rattle.dephungo.specs.Stand.{IsGuided, IsPlain, guide_of};
 
 use crate::errors::put_errors;
 use crate::finders::Finders;
-use crate::flat::{extent, flag};
+use crate::flat::{NO_EXTENT, extent, flag};
 use crate::records::{Answer, Extent, Fault, Spec, Step};
 use crate::task::Task;
-use crate::walk::{next_places, walk};
+use crate::walk::{put_peeks, walk};
 use rustc_parse_format::{Argument, FormatSpec, ParseMode, Parser, Position};
 use std::alloc::{AllocError, Global};
 use std::ops::Range;
@@ -173,7 +173,9 @@ pub fn read(
         appended_newline,
     )?;
     let is_source_literal = flag(parser.is_source_literal());
-    let (peek, peek_ahead) = next_places(&parser, peeks);
+    let mut peek = NO_EXTENT;
+    let mut peek_ahead = NO_EXTENT;
+    put_peeks(&parser, peeks, &mut peek, &mut peek_ahead);
     let mut finders = Finders::new(alloc);
     let offset = offset_of(style);
     let mut argument = blank_argument();

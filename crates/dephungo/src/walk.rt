@@ -1,6 +1,6 @@
 //! The calls of a parser, one behind the other, as records.
 
-ghost use Rattle.std.specs.Prelude.{◌≡◌, ◌+◌, ◌<◌, ◌≤◌, ◌^◌, ◌++◌, [], List, Option, IfNone, IfOk, IfSome, OnOk, chars, drop, length, map, option_map, take};
+ghost use Rattle.std.specs.Prelude.{◌≡◌, ◌+◌, ◌<◌, ◌≤◌, ◌^◌, ◌++◌, [], List, None, Option, IfNone, IfOk, IfSome, OnOk, chars, drop, length, map, option_map, take};
 ghost use Rattle.rustc_parse_format.specs.Characters.{behind_first};
 ghost use Rattle.rustc_parse_format.specs.Lines.{listed};
 ghost use Rattle.rustc_parse_format.specs.Seen.{pair, seen_taken};
@@ -35,24 +35,34 @@ const BLANK: Step = Step {
     peek_ahead: NO_EXTENT,
 };
 
-/// Where the next character and the one after it stand in the source, where that is asked for.
+/// Puts where the next character and the one after it stand in the source, where that is asked for.
 #[inline(always)]
-pub fn next_places(parser: &Parser<'_>, peeks: bool) -> (MaybeExtent, MaybeExtent)
-    ensures place { maybe_place result.0 ≡ looked_for peeks (place_of_first parser.now parser.now.rest) }
-    ensures ahead { maybe_place result.1 ≡ looked_for peeks (place_of_first parser.now (behind_first parser.now.rest)) }
+pub fn put_peeks(
+    parser: &Parser<'_>,
+    peeks: bool,
+    peek: &mut MaybeExtent,
+    peek_ahead: &mut MaybeExtent,
+)
+    ensures place { maybe_place peek.new ≡ looked_for peeks (place_of_first parser.now parser.now.rest) }
+    ensures ahead { maybe_place peek_ahead.new ≡ looked_for peeks (place_of_first parser.now (behind_first parser.now.rest)) }
 {
-    if peeks { places_ahead(parser) } else { (NO_EXTENT, NO_EXTENT) }
+    *peek = NO_EXTENT;
+    *peek_ahead = NO_EXTENT;
+    if peeks {
+        look_ahead(parser, peek, peek_ahead);
+    }
 }
 
-/// The same where it is asked for.
+/// The same where it is asked for, over what says that there is none.
 #[inline(never)]
-fn places_ahead(parser: &Parser<'_>) -> (MaybeExtent, MaybeExtent)
-    ensures place { maybe_place result.0 ≡ place_of_first parser.now parser.now.rest }
-    ensures ahead { maybe_place result.1 ≡ place_of_first parser.now (behind_first parser.now.rest) }
+fn look_ahead(parser: &Parser<'_>, peek: &mut MaybeExtent, peek_ahead: &mut MaybeExtent)
+    requires { (maybe_place peek.old ≡ None) × (maybe_place peek_ahead.old ≡ None) }
+    ensures place { maybe_place peek.new ≡ place_of_first parser.now parser.now.rest }
+    ensures ahead { maybe_place peek_ahead.new ≡ place_of_first parser.now (behind_first parser.now.rest) }
 {
-    match parser.peek() {
-        Some((place, _, _)) => (there(&place), place_ahead(parser)),
-        None => (NO_EXTENT, NO_EXTENT),
+    if let Some((place, _, _)) = parser.peek() {
+        *peek = there(&place);
+        *peek_ahead = place_ahead(parser);
     }
 }
 
@@ -179,13 +189,11 @@ fn step<'a>(
     let places = parser.arg_places().len();
     let (given, fronts) = parser.next_into(argument)?;
     let read = parser.position();
-    let (peek, peek_ahead) = next_places(parser, peeks);
     step.place = closed(parser.arg_places(), places);
     step.read = read;
     step.next = parser.curarg();
     step.lines = parser.line_spans().len();
-    step.peek = peek;
-    step.peek_ahead = peek_ahead;
+    put_peeks(parser, peeks, &mut step.peek, &mut step.peek_ahead);
     finders.add(number, fronts, parser.errors().len() - faults)?;
     put_given(
         guide, input, offset, read, &given, argument, specs, used, step,

@@ -50,8 +50,8 @@ returns-clause-told c = λ room.
     (kept.1 ∙ c.position-read.ensures)
     (kept.2 ∙ c.curarg-step.ensures.value)
     (kept.3 ∙ sym (length-map c.line_spans.result.now pair) ∙ ap length c.line_spans.ensures)
-    (ap maybe_place kept.4 ∙ c.next_places.ensures.place)
-    (ap maybe_place kept.5 ∙ c.next_places.ensures.ahead)
+    (ap maybe_place kept.4 ∙ c.put_peeks.ensures.place)
+    (ap maybe_place kept.5 ∙ c.put_peeks.ensures.ahead)
 
 pub returns-clause-guided : goal.returns-clause-guided
 returns-clause-guided c =
