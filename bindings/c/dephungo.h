@@ -40,6 +40,7 @@ typedef struct dephungo_options {
     size_t hashes;             /* how many hashes a raw literal has */
     uint32_t has_snippet;      /* not 0 if there is a snippet: what stands in the source where the input should come from */
     uint32_t appended_newline; /* not 0 if a newline was appended to the input, which the snippet has not */
+    uint32_t peeks;            /* not 0 if the places of the peeks are wanted; else each says that there is none */
 } dephungo_options;
 
 /* the kind of a width or a precision */
@@ -139,8 +140,8 @@ typedef struct dephungo_step {
     size_t read;                     /* up to which byte of the input was read by then */
     size_t next;                     /* the number of the next implicit argument after it */
     size_t lines;                    /* how many lines there are by then */
-    dephungo_maybe_range peek;       /* where the next character stands in the source */
-    dephungo_maybe_range peek_ahead; /* where the one after it stands in the source */
+    dephungo_maybe_range peek;       /* where the next character stands in the source, where peeks are wanted */
+    dephungo_maybe_range peek_ahead; /* where the one after it stands in the source, likewise */
 } dephungo_step;
 
 /* how a fault may be mended */
@@ -176,8 +177,8 @@ typedef struct dephungo_answer {
     size_t lines;                    /* how many lines a source literal has, each without its newline and its indent */
     size_t fronts;                   /* how many faults, the first ones, were put in front of the list when they were found */
     uint32_t is_source_literal;      /* not 0 if the snippet is the source literal of the input */
-    dephungo_maybe_range peek;       /* where the first character stands in the source */
-    dephungo_maybe_range peek_ahead; /* where the second one stands in the source */
+    dephungo_maybe_range peek;       /* where the first character stands in the source, where peeks are wanted */
+    dephungo_maybe_range peek_ahead; /* where the second one stands in the source, likewise */
 } dephungo_answer;
 
 /* what a call answers */

@@ -8,12 +8,13 @@ _Static_assert(sizeof(dephungo_maybe_range) == 24, "the size of dephungo_maybe_r
 _Static_assert(offsetof(dephungo_maybe_range, there) == 0, "dephungo_maybe_range.there");
 _Static_assert(offsetof(dephungo_maybe_range, from) == 8, "dephungo_maybe_range.from");
 _Static_assert(offsetof(dephungo_maybe_range, to) == 16, "dephungo_maybe_range.to");
-_Static_assert(sizeof(dephungo_options) == 24, "the size of dephungo_options");
+_Static_assert(sizeof(dephungo_options) == 32, "the size of dephungo_options");
 _Static_assert(offsetof(dephungo_options, mode) == 0, "dephungo_options.mode");
 _Static_assert(offsetof(dephungo_options, is_raw) == 4, "dephungo_options.is_raw");
 _Static_assert(offsetof(dephungo_options, hashes) == 8, "dephungo_options.hashes");
 _Static_assert(offsetof(dephungo_options, has_snippet) == 16, "dephungo_options.has_snippet");
 _Static_assert(offsetof(dephungo_options, appended_newline) == 20, "dephungo_options.appended_newline");
+_Static_assert(offsetof(dephungo_options, peeks) == 24, "dephungo_options.peeks");
 _Static_assert(sizeof(dephungo_count) == 48, "the size of dephungo_count");
 _Static_assert(offsetof(dephungo_count, kind) == 0, "dephungo_count.kind");
 _Static_assert(offsetof(dephungo_count, number) == 8, "dephungo_count.number");

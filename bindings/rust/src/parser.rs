@@ -4,6 +4,7 @@ use crate::records::{self, CountRecord, Extent, Fault, MaybeExtent, Options, Spe
 use crate::{Alignment::*, Argument, Count, Count::*, DebugHex, FormatSpec, ParseError, ParseMode, Piece, Position::*};
 use crate::{Position, Sign, Suggestion};
 use std::ops::Range;
+use std::sync::OnceLock;
 
 /// A parser over an input: an iterator over its pieces.
 ///
@@ -11,7 +12,12 @@ use std::ops::Range;
 /// call of `next` goes on.
 pub struct Parser<'input> {
     input: &'input str,
+    /// With the input, all that it was read from.
+    snippet: Option<String>,
+    options: Options,
     reading: Reading,
+    /// A second reading, which looks for the places of the peeks. It is made by the first of them.
+    peeks: OnceLock<Reading>,
     /// How many calls there were, up to that at the end of the input, which has this number.
     calls: usize,
     end: usize,
@@ -59,6 +65,7 @@ impl<'input> Parser<'input> {
             hashes: style.unwrap_or(0),
             has_snippet: snippet.is_some().into(),
             appended_newline: appended_newline.into(),
+            peeks: 0,
         };
         let reading = Reading::new(input, snippet.as_deref().unwrap_or(""), &options);
         let answer = reading.answer();
@@ -75,11 +82,15 @@ impl<'input> Parser<'input> {
             arg_places: Vec::new(),
             is_source_literal: answer.is_source_literal != 0,
             line_spans: Vec::new(),
+            snippet,
+            options,
             reading,
+            peeks: OnceLock::new(),
         }
     }
 
-    /// The next character, with its place in the source and its byte in the input.
+    /// The next character, with its place in the source and its byte in the input. The first peek reads the input once more,
+    /// since the places are not looked for before.
     pub fn peek(&self) -> Option<(Range<usize>, usize, char)> {
         let (at, place, _) = self.ahead();
         Some((place.range()?, at, self.input[at..].chars().next()?))
@@ -94,12 +105,15 @@ impl<'input> Parser<'input> {
 
     /// Up to where the input is read, and the places of the next character and of the one after it.
     fn ahead(&self) -> (usize, MaybeExtent, MaybeExtent) {
+        let reading = self.peeks.get_or_init(|| {
+            Reading::new(self.input, self.snippet.as_deref().unwrap_or(""), &Options { peeks: 1, ..self.options })
+        });
         match self.calls.checked_sub(1) {
             Some(last) => {
-                let step = self.reading.step(last);
+                let step = reading.step(last);
                 (step.read, step.peek, step.peek_ahead)
             }
-            None => (0, self.reading.answer().peek, self.reading.answer().peek_ahead),
+            None => (0, reading.answer().peek, reading.answer().peek_ahead),
         }
     }
 

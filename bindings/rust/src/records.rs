@@ -46,6 +46,8 @@ pub struct Options {
     pub has_snippet: u32,
     /// not 0 if a newline was appended to the input, which the snippet has not
     pub appended_newline: u32,
+    /// not 0 if the places of the peeks are wanted; else each says that there is none
+    pub peeks: u32,
 }
 
 // the kind of a width or a precision
@@ -190,9 +192,9 @@ pub struct Step {
     pub next: usize,
     /// how many lines there are by then
     pub lines: usize,
-    /// where the next character stands in the source
+    /// where the next character stands in the source, where peeks are wanted
     pub peek: MaybeExtent,
-    /// where the one after it stands in the source
+    /// where the one after it stands in the source, likewise
     pub peek_ahead: MaybeExtent,
 }
 
@@ -254,9 +256,9 @@ pub struct Answer {
     pub fronts: usize,
     /// not 0 if the snippet is the source literal of the input
     pub is_source_literal: u32,
-    /// where the first character stands in the source
+    /// where the first character stands in the source, where peeks are wanted
     pub peek: MaybeExtent,
-    /// where the second one stands in the source
+    /// where the second one stands in the source, likewise
     pub peek_ahead: MaybeExtent,
 }
 
@@ -290,12 +292,13 @@ mod tests {
         assert_eq!(offset_of!(MaybeExtent, there), 0);
         assert_eq!(offset_of!(MaybeExtent, from), 8);
         assert_eq!(offset_of!(MaybeExtent, to), 16);
-        assert_eq!(size_of::<Options>(), 24);
+        assert_eq!(size_of::<Options>(), 32);
         assert_eq!(offset_of!(Options, mode), 0);
         assert_eq!(offset_of!(Options, is_raw), 4);
         assert_eq!(offset_of!(Options, hashes), 8);
         assert_eq!(offset_of!(Options, has_snippet), 16);
         assert_eq!(offset_of!(Options, appended_newline), 20);
+        assert_eq!(offset_of!(Options, peeks), 24);
         assert_eq!(size_of::<CountRecord>(), 48);
         assert_eq!(offset_of!(CountRecord, kind), 0);
         assert_eq!(offset_of!(CountRecord, number), 8);

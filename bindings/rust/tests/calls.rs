@@ -120,6 +120,25 @@ fn peeks() {
 }
 
 #[test]
+fn the_first_peek_may_come_late() {
+    let mut parser = literal("a\n{b}c", r#""a\n{\x62}c""#);
+    parser.next();
+    parser.next();
+    assert_eq!(parser.peek(), Some((10..11, 5, 'c')));
+    assert_eq!(parser.peek_ahead(), None);
+    parser.next();
+    assert_eq!((parser.peek(), parser.line_spans.len()), (None, 1));
+    parser.next();
+    assert_eq!((parser.peek(), parser.line_spans.len()), (None, 2));
+}
+
+#[test]
+fn a_parser_may_be_shared_between_threads() {
+    fn is_shared<T: Send + Sync>(_: &T) {}
+    is_shared(&Parser::new("{}", None, None, false, ParseMode::Format));
+}
+
+#[test]
 fn places_and_lines_of_a_source_literal() {
     let mut parser = literal("a{n:w$}\n  b", r#""\x61{n:w$}\n  b""#);
     assert!(parser.is_source_literal);

@@ -18,15 +18,15 @@ finders-go_as_errors : add_finders {A = ℕ} 3 (1 ∷ []) (UnmatchedBrace 0 ∷ 
 finders-go_as_errors = refl
 
 -- A lone closing brace gives no piece, the calls go on behind it, and the one at the end is the last.
-calls-go_on : map (λ (e : Event). e.piece) (events (start (codes "}a"))) ≡ None ∷ Some (Lit (codes "a")) ∷ None ∷ []
+calls-go_on : map (λ (e : Event). e.piece) (events false (start (codes "}a"))) ≡ None ∷ Some (Lit (codes "a")) ∷ None ∷ []
 unfolding computing states start
 calls-go_on = refl
 
-calls-read_on : map (λ (e : Event). e.read) (events (start (codes "}a"))) ≡ 1 ∷ 2 ∷ 2 ∷ []
+calls-read_on : map (λ (e : Event). e.read) (events false (start (codes "}a"))) ≡ 1 ∷ 2 ∷ 2 ∷ []
 unfolding computing states start
 calls-read_on = refl
 
-nothing-has_one_call : length (events (start [])) ≡ 1
+nothing-has_one_call : length (states (start [])) ≡ 1
 unfolding computing states start
 nothing-has_one_call = refl
 
@@ -44,7 +44,7 @@ half-is_no_text : text_at (97 ∷ 195 ∷ 169 ∷ []) (record { from = 1; to = 2
 unfolding text_at
 half-is_no_text = refl
 
-mode-is_refused : refusal [] [] (record { mode = 4; is_raw = 0; hashes = 0; has_snippet = 0; appended_newline = 0 }) ≡ Some 5
+mode-is_refused : refusal [] [] (record { mode = 4; is_raw = 0; hashes = 0; has_snippet = 0; appended_newline = 0; peeks = 0 }) ≡ Some 5
 mode-is_refused = refl
 
 default-is_default : is_default {A = Place} default_spec ≡ true

@@ -15,7 +15,7 @@ use Rattle.dephungo.specs.declared.records.Step.{Step}
 use Rattle.dephungo.specs.declared.records.Spec.{Spec as SpecRecord}
 use Rattle.rustc_parse_format.specs.Lines.{closed_in}
 use Rattle.dephungo.specs.Meant.{maybe_place, piece_meant, spec_at}
-use Rattle.dephungo.specs.Events.{place_of_first, position, Event, event, events, end_of, found_by, finders_from, add_finders, fronts_in, fronts_of}
+use Rattle.dephungo.specs.Events.{place_of_first, position, event, events, end_of, found_by, finders_from, add_finders, fronts_in, fronts_of, given, looked_for}
 use Rattle.dephungo.specs.Events.{spec_count, specs_in, is_default, states, states_for, step_meant}
 use Rattle.dephungo.specs.Held.{Found}
 use Rattle.dephungo.specs.Stand.{IsAdded}
@@ -93,16 +93,16 @@ specs_in-le (Some (NextArgument a)) = by_test (is_default a.format)
     by_test false = omega arith
 
 -- So far so many steps and specifications are told of the calls from the state s0 on, which came to s; the calls at the states `todo` are left.
-pub record IsUpTo (input : List ℕ) (s0 : State) (todo : List State) (s : State) (count used : ℕ) (found : Found) (steps : List Step) (specs : List
+pub record IsUpTo (peeks : Bool) (input : List ℕ) (s0 : State) (todo : List State) (s : State) (count used : ℕ) (found : Found) (steps : List Step) (specs : List
     SpecRecord) : Type 0 where
   pub counted : count + length todo ≡ length (states s0)
-  pub specs_counted : used + sum_by (λ (e : Event). specs_in e.piece) (map event todo) ≡ spec_count s0
+  pub specs_counted : used + sum_by (λ (t : State). specs_in (given t)) todo ≡ spec_count s0
   pub fewer : used ≤ count
   pub state : after_all s (map next_call todo) ≡ end_of s0
   pub finders : finders_from count found.calls (map next_call todo) ≡ found_by s0
   pub fronts : found.fronts + sum_by fronts_in (map next_call todo) ≡ fronts_of s0
   pub few : AllFew used (take count steps)
-  pub written : count ≤ length steps → used ≤ length specs → map (step_meant input specs) (take count steps) ++ map event todo ≡ events s0
+  pub written : count ≤ length steps → used ≤ length specs → map (step_meant input specs) (take count steps) ++ map (event peeks) todo ≡ events peeks s0
 
 -- a step was put where there is room
 abbrev IsPut : List Step → ℕ → Step → List Step → Type 0
@@ -123,20 +123,20 @@ put_length count old new r put = by_room (cases_lt count (length old))
     by_room (inl room) = ap length (put.0 room) ∙ length-set old count r
     by_room (inr full) = ap length (put.1 full)
 
-pub one_more : (input : List ℕ) (s0 s new : State) (todo : List State) (count used used' : ℕ) (found found' : Found) (steps steps' : List Step) (specs
+pub one_more : (peeks : Bool) (input : List ℕ) (s0 s new : State) (todo : List State) (count used used' : ℕ) (found found' : Found) (steps steps' : List Step) (specs
     specs' : List SpecRecord) →
-    IsUpTo input s0 (s ∷ todo) s count used found steps specs → new ≡ after s (next_call s) → used' ≡ used + specs_in (event s).piece →
+    IsUpTo peeks input s0 (s ∷ todo) s count used found steps specs → new ≡ after s (next_call s) → used' ≡ used + specs_in (given s) →
     found'.calls ≡ add_finders count found.calls (next_call s).faults → found'.fronts ≡ found.fronts + fronts_in (next_call s) →
-    IsAdded input s count used' steps steps' specs' → take used specs' ≡ take used specs → length specs' ≡ length specs →
-    IsUpTo input s0 todo new (count + 1) used' found' steps' specs'
-one_more input s0 s new todo count used used' found found' steps steps' specs specs' h state more finders fronts added front long =
+    IsAdded peeks input s count used' steps steps' specs' → take used specs' ≡ take used specs → length specs' ≡ length specs →
+    IsUpTo peeks input s0 todo new (count + 1) used' found' steps' specs'
+one_more peeks input s0 s new todo count used used' found found' steps steps' specs specs' h state more finders fronts added front long =
     let r = added.step in
     let put = added.put in
-    let one = specs_in-le (event s).piece in
+    let one = specs_in-le (given s) in
     let wide : used ≤ used' = omega (arith, more) in
     record {
       counted = omega (arith, h.counted);
-      specs_counted = omega (arith, h.specs_counted, more, sum_by-cons (λ (e : Event). specs_in e.piece) (event s) (map event todo));
+      specs_counted = omega (arith, h.specs_counted, more, sum_by-cons (λ (t : State). specs_in (given t)) s todo);
       fewer = omega (arith, h.fewer, more, one);
       state = rw state h.state;
       finders = rw (add-one, finders) h.finders;
@@ -148,28 +148,28 @@ one_more input s0 s new todo count used used' found found' steps steps' specs sp
           let in_specs : used' ≤ length specs' = omega (arith, long, specs_room) in
           let earlier = h.written (omega arith) (omega arith) in
           rw (put.0 fits, take_more_set steps count r fits, map-append (step_meant input specs') (take count steps) (r ∷ []))
-          (append_assoc (map (step_meant input specs') (take count steps)) (step_meant input specs' r ∷ []) (map event todo)
-          ∙ ap (λ l. l ++ (step_meant input specs' r ∷ map event todo)) (same_meant input specs' specs used (take count steps) front h.few)
-          ∙ ap (λ e. map (step_meant input specs) (take count steps) ++ (e ∷ map event todo)) (added.told in_specs)
+          (append_assoc (map (step_meant input specs') (take count steps)) (step_meant input specs' r ∷ []) (map (event peeks) todo)
+          ∙ ap (λ l. l ++ (step_meant input specs' r ∷ map (event peeks) todo)) (same_meant input specs' specs used (take count steps) front h.few)
+          ∙ ap (λ e. map (step_meant input specs) (take count steps) ++ (e ∷ map (event peeks) todo)) (added.told in_specs)
           ∙ earlier);
     }
 
 -- What was not written yet.
-pub kept_put : (input : List ℕ) (s : State) (old new orig : List Step) (specs : List SpecRecord) (count used : ℕ)
-    → IsAdded input s count used old new specs → drop count old ≡ drop count orig → drop (count + 1) new ≡ drop (count + 1) orig
-kept_put input s old new orig specs count used added h = by_room (cases_lt count (length old))
+pub kept_put : (peeks : Bool) (input : List ℕ) (s : State) (old new orig : List Step) (specs : List SpecRecord) (count used : ℕ)
+    → IsAdded peeks input s count used old new specs → drop count old ≡ drop count orig → drop (count + 1) new ≡ drop (count + 1) orig
+kept_put peeks input s old new orig specs count used added h = by_room (cases_lt count (length old))
   where
     by_room : (count < length old) ⊎ (length old ≤ count) → drop (count + 1) new ≡ drop (count + 1) orig
     by_room (inl room) = rw (added.put.0 room) (keep_put old orig count added.step h)
     by_room (inr full) = rw (added.put.1 full) (keep_more old orig count h)
 
 -- A step tells of its call.
-pub told : (input : List ℕ) (specs : List SpecRecord) (r : Step) (s t : State) → t ≡ after s (next_call s) →
+pub told : (peeks : Bool) (input : List ℕ) (specs : List SpecRecord) (r : Step) (s t : State) → t ≡ after s (next_call s) →
     piece_meant input (spec_at input specs r.spec) r ≡ option_map (piece_in s.world) (next_call s).piece → maybe_place r.place
     ≡ closed_in s.world (next_call s).closes →
-    r.read ≡ position t.input t.rest → r.next ≡ t.next → r.lines ≡ length t.line_spans → maybe_place r.peek ≡ place_of_first t t.rest →
-    maybe_place r.peek_ahead ≡ place_of_first t (behind_first t.rest) → step_meant input specs r ≡ event s
-told input specs r s t state piece place read next lines peek ahead = rw (piece, place, read, next, lines, peek, ahead, state) refl
+    r.read ≡ position t.input t.rest → r.next ≡ t.next → r.lines ≡ length t.line_spans → maybe_place r.peek ≡ looked_for peeks (place_of_first t t.rest) →
+    maybe_place r.peek_ahead ≡ looked_for peeks (place_of_first t (behind_first t.rest)) → step_meant input specs r ≡ event peeks s
+told peeks input specs r s t state piece place read next lines peek ahead = rw (piece, place, read, next, lines, peek, ahead, state) refl
 
 -- As many finders as errors.
 pub length-finders : (n : ℕ) (old : List ℕ) (s : State) (ks : List Call) → length old ≡ length s.errors → length (finders_from n old ks)
@@ -178,9 +178,9 @@ length-finders n old s [] e = e
 length-finders n old s (k ∷ ks) e =
     length-finders (suc n) (add_finders n old k.faults) (after s k) ks (omega (arith, length-add_finders n old k.faults, length-after s k, e))
 
-pub begin : (input : List ℕ) (s : State) (found : Found) (steps : List Step) (specs : List SpecRecord) → found.calls ≡ [] → found.fronts ≡ 0 →
-    IsUpTo input s (states s) s 0 0 found steps specs
-begin input s found steps specs e f = record {
+pub begin : (peeks : Bool) (input : List ℕ) (s : State) (found : Found) (steps : List Step) (specs : List SpecRecord) → found.calls ≡ [] → found.fronts ≡ 0 →
+    IsUpTo peeks input s (states s) s 0 0 found steps specs
+begin peeks input s found steps specs e f = record {
   counted = omega arith;
   specs_counted = omega arith;
   fewer = omega arith;

@@ -1,5 +1,5 @@
 -- What a caller asks for, what is refused, and what is told of an input that is read.
-use Rattle.std.specs.Prelude.{◌≡◌, ℕ, ◌<◌, ◌≤◌, ◌-◌, ◌^◌, not, ◌&&◌, ◌||◌, ◌==◌, nat_lt, if◌then◌else◌, List, length, map, take, drop, Option, Some}
+use Rattle.std.specs.Prelude.{◌≡◌, Bool, ℕ, ◌<◌, ◌≤◌, ◌-◌, ◌^◌, not, ◌&&◌, ◌||◌, ◌==◌, nat_lt, if◌then◌else◌, List, length, map, take, drop, Option, Some}
 use Rattle.std.specs.Prelude.{None, chars, is_none, option_map, unwrap_or}
 use Rattle.std.specs.Str.{is_utf8}
 use Rattle.rustc_parse_format.specs.Characters.{Text, behind_first}
@@ -14,7 +14,7 @@ use Rattle.dephungo.specs.declared.records.Spec.{Spec as SpecRecord}
 use Rattle.dephungo.specs.declared.records.Fault.{Fault}
 use Rattle.dephungo.specs.declared.records.Extent.{Extent}
 use Rattle.dephungo.specs.Meant.{is_set, maybe_place, place}
-use Rattle.dephungo.specs.Events.{end_of, events, found_by, fronts_of, place_of_first, spec_count, step_meant}
+use Rattle.dephungo.specs.Events.{end_of, events, found_by, fronts_of, looked_for, place_of_first, spec_count, states, step_meant}
 use Rattle.dephungo.specs.Held.{HoldsErrors, texts_len}
 
 abbrev pub mode_meant : ℕ → Option Mode
@@ -59,20 +59,20 @@ abbrev pub buffers : List Step → List SpecRecord → List Fault → List ℕ �
 buffers steps specs faults texts lines = record { steps = steps; specs = specs; faults = faults; texts = texts; lines = lines }
 
 -- The answer of all calls from s on is exact, but for texts beyond the greatest number.
-pub record IsCounted (s : State) (a : Answer) : Type 0 where
-  pub steps : a.steps ≡ length (events s)
+pub record IsCounted (peeks : Bool) (s : State) (a : Answer) : Type 0 where
+  pub steps : a.steps ≡ length (states s)
   pub specs : a.specs ≡ spec_count s
   pub faults : a.faults ≡ length (end_of s).errors
   pub texts : a.texts < 2 ^ 64 - 1 → a.texts ≡ texts_len (end_of s).errors
   pub lines : a.lines ≡ length (end_of s).line_spans
   pub fronts : a.fronts ≡ fronts_of s
   pub source : is_set a.is_source_literal ≡ s.world.has_source
-  pub peek : maybe_place a.peek ≡ place_of_first s s.rest
-  pub peek_ahead : maybe_place a.peek_ahead ≡ place_of_first s (behind_first s.rest)
+  pub peek : maybe_place a.peek ≡ looked_for peeks (place_of_first s s.rest)
+  pub peek_ahead : maybe_place a.peek_ahead ≡ looked_for peeks (place_of_first s (behind_first s.rest))
 
 -- The records tell of all these calls, and of the errors and the lines of their end.
-pub record IsTold (s : State) (input : List ℕ) (b : Buffers) (a : Answer) : Type 0 where
-  pub steps : map (step_meant input b.specs) (take a.steps b.steps) ≡ events s
+pub record IsTold (peeks : Bool) (s : State) (input : List ℕ) (b : Buffers) (a : Answer) : Type 0 where
+  pub steps : map (step_meant input b.specs) (take a.steps b.steps) ≡ events peeks s
   pub errors : HoldsErrors b.texts (take a.faults b.faults) (end_of s).errors
   pub finders : map (λ (f : Fault). f.step) (take a.faults b.faults) ≡ found_by s
   pub lines : map place (take a.lines b.lines) ≡ (end_of s).line_spans

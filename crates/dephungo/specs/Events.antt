@@ -24,7 +24,7 @@ pub record Event : Type 0 where
   pub next : ℕ
   -- how many lines there are
   pub lines : ℕ
-  -- the places of the next character, and of the one after it
+  -- the places of the next character, and of the one after it, where they are asked for
   pub peek : Option Place
   pub peek_ahead : Option Place
 
@@ -36,21 +36,29 @@ position input rest = byte_length input - byte_length rest
 abbrev pub place_of_first : State → Text → Option Place
 place_of_first s t = option_map (λ x. x.0) (first_of s.world s.input t)
 
--- the call k, with t after it
-abbrev pub event_of : World → Call → State → Event
-event_of w k t = record {
+-- a place that is looked for only where that is asked for
+abbrev pub looked_for : Bool → Option Place → Option Place
+looked_for peeks p = if peeks then p else None
+
+-- the call k, with t after it; whether the places of the peeks are asked for
+abbrev pub event_of : Bool → World → Call → State → Event
+event_of peeks w k t = record {
   piece = option_map (piece_in w) k.piece;
   place = closed_in w k.closes;
   read = position t.input t.rest;
   next = t.next;
   lines = length t.line_spans;
-  peek = place_of_first t t.rest;
-  peek_ahead = place_of_first t (behind_first t.rest);
+  peek = looked_for peeks (place_of_first t t.rest);
+  peek_ahead = looked_for peeks (place_of_first t (behind_first t.rest));
 }
 
 -- the call that comes next
-abbrev pub event : State → Event
-event s = event_of s.world (next_call s) (after s (next_call s))
+abbrev pub event : Bool → State → Event
+event peeks s = event_of peeks s.world (next_call s) (after s (next_call s))
+
+-- the piece that it gives
+abbrev pub given : State → Option (Piece Place)
+given s = option_map (piece_in s.world) (next_call s).piece
 
 -- What stands before each call, up to the one at the end of the input. Each call before it takes a character.
 abbrev pub states_for : ℕ → State → List State
@@ -64,8 +72,8 @@ states s = states_for (length s.rest) s
 abbrev pub calls : State → List Call
 calls s = map next_call (states s)
 
-abbrev pub events : State → List Event
-events s = map event (states s)
+abbrev pub events : Bool → State → List Event
+events peeks s = map (event peeks) (states s)
 
 -- what stands behind them
 abbrev pub end_of : State → State
@@ -124,7 +132,7 @@ specs_in (Some (Lit t)) = 0
 specs_in (Some (NextArgument a)) = if is_default a.format then 0 else 1
 
 abbrev pub spec_count : State → ℕ
-spec_count s = sum_by (λ (e : Event). specs_in e.piece) (events s)
+spec_count s = sum_by (λ (t : State). specs_in (given t)) (states s)
 
 abbrev pub step_meant : List ℕ → List SpecRecord → Step → Event
 step_meant input specs r = record {

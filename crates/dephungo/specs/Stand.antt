@@ -114,11 +114,11 @@ pub record IsAlong (s : State) (input : List ℕ) (read : ℕ) : Type 0 where
   pub reads : read ≡ position s.input (next_call s).rest
 
 -- where there is room, a step was put that tells of the call at s, with so many specifications by then
-pub record IsAdded (input : List ℕ) (s : State) (count used : ℕ) (old new : List Step) (specs : List SpecRecord) : Type 0 where
+pub record IsAdded (peeks : Bool) (input : List ℕ) (s : State) (count used : ℕ) (old new : List Step) (specs : List SpecRecord) : Type 0 where
   pub step : Step
   pub put : (count < length old → new ≡ set old count step) × (length old ≤ count → new ≡ old)
   pub few : step.spec ≤ used
-  pub told : used ≤ length specs → step_meant input specs step ≡ event s
+  pub told : used ≤ length specs → step_meant input specs step ≡ event peeks s
 
 -- the guide's texts are those of the piece
 abbrev pub StandsAlike : List ℕ → State → Option (Piece Place) → Type 0

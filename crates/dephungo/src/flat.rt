@@ -1,7 +1,7 @@
 //! Pieces as records.
 
 ghost use Rattle.std.specs.Prelude.{◌≡◌, ℕ, ◌+◌, ◌<◌, ◌≤◌, if◌then◌else◌, List, Some, chars, drop, length, option_map, take};
-ghost use Rattle.rustc_parse_format.specs.Seen.{pair, seen, seen_alignment, seen_argument, seen_count, seen_debug_hex, seen_position, seen_sign, seen_spec};
+ghost use Rattle.rustc_parse_format.specs.Seen.{pair, seen_alignment, seen_argument, seen_count, seen_debug_hex, seen_position, seen_sign, seen_spec, seen_taken};
 ghost use Rattle.rustc_parse_format.specs.Characters.{is_nil};
 ghost use Rattle.rustc_parse_format.specs.Types.{NextArgument};
 ghost use Rattle.dephungo.specs.declared.records.Extent.{Extent as ExtentRecord};
@@ -16,7 +16,7 @@ use crate::records::{
     POSITION_INDEX, POSITION_NAMED, SIGN_MINUS, SIGN_NONE, SIGN_PLUS, Spec, Step,
 };
 use crate::texts::{Texts, argument_texts, run_extent};
-use rustc_parse_format::{Alignment, Argument, Count, DebugHex, FormatSpec, Piece, Position, Sign};
+use rustc_parse_format::{Alignment, Argument, Count, DebugHex, FormatSpec, Position, Sign, Taken};
 use std::ops::Range;
 
 pub const NOWHERE: Extent = Extent { from: 0, to: 0 };
@@ -241,7 +241,7 @@ fn position(position: &Position<'_>) -> (u32, usize)
 
 #[tactic(auto, unfolding(crate::specs::Meant::piece_meant))]
 #[inline(always)]
-fn argument(
+fn put_argument(
     argument: &Argument<'_>,
     texts: &Texts,
     specs: &mut [Spec],
@@ -283,29 +283,30 @@ fn bare(kind: u32, text: Extent, step: &mut Step)
     step.spec = 0;
 }
 
-/// Writes a piece whose texts stand there into its step, and its specification behind the `used` records, if it is not the
+/// Writes a piece whose texts stand there, and whose placeholder was read into an argument, into its step, and its specification behind the `used` records, if it is not the
 /// default one and there is room.
 #[tactic(auto, unfolding(crate::specs::Meant::piece_meant))]
 pub fn put_piece(
-    piece: &Option<Piece<'_>>,
+    piece: &Option<Taken<'_>>,
+    argument: &Argument<'_>,
     texts: &Texts,
     specs: &mut [Spec],
     used: &mut usize,
     step: &mut Step,
 )
     requires room { used.old < usize.MAX }
-    ensures told { (input : List ℕ) → PieceAt input texts.now (option_map seen piece.now) → used.new ≤ length specs.old
-        → piece_meant input (spec_at input specs.new step.new.spec) step.new ≡ option_map seen piece.now }
+    ensures told { (input : List ℕ) → PieceAt input texts.now (option_map (seen_taken argument.now) piece.now) → used.new ≤ length specs.old
+        → piece_meant input (spec_at input specs.new step.new.spec) step.new ≡ option_map (seen_taken argument.now) piece.now }
     ensures number { step.new.spec ≤ used.new }
-    ensures used { used.new ≡ used.old + specs_in (option_map seen piece.now) }
+    ensures used { used.new ≡ used.old + specs_in (option_map (seen_taken argument.now) piece.now) }
     ensures front { take used.old specs.new ≡ take used.old specs.old }
     ensures kept { drop used.new specs.new ≡ drop used.new specs.old }
     ensures others { SameBehind step.old step.new }
 {
     match piece {
         None => bare(PIECE_NONE, NOWHERE, step),
-        Some(Piece::Lit(_)) => bare(PIECE_TEXT, texts.text, step),
-        Some(Piece::NextArgument(boxed)) => argument(boxed, texts, specs, used, step),
+        Some(Taken::Lit(_)) => bare(PIECE_TEXT, texts.text, step),
+        Some(Taken::NextArgument) => put_argument(argument, texts, specs, used, step),
     }
 }
 
@@ -313,7 +314,8 @@ pub fn put_piece(
 #[tactic(auto, unfolding(crate::specs::Meant::piece_meant))]
 #[inline(always)]
 pub fn put_plain(
-    piece: &Option<Piece<'_>>,
+    piece: &Option<Taken<'_>>,
+    argument: &Argument<'_>,
     input: &str,
     offset: usize,
     read: usize,
@@ -321,22 +323,22 @@ pub fn put_plain(
     used: &mut usize,
     step: &mut Step,
 )
-    requires stands { PieceStands input.now offset read (option_map seen piece.now) }
+    requires stands { PieceStands input.now offset read (option_map (seen_taken argument.now) piece.now) }
     requires room { used.old < usize.MAX }
     ensures told { used.new ≤ length specs.old
-        → piece_meant input.now (spec_at input.now specs.new step.new.spec) step.new ≡ option_map seen piece.now }
+        → piece_meant input.now (spec_at input.now specs.new step.new.spec) step.new ≡ option_map (seen_taken argument.now) piece.now }
     ensures number { step.new.spec ≤ used.new }
-    ensures used { used.new ≡ used.old + specs_in (option_map seen piece.now) }
+    ensures used { used.new ≡ used.old + specs_in (option_map (seen_taken argument.now) piece.now) }
     ensures front { take used.old specs.new ≡ take used.old specs.old }
     ensures kept { drop used.new specs.new ≡ drop used.new specs.old }
     ensures others { SameBehind step.old step.new }
 {
     match piece {
         None => bare(PIECE_NONE, NOWHERE, step),
-        Some(Piece::Lit(text)) => bare(PIECE_TEXT, run_extent(input, read, text), step),
-        Some(Piece::NextArgument(boxed)) => {
-            let texts = argument_texts(input, offset, boxed);
-            argument(boxed, &texts, specs, used, step)
+        Some(Taken::Lit(text)) => bare(PIECE_TEXT, run_extent(input, read, text), step),
+        Some(Taken::NextArgument) => {
+            let texts = argument_texts(input, offset, argument);
+            put_argument(argument, &texts, specs, used, step)
         }
     }
 }

@@ -12,6 +12,7 @@ mod walk;
 
 ghost use Rattle.std.specs.Prelude.{◌≡◌, ◌<◌, IfNone, IfSome, Some};
 ghost use Rattle.rustc_parse_format.specs.Types.{Mode};
+ghost use Rattle.dephungo.specs.Meant.{is_set};
 ghost use Rattle.dephungo.specs.Asked.{Fits, IsCounted, IsKept, IsTold, begun, buffers, mode_meant, refusal};
 
 use crate::read::read;
@@ -40,9 +41,9 @@ pub extern "C" fn dephungo_read(
         × ((buffers steps.new specs.new faults.new texts.new lines.new) ≡ (buffers steps.old specs.old faults.old texts.old lines.old))) }
 
     // What is read is counted, and written where it fits, which the code says.
-    ensures counted { result < 2 → (m : Mode) → mode_meant options.now.mode ≡ Some m → IsCounted (begun m options.now input.now snippet.now) answer.new }
+    ensures counted { result < 2 → (m : Mode) → mode_meant options.now.mode ≡ Some m → IsCounted (is_set options.now.peeks) (begun m options.now input.now snippet.now) answer.new }
     ensures told { result ≡ DONE → (m : Mode) → mode_meant options.now.mode ≡ Some m
-        → IsTold (begun m options.now input.now snippet.now) input.now
+        → IsTold (is_set options.now.peeks) (begun m options.now input.now snippet.now) input.now
         (buffers steps.new specs.new faults.new texts.new lines.new) answer.new }
     ensures done { result ≡ DONE → Fits (buffers steps.old specs.old faults.old texts.old lines.old) answer.new }
     ensures short { result ≡ SHORT → ¬ (Fits (buffers steps.old specs.old faults.old texts.old lines.old) answer.new) }

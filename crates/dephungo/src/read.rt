@@ -13,11 +13,11 @@ ghost use Rattle.dephungo.specs.Stand.{IsGuided, IsPlain, guide_of};
 
 use crate::errors::put_errors;
 use crate::finders::Finders;
-use crate::flat::{extent, flag};
+use crate::flat::{NO_EXTENT, extent, flag};
 use crate::records::{Answer, Extent, Fault, Spec, Step};
 use crate::task::Task;
-use crate::walk::{next_places, walk};
-use rustc_parse_format::{ParseMode, Parser};
+use crate::walk::{put_peeks, walk};
+use rustc_parse_format::{Argument, FormatSpec, ParseMode, Parser, Position};
 use std::alloc::{AllocError, Global};
 use std::ops::Range;
 
@@ -111,6 +111,16 @@ fn guide_for<'a>(
     Ok(None)
 }
 
+/// An argument before anything is read into it.
+#[inline(always)]
+fn blank_argument<'a>() -> Argument<'a> {
+    Argument {
+        position: Position::ArgumentImplicitlyIs(0),
+        position_span: 0..0,
+        format: FormatSpec::default(),
+    }
+}
+
 /// Writes the lines, as far as there is room.
 fn put_lines(spans: &[Range<usize>], lines: &mut [Extent])
     ensures held { length spans.now ≤ length lines.old → map place (take (length spans.now) lines.new) ≡ map pair spans.now }
@@ -136,9 +146,9 @@ pub fn read(
 ) -> Result<(), AllocError>
     requires input_length { length asked.input.now ≤ limit }
     requires hashes { hashes asked.style ≤ limit }
-    ensures counted { OnOk result (IsCounted (asked_state asked.entry) answer.new) }
+    ensures counted { OnOk result (IsCounted asked.entry.peeks (asked_state asked.entry) answer.new) }
     ensures told { OnOk result (Fits (buffers steps.old specs.old faults.old texts.old lines.old) answer.new
-        → IsTold (asked_state asked.entry) asked.entry.input.now (buffers steps.new specs.new faults.new texts.new lines.new) answer.new) }
+        → IsTold asked.entry.peeks (asked_state asked.entry) asked.entry.input.now (buffers steps.new specs.new faults.new texts.new lines.new) answer.new) }
     ensures kept { OnOk result (IsKept answer.new (buffers steps.old specs.old faults.old texts.old lines.old)
         (buffers steps.new specs.new faults.new texts.new lines.new)) }
     ensures err { OnErr result (answer.new ≡ answer.old) }
@@ -149,6 +159,7 @@ pub fn read(
         style,
         snippet,
         appended_newline,
+        peeks,
     } = asked;
     let literal = owned(alloc, snippet)?;
     let mut parser = Parser::new(alloc, input, style, literal, appended_newline, mode)?;
@@ -162,13 +173,18 @@ pub fn read(
         appended_newline,
     )?;
     let is_source_literal = flag(parser.is_source_literal());
-    let (_, peek, peek_ahead) = next_places(&parser, input);
+    let mut peek = NO_EXTENT;
+    let mut peek_ahead = NO_EXTENT;
+    put_peeks(&parser, peeks, &mut peek, &mut peek_ahead);
     let mut finders = Finders::new(alloc);
     let offset = offset_of(style);
+    let mut argument = blank_argument();
     let (count, used) = walk(
         &mut parser,
+        &mut argument,
         &mut guide,
         offset,
+        peeks,
         input,
         &mut finders,
         steps,

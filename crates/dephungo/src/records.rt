@@ -39,6 +39,8 @@ pub struct Options {
     pub has_snippet: u32,
     /// Not 0 if a newline was appended to the input.
     pub appended_newline: u32,
+    /// Not 0 if the places of the peeks are wanted.
+    pub peeks: u32,
 }
 
 pub const COUNT_IMPLIED: u32 = 0;

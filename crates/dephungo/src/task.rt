@@ -21,6 +21,8 @@ pub struct Task<'a> {
     pub style: Option<usize>,
     pub snippet: Option<&'a str>,
     pub appended_newline: bool,
+    /// Whether the places of the peeks are wanted.
+    pub peeks: bool,
 }
 
 /// The most bytes of an input, and the most hashes.
@@ -67,6 +69,7 @@ pub fn task_of<'a>(input: &'a [u8], snippet: &'a [u8], options: &Options) -> Res
     ensures style { IfOk result (λ a. a.style ≡ style_meant options.now) }
     ensures snippet { IfOk result (λ a. option_map (λ t. chars t.now) a.snippet ≡ snippet_meant options.now snippet.now) }
     ensures newline { IfOk result (λ a. a.appended_newline ≡ is_set options.now.appended_newline) }
+    ensures peeks { IfOk result (λ a. a.peeks ≡ is_set options.now.peeks) }
     ensures input_length { IfOk result (λ a. length a.input.now ≤ limit) }
     ensures hashes { IfOk result (λ a. hashes a.style ≤ limit) }
 {
@@ -94,5 +97,6 @@ pub fn task_of<'a>(input: &'a [u8], snippet: &'a [u8], options: &Options) -> Res
         style,
         snippet,
         appended_newline: options.appended_newline != 0,
+        peeks: options.peeks != 0,
     })
 }

@@ -1,13 +1,13 @@
 //! The calls of a parser, one behind the other, as records.
 
-ghost use Rattle.std.specs.Prelude.{◌≡◌, ◌+◌, ◌<◌, ◌≤◌, ◌^◌, ◌++◌, [], List, Option, IfNone, IfOk, IfSome, OnOk, chars, drop, length, map, option_map, take};
+ghost use Rattle.std.specs.Prelude.{◌≡◌, ◌+◌, ◌<◌, ◌≤◌, ◌^◌, ◌++◌, [], List, None, Option, IfNone, IfOk, IfSome, OnOk, chars, drop, length, map, option_map, take};
 ghost use Rattle.rustc_parse_format.specs.Characters.{behind_first};
 ghost use Rattle.rustc_parse_format.specs.Lines.{listed};
-ghost use Rattle.rustc_parse_format.specs.Seen.{pair, seen};
+ghost use Rattle.rustc_parse_format.specs.Seen.{pair, seen_taken};
 ghost use Rattle.rustc_parse_format.specs.State.{after, next_call};
 ghost use Rattle.rustc_parse_format.specs.World.{Place};
 ghost use Rattle.dephungo.specs.declared.records.Step.{Step as StepRecord};
-ghost use Rattle.dephungo.specs.Events.{add_finders, end_of, event, events, found_by, fronts_in, fronts_of, place_of_first, position, spec_count, specs_in, step_meant};
+ghost use Rattle.dephungo.specs.Events.{add_finders, end_of, event, events, found_by, fronts_in, fronts_of, given, looked_for, place_of_first, position, spec_count, specs_in, states, step_meant};
 ghost use Rattle.dephungo.specs.Meant.{maybe_place, piece_meant, spec_at};
 ghost use Rattle.dephungo.specs.Stand.{EndsWith, IsAdded, IsAlong, IsGuided, PieceStands, SameBehind, StandsAlike, guide_of};
 
@@ -15,7 +15,7 @@ use crate::finders::Finders;
 use crate::flat::{NO_EXTENT, NOWHERE, put_piece, put_plain, there};
 use crate::records::{MaybeExtent, PIECE_NONE, POSITION_IMPLICIT, Spec, Step};
 use crate::texts::texts_of;
-use rustc_parse_format::{Parser, Piece};
+use rustc_parse_format::{Argument, Parser, Taken};
 use std::alloc::AllocError;
 use std::ops::Range;
 
@@ -35,17 +35,34 @@ const BLANK: Step = Step {
     peek_ahead: NO_EXTENT,
 };
 
-/// How far the input was read, and where the next character and the one after it stand in the source.
+/// Puts where the next character and the one after it stand in the source, where that is asked for.
 #[inline(always)]
-pub fn next_places(parser: &Parser<'_>, input: &str) -> (usize, MaybeExtent, MaybeExtent)
-    requires { chars input.now ≡ parser.now.input }
-    ensures read { result.0 ≡ position parser.now.input parser.now.rest }
-    ensures place { maybe_place result.1 ≡ place_of_first parser.now parser.now.rest }
-    ensures ahead { maybe_place result.2 ≡ place_of_first parser.now (behind_first parser.now.rest) }
+pub fn put_peeks(
+    parser: &Parser<'_>,
+    peeks: bool,
+    peek: &mut MaybeExtent,
+    peek_ahead: &mut MaybeExtent,
+)
+    ensures place { maybe_place peek.new ≡ looked_for peeks (place_of_first parser.now parser.now.rest) }
+    ensures ahead { maybe_place peek_ahead.new ≡ looked_for peeks (place_of_first parser.now (behind_first parser.now.rest)) }
 {
-    match parser.peek() {
-        Some((place, at, _)) => (at, there(&place), place_ahead(parser)),
-        None => (input.len(), NO_EXTENT, NO_EXTENT),
+    *peek = NO_EXTENT;
+    *peek_ahead = NO_EXTENT;
+    if peeks {
+        look_ahead(parser, peek, peek_ahead);
+    }
+}
+
+/// The same where it is asked for, over what says that there is none.
+#[inline(never)]
+fn look_ahead(parser: &Parser<'_>, peek: &mut MaybeExtent, peek_ahead: &mut MaybeExtent)
+    requires { (maybe_place peek.old ≡ None) × (maybe_place peek_ahead.old ≡ None) }
+    ensures place { maybe_place peek.new ≡ place_of_first parser.now parser.now.rest }
+    ensures ahead { maybe_place peek_ahead.new ≡ place_of_first parser.now (behind_first parser.now.rest) }
+{
+    if let Some((place, _, _)) = parser.peek() {
+        *peek = there(&place);
+        *peek_ahead = place_ahead(parser);
     }
 }
 
@@ -77,17 +94,18 @@ fn put_guided(
     guide: &mut Parser<'_>,
     input: &str,
     read: usize,
-    given: &Option<Piece<'_>>,
+    given: &Option<Taken<'_>>,
+    argument: &Argument<'_>,
     specs: &mut [Spec],
     used: &mut usize,
     step: &mut Step,
 ) -> Result<(), AllocError>
     requires along { IsAlong guide.old input.now read }
     requires room { used.old < usize.MAX }
-    ensures told { OnOk result (StandsAlike input.now guide.old (option_map seen given.now) → used.new ≤ length specs.old
-        → piece_meant input.now (spec_at input.now specs.new step.new.spec) step.new ≡ option_map seen given.now) }
+    ensures told { OnOk result (StandsAlike input.now guide.old (option_map (seen_taken argument.now) given.now) → used.new ≤ length specs.old
+        → piece_meant input.now (spec_at input.now specs.new step.new.spec) step.new ≡ option_map (seen_taken argument.now) given.now) }
     ensures number { OnOk result (step.new.spec ≤ used.new) }
-    ensures used { OnOk result (used.new ≡ used.old + specs_in (option_map seen given.now)) }
+    ensures used { OnOk result (used.new ≡ used.old + specs_in (option_map (seen_taken argument.now) given.now)) }
     ensures front { OnOk result (take used.old specs.new ≡ take used.old specs.old) }
     ensures kept { OnOk result (drop used.new specs.new ≡ drop used.new specs.old) }
     ensures others { OnOk result (SameBehind step.old step.new) }
@@ -95,7 +113,7 @@ fn put_guided(
 {
     let same = guide.next()?;
     let texts = texts_of(input, 1, read, &same);
-    put_piece(given, &texts, specs, used, step);
+    put_piece(given, argument, &texts, specs, used, step);
     Ok(())
 }
 
@@ -106,18 +124,19 @@ fn put_given(
     input: &str,
     offset: usize,
     read: usize,
-    given: &Option<Piece<'_>>,
+    given: &Option<Taken<'_>>,
+    argument: &Argument<'_>,
     specs: &mut [Spec],
     used: &mut usize,
     step: &mut Step,
 ) -> Result<(), AllocError>
-    requires alone { IfNone (guide_of guide.old) (PieceStands input.now offset read (option_map seen given.now)) }
+    requires alone { IfNone (guide_of guide.old) (PieceStands input.now offset read (option_map (seen_taken argument.now) given.now)) }
     requires along { IfSome (guide_of guide.old) (λ g. IsAlong g input.now read) }
     requires room { used.old < usize.MAX }
-    ensures told { OnOk result (IfSome (guide_of guide.old) (λ g. StandsAlike input.now g (option_map seen given.now)) → used.new ≤ length specs.old
-        → piece_meant input.now (spec_at input.now specs.new step.new.spec) step.new ≡ option_map seen given.now) }
+    ensures told { OnOk result (IfSome (guide_of guide.old) (λ g. StandsAlike input.now g (option_map (seen_taken argument.now) given.now)) → used.new ≤ length specs.old
+        → piece_meant input.now (spec_at input.now specs.new step.new.spec) step.new ≡ option_map (seen_taken argument.now) given.now) }
     ensures number { OnOk result (step.new.spec ≤ used.new) }
-    ensures used { OnOk result (used.new ≡ used.old + specs_in (option_map seen given.now)) }
+    ensures used { OnOk result (used.new ≡ used.old + specs_in (option_map (seen_taken argument.now) given.now)) }
     ensures front { OnOk result (take used.old specs.new ≡ take used.old specs.old) }
     ensures kept { OnOk result (drop used.new specs.new ≡ drop used.new specs.old) }
     ensures others { OnOk result (SameBehind step.old step.new) }
@@ -125,11 +144,11 @@ fn put_given(
 {
     match guide {
         None => {
-            put_plain(given, input, offset, read, specs, used, step);
+            put_plain(given, argument, input, offset, read, specs, used, step);
             Ok(())
         }
         Some(guide) => {
-            put_guided(guide, input, read, given, specs, used, step)?;
+            put_guided(guide, input, read, given, argument, specs, used, step)?;
             Ok(())
         }
     }
@@ -138,10 +157,12 @@ fn put_given(
 /// The call with this number, into its step. The places of texts are those of the parser's spans, so many bytes behind the
 /// places in the input; or those of the spans of a guide, which goes along, one byte behind them.
 #[inline(always)]
-fn step(
-    parser: &mut Parser<'_>,
+fn step<'a>(
+    parser: &mut Parser<'a>,
+    argument: &mut Argument<'a>,
     guide: &mut Option<Box<Parser<'_>>>,
     offset: usize,
+    peeks: bool,
     input: &str,
     number: usize,
     finders: &mut Finders,
@@ -153,9 +174,9 @@ fn step(
     requires left { EndsWith parser.old.input parser.old.rest }
     requires guided { IsGuided parser.old offset (guide_of guide.old) }
     requires room { used.old < usize.MAX }
-    ensures told { OnOk result (used.new ≤ length specs.old → step_meant input.now specs.new step.new ≡ event parser.old) }
+    ensures told { OnOk result (used.new ≤ length specs.old → step_meant input.now specs.new step.new ≡ event peeks parser.old) }
     ensures number { OnOk result (step.new.spec ≤ used.new) }
-    ensures used { OnOk result (used.new ≡ used.old + specs_in (event parser.old).piece) }
+    ensures used { OnOk result (used.new ≡ used.old + specs_in (given parser.old)) }
     ensures front { OnOk result (take used.old specs.new ≡ take used.old specs.old) }
     ensures kept { OnOk result (drop used.new specs.new ≡ drop used.new specs.old) }
     ensures state { OnOk result (parser.new ≡ after parser.old (next_call parser.old)) }
@@ -166,25 +187,28 @@ fn step(
 {
     let faults = parser.errors().len();
     let places = parser.arg_places().len();
-    let (given, fronts) = parser.next_with_fronts()?;
-    let (read, peek, peek_ahead) = next_places(parser, input);
+    let (given, fronts) = parser.next_into(argument)?;
+    let read = parser.position();
     step.place = closed(parser.arg_places(), places);
     step.read = read;
     step.next = parser.curarg();
     step.lines = parser.line_spans().len();
-    step.peek = peek;
-    step.peek_ahead = peek_ahead;
+    put_peeks(parser, peeks, &mut step.peek, &mut step.peek_ahead);
     finders.add(number, fronts, parser.errors().len() - faults)?;
-    put_given(guide, input, offset, read, &given, specs, used, step)?;
+    put_given(
+        guide, input, offset, read, &given, argument, specs, used, step,
+    )?;
     Ok(())
 }
 
 /// The call with this number, where there is no room for its step: how far the input was read.
 #[inline(never)]
-fn step_unwritten(
-    parser: &mut Parser<'_>,
+fn step_unwritten<'a>(
+    parser: &mut Parser<'a>,
+    argument: &mut Argument<'a>,
     guide: &mut Option<Box<Parser<'_>>>,
     offset: usize,
+    peeks: bool,
     input: &str,
     number: usize,
     finders: &mut Finders,
@@ -195,8 +219,8 @@ fn step_unwritten(
     requires left { EndsWith parser.old.input parser.old.rest }
     requires guided { IsGuided parser.old offset (guide_of guide.old) }
     requires room { used.old < usize.MAX }
-    ensures added { OnOk result ((full : List StepRecord) → length full ≤ number → IsAdded input.now parser.old number used.new full full specs.new) }
-    ensures used { OnOk result (used.new ≡ used.old + specs_in (event parser.old).piece) }
+    ensures added { OnOk result ((full : List StepRecord) → length full ≤ number → IsAdded peeks input.now parser.old number used.new full full specs.new) }
+    ensures used { OnOk result (used.new ≡ used.old + specs_in (given parser.old)) }
     ensures front { OnOk result (take used.old specs.new ≡ take used.old specs.old) }
     ensures kept { OnOk result (drop used.new specs.new ≡ drop used.new specs.old) }
     ensures state { OnOk result (parser.new ≡ after parser.old (next_call parser.old)) }
@@ -207,17 +231,19 @@ fn step_unwritten(
 {
     let mut spare = BLANK;
     step(
-        parser, guide, offset, input, number, finders, specs, used, &mut spare,
+        parser, argument, guide, offset, peeks, input, number, finders, specs, used, &mut spare,
     )?;
     Ok(spare.read)
 }
 
 /// The call with this number, written behind so many steps, if there is room: how far the input was read.
 #[inline(always)]
-fn add_step(
-    parser: &mut Parser<'_>,
+fn add_step<'a>(
+    parser: &mut Parser<'a>,
+    argument: &mut Argument<'a>,
     guide: &mut Option<Box<Parser<'_>>>,
     offset: usize,
+    peeks: bool,
     input: &str,
     number: usize,
     finders: &mut Finders,
@@ -229,8 +255,8 @@ fn add_step(
     requires left { EndsWith parser.old.input parser.old.rest }
     requires guided { IsGuided parser.old offset (guide_of guide.old) }
     requires room { used.old < usize.MAX }
-    ensures added { OnOk result (IsAdded input.now parser.old number used.new steps.old steps.new specs.new) }
-    ensures used { OnOk result (used.new ≡ used.old + specs_in (event parser.old).piece) }
+    ensures added { OnOk result (IsAdded peeks input.now parser.old number used.new steps.old steps.new specs.new) }
+    ensures used { OnOk result (used.new ≡ used.old + specs_in (given parser.old)) }
     ensures front { OnOk result (take used.old specs.new ≡ take used.old specs.old) }
     ensures kept { OnOk result (drop used.new specs.new ≡ drop used.new specs.old) }
     ensures state { OnOk result (parser.new ≡ after parser.old (next_call parser.old)) }
@@ -242,20 +268,24 @@ fn add_step(
     if number < steps.len() {
         let place = &mut steps[number];
         step(
-            parser, guide, offset, input, number, finders, specs, used, place,
+            parser, argument, guide, offset, peeks, input, number, finders, specs, used, place,
         )?;
         Ok(steps[number].read)
     } else {
-        step_unwritten(parser, guide, offset, input, number, finders, specs, used)
+        step_unwritten(
+            parser, argument, guide, offset, peeks, input, number, finders, specs, used,
+        )
     }
 }
 
 /// All calls up to and with the one at the end of the input: how many there are, and how many specifications. What fits is
 /// written.
-pub fn walk(
-    parser: &mut Parser<'_>,
+pub fn walk<'a>(
+    parser: &mut Parser<'a>,
+    argument: &mut Argument<'a>,
     guide: &mut Option<Box<Parser<'_>>>,
     offset: usize,
+    peeks: bool,
     input: &str,
     finders: &mut Finders,
     steps: &mut [Step],
@@ -267,10 +297,10 @@ pub fn walk(
     requires none { finders.old.calls ≡ [] }
     requires no_fronts { finders.old.fronts ≡ 0 }
     requires start { parser.old.rest ≡ parser.old.input }
-    ensures count { IfOk result (λ k. k.0 ≡ length (events parser.old)) }
+    ensures count { IfOk result (λ k. k.0 ≡ length (states parser.old)) }
     ensures specs { IfOk result (λ k. k.1 ≡ spec_count parser.old) }
     ensures written { IfOk result (λ k. k.0 ≤ length steps.old → k.1 ≤ length specs.old
-        → map (step_meant input.now specs.new) (take k.0 steps.new) ≡ events parser.old) }
+        → map (step_meant input.now specs.new) (take k.0 steps.new) ≡ events peeks parser.old) }
     ensures state { OnOk result (parser.new ≡ end_of parser.old) }
     ensures finders { OnOk result (finders.new.calls ≡ found_by parser.old) }
     ensures fronts { OnOk result (finders.new.fronts ≡ fronts_of parser.old) }
@@ -282,12 +312,12 @@ pub fn walk(
     let mut read = 0;
     while read < input.len() {
         read = add_step(
-            parser, guide, offset, input, count, finders, steps, specs, &mut used,
+            parser, argument, guide, offset, peeks, input, count, finders, steps, specs, &mut used,
         )?;
         count += 1;
     }
     add_step(
-        parser, guide, offset, input, count, finders, steps, specs, &mut used,
+        parser, argument, guide, offset, peeks, input, count, finders, steps, specs, &mut used,
     )?;
     Ok((count + 1, used))
 }

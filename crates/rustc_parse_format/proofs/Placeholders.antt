@@ -1,8 +1,8 @@
 -- A placeholder, part by part.
-use Rattle.std.proofs.Common.{◌≡◌, ◌≢◌, ◌+◌, ◌≤◌, ◌++◌, ◌==◌, ℕ, Bool, true, false, cond, [], ◌∷◌, length, arith, Option, Some, None, refl, sym, ap}
+use Rattle.std.proofs.Common.{◌≡◌, ◌≢◌, ◌+◌, ◌≤◌, ◌++◌, ◌==◌, ℕ, Bool, true, false, not, cond, [], ◌∷◌, length, arith, Option, Some, None, refl, sym, ap}
 use Rattle.std.proofs.Common.{◌∙◌, append_assoc}
 use Rattle.std.specs.Prelude.{if◌then◌else◌, option_map}
-use Rattle.std.proofs.lemmas.Bool.{cond_both, cond-true, cond-false}
+use Rattle.std.proofs.lemmas.Bool.{and_parts, cond_both, cond-true, cond-false, eqb-true, false≢true, not-true}
 use Rattle.rustc_parse_format.specs.Characters.{Text, is_brace, behind_white, behind_first, begins_with, first}
 use Rattle.rustc_parse_format.specs.Marks.{Span, Start, End, up_to, through, over_first}
 use Rattle.rustc_parse_format.specs.Types.{Mode, Spec, Argument, NextArgument, map_spec, map_argument}
@@ -13,7 +13,7 @@ use Rattle.rustc_parse_format.specs.Faults.{Fault, map_fault, brace_fill, no_bra
 use Rattle.rustc_parse_format.specs.PartFaults.{cut_faults}
 use Rattle.rustc_parse_format.specs.Recovery.{recovery}
 use Rattle.rustc_parse_format.specs.Call.{Call, GivesNoArgument, GivesAtMostText, call, placeholder, unclosed_call, unclosed_fault}
-use Rattle.rustc_parse_format.specs.Midway.{Midway, behind_closing, closed_then, read_call, read_texts, read_to, recovered}
+use Rattle.rustc_parse_format.specs.Midway.{Midway, behind_closing, closed_then, opens_placeholder, read_call, read_texts, read_to, recovered}
 use Rattle.rustc_parse_format.specs.Lines.{closed_in}
 use Rattle.rustc_parse_format.proofs.Numbers.{number_after_field-le}
 use Rattle.rustc_parse_format.proofs.Rests.{IsRest-le, behind_white_rest}
@@ -140,14 +140,24 @@ numbers_left mode c n (b ∷ t) r h e f = omega (arith, e, ap length f, number_a
 placeholder_boxed : (mode : Mode) (c : ℕ) (o t : Text) → GivesNoArgument (placeholder mode c o t).piece → ⊥
 placeholder_boxed mode c o t k = rw (placeholder-piece mode c o t) at k
 
-opened : (mode : Mode) (c b : ℕ) (t : Text) → b ≡ 123 → begins_with 123 t ≡ false → GivesNoArgument (call mode c (b ∷ t)).piece → ⊥
+call_at_open : (mode : Mode) (c b : ℕ) (t : Text) → b ≡ 123 → begins_with 123 t ≡ false → call mode c (b ∷ t) ≡ placeholder mode c (b ∷ t) t
 unfolding call
-opened mode c b t e h k = placeholder_boxed mode c (123 ∷ t) t (rw (e, h) at k)
+call_at_open mode c b t e h = rw (e, h) refl
 
--- a call at an opening brace that is not doubled takes memory
-pub placeholder_takes : (mode : Mode) (c : ℕ) (t : Text) → first t ≡ Some 123 → begins_with 123 (behind_first t) ≡ false → GivesAtMostText (call mode c t) → ⊥
-placeholder_takes mode c [] e h k = cc e
-placeholder_takes mode c (b ∷ t) e h k = opened mode c b t (cc) h k.0
+-- where a placeholder opens, the call is that of the placeholder
+pub call_opens : (mode : Mode) (c : ℕ) (t : Text) → opens_placeholder t ≡ true → call mode c t ≡ placeholder mode c t (behind_first t)
+call_opens mode c [] e = absurd (false≢true e)
+call_opens mode c (b ∷ t) e =
+    let h : ((b == 123) ≡ true) × (not (begins_with 123 t) ≡ true) = and_parts (b == 123) (not (begins_with 123 t)) e in
+    call_at_open mode c b t (eqb-true b 123 h.0) (not-true (begins_with 123 t) h.1)
+
+-- and it takes memory
+pub opens-takes : (mode : Mode) (c : ℕ) (t : Text) → opens_placeholder t ≡ true → GivesAtMostText (call mode c t) → ⊥
+opens-takes mode c t e k = placeholder_boxed mode c t (behind_first t) (rw (call_opens mode c t e) at k.0)
+
+pub opens-some : (t : Text) → opens_placeholder t ≡ true → t ≢ []
+opens-some [] e n = absurd (false≢true e)
+opens-some (b ∷ t) e n = cc n
 
 closes_at : (mode : Mode) (c b : ℕ) (t : Text) → GivesNoArgument (call mode c (b ∷ t)).piece → (call mode c (b ∷ t)).closes ≡ None
 unfolding call

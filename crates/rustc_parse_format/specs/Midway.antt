@@ -1,6 +1,6 @@
 -- What contracts of readers see in the middle of a call. Only private contracts use it.
 use Prim.Native.Char.{code}
-use Rattle.std.specs.Prelude.{chars, if◌then◌else◌, ◌≡◌, ◌<◌, ℕ, ◌++◌, true, List, [], ◌∷◌, length, Option, Some, None}
+use Rattle.std.specs.Prelude.{chars, Bool, not, ◌&&◌, if◌then◌else◌, ◌≡◌, ◌<◌, ℕ, ◌++◌, true, List, [], ◌∷◌, length, Option, Some, None}
 use Rattle.std.specs.Char.{is_whitespace}
 use Rattle.rustc_parse_format.specs.declared.source.Source.{Source}
 use Rattle.rustc_parse_format.specs.Characters.{Text, front, behind, behind_first, begins_with, is_no_brace}
@@ -33,6 +33,10 @@ pub record Midway : Type 0 where
   pub lines : List Place
   -- the placeholder that was closed
   pub closed : Option Place
+
+-- a placeholder opens here: an opening brace, and no other one behind it
+abbrev pub opens_placeholder : Text → Bool
+opens_placeholder t = begins_with (code "{") t && not (begins_with (code "{") (behind_first t))
 
 -- at the place of a cursor, with this number and in this line, where nothing was found yet
 abbrev pub midway : Unread → ℕ → ℕ → Midway

@@ -7,6 +7,8 @@ use Rattle.rustc_parse_format.specs.declared.types.ParseMode.{ParseMode as Decla
 use Rattle.rustc_parse_format.specs.declared.types.ParseMode.TheVariants.{Format as FormatMode, InlineAsm as InlineAsmMode, Diagnostic as DiagnosticMode, DiagnosticNamed as NamesMode}
 use Rattle.rustc_parse_format.specs.declared.types.Piece.{Piece as DeclaredPiece}
 use Rattle.rustc_parse_format.specs.declared.types.Piece.TheVariants.{Lit as LitPiece, NextArgument as ArgumentPiece}
+use Rattle.rustc_parse_format.specs.declared.types.Taken.{Taken as DeclaredTaken}
+use Rattle.rustc_parse_format.specs.declared.types.Taken.TheVariants.{Lit as LitTaken, NextArgument as ArgumentTaken}
 use Rattle.rustc_parse_format.specs.declared.types.Argument.{Argument as DeclaredArgument}
 use Rattle.rustc_parse_format.specs.declared.types.FormatSpec.{FormatSpec}
 use Rattle.rustc_parse_format.specs.declared.types.Position.{Position as DeclaredPosition}
@@ -90,6 +92,11 @@ seen_spec s = record {
 
 abbrev pub seen_argument : DeclaredArgument → Argument Place
 seen_argument a = record { position = seen_position a.position; position_span = pair a.position_span; format = seen_spec a.format }
+
+-- a piece that was taken out, whose placeholder was read into this argument
+abbrev pub seen_taken : DeclaredArgument → DeclaredTaken → Piece Place
+seen_taken a (LitTaken t) = Lit (chars t.now)
+seen_taken a ArgumentTaken = NextArgument (seen_argument a)
 
 abbrev pub seen : DeclaredPiece → Piece Place
 seen (LitPiece t) = Lit (chars t.now)

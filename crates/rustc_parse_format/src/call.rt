@@ -1,24 +1,24 @@
-//! One call of the parser, on a reader: the piece, and the faults as they are found.
+//! One call of the parser, on a reader: a placeholder or what is none, and the faults as they are found.
 
-ghost use Rattle.std.specs.Prelude.{[], ◌++◌, ◌+◌, ◌<◌, ◌^◌, ◌∷◌, ◌≡◌, ◌≢◌, IfOk, if◌then◌else◌, IsOk, length, OnErr, OnOk, option_map, Some};
+ghost use Rattle.std.specs.Prelude.{[], ◌++◌, ◌+◌, ◌<◌, ◌^◌, ◌∷◌, ◌≡◌, ◌≢◌, IfOk, chars, if◌then◌else◌, IsOk, length, OnErr, OnOk, option_map, Some, false, true};
 ghost use Rattle.rustc_parse_format.specs.Call.{call, GivesAtMostText, placeholder};
 ghost use Rattle.rustc_parse_format.specs.Characters.{Text, behind_first, first};
 ghost use Rattle.rustc_parse_format.specs.Faults.{brace_fill, no_brace};
 ghost use Rattle.rustc_parse_format.specs.Marks.{End, Span, over_first, up_to};
-ghost use Rattle.rustc_parse_format.specs.Seen.{pair, seen, seen_argument, seen_mode, seen_spec};
+ghost use Rattle.rustc_parse_format.specs.Seen.{pair, seen_argument, seen_mode, seen_spec};
 ghost use Rattle.rustc_parse_format.specs.SeenFaults.{seen_fault};
-ghost use Rattle.rustc_parse_format.specs.Midway.{behind_closing, read_call};
+ghost use Rattle.rustc_parse_format.specs.Midway.{behind_closing, opens_placeholder, read_call};
 ghost use Rattle.rustc_parse_format.specs.Steps.{Forward, IsInWord, Paid};
-ghost use Rattle.rustc_parse_format.specs.Types.{Argument as ArgumentValue, NextArgument, default_spec, map_argument};
+ghost use Rattle.rustc_parse_format.specs.Types.{Argument as ArgumentValue, Mode, Lit, NextArgument, default_spec, map_argument};
 ghost use Rattle.rustc_parse_format.specs.World.{number_of, piece_in, place_of};
 
 use crate::cursor::Trail;
 use crate::faults::Fault;
-use crate::placeholder::{blank_argument, read_argument};
+use crate::placeholder::read_argument;
 use crate::reader::Reader;
 use crate::recover::recover;
-use crate::types::{Argument, FormatSpec, ParseMode, Piece};
-use std::alloc::{AllocError, Global};
+use crate::types::{Argument, FormatSpec, ParseMode};
+use std::alloc::AllocError;
 use std::ops::Range;
 use std::sync::ledger::Ledger;
 
@@ -135,44 +135,42 @@ fn read_braced<'input, L: Ledger>(
     Ok(())
 }
 
-/// Reads the placeholder at the front, in place: the argument that it gives is made before it is read.
-fn read_placeholder<'input, L: Ledger>(
-    alloc: Global,
+/// Reads the placeholder at the front into a blank argument, as the whole call.
+#[inline(always)]
+pub fn read_placeholder<'input, L: Ledger>(
     mode: ParseMode,
+    into: &mut Argument<'input>,
     reader: &mut Reader<'input>,
     trail: &mut Trail<'input, L>,
-) -> Result<Piece<'input>, AllocError>
-    requires here { reader.old.rest ≢ [] }
+) -> Result<(), AllocError>
+    requires blank { seen_spec into.old.format ≡ default_spec }
+    requires opens { opens_placeholder reader.old.rest ≡ true }
     requires steps { IsInWord reader.old.rest trail.old }
     requires numbers { reader.old.next + length reader.old.rest < 2 ^ 64 }
-    ensures piece { IfOk result (λ p. Some (seen p) ≡ option_map (piece_in reader.old.world)
-        (placeholder (seen_mode mode) reader.old.next reader.old.rest (behind_first reader.old.rest)).piece) }
-    ensures state { OnOk result (reader.new
-        ≡ read_call reader.old (placeholder (seen_mode mode) reader.old.next reader.old.rest (behind_first reader.old.rest))) }
+    ensures value { OnOk result (Some (NextArgument (seen_argument into.new)) ≡ option_map (piece_in reader.old.world)
+        (call (seen_mode mode) reader.old.next reader.old.rest).piece) }
+    ensures state { OnOk result (reader.new ≡ read_call reader.old (call (seen_mode mode) reader.old.next reader.old.rest)) }
     ensures err { OnErr result (reader.new.source ≡ reader.old.source) }
     ensures steps { OnOk result (Paid reader.old.rest trail.old reader.new.rest trail.new) }
 {
-    let mut argument = Box::new(alloc, blank_argument())?;
-    read_braced(mode, &mut argument, reader, trail)?;
-    Ok(Piece::NextArgument(argument))
+    read_braced(mode, into, reader, trail)?;
+    Ok(())
 }
 
-/// Reads the next piece, or None at the end and over a closing brace that closes nothing.
+/// Reads what is no placeholder: text, or nothing at the end and over a closing brace that closes nothing.
 #[tactic(auto, using(crate::proofs::Steps::part_le), unfolding(crate::specs::Call::call))]
-pub fn read_piece<'input, L: Ledger>(
-    alloc: Global,
-    mode: ParseMode,
+pub fn read_bare<'input, L: Ledger>(
     reader: &mut Reader<'input>,
     trail: &mut Trail<'input, L>,
-) -> Result<Option<Piece<'input>>, AllocError>
-    requires numbers { reader.old.next + length reader.old.rest < 2 ^ 64 }
+) -> Result<Option<&'input str>, AllocError>
+    requires bare { opens_placeholder reader.old.rest ≡ false }
     requires steps { IsInWord reader.old.rest trail.old }
-    ensures piece { IfOk result (λ p. option_map seen p ≡ option_map (piece_in reader.old.world)
-        (call (seen_mode mode) reader.old.next reader.old.rest).piece) }
-    ensures state { OnOk result (reader.new ≡ read_call reader.old (call (seen_mode mode) reader.old.next reader.old.rest)) }
-    ensures spare { (let k = call (seen_mode mode) reader.old.next reader.old.rest in
-        GivesAtMostText k → (read_call reader.old k).lines ≡ reader.old.lines → IsOk result) }
-    ensures err { OnErr result (reader.new.source ≡ reader.old.source) }
+    ensures piece { IfOk result (λ p. (m : Mode) → option_map (λ t. Lit (chars t.now)) p ≡ option_map (piece_in reader.old.world)
+        (call m reader.old.next reader.old.rest).piece) }
+    ensures state { OnOk result ((m : Mode) → reader.new ≡ read_call reader.old (call m reader.old.next reader.old.rest)) }
+    ensures spare { ((m : Mode) → (let k = call m reader.old.next reader.old.rest in
+        GivesAtMostText k → (read_call reader.old k).lines ≡ reader.old.lines → IsOk result)) }
+    ensures source { reader.new.source ≡ reader.old.source }
     ensures steps { OnOk result (Paid reader.old.rest trail.old reader.new.rest trail.new) }
 {
     let Some(c) = reader.cursor.peek() else {
@@ -180,16 +178,12 @@ pub fn read_piece<'input, L: Ledger>(
     };
     if c != '{' && c != '}' {
         let text = reader.take_text(trail)?;
-        return Ok(Some(Piece::Lit(text)));
+        return Ok(Some(text));
     }
     if reader.cursor.goes_on_with(c) {
         reader.cursor.advance(trail);
         let text = reader.take_text_behind_first(trail)?;
-        return Ok(Some(Piece::Lit(text)));
-    }
-    if c == '{' {
-        let piece = read_placeholder(alloc, mode, reader, trail)?;
-        return Ok(Some(piece));
+        return Ok(Some(text));
     }
     let span = reader.cursor.take_place(trail);
     reader.note(Fault::UnmatchedBrace(span))?;

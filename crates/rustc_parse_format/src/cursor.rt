@@ -28,14 +28,14 @@ impl<'input> Model for Cursor<'input> {
 }
 
 impl<'input> Cursor<'input> {
-    ghost use Rattle.std.specs.Prelude.{◌≡◌, ◌++◌, chars, if◌then◌else◌, IsTrue, length, option_map, Some};
-    ghost use Rattle.rustc_parse_format.specs.Characters.{Text, begins_raw, begins_with, first, behind_first, behind, behind_white, word, behind_word, digits, behind_digits, number, is_id_start, is_over, first_passes};
+    ghost use Rattle.std.specs.Prelude.{◌≡◌, ◌-◌, ◌++◌, chars, if◌then◌else◌, IsTrue, length, option_map, Some};
+    ghost use Rattle.rustc_parse_format.specs.Characters.{Text, byte_length, begins_raw, begins_with, first, behind_first, behind, behind_white, word, behind_word, digits, behind_digits, number, is_id_start, is_over, first_passes};
     ghost use Rattle.std.specs.Char.{is_ascii_digit, is_whitespace};
     ghost use Rattle.rustc_parse_format.specs.Bytes.{IsOfAscii};
     ghost use Rattle.rustc_parse_format.specs.Classes.{passes};
     ghost use Rattle.rustc_parse_format.specs.Marks.{Start, End};
     ghost use Rattle.rustc_parse_format.specs.Seen.{pair};
-    ghost use Rattle.rustc_parse_format.specs.Midway.{IsPastIndent, unread_at};
+    ghost use Rattle.rustc_parse_format.specs.Midway.{IsPastIndent, opens_placeholder, unread_at};
     ghost use Rattle.rustc_parse_format.specs.SeenSource.{IsSpot};
     ghost use Rattle.rustc_parse_format.specs.State.{first_of};
     ghost use Rattle.rustc_parse_format.specs.Steps.{Forward};
@@ -227,6 +227,14 @@ impl<'input> Cursor<'input> {
         self.source.next_place(&ahead)
     }
 
+    /// The byte position of the next character in the input, or of its end.
+    #[inline(always)]
+    pub fn position(&self) -> usize
+        ensures { result ≡ byte_length self.now.input - byte_length self.now.rest }
+    {
+        self.source.position(&self.spot)
+    }
+
     /// The next character is this one.
     pub fn is_next(&self, c: char) -> bool
         ensures { result ≡ begins_with c self.now.rest }
@@ -254,6 +262,14 @@ impl<'input> Cursor<'input> {
         ensures { result ≡ begins_with c (behind_first self.now.rest) }
     {
         self.peek_ahead() == Some(c)
+    }
+
+    /// A placeholder opens here: an opening brace, and no other one behind it.
+    #[inline(always)]
+    pub fn opens_placeholder(&self) -> bool
+        ensures { result ≡ opens_placeholder self.now.rest }
+    {
+        self.is_next('{') && !self.goes_on_with('{')
     }
 
     /// The next character is a digit.

@@ -34,7 +34,7 @@ pub use types::Count::{CountImplied, CountIs, CountIsName, CountIsParam, CountIs
 pub use types::Position::{ArgumentImplicitlyIs, ArgumentIs, ArgumentNamed};
 pub use types::{
     Alignment, Argument, Count, DebugHex, FormatSpec, ParseError, ParseMode, Piece, Position, Sign,
-    Suggestion,
+    Suggestion, Taken,
 };
 #[doc(hidden)]
 pub use written::put_written;

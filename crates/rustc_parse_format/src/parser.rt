@@ -1,11 +1,12 @@
 //! The parser: one call after another, up to the end of the input.
 
-use crate::call::read_piece;
-use crate::cursor::{Cursor, StepCount, Trail};
-use crate::lists::{Lists, ends_with};
+mod steps;
+
+use crate::cursor::{Cursor, StepCount};
+use crate::lists::Lists;
 use crate::reader::Reader;
 use crate::source::Spot;
-use crate::types::{ParseError, ParseMode, Piece};
+use crate::types::{Argument, ParseError, ParseMode, Piece, Taken};
 use crate::world::{first_look, quote_offset, source_of};
 use std::alloc::{AllocError, Global};
 use std::marker::{Brand, Model};
@@ -46,9 +47,9 @@ impl<'input> Model for Parser<'input> {
 }
 
 impl<'input> Parser<'input> {
-    ghost use Rattle.std.specs.Prelude.{◌≡◌, ◌≢◌, ◌+◌, ◌<◌, ◌≤◌, ◌^◌, ◌↔◌, ◌++◌, [], ℕ, Bool, true, false, List, Option, IfOk, IsNone, IsOk, IsTrue, OnErr, OnOk, chars, length, map, option_map};
+    ghost use Rattle.std.specs.Prelude.{◌≡◌, ◌≢◌, ◌+◌, ◌-◌, ◌<◌, ◌≤◌, ◌^◌, ◌↔◌, ◌++◌, [], ℕ, Bool, true, false, List, Option, IfOk, IsNone, IsOk, IsTrue, OnErr, OnOk, chars, length, map, option_map};
     ghost use Rattle.rustc_parse_format.specs.Agreement.{Agree};
-    ghost use Rattle.rustc_parse_format.specs.Characters.{Text, behind_first};
+    ghost use Rattle.rustc_parse_format.specs.Characters.{Text, behind_first, byte_length};
     ghost use Rattle.std.specs.List.{filter};
     ghost use Rattle.rustc_parse_format.specs.Faults.{Keeps, add_errors, bare_fault, bare_message, is_front};
     ghost use Rattle.rustc_parse_format.specs.Lines.{IsLines, listed, noted};
@@ -56,7 +57,7 @@ impl<'input> Parser<'input> {
     ghost use Rattle.rustc_parse_format.specs.Grammar.{Begins};
     ghost use Rattle.rustc_parse_format.specs.Meaning.{argument};
     ghost use Rattle.rustc_parse_format.specs.Types.{NextArgument, Piece as BarePiece, bare};
-    ghost use Rattle.rustc_parse_format.specs.Seen.{pair, seen, seen_error, seen_mode, seen_snippet};
+    ghost use Rattle.rustc_parse_format.specs.Seen.{pair, seen, seen_error, seen_mode, seen_snippet, seen_taken};
     ghost use Rattle.rustc_parse_format.specs.Literal.{IsSource};
     ghost use Rattle.rustc_parse_format.specs.Source.{HasSource};
     ghost use Rattle.rustc_parse_format.specs.State.{ComesFrom, GivesPiece, State, after, first_of, first_state, last_lines, next_call};
@@ -105,54 +106,6 @@ impl<'input> Parser<'input> {
             reader: Reader::new(alloc, cursor, quote_offset(style)),
             lists: Lists::new(alloc),
         })
-    }
-
-    /// One call, on a trail. It tells how many of its errors were put in front of the earlier ones.
-    fn step<L: Ledger>(
-        &mut self,
-        fronts: &mut usize,
-        trail: &mut Trail<'input, L>,
-    ) -> Result<Option<Piece<'input>>, AllocError>
-        requires { IsInWord self.old.rest trail.old }
-        ensures piece { IfOk result (λ p. option_map seen p ≡ option_map (piece_in self.old.world) (next_call self.old).piece) }
-        ensures state { OnOk result (self.new ≡ after self.old (next_call self.old)) }
-        ensures err { OnErr result (self.new ≡ self.old) }
-        ensures spare { NeedsNoMemory self.old (next_call self.old) → IsOk result }
-        ensures fronts { OnOk result (fronts.new ≡ length (filter is_front (next_call self.old).faults)) }
-        ensures steps { OnOk result (Paid self.old.rest trail.old self.new.rest trail.new) }
-    {
-        if self.reader.is_at_end() {
-            self.end_line()?;
-            *fronts = 0;
-            return Ok(None);
-        }
-        let front = self.reader.front();
-        let Ok(piece) = read_piece(self.alloc, self.mode, &mut self.reader, trail) else {
-            self.reader.go_back(self.alloc, front);
-            return Err(AllocError);
-        };
-        let Ok(count) = self.lists.take_over(self.alloc, &mut self.reader) else {
-            self.reader.go_back(self.alloc, front);
-            return Err(AllocError);
-        };
-        *fronts = count;
-        Ok(piece)
-    }
-
-    /// Adds the last line of a source literal at its end, unless it is there.
-    fn end_line(&mut self) -> Result<(), AllocError>
-        requires { self.old.rest ≡ [] }
-        ensures state { OnOk result (self.new ≡ record self.old { line_spans = last_lines self.old self.old.line_spans }) }
-        ensures err { OnErr result (self.new ≡ self.old) }
-        ensures spare { last_lines self.old self.old.line_spans ≡ self.old.line_spans → IsOk result }
-    {
-        if self.is_source_literal() {
-            let last = self.reader.line();
-            if !ends_with(self.lists.line_spans.as_slice(), &last) {
-                self.lists.line_spans.push(last)?;
-            }
-        }
-        Ok(())
     }
 
     /// A count of the steps from here on, which contracts see and no code: it is nothing when the program runs. A step is a
@@ -303,17 +256,44 @@ impl<'input> Parser<'input> {
         self.one_call(&mut fronts)
     }
 
-    /// The next piece, as by [`Parser::next`], and how many errors of this call were put in front of all earlier ones. Its other
-    /// errors come after those. An error leaves the parser as it was.
-    pub fn next_with_fronts(&mut self) -> Result<(Option<Piece<'input>>, usize), AllocError>
-        ensures piece { IfOk result (λ x. option_map seen x.0 ≡ option_map (piece_in self.old.world) (next_call self.old).piece) }
+    /// A call into an argument, whose steps nobody counts.
+    #[inline(always)]
+    fn take_uncounted<L: Ledger>(
+        &mut self,
+        into: &mut Argument<'input>,
+        fronts: &mut usize,
+        blank: Blank,
+    ) -> Result<Option<Taken<'input>>, AllocError>
+        requires name { blank.name ≡ L.name }
+        requires parts { blank.parts ≡ L.parts }
+        requires three { blank.parts ≡ 3 }
+        ensures piece { IfOk result (λ p. option_map (seen_taken into.new) p ≡ option_map (piece_in self.old.world) (next_call self.old).piece) }
+        ensures state { OnOk result (self.new ≡ after self.old (next_call self.old)) }
+        ensures err { OnErr result (self.new ≡ self.old) }
+        ensures spare { NeedsNoMemory self.old (next_call self.old) → IsOk result }
+        ensures fronts { OnOk result (fronts.new ≡ length (filter is_front (next_call self.old).faults)) }
+    {
+        let mut count = self.count::<L>(blank);
+        self.take(into, fronts, &mut count.call)
+    }
+
+    /// The next piece, as by [`Parser::next`], where a placeholder is read into an argument of the caller's and takes no memory
+    /// of its own; and how many errors of this call were put in front of all earlier ones. Its other errors come after those. An
+    /// error leaves the parser as it was. Only where the piece is a placeholder is the argument's value of any use then.
+    #[inline(always)]
+    pub fn next_into(
+        &mut self,
+        argument: &mut Argument<'input>,
+    ) -> Result<(Option<Taken<'input>>, usize), AllocError>
+        ensures piece { IfOk result (λ x. option_map (seen_taken argument.new) x.0
+            ≡ option_map (piece_in self.old.world) (next_call self.old).piece) }
         ensures fronts { IfOk result (λ x. x.1 ≡ length (filter is_front (next_call self.old).faults)) }
         ensures state { OnOk result (self.new ≡ after self.old (next_call self.old)) }
         ensures err { OnErr result (self.new ≡ self.old) }
         ensures spare { NeedsNoMemory self.old (next_call self.old) → IsOk result }
     {
         let mut fronts = 0;
-        let piece = self.one_call(&mut fronts)?;
+        let piece = self.take_uncounted::<Brand>(argument, &mut fronts, Blank::new(3))?;
         Ok((piece, fronts))
     }
 
@@ -333,6 +313,14 @@ impl<'input> Parser<'input> {
             ≡ first_of self.now.world self.now.input (behind_first self.now.rest) }
     {
         self.reader.cursor.place_ahead()
+    }
+
+    /// How many bytes of the input were read: the byte position of the next character, or the length of the input at its end.
+    #[inline(always)]
+    pub fn position(&self) -> usize
+        ensures { result ≡ byte_length self.now.input - byte_length self.now.rest }
+    {
+        self.reader.cursor.position()
     }
 
     /// The errors of all calls so far, in their order.

@@ -381,7 +381,8 @@ impl<'input> Source<'input> {
     }
 
     /// The byte position of the next character in the input, or of its end.
-    fn position(&self, spot: &Spot<'_>) -> usize
+    #[inline(always)]
+    pub fn position(&self, spot: &Spot<'_>) -> usize
         requires { IsSpot self.now spot.now.rest.now spot.now.mark.now spot.now.at }
         ensures { result ≡ byte_length (chars self.now.input.now) - byte_length (chars spot.now.rest.now) }
     {

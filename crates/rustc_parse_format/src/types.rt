@@ -28,6 +28,15 @@ pub enum Piece<'input> {
     NextArgument(Box<Argument<'input>>),
 }
 
+/// A piece of which a placeholder was read into an argument of the caller's.
+#[derive(Clone, Copy)]
+pub enum Taken<'input> {
+    /// Text, with `{{` and `}}` as one brace each.
+    Lit(&'input str),
+    /// The placeholder.
+    NextArgument,
+}
+
 /// What a placeholder asks for. Spans are ranges of bytes.
 #[derive(Clone, Debug, PartialEq, Drop)]
 pub struct Argument<'input> {

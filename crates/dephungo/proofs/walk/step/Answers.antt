@@ -1,6 +1,6 @@
 use Rattle.std.proofs.Common.{◌≡◌, ◌-◌, length, sym, ap, ◌∙◌, arith}
 use Rattle.std.proofs.lemmas.List.{length-map}
-use Rattle.rustc_parse_format.specs.Seen.{pair, seen, seen_error}
+use Rattle.rustc_parse_format.specs.Seen.{pair, seen_error, seen_taken}
 use Rattle.rustc_parse_format.specs.State.{State, next_call}
 use Rattle.std.specs.Prelude.{option_map}
 use Rattle.rustc_parse_format.specs.Lines.{closed_in}
@@ -14,7 +14,7 @@ use Rattle.dephungo.proofs.walk.step.Goals as goal
 
 pub put_given-requires-clause-alone : goal.put_given-requires-clause-alone
 put_given-requires-clause-alone c =
-    let read = c.next_places-read.ensures.read ∙ ap (λ (s : State). position s.input s.rest) c.in_ok-given.ensures.state in
+    let read = c.position-read.ensures ∙ ap (λ (s : State). position s.input s.rest) c.in_ok-given.ensures.state in
     alone c.args.input.now c.args.parser.now c.args.offset _ (guide_of c.args.guide.now) _ c.utf8.input c.requires.input c.requires.left c.requires.guided
     read c.in_ok-given.ensures.piece
 
@@ -38,20 +38,20 @@ pub returns-clause-told : goal.returns-clause-told
 returns-clause-told c = λ room.
     let s = c.args.parser.now in
     let state = c.in_ok-given.ensures.state in
-    let same = alike c.args.input.now s c.args.offset (guide_of c.args.guide.now) (option_map seen c.in_ok-given.given) c.requires.guided
+    let same = alike c.args.input.now s c.args.offset (guide_of c.args.guide.now) (option_map (seen_taken c.next_into.new.argument) c.in_ok-given.given) c.requires.guided
     c.in_ok-given.ensures.piece in
     let kept = c.in_ok-put_given.ensures.others in
-    told c.args.input.now c.put_given.new.specs c.put_given.new.step s c.next_with_fronts.new.self state
+    told c.args.peeks c.args.input.now c.put_given.new.specs c.put_given.new.step s c.next_into.new.self state
     (c.in_ok-put_given.ensures.told same room ∙ c.in_ok-given.ensures.piece)
     (ap maybe_place kept.0
     ∙ c.closed-step.ensures s.arg_places (closed_in s.world (next_call s).closes) (sym (length-map c.arg_places-places.result.now pair)
     ∙ ap length c.arg_places-places.ensures)
     (c.arg_places.ensures ∙ ap (λ (t : State). t.arg_places) state))
-    (kept.1 ∙ c.next_places-read.ensures.read)
+    (kept.1 ∙ c.position-read.ensures)
     (kept.2 ∙ c.curarg-step.ensures.value)
     (kept.3 ∙ sym (length-map c.line_spans.result.now pair) ∙ ap length c.line_spans.ensures)
-    (ap maybe_place kept.4 ∙ c.next_places-read.ensures.place)
-    (ap maybe_place kept.5 ∙ c.next_places-read.ensures.ahead)
+    (ap maybe_place kept.4 ∙ c.put_peeks.ensures.place)
+    (ap maybe_place kept.5 ∙ c.put_peeks.ensures.ahead)
 
 pub returns-clause-guided : goal.returns-clause-guided
 returns-clause-guided c =

@@ -1,7 +1,7 @@
 use Rattle.std.proofs.Common.{[], length, refl, sym, ap, ◌∙◌, arith}
-use Rattle.std.proofs.lemmas.List.{append-nil, length-map}
+use Rattle.std.proofs.lemmas.List.{append-nil}
 use Rattle.rustc_parse_format.specs.State.{State}
-use Rattle.dephungo.specs.Events.{event, states}
+use Rattle.dephungo.specs.Events.{states}
 use Rattle.dephungo.proofs.Lists.{still_behind}
 use Rattle.dephungo.proofs.Standing.{still_ends}
 use Rattle.dephungo.proofs.Widths.{none_left, some_left}
@@ -15,7 +15,7 @@ loop-read-init c = record {
   read = rw c.requires.start (omega arith);
   guided = c.requires.guided;
   room = omega arith;
-  up_to = begin c.args.input.now c.args.parser.now c.args.finders.now c.args.steps.now c.args.specs.now c.requires.none c.requires.no_fronts;
+  up_to = begin c.args.peeks c.args.input.now c.args.parser.now c.args.finders.now c.args.steps.now c.args.specs.now c.requires.none c.requires.no_fronts;
   kept_steps = refl;
   kept_specs = refl;
 }
@@ -43,11 +43,11 @@ loop-read-preserved c =
       guided = c.in_ok-read.ensures.guided;
       read = c.in_ok-read.ensures.read;
       room = omega (arith, invariant.room, fewer, ap (λ (s : State). length s.rest) state);
-      up_to = one_more c.args.input.now c.args.parser.now s t (states t) c.loop-read.count c.loop-read.used c.add_step.new.used
+      up_to = one_more c.args.peeks c.args.input.now c.args.parser.now s t (states t) c.loop-read.count c.loop-read.used c.add_step.new.used
           c.loop-read.finders c.add_step.new.finders c.loop-read.steps c.add_step.new.steps c.loop-read.specs c.add_step.new.specs
           (rw (states-more s t more state) at invariant.up_to) state used c.in_ok-read.ensures.finders c.in_ok-read.ensures.fronts
           c.in_ok-read.ensures.added c.in_ok-read.ensures.front c.add_step.auto.specs;
-      kept_steps = kept_put c.args.input.now s c.loop-read.steps c.add_step.new.steps c.args.steps.now c.add_step.new.specs c.loop-read.count
+      kept_steps = kept_put c.args.peeks c.args.input.now s c.loop-read.steps c.add_step.new.steps c.args.steps.now c.add_step.new.specs c.loop-read.count
           c.add_step.new.used c.in_ok-read.ensures.added invariant.kept_steps;
       kept_specs = c.in_ok-read.ensures.kept ∙ still_behind c.loop-read.specs c.args.specs.now c.loop-read.used c.add_step.new.used (omega (
         arith,
@@ -65,12 +65,12 @@ returns c =
     let invariant = c.loop-read.invariant in
     let state = c.in_ok-add_step.ensures.state in
     let used = c.in_ok-add_step.ensures.used in
-    let last = one_more c.args.input.now s0 s t [] c.loop-read.count c.loop-read.used c.add_step-2.new.used
+    let last = one_more c.args.peeks c.args.input.now s0 s t [] c.loop-read.count c.loop-read.used c.add_step-2.new.used
     c.loop-read.finders c.add_step-2.new.finders c.loop-read.steps c.add_step-2.new.steps c.loop-read.specs c.add_step-2.new.specs
     (rw (states-end s end) at invariant.up_to) state used c.in_ok-add_step.ensures.finders c.in_ok-add_step.ensures.fronts
     c.in_ok-add_step.ensures.added c.in_ok-add_step.ensures.front c.add_step-2.auto.specs in
     record {
-      count = omega (arith, last.counted, length-map (states s0) event);
+      count = omega (arith, last.counted);
       specs = omega (arith, last.specs_counted);
       written = λ room specs_room. sym (append-nil _) ∙ last.written (omega (arith, c.add_step-2.auto.steps, c.loop-read.auto.steps, room)) (omega (
         arith,
@@ -81,7 +81,7 @@ returns c =
       state = last.state;
       finders = last.finders;
       fronts = omega (arith, last.fronts);
-      kept_steps = kept_put c.args.input.now s c.loop-read.steps c.add_step-2.new.steps c.args.steps.now c.add_step-2.new.specs c.loop-read.count
+      kept_steps = kept_put c.args.peeks c.args.input.now s c.loop-read.steps c.add_step-2.new.steps c.args.steps.now c.add_step-2.new.specs c.loop-read.count
           c.add_step-2.new.used c.in_ok-add_step.ensures.added invariant.kept_steps;
       kept_specs = c.in_ok-add_step.ensures.kept ∙ still_behind c.loop-read.specs c.args.specs.now c.loop-read.used c.add_step-2.new.used (omega (
         arith,

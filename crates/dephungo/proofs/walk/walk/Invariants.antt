@@ -11,7 +11,7 @@ invariant-loop-read l = record {
   guided : IsGuided l.parser l.offset (guide_of l.guide);
   read : l.read ≡ position l.parser.input l.parser.rest;
   room : l.count + length l.parser.rest ≤ length l.fn.parser.rest;
-  up_to : IsUpTo l.input l.fn.parser (states l.parser) l.parser l.count l.used l.finders l.steps l.specs;
+  up_to : IsUpTo l.peeks l.input l.fn.parser (states l.parser) l.parser l.count l.used l.finders l.steps l.specs;
   kept_steps : drop l.count l.steps ≡ drop l.count l.fn.steps;
   kept_specs : drop l.used l.specs ≡ drop l.used l.fn.specs;
 }

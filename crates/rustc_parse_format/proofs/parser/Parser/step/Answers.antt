@@ -1,62 +1,16 @@
-use Rattle.std.proofs.Common.{◌≡◌, ◌≢◌, ◌++◌, ◌∙◌, List, [], ap, arith, length, refl, rules, subst, sym}
-use Rattle.std.specs.List.{filter}
-use Rattle.std.specs.Prelude.{None, option_map}
-use Rattle.rustc_parse_format.specs.Faults.{Fault, is_front}
-use Rattle.rustc_parse_format.specs.Midway.{Midway, HasFoundNothing, read_call}
-use Rattle.rustc_parse_format.specs.Seen.{seen_mode}
-use Rattle.rustc_parse_format.specs.State.{State, next_call}
-use Rattle.rustc_parse_format.specs.World.{Place, faults_in, piece_in}
-use Rattle.rustc_parse_format.proofs.Placeholders.{closes_nothing}
-use Rattle.rustc_parse_format.proofs.Progress.{call_next-le}
-use Rattle.rustc_parse_format.proofs.ParserLaws.{count_of_fronts}
-use Rattle.rustc_parse_format.proofs.StateLines.{at_end, end_faults, nothing_found}
+use Rattle.std.proofs.Common.{◌≡◌, true, rules}
+use Rattle.rustc_parse_format.specs.Midway.{opens_placeholder}
+use Rattle.rustc_parse_format.proofs.Placeholders.{opens-takes}
 use Rattle.rustc_parse_format.proofs.parser.Parser.step.Goals as goal
 
-pub returns-then-is_at_end-clause-piece : goal.returns-then-is_at_end-clause-piece
-returns-then-is_at_end-clause-piece g c =
+pub returns-in_err-argument-clause-spare : goal.returns-in_err-argument-clause-spare
+returns-in_err-argument-clause-spare g c h =
     let s = c.args.self.now in
-    let end : s.rest ≡ [] = rw (← c.self.view_is) (c.is_at_end.ensures.0 c.if-is_at_end.true) in
-    sym (ap (option_map (piece_in s.world)) (at_end s end).0)
+    let opens : opens_placeholder s.rest ≡ true = search rules in
+    absurd (opens-takes s.mode s.next s.rest opens h.0)
 
-pub returns-then-is_at_end-clause-state : goal.returns-then-is_at_end-clause-state
-returns-then-is_at_end-clause-state g c =
+pub returns-in_err-step_into-clause-spare : goal.returns-in_err-step_into-clause-spare
+returns-in_err-step_into-clause-spare g c h =
     let s = c.args.self.now in
-    let end : s.rest ≡ [] = rw (← c.self.view_is) (c.is_at_end.ensures.0 c.if-is_at_end.true) in
-    c.in_ok-end_line.ensures.state ∙ sym (at_end s end).1
-
-pub returns-then-is_at_end-clause-fronts : goal.returns-then-is_at_end-clause-fronts
-returns-then-is_at_end-clause-fronts g c =
-    let s = c.args.self.now in
-    let end : s.rest ≡ [] = rw (← c.self.view_is) (c.is_at_end.ensures.0 c.if-is_at_end.true) in
-    rw (end_faults s end) refl
-
-pub returns-clause-fronts : goal.returns-clause-fronts
-returns-clause-fronts g c =
-    let r = c.self.inside.reader in
-    let s = c.args.self.now in
-    let read : ◌≡◌ {A = Midway} c.read_piece.new.reader (read_call r (next_call s)) =
-    c.in-Ok.ensures.state ∙ ap (λ (x : State). read_call r (next_call x)) c.self.view_is in
-    let found : c.read_piece.new.reader.faults ≡ faults_in s.world (next_call s).faults =
-    ap (λ (m : Midway). m.faults) read
-    ∙ ap (λ (fs : List (Fault Place)). fs ++ faults_in r.world (next_call s).faults) c.self.invariant.1.0
-    ∙ ap (λ (x : State). faults_in x.world (next_call s).faults) c.self.view_is in
-    c.in-Ok-take_over.ensures.fronts ∙ ap (λ fs. length (filter is_front fs)) found ∙ count_of_fronts s.world (next_call s).faults
-
-pub returns-in_default-take_over-clause-spare : goal.returns-in_default-take_over-clause-spare
-returns-in_default-take_over-clause-spare g c n =
-    let r = c.self.inside.reader in
-    let s = c.args.self.now in
-    let left : r.rest ≢ [] = search rules in
-    let some : s.rest ≢ [] = subst (λ (x : State). x.rest ≢ []) c.self.view_is left in
-    let none = nothing_found s r (next_call s) some c.self.invariant.1 (ap (λ (x : State). x.world) c.self.view_is)
-    (ap (λ (x : State). x.line_start) c.self.view_is) n (closes_nothing s.mode s.next s.rest n.0.0) in
-    let read : ◌≡◌ {A = Midway} c.read_piece.new.reader (read_call r (next_call s)) =
-    c.in-Ok.ensures.state ∙ ap (λ (x : State). read_call r (next_call x)) c.self.view_is in
-    c.in_default-take_over.ensures.none (subst HasFoundNothing (sym read) none)
-
-pub invariant_of-self-in-Ok-take_over : goal.invariant_of-self-in-Ok-take_over
-invariant_of-self-in-Ok-take_over g c =
-    let most = call_next-le (seen_mode c.self.inside.mode) c.self.inside.reader.next c.self.inside.reader.rest in
-    let fits = c.self.invariant.0 in
-    let taken : ◌≡◌ {A = Midway} c.take_over.new.reader (record c.read_piece.new.reader { faults = []; lines = []; closed = None }) = search rules in
-    rw (taken, c.in-Ok.ensures.state) (omega arith, (refl, refl, refl))
+    let opens : opens_placeholder s.rest ≡ true = search rules in
+    absurd (opens-takes s.mode s.next s.rest opens h.0)

@@ -1,0 +1,14 @@
+use Rattle.rustc_parse_format.specs.Seen.{seen_mode}
+use Rattle.rustc_parse_format.proofs.Placeholders.{call_opens, opens-some}
+use Rattle.rustc_parse_format.proofs.call.read_placeholder.Goals as goal
+
+pub read_braced-requires-clause-here : goal.read_braced-requires-clause-here
+read_braced-requires-clause-here g c = opens-some c.args.reader.now.rest c.requires.opens
+
+pub returns-clause-value : goal.returns-clause-value
+returns-clause-value g c =
+    let s = c.args.reader.now in rw (call_opens (seen_mode c.args.mode) s.next s.rest c.requires.opens) c.in_ok-read_braced.ensures.value
+
+pub returns-clause-state : goal.returns-clause-state
+returns-clause-state g c =
+    let s = c.args.reader.now in rw (call_opens (seen_mode c.args.mode) s.next s.rest c.requires.opens) c.in_ok-read_braced.ensures.state

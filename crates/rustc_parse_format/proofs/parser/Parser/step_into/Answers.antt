@@ -1,0 +1,30 @@
+use Rattle.std.proofs.Common.{◌≡◌, ◌++◌, ◌∙◌, List, [], ap, arith, length, refl, rules}
+use Rattle.std.specs.List.{filter}
+use Rattle.std.specs.Prelude.{None}
+use Rattle.rustc_parse_format.specs.Faults.{Fault, is_front}
+use Rattle.rustc_parse_format.specs.Midway.{Midway, read_call}
+use Rattle.rustc_parse_format.specs.Seen.{seen_mode}
+use Rattle.rustc_parse_format.specs.State.{State, next_call}
+use Rattle.rustc_parse_format.specs.World.{Place, faults_in}
+use Rattle.rustc_parse_format.proofs.Progress.{call_next-le}
+use Rattle.rustc_parse_format.proofs.ParserLaws.{count_of_fronts}
+use Rattle.rustc_parse_format.proofs.parser.Parser.step_into.Goals as goal
+
+pub returns-clause-fronts : goal.returns-clause-fronts
+returns-clause-fronts g c =
+    let r = c.self.inside.reader in
+    let s = c.args.self.now in
+    let read : ◌≡◌ {A = Midway} c.read_placeholder.new.reader (read_call r (next_call s)) =
+    c.in-Ok.ensures.state ∙ ap (λ (x : State). read_call r (next_call x)) c.self.view_is in
+    let found : c.read_placeholder.new.reader.faults ≡ faults_in s.world (next_call s).faults =
+    ap (λ (m : Midway). m.faults) read
+    ∙ ap (λ (fs : List (Fault Place)). fs ++ faults_in r.world (next_call s).faults) c.self.invariant.1.0
+    ∙ ap (λ (x : State). faults_in x.world (next_call s).faults) c.self.view_is in
+    c.in-Ok-take_over.ensures.fronts ∙ ap (λ fs. length (filter is_front fs)) found ∙ count_of_fronts s.world (next_call s).faults
+
+pub invariant_of-self-in-Ok-take_over : goal.invariant_of-self-in-Ok-take_over
+invariant_of-self-in-Ok-take_over g c =
+    let most = call_next-le (seen_mode c.self.inside.mode) c.self.inside.reader.next c.self.inside.reader.rest in
+    let fits = c.self.invariant.0 in
+    let taken : ◌≡◌ {A = Midway} c.take_over.new.reader (record c.read_placeholder.new.reader { faults = []; lines = []; closed = None }) = search rules in
+    rw (taken, c.in-Ok.ensures.state) (omega arith, (refl, refl, refl))

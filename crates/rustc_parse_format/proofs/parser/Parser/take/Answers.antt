@@ -1,0 +1,10 @@
+use Rattle.std.proofs.Common.{◌≡◌, true, rules}
+use Rattle.rustc_parse_format.specs.Midway.{opens_placeholder}
+use Rattle.rustc_parse_format.proofs.Placeholders.{opens-takes}
+use Rattle.rustc_parse_format.proofs.parser.Parser.take.Goals as goal
+
+pub returns-in_err-step_into-clause-spare : goal.returns-in_err-step_into-clause-spare
+returns-in_err-step_into-clause-spare g c h =
+    let s = c.args.self.now in
+    let opens : opens_placeholder s.rest ≡ true = search rules in
+    absurd (opens-takes s.mode s.next s.rest opens h.0)
