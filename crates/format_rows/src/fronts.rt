@@ -27,6 +27,13 @@ fn one_error_is_counted_in_front_or_not(rt: HostRuntime) {
 
 #[test]
 fn the_piece_comes_with_the_count(rt: HostRuntime) {
-    let lines = &["next_with_fronts lit \"text\" and 0"];
-    check_parser(&rt, rt.alloc(), plain(), "text", lines);
+    let lines = &[
+        "next_into lit \"text\" and 0",
+        "position 4",
+        "next_into arg name n 6..7 width=is:5@8..9 and 0",
+        "next_into arg implicit 0 11..11 and 0",
+        "next_into none and 0",
+        "position 12",
+    ];
+    check_parser(&rt, rt.alloc(), plain(), "text{n:5}{}}", lines);
 }

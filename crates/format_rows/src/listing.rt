@@ -134,7 +134,11 @@ fn put_values(out: &mut String, spans: bool, spec: &FormatSpec<'_>) -> Result<()
     put_optional_span(out, spans, &spec.ty_span)
 }
 
-fn put_argument(out: &mut String, spans: bool, argument: &Argument<'_>) -> Result<(), AllocError> {
+pub fn put_argument(
+    out: &mut String,
+    spans: bool,
+    argument: &Argument<'_>,
+) -> Result<(), AllocError> {
     match &argument.position {
         Position::ArgumentImplicitlyIs(n) => write!(out, "arg implicit {n}")?,
         Position::ArgumentIs(n) => write!(out, "arg index {n}")?,
@@ -145,13 +149,15 @@ fn put_argument(out: &mut String, spans: bool, argument: &Argument<'_>) -> Resul
     put_values(out, spans, &argument.format)
 }
 
+pub fn put_text(out: &mut String, text: &str) -> Result<(), AllocError> {
+    out.push_str("lit ")?;
+    put_quoted(out, text)
+}
+
 /// Adds a piece.
 pub fn put_piece(out: &mut String, spans: bool, piece: &Piece<'_>) -> Result<(), AllocError> {
     match piece {
-        Piece::Lit(text) => {
-            out.push_str("lit ")?;
-            put_quoted(out, text)
-        }
+        Piece::Lit(text) => put_text(out, text),
         Piece::NextArgument(argument) => put_argument(out, spans, argument),
     }
 }

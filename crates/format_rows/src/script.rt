@@ -6,9 +6,11 @@
 //! next piece and all pieces and show nothing, `is_identifier` asks the next piece, `fronts` tells how many errors the next
 //! call puts in front, and how many there are then, and `spans`, `labels` and `has_errors` tell that of the errors.
 
-use crate::listing::{put_piece, put_range};
+use crate::listing::{put_argument, put_piece, put_range, put_text};
 use crate::start::{World, plain, read, start};
-use rustc_parse_format::{ParseError, Parser, Piece, Pieces};
+use rustc_parse_format::{
+    Argument, FormatSpec, ParseError, Parser, Piece, Pieces, Position, Taken,
+};
 use std::alloc::{AllocError, Global};
 use std::ops::Range;
 use std::process::Abort;
@@ -111,14 +113,29 @@ fn put_items(
 
 /// Adds how many errors the next call puts in front, and how many there are then.
 fn put_fronts(out: &mut String, parser: &mut Parser<'_>) -> Result<(), AllocError> {
-    let (_, fronts) = parser.next_with_fronts()?;
+    let (_, fronts) = parser.next_into(&mut blank_argument())?;
     let errors = parser.errors().len();
     write!(out, "{fronts} of {errors}")
 }
 
-fn put_with_fronts(out: &mut String, parser: &mut Parser<'_>) -> Result<(), AllocError> {
-    let (piece, fronts) = parser.next_with_fronts()?;
-    put_optional_piece(out, &piece)?;
+/// An argument before anything is read into it.
+fn blank_argument<'a>() -> Argument<'a> {
+    Argument {
+        position: Position::ArgumentImplicitlyIs(0),
+        position_span: 0..0,
+        format: FormatSpec::default(),
+    }
+}
+
+/// Adds the piece that the next call reads into an argument, and how many errors it puts in front.
+fn put_next_into(out: &mut String, parser: &mut Parser<'_>) -> Result<(), AllocError> {
+    let mut argument = blank_argument();
+    let (taken, fronts) = parser.next_into(&mut argument)?;
+    match taken {
+        Some(Taken::Lit(text)) => put_text(out, text)?,
+        Some(Taken::NextArgument) => put_argument(out, true, &argument)?,
+        None => out.push_str("none")?,
+    }
     write!(out, " and {fronts}")
 }
 
@@ -161,8 +178,12 @@ fn put_answer(
 ) -> Result<(), AllocError> {
     match call {
         "next" => put_optional_piece(out, &parser.next()?),
-        "next_with_fronts" => put_with_fronts(out, parser),
+        "next_into" => put_next_into(out, parser),
         "pieces" => put_pieces(out, parser),
+        "position" => {
+            let read = parser.position();
+            write!(out, "{read}")
+        }
         "peek" => put_peek(out, parser.peek()),
         "peek_ahead" => put_peek(out, parser.peek_ahead()),
         "curarg" => {
