@@ -1,13 +1,14 @@
 //! Pieces as records.
 
-ghost use Rattle.std.specs.Prelude.{◌≡◌, ℕ, ◌+◌, ◌<◌, ◌≤◌, if◌then◌else◌, List, Some, chars, drop, length, option_map, take};
+ghost use Rattle.std.specs.Prelude.{◌≡◌, ℕ, ◌+◌, ◌<◌, ◌≤◌, if◌then◌else◌, List, Some, chars, drop, length, option_map, take, true};
 ghost use Rattle.rustc_parse_format.specs.Seen.{pair, seen_alignment, seen_argument, seen_count, seen_debug_hex, seen_position, seen_sign, seen_spec, seen_taken};
 ghost use Rattle.rustc_parse_format.specs.Characters.{is_nil};
 ghost use Rattle.rustc_parse_format.specs.Types.{NextArgument};
 ghost use Rattle.dephungo.specs.declared.records.Extent.{Extent as ExtentRecord};
+ghost use Rattle.dephungo.specs.declared.records.Spec.{Spec as SpecRecord};
 ghost use Rattle.dephungo.specs.Events.{has_no_counts, has_no_flags, is_default, specs_in};
 ghost use Rattle.dephungo.specs.Meant.{align_meant, count_meant, fill_meant, hex_meant, is_set, maybe_place, piece_meant, place as place_meant, position_meant, sign_meant, spec_at, spec_meant, text_at};
-ghost use Rattle.dephungo.specs.Stand.{CountAt, PieceAt, PieceStands, PositionAt, SameBehind, SpecAt};
+ghost use Rattle.dephungo.specs.Stand.{ArgumentStands, CountAt, PieceAt, PieceStands, PositionAt, SameBehind, SpecAt};
 
 use crate::records::{
     ALIGN_CENTER, ALIGN_LEFT, ALIGN_RIGHT, ALIGN_UNKNOWN, COUNT_IMPLIED, COUNT_IS, COUNT_IS_NAME,
@@ -15,7 +16,7 @@ use crate::records::{
     MaybeExtent, NO_FILL, PIECE_ARGUMENT, PIECE_NONE, PIECE_TEXT, POSITION_IMPLICIT,
     POSITION_INDEX, POSITION_NAMED, SIGN_MINUS, SIGN_NONE, SIGN_PLUS, Spec, Step,
 };
-use crate::texts::{Texts, argument_texts, run_extent};
+use crate::texts::{Texts, argument_texts, name_extent, run_extent};
 use rustc_parse_format::{Alignment, Argument, Count, DebugHex, FormatSpec, Position, Sign, Taken};
 use std::ops::Range;
 
@@ -210,7 +211,18 @@ fn add_spec(spec: &FormatSpec<'_>, texts: &Texts, specs: &mut [Spec], used: &mut
     *used
 }
 
-/// The same, if it is not the default one, whose number is 0.
+/// The number of a specification that is the default one, which no record tells of.
+#[inline(always)]
+fn no_spec(spec: &FormatSpec<'_>) -> usize
+    requires { is_default (seen_spec spec.now) ≡ true }
+    ensures told { (input : List ℕ) (specs : List SpecRecord) → spec_at input specs result ≡ seen_spec spec.now }
+    ensures number { result ≡ 0 }
+{
+    let _spec = spec;
+    0
+}
+
+/// The same, if it is not the default one.
 #[inline(always)]
 fn put_spec(spec: &FormatSpec<'_>, texts: &Texts, specs: &mut [Spec], used: &mut usize) -> usize
     requires room { used.old < usize.MAX }
@@ -221,7 +233,7 @@ fn put_spec(spec: &FormatSpec<'_>, texts: &Texts, specs: &mut [Spec], used: &mut
     ensures kept { drop used.new specs.new ≡ drop used.new specs.old }
 {
     if is_default(spec) {
-        return 0;
+        return no_spec(spec);
     }
     add_spec(spec, texts, specs, used)
 }
@@ -239,8 +251,9 @@ fn position(position: &Position<'_>) -> (u32, usize)
     }
 }
 
+/// Writes an argument whose texts stand there into its step, and its specification as above.
 #[tactic(auto, unfolding(crate::specs::Meant::piece_meant))]
-#[inline(always)]
+#[inline(never)]
 fn put_argument(
     argument: &Argument<'_>,
     texts: &Texts,
@@ -283,8 +296,56 @@ fn bare(kind: u32, text: Extent, step: &mut Step)
     step.spec = 0;
 }
 
-/// Writes a piece whose texts stand there, and whose placeholder was read into an argument, into its step, and its specification behind the `used` records, if it is not the
-/// default one and there is room.
+/// The same of an argument that asks for nothing, whose name stands there.
+#[tactic(auto, unfolding(crate::specs::Meant::piece_meant))]
+#[inline(always)]
+fn put_bare_argument(argument: &Argument<'_>, text: Extent, step: &mut Step)
+    requires bare { is_default (seen_spec argument.now.format) ≡ true }
+    ensures told { (input : List ℕ) (specs : List SpecRecord) → PositionAt (text_at input text) (seen_position argument.now.position)
+        → piece_meant input (spec_at input specs step.new.spec) step.new ≡ Some (NextArgument (seen_argument argument.now)) }
+    ensures spec { step.new.spec ≡ 0 }
+    ensures others { SameBehind step.old step.new }
+{
+    let (position, number) = position(&argument.position);
+    step.kind = PIECE_ARGUMENT;
+    step.position = position;
+    step.number = number;
+    step.text = text;
+    step.position_span = extent(&argument.position_span);
+    step.spec = no_spec(&argument.format);
+}
+
+/// The same, where the texts are those of the argument's spans, less an offset. Those of a specification that asks for nothing
+/// are not looked for.
+#[inline(always)]
+fn put_plain_argument(
+    argument: &Argument<'_>,
+    input: &str,
+    offset: usize,
+    specs: &mut [Spec],
+    used: &mut usize,
+    step: &mut Step,
+)
+    requires stands { ArgumentStands input.now offset (seen_argument argument.now) }
+    requires room { used.old < usize.MAX }
+    ensures told { used.new ≤ length specs.old
+        → piece_meant input.now (spec_at input.now specs.new step.new.spec) step.new ≡ Some (NextArgument (seen_argument argument.now)) }
+    ensures number { step.new.spec ≤ used.new }
+    ensures used { used.new ≡ used.old + (if is_default (seen_spec argument.now.format) then 0 else 1) }
+    ensures front { take used.old specs.new ≡ take used.old specs.old }
+    ensures kept { drop used.new specs.new ≡ drop used.new specs.old }
+    ensures others { SameBehind step.old step.new }
+{
+    if is_default(&argument.format) {
+        put_bare_argument(argument, name_extent(input, offset, argument), step);
+    } else {
+        let texts = argument_texts(input, offset, argument);
+        put_argument(argument, &texts, specs, used, step);
+    }
+}
+
+/// Writes a piece whose texts stand there, and whose placeholder was read into an argument, into its step, and its
+/// specification behind the `used` records, if it is not the default one and there is room.
 #[tactic(auto, unfolding(crate::specs::Meant::piece_meant))]
 pub fn put_piece(
     piece: &Option<Taken<'_>>,
@@ -337,8 +398,7 @@ pub fn put_plain(
         None => bare(PIECE_NONE, NOWHERE, step),
         Some(Taken::Lit(text)) => bare(PIECE_TEXT, run_extent(input, read, text), step),
         Some(Taken::NextArgument) => {
-            let texts = argument_texts(input, offset, argument);
-            put_argument(argument, &texts, specs, used, step)
+            put_plain_argument(argument, input, offset, specs, used, step)
         }
     }
 }

@@ -5,7 +5,7 @@ ghost use Rattle.rustc_parse_format.specs.Characters.{byte_length};
 ghost use Rattle.rustc_parse_format.specs.Seen.{pair, seen, seen_argument, seen_count, seen_position, seen_spec};
 ghost use Rattle.dephungo.specs.declared.records.Extent.{Extent as ExtentRecord};
 ghost use Rattle.dephungo.specs.Meant.{text_at, type_meant};
-ghost use Rattle.dephungo.specs.Stand.{ArgumentStands, CountAt, CountStands, HasBytes, IsListed, PieceAt, PieceStands, PositionAt, SpecAt, StandsAt, StandsBehind, TypeStands};
+ghost use Rattle.dephungo.specs.Stand.{ArgumentStands, CountAt, CountStands, HasBytes, IsListed, PieceAt, PieceStands, PositionAt, PositionStands, SpecAt, StandsAt, StandsBehind, TypeStands};
 
 use crate::flat::NOWHERE;
 use crate::records::{Extent, TYPE_DEBUG, TYPE_LOWER_HEX, TYPE_NONE, TYPE_TEXT, TYPE_UPPER_HEX};
@@ -116,7 +116,22 @@ fn type_extent(input: &str, offset: usize, format: &FormatSpec<'_>) -> (u32, Ext
     }
 }
 
+/// The name that an argument has for its position.
 #[inline(always)]
+pub fn name_extent(input: &str, offset: usize, argument: &Argument<'_>) -> Extent
+    requires { PositionStands input.now (argument.now.position_span.start - offset) (seen_position argument.now.position) }
+    ensures { PositionAt (text_at input.now result) (seen_position argument.now.position) }
+{
+    match &argument.position {
+        Position::ArgumentNamed(name) => {
+            let from = argument.position_span.start.saturating_sub(offset);
+            extent_behind(input, b"r#", from, name)
+        }
+        _ => NOWHERE,
+    }
+}
+
+/// The name of an argument, and the texts of what it asks for.
 pub fn argument_texts(input: &str, offset: usize, argument: &Argument<'_>) -> Texts
     requires { ArgumentStands input.now offset (seen_argument argument.now) }
     ensures position { PositionAt (text_at input.now result.text) (seen_position argument.now.position) }
@@ -124,15 +139,8 @@ pub fn argument_texts(input: &str, offset: usize, argument: &Argument<'_>) -> Te
 {
     let format = &argument.format;
     let (type_kind, ty) = type_extent(input, offset, format);
-    let text = match &argument.position {
-        Position::ArgumentNamed(name) => {
-            let from = argument.position_span.start.saturating_sub(offset);
-            extent_behind(input, b"r#", from, name)
-        }
-        _ => NOWHERE,
-    };
     Texts {
-        text,
+        text: name_extent(input, offset, argument),
         width: count_extent(input, offset, &format.width),
         precision: count_extent(input, offset, &format.precision),
         type_kind,
