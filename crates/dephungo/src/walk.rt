@@ -2,7 +2,8 @@
 
 ghost use Rattle.std.specs.Prelude.{◌≡◌, ◌+◌, ◌<◌, ◌≤◌, ◌^◌, ◌++◌, [], List, None, Option, IfNone, IfOk, IfSome, OnOk, chars, drop, length, map, option_map, take};
 ghost use Rattle.rustc_parse_format.specs.Characters.{behind_first};
-ghost use Rattle.rustc_parse_format.specs.Lines.{listed};
+ghost use Rattle.rustc_parse_format.specs.Lines.{closed_in, listed};
+ghost use Rattle.rustc_parse_format.specs.Marks.{Span};
 ghost use Rattle.rustc_parse_format.specs.Seen.{pair, seen_taken};
 ghost use Rattle.rustc_parse_format.specs.State.{after, next_call};
 ghost use Rattle.rustc_parse_format.specs.World.{Place};
@@ -17,7 +18,6 @@ use crate::records::{MaybeExtent, PIECE_NONE, POSITION_IMPLICIT, Spec, Step};
 use crate::texts::texts_of;
 use rustc_parse_format::{Argument, Parser, Taken};
 use std::alloc::AllocError;
-use std::ops::Range;
 
 /// A step that tells of nothing.
 const BLANK: Step = Step {
@@ -77,12 +77,16 @@ fn place_ahead(parser: &Parser<'_>) -> MaybeExtent
     }
 }
 
-/// The place of an argument that came behind so many others.
+/// The place of an argument that came behind so many others. Only a source literal has any.
 #[inline(always)]
-fn closed(places: &[Range<usize>], before: usize) -> MaybeExtent
-    ensures { (old : List Place) (p : Option Place) → before ≡ length old → map pair places.now ≡ old ++ listed p → maybe_place result ≡ p }
+fn closed(parser: &Parser<'_>, before: usize) -> MaybeExtent
+    ensures { (old : List Place) (k : Option Span) → before ≡ length old
+        → parser.now.arg_places ≡ old ++ listed (closed_in parser.now.world k) → maybe_place result ≡ closed_in parser.now.world k }
 {
-    match places.get(before) {
+    if !parser.is_source_literal() {
+        return NO_EXTENT;
+    }
+    match parser.arg_places().get(before) {
         Some(place) => there(place),
         None => NO_EXTENT,
     }
@@ -189,7 +193,7 @@ fn step<'a>(
     let places = parser.arg_places().len();
     let (given, fronts) = parser.next_into(argument)?;
     let read = parser.position();
-    step.place = closed(parser.arg_places(), places);
+    step.place = closed(parser, places);
     step.read = read;
     step.next = parser.curarg();
     step.lines = parser.line_spans().len();

@@ -1,9 +1,8 @@
-use Rattle.std.proofs.Common.{◌≡◌, ◌-◌, length, sym, ap, ◌∙◌, arith}
+use Rattle.std.proofs.Common.{◌≡◌, ◌-◌, length, refl, sym, ap, ◌∙◌, arith}
 use Rattle.std.proofs.lemmas.List.{length-map}
 use Rattle.rustc_parse_format.specs.Seen.{pair, seen_error, seen_taken}
 use Rattle.rustc_parse_format.specs.State.{State, next_call}
 use Rattle.std.specs.Prelude.{option_map}
-use Rattle.rustc_parse_format.specs.Lines.{closed_in}
 use Rattle.dephungo.specs.Meant.{maybe_place}
 use Rattle.dephungo.proofs.Walking.{told}
 use Rattle.dephungo.specs.Events.{fronts_in, position}
@@ -41,12 +40,11 @@ returns-clause-told c = λ room.
     let same = alike c.args.input.now s c.args.offset (guide_of c.args.guide.now) (option_map (seen_taken c.next_into.new.argument) c.in_ok-given.given) c.requires.guided
     c.in_ok-given.ensures.piece in
     let kept = c.in_ok-put_given.ensures.others in
+    let place = rw state at c.closed-step.ensures in
     told c.args.peeks c.args.input.now c.put_given.new.specs c.put_given.new.step s c.next_into.new.self state
     (c.in_ok-put_given.ensures.told same room ∙ c.in_ok-given.ensures.piece)
     (ap maybe_place kept.0
-    ∙ c.closed-step.ensures s.arg_places (closed_in s.world (next_call s).closes) (sym (length-map c.arg_places-places.result.now pair)
-    ∙ ap length c.arg_places-places.ensures)
-    (c.arg_places.ensures ∙ ap (λ (t : State). t.arg_places) state))
+    ∙ place s.arg_places (next_call s).closes (sym (length-map c.arg_places-places.result.now pair) ∙ ap length c.arg_places-places.ensures) refl)
     (kept.1 ∙ c.position-read.ensures)
     (kept.2 ∙ c.curarg-step.ensures.value)
     (kept.3 ∙ sym (length-map c.line_spans.result.now pair) ∙ ap length c.line_spans.ensures)
