@@ -180,7 +180,7 @@ pub fn read_bare<'input, L: Ledger>(
         let text = reader.take_text(trail)?;
         return Ok(Some(text));
     }
-    if reader.cursor.goes_on_with(c) {
+    if c == '{' || reader.cursor.goes_on_with(c) {
         reader.cursor.advance(trail);
         let text = reader.take_text_behind_first(trail)?;
         return Ok(Some(text));

@@ -161,6 +161,7 @@ impl Lists {
     }
 
     /// Takes over what a call found: all of it, or nothing where memory is refused. Returns how many errors were put in front.
+    #[inline(always)]
     pub fn take_over(&mut self, alloc: Global, reader: &mut Reader<'_>) -> Result<usize, AllocError>
         ensures errors { OnOk result (self.new.errors ≡ add_errors self.old.errors reader.old.faults) }
         ensures places { OnOk result (self.new.arg_places ≡ self.old.arg_places ++ listed reader.old.closed) }

@@ -22,6 +22,7 @@ impl<'input> Parser<'input> {
 
     /// One call that reads the placeholder at the front into a blank argument, on a trail. It tells how many of its errors were
     /// put in front of the earlier ones.
+    #[inline(always)]
     fn step_into<L: Ledger>(
         &mut self,
         into: &mut Argument<'input>,
@@ -52,6 +53,7 @@ impl<'input> Parser<'input> {
     }
 
     /// The same of a call on what is no placeholder: it gives text or nothing.
+    #[inline(always)]
     fn step_bare<L: Ledger>(
         &mut self,
         fronts: &mut usize,
