@@ -98,11 +98,10 @@ pub fn between_quotes(snippet: &str) -> Option<&str>
 fn take_bytes(rest: &mut Rest<'_>, wanted: &mut Rest<'_>)
     ensures { SameEnds rest.old wanted.old rest.new wanted.new }
 {
-    while let Some((c, behind)) = byte_escape(rest.text()) {
-        if !wanted.begins_with(c) {
+    while let Some((byte, behind)) = byte_escape(rest.text()) {
+        if !wanted.take_ascii(byte) {
             return;
         }
-        wanted.next();
         *rest = Rest::new(behind);
     }
 }

@@ -1,6 +1,6 @@
 //! What is left of a text, from which characters are taken one at a time.
 
-ghost use Rattle.std.specs.Prelude.{◌≡◌, ◌↔◌, ◌≤◌, List, ℕ, [], chars, IsTrue};
+ghost use Rattle.std.specs.Prelude.{◌≡◌, ◌↔◌, ◌∷◌, ◌<◌, ◌≤◌, List, ℕ, [], chars, IfSome, IsFalse, IsTrue};
 ghost use Rattle.rustc_parse_format.specs.Bytes.{IsSharedFront};
 ghost use Rattle.rustc_parse_format.specs.Characters.{Text, begins_with, behind, behind_first, first, byte_length};
 ghost use Rattle.rustc_parse_format.specs.Literal.{IsContent};
@@ -93,6 +93,22 @@ impl<'a> Rest<'a> {
         self.peek() == Some(c)
     }
 
+    /// Takes the next character if it is this one of ASCII, by its byte, and says whether it was.
+    #[inline(always)]
+    pub fn take_ascii(&mut self, byte: u8) -> bool
+        requires { byte < 128 }
+        ensures yes { IsTrue result → self.old ≡ byte ∷ self.new }
+        ensures no { IsFalse result → self.new ≡ self.old }
+    {
+        match behind_ascii(self.text, byte) {
+            Some(rest) => {
+                self.text = rest;
+                true
+            }
+            None => false,
+        }
+    }
+
     /// Takes the plain characters with which both go on.
     #[inline(always)]
     pub fn take_plain(&mut self, other: &mut Rest<'_>)
@@ -140,6 +156,19 @@ fn byte_count(text: &str) -> usize
     ensures { result ≡ byte_length (chars text.now) }
 {
     text.len()
+}
+
+/// What is after this character of ASCII, if the text begins with it.
+#[inline(always)]
+fn behind_ascii(text: &str, byte: u8) -> Option<&str>
+    requires { byte < 128 }
+    ensures { IfSome result (λ r. chars text.now ≡ byte ∷ chars r.now) }
+{
+    let bytes = text.as_bytes();
+    if bytes.is_empty() || bytes[0] != byte {
+        return None;
+    }
+    Some(&text[1..])
 }
 
 /// The byte is no quote, no backslash and no CR, which a literal writes in another way.

@@ -1,9 +1,9 @@
 //! The unit at the front of the content of an ordinary string literal.
 
-ghost use Rattle.std.specs.Prelude.{◌≡◌, ◌∷◌, ◌<◌, [], IfSome, IsTrue, Some, chars, option_map};
+ghost use Rattle.std.specs.Prelude.{◌≡◌, ◌∷◌, ◌<◌, [], IfSome, IsTrue, None, Some, chars, if◌then◌else◌, option_map};
 ghost use Rattle.std.specs.Char.{digit_value};
 ghost use Rattle.rustc_parse_format.specs.Characters.{Text, behind_first};
-ghost use Rattle.rustc_parse_format.specs.LiteralUnits.{at_most_one, byte_at, escape_at, escaped, meaning, unicode_at, unit_at};
+ghost use Rattle.rustc_parse_format.specs.LiteralUnits.{at_most_one, byte_at, escape_at, escaped, is_hex, is_octal, meaning, unicode_at, unit_at};
 
 use super::rest::Rest;
 
@@ -41,20 +41,45 @@ pub fn is_newline_escape(text: &str) -> bool
     bytes[0] == b'\\' && bytes[1] == b'n'
 }
 
-/// What an escape with `\x` at the front stands for, and what is after it: by its bytes, since a literal may be made of such escapes.
+/// The value of an octal digit.
 #[inline(always)]
-pub fn byte_escape(text: &str) -> Option<(char, &str)>
-    ensures { IfSome result (λ x. meaning (unit_at (chars text.now)) ≡ Some (x.0 ∷ [], chars x.1.now)) }
+fn octal_digit(byte: u8) -> Option<u8>
+    ensures { result ≡ (if is_octal byte then Some (digit_value byte) else None) }
+{
+    match byte {
+        b'0'..=b'7' => Some(byte - b'0'),
+        _ => None,
+    }
+}
+
+/// The value of a hexadecimal digit.
+#[inline(always)]
+fn hex_digit(byte: u8) -> Option<u8>
+    ensures { result ≡ (if is_hex byte then Some (digit_value byte) else None) }
+{
+    match byte {
+        b'0'..=b'9' => Some(byte - b'0'),
+        b'a'..=b'f' => Some(byte - b'a' + 10),
+        b'A'..=b'F' => Some(byte - b'A' + 10),
+        _ => None,
+    }
+}
+
+/// What an escape with `\x` at the front stands for, and what is after it: by its bytes, since a literal may be made of such
+/// escapes.
+#[tactic(auto, unfolding(crate::specs::LiteralUnits::byte_at))]
+#[inline(always)]
+pub fn byte_escape(text: &str) -> Option<(u8, &str)>
+    ensures meaning { IfSome result (λ x. meaning (unit_at (chars text.now)) ≡ Some (x.0 ∷ [], chars x.1.now)) }
+    ensures ascii { IfSome result (λ x. x.0 < 128) }
 {
     let bytes = text.as_bytes();
     if bytes.len() < 4 || bytes[0] != b'\\' || bytes[1] != b'x' {
         return None;
     }
-    let value = byte_of(bytes[2] as char, bytes[3] as char)?;
-    if bytes[2] >= 128 || bytes[3] >= 128 {
-        return None;
-    }
-    Some((value, &text[4..]))
+    let high = octal_digit(bytes[2])?;
+    let low = hex_digit(bytes[3])?;
+    Some((high * 16 + low, &text[4..]))
 }
 
 /// Takes what is after `\u`.
@@ -121,9 +146,9 @@ fn read_escape(rest: &mut Rest<'_>) -> Option<Option<char>>
 pub fn read_unit(rest: &mut Rest<'_>) -> Option<Option<char>>
     ensures { meaning (unit_at rest.old) ≡ option_map (λ v. (at_most_one v, rest.new)) result }
 {
-    if let Some((c, behind)) = byte_escape(rest.text()) {
+    if let Some((byte, behind)) = byte_escape(rest.text()) {
         *rest = Rest::new(behind);
-        return Some(Some(c));
+        return Some(Some(byte as char));
     }
     if is_newline_escape(rest.text()) {
         rest.next();

@@ -1,15 +1,17 @@
-use Rattle.std.proofs.Common.{◌≡◌, ◌∷◌, [], true, sym, ◌∙◌}
-use Rattle.rustc_parse_format.specs.Characters.{begins_with}
+use Rattle.std.proofs.Common.{◌≡◌, ◌∷◌, [], true, refl, ap}
+use Rattle.std.proofs.lemmas.Bool.{eq-eqb}
+use Rattle.rustc_parse_format.specs.Characters.{begins_with, behind_first}
 use Rattle.rustc_parse_format.proofs.LiteralEnds.{ends-after, ends-unit}
 use Rattle.rustc_parse_format.proofs.LiteralMeanings.{meaning-shorter}
 use Rattle.rustc_parse_format.proofs.literal.take_bytes.Goals as goal
 
-pub loop-c-smaller : goal.loop-c-smaller
-loop-c-smaller c =
-    rw c.new.ensures (meaning-shorter c.loop-c.rest (c.in-Some.c ∷ []) _ (rw c.text.ensures at c.in-Some.ensures))
+pub loop-byte-smaller : goal.loop-byte-smaller
+loop-byte-smaller c =
+    rw c.new.ensures (meaning-shorter c.loop-byte.rest (c.in-Some.byte ∷ []) _ (rw c.text.ensures at c.in-Some.ensures.meaning))
 
-pub loop-c-preserved : goal.loop-c-preserved
-loop-c-preserved c =
-    let agrees : begins_with c.in-Some.c c.loop-c.wanted ≡ true = sym c.begins_with.ensures ∙ c.if-not-begins_with.false in
-    rw (c.new.ensures, c.next.ensures.rest) (ends-after _ _ _ _ _ _ c.loop-c.invariant
-    (ends-unit c.loop-c.rest _ c.loop-c.wanted c.in-Some.c (rw c.text.ensures at c.in-Some.ensures) agrees))
+pub loop-byte-preserved : goal.loop-byte-preserved
+loop-byte-preserved c =
+    let wanted : c.loop-byte.wanted ≡ c.in-Some.byte ∷ c.take_ascii.new.self = c.take_ascii.ensures.yes c.if-not-take_ascii.false in
+    let agrees : begins_with c.in-Some.byte c.loop-byte.wanted ≡ true = rw wanted (eq-eqb c.in-Some.byte c.in-Some.byte refl) in
+    rw (c.new.ensures, ← ap behind_first wanted) (ends-after _ _ _ _ _ _ c.loop-byte.invariant
+    (ends-unit c.loop-byte.rest _ c.loop-byte.wanted c.in-Some.byte (rw c.text.ensures at c.in-Some.ensures.meaning) agrees))
