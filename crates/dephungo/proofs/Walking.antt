@@ -6,11 +6,12 @@ use Rattle.std.proofs.lemmas.List.{map-append, take_more_set, take_all}
 use Rattle.std.proofs.lemmas.List.Sums.{sum_by-cons}
 use Rattle.std.proofs.lemmas.Bool.{cases_lt}
 use Rattle.rustc_parse_format.specs.Characters.{Text, is_nil, behind_first}
-use Rattle.rustc_parse_format.specs.Types.{Piece, Lit, NextArgument}
-use Rattle.rustc_parse_format.specs.World.{piece_in}
-use Rattle.rustc_parse_format.specs.Call.{Call}
+use Rattle.rustc_parse_format.specs.Types.{Piece, Lit, NextArgument, Spec}
+use Rattle.rustc_parse_format.specs.World.{Place, piece_in}
+use Rattle.rustc_parse_format.specs.Call.{Call, call}
 use Rattle.rustc_parse_format.specs.State.{State, next_call, after, after_all}
 use Rattle.rustc_parse_format.proofs.Progress.{call-lt}
+use Rattle.rustc_parse_format.proofs.StateLines.{at_end, closed_in-none, end_faults}
 use Rattle.dephungo.specs.declared.records.Step.{Step}
 use Rattle.dephungo.specs.declared.records.Spec.{Spec as SpecRecord}
 use Rattle.rustc_parse_format.specs.Lines.{closed_in}
@@ -170,6 +171,38 @@ pub told : (peeks : Bool) (input : List ℕ) (specs : List SpecRecord) (r : Step
     r.read ≡ position t.input t.rest → r.next ≡ t.next → r.lines ≡ length t.line_spans → maybe_place r.peek ≡ looked_for peeks (place_of_first t t.rest) →
     maybe_place r.peek_ahead ≡ looked_for peeks (place_of_first t (behind_first t.rest)) → step_meant input specs r ≡ event peeks s
 told peeks input specs r s t state piece place read next lines peek ahead = rw (piece, place, read, next, lines, peek, ahead, state) refl
+
+-- The call at the end gives nothing, finds nothing and closes nothing, and there is nothing to look for.
+pub end_specs : (s : State) → s.rest ≡ [] → specs_in (given s) ≡ 0
+end_specs s e = ap (λ o. specs_in (option_map (piece_in s.world) o)) (at_end s e).0
+
+pub end_fronts : (s : State) → s.rest ≡ [] → fronts_in (next_call s) ≡ 0
+end_fronts s e = rw (end_faults s e) refl
+
+pub end_finders : (n : ℕ) (old : List ℕ) (s : State) → s.rest ≡ [] → add_finders n old (next_call s).faults ≡ old
+end_finders n old s e = rw (end_faults s e) refl
+
+end_closes : (s : State) → s.rest ≡ [] → closed_in s.world (next_call s).closes ≡ None
+unfolding call
+end_closes s e = rw e (closed_in-none s.world)
+
+not_looked_for : (peeks : Bool) → looked_for peeks None ≡ None
+not_looked_for true = refl
+not_looked_for false = refl
+
+pub no_piece : (input : List ℕ) (spec : Spec Place) (r : Step) → r.kind ≡ 0 → piece_meant input spec r ≡ None
+unfolding piece_meant
+no_piece input spec r e = rw e refl
+
+pub told_end : (peeks : Bool) (input : List ℕ) (specs : List SpecRecord) (r : Step) (s t : State) → t ≡ after s (next_call s) → s.rest ≡ [] →
+    piece_meant input (spec_at input specs r.spec) r ≡ None → maybe_place r.place ≡ None → r.read ≡ position t.input t.rest → r.next ≡ t.next →
+    r.lines ≡ length t.line_spans → maybe_place r.peek ≡ None → maybe_place r.peek_ahead ≡ None → step_meant input specs r ≡ event peeks s
+told_end peeks input specs r s t state e piece place read next lines peek ahead =
+    let none : t.rest ≡ [] = ap (λ (u : State). u.rest) (state ∙ (at_end s e).1) ∙ e in
+    let no_peek = ap (λ u. looked_for peeks (place_of_first t u)) none ∙ not_looked_for peeks in
+    let no_ahead = ap (λ u. looked_for peeks (place_of_first t (behind_first u))) none ∙ not_looked_for peeks in
+    told peeks input specs r s t state (piece ∙ sym (ap (option_map (piece_in s.world)) (at_end s e).0)) (place ∙ sym (end_closes s e)) read next lines
+    (peek ∙ sym no_peek) (ahead ∙ sym no_ahead)
 
 -- As many finders as errors.
 pub length-finders : (n : ℕ) (old : List ℕ) (s : State) (ks : List Call) → length old ≡ length s.errors → length (finders_from n old ks)

@@ -282,7 +282,7 @@ fn put_argument(
 
 /// A step of no argument.
 #[inline(always)]
-fn bare(kind: u32, text: Extent, step: &mut Step)
+pub fn bare(kind: u32, text: Extent, step: &mut Step)
     ensures kind { step.new.kind ≡ kind }
     ensures text { step.new.text ≡ text }
     ensures spec { step.new.spec ≡ 0 }

@@ -16,8 +16,8 @@ use crate::finders::Finders;
 use crate::flat::{NO_EXTENT, extent, flag};
 use crate::records::{Answer, Extent, Fault, Spec, Step};
 use crate::task::Task;
-use crate::walk::{put_peeks, walk};
-use rustc_parse_format::{Argument, FormatSpec, ParseMode, Parser, Position};
+use crate::walk::{look_ahead, walk};
+use rustc_parse_format::{ParseMode, Parser};
 use std::alloc::{AllocError, Global};
 use std::ops::Range;
 
@@ -111,16 +111,6 @@ fn guide_for<'a>(
     Ok(None)
 }
 
-/// An argument before anything is read into it.
-#[inline(always)]
-fn blank_argument<'a>() -> Argument<'a> {
-    Argument {
-        position: Position::ArgumentImplicitlyIs(0),
-        position_span: 0..0,
-        format: FormatSpec::default(),
-    }
-}
-
 /// Writes the lines, as far as there is room.
 fn put_lines(spans: &[Range<usize>], lines: &mut [Extent])
     ensures held { length spans.now ≤ length lines.old → map place (take (length spans.now) lines.new) ≡ map pair spans.now }
@@ -161,6 +151,9 @@ pub fn read(
         appended_newline,
         peeks,
     } = asked;
+    let mut finders = Finders::new(alloc);
+    let mut peek = NO_EXTENT;
+    let mut peek_ahead = NO_EXTENT;
     let literal = owned(alloc, snippet)?;
     let mut parser = Parser::new(alloc, input, style, literal, appended_newline, mode)?;
     let mut guide = guide_for(
@@ -173,15 +166,12 @@ pub fn read(
         appended_newline,
     )?;
     let is_source_literal = flag(parser.is_source_literal());
-    let mut peek = NO_EXTENT;
-    let mut peek_ahead = NO_EXTENT;
-    put_peeks(&parser, peeks, &mut peek, &mut peek_ahead);
-    let mut finders = Finders::new(alloc);
+    if peeks {
+        look_ahead(&parser, &mut peek, &mut peek_ahead);
+    }
     let offset = offset_of(style);
-    let mut argument = blank_argument();
     let (count, used) = walk(
         &mut parser,
-        &mut argument,
         &mut guide,
         offset,
         peeks,

@@ -1,22 +1,23 @@
 //! The calls of a parser, one behind the other, as records.
 
-ghost use Rattle.std.specs.Prelude.{◌≡◌, ◌+◌, ◌<◌, ◌≤◌, ◌^◌, ◌++◌, [], List, None, Option, IfNone, IfOk, IfSome, OnOk, chars, drop, length, map, option_map, take};
+ghost use Rattle.std.specs.Prelude.{◌≡◌, ℕ, ◌+◌, ◌<◌, ◌≤◌, ◌^◌, ◌++◌, [], Bool, List, None, Option, IfNone, IfOk, IfSome, OnOk, chars, drop, length, map, option_map, take};
 ghost use Rattle.rustc_parse_format.specs.Characters.{behind_first};
 ghost use Rattle.rustc_parse_format.specs.Lines.{closed_in, listed};
 ghost use Rattle.rustc_parse_format.specs.Marks.{Span};
 ghost use Rattle.rustc_parse_format.specs.Seen.{pair, seen_taken};
 ghost use Rattle.rustc_parse_format.specs.State.{after, next_call};
 ghost use Rattle.rustc_parse_format.specs.World.{Place};
+ghost use Rattle.dephungo.specs.declared.records.Spec.{Spec as SpecRecord};
 ghost use Rattle.dephungo.specs.declared.records.Step.{Step as StepRecord};
 ghost use Rattle.dephungo.specs.Events.{add_finders, end_of, event, events, found_by, fronts_in, fronts_of, given, looked_for, place_of_first, position, spec_count, specs_in, states, step_meant};
 ghost use Rattle.dephungo.specs.Meant.{maybe_place, piece_meant, spec_at};
 ghost use Rattle.dephungo.specs.Stand.{EndsWith, IsAdded, IsAlong, IsGuided, PieceStands, SameBehind, StandsAlike, guide_of};
 
 use crate::finders::Finders;
-use crate::flat::{NO_EXTENT, NOWHERE, put_piece, put_plain, there};
+use crate::flat::{NO_EXTENT, NOWHERE, bare, put_piece, put_plain, there};
 use crate::records::{MaybeExtent, PIECE_NONE, POSITION_IMPLICIT, Spec, Step};
 use crate::texts::texts_of;
-use rustc_parse_format::{Argument, Parser, Taken};
+use rustc_parse_format::{Argument, FormatSpec, Parser, Position, Taken};
 use std::alloc::AllocError;
 
 /// A step that tells of nothing.
@@ -37,7 +38,7 @@ const BLANK: Step = Step {
 
 /// Puts where the next character and the one after it stand in the source, where that is asked for.
 #[inline(always)]
-pub fn put_peeks(
+fn put_peeks(
     parser: &Parser<'_>,
     peeks: bool,
     peek: &mut MaybeExtent,
@@ -55,7 +56,7 @@ pub fn put_peeks(
 
 /// The same where it is asked for, over what says that there is none.
 #[inline(never)]
-fn look_ahead(parser: &Parser<'_>, peek: &mut MaybeExtent, peek_ahead: &mut MaybeExtent)
+pub fn look_ahead(parser: &Parser<'_>, peek: &mut MaybeExtent, peek_ahead: &mut MaybeExtent)
     requires { (maybe_place peek.old ≡ None) × (maybe_place peek_ahead.old ≡ None) }
     ensures place { maybe_place peek.new ≡ place_of_first parser.now parser.now.rest }
     ensures ahead { maybe_place peek_ahead.new ≡ place_of_first parser.now (behind_first parser.now.rest) }
@@ -90,6 +91,18 @@ fn closed(parser: &Parser<'_>, before: usize) -> MaybeExtent
         Some(place) => there(place),
         None => NO_EXTENT,
     }
+}
+
+/// Writes how far the input is read, which number is next, and how many lines there are.
+#[inline(always)]
+fn put_state(parser: &Parser<'_>, step: &mut Step)
+    ensures read { step.new.read ≡ position parser.now.input parser.now.rest }
+    ensures next { step.new.next ≡ parser.now.next }
+    ensures lines { step.new.lines ≡ length parser.now.line_spans }
+{
+    step.read = parser.position();
+    step.next = parser.curarg();
+    step.lines = parser.line_spans().len();
 }
 
 /// Writes the piece that a call gave. Its texts stand at the spans of the guide's call.
@@ -192,13 +205,11 @@ fn step<'a>(
     let faults = parser.errors().len();
     let places = parser.arg_places().len();
     let (given, fronts) = parser.next_into(argument)?;
-    let read = parser.position();
+    put_state(parser, step);
     step.place = closed(parser, places);
-    step.read = read;
-    step.next = parser.curarg();
-    step.lines = parser.line_spans().len();
     put_peeks(parser, peeks, &mut step.peek, &mut step.peek_ahead);
     finders.add(number, fronts, parser.errors().len() - faults)?;
+    let read = step.read;
     put_given(
         guide, input, offset, read, &given, argument, specs, used, step,
     )?;
@@ -282,11 +293,63 @@ fn add_step<'a>(
     }
 }
 
+/// An argument before anything is read into it.
+#[inline(always)]
+fn blank_argument<'a>() -> Argument<'a> {
+    Argument {
+        position: Position::ArgumentImplicitlyIs(0),
+        position_span: 0..0,
+        format: FormatSpec::default(),
+    }
+}
+
+/// The call at the end, into its step. It gives no piece and finds no fault.
+#[inline(always)]
+fn put_end<'a>(
+    parser: &mut Parser<'a>,
+    argument: &mut Argument<'a>,
+    step: &mut Step,
+) -> Result<(), AllocError>
+    requires { parser.old.rest ≡ [] }
+    ensures told { OnOk result ((peeks : Bool) (input : List ℕ) (specs : List SpecRecord) → step_meant input specs step.new ≡ event peeks parser.old) }
+    ensures number { OnOk result (step.new.spec ≡ 0) }
+    ensures state { OnOk result (parser.new ≡ after parser.old (next_call parser.old)) }
+{
+    let _none = parser.next_into(argument)?;
+    put_state(parser, step);
+    step.place = NO_EXTENT;
+    step.peek = NO_EXTENT;
+    step.peek_ahead = NO_EXTENT;
+    bare(PIECE_NONE, NOWHERE, step);
+    Ok(())
+}
+
+/// The call at the end, written behind so many steps, if there is room.
+#[inline(always)]
+fn add_end<'a>(
+    parser: &mut Parser<'a>,
+    argument: &mut Argument<'a>,
+    number: usize,
+    steps: &mut [Step],
+) -> Result<(), AllocError>
+    requires { parser.old.rest ≡ [] }
+    ensures added { OnOk result ((peeks : Bool) (input : List ℕ) (used : ℕ) (specs : List SpecRecord)
+        → IsAdded peeks input parser.old number used steps.old steps.new specs) }
+    ensures state { OnOk result (parser.new ≡ after parser.old (next_call parser.old)) }
+{
+    if number >= steps.len() {
+        let mut spare = BLANK;
+        put_end(parser, argument, &mut spare)?;
+        return Ok(());
+    }
+    put_end(parser, argument, &mut steps[number])?;
+    Ok(())
+}
+
 /// All calls up to and with the one at the end of the input: how many there are, and how many specifications. What fits is
 /// written.
 pub fn walk<'a>(
     parser: &mut Parser<'a>,
-    argument: &mut Argument<'a>,
     guide: &mut Option<Box<Parser<'_>>>,
     offset: usize,
     peeks: bool,
@@ -311,17 +374,17 @@ pub fn walk<'a>(
     ensures kept_steps { IfOk result (λ k. drop k.0 steps.new ≡ drop k.0 steps.old) }
     ensures kept_specs { IfOk result (λ k. drop k.1 specs.new ≡ drop k.1 specs.old) }
 {
+    let mut argument = blank_argument();
     let mut count = 0;
     let mut used = 0;
     let mut read = 0;
     while read < input.len() {
         read = add_step(
-            parser, argument, guide, offset, peeks, input, count, finders, steps, specs, &mut used,
+            parser, &mut argument, guide, offset, peeks, input, count, finders, steps, specs,
+            &mut used,
         )?;
         count += 1;
     }
-    add_step(
-        parser, argument, guide, offset, peeks, input, count, finders, steps, specs, &mut used,
-    )?;
+    add_end(parser, &mut argument, count, steps)?;
     Ok((count + 1, used))
 }

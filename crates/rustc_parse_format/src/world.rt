@@ -98,10 +98,10 @@ pub fn source_of<'input>(
     let kept = kept_if(is_kept, snippet);
     Source {
         input,
-        is_literal,
         offset,
         end,
         kept,
+        is_literal,
         appended: appended_newline,
     }
 }

@@ -2,6 +2,7 @@
 
 use crate::call::{read_bare, read_placeholder};
 use crate::cursor::Trail;
+use crate::laws::default_of_spec;
 use crate::lists::ends_with;
 use crate::parser::Parser;
 use crate::placeholder::blank_argument;
@@ -127,7 +128,7 @@ impl<'input> Parser<'input> {
         ensures fronts { OnOk result (fronts.new ≡ length (filter is_front (next_call self.old).faults)) }
     {
         if self.reader.cursor.opens_placeholder() {
-            *into = blank_argument();
+            into.format = default_of_spec();
             self.step_into(into, fronts, trail)?;
             return Ok(Some(Taken::NextArgument));
         }

@@ -13,7 +13,7 @@ use Rattle.dephungo.proofs.walk.step.Goals as goal
 
 pub put_given-requires-clause-alone : goal.put_given-requires-clause-alone
 put_given-requires-clause-alone c =
-    let read = c.position-read.ensures ∙ ap (λ (s : State). position s.input s.rest) c.in_ok-given.ensures.state in
+    let read = c.put_state.ensures.read ∙ ap (λ (s : State). position s.input s.rest) c.in_ok-given.ensures.state in
     alone c.args.input.now c.args.parser.now c.args.offset _ (guide_of c.args.guide.now) _ c.utf8.input c.requires.input c.requires.left c.requires.guided
     read c.in_ok-given.ensures.piece
 
@@ -45,9 +45,9 @@ returns-clause-told c = λ room.
     (c.in_ok-put_given.ensures.told same room ∙ c.in_ok-given.ensures.piece)
     (ap maybe_place kept.0
     ∙ place s.arg_places (next_call s).closes (sym (length-map c.arg_places-places.result.now pair) ∙ ap length c.arg_places-places.ensures) refl)
-    (kept.1 ∙ c.position-read.ensures)
-    (kept.2 ∙ c.curarg-step.ensures.value)
-    (kept.3 ∙ sym (length-map c.line_spans.result.now pair) ∙ ap length c.line_spans.ensures)
+    (kept.1 ∙ c.put_state.ensures.read)
+    (kept.2 ∙ c.put_state.ensures.next)
+    (kept.3 ∙ c.put_state.ensures.lines)
     (ap maybe_place kept.4 ∙ c.put_peeks.ensures.place)
     (ap maybe_place kept.5 ∙ c.put_peeks.ensures.ahead)
 
