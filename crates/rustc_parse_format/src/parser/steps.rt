@@ -2,6 +2,7 @@
 
 use crate::call::{read_bare, read_placeholder};
 use crate::cursor::Trail;
+use crate::laws::default_of_spec;
 use crate::lists::ends_with;
 use crate::parser::Parser;
 use crate::placeholder::blank_argument;
@@ -15,7 +16,7 @@ impl<'input> Parser<'input> {
     ghost use Rattle.rustc_parse_format.specs.Faults.{is_front};
     ghost use Rattle.rustc_parse_format.specs.Midway.{opens_placeholder};
     ghost use Rattle.rustc_parse_format.specs.Seen.{seen, seen_argument, seen_spec, seen_taken};
-    ghost use Rattle.rustc_parse_format.specs.State.{NeedsNoMemory, after, last_lines, next_call};
+    ghost use Rattle.rustc_parse_format.specs.State.{AddsNothing, NeedsNoMemory, after, last_lines, next_call};
     ghost use Rattle.rustc_parse_format.specs.Steps.{IsInWord, Paid};
     ghost use Rattle.rustc_parse_format.specs.Types.{Lit, NextArgument, default_spec};
     ghost use Rattle.rustc_parse_format.specs.World.{piece_in};
@@ -36,6 +37,7 @@ impl<'input> Parser<'input> {
             ≡ option_map (piece_in self.old.world) (next_call self.old).piece) }
         ensures state { OnOk result (self.new ≡ after self.old (next_call self.old)) }
         ensures err { OnErr result (self.new ≡ self.old) }
+        ensures spare { AddsNothing self.old (next_call self.old) → IsOk result }
         ensures fronts { OnOk result (fronts.new ≡ length (filter is_front (next_call self.old).faults)) }
         ensures steps { OnOk result (Paid self.old.rest trail.old self.new.rest trail.new) }
     {
@@ -64,7 +66,7 @@ impl<'input> Parser<'input> {
         ensures piece { IfOk result (λ p. option_map (λ t. Lit (chars t.now)) p ≡ option_map (piece_in self.old.world) (next_call self.old).piece) }
         ensures state { OnOk result (self.new ≡ after self.old (next_call self.old)) }
         ensures err { OnErr result (self.new ≡ self.old) }
-        ensures spare { NeedsNoMemory self.old (next_call self.old) → IsOk result }
+        ensures spare { AddsNothing self.old (next_call self.old) → IsOk result }
         ensures fronts { OnOk result (fronts.new ≡ length (filter is_front (next_call self.old).faults)) }
         ensures steps { OnOk result (Paid self.old.rest trail.old self.new.rest trail.new) }
     {
@@ -123,11 +125,11 @@ impl<'input> Parser<'input> {
         ensures piece { IfOk result (λ p. option_map (seen_taken into.new) p ≡ option_map (piece_in self.old.world) (next_call self.old).piece) }
         ensures state { OnOk result (self.new ≡ after self.old (next_call self.old)) }
         ensures err { OnErr result (self.new ≡ self.old) }
-        ensures spare { NeedsNoMemory self.old (next_call self.old) → IsOk result }
+        ensures spare { AddsNothing self.old (next_call self.old) → IsOk result }
         ensures fronts { OnOk result (fronts.new ≡ length (filter is_front (next_call self.old).faults)) }
     {
         if self.reader.cursor.opens_placeholder() {
-            *into = blank_argument();
+            into.format = default_of_spec();
             self.step_into(into, fronts, trail)?;
             return Ok(Some(Taken::NextArgument));
         }
