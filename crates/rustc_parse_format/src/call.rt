@@ -1,7 +1,7 @@
 //! One call of the parser, on a reader: a placeholder or what is none, and the faults as they are found.
 
-ghost use Rattle.std.specs.Prelude.{[], ◌++◌, ◌+◌, ◌<◌, ◌^◌, ◌∷◌, ◌≡◌, ◌≢◌, IfOk, chars, if◌then◌else◌, IsOk, IsTrue, length, OnErr, OnOk, option_map, Some, false, true};
-ghost use Rattle.rustc_parse_format.specs.Call.{call, GivesAtMostText, placeholder};
+ghost use Rattle.std.specs.Prelude.{[], ◌++◌, ◌+◌, ◌<◌, ◌^◌, ◌∷◌, ◌≡◌, ◌≢◌, IfOk, chars, if◌then◌else◌, IsOk, length, OnErr, OnOk, option_map, Some, false, true};
+ghost use Rattle.rustc_parse_format.specs.Call.{call, placeholder};
 ghost use Rattle.rustc_parse_format.specs.Characters.{Text, begins_with, behind_first, first};
 ghost use Rattle.rustc_parse_format.specs.Faults.{brace_fill, no_brace};
 ghost use Rattle.rustc_parse_format.specs.Marks.{End, Span, over_first, up_to};
@@ -99,7 +99,7 @@ fn close<'input, L: Ledger>(
         → seen_argument argument.now ≡ map_argument (place_of reader.old.world) a
         → reader.new ≡ behind_closing (seen_mode mode) o a reader.old) }
     ensures source { reader.new.source ≡ reader.old.source }
-    ensures spare { IsTrue (begins_with 125 reader.old.rest) → IsOk result }
+    ensures spare { begins_with 125 reader.old.rest ≡ true → IsOk result }
     ensures steps { OnOk result (Paid reader.old.rest trail.old reader.new.rest trail.new) }
 {
     if reader.cursor.is_next('}') {
@@ -173,8 +173,7 @@ pub fn read_bare<'input, L: Ledger>(
     ensures piece { IfOk result (λ p. (m : Mode) → option_map (λ t. Lit (chars t.now)) p ≡ option_map (piece_in reader.old.world)
         (call m reader.old.next reader.old.rest).piece) }
     ensures state { OnOk result ((m : Mode) → reader.new ≡ read_call reader.old (call m reader.old.next reader.old.rest)) }
-    ensures spare { ((m : Mode) → (let k = call m reader.old.next reader.old.rest in
-        GivesAtMostText k → (read_call reader.old k).lines ≡ reader.old.lines → IsOk result)) }
+    ensures spare { (m : Mode) → (let k = call m reader.old.next reader.old.rest in FindsNothing reader.old k.faults k.texts → IsOk result) }
     ensures source { reader.new.source ≡ reader.old.source }
     ensures steps { OnOk result (Paid reader.old.rest trail.old reader.new.rest trail.new) }
 {
