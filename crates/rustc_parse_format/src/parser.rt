@@ -279,7 +279,8 @@ impl<'input> Parser<'input> {
 
     /// The next piece, as by [`Parser::next`], where a placeholder is read into an argument of the caller's and takes no memory
     /// of its own; and how many errors of this call were put in front of all earlier ones. Its other errors come after those. An
-    /// error leaves the parser as it was. Only where the piece is a placeholder is the argument's value of any use then.
+    /// error leaves the parser as it was. A call that adds nothing to what the parser keeps, no error, no place of an argument and
+    /// no line, needs no memory. Only where the piece is a placeholder is the argument's value of any use then.
     #[inline(always)]
     pub fn next_into(
         &mut self,
