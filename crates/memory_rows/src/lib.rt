@@ -4,7 +4,7 @@
 //! line `refused`; nothing has changed, and the same call then gives what the row says. `.ci/refusals` runs each test with
 //! its first request refused, then with its second, and so on.
 //!
-//! `rows` is the table of what is read, and `walks`, `items` and `whole` are the ways to read it. `spare` has the calls
+//! `rows` is the table of what is read, and `walks`, `taken`, `items` and `whole` are the ways to read it. `spare` has the calls
 //! that no want of memory stops, which are made before each other call and behind each refusal. `contents` and `copies`
 //! are about the calls that read nothing. Nothing here takes memory of its own but snippets: `sheet` keeps text without
 //! it, and `listing` writes on it.
@@ -26,6 +26,8 @@ mod sheet;
 mod spare;
 #[cfg(test)]
 mod start;
+#[cfg(test)]
+mod taken;
 #[cfg(test)]
 mod walks;
 #[cfg(test)]

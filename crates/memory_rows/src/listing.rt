@@ -3,7 +3,7 @@
 use crate::sheet::Sheet;
 use rustc_parse_format::{
     Alignment, Argument, Count, DebugHex, FormatSpec, ParseError, Parser, Piece, Position, Sign,
-    Suggestion,
+    Suggestion, Taken,
 };
 use std::fmt;
 use std::fmt::Write;
@@ -100,14 +100,25 @@ fn put_argument(out: &mut Sheet, argument: &Argument<'_>) -> fmt::Result {
     put_values(out, &argument.format)
 }
 
+fn put_literal(out: &mut Sheet, text: &str) -> fmt::Result {
+    out.write_str("lit ")?;
+    put_quoted(out, text)
+}
+
 /// Adds the line of a piece.
 pub fn put_piece(out: &mut Sheet, piece: &Piece<'_>) -> fmt::Result {
     match piece {
-        Piece::Lit(text) => {
-            out.write_str("lit ")?;
-            put_quoted(out, text)?;
-        }
+        Piece::Lit(text) => put_literal(out, text)?,
         Piece::NextArgument(argument) => put_argument(out, argument)?,
+    }
+    out.write_str("\n")
+}
+
+/// Adds the line of a piece whose placeholder was read into an argument.
+pub fn put_read(out: &mut Sheet, taken: &Taken<'_>, argument: &Argument<'_>) -> fmt::Result {
+    match taken {
+        Taken::Lit(text) => put_literal(out, text)?,
+        Taken::NextArgument => put_argument(out, argument)?,
     }
     out.write_str("\n")
 }

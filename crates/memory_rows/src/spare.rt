@@ -2,7 +2,7 @@
 
 use rustc_parse_format::literal::is_source_literal;
 use rustc_parse_format::{
-    Argument, FormatSpec, ParseMode, Parser, Piece, Pieces, Position, read_all,
+    Argument, FormatSpec, ParseMode, Parser, Piece, Pieces, Position, Taken, read_all,
 };
 use std::alloc::{AllocError, Global};
 use std::process::Abort;
@@ -81,6 +81,36 @@ fn named() -> Argument<'static> {
     }
 }
 
+/// An argument before a placeholder is read into it.
+pub fn blank_argument<'input>() -> Argument<'input> {
+    Argument {
+        position: Position::ArgumentImplicitlyIs(0),
+        position_span: 0..0,
+        format: FormatSpec::default(),
+    }
+}
+
+/// The next piece is a placeholder without a fault in front, which is read into an argument.
+pub fn next_is_read(parser: &mut Parser<'_>) -> Result<bool, AllocError> {
+    let (taken, fronts) = parser.next_into(&mut blank_argument())?;
+    Ok(matches!(taken, Some(Taken::NextArgument)) && fronts == 0)
+}
+
+/// A placeholder without fault, outside a source literal, is read into an argument.
+fn check_read(rt: &impl Abort, alloc: Global) -> Result<(), Fail> {
+    let mut parser = Parser::new(
+        alloc,
+        "{a:*^+#08.b$x?}",
+        None,
+        None,
+        false,
+        ParseMode::Format,
+    )?;
+    let is_read = next_is_read(&mut parser)?;
+    assert!(rt; is_read);
+    Ok(())
+}
+
 /// What is asked of it, and its clone.
 fn check_argument(rt: &impl Abort, argument: &Argument<'static>) -> Result<(), Fail> {
     assert!(rt; argument.is_identifier());
@@ -104,6 +134,7 @@ pub fn check_spare(rt: &impl Abort, alloc: Global) -> Result<(), Fail> {
     check_text(rt, alloc)?;
     check_item(rt, alloc)?;
     check_nothing(rt, alloc)?;
+    check_read(rt, alloc)?;
     check_values(rt, alloc)
 }
 

@@ -36,7 +36,7 @@ fn call<'input>(
 }
 
 /// Calls that take no memory, which change nothing.
-fn check_unchanged(
+pub fn check_unchanged(
     rt: &impl Abort,
     alloc: Global,
     parser: &mut Parser<'_>,

@@ -1,7 +1,8 @@
 -- A placeholder, part by part.
-use Rattle.std.proofs.Common.{◌≡◌, ◌≢◌, ◌+◌, ◌≤◌, ◌++◌, ◌==◌, ℕ, Bool, true, false, not, cond, [], ◌∷◌, length, arith, Option, Some, None, refl, sym, ap}
-use Rattle.std.proofs.Common.{◌∙◌, append_assoc}
+use Rattle.std.proofs.Common.{◌≡◌, ◌≢◌, ◌+◌, ◌≤◌, ◌++◌, ◌==◌, ℕ, Bool, true, false, not, cond, List, [], ◌∷◌, length, arith, Option, Some, None, refl, sym, ap}
+use Rattle.std.proofs.Common.{◌∙◌, append_assoc, subst}
 use Rattle.std.specs.Prelude.{if◌then◌else◌, option_map}
+use Rattle.std.proofs.lemmas.List.{append-nil}
 use Rattle.std.proofs.lemmas.Bool.{and_parts, cond_both, cond-true, cond-false, eqb-true, false≢true, not-true}
 use Rattle.rustc_parse_format.specs.Characters.{Text, is_brace, behind_white, behind_first, begins_with, first}
 use Rattle.rustc_parse_format.specs.Marks.{Span, Start, End, up_to, through, over_first}
@@ -13,14 +14,16 @@ use Rattle.rustc_parse_format.specs.Faults.{Fault, map_fault, brace_fill, no_bra
 use Rattle.rustc_parse_format.specs.PartFaults.{cut_faults}
 use Rattle.rustc_parse_format.specs.Recovery.{recovery}
 use Rattle.rustc_parse_format.specs.Call.{Call, GivesNoArgument, GivesAtMostText, call, placeholder, unclosed_call, unclosed_fault}
-use Rattle.rustc_parse_format.specs.Midway.{Midway, behind_closing, closed_then, opens_placeholder, read_call, read_texts, read_to, recovered}
+use Rattle.rustc_parse_format.specs.Midway.{FindsNothing, Midway, behind_closing, closed_then, opens_placeholder, read_call, read_texts, read_to, recovered}
 use Rattle.rustc_parse_format.specs.Lines.{closed_in}
 use Rattle.rustc_parse_format.proofs.Numbers.{number_after_field-le}
 use Rattle.rustc_parse_format.proofs.Rests.{IsRest-le, behind_white_rest}
 use Rattle.rustc_parse_format.proofs.Recoveries.{Recovers}
 use Rattle.rustc_parse_format.proofs.Readers.{read_three}
+use Rattle.rustc_parse_format.proofs.CleanWords.{none_right}
 use Rattle.rustc_parse_format.proofs.LineLaws.{read_texts-append}
 use Rattle.rustc_parse_format.proofs.StateLines.{closed_in-none}
+use Rattle.rustc_parse_format.specs.State.{State, AddsNothing, NeedsNoMemory, next_call}
 use Rattle.rustc_parse_format.specs.World.{World, Place, number_of, place_at, place_of}
 
 -- what stands where the closing brace should
@@ -33,6 +36,25 @@ placeholder-piece mode c o t = cond_both {A = Call} (begins_with 125 (ending mod
     (λ e. refl) (λ e. refl)
 
 pub ruleset placeholder_given = (placeholder-piece)
+
+-- One without fault has an argument without one and is closed by a brace,
+pub placeholder-faultless : (mode : Mode) (c : ℕ) (o t : Text) → (placeholder mode c o t).faults ≡ [] → (cut_faults mode (cut mode t) ≡ [])
+    × ((placeholder mode c o t).texts ≡ spec_texts (cut mode t).field.spec (cut mode t).rest) × (begins_with 125 (ending mode t) ≡ true)
+unfolding placeholder
+placeholder-faultless mode c o t = cond_both {A = Call} (begins_with 125 (ending mode t)) _ _ (λ k. k.faults ≡ [] →
+    (cut_faults mode (cut mode t) ≡ []) × (k.texts ≡ spec_texts (cut mode t).field.spec (cut mode t).rest) × (begins_with 125 (ending mode t) ≡ true))
+    (λ e h. (h, refl, e)) (λ e h. absurd (no_faults (none_right (cut_faults mode (cut mode t)) _ h)))
+  where
+    no_faults : {f : Fault Span} {fs : List (Fault Span)} → f ∷ fs ≡ [] → ⊥
+    no_faults e = cc
+
+-- and where it finds nothing, so does its argument.
+pub argument-finds : (s : Midway) (mode : Mode) (o t : Text) →
+    FindsNothing s (placeholder mode s.next o t).faults (placeholder mode s.next o t).texts →
+    FindsNothing s (cut_faults mode (cut mode t)) (spec_texts (cut mode t).field.spec (cut mode t).rest)
+argument-finds s mode o t h =
+    let clean = placeholder-faultless mode s.next o t h.0 in
+    (clean.0, subst (λ (cs : List (ℕ × ℕ)). (read_texts s cs).lines ≡ s.lines) clean.1 h.1)
 
 map-if : {A B : Type 0} (g : A → B) (b : Bool) (s : Option A) → option_map g (if b then s else None) ≡ (if b then option_map g s else None)
 map-if g true s = refl
@@ -174,3 +196,7 @@ pub closes_nothing : (mode : Mode) (c : ℕ) (t : Text) → GivesNoArgument (cal
 unfolding call
 closes_nothing mode c [] h = refl
 closes_nothing mode c (b ∷ t) h = closes_at mode c b t h
+
+-- A call that needs no memory adds nothing.
+pub needs_adds : (s : State) → NeedsNoMemory s (next_call s) → AddsNothing s (next_call s)
+needs_adds s n = (n.0.1, rw (closes_nothing s.mode s.next s.rest n.0.0, closed_in-none s.world) (append-nil s.arg_places), n.1)

@@ -7,11 +7,11 @@ use Rattle.std.proofs.lemmas.List.{nil_from_length}
 use Rattle.std.proofs.lemmas.List.{append-nil}
 use Rattle.rustc_parse_format.specs.Characters.{Text}
 use Rattle.rustc_parse_format.specs.Call.{Call, call}
-use Rattle.rustc_parse_format.specs.Lines.{lines_in, closed_in, ends_with, with_last}
+use Rattle.rustc_parse_format.specs.Lines.{lines_in, closed_in, listed, ends_with, with_last}
 use Rattle.rustc_parse_format.specs.World.{World, Place, place_at}
-use Rattle.rustc_parse_format.specs.Midway.{HasFoundNothing, Midway, closed_then, read_call}
+use Rattle.rustc_parse_format.specs.Midway.{FindsNothing, HasFoundNothing, Midway, closed_then, read_call}
 use Rattle.rustc_parse_format.proofs.Places.{place_end}
-use Rattle.rustc_parse_format.specs.State.{State, NeedsNoMemory, after, last_lines, next_call}
+use Rattle.rustc_parse_format.specs.State.{State, AddsNothing, after, last_lines, next_call}
 
 nothing_appended : {A : Type 0} (xs ys : List A) → xs ++ ys ≡ xs → ys ≡ []
 nothing_appended xs ys e = nil_from_length ys (omega (arith, ap length e, length-append xs ys))
@@ -73,11 +73,24 @@ not_last s (c ∷ t) ls e h = rw e (by_test s.world.has_source)
     by_test true = refl
     by_test false = refl
 
--- where a call gives text and no fault and ends no line, there is nothing to add
+-- where a call adds nothing, it ends no line
+no_line : (s : State) (k : Call) → s.rest ≢ [] → AddsNothing s k → (lines_in s.world s.line_start k.texts).1 ≡ []
+no_line s k some n =
+    let lines = (lines_in s.world s.line_start k.texts).1 in
+    nothing_appended s.line_spans lines (sym (not_last s s.rest (s.line_spans ++ lines) refl some) ∙ n.2)
+
+none_listed : (p : Option Place) → listed p ≡ [] → p ≡ None
+none_listed None e = refl
+none_listed (Some p) e = cc
+
+-- finds nothing on its way,
+pub finds_nothing : (s : State) (old : Midway) (k : Call) → s.rest ≢ [] → old.world ≡ s.world → old.line_start ≡ s.line_start →
+    AddsNothing s k → FindsNothing old k.faults k.texts
+finds_nothing s old k some world start n = (n.0, rw (world, start, no_line s k some n) (append-nil old.lines))
+
+-- and has found nothing at its end
 pub nothing_found : (s : State) (old : Midway) (k : Call) → s.rest ≢ [] → HasFoundNothing old → old.world ≡ s.world → old.line_start ≡ s.line_start →
-    NeedsNoMemory s k → k.closes ≡ None → HasFoundNothing (read_call old k)
-nothing_found s old k some none world start n closes =
-    let kept : s.line_spans ++ (lines_in s.world s.line_start k.texts).1 ≡ s.line_spans =
-    sym (not_last s s.rest (s.line_spans ++ (lines_in s.world s.line_start k.texts).1) refl some) ∙ n.1 in
-    let no_line : (lines_in s.world s.line_start k.texts).1 ≡ [] = nothing_appended s.line_spans _ kept in
-    rw (none.0, none.1, none.2, world, start, n.0.1, no_line, closes, closed_in-none s.world) (refl, refl, refl)
+    AddsNothing s k → HasFoundNothing (read_call old k)
+nothing_found s old k some none world start n =
+    let closes : closed_in s.world k.closes ≡ None = none_listed (closed_in s.world k.closes) (nothing_appended s.arg_places _ n.1) in
+    rw (none.0, none.1, none.2, world, start, n.0, no_line s k some n, closes) (refl, refl, refl)

@@ -88,6 +88,10 @@ passed_next c s = record (noted_next c s) { rest = behind_first s.rest }
 abbrev pub IsPastIndent : ℕ → ℕ → World → Text → Type 0
 IsPastIndent c start w t = (is_whitespace c ≡ true → start < (place_at w (length t)).0) × StartBehind start w (length (behind_first t))
 
+-- these faults are none, and the characters, read as text, end no line
+abbrev pub FindsNothing : Midway → List (Fault Span) → List (ℕ × ℕ) → Type 0
+FindsNothing s fs cs = (fs ≡ []) × ((read_texts s cs).lines ≡ s.lines)
+
 -- the run of text at the front ends no line
 abbrev pub IsInOneLine : Midway → Type 0
 IsInOneLine s = (read_run s).lines ≡ s.lines

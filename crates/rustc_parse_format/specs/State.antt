@@ -72,6 +72,10 @@ after s k =
 abbrev pub NeedsNoMemory : State → Call → Type 0
 NeedsNoMemory s k = GivesAtMostText k × ((after s k).line_spans ≡ s.line_spans)
 
+-- Such a call adds nothing to what is kept: it finds no fault, closes no placeholder of a source literal, and ends no line of one.
+abbrev pub AddsNothing : State → Call → Type 0
+AddsNothing s k = (k.faults ≡ []) × ((after s k).arg_places ≡ s.arg_places) × ((after s k).line_spans ≡ s.line_spans)
+
 -- a call gave the piece q up to the rest r, with the next number n and no fault
 pub record GivesPiece (given : Option (Piece Place)) (q : Piece (Unit {0})) (r : Text) (n : ℕ) (old new : State) : Type 0 where
   pub piece : option_map bare given ≡ Some q

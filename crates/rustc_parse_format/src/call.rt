@@ -1,13 +1,13 @@
 //! One call of the parser, on a reader: a placeholder or what is none, and the faults as they are found.
 
 ghost use Rattle.std.specs.Prelude.{[], ◌++◌, ◌+◌, ◌<◌, ◌^◌, ◌∷◌, ◌≡◌, ◌≢◌, IfOk, chars, if◌then◌else◌, IsOk, length, OnErr, OnOk, option_map, Some, false, true};
-ghost use Rattle.rustc_parse_format.specs.Call.{call, GivesAtMostText, placeholder};
-ghost use Rattle.rustc_parse_format.specs.Characters.{Text, behind_first, first};
+ghost use Rattle.rustc_parse_format.specs.Call.{call, placeholder};
+ghost use Rattle.rustc_parse_format.specs.Characters.{Text, begins_with, behind_first, first};
 ghost use Rattle.rustc_parse_format.specs.Faults.{brace_fill, no_brace};
 ghost use Rattle.rustc_parse_format.specs.Marks.{End, Span, over_first, up_to};
 ghost use Rattle.rustc_parse_format.specs.Seen.{pair, seen_argument, seen_mode, seen_spec};
 ghost use Rattle.rustc_parse_format.specs.SeenFaults.{seen_fault};
-ghost use Rattle.rustc_parse_format.specs.Midway.{behind_closing, opens_placeholder, read_call};
+ghost use Rattle.rustc_parse_format.specs.Midway.{FindsNothing, behind_closing, opens_placeholder, read_call};
 ghost use Rattle.rustc_parse_format.specs.Steps.{Forward, IsInWord, Paid};
 ghost use Rattle.rustc_parse_format.specs.Types.{Argument as ArgumentValue, Mode, Lit, NextArgument, default_spec, map_argument};
 ghost use Rattle.rustc_parse_format.specs.World.{number_of, piece_in, place_of};
@@ -99,6 +99,7 @@ fn close<'input, L: Ledger>(
         → seen_argument argument.now ≡ map_argument (place_of reader.old.world) a
         → reader.new ≡ behind_closing (seen_mode mode) o a reader.old) }
     ensures source { reader.new.source ≡ reader.old.source }
+    ensures spare { begins_with 125 reader.old.rest ≡ true → IsOk result }
     ensures steps { OnOk result (Paid reader.old.rest trail.old reader.new.rest trail.new) }
 {
     if reader.cursor.is_next('}') {
@@ -126,6 +127,8 @@ fn read_braced<'input, L: Ledger>(
     ensures state { OnOk result (reader.new
         ≡ read_call reader.old (placeholder (seen_mode mode) reader.old.next reader.old.rest (behind_first reader.old.rest))) }
     ensures err { OnErr result (reader.new.source ≡ reader.old.source) }
+    ensures spare { (let k = placeholder (seen_mode mode) reader.old.next reader.old.rest (behind_first reader.old.rest) in
+        FindsNothing reader.old k.faults k.texts → IsOk result) }
     ensures steps { OnOk result (Paid reader.old.rest trail.old reader.new.rest trail.new) }
 {
     let opening = reader.cursor.take_place(trail);
@@ -151,6 +154,8 @@ pub fn read_placeholder<'input, L: Ledger>(
         (call (seen_mode mode) reader.old.next reader.old.rest).piece) }
     ensures state { OnOk result (reader.new ≡ read_call reader.old (call (seen_mode mode) reader.old.next reader.old.rest)) }
     ensures err { OnErr result (reader.new.source ≡ reader.old.source) }
+    ensures spare { (let k = call (seen_mode mode) reader.old.next reader.old.rest in
+        FindsNothing reader.old k.faults k.texts → IsOk result) }
     ensures steps { OnOk result (Paid reader.old.rest trail.old reader.new.rest trail.new) }
 {
     read_braced(mode, into, reader, trail)?;
@@ -168,8 +173,7 @@ pub fn read_bare<'input, L: Ledger>(
     ensures piece { IfOk result (λ p. (m : Mode) → option_map (λ t. Lit (chars t.now)) p ≡ option_map (piece_in reader.old.world)
         (call m reader.old.next reader.old.rest).piece) }
     ensures state { OnOk result ((m : Mode) → reader.new ≡ read_call reader.old (call m reader.old.next reader.old.rest)) }
-    ensures spare { ((m : Mode) → (let k = call m reader.old.next reader.old.rest in
-        GivesAtMostText k → (read_call reader.old k).lines ≡ reader.old.lines → IsOk result)) }
+    ensures spare { (m : Mode) → (let k = call m reader.old.next reader.old.rest in FindsNothing reader.old k.faults k.texts → IsOk result) }
     ensures source { reader.new.source ≡ reader.old.source }
     ensures steps { OnOk result (Paid reader.old.rest trail.old reader.new.rest trail.new) }
 {

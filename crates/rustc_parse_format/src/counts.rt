@@ -1,6 +1,6 @@
 //! Integers, words and counts, and the sizes of a format specification that are made of them: its width and its precision.
 
-ghost use Rattle.std.specs.Prelude.{[], ◌+◌, ◌++◌, ◌<◌, ◌^◌, ◌∷◌, ◌≡◌, bytes_eq, chars, codes, IfOk, if◌then◌else◌, length, OnErr, OnOk, option_map};
+ghost use Rattle.std.specs.Prelude.{[], ◌+◌, ◌++◌, ◌<◌, ◌^◌, ◌∷◌, ◌≡◌, bytes_eq, chars, codes, false, IfOk, if◌then◌else◌, IsOk, length, OnErr, OnOk, option_map};
 ghost use Rattle.rustc_parse_format.specs.Characters.{behind_digits, behind_word, digits, number, word};
 ghost use Rattle.rustc_parse_format.specs.Counts.{behind_name, count, precision, width};
 ghost use Rattle.rustc_parse_format.specs.Faults.{TooLarge, Underscore};
@@ -35,6 +35,7 @@ fn note_number<'input>(
           then TooLarge (chars digits.entry.now) (start, number_of reader.old.world (End (length reader.old.rest))) ∷ [] else []);
     }) }
     ensures err { OnErr result (reader.new.source ≡ reader.old.source) }
+    ensures spare { over ≡ false → IsOk result }
 {
     if !over {
         return Ok(());
@@ -49,6 +50,7 @@ fn note_word(reader: &mut Reader<'_>, word: &str, span: Range<usize>) -> Result<
       faults = reader.old.faults ++ (if bytes_eq (chars word.now) (codes "_") then Underscore (pair span) ∷ [] else []);
     }) }
     ensures err { OnErr result (reader.new.source ≡ reader.old.source) }
+    ensures spare { bytes_eq (chars word.now) (codes "_") ≡ false → IsOk result }
 {
     if is_underscore(word) {
         return reader.note(Fault::Underscore(span));
@@ -64,6 +66,7 @@ pub fn integer<'input, L: Ledger>(
     ensures value { IfOk result (λ n. n ≡ number (digits reader.old.rest)) }
     ensures state { OnOk result (reader.new ≡ read_to reader.old (behind_digits reader.old.rest) reader.old.next (number_faults reader.old.rest)) }
     ensures err { OnErr result (reader.new.source ≡ reader.old.source) }
+    ensures spare { number_faults reader.old.rest ≡ [] → IsOk result }
     ensures steps { OnOk result (Forward reader.old.rest trail.old reader.new.rest trail.new) }
 {
     let start = reader.start();
@@ -80,6 +83,7 @@ pub fn word<'input, L: Ledger>(
     ensures value { IfOk result (λ w. chars w.now ≡ word reader.old.rest) }
     ensures state { OnOk result (reader.new ≡ read_to reader.old (behind_word reader.old.rest) reader.old.next (word_faults reader.old.rest)) }
     ensures err { OnErr result (reader.new.source ≡ reader.old.source) }
+    ensures spare { word_faults reader.old.rest ≡ [] → IsOk result }
     ensures steps { OnOk result (Forward reader.old.rest trail.old reader.new.rest trail.new) }
 {
     let start = reader.start();
@@ -101,6 +105,7 @@ fn name_count<'input, L: Ledger>(
     ensures state { OnOk result (reader.new ≡ (let k = behind_name reader.old.rest (word reader.old.rest) (behind_word reader.old.rest) in
         read_to reader.old k.1 reader.old.next (word_faults reader.old.rest))) }
     ensures err { OnErr result (reader.new.source ≡ reader.old.source) }
+    ensures spare { word_faults reader.old.rest ≡ [] → IsOk result }
     ensures steps { OnOk result (Paid reader.old.rest trail.old reader.new.rest trail.new) }
 {
     let front = reader.cursor.spot();
@@ -125,6 +130,7 @@ pub fn count<'input, L: Ledger>(
         ≡ map_count (place_of reader.old.world) (count_of reader.old.rest (count reader.old.rest).0 (count reader.old.rest).1)) }
     ensures state { OnOk result (reader.new ≡ read_to reader.old (count reader.old.rest).1 reader.old.next (argument_faults reader.old.rest)) }
     ensures err { OnErr result (reader.new.source ≡ reader.old.source) }
+    ensures spare { argument_faults reader.old.rest ≡ [] → IsOk result }
     ensures steps { OnOk result (Paid reader.old.rest trail.old reader.new.rest trail.new) }
 {
     if reader.cursor.starts_digit() {
@@ -153,6 +159,7 @@ fn spanned_count<'input, L: Ledger>(
         (count_span reader.old.rest (count reader.old.rest).0 (count reader.old.rest).1)) }
     ensures state { OnOk result (reader.new ≡ read_to reader.old (count reader.old.rest).1 reader.old.next (argument_faults reader.old.rest)) }
     ensures err { OnErr result (reader.new.source ≡ reader.old.source) }
+    ensures spare { argument_faults reader.old.rest ≡ [] → IsOk result }
     ensures steps { OnOk result (Paid reader.old.rest trail.old reader.new.rest trail.new) }
 {
     let start = reader.start();
@@ -187,6 +194,7 @@ fn counted<'input, L: Ledger>(
         (count_span reader.old.rest (count reader.old.rest).0 (count reader.old.rest).1)) }
     ensures state { OnOk result (reader.new ≡ read_to reader.old (count reader.old.rest).1 reader.old.next (argument_faults reader.old.rest)) }
     ensures err { OnErr result (reader.new.source ≡ reader.old.source) }
+    ensures spare { argument_faults reader.old.rest ≡ [] → IsOk result }
     ensures steps { OnOk result (Paid reader.old.rest trail.old reader.new.rest trail.new) }
 {
     let (count, span) = spanned_count(reader, trail)?;
@@ -212,6 +220,7 @@ pub fn width<'input, L: Ledger>(
     ensures state { OnOk result (reader.new ≡ (let w = width reader.old.rest in
         read_to reader.old w.1 reader.old.next (width_faults reader.old.rest w.0))) }
     ensures err { OnErr result (reader.new.source ≡ reader.old.source) }
+    ensures spare { width_faults reader.old.rest (width reader.old.rest).0 ≡ [] → IsOk result }
     ensures steps { OnOk result (Paid reader.old.rest trail.old reader.new.rest trail.new) }
 {
     if !reader.cursor.is_next('0') {
@@ -246,6 +255,7 @@ pub fn precision<'input, L: Ledger>(
     ensures state { OnOk result (reader.new ≡ (let p = precision reader.old.rest in
         read_to reader.old p.1 (number_after_precision reader.old.next p.0) (precision_faults reader.old.rest p.0))) }
     ensures err { OnErr result (reader.new.source ≡ reader.old.source) }
+    ensures spare { precision_faults reader.old.rest (precision reader.old.rest).0 ≡ [] → IsOk result }
     ensures steps { OnOk result (Paid reader.old.rest trail.old reader.new.rest trail.new) }
 {
     if !reader.cursor.is_next('.') {

@@ -60,7 +60,7 @@ impl<'input> Parser<'input> {
     ghost use Rattle.rustc_parse_format.specs.Seen.{pair, seen, seen_error, seen_mode, seen_snippet, seen_taken};
     ghost use Rattle.rustc_parse_format.specs.Literal.{IsSource};
     ghost use Rattle.rustc_parse_format.specs.Source.{HasSource};
-    ghost use Rattle.rustc_parse_format.specs.State.{ComesFrom, GivesPiece, State, after, first_of, first_state, last_lines, next_call};
+    ghost use Rattle.rustc_parse_format.specs.State.{AddsNothing, ComesFrom, GivesPiece, State, after, first_of, first_state, last_lines, next_call};
     ghost use Rattle.rustc_parse_format.specs.Spelling.{IsPart};
     ghost use Rattle.rustc_parse_format.specs.State.{NeedsNoMemory};
     ghost use Rattle.rustc_parse_format.specs.Steps.{IsInWord, Paid};
@@ -270,7 +270,7 @@ impl<'input> Parser<'input> {
         ensures piece { IfOk result (λ p. option_map (seen_taken into.new) p ≡ option_map (piece_in self.old.world) (next_call self.old).piece) }
         ensures state { OnOk result (self.new ≡ after self.old (next_call self.old)) }
         ensures err { OnErr result (self.new ≡ self.old) }
-        ensures spare { NeedsNoMemory self.old (next_call self.old) → IsOk result }
+        ensures spare { AddsNothing self.old (next_call self.old) → IsOk result }
         ensures fronts { OnOk result (fronts.new ≡ length (filter is_front (next_call self.old).faults)) }
     {
         let mut count = self.count::<L>(blank);
@@ -279,7 +279,8 @@ impl<'input> Parser<'input> {
 
     /// The next piece, as by [`Parser::next`], where a placeholder is read into an argument of the caller's and takes no memory
     /// of its own; and how many errors of this call were put in front of all earlier ones. Its other errors come after those. An
-    /// error leaves the parser as it was. Only where the piece is a placeholder is the argument's value of any use then.
+    /// error leaves the parser as it was. A call that adds nothing to what the parser keeps, no error, no place of an argument and
+    /// no line, needs no memory. Only where the piece is a placeholder is the argument's value of any use then.
     #[inline(always)]
     pub fn next_into(
         &mut self,
@@ -290,7 +291,7 @@ impl<'input> Parser<'input> {
         ensures fronts { IfOk result (λ x. x.1 ≡ length (filter is_front (next_call self.old).faults)) }
         ensures state { OnOk result (self.new ≡ after self.old (next_call self.old)) }
         ensures err { OnErr result (self.new ≡ self.old) }
-        ensures spare { NeedsNoMemory self.old (next_call self.old) → IsOk result }
+        ensures spare { AddsNothing self.old (next_call self.old) → IsOk result }
     {
         let mut fronts = 0;
         let piece = self.take_uncounted::<Brand>(argument, &mut fronts, Blank::new(3))?;

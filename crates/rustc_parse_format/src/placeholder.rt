@@ -1,14 +1,14 @@
 //! A placeholder after its opening brace: its position and its specification.
 
-ghost use Rattle.std.specs.Prelude.{◌++◌, ◌+◌, ◌<◌, ◌^◌, ◌≡◌, chars, IfOk, if◌then◌else◌, is_some, length, OnErr, OnOk, option_map, Some, suc, unwrap_or};
+ghost use Rattle.std.specs.Prelude.{[], ◌++◌, ◌+◌, ◌<◌, ◌^◌, ◌≡◌, chars, IfOk, if◌then◌else◌, is_some, IsOk, length, OnErr, OnOk, option_map, Some, suc, unwrap_or};
 ghost use Rattle.rustc_parse_format.specs.Meaning.{spec_texts};
 ghost use Rattle.rustc_parse_format.specs.Characters.{behind_prefix, behind_white, behind_word, number, word};
-ghost use Rattle.rustc_parse_format.specs.Marks.{up_to};
+ghost use Rattle.rustc_parse_format.specs.Marks.{Span, up_to};
 ghost use Rattle.rustc_parse_format.specs.Meaning.{argument};
 ghost use Rattle.rustc_parse_format.specs.PartFaults.{cut_faults, name_faults, position_faults, raw_faults};
 ghost use Rattle.rustc_parse_format.specs.Placeholder.{cut, position};
 ghost use Rattle.rustc_parse_format.specs.Seen.{pair, seen_argument, seen_mode, seen_position, seen_spec};
-ghost use Rattle.rustc_parse_format.specs.Midway.{read_texts, read_to};
+ghost use Rattle.rustc_parse_format.specs.Midway.{FindsNothing, read_texts, read_to};
 ghost use Rattle.rustc_parse_format.specs.Steps.{Forward, IsInWord, Paid};
 ghost use Rattle.rustc_parse_format.specs.Types.{Implicit, default_spec, map_argument};
 ghost use Rattle.rustc_parse_format.specs.Values.{given_position, number_after_field};
@@ -56,6 +56,7 @@ fn position<'input, L: Ledger>(
     ensures state { OnOk result (reader.new ≡ (let p = position reader.old.rest in
         read_to reader.old p.1 reader.old.next (position_faults reader.old.rest p.0))) }
     ensures err { OnErr result (reader.new.source ≡ reader.old.source) }
+    ensures spare { position_faults reader.old.rest (position reader.old.rest).0 ≡ [] → IsOk result }
     ensures steps { OnOk result (Forward reader.old.rest trail.old reader.new.rest trail.new) }
 {
     if reader.cursor.starts_digit() {
@@ -84,6 +85,7 @@ fn note_unnamed<'input>(
       faults = reader.old.faults ++ name_faults (seen_mode mode) (option_map seen_position given.now) (pair span);
     }) }
     ensures err { OnErr result (reader.new.source ≡ reader.old.source) }
+    ensures spare { (s : Span) → name_faults (seen_mode mode) (option_map seen_position given.now) s ≡ [] → IsOk result }
 {
     if wants_names(mode) && !matches!(given, Some(Position::ArgumentNamed(_))) {
         return reader.note(Fault::Unnamed(span));
@@ -108,6 +110,9 @@ fn spaced_position<'input, L: Ledger>(
               ++ name_faults (seen_mode mode) (given_position p.0) (pair span.new);
         })) }
     ensures err { OnErr result (reader.new.source ≡ reader.old.source) }
+    ensures spare { (let p = position reader.old.rest in
+        position_faults reader.old.rest p.0 ≡ []
+        → name_faults (seen_mode mode) (given_position p.0) (up_to reader.old.rest (behind_white p.1)) ≡ [] → IsOk result) }
     ensures steps { OnOk result (Forward reader.old.rest trail.old reader.new.rest trail.new) }
 {
     let start = reader.start();
@@ -163,6 +168,8 @@ pub fn read_argument<'input, L: Ledger>(
     ensures state { OnOk result (reader.new ≡ (let a = cut (seen_mode mode) reader.old.rest in
         read_texts (read_to reader.old a.rest (number_after_field reader.old.next a.field) (cut_faults (seen_mode mode) a)) (spec_texts a.field.spec a.rest))) }
     ensures err { OnErr result (reader.new.source ≡ reader.old.source) }
+    ensures spare { (let a = cut (seen_mode mode) reader.old.rest in
+        FindsNothing reader.old (cut_faults (seen_mode mode) a) (spec_texts a.field.spec a.rest) → IsOk result) }
     ensures steps { OnOk result (Paid reader.old.rest trail.old reader.new.rest trail.new) }
 {
     let given = spaced_position(mode, &mut into.position_span, reader, trail)?;

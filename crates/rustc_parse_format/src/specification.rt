@@ -1,14 +1,14 @@
 //! What a colon brings: a format specification, the modifier of inline assembly, or the text of a diagnostic.
 
-ghost use Rattle.std.specs.Prelude.{◌+◌, ◌++◌, ◌<◌, ◌^◌, ◌≡◌, chars, codes, IfOk, if◌then◌else◌, length, None, OnErr, OnOk, option_map, Some};
+ghost use Rattle.std.specs.Prelude.{[], ◌+◌, ◌++◌, ◌<◌, ◌^◌, ◌≡◌, chars, codes, IfOk, if◌then◌else◌, IsOk, length, None, OnErr, OnOk, option_map, Some};
 ghost use Rattle.rustc_parse_format.specs.Meaning.{spec_texts};
 ghost use Rattle.rustc_parse_format.specs.Characters.{begins_with, behind, behind_first, behind_word, first, front, is_no_brace, word};
-ghost use Rattle.rustc_parse_format.specs.Marks.{End, over_first, up_to};
+ghost use Rattle.rustc_parse_format.specs.Marks.{End, Span, over_first, up_to};
 ghost use Rattle.rustc_parse_format.specs.Meaning.{fill_span, format_of, spec_of, type_span, word_span};
 ghost use Rattle.rustc_parse_format.specs.PartFaults.{flag_faults, format_faults, late_flag, spec_faults, text_faults, type_faults, word_faults};
 ghost use Rattle.rustc_parse_format.specs.Seen.{pair, seen_alignment, seen_debug_hex, seen_mode, seen_sign, seen_spec};
 ghost use Rattle.rustc_parse_format.specs.Specification.{align, alternate, fill, format_text, sign, specification, type};
-ghost use Rattle.rustc_parse_format.specs.Midway.{read_run, read_texts, read_to};
+ghost use Rattle.rustc_parse_format.specs.Midway.{FindsNothing, IsInOneLine, read_run, read_texts, read_to};
 ghost use Rattle.rustc_parse_format.specs.Steps.{Forward, IsFurthest, IsInWord, Paid};
 ghost use Rattle.rustc_parse_format.specs.Types.{default_spec, map_spec};
 ghost use Rattle.rustc_parse_format.specs.Values.{debug_hex_of, number_after_precision, number_after_spec, type_of};
@@ -102,6 +102,7 @@ fn spanned_word<'input, L: Ledger>(
         (word_span reader.old.rest (word reader.old.rest) (behind_word reader.old.rest))) }
     ensures state { OnOk result (reader.new ≡ read_to reader.old (behind_word reader.old.rest) reader.old.next (word_faults reader.old.rest)) }
     ensures err { OnErr result (reader.new.source ≡ reader.old.source) }
+    ensures spare { word_faults reader.old.rest ≡ [] → IsOk result }
     ensures steps { OnOk result (Forward reader.old.rest trail.old reader.new.rest trail.new) }
 {
     if !reader.cursor.starts_word() {
@@ -166,6 +167,7 @@ fn note_flag(reader: &mut Reader<'_>, start: usize) -> Result<(), AllocError>
           (place_of reader.old.world (over_first reader.old.rest)) (start, number_of reader.old.world (End (length reader.old.rest)));
     }) }
     ensures err { OnErr result (reader.new.source ≡ reader.old.source) }
+    ensures spare { (s b : Span) → late_flag (first reader.old.rest) s b ≡ [] → IsOk result }
 {
     let Some(flag) = reader.cursor.peek() else {
         return Ok(());
@@ -185,6 +187,7 @@ fn debug_type<'input, L: Ledger>(
 ) -> Result<(), AllocError>
     ensures state { OnOk result (reader.new ≡ read_to reader.old (behind_first reader.old.rest) reader.old.next (flag_faults reader.old.rest)) }
     ensures err { OnErr result (reader.new.source ≡ reader.old.source) }
+    ensures spare { flag_faults reader.old.rest ≡ [] → IsOk result }
     ensures steps { OnOk result (Forward reader.old.rest trail.old reader.new.rest trail.new) }
 {
     let start = reader.start();
@@ -205,6 +208,7 @@ fn type_part<'input, L: Ledger>(
     ensures state { OnOk result (reader.new ≡ (let y = type reader.old.rest in
         read_to reader.old y.1 reader.old.next (type_faults reader.old.rest y.0))) }
     ensures err { OnErr result (reader.new.source ≡ reader.old.source) }
+    ensures spare { type_faults reader.old.rest (type reader.old.rest).0 ≡ [] → IsOk result }
     ensures steps { OnOk result (Forward reader.old.rest trail.old reader.new.rest trail.new) }
 {
     if reader.cursor.is_next('x') {
@@ -239,6 +243,7 @@ fn format_text<'input, L: Ledger>(
     ensures state { OnOk result (reader.new ≡ (let f = format_text reader.old.rest in
         read_to reader.old f.1 (number_after_precision reader.old.next f.0.precision) (format_faults f.0 f.1))) }
     ensures err { OnErr result (reader.new.source ≡ reader.old.source) }
+    ensures spare { format_faults (format_text reader.old.rest).0 (format_text reader.old.rest).1 ≡ [] → IsOk result }
     ensures steps { OnOk result (Paid reader.old.rest trail.old reader.new.rest trail.new) }
 {
     let (fill, fill_span) = fill(&mut reader.cursor, trail);
@@ -276,6 +281,7 @@ fn modifier<'input, L: Ledger>(
     }) }
     ensures state { OnOk result (reader.new ≡ read_to reader.old (behind_word reader.old.rest) reader.old.next (word_faults reader.old.rest)) }
     ensures err { OnErr result (reader.new.source ≡ reader.old.source) }
+    ensures spare { word_faults reader.old.rest ≡ [] → IsOk result }
     ensures steps { OnOk result (Forward reader.old.rest trail.old reader.new.rest trail.new) }
 {
     let (ty, ty_span) = spanned_word(reader, trail)?;
@@ -295,6 +301,7 @@ fn note_text<'input>(
       faults = reader.old.faults ++ text_faults (seen_mode mode) (chars text.now) (pair span);
     }) }
     ensures err { OnErr result (reader.new.source ≡ reader.old.source) }
+    ensures spare { (s : Span) → text_faults (seen_mode mode) (chars text.now) s ≡ [] → IsOk result }
 {
     if wants_names(mode) && first(text).is_some() {
         return reader.note(Fault::TextAfterColon(span));
@@ -319,6 +326,9 @@ fn diagnostic_text<'input, L: Ledger>(
               (place_of reader.old.world (up_to reader.old.rest (behind is_no_brace t)));
         })) }
     ensures err { OnErr result (reader.new.source ≡ reader.old.source) }
+    ensures spare { (let t = behind_first reader.old.rest in
+        text_faults (seen_mode mode) (front is_no_brace t) (up_to reader.old.rest (behind is_no_brace t)) ≡ []
+        → IsInOneLine (record reader.old { rest = t }) → IsOk result) }
     ensures steps { OnOk result (Forward reader.old.rest trail.old reader.new.rest trail.new) }
 {
     let start = reader.start();
@@ -346,6 +356,8 @@ pub fn specification<'input, L: Ledger>(
     ensures state { OnOk result (reader.new ≡ (let s = specification (seen_mode mode) reader.old.rest in
         read_texts (read_to reader.old s.1 (number_after_spec reader.old.next s.0) (spec_faults (seen_mode mode) reader.old.rest s.0 s.1)) (spec_texts s.0 s.1))) }
     ensures err { OnErr result (reader.new.source ≡ reader.old.source) }
+    ensures spare { (let s = specification (seen_mode mode) reader.old.rest in
+        FindsNothing reader.old (spec_faults (seen_mode mode) reader.old.rest s.0 s.1) (spec_texts s.0 s.1) → IsOk result) }
     ensures steps { OnOk result (Paid reader.old.rest trail.old reader.new.rest trail.new) }
 {
     if !reader.cursor.is_next(':') {

@@ -16,7 +16,7 @@ impl<'input> Parser<'input> {
     ghost use Rattle.rustc_parse_format.specs.Faults.{is_front};
     ghost use Rattle.rustc_parse_format.specs.Midway.{opens_placeholder};
     ghost use Rattle.rustc_parse_format.specs.Seen.{seen, seen_argument, seen_spec, seen_taken};
-    ghost use Rattle.rustc_parse_format.specs.State.{NeedsNoMemory, after, last_lines, next_call};
+    ghost use Rattle.rustc_parse_format.specs.State.{AddsNothing, NeedsNoMemory, after, last_lines, next_call};
     ghost use Rattle.rustc_parse_format.specs.Steps.{IsInWord, Paid};
     ghost use Rattle.rustc_parse_format.specs.Types.{Lit, NextArgument, default_spec};
     ghost use Rattle.rustc_parse_format.specs.World.{piece_in};
@@ -37,6 +37,7 @@ impl<'input> Parser<'input> {
             ≡ option_map (piece_in self.old.world) (next_call self.old).piece) }
         ensures state { OnOk result (self.new ≡ after self.old (next_call self.old)) }
         ensures err { OnErr result (self.new ≡ self.old) }
+        ensures spare { AddsNothing self.old (next_call self.old) → IsOk result }
         ensures fronts { OnOk result (fronts.new ≡ length (filter is_front (next_call self.old).faults)) }
         ensures steps { OnOk result (Paid self.old.rest trail.old self.new.rest trail.new) }
     {
@@ -65,7 +66,7 @@ impl<'input> Parser<'input> {
         ensures piece { IfOk result (λ p. option_map (λ t. Lit (chars t.now)) p ≡ option_map (piece_in self.old.world) (next_call self.old).piece) }
         ensures state { OnOk result (self.new ≡ after self.old (next_call self.old)) }
         ensures err { OnErr result (self.new ≡ self.old) }
-        ensures spare { NeedsNoMemory self.old (next_call self.old) → IsOk result }
+        ensures spare { AddsNothing self.old (next_call self.old) → IsOk result }
         ensures fronts { OnOk result (fronts.new ≡ length (filter is_front (next_call self.old).faults)) }
         ensures steps { OnOk result (Paid self.old.rest trail.old self.new.rest trail.new) }
     {
@@ -124,7 +125,7 @@ impl<'input> Parser<'input> {
         ensures piece { IfOk result (λ p. option_map (seen_taken into.new) p ≡ option_map (piece_in self.old.world) (next_call self.old).piece) }
         ensures state { OnOk result (self.new ≡ after self.old (next_call self.old)) }
         ensures err { OnErr result (self.new ≡ self.old) }
-        ensures spare { NeedsNoMemory self.old (next_call self.old) → IsOk result }
+        ensures spare { AddsNothing self.old (next_call self.old) → IsOk result }
         ensures fronts { OnOk result (fronts.new ≡ length (filter is_front (next_call self.old).faults)) }
     {
         if self.reader.cursor.opens_placeholder() {

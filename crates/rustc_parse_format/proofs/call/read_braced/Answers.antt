@@ -1,10 +1,11 @@
 use Rattle.std.proofs.Common.{◌∙◌, ap, map, sym, length, arith}
 use Rattle.std.specs.Prelude.{option_map}
-use Rattle.rustc_parse_format.specs.Characters.{behind_white, behind_first}
+use Rattle.std.proofs.lemmas.Bool.{false≢true}
+use Rattle.rustc_parse_format.specs.Characters.{begins_with, behind_white, behind_first}
 use Rattle.rustc_parse_format.specs.Seen.{pair, seen_argument, seen_mode}
 use Rattle.rustc_parse_format.specs.SeenFaults.{seen_fault}
 use Rattle.rustc_parse_format.specs.Midway.{Midway, Unread, midway}
-use Rattle.rustc_parse_format.proofs.Placeholders.{numbers_left, placeholder_closed}
+use Rattle.rustc_parse_format.proofs.Placeholders.{argument-finds, numbers_left, placeholder-faultless, placeholder_closed}
 use Rattle.rustc_parse_format.proofs.call.read_braced.Goals as goal
 
 pub close-requires-clause-numbers : goal.close-requires-clause-numbers
@@ -35,3 +36,28 @@ returns-clause-state g c =
     rw (← c.reader.view_is) (placeholder_closed s _ c.close.new.reader (seen_mode c.args.mode) u.rest (behind_first u.rest) (pair c.take_place-opening.result)
     (seen_argument c.read_argument.new.into) (c.reader-2.view_is ∙ given.state) c.take_place-opening.ensures.place given.value
     (rw c.skip_white.ensures.rest at c.in_ok-close.ensures.state))
+
+pub returns-in_err-read_argument-clause-spare : goal.returns-in_err-read_argument-clause-spare
+returns-in_err-read_argument-clause-spare g c =
+    let u = c.reader.inside.cursor in
+    let s = record (midway u c.reader.inside.curarg c.reader.inside.line_start) {
+      faults = map seen_fault c.reader.inside.found.items;
+      lines = map pair c.reader.inside.lines.items;
+      closed = option_map pair c.reader.inside.closed;
+    } in
+    let spare = rw c.take_place-opening.ensures.rest at c.in_err-read_argument.ensures.spare in
+    rw (← c.reader.view_is) (λ h. absurd (false≢true (spare (argument-finds s (seen_mode c.args.mode) u.rest (behind_first u.rest) h))))
+
+pub returns-in_err-close-clause-spare : goal.returns-in_err-close-clause-spare
+returns-in_err-close-clause-spare g c =
+    let u = c.reader.inside.cursor in
+    let s = record (midway u c.reader.inside.curarg c.reader.inside.line_start) {
+      faults = map seen_fault c.reader.inside.found.items;
+      lines = map pair c.reader.inside.lines.items;
+      closed = option_map pair c.reader.inside.closed;
+    } in
+    let mode = seen_mode c.args.mode in
+    let given = rw c.take_place-opening.ensures.rest at c.in_ok-read_argument.ensures in
+    let at = ap (λ (x : Midway). begins_with 125 (behind_white x.rest)) (c.reader-2.view_is ∙ given.state) in
+    let spare = rw c.skip_white.ensures.rest at c.in_err-close.ensures.spare in
+    rw (← c.reader.view_is) (λ h. absurd (false≢true (spare (at ∙ (placeholder-faultless mode s.next u.rest (behind_first u.rest) h.0).2))))

@@ -1,3 +1,4 @@
+use Rattle.std.proofs.lemmas.Bool.{false≢true}
 use Rattle.rustc_parse_format.specs.Seen.{seen_mode}
 use Rattle.rustc_parse_format.proofs.Placeholders.{call_opens, opens-some}
 use Rattle.rustc_parse_format.proofs.call.read_placeholder.Goals as goal
@@ -12,3 +13,9 @@ returns-clause-value g c =
 pub returns-clause-state : goal.returns-clause-state
 returns-clause-state g c =
     let s = c.args.reader.now in rw (call_opens (seen_mode c.args.mode) s.next s.rest c.requires.opens) c.in_ok-read_braced.ensures.state
+
+pub returns-in_err-read_braced-clause-spare : goal.returns-in_err-read_braced-clause-spare
+returns-in_err-read_braced-clause-spare g c h =
+    let s = c.args.reader.now in
+    let opened = rw (call_opens (seen_mode c.args.mode) s.next s.rest c.requires.opens) at h in
+    absurd (false≢true (c.in_err-read_braced.ensures.spare opened))

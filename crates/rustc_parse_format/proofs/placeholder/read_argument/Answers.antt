@@ -1,8 +1,11 @@
 use Rattle.std.proofs.Common.{◌∙◌, refl}
+use Rattle.std.proofs.lemmas.Bool.{false≢true}
 use Rattle.std.specs.Prelude.{option_map}
 use Rattle.rustc_parse_format.specs.Meaning.{argument}
 use Rattle.rustc_parse_format.specs.Placeholder.{cut}
 use Rattle.rustc_parse_format.specs.Seen.{seen_mode, seen_position}
+use Rattle.rustc_parse_format.specs.PartFaults.{cut_faults}
+use Rattle.rustc_parse_format.proofs.CleanWords.{none_left, none_right}
 use Rattle.rustc_parse_format.proofs.Readers.{argument_read}
 use Rattle.rustc_parse_format.proofs.placeholder.read_argument.Goals as goal
 
@@ -23,3 +26,16 @@ returns-clause-state g c =
     let state = rw read at c.in_ok-specification.ensures.state in
     rw state at c.position_of-into.ensures.state
     ∙ argument_read c.args.reader.now (seen_mode c.args.mode) (option_map seen_position c.in_ok-given.given) a.value
+
+pub returns-in_err-given-clause-spare : goal.returns-in_err-given-clause-spare
+unfolding cut cut_faults
+returns-in_err-given-clause-spare g c h =
+    let given = none_left _ _ h.0 in absurd (false≢true (c.in_err-given.ensures.spare (none_left _ _ given) (none_right _ _ given)))
+
+pub returns-in_err-specification-clause-spare : goal.returns-in_err-specification-clause-spare
+unfolding cut cut_faults
+returns-in_err-specification-clause-spare g c h =
+    let a = c.in_ok-given.ensures in
+    let read = rw a.span at a.state in
+    let spare = rw read at c.in_err-specification.ensures.spare in
+    absurd (false≢true (spare (none_right _ _ h.0, h.1)))

@@ -1,4 +1,5 @@
-use Rattle.std.proofs.Common.{map, refl, ◌∙◌}
+use Rattle.std.proofs.Common.{map, refl, ◌∙◌, ◌++◌}
+use Rattle.std.proofs.lemmas.Bool.{false≢true}
 use Rattle.rustc_parse_format.specs.Counts.{precision, width}
 use Rattle.rustc_parse_format.specs.Values.{number_after_precision}
 use Rattle.rustc_parse_format.specs.Meaning.{format_of}
@@ -9,6 +10,7 @@ use Rattle.rustc_parse_format.specs.SeenFaults.{seen_fault}
 use Rattle.rustc_parse_format.specs.Specification.{format_text, precision_at, type, type_at, width_at}
 use Rattle.rustc_parse_format.specs.Midway.{midway}
 use Rattle.rustc_parse_format.proofs.PartPlaces.{from_precision-at, from_type-at, from_width-at, format_faults-at}
+use Rattle.rustc_parse_format.proofs.CleanWords.{none_left, none_right}
 use Rattle.rustc_parse_format.proofs.Readers.{read_three}
 use Rattle.rustc_parse_format.proofs.specification.format_text.Goals as goal
 
@@ -47,3 +49,45 @@ returns-clause-state g c =
     let p = rw w at c.in_ok-precision.ensures.state in
     let y = rw p at c.in_ok-type_part.ensures.state in
     rw (← c.reader.view_is, format_faults-at t) (y ∙ read_three s (precision_at t) (type_at t) (type (type_at t)).1 n m m ws ps ys)
+
+pub returns-in_err-width-clause-spare : goal.returns-in_err-width-clause-spare
+unfolding format_text
+returns-in_err-width-clause-spare g c =
+    let t = c.reader.inside.cursor.rest in
+    let ws = width_faults (width_at t) (width (width_at t)).0 in
+    let ps = precision_faults (precision_at t) (precision (precision_at t)).0 in
+    let ys = type_faults (type_at t) (type (type_at t)).0 in
+    let b = rw c.fill-fill.ensures.rest at c.alignment-align.ensures.rest in
+    let h = rw b at c.sign-sign.ensures.rest in
+    let k = rw h at c.alternate-alternate.ensures.rest in
+    let w = rw k at c.in_err-width.ensures.spare in
+    rw (← c.reader.view_is, format_faults-at t) (λ none. absurd (false≢true (w (none_left ws ps (none_left (ws ++ ps) ys none)))))
+
+pub returns-in_err-precision-clause-spare : goal.returns-in_err-precision-clause-spare
+unfolding format_text
+returns-in_err-precision-clause-spare g c =
+    let t = c.reader.inside.cursor.rest in
+    let ws = width_faults (width_at t) (width (width_at t)).0 in
+    let ps = precision_faults (precision_at t) (precision (precision_at t)).0 in
+    let ys = type_faults (type_at t) (type (type_at t)).0 in
+    let b = rw c.fill-fill.ensures.rest at c.alignment-align.ensures.rest in
+    let h = rw b at c.sign-sign.ensures.rest in
+    let k = rw h at c.alternate-alternate.ensures.rest in
+    let w = rw k at c.in_ok-width.ensures.state in
+    let p = rw w at c.in_err-precision.ensures.spare in
+    rw (← c.reader.view_is, format_faults-at t) (λ none. absurd (false≢true (p (none_right ws ps (none_left (ws ++ ps) ys none)))))
+
+pub returns-in_err-type_part-clause-spare : goal.returns-in_err-type_part-clause-spare
+unfolding format_text
+returns-in_err-type_part-clause-spare g c =
+    let t = c.reader.inside.cursor.rest in
+    let ws = width_faults (width_at t) (width (width_at t)).0 in
+    let ps = precision_faults (precision_at t) (precision (precision_at t)).0 in
+    let ys = type_faults (type_at t) (type (type_at t)).0 in
+    let b = rw c.fill-fill.ensures.rest at c.alignment-align.ensures.rest in
+    let h = rw b at c.sign-sign.ensures.rest in
+    let k = rw h at c.alternate-alternate.ensures.rest in
+    let w = rw k at c.in_ok-width.ensures.state in
+    let p = rw w at c.in_ok-precision.ensures.state in
+    let y = rw p at c.in_err-type_part.ensures.spare in
+    rw (← c.reader.view_is, format_faults-at t) (λ none. absurd (false≢true (y (none_right (ws ++ ps) ys none))))

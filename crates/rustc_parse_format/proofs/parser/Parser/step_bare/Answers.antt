@@ -2,14 +2,13 @@ use Rattle.std.proofs.Common.{◌≡◌, ◌≢◌, ◌++◌, ◌∙◌, List, [
 use Rattle.std.specs.List.{filter}
 use Rattle.std.specs.Prelude.{None, option_map}
 use Rattle.rustc_parse_format.specs.Faults.{Fault, is_front}
-use Rattle.rustc_parse_format.specs.Midway.{Midway, HasFoundNothing, read_call}
+use Rattle.rustc_parse_format.specs.Midway.{Midway, FindsNothing, HasFoundNothing, read_call}
 use Rattle.rustc_parse_format.specs.Seen.{seen_mode}
 use Rattle.rustc_parse_format.specs.State.{State, next_call}
 use Rattle.rustc_parse_format.specs.World.{Place, faults_in, piece_in}
-use Rattle.rustc_parse_format.proofs.Placeholders.{closes_nothing}
 use Rattle.rustc_parse_format.proofs.Progress.{call_next-le}
 use Rattle.rustc_parse_format.proofs.ParserLaws.{count_of_fronts}
-use Rattle.rustc_parse_format.proofs.StateLines.{at_end, end_faults, nothing_found}
+use Rattle.rustc_parse_format.proofs.StateLines.{at_end, end_faults, finds_nothing, nothing_found}
 use Rattle.rustc_parse_format.proofs.parser.Parser.step_bare.Goals as goal
 
 pub returns-then-is_at_end-clause-piece : goal.returns-then-is_at_end-clause-piece
@@ -49,10 +48,20 @@ returns-in_default-take_over-clause-spare g c n =
     let left : r.rest ≢ [] = search rules in
     let some : s.rest ≢ [] = subst (λ (x : State). x.rest ≢ []) c.self.view_is left in
     let none = nothing_found s r (next_call s) some c.self.invariant.1 (ap (λ (x : State). x.world) c.self.view_is)
-    (ap (λ (x : State). x.line_start) c.self.view_is) n (closes_nothing s.mode s.next s.rest n.0.0) in
+    (ap (λ (x : State). x.line_start) c.self.view_is) n in
     let read : ◌≡◌ {A = Midway} c.read_bare.new.reader (read_call r (next_call s)) =
     c.in-Ok.ensures.state (seen_mode c.self.inside.mode) ∙ ap (λ (x : State). read_call r (next_call x)) c.self.view_is in
     c.in_default-take_over.ensures.none (subst HasFoundNothing (sym read) none)
+
+pub returns-in_default-clause-spare : goal.returns-in_default-clause-spare
+returns-in_default-clause-spare g c n =
+    let r = c.self.inside.reader in
+    let s = c.args.self.now in
+    let left : r.rest ≢ [] = search rules in
+    let some : s.rest ≢ [] = subst (λ (x : State). x.rest ≢ []) c.self.view_is left in
+    let none = finds_nothing s r (next_call s) some (ap (λ (x : State). x.world) c.self.view_is) (ap (λ (x : State). x.line_start) c.self.view_is) n in
+    c.in_default.ensures.spare (seen_mode c.self.inside.mode)
+    (subst (λ (x : State). FindsNothing r (next_call x).faults (next_call x).texts) (sym c.self.view_is) none)
 
 pub invariant_of-self-in-Ok-take_over : goal.invariant_of-self-in-Ok-take_over
 invariant_of-self-in-Ok-take_over g c =

@@ -1,11 +1,13 @@
-use Rattle.std.proofs.Common.{◌≡◌, ◌++◌, ◌∙◌, List, [], ap, arith, length, refl, rules}
+use Rattle.std.proofs.Common.{◌≡◌, ◌++◌, ◌∙◌, List, [], ap, arith, length, refl, rules, subst, sym}
 use Rattle.std.specs.List.{filter}
 use Rattle.std.specs.Prelude.{None}
 use Rattle.rustc_parse_format.specs.Faults.{Fault, is_front}
-use Rattle.rustc_parse_format.specs.Midway.{Midway, read_call}
+use Rattle.rustc_parse_format.specs.Midway.{Midway, FindsNothing, HasFoundNothing, read_call}
 use Rattle.rustc_parse_format.specs.Seen.{seen_mode}
 use Rattle.rustc_parse_format.specs.State.{State, next_call}
 use Rattle.rustc_parse_format.specs.World.{Place, faults_in}
+use Rattle.rustc_parse_format.proofs.Placeholders.{opens-some}
+use Rattle.rustc_parse_format.proofs.StateLines.{finds_nothing, nothing_found}
 use Rattle.rustc_parse_format.proofs.Progress.{call_next-le}
 use Rattle.rustc_parse_format.proofs.ParserLaws.{count_of_fronts}
 use Rattle.rustc_parse_format.proofs.parser.Parser.step_into.Goals as goal
@@ -21,6 +23,24 @@ returns-clause-fronts g c =
     ∙ ap (λ (fs : List (Fault Place)). fs ++ faults_in r.world (next_call s).faults) c.self.invariant.1.0
     ∙ ap (λ (x : State). faults_in x.world (next_call s).faults) c.self.view_is in
     c.in-Ok-take_over.ensures.fronts ∙ ap (λ fs. length (filter is_front fs)) found ∙ count_of_fronts s.world (next_call s).faults
+
+pub returns-in_default-clause-spare : goal.returns-in_default-clause-spare
+returns-in_default-clause-spare g c n =
+    let r = c.self.inside.reader in
+    let s = c.args.self.now in
+    let none = finds_nothing s r (next_call s) (opens-some s.rest c.requires.opens) (ap (λ (x : State). x.world) c.self.view_is)
+    (ap (λ (x : State). x.line_start) c.self.view_is) n in
+    c.in_default.ensures.spare (subst (λ (x : State). FindsNothing r (next_call x).faults (next_call x).texts) (sym c.self.view_is) none)
+
+pub returns-in_default-take_over-clause-spare : goal.returns-in_default-take_over-clause-spare
+returns-in_default-take_over-clause-spare g c n =
+    let r = c.self.inside.reader in
+    let s = c.args.self.now in
+    let none = nothing_found s r (next_call s) (opens-some s.rest c.requires.opens) c.self.invariant.1 (ap (λ (x : State). x.world) c.self.view_is)
+    (ap (λ (x : State). x.line_start) c.self.view_is) n in
+    let read : ◌≡◌ {A = Midway} c.read_placeholder.new.reader (read_call r (next_call s)) =
+    c.in-Ok.ensures.state ∙ ap (λ (x : State). read_call r (next_call x)) c.self.view_is in
+    c.in_default-take_over.ensures.none (subst HasFoundNothing (sym read) none)
 
 pub invariant_of-self-in-Ok-take_over : goal.invariant_of-self-in-Ok-take_over
 invariant_of-self-in-Ok-take_over g c =
