@@ -3,7 +3,8 @@
 ghost use Rattle.std.specs.Prelude.{◌≡◌, ◌+◌, ◌<◌, ◌≤◌, ◌++◌, drop, length, map, option_map, string_bytes, take};
 ghost use Rattle.rustc_parse_format.specs.Seen.{pair, seen_error, seen_suggestion};
 ghost use Rattle.dephungo.specs.declared.records.Fault.{Fault as FaultRecord};
-ghost use Rattle.dephungo.specs.Held.{Grows, Holds, HoldsError, HoldsErrors, HoldsMaybe, HoldsSecond, HoldsSuggestion, maybe_len, message_len, second_len, suggestion_len, texts_len};
+ghost use Rattle.dephungo.specs.Held.{Grows, Holds, HoldsError, HoldsErrors, HoldsMaybe, HoldsSecond};
+ghost use Rattle.dephungo.specs.Held.{HoldsSuggestion, maybe_len, message_len, second_len, suggestion_len, texts_len};
 
 use crate::finders::Finders;
 use crate::flat::{NO_EXTENT, NOWHERE, extent};

@@ -1,13 +1,15 @@
 //! Pieces as records.
 
 ghost use Rattle.std.specs.Prelude.{◌≡◌, ℕ, ◌+◌, ◌<◌, ◌≤◌, if◌then◌else◌, List, Some, chars, drop, length, option_map, take, true};
-ghost use Rattle.rustc_parse_format.specs.Seen.{pair, seen_alignment, seen_argument, seen_count, seen_debug_hex, seen_position, seen_sign, seen_spec, seen_taken};
+ghost use Rattle.rustc_parse_format.specs.Seen.{pair, seen_alignment, seen_argument, seen_count};
+ghost use Rattle.rustc_parse_format.specs.Seen.{seen_debug_hex, seen_position, seen_sign, seen_spec, seen_taken};
 ghost use Rattle.rustc_parse_format.specs.Characters.{is_nil};
 ghost use Rattle.rustc_parse_format.specs.Types.{NextArgument};
 ghost use Rattle.dephungo.specs.declared.records.Extent.{Extent as ExtentRecord};
 ghost use Rattle.dephungo.specs.declared.records.Spec.{Spec as SpecRecord};
 ghost use Rattle.dephungo.specs.Events.{has_no_counts, has_no_flags, is_default, specs_in};
-ghost use Rattle.dephungo.specs.Meant.{align_meant, count_meant, fill_meant, hex_meant, is_set, maybe_place, piece_meant, place as place_meant, position_meant, sign_meant, spec_at, spec_meant, text_at};
+ghost use Rattle.dephungo.specs.Meant.{align_meant, count_meant, fill_meant, hex_meant, is_set, maybe_place, piece_meant};
+ghost use Rattle.dephungo.specs.Meant.{place as place_meant, position_meant, sign_meant, spec_at, spec_meant, text_at};
 ghost use Rattle.dephungo.specs.Stand.{ArgumentStands, CountAt, PieceAt, PieceStands, PositionAt, SameBehind, SpecAt};
 
 use crate::records::{

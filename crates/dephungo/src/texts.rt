@@ -5,7 +5,8 @@ ghost use Rattle.rustc_parse_format.specs.Characters.{byte_length};
 ghost use Rattle.rustc_parse_format.specs.Seen.{pair, seen, seen_argument, seen_count, seen_position, seen_spec};
 ghost use Rattle.dephungo.specs.declared.records.Extent.{Extent as ExtentRecord};
 ghost use Rattle.dephungo.specs.Meant.{text_at, type_meant};
-ghost use Rattle.dephungo.specs.Stand.{ArgumentStands, CountAt, CountStands, HasBytes, IsListed, PieceAt, PieceStands, PositionAt, PositionStands, SpecAt, StandsAt, StandsBehind, TypeStands};
+ghost use Rattle.dephungo.specs.Stand.{ArgumentStands, CountAt, CountStands, HasBytes, IsListed, PieceAt};
+ghost use Rattle.dephungo.specs.Stand.{PieceStands, PositionAt, PositionStands, SpecAt, StandsAt, StandsBehind, TypeStands};
 
 use crate::flat::NOWHERE;
 use crate::records::{Extent, TYPE_DEBUG, TYPE_LOWER_HEX, TYPE_NONE, TYPE_TEXT, TYPE_UPPER_HEX};

@@ -1,6 +1,7 @@
 //! The calls of a parser, one behind the other, as records.
 
-ghost use Rattle.std.specs.Prelude.{◌≡◌, ℕ, ◌+◌, ◌<◌, ◌≤◌, ◌^◌, ◌++◌, [], Bool, List, None, Option, IfNone, IfOk, IfSome, OnOk, chars, drop, length, map, option_map, take};
+ghost use Rattle.std.specs.Prelude.{◌≡◌, ℕ, ◌+◌, ◌<◌, ◌≤◌, ◌^◌, ◌++◌, [], Bool, List, None, Option};
+ghost use Rattle.std.specs.Prelude.{IfNone, IfOk, IfSome, OnOk, chars, drop, length, map, option_map, take};
 ghost use Rattle.rustc_parse_format.specs.Characters.{behind_first};
 ghost use Rattle.rustc_parse_format.specs.Lines.{closed_in, listed};
 ghost use Rattle.rustc_parse_format.specs.Marks.{Span};
@@ -9,7 +10,8 @@ ghost use Rattle.rustc_parse_format.specs.State.{after, next_call};
 ghost use Rattle.rustc_parse_format.specs.World.{Place};
 ghost use Rattle.dephungo.specs.declared.records.Spec.{Spec as SpecRecord};
 ghost use Rattle.dephungo.specs.declared.records.Step.{Step as StepRecord};
-ghost use Rattle.dephungo.specs.Events.{add_finders, end_of, event, events, found_by, fronts_in, fronts_of, given, looked_for, place_of_first, position, spec_count, specs_in, states, step_meant};
+ghost use Rattle.dephungo.specs.Events.{add_finders, end_of, event, events, found_by, fronts_in, fronts_of};
+ghost use Rattle.dephungo.specs.Events.{given, looked_for, place_of_first, position, spec_count, specs_in, states, step_meant};
 ghost use Rattle.dephungo.specs.Meant.{maybe_place, piece_meant, spec_at};
 ghost use Rattle.dephungo.specs.Stand.{EndsWith, IsAdded, IsAlong, IsGuided, PieceStands, SameBehind, StandsAlike, guide_of};
 
@@ -38,12 +40,7 @@ const BLANK: Step = Step {
 
 /// Puts where the next character and the one after it stand in the source, where that is asked for.
 #[inline(always)]
-fn put_peeks(
-    parser: &Parser<'_>,
-    peeks: bool,
-    peek: &mut MaybeExtent,
-    peek_ahead: &mut MaybeExtent,
-)
+fn put_peeks(parser: &Parser<'_>, peeks: bool, peek: &mut MaybeExtent, peek_ahead: &mut MaybeExtent)
     ensures place { maybe_place peek.new ≡ looked_for peeks (place_of_first parser.now parser.now.rest) }
     ensures ahead { maybe_place peek_ahead.new ≡ looked_for peeks (place_of_first parser.now (behind_first parser.now.rest)) }
 {
@@ -380,7 +377,16 @@ pub fn walk<'a>(
     let mut read = 0;
     while read < input.len() {
         read = add_step(
-            parser, &mut argument, guide, offset, peeks, input, count, finders, steps, specs,
+            parser,
+            &mut argument,
+            guide,
+            offset,
+            peeks,
+            input,
+            count,
+            finders,
+            steps,
+            specs,
             &mut used,
         )?;
         count += 1;

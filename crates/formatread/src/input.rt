@@ -1,6 +1,7 @@
 //! The listing of an input that is a text.
 
-ghost use Rattle.std.specs.Prelude.{◌≡◌, ◌≢◌, ◌≤◌, ◌||◌, ℕ, Bool, List, [], Err, None, Some, IfOk, IfErr, IsErrOf, IsOk, false, length, map, nat_lt, option_map, chars, string_bytes, true};
+ghost use Rattle.std.specs.Prelude.{◌≡◌, ◌≢◌, ◌≤◌, ◌||◌, ℕ, Bool, List, [], Err, None, Some, IfOk, IfErr};
+ghost use Rattle.std.specs.Prelude.{IsErrOf, IsOk, false, length, map, nat_lt, option_map, chars, string_bytes, true};
 ghost use Rattle.rustc_parse_format.specs.Seen.{seen, seen_error, seen_snippet};
 ghost use Rattle.rustc_parse_format.specs.Source.{HasSource};
 ghost use Rattle.rustc_parse_format.specs.World.{hashes};

@@ -3,7 +3,8 @@ ghost use Rattle.rustc_parse_format.specs.Written.{written};
 ghost use Rattle.rustc_parse_format.specs.Seen.{pair, seen, seen_alignment, seen_count, seen_debug_hex, seen_error, seen_position, seen_sign, seen_spec};
 ghost use Rattle.placeholder_check.specs.Seen.{seen_report};
 ghost use Rattle.formatread.specs.Program.{no_entries};
-ghost use Rattle.formatread.specs.Listing.{align_entry, at_entry, count_entry, count_text, fault_line, fill_entry, flag_entry, flag_entries, hex_entry, listing, piece_line, position_text, precision_entry, quoted, sign_entry, span_text, type_entry, value_entries, width_entry};
+ghost use Rattle.formatread.specs.Listing.{align_entry, at_entry, count_entry, count_text, fault_line, fill_entry, flag_entry, flag_entries, hex_entry};
+ghost use Rattle.formatread.specs.Listing.{listing, piece_line, position_text, precision_entry, quoted, sign_entry, span_text, type_entry, value_entries, width_entry};
 
 use super::report_lines::put_report;
 use placeholder_check::Report;

@@ -1,6 +1,7 @@
 //! A standard input that is a string literal.
 
-ghost use Rattle.std.specs.Prelude.{◌≡◌, ◌++◌, ◌+◌, ◌<◌, ◌≤◌, ℕ, [], ◌∷◌, Option, IfOk, IfSome, IsOk, MatchOption, OnOk, chars, length, map, replicate, string_bytes, true, Bool};
+ghost use Rattle.std.specs.Prelude.{◌≡◌, ◌++◌, ◌+◌, ◌<◌, ◌≤◌, ℕ, [], ◌∷◌, Option, IfOk, IfSome, IsOk};
+ghost use Rattle.std.specs.Prelude.{MatchOption, OnOk, chars, length, map, replicate, string_bytes, true, Bool};
 ghost use Rattle.rustc_parse_format.specs.Characters.{Text};
 ghost use Rattle.rustc_parse_format.specs.Literal.{IsLiteral, IsOrdinaryLiteral, newline, raw_closing, raw_frame, raw_opening};
 ghost use Rattle.rustc_parse_format.specs.World.{hashes};

@@ -1,4 +1,5 @@
-ghost use Rattle.std.specs.Prelude.{◌≡◌, ◌≢◌, ◌<◌, ◌≤◌, ◌↔◌, ◌⊎◌, ℕ, Bool, List, [], None, Some, Ok, Err, IfOk, IfErr, IfSome, IsErrOf, IsOk, IsOkUnless, OnOk, length, map, string_bytes};
+ghost use Rattle.std.specs.Prelude.{◌≡◌, ◌≢◌, ◌<◌, ◌≤◌, ◌↔◌, ◌⊎◌, ℕ, Bool, List, [], None, Some, Ok, Err};
+ghost use Rattle.std.specs.Prelude.{IfOk, IfErr, IfSome, IsErrOf, IsOk, IsOkUnless, OnOk, length, map, string_bytes};
 ghost use Rattle.std.specs.Io.KnownBytes.{Appends};
 ghost use Rattle.rustc_parse_format.specs.Types.{Mode};
 ghost use Rattle.formatread.specs.declared.verdict.RunFault.TheVariants.{Words, TooLong, NotText, NotLiteral, Read as ReadFault, Write as WriteFault};

@@ -1,6 +1,7 @@
 //! One call of the parser, on a reader: a placeholder or what is none, and the faults as they are found.
 
-ghost use Rattle.std.specs.Prelude.{[], ◌++◌, ◌+◌, ◌<◌, ◌^◌, ◌∷◌, ◌≡◌, ◌≢◌, IfOk, chars, if◌then◌else◌, IsOk, length, OnErr, OnOk, option_map, Some, false, true};
+ghost use Rattle.std.specs.Prelude.{[], ◌++◌, ◌+◌, ◌<◌, ◌^◌, ◌∷◌, ◌≡◌, ◌≢◌, IfOk, chars, if◌then◌else◌};
+ghost use Rattle.std.specs.Prelude.{IsOk, length, OnErr, OnOk, option_map, Some, false, true};
 ghost use Rattle.rustc_parse_format.specs.Call.{call, placeholder};
 ghost use Rattle.rustc_parse_format.specs.Characters.{Text, begins_with, behind_first, first};
 ghost use Rattle.rustc_parse_format.specs.Faults.{brace_fill, no_brace};

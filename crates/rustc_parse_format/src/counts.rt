@@ -1,6 +1,7 @@
 //! Integers, words and counts, and the sizes of a format specification that are made of them: its width and its precision.
 
-ghost use Rattle.std.specs.Prelude.{[], ◌+◌, ◌++◌, ◌<◌, ◌^◌, ◌∷◌, ◌≡◌, bytes_eq, chars, codes, false, IfOk, if◌then◌else◌, IsOk, length, OnErr, OnOk, option_map};
+ghost use Rattle.std.specs.Prelude.{[], ◌+◌, ◌++◌, ◌<◌, ◌^◌, ◌∷◌, ◌≡◌, bytes_eq, chars, codes};
+ghost use Rattle.std.specs.Prelude.{false, IfOk, if◌then◌else◌, IsOk, length, OnErr, OnOk, option_map};
 ghost use Rattle.rustc_parse_format.specs.Characters.{behind_digits, behind_word, digits, number, word};
 ghost use Rattle.rustc_parse_format.specs.Counts.{behind_name, count, precision, width};
 ghost use Rattle.rustc_parse_format.specs.Faults.{TooLarge, Underscore};

@@ -29,7 +29,8 @@ impl<'input> Model for Cursor<'input> {
 
 impl<'input> Cursor<'input> {
     ghost use Rattle.std.specs.Prelude.{◌≡◌, ◌-◌, ◌++◌, chars, if◌then◌else◌, IsTrue, length, option_map, Some};
-    ghost use Rattle.rustc_parse_format.specs.Characters.{Text, byte_length, begins_raw, begins_with, first, behind_first, behind, behind_white, word, behind_word, digits, behind_digits, number, is_id_start, is_over, first_passes};
+    ghost use Rattle.rustc_parse_format.specs.Characters.{Text, byte_length, begins_raw, begins_with, first, behind_first, behind};
+    ghost use Rattle.rustc_parse_format.specs.Characters.{behind_white, word, behind_word, digits, behind_digits, number, is_id_start, is_over, first_passes};
     ghost use Rattle.std.specs.Char.{is_ascii_digit, is_whitespace};
     ghost use Rattle.rustc_parse_format.specs.Bytes.{IsOfAscii};
     ghost use Rattle.rustc_parse_format.specs.Classes.{passes};

@@ -8,7 +8,8 @@
 ghost use Rattle.std.specs.Prelude.{◌≡◌, ◌↔◌, IsOkAnd, IsTrue, IsUtf8};
 ghost use Rattle.rustc_parse_format.specs.KnownTexts.{IsTextInArgument, IsTextInCount, IsTextInPiece, IsTextInPosition, IsTextInSpec};
 ghost use Rattle.rustc_parse_format.specs.Types.{Implied, Unknown, default_spec};
-ghost use Rattle.rustc_parse_format.specs.Seen.{seen, seen_alignment, seen_argument, seen_count, seen_debug_hex, seen_mode, seen_position, seen_sign, seen_spec};
+ghost use Rattle.rustc_parse_format.specs.Seen.{seen, seen_alignment, seen_argument, seen_count};
+ghost use Rattle.rustc_parse_format.specs.Seen.{seen_debug_hex, seen_mode, seen_position, seen_sign, seen_spec};
 
 use crate::types::{
     Alignment, Argument, Count, DebugHex, FormatSpec, ParseMode, Piece, Position, Sign,

@@ -1,8 +1,10 @@
 //! String literals as they are written in a program: the characters of a content with their places, and which snippet
 //! is the source literal of an input.
 
-ghost use Rattle.std.specs.Prelude.{◌≡◌, ◌↔◌, ◌++◌, ℕ, Bool, List, [], Some, None, IsTrue, IfOk, IsOk, IfSome, IfNone, MatchOption, chars, map, option_map, true, replicate};
-ghost use Rattle.rustc_parse_format.specs.Literal.{IsNoContent, IsOrdinaryLiteral, IsReadAs, IsSource, newline, ordinary_frame, raw_closing, raw_frame, raw_opening};
+ghost use Rattle.std.specs.Prelude.{◌≡◌, ◌↔◌, ◌++◌, ℕ, Bool, List, [], Some, None, IsTrue, IfOk};
+ghost use Rattle.std.specs.Prelude.{IsOk, IfSome, IfNone, MatchOption, chars, map, option_map, true, replicate};
+ghost use Rattle.rustc_parse_format.specs.Literal.{IsNoContent, IsOrdinaryLiteral, IsReadAs};
+ghost use Rattle.rustc_parse_format.specs.Literal.{IsSource, newline, ordinary_frame, raw_closing, raw_frame, raw_opening};
 ghost use Rattle.rustc_parse_format.specs.LiteralReading.{IsSourceTo, IsTaken, SameEnds, placed, seen_characters, spelled_end};
 ghost use Rattle.rustc_parse_format.specs.Characters.{Text};
 ghost use Rattle.rustc_parse_format.specs.World.{later, literal_end, newline_places, world};

@@ -1,6 +1,7 @@
 //! A placeholder after its opening brace: its position and its specification.
 
-ghost use Rattle.std.specs.Prelude.{[], ◌++◌, ◌+◌, ◌<◌, ◌^◌, ◌≡◌, chars, IfOk, if◌then◌else◌, is_some, IsOk, length, OnErr, OnOk, option_map, Some, suc, unwrap_or};
+ghost use Rattle.std.specs.Prelude.{[], ◌++◌, ◌+◌, ◌<◌, ◌^◌, ◌≡◌, chars, IfOk, if◌then◌else◌};
+ghost use Rattle.std.specs.Prelude.{is_some, IsOk, length, OnErr, OnOk, option_map, Some, suc, unwrap_or};
 ghost use Rattle.rustc_parse_format.specs.Meaning.{spec_texts};
 ghost use Rattle.rustc_parse_format.specs.Characters.{behind_prefix, behind_white, behind_word, number, word};
 ghost use Rattle.rustc_parse_format.specs.Marks.{Span, up_to};

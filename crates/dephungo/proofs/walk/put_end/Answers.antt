@@ -1,4 +1,4 @@
-use Rattle.std.proofs.Common.{refl, ap, ◌∙◌}
+use Rattle.std.proofs.Common.{ap, ◌∙◌}
 use Rattle.dephungo.specs.Meant.{maybe_place, spec_at}
 use Rattle.dephungo.proofs.Walking.{no_piece, told_end}
 use Rattle.dephungo.proofs.walk.put_end.Goals as goal
