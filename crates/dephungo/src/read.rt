@@ -124,10 +124,12 @@ fn put_lines(spans: &[Range<usize>], lines: &mut [Extent])
     }
 }
 
-/// Reads an input to its end. An error leaves the answer as it was.
-pub fn read(
+/// Reads an input to its end by a parser that is at its start. An error leaves the answer as it was.
+#[inline(always)]
+fn read_by<'a>(
     alloc: Global,
-    asked: Task<'_>,
+    start: Parser<'a>,
+    asked: Task<'a>,
     steps: &mut [Step],
     specs: &mut [Spec],
     faults: &mut [Fault],
@@ -137,6 +139,8 @@ pub fn read(
 ) -> Result<(), AllocError>
     requires input_length { length asked.input.now ≤ limit }
     requires hashes { hashes asked.style ≤ limit }
+    requires start { start ≡ asked_state asked }
+    requires short { length start.rest ≤ length asked.input.now }
     ensures counted { OnOk result (IsCounted asked.entry.peeks (asked_state asked.entry) answer.new) }
     ensures told { OnOk result (Fits (buffers steps.old specs.old faults.old texts.old lines.old) answer.new
         → IsTold asked.entry.peeks (asked_state asked.entry) asked.entry.input.now (buffers steps.new specs.new faults.new texts.new lines.new) answer.new) }
@@ -152,11 +156,10 @@ pub fn read(
         appended_newline,
         peeks,
     } = asked;
+    let mut parser = start;
     let mut finders = Finders::new(alloc);
     let mut peek = NO_EXTENT;
     let mut peek_ahead = NO_EXTENT;
-    let literal = owned(alloc, snippet)?;
-    let mut parser = Parser::new(alloc, input, style, literal, appended_newline, mode)?;
     let mut guide = guide_for(
         alloc,
         &parser,
@@ -196,4 +199,38 @@ pub fn read(
         peek_ahead,
     };
     Ok(())
+}
+
+/// Reads an input to its end. An error leaves the answer as it was.
+pub fn read(
+    alloc: Global,
+    asked: Task<'_>,
+    steps: &mut [Step],
+    specs: &mut [Spec],
+    faults: &mut [Fault],
+    texts: &mut [u8],
+    lines: &mut [Extent],
+    answer: &mut Answer,
+) -> Result<(), AllocError>
+    requires input_length { length asked.input.now ≤ limit }
+    requires hashes { hashes asked.style ≤ limit }
+    ensures counted { OnOk result (IsCounted asked.entry.peeks (asked_state asked.entry) answer.new) }
+    ensures told { OnOk result (Fits (buffers steps.old specs.old faults.old texts.old lines.old) answer.new
+        → IsTold asked.entry.peeks (asked_state asked.entry) asked.entry.input.now (buffers steps.new specs.new faults.new texts.new lines.new) answer.new) }
+    ensures kept { OnOk result (IsKept answer.new (buffers steps.old specs.old faults.old texts.old lines.old)
+        (buffers steps.new specs.new faults.new texts.new lines.new)) }
+    ensures err { OnErr result (answer.new ≡ answer.old) }
+{
+    let literal = owned(alloc, asked.snippet)?;
+    let start = Parser::new(
+        alloc,
+        asked.input,
+        asked.style,
+        literal,
+        asked.appended_newline,
+        asked.mode,
+    )?;
+    read_by(
+        alloc, start, asked, steps, specs, faults, texts, lines, answer,
+    )
 }

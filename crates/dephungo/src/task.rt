@@ -14,6 +14,7 @@ use crate::records::{
 use rustc_parse_format::ParseMode;
 
 /// How an input is to be read.
+#[derive(Clone, Copy)]
 pub struct Task<'a> {
     pub mode: ParseMode,
     pub input: &'a str,

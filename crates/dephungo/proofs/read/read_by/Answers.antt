@@ -4,14 +4,14 @@ use Rattle.rustc_parse_format.specs.Seen.{seen_error}
 use Rattle.rustc_parse_format.specs.State.{State}
 use Rattle.dephungo.specs.Events.{calls}
 use Rattle.dephungo.proofs.Walking.{length-finders}
-use Rattle.dephungo.proofs.read.read.Goals as goal
+use Rattle.dephungo.proofs.read.read_by.Goals as goal
 
 pub walk-requires-clause-small : goal.walk-requires-clause-small
-walk-requires-clause-small c = omega (arith, c.in_ok-parser.ensures.short, c.requires.input_length)
+walk-requires-clause-small c = omega (arith, c.requires.short, c.requires.input_length)
 
 pub put_errors-requires : goal.put_errors-requires
 put_errors-requires c =
-    let s = c.in_ok-parser.parser in
-    ap length c.in_ok-count.ensures.finders ∙ length-finders 0 [] s (calls s) (sym (ap (λ (t : State). length t.errors) c.in_ok-parser.ensures.start))
+    let s = c.args.start in
+    ap length c.in_ok-count.ensures.finders ∙ length-finders 0 [] s (calls s) (sym (ap (λ (t : State). length t.errors) c.requires.start))
     ∙ sym (ap (λ (t : State). length t.errors) c.in_ok-count.ensures.state) ∙ sym (ap length c.errors-errors.ensures)
     ∙ length-map c.errors-errors.result.now seen_error
