@@ -1,23 +1,14 @@
 //! The parser for callers in C and other languages: a whole input at once, into records of the caller's.
 #![tactic(auto)]
 
-mod errors;
-mod finders;
-mod flat;
-mod read;
-mod records;
-mod task;
-mod texts;
-mod walk;
-
 ghost use Rattle.std.specs.Prelude.{◌≡◌, ◌<◌, IfNone, IfSome, Some};
 ghost use Rattle.rustc_parse_format.specs.Types.{Mode};
-ghost use Rattle.dephungo.specs.Meant.{is_set};
-ghost use Rattle.dephungo.specs.Asked.{Fits, IsCounted, IsKept, IsTold, begun, buffers, mode_meant, refusal};
+ghost use Rattle.flat_reading.specs.Meant.{is_set};
+ghost use Rattle.flat_reading.specs.Asked.{Fits, IsCounted, IsKept, IsTold, begun, buffers, mode_meant, refusal};
 
-use crate::read::read;
-use crate::records::{Answer, DONE, Extent, Fault, NO_MEMORY, Options, SHORT, Spec, Step};
-use crate::task::task_of;
+use flat_reading::read::read;
+use flat_reading::records::{Answer, DONE, Extent, Fault, NO_MEMORY, Options, SHORT, Spec, Step};
+use flat_reading::task::task_of;
 use std::alloc::Global;
 
 /// Reads an input, call by call, up to and with the call at its end.

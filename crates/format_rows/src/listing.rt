@@ -72,6 +72,32 @@ fn put_optional_span(
     }
 }
 
+/// The text of an alignment.
+fn align_text(align: Alignment) -> &'static str {
+    match align {
+        Alignment::AlignLeft => " align=left",
+        Alignment::AlignRight => " align=right",
+        Alignment::AlignCenter => " align=center",
+        Alignment::AlignUnknown => "",
+    }
+}
+
+fn sign_text(sign: Option<Sign>) -> &'static str {
+    match sign {
+        Some(Sign::Plus) => " sign=+",
+        Some(Sign::Minus) => " sign=-",
+        None => "",
+    }
+}
+
+fn hex_text(hex: Option<DebugHex>) -> &'static str {
+    match hex {
+        Some(DebugHex::Lower) => " hex=lower",
+        Some(DebugHex::Upper) => " hex=upper",
+        None => "",
+    }
+}
+
 fn put_flags(out: &mut String, spans: bool, spec: &FormatSpec<'_>) -> Result<(), AllocError> {
     if let Some(fill) = spec.fill {
         out.push_str(" fill=\"")?;
@@ -79,17 +105,8 @@ fn put_flags(out: &mut String, spans: bool, spec: &FormatSpec<'_>) -> Result<(),
         out.push('"')?;
     }
     put_optional_span(out, spans, &spec.fill_span)?;
-    out.push_str(match spec.align {
-        Alignment::AlignLeft => " align=left",
-        Alignment::AlignRight => " align=right",
-        Alignment::AlignCenter => " align=center",
-        Alignment::AlignUnknown => "",
-    })?;
-    out.push_str(match spec.sign {
-        Some(Sign::Plus) => " sign=+",
-        Some(Sign::Minus) => " sign=-",
-        None => "",
-    })?;
+    out.push_str(align_text(spec.align))?;
+    out.push_str(sign_text(spec.sign))?;
     out.push_str(if spec.alternate { " alt" } else { "" })?;
     out.push_str(if spec.zero_pad { " zero" } else { "" })
 }
@@ -122,11 +139,7 @@ fn put_values(out: &mut String, spans: bool, spec: &FormatSpec<'_>) -> Result<()
         put_count(out, spans, " precision=", &spec.precision)?;
     }
     put_optional_span(out, spans, &spec.precision_span)?;
-    out.push_str(match spec.debug_hex {
-        Some(DebugHex::Lower) => " hex=lower",
-        Some(DebugHex::Upper) => " hex=upper",
-        None => "",
-    })?;
+    out.push_str(hex_text(spec.debug_hex))?;
     if !spec.ty.is_empty() || spec.ty_span.is_some() {
         out.push_str(" ty=")?;
         put_quoted(out, spec.ty)?;

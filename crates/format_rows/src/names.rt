@@ -3,6 +3,19 @@
 use rustc_parse_format::{ArgumentNamed, ParseMode, Piece, read_all};
 use std::alloc::{AllocError, Global};
 
+/// The names that the pieces ask for, in order.
+fn names_of<'a>(alloc: Global, pieces: &[Piece<'a>]) -> Result<Vec<&'a str>, AllocError> {
+    let mut names = Vec::new(alloc);
+    for piece in pieces {
+        if let Piece::NextArgument(argument) = piece {
+            if let ArgumentNamed(name) = argument.position {
+                names.push(name)?;
+            }
+        }
+    }
+    Ok(names)
+}
+
 /// The names in the placeholders of a format string, in order, or None for a text with a fault or one that is too long.
 pub fn names<'a>(alloc: Global, text: &'a str) -> Result<Option<Vec<&'a str>>, AllocError> {
     if text.len() > 1_000_000 {
@@ -12,13 +25,5 @@ pub fn names<'a>(alloc: Global, text: &'a str) -> Result<Option<Vec<&'a str>>, A
     if !parser.errors().is_empty() {
         return Ok(None);
     }
-    let mut names = Vec::new(alloc);
-    for piece in &pieces {
-        if let Piece::NextArgument(argument) = piece {
-            if let ArgumentNamed(name) = argument.position {
-                names.push(name)?;
-            }
-        }
-    }
-    Ok(Some(names))
+    Ok(Some(names_of(alloc, &pieces)?))
 }

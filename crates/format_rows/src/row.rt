@@ -188,6 +188,23 @@ fn check_end(rt: &impl Abort, row: Row<'_>, parser: &Parser<'_>) {
     assert!(rt; parser.peek().is_none(), "no end of row {name}");
 }
 
+/// Adds what a row's parser gives by `next`, up to the end of its input.
+fn put_to_end(
+    rt: &impl Abort,
+    row: Row<'_>,
+    spans: bool,
+    parser: &mut Parser<'_>,
+    out: &mut String,
+) -> Result<(), AllocError> {
+    if spans {
+        put_walk(out, parser, row.input.len())?;
+    } else {
+        put_calls(out, false, parser, row.input.len())?;
+    }
+    check_end(rt, row, parser);
+    Ok(())
+}
+
 /// Adds what a row's parser gives by `next`.
 pub fn put_by_next(
     rt: &impl Abort,
@@ -197,12 +214,7 @@ pub fn put_by_next(
     out: &mut String,
 ) -> Result<(), Fail> {
     let mut parser = start(rt, alloc, row.world, row.input)?;
-    if spans {
-        put_walk(out, &mut parser, row.input.len())?;
-    } else {
-        put_calls(out, false, &mut parser, row.input.len())?;
-    }
-    check_end(rt, row, &parser);
+    put_to_end(rt, row, spans, &mut parser, out)?;
     Ok(())
 }
 

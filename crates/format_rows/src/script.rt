@@ -77,11 +77,27 @@ fn put_identifier(out: &mut String, piece: &Piece<'_>) -> Result<(), AllocError>
     }
 }
 
-fn put_next_identifier(out: &mut String, piece: &Option<Piece<'_>>) -> Result<(), AllocError> {
-    match piece {
+/// Adds whether the next piece is one.
+fn put_next_identifier(out: &mut String, parser: &mut Parser<'_>) -> Result<(), AllocError> {
+    match &parser.next()? {
         Some(piece) => put_identifier(out, piece),
         None => out.push_str("none"),
     }
+}
+
+/// Adds the next piece.
+fn put_next(out: &mut String, parser: &mut Parser<'_>) -> Result<(), AllocError> {
+    put_optional_piece(out, &parser.next()?)
+}
+
+/// Reads the next piece, and adds nothing.
+fn step(parser: &mut Parser<'_>) -> Result<(), AllocError> {
+    let _piece = parser.next()?;
+    Ok(())
+}
+
+fn put_number(out: &mut String, number: usize) -> Result<(), AllocError> {
+    write!(out, "{number}")
 }
 
 /// Adds all items of a new iterator.
@@ -99,16 +115,25 @@ fn put_item(out: &mut String, pieces: &mut Pieces<'_, '_>) -> Result<(), AllocEr
     out.push(';')
 }
 
-/// Adds so many items of an iterator.
-fn put_items(
-    out: &mut String,
-    pieces: &mut Pieces<'_, '_>,
-    count: usize,
-) -> Result<(), AllocError> {
+/// Adds so many items of a new iterator.
+fn put_items(out: &mut String, parser: &mut Parser<'_>, count: usize) -> Result<(), AllocError> {
+    let mut pieces = parser.pieces();
     for _ in 0..count {
-        put_item(out, pieces)?;
+        put_item(out, &mut pieces)?;
     }
     Ok(())
+}
+
+/// Reads all items of a new iterator, and adds nothing.
+fn skip(out: &mut String, parser: &mut Parser<'_>) -> Result<(), AllocError> {
+    put_pieces(out, parser)?;
+    out.clear();
+    Ok(())
+}
+
+/// Adds the errors that are taken out of a parser.
+fn put_taken(out: &mut String, parser: &mut Parser<'_>) -> Result<(), AllocError> {
+    put_errors(out, parser.take_errors().as_slice())
 }
 
 /// Adds how many errors the next call puts in front, and how many there are then.
@@ -147,24 +172,17 @@ fn put_more(
     call: &str,
 ) -> Result<(), AllocError> {
     match call {
-        "step" => {
-            let _piece = parser.next()?;
-            Ok(())
-        }
-        "skip" => {
-            put_pieces(out, parser)?;
-            out.clear();
-            Ok(())
-        }
-        "is_identifier" => put_next_identifier(out, &parser.next()?),
+        "step" => step(parser),
+        "skip" => skip(out, parser),
+        "is_identifier" => put_next_identifier(out, parser),
         "fronts" => put_fronts(out, parser),
         "spans" => put_spans(out, parser.errors()),
         "labels" => put_labels(out, parser.errors()),
         "has_errors" => put_bool(out, !parser.errors().is_empty()),
-        "one_item" => put_items(out, &mut parser.pieces(), 1),
-        "three_items" => put_items(out, &mut parser.pieces(), 3),
-        "four_items" => put_items(out, &mut parser.pieces(), 4),
-        "five_items" => put_items(out, &mut parser.pieces(), 5),
+        "one_item" => put_items(out, parser, 1),
+        "three_items" => put_items(out, parser, 3),
+        "four_items" => put_items(out, parser, 4),
+        "five_items" => put_items(out, parser, 5),
         _ => panic!(rt; "no call has the name {call}"),
     }
 }
@@ -177,22 +195,16 @@ fn put_answer(
     call: &str,
 ) -> Result<(), AllocError> {
     match call {
-        "next" => put_optional_piece(out, &parser.next()?),
+        "next" => put_next(out, parser),
         "next_into" => put_next_into(out, parser),
         "pieces" => put_pieces(out, parser),
-        "position" => {
-            let read = parser.position();
-            write!(out, "{read}")
-        }
+        "position" => put_number(out, parser.position()),
         "peek" => put_peek(out, parser.peek()),
         "peek_ahead" => put_peek(out, parser.peek_ahead()),
-        "curarg" => {
-            let next = parser.curarg();
-            write!(out, "{next}")
-        }
+        "curarg" => put_number(out, parser.curarg()),
         "is_source_literal" => put_bool(out, parser.is_source_literal()),
         "errors" => put_errors(out, parser.errors()),
-        "take_errors" => put_errors(out, parser.take_errors().as_slice()),
+        "take_errors" => put_taken(out, parser),
         "arg_places" => put_ranges(out, parser.arg_places()),
         "line_spans" => put_ranges(out, parser.line_spans()),
         _ => put_more(rt, out, parser, call),

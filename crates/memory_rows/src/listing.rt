@@ -34,22 +34,39 @@ fn put_optional_range(out: &mut Sheet, range: &Option<Range<usize>>) -> fmt::Res
     }
 }
 
+/// The text of an alignment.
+fn align_text(align: Alignment) -> &'static str {
+    match align {
+        Alignment::AlignLeft => " align=left",
+        Alignment::AlignRight => " align=right",
+        Alignment::AlignCenter => " align=center",
+        Alignment::AlignUnknown => "",
+    }
+}
+
+fn sign_text(sign: Option<Sign>) -> &'static str {
+    match sign {
+        Some(Sign::Plus) => " sign=+",
+        Some(Sign::Minus) => " sign=-",
+        None => "",
+    }
+}
+
+fn hex_text(hex: Option<DebugHex>) -> &'static str {
+    match hex {
+        Some(DebugHex::Lower) => " hex=lower",
+        Some(DebugHex::Upper) => " hex=upper",
+        None => "",
+    }
+}
+
 fn put_flags(out: &mut Sheet, spec: &FormatSpec<'_>) -> fmt::Result {
     if let Some(fill) = spec.fill {
         write!(out, " fill=\"{fill}\"")?;
     }
     put_optional_range(out, &spec.fill_span)?;
-    out.write_str(match spec.align {
-        Alignment::AlignLeft => " align=left",
-        Alignment::AlignRight => " align=right",
-        Alignment::AlignCenter => " align=center",
-        Alignment::AlignUnknown => "",
-    })?;
-    out.write_str(match spec.sign {
-        Some(Sign::Plus) => " sign=+",
-        Some(Sign::Minus) => " sign=-",
-        None => "",
-    })?;
+    out.write_str(align_text(spec.align))?;
+    out.write_str(sign_text(spec.sign))?;
     out.write_str(if spec.alternate { " alt" } else { "" })?;
     out.write_str(if spec.zero_pad { " zero" } else { "" })
 }
@@ -77,11 +94,7 @@ fn put_values(out: &mut Sheet, spec: &FormatSpec<'_>) -> fmt::Result {
         put_count(out, " precision=", &spec.precision)?;
     }
     put_optional_range(out, &spec.precision_span)?;
-    out.write_str(match spec.debug_hex {
-        Some(DebugHex::Lower) => " hex=lower",
-        Some(DebugHex::Upper) => " hex=upper",
-        None => "",
-    })?;
+    out.write_str(hex_text(spec.debug_hex))?;
     if !spec.ty.is_empty() || spec.ty_span.is_some() {
         out.write_str(" ty=")?;
         put_quoted(out, spec.ty)?;
@@ -123,27 +136,33 @@ pub fn put_read(out: &mut Sheet, taken: &Taken<'_>, argument: &Argument<'_>) -> 
     out.write_str("\n")
 }
 
-fn put_suggestion(out: &mut Sheet, suggestion: &Suggestion) -> fmt::Result {
-    match suggestion {
-        Suggestion::None => return Ok(()),
-        Suggestion::UsePositional => out.write_str("suggest positional")?,
-        Suggestion::RemoveRawIdent(range) => put_range(out, "suggest raw ", range)?,
-        Suggestion::ReorderFormatParameter(range, text) => {
-            put_range(out, "suggest reorder ", range)?;
-            out.write_str(" ")?;
-            out.write_str(text.as_str())?;
-        }
-        Suggestion::AddMissingColon(range) => put_range(out, "suggest colon ", range)?,
-        Suggestion::UseRustDebugPrintingMacro => out.write_str("suggest dbg")?,
-    }
-    out.write_str("\n")
-}
-
 /// Adds a line of text behind a label.
 fn put_text(out: &mut Sheet, label: &str, text: &str) -> fmt::Result {
     out.write_str(label)?;
     out.write_str(text)?;
     out.write_str("\n")
+}
+
+/// Adds a line with a range behind a label.
+fn put_place(out: &mut Sheet, label: &str, range: &Range<usize>) -> fmt::Result {
+    put_range(out, label, range)?;
+    out.write_str("\n")
+}
+
+fn put_reorder(out: &mut Sheet, range: &Range<usize>, text: &str) -> fmt::Result {
+    put_range(out, "suggest reorder ", range)?;
+    put_text(out, " ", text)
+}
+
+fn put_suggestion(out: &mut Sheet, suggestion: &Suggestion) -> fmt::Result {
+    match suggestion {
+        Suggestion::None => Ok(()),
+        Suggestion::UsePositional => out.write_str("suggest positional\n"),
+        Suggestion::RemoveRawIdent(range) => put_place(out, "suggest raw ", range),
+        Suggestion::ReorderFormatParameter(range, text) => put_reorder(out, range, text.as_str()),
+        Suggestion::AddMissingColon(range) => put_place(out, "suggest colon ", range),
+        Suggestion::UseRustDebugPrintingMacro => out.write_str("suggest dbg\n"),
+    }
 }
 
 fn put_error(out: &mut Sheet, error: &ParseError) -> fmt::Result {
@@ -171,8 +190,7 @@ pub fn put_errors(out: &mut Sheet, errors: &[ParseError]) -> fmt::Result {
 /// Adds a line for each range.
 fn put_ranges(out: &mut Sheet, label: &str, ranges: &[Range<usize>]) -> fmt::Result {
     for range in ranges {
-        put_range(out, label, range)?;
-        out.write_str("\n")?;
+        put_place(out, label, range)?;
     }
     Ok(())
 }

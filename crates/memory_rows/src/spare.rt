@@ -46,16 +46,17 @@ fn item_is(pieces: &mut Pieces<'_, '_>, text: &str) -> bool {
     }
 }
 
-/// The items of such an iterator are its text, and then none.
-fn check_items(rt: &impl Abort, pieces: &mut Pieces<'_, '_>, text: &str) {
-    assert!(rt; item_is(pieces, text));
+/// The items of an iterator over its pieces are its text, and then none.
+fn check_items(rt: &impl Abort, parser: &mut Parser<'_>, text: &str) {
+    let mut pieces = parser.pieces();
+    assert!(rt; item_is(&mut pieces, text));
     assert!(rt; pieces.next().is_none());
 }
 
 /// So does an iterator over its pieces.
 fn check_item(rt: &impl Abort, alloc: Global) -> Result<(), Fail> {
     let mut parser = Parser::new(alloc, "}}ab", None, None, false, ParseMode::InlineAsm)?;
-    check_items(rt, &mut parser.pieces(), "}ab");
+    check_items(rt, &mut parser, "}ab");
     Ok(())
 }
 
@@ -96,19 +97,18 @@ pub fn next_is_read(parser: &mut Parser<'_>) -> Result<bool, AllocError> {
     Ok(matches!(taken, Some(Taken::NextArgument)) && fronts == 0)
 }
 
-/// A placeholder without fault, outside a source literal, is read into an argument.
-fn check_read(rt: &impl Abort, alloc: Global) -> Result<(), Fail> {
-    let mut parser = Parser::new(
-        alloc,
-        "{a:*^+#08.b$x?}",
-        None,
-        None,
-        false,
-        ParseMode::Format,
-    )?;
-    let is_read = next_is_read(&mut parser)?;
+/// The next piece of such a parser is one.
+fn check_next_is_read(rt: &impl Abort, parser: &mut Parser<'_>) -> Result<(), AllocError> {
+    let is_read = next_is_read(parser)?;
     assert!(rt; is_read);
     Ok(())
+}
+
+/// A placeholder without fault, outside a source literal, is read into an argument.
+fn check_read(rt: &impl Abort, alloc: Global) -> Result<(), AllocError> {
+    let text = "{a:*^+#08.b$x?}";
+    let mut parser = Parser::new(alloc, text, None, None, false, ParseMode::Format)?;
+    check_next_is_read(rt, &mut parser)
 }
 
 /// What is asked of it, and its clone.

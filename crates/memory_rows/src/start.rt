@@ -5,6 +5,7 @@ use crate::rows::Row;
 use crate::sheet::Sheet;
 use rustc_parse_format::Parser;
 use std::alloc::{AllocError, Global};
+use std::fmt;
 use std::fmt::Write;
 use std::io::Print;
 use std::process::Abort;
@@ -40,21 +41,37 @@ pub fn check_shown(rt: &impl Abort, parser: &Parser<'_>, before: &Sheet) -> Resu
     Ok(())
 }
 
+/// Neither a call of a parser nor an iterator of it gives a piece.
+fn gives_nothing(parser: &mut Parser<'_>) -> bool {
+    matches!(parser.next(), Ok(None)) && parser.pieces().next().is_none()
+}
+
 /// A parser that has read all is at the end, where a call of it takes no memory and changes nothing.
 fn check_end(rt: &impl Abort, parser: &mut Parser<'_>) -> Result<(), Fail> {
     let before = shown(parser)?;
     assert!(rt; parser.peek().is_none());
-    assert!(rt; matches!(parser.next(), Ok(None)));
-    assert!(rt; parser.pieces().next().is_none());
+    assert!(rt; gives_nothing(parser));
     check_shown(rt, parser, &before)
+}
+
+/// The errors that a parser has.
+fn held(parser: &Parser<'_>) -> Result<Sheet, fmt::Error> {
+    let mut held = Sheet::new();
+    put_errors(&mut held, parser.errors())?;
+    Ok(held)
+}
+
+/// The errors that are taken out of a parser.
+fn taken(parser: &mut Parser<'_>) -> Result<Sheet, fmt::Error> {
+    let mut taken = Sheet::new();
+    put_errors(&mut taken, parser.take_errors().as_slice())?;
+    Ok(taken)
 }
 
 /// Adds the errors that a parser has, which are then taken out.
 pub fn put_taken(rt: &impl Abort, parser: &mut Parser<'_>, out: &mut Sheet) -> Result<(), Fail> {
-    let mut held = Sheet::new();
-    put_errors(&mut held, parser.errors())?;
-    let mut taken = Sheet::new();
-    put_errors(&mut taken, parser.take_errors().as_slice())?;
+    let held = held(parser)?;
+    let taken = taken(parser)?;
     assert_eq!(rt; taken.text(), held.text());
     assert!(rt; parser.errors().is_empty());
     out.write_str(taken.text())?;

@@ -8,6 +8,3 @@ mod uses;
 
 pub use checker::{Report, check};
 pub use reading::read_and_check;
-
-#[cfg(test)]
-mod tests;

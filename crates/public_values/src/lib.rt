@@ -1,8 +1,9 @@
 //! Tests of the library by the values that its calls take and give, where the tables and scripts of `format_rows` show too
-//! little.
+//! little, and of `placeholder_check`.
 //!
 //! `values` has what is exported, the defaults, clones and equality, `pieces` the pieces themselves, `faults` very many
-//! faults, and `literals` the calls that read literals without a parser.
+//! faults, `literals` the calls that read literals without a parser, and `reports` the reports of `placeholder_check` on
+//! texts.
 #![tactic(auto)]
 
 #[cfg(test)]
@@ -11,5 +12,7 @@ mod faults;
 mod literals;
 #[cfg(test)]
 mod pieces;
+#[cfg(test)]
+mod reports;
 #[cfg(test)]
 mod values;

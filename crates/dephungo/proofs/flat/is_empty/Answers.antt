@@ -1,6 +1,0 @@
-use Rattle.std.proofs.Common.{◌∙◌}
-use Rattle.dephungo.proofs.Cuts.{nil_test}
-use Rattle.dephungo.proofs.flat.is_empty.Goals as goal
-
-pub returns : goal.returns
-returns c = c.is_empty.ensures ∙ nil_test c.args.text.now c.utf8.text

@@ -1,4 +1,0 @@
-use Rattle.dephungo.proofs.texts.name_extent.Goals as goal
-
-pub extent_behind-requires : goal.extent_behind-requires
-extent_behind-requires c = rw c.saturating_sub-from.ensures (rw c.in-ArgumentNamed.is at c.requires)

@@ -1,0 +1,55 @@
+use Rattle.std.proofs.Common.{ap, length, refl}
+use Rattle.std.proofs.Common.{arith}
+use Rattle.flat_reading.proofs.Buffers.{Grows-trans, Holds-grow, Holds-is, HoldsMaybe-grow, HoldsSecond-grow}
+use Rattle.flat_reading.proofs.errors.put_error.Goals as goal
+
+pub returns : goal.returns
+returns c =
+    let one = c.put-description.ensures.grows in
+    let two = c.put_note-note.ensures.grows in
+    let three = c.put-label.ensures.grows in
+    let four = c.put_second.ensures.grows in
+    let five = c.put_suggestion-suggestion.ensures.grows in
+    let f2 = two.forward in let f3 = three.forward in let f4 = four.forward in let f5 = five.forward in
+    let a1 = c.put-description.auto.texts in let a2 = c.put_note-note.auto.texts in let a3 = c.put-label.auto.texts in let a4 = c.put_second.auto.texts in
+    let behind_four = five in
+    let behind_three = Grows-trans _ _ _ _ _ _ a4 four behind_four in
+    let behind_two = Grows-trans _ _ _ _ _ _ a3 three behind_three in
+    let behind_one = Grows-trans _ _ _ _ _ _ a2 two behind_two in
+    let all = Grows-trans _ _ _ _ _ _ a1 one behind_one in
+    record {
+      grows = all;
+      counted = λ small. omega (
+        arith,
+        c.put-description.ensures.counted (omega arith),
+        c.put_note-note.ensures.counted (omega arith),
+        c.put-label.ensures.counted (omega arith),
+        c.put_second.ensures.counted (omega arith),
+        c.put_suggestion-suggestion.ensures.counted (omega arith),
+        ap length c.as_str.ensures.value,
+        ap length c.as_str-2.ensures.value,
+      );
+      holds = λ fit. record {
+        description = Holds-is _ _ _ _ _ c.as_str.ensures.value (Holds-grow _ _ _ _ _ (behind_one.front (omega (
+          arith,
+          a1,
+        ))) (c.put-description.ensures.holds (omega arith)));
+        note = HoldsMaybe-grow _ _ c.put_note-note.result _ (behind_two.front (omega (arith, a1, a2))) (c.put_note-note.ensures.holds (omega (arith, a1)));
+        label = Holds-is _ _ _ _ _ c.as_str-2.ensures.value (Holds-grow _ _ _ _ _ (behind_three.front (omega (
+          arith,
+          a1,
+          a2,
+          a3,
+        ))) (c.put-label.ensures.holds (omega (arith, a1, a2))));
+        span = c.extent.ensures;
+        second = HoldsSecond-grow _ _ c.put_second.result.0 c.put_second.result.1 _ (behind_four.front (omega (
+          arith,
+          a1,
+          a2,
+          a3,
+          a4,
+        ))) (c.put_second.ensures.holds (omega (arith, a1, a2, a3)));
+        suggestion = c.put_suggestion-suggestion.ensures.holds (omega (arith, a1, a2, a3, a4));
+      };
+      step = refl;
+    }

@@ -1,0 +1,17 @@
+use Rattle.std.proofs.Common.{[], length, sym, ap, ◌∙◌, arith}
+use Rattle.std.proofs.lemmas.List.{length-map}
+use Rattle.rustc_parse_format.specs.Seen.{seen_error}
+use Rattle.rustc_parse_format.specs.State.{State}
+use Rattle.flat_reading.specs.Events.{calls}
+use Rattle.flat_reading.proofs.Walking.{length-finders}
+use Rattle.flat_reading.proofs.read.read_by.Goals as goal
+
+pub walk-requires-clause-small : goal.walk-requires-clause-small
+walk-requires-clause-small c = omega (arith, c.requires.short, c.requires.input_length)
+
+pub put_errors-requires : goal.put_errors-requires
+put_errors-requires c =
+    let s = c.args.start in
+    ap length c.in_ok-count.ensures.finders ∙ length-finders 0 [] s (calls s) (sym (ap (λ (t : State). length t.errors) c.requires.start))
+    ∙ sym (ap (λ (t : State). length t.errors) c.in_ok-count.ensures.state) ∙ sym (ap length c.errors-errors.ensures)
+    ∙ length-map c.errors-errors.result.now seen_error

@@ -1,0 +1,17 @@
+use Rattle.std.proofs.Common.{ap, ◌∙◌}
+use Rattle.flat_reading.specs.Meant.{maybe_place, spec_at}
+use Rattle.flat_reading.proofs.Walking.{no_piece, told_end}
+use Rattle.flat_reading.proofs.walk.put_end.Goals as goal
+
+pub returns-clause-told : goal.returns-clause-told
+returns-clause-told c = λ peeks input specs.
+    let step = c.bare.new.step in
+    let kept = c.bare.ensures.others in
+    told_end peeks input specs step c.args.parser.now c.next_into.new.self c.in_ok-_none.ensures.state c.requires
+    (no_piece input (spec_at input specs step.spec) step c.bare.ensures.kind)
+    (ap maybe_place kept.0)
+    (kept.1 ∙ c.put_state.ensures.read)
+    (kept.2 ∙ c.put_state.ensures.next)
+    (kept.3 ∙ c.put_state.ensures.lines)
+    (ap maybe_place kept.4)
+    (ap maybe_place kept.5)

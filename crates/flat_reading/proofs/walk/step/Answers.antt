@@ -1,0 +1,66 @@
+use Rattle.std.proofs.Common.{◌≡◌, ◌-◌, length, refl, sym, ap, ◌∙◌, arith}
+use Rattle.std.proofs.lemmas.List.{length-map}
+use Rattle.rustc_parse_format.specs.Seen.{pair, seen_error, seen_taken}
+use Rattle.rustc_parse_format.specs.State.{State, next_call}
+use Rattle.std.specs.Prelude.{option_map}
+use Rattle.flat_reading.specs.Meant.{maybe_place}
+use Rattle.flat_reading.proofs.Walking.{told}
+use Rattle.flat_reading.specs.Events.{fronts_in, position}
+use Rattle.flat_reading.proofs.Standing.{alike, alone, still_guided}
+use Rattle.flat_reading.proofs.Finding.{add_finders-is, few_fronts, length-after}
+use Rattle.flat_reading.specs.Stand.{guide_of}
+use Rattle.flat_reading.proofs.walk.step.Goals as goal
+
+pub put_given-requires-clause-alone : goal.put_given-requires-clause-alone
+put_given-requires-clause-alone c =
+    let read = c.put_state.ensures.read ∙ ap (λ (s : State). position s.input s.rest) c.in_ok-given.ensures.state in
+    alone c.args.input.now c.args.parser.now c.args.offset _ (guide_of c.args.guide.now) _ c.utf8.input c.requires.input c.requires.left c.requires.guided
+    read c.in_ok-given.ensures.piece
+
+pub overflow_sub-errors : goal.overflow_sub-errors
+overflow_sub-errors c =
+    let before = sym (length-map c.errors-faults.result.now seen_error) ∙ ap length c.errors-faults.ensures in
+    let behind = sym (length-map c.errors.result.now seen_error) ∙ ap length c.errors.ensures in
+    let grown = ap (λ (s : State). length s.errors) c.in_ok-given.ensures.state ∙ length-after c.args.parser.now (next_call c.args.parser.now) in
+    omega (arith, before, behind, grown)
+
+pub add-requires : goal.add-requires
+add-requires c =
+    let before = sym (length-map c.errors-faults.result.now seen_error) ∙ ap length c.errors-faults.ensures in
+    let behind = sym (length-map c.errors.result.now seen_error) ∙ ap length c.errors.ensures in
+    let grown = ap (λ (s : State). length s.errors) c.in_ok-given.ensures.state ∙ length-after c.args.parser.now (next_call c.args.parser.now) in
+    let few = few_fronts (next_call c.args.parser.now).faults in
+    let fronts : c.in_ok-given.fronts ≡ fronts_in (next_call c.args.parser.now) = c.in_ok-given.ensures.fronts in
+    omega (arith, before, behind, grown, few, fronts)
+
+pub returns-clause-told : goal.returns-clause-told
+returns-clause-told c = λ room.
+    let s = c.args.parser.now in
+    let state = c.in_ok-given.ensures.state in
+    let same = alike c.args.input.now s c.args.offset (guide_of c.args.guide.now) (option_map (seen_taken c.next_into.new.argument) c.in_ok-given.given) c.requires.guided
+    c.in_ok-given.ensures.piece in
+    let kept = c.in_ok-put_given.ensures.others in
+    let place = rw state at c.closed-step.ensures in
+    told c.args.peeks c.args.input.now c.put_given.new.specs c.put_given.new.step s c.next_into.new.self state
+    (c.in_ok-put_given.ensures.told same room ∙ c.in_ok-given.ensures.piece)
+    (ap maybe_place kept.0
+    ∙ place s.arg_places (next_call s).closes (sym (length-map c.arg_places-places.result.now pair) ∙ ap length c.arg_places-places.ensures) refl)
+    (kept.1 ∙ c.put_state.ensures.read)
+    (kept.2 ∙ c.put_state.ensures.next)
+    (kept.3 ∙ c.put_state.ensures.lines)
+    (ap maybe_place kept.4 ∙ c.put_peeks.ensures.place)
+    (ap maybe_place kept.5 ∙ c.put_peeks.ensures.ahead)
+
+pub returns-clause-guided : goal.returns-clause-guided
+returns-clause-guided c =
+    rw (c.in_ok-given.ensures.state, c.in_ok-put_given.ensures.state) (still_guided c.args.parser.now c.args.offset (guide_of c.args.guide.now) c.requires.guided)
+
+pub returns-clause-finders : goal.returns-clause-finders
+returns-clause-finders c =
+    let before = sym (length-map c.errors-faults.result.now seen_error) ∙ ap length c.errors-faults.ensures in
+    let behind = sym (length-map c.errors.result.now seen_error) ∙ ap length c.errors.ensures in
+    let grown = ap (λ (s : State). length s.errors) c.in_ok-given.ensures.state ∙ length-after c.args.parser.now (next_call c.args.parser.now) in
+    let fs = (next_call c.args.parser.now).faults in
+    let fronts : c.in_ok-given.fronts ≡ fronts_in (next_call c.args.parser.now) = c.in_ok-given.ensures.fronts in
+    let found : length c.errors.result.now - length c.errors-faults.result.now ≡ length fs = omega (arith, before, behind, grown) in
+    rw (found, fronts) at c.in_ok-add.ensures.calls ∙ sym (add_finders-is c.args.number c.args.finders.now.calls fs)

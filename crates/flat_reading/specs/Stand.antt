@@ -1,0 +1,131 @@
+-- Where the texts of a piece stand in the input: private words, for contracts of private functions.
+use Rattle.std.specs.Prelude.{◌≡◌, ◌≢◌, ℕ, ◌+◌, ◌-◌, ◌<◌, ◌≤◌, ◌⊎◌, List, [], ◌++◌, length, set, option_map, Bool, Option, Some, None, chars, codes}
+use Rattle.std.specs.Prelude.{encode_utf8_all, slice_range}
+use Rattle.rustc_parse_format.specs.Characters.{Text}
+use Rattle.rustc_parse_format.specs.Characters.{byte_length}
+use Rattle.rustc_parse_format.specs.Types.{Position, Implicit, Index, Named, Count, Is, Name, Param, Star, Implied, Spec, Argument, Piece, Lit, NextArgument}
+use Rattle.rustc_parse_format.specs.World.{Place, piece_in, plain_world}
+use Rattle.rustc_parse_format.specs.State.{State, next_call}
+use Rattle.rustc_parse_format.specs.Agreement.{Agree}
+use Rattle.std.specs.declared.alloc.Global.{Global}
+use Rattle.std.specs.declared.boxed.Box.{Box}
+use Rattle.flat_reading.specs.declared.records.Step.{Step}
+use Rattle.flat_reading.specs.declared.records.Spec.{Spec as SpecRecord}
+use Rattle.flat_reading.specs.declared.texts.Texts.{Texts}
+use Rattle.flat_reading.specs.Events.{event, position, step_meant}
+use Rattle.flat_reading.specs.Meant.{text_at, type_meant}
+
+-- these bytes stand there
+abbrev pub HasBytes : List ℕ → ℕ → List ℕ → Type 0
+HasBytes input from bytes = (from + length bytes ≤ length input) × (slice_range input from (from + length bytes) ≡ bytes)
+
+-- the text stands there
+abbrev pub Stands : List ℕ → ℕ → Text → Type 0
+Stands input from t = HasBytes input from (encode_utf8_all t)
+
+-- unless it is empty
+abbrev pub StandsAt : List ℕ → ℕ → Text → Type 0
+StandsAt input from t = t ≢ [] → Stands input from t
+
+-- or it stands there behind these bytes
+abbrev pub StandsBehind : List ℕ → List ℕ → ℕ → Text → Type 0
+StandsBehind input prefix from t = StandsAt input from t ⊎ HasBytes input from (prefix ++ encode_utf8_all t)
+
+-- The texts of a piece stand at their spans less an offset, and that of a run in front of what was read.
+abbrev pub CountStands : List ℕ → ℕ → Count Place → Type 0
+CountStands input offset (Is n) = Unit {0}
+CountStands input offset (Name w s) = StandsAt input (s.0 - offset) w
+CountStands input offset (Param n) = Unit {0}
+CountStands input offset (Star n) = Unit {0}
+CountStands input offset Implied = Unit {0}
+
+-- a type without a span is one of these
+abbrev pub IsListed : Text → Type 0
+IsListed t = (t ≡ []) ⊎ ((t ≡ codes "x") ⊎ ((t ≡ codes "X") ⊎ (t ≡ codes "?")))
+
+abbrev pub TypeStands : List ℕ → ℕ → Option Place → Text → Type 0
+TypeStands input offset None t = IsListed t
+TypeStands input offset (Some s) t = StandsBehind input (codes ":") (s.0 - offset) t
+
+pub record SpecStands (input : List ℕ) (offset : ℕ) (s : Spec Place) : Type 0 where
+  pub width : CountStands input offset s.width
+  pub precision : CountStands input offset s.precision
+  pub ty : TypeStands input offset s.ty_span s.ty
+
+abbrev pub PositionStands : List ℕ → ℕ → Position → Type 0
+PositionStands input from (Implicit n) = Unit {0}
+PositionStands input from (Index n) = Unit {0}
+PositionStands input from (Named w) = StandsBehind input (codes "r#") from w
+
+pub record ArgumentStands (input : List ℕ) (offset : ℕ) (a : Argument Place) : Type 0 where
+  pub position : PositionStands input (a.position_span.0 - offset) a.position
+  pub format : SpecStands input offset a.format
+
+abbrev pub PieceStands : List ℕ → ℕ → ℕ → Option (Piece Place) → Type 0
+PieceStands input offset read None = Unit {0}
+PieceStands input offset read (Some (Lit t)) = StandsAt input (read - byte_length t) t
+PieceStands input offset read (Some (NextArgument a)) = ArgumentStands input offset a
+
+-- The extents are those of the texts of the piece.
+abbrev pub CountAt : {A : Type 0} → Text → Count A → Type 0
+CountAt t (Is n) = Unit {0}
+CountAt t (Name w s) = t ≡ w
+CountAt t (Param n) = Unit {0}
+CountAt t (Star n) = Unit {0}
+CountAt t Implied = Unit {0}
+
+pub record SpecAt {A : Type 0} (input : List ℕ) (x : Texts) (s : Spec A) : Type 0 where
+  pub width : CountAt (text_at input x.width) s.width
+  pub precision : CountAt (text_at input x.precision) s.precision
+  pub ty : type_meant input x.type_kind x.ty ≡ s.ty
+
+abbrev pub PositionAt : Text → Position → Type 0
+PositionAt t (Implicit n) = Unit {0}
+PositionAt t (Index n) = Unit {0}
+PositionAt t (Named w) = t ≡ w
+
+abbrev pub PieceAt : {A : Type 0} → List ℕ → Texts → Option (Piece A) → Type 0
+PieceAt input x None = Unit {0}
+PieceAt input x (Some (Lit t)) = text_at input x.text ≡ t
+PieceAt input x (Some (NextArgument a)) = PositionAt (text_at input x.text) a.position × SpecAt input x a.format
+
+-- the places of a parser are those in the input, so many bytes later
+abbrev pub IsPlain : State → ℕ → Type 0
+IsPlain s offset = (b : Bool) × (e : ℕ) × (s.world ≡ plain_world b offset s.input e)
+
+-- the parser that goes along
+abbrev pub guide_of : Option (Box State Global) → Option State
+guide_of g = option_map (λ b. b.value) g
+
+-- so are its own, or those of another parser that goes along, one byte later
+abbrev pub IsGuided : State → ℕ → Option State → Type 0
+IsGuided s offset None = IsPlain s offset
+IsGuided s offset (Some o) = Agree s o × IsPlain o 1
+
+-- the second is what is left of the first
+abbrev pub EndsWith : Text → Text → Type 0
+EndsWith input rest = (front : Text) × (input ≡ front ++ rest)
+
+-- a parser over these bytes that reads up to a byte by its next call, and whose places are one byte later
+pub record IsAlong (s : State) (input : List ℕ) (read : ℕ) : Type 0 where
+  pub is_plain : IsPlain s 1
+  pub input_is : chars input ≡ s.input
+  pub left : EndsWith s.input s.rest
+  pub reads : read ≡ position s.input (next_call s).rest
+
+-- where there is room, a step was put that tells of the call at s, with so many specifications by then
+pub record IsAdded (peeks : Bool) (input : List ℕ) (s : State) (count used : ℕ) (old new : List Step) (specs : List SpecRecord) : Type 0 where
+  pub step : Step
+  pub put : (count < length old → new ≡ set old count step) × (length old ≤ count → new ≡ old)
+  pub few : step.spec ≤ used
+  pub told : used ≤ length specs → step_meant input specs step ≡ event peeks s
+
+-- the guide's texts are those of the piece
+abbrev pub StandsAlike : List ℕ → State → Option (Piece Place) → Type 0
+StandsAlike input g o = (x : Texts) → PieceAt input x (option_map (piece_in g.world) (next_call g).piece) → PieceAt input x o
+
+-- what stands behind the call is the same
+abbrev pub SameBehind : Step → Step → Type 0
+SameBehind old new =
+    (new.place ≡ old.place) × (new.read ≡ old.read) × (new.next ≡ old.next) × (new.lines ≡ old.lines) × (new.peek ≡ old.peek)
+    × (new.peek_ahead ≡ old.peek_ahead)

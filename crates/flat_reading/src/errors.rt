@@ -1,0 +1,152 @@
+//! Errors as records, with their texts in a buffer.
+
+ghost use Rattle.std.specs.Prelude.{◌≡◌, ◌+◌, ◌<◌, ◌≤◌, ◌++◌, drop, length, map, option_map, string_bytes, take};
+ghost use Rattle.rustc_parse_format.specs.Seen.{pair, seen_error, seen_suggestion};
+ghost use Rattle.flat_reading.specs.declared.records.Fault.{Fault as FaultRecord};
+ghost use Rattle.flat_reading.specs.Held.{Grows, Holds, HoldsError, HoldsErrors, HoldsMaybe, HoldsSecond};
+ghost use Rattle.flat_reading.specs.Held.{HoldsSuggestion, maybe_len, message_len, second_len, suggestion_len, texts_len};
+
+use crate::finders::Finders;
+use crate::flat::{NO_EXTENT, NOWHERE, extent};
+use crate::records::{
+    Extent, Fault, MEND_ADD_MISSING_COLON, MEND_NONE, MEND_REMOVE_RAW_IDENT,
+    MEND_REORDER_FORMAT_PARAMETER, MEND_USE_POSITIONAL, MEND_USE_RUST_DEBUG_PRINTING_MACRO,
+    MaybeExtent,
+};
+use rustc_parse_format::{ParseError, Suggestion};
+use std::ops::Range;
+
+/// Puts a text behind the `used` bytes, if there is room, and counts it.
+fn put(texts: &mut [u8], used: &mut usize, text: &str) -> Extent
+    ensures grows { Grows texts.old texts.new used.old used.new }
+    ensures counted { used.new < usize.MAX → used.new ≡ used.old + length text.now }
+    ensures holds { used.new ≤ length texts.old → Holds (take used.new texts.new) result.from result.to text.now }
+{
+    let from = *used;
+    let to = from.saturating_add(text.len());
+    *used = to;
+    if to <= texts.len() {
+        texts[from..to].copy_from_slice(text.as_bytes());
+    }
+    Extent { from, to }
+}
+
+fn put_note(texts: &mut [u8], used: &mut usize, note: &Option<String>) -> MaybeExtent
+    ensures grows { Grows texts.old texts.new used.old used.new }
+    ensures counted { used.new < usize.MAX → used.new ≡ used.old + maybe_len (option_map string_bytes note.now) }
+    ensures holds { used.new ≤ length texts.old → HoldsMaybe (take used.new texts.new) result (option_map string_bytes note.now) }
+{
+    match note {
+        Some(note) => {
+            let at = put(texts, used, note.as_str());
+            MaybeExtent {
+                there: 1,
+                from: at.from,
+                to: at.to,
+            }
+        }
+        None => NO_EXTENT,
+    }
+}
+
+fn put_second(
+    texts: &mut [u8],
+    used: &mut usize,
+    second: &Option<(String, Range<usize>)>,
+) -> (MaybeExtent, Extent)
+    ensures grows { Grows texts.old texts.new used.old used.new }
+    ensures counted { used.new < usize.MAX → used.new ≡ used.old + second_len (option_map (λ x. (string_bytes x.0, pair x.1)) second.now) }
+    ensures holds { used.new ≤ length texts.old → HoldsSecond (take used.new texts.new) result.0 result.1 (option_map (λ x. (string_bytes x.0, pair x.1)) second.now) }
+{
+    match second {
+        Some((label, span)) => {
+            let at = put(texts, used, label.as_str());
+            let label = MaybeExtent {
+                there: 1,
+                from: at.from,
+                to: at.to,
+            };
+            (label, extent(span))
+        }
+        None => (NO_EXTENT, NOWHERE),
+    }
+}
+
+fn put_suggestion(
+    texts: &mut [u8],
+    used: &mut usize,
+    suggestion: &Suggestion,
+) -> (u32, Extent, Extent)
+    ensures grows { Grows texts.old texts.new used.old used.new }
+    ensures counted { used.new < usize.MAX → used.new ≡ used.old + suggestion_len (seen_suggestion suggestion.now) }
+    ensures holds { used.new ≤ length texts.old → HoldsSuggestion (take used.new texts.new) result.0 result.1 result.2 (seen_suggestion suggestion.now) }
+{
+    match suggestion {
+        Suggestion::None => (MEND_NONE, NOWHERE, NOWHERE),
+        Suggestion::UsePositional => (MEND_USE_POSITIONAL, NOWHERE, NOWHERE),
+        Suggestion::RemoveRawIdent(span) => (MEND_REMOVE_RAW_IDENT, extent(span), NOWHERE),
+        Suggestion::ReorderFormatParameter(span, text) => {
+            let at = put(texts, used, text.as_str());
+            (MEND_REORDER_FORMAT_PARAMETER, extent(span), at)
+        }
+        Suggestion::AddMissingColon(span) => (MEND_ADD_MISSING_COLON, extent(span), NOWHERE),
+        Suggestion::UseRustDebugPrintingMacro => {
+            (MEND_USE_RUST_DEBUG_PRINTING_MACRO, NOWHERE, NOWHERE)
+        }
+    }
+}
+
+/// The record of an error that a step found.
+fn put_error(texts: &mut [u8], used: &mut usize, error: &ParseError, step: usize) -> Fault
+    ensures grows { Grows texts.old texts.new used.old used.new }
+    ensures counted { used.new < usize.MAX → used.new ≡ used.old + message_len (seen_error error.now) }
+    ensures holds { used.new ≤ length texts.old → HoldsError (take used.new texts.new) result (seen_error error.now) }
+    ensures step { result.step ≡ step }
+{
+    let description = put(texts, used, error.description.as_str());
+    let note = put_note(texts, used, &error.note);
+    let label = put(texts, used, error.label.as_str());
+    let (second_label, second_span) = put_second(texts, used, &error.secondary_label);
+    let (suggestion, suggestion_span, suggestion_text) = put_suggestion(
+        texts,
+        used,
+        &error.suggestion,
+    );
+    Fault {
+        description,
+        note,
+        label,
+        span: extent(&error.span),
+        second_label,
+        second_span,
+        suggestion,
+        suggestion_span,
+        suggestion_text,
+        step,
+    }
+}
+
+/// Writes the errors and which steps found them, as far as there is room, and gives how many bytes their texts take.
+pub fn put_errors(
+    errors: &[ParseError],
+    finders: &Finders,
+    faults: &mut [Fault],
+    texts: &mut [u8],
+) -> usize
+    requires { length finders.now.calls ≡ length errors.now }
+    ensures holds { result ≤ length texts.old → length errors.now ≤ length faults.old
+        → HoldsErrors texts.new (take (length errors.now) faults.new) (map seen_error errors.now) }
+    ensures found { length errors.now ≤ length faults.old → map (λ (f : FaultRecord). f.step) (take (length errors.now) faults.new) ≡ finders.now.calls }
+    ensures counted { result < usize.MAX → result ≡ texts_len (map seen_error errors.now) }
+    ensures kept_texts { drop result texts.new ≡ drop result texts.old }
+    ensures kept_faults { drop (length errors.now) faults.new ≡ drop (length errors.now) faults.old }
+{
+    let mut used = 0;
+    for i in 0..errors.len() {
+        let fault = put_error(texts, &mut used, &errors[i], finders.get(i));
+        if i < faults.len() {
+            faults[i] = fault;
+        }
+    }
+    used
+}

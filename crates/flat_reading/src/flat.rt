@@ -1,0 +1,406 @@
+//! Pieces as records.
+
+ghost use Rattle.std.specs.Prelude.{◌≡◌, ℕ, ◌+◌, ◌<◌, ◌≤◌, if◌then◌else◌, List, Some, chars, drop, length, option_map, take, true};
+ghost use Rattle.rustc_parse_format.specs.Seen.{pair, seen_alignment, seen_argument, seen_count};
+ghost use Rattle.rustc_parse_format.specs.Seen.{seen_debug_hex, seen_position, seen_sign, seen_spec, seen_taken};
+ghost use Rattle.rustc_parse_format.specs.Characters.{is_nil};
+ghost use Rattle.rustc_parse_format.specs.Types.{NextArgument};
+ghost use Rattle.flat_reading.specs.declared.records.Extent.{Extent as ExtentRecord};
+ghost use Rattle.flat_reading.specs.declared.records.Spec.{Spec as SpecRecord};
+ghost use Rattle.flat_reading.specs.Events.{has_no_counts, has_no_flags, is_default, specs_in};
+ghost use Rattle.flat_reading.specs.Meant.{align_meant, count_meant, fill_meant, hex_meant, is_set, maybe_place, piece_meant};
+ghost use Rattle.flat_reading.specs.Meant.{place as place_meant, position_meant, sign_meant, spec_at, spec_meant, text_at};
+ghost use Rattle.flat_reading.specs.Stand.{ArgumentStands, CountAt, PieceAt, PieceStands, PositionAt, SameBehind, SpecAt};
+
+use crate::records::{
+    ALIGN_CENTER, ALIGN_LEFT, ALIGN_RIGHT, ALIGN_UNKNOWN, COUNT_IMPLIED, COUNT_IS, COUNT_IS_NAME,
+    COUNT_IS_PARAM, COUNT_IS_STAR, CountRecord, Extent, HEX_LOWER, HEX_NONE, HEX_UPPER,
+    MaybeExtent, NO_FILL, PIECE_ARGUMENT, PIECE_NONE, PIECE_TEXT, POSITION_IMPLICIT,
+    POSITION_INDEX, POSITION_NAMED, SIGN_MINUS, SIGN_NONE, SIGN_PLUS, Spec, Step,
+};
+use crate::texts::{Texts, argument_texts, name_extent, run_extent};
+use rustc_parse_format::{Alignment, Argument, Count, DebugHex, FormatSpec, Position, Sign, Taken};
+use std::ops::Range;
+
+pub const NOWHERE: Extent = Extent { from: 0, to: 0 };
+
+/// The extent of a range.
+pub fn extent(range: &Range<usize>) -> Extent
+    ensures { place_meant result ≡ pair range.now }
+{
+    Extent {
+        from: range.start,
+        to: range.end,
+    }
+}
+
+pub const NO_EXTENT: MaybeExtent = MaybeExtent {
+    there: 0,
+    from: 0,
+    to: 0,
+};
+
+/// The same of a range that is there.
+#[inline(always)]
+pub fn there(range: &Range<usize>) -> MaybeExtent
+    ensures { maybe_place result ≡ Some (pair range.now) }
+{
+    MaybeExtent {
+        there: 1,
+        from: range.start,
+        to: range.end,
+    }
+}
+
+/// The same of a range that may be there.
+fn maybe(range: &Option<Range<usize>>) -> MaybeExtent
+    ensures { maybe_place result ≡ option_map pair range.now }
+{
+    match range {
+        Some(range) => there(range),
+        None => NO_EXTENT,
+    }
+}
+
+pub fn flag(given: bool) -> u32
+    ensures { is_set result ≡ given }
+{
+    if given { 1 } else { 0 }
+}
+
+fn fill(fill: Option<char>) -> u32
+    ensures { fill_meant result ≡ fill }
+{
+    match fill {
+        Some(c) => u32::from(c),
+        None => NO_FILL,
+    }
+}
+
+fn align(align: Alignment) -> u32
+    ensures { align_meant result ≡ seen_alignment align }
+{
+    match align {
+        Alignment::AlignUnknown => ALIGN_UNKNOWN,
+        Alignment::AlignLeft => ALIGN_LEFT,
+        Alignment::AlignRight => ALIGN_RIGHT,
+        Alignment::AlignCenter => ALIGN_CENTER,
+    }
+}
+
+fn sign(sign: Option<Sign>) -> u32
+    ensures { sign_meant result ≡ option_map seen_sign sign }
+{
+    match sign {
+        None => SIGN_NONE,
+        Some(Sign::Plus) => SIGN_PLUS,
+        Some(Sign::Minus) => SIGN_MINUS,
+    }
+}
+
+fn debug_hex(hex: Option<DebugHex>) -> u32
+    ensures { hex_meant result ≡ option_map seen_debug_hex hex }
+{
+    match hex {
+        None => HEX_NONE,
+        Some(DebugHex::Lower) => HEX_LOWER,
+        Some(DebugHex::Upper) => HEX_UPPER,
+    }
+}
+
+fn numbered(kind: u32, number: usize) -> CountRecord
+    ensures { result ≡ record { kind = kind; number = number; name = record { from = 0; to = 0 }; name_span = record { from = 0; to = 0 } } }
+{
+    CountRecord {
+        kind,
+        number,
+        name: NOWHERE,
+        name_span: NOWHERE,
+    }
+}
+
+/// A count, whose name stands there in the input.
+#[tactic(auto, unfolding(crate::specs::Meant::count_meant))]
+fn count(count: &Count<'_>, name: Extent) -> CountRecord
+    ensures { (input : List ℕ) → CountAt (text_at input name) (seen_count count.now) → count_meant input result ≡ seen_count count.now }
+{
+    match count {
+        Count::CountImplied => numbered(COUNT_IMPLIED, 0),
+        Count::CountIs(number) => numbered(COUNT_IS, usize::from(*number)),
+        Count::CountIsParam(number) => numbered(COUNT_IS_PARAM, *number),
+        Count::CountIsStar(number) => numbered(COUNT_IS_STAR, *number),
+        Count::CountIsName(_, span) => CountRecord {
+            kind: COUNT_IS_NAME,
+            number: 0,
+            name,
+            name_span: extent(span),
+        },
+    }
+}
+
+/// A specification, whose texts stand there in the input.
+#[tactic(auto, unfolding(crate::specs::Meant::spec_meant))]
+fn spec_record(spec: &FormatSpec<'_>, texts: &Texts) -> Spec
+    ensures { (input : List ℕ) → SpecAt input texts.now (seen_spec spec.now) → spec_meant input result ≡ seen_spec spec.now }
+{
+    Spec {
+        fill: fill(spec.fill),
+        align: align(spec.align),
+        sign: sign(spec.sign),
+        debug_hex: debug_hex(spec.debug_hex),
+        alternate: flag(spec.alternate),
+        zero_pad: flag(spec.zero_pad),
+        type_kind: texts.type_kind,
+        width: count(&spec.width, texts.width),
+        precision: count(&spec.precision, texts.precision),
+        ty: texts.ty,
+        fill_span: maybe(&spec.fill_span),
+        width_span: maybe(&spec.width_span),
+        precision_span: maybe(&spec.precision_span),
+        ty_span: maybe(&spec.ty_span),
+    }
+}
+
+fn has_no_flags(spec: &FormatSpec<'_>) -> bool
+    ensures { result ≡ has_no_flags (seen_spec spec.now) }
+{
+    spec.fill.is_none()
+        && spec.fill_span.is_none()
+        && matches!(spec.align, Alignment::AlignUnknown)
+        && spec.sign.is_none()
+        && !spec.alternate
+        && !spec.zero_pad
+        && spec.debug_hex.is_none()
+}
+
+fn has_no_counts(spec: &FormatSpec<'_>) -> bool
+    ensures { result ≡ has_no_counts (seen_spec spec.now) }
+{
+    matches!(spec.width, Count::CountImplied)
+        && spec.width_span.is_none()
+        && matches!(spec.precision, Count::CountImplied)
+        && spec.precision_span.is_none()
+}
+
+fn is_empty(text: &str) -> bool
+    ensures { result ≡ is_nil (chars text.now) }
+{
+    text.is_empty()
+}
+
+/// The specification is the default one.
+#[inline(always)]
+fn is_default(spec: &FormatSpec<'_>) -> bool
+    ensures { result ≡ is_default (seen_spec spec.now) }
+{
+    has_no_flags(spec) && has_no_counts(spec) && is_empty(spec.ty) && spec.ty_span.is_none()
+}
+
+/// Writes a specification behind the `used` records, if there is room, and gives its number.
+#[inline(never)]
+fn add_spec(spec: &FormatSpec<'_>, texts: &Texts, specs: &mut [Spec], used: &mut usize) -> usize
+    requires room { used.old < usize.MAX }
+    ensures told { (input : List ℕ) → SpecAt input texts.now (seen_spec spec.now) → used.new ≤ length specs.old → spec_at input specs.new result ≡ seen_spec spec.now }
+    ensures number { result ≡ used.new }
+    ensures used { used.new ≡ used.old + 1 }
+    ensures front { take used.old specs.new ≡ take used.old specs.old }
+    ensures kept { drop used.new specs.new ≡ drop used.new specs.old }
+{
+    if *used < specs.len() {
+        specs[*used] = spec_record(spec, texts);
+    }
+    *used += 1;
+    *used
+}
+
+/// The number of a specification that is the default one, which no record tells of.
+#[inline(always)]
+fn no_spec(spec: &FormatSpec<'_>) -> usize
+    requires { is_default (seen_spec spec.now) ≡ true }
+    ensures told { (input : List ℕ) (specs : List SpecRecord) → spec_at input specs result ≡ seen_spec spec.now }
+    ensures number { result ≡ 0 }
+{
+    let _spec = spec;
+    0
+}
+
+/// The same, if it is not the default one.
+#[inline(always)]
+fn put_spec(spec: &FormatSpec<'_>, texts: &Texts, specs: &mut [Spec], used: &mut usize) -> usize
+    requires room { used.old < usize.MAX }
+    ensures told { (input : List ℕ) → SpecAt input texts.now (seen_spec spec.now) → used.new ≤ length specs.old → spec_at input specs.new result ≡ seen_spec spec.now }
+    ensures number { result ≤ used.new }
+    ensures used { used.new ≡ used.old + (if is_default (seen_spec spec.now) then 0 else 1) }
+    ensures front { take used.old specs.new ≡ take used.old specs.old }
+    ensures kept { drop used.new specs.new ≡ drop used.new specs.old }
+{
+    if is_default(spec) {
+        return no_spec(spec);
+    }
+    add_spec(spec, texts, specs, used)
+}
+
+/// A position: its kind and its number.
+#[inline(always)]
+fn position(position: &Position<'_>) -> (u32, usize)
+    ensures { (input : List ℕ) (r : ExtentRecord) → PositionAt (text_at input r) (seen_position position.now)
+        → position_meant input result.0 result.1 r ≡ seen_position position.now }
+{
+    match position {
+        Position::ArgumentImplicitlyIs(number) => (POSITION_IMPLICIT, *number),
+        Position::ArgumentIs(number) => (POSITION_INDEX, *number),
+        Position::ArgumentNamed(_) => (POSITION_NAMED, 0),
+    }
+}
+
+/// Writes an argument whose texts stand there into its step, and its specification as above.
+#[tactic(auto, unfolding(crate::specs::Meant::piece_meant))]
+#[inline(never)]
+fn put_argument(
+    argument: &Argument<'_>,
+    texts: &Texts,
+    specs: &mut [Spec],
+    used: &mut usize,
+    step: &mut Step,
+)
+    requires room { used.old < usize.MAX }
+    ensures told { (input : List ℕ) → PositionAt (text_at input texts.now.text) (seen_position argument.now.position)
+        → SpecAt input texts.now (seen_spec argument.now.format) → used.new ≤ length specs.old
+        → piece_meant input (spec_at input specs.new step.new.spec) step.new ≡ Some (NextArgument (seen_argument argument.now)) }
+    ensures number { step.new.spec ≤ used.new }
+    ensures used { used.new ≡ used.old + (if is_default (seen_spec argument.now.format) then 0 else 1) }
+    ensures front { take used.old specs.new ≡ take used.old specs.old }
+    ensures kept { drop used.new specs.new ≡ drop used.new specs.old }
+    ensures others { SameBehind step.old step.new }
+{
+    let (position, number) = position(&argument.position);
+    step.kind = PIECE_ARGUMENT;
+    step.position = position;
+    step.number = number;
+    step.text = texts.text;
+    step.position_span = extent(&argument.position_span);
+    step.spec = put_spec(&argument.format, texts, specs, used);
+}
+
+/// A step of no argument.
+#[inline(always)]
+pub fn bare(kind: u32, text: Extent, step: &mut Step)
+    ensures kind { step.new.kind ≡ kind }
+    ensures text { step.new.text ≡ text }
+    ensures spec { step.new.spec ≡ 0 }
+    ensures others { SameBehind step.old step.new }
+{
+    step.kind = kind;
+    step.position = POSITION_IMPLICIT;
+    step.number = 0;
+    step.text = text;
+    step.position_span = NOWHERE;
+    step.spec = 0;
+}
+
+/// The same of an argument that asks for nothing, whose name stands there.
+#[tactic(auto, unfolding(crate::specs::Meant::piece_meant))]
+#[inline(always)]
+fn put_bare_argument(argument: &Argument<'_>, text: Extent, step: &mut Step)
+    requires bare { is_default (seen_spec argument.now.format) ≡ true }
+    ensures told { (input : List ℕ) (specs : List SpecRecord) → PositionAt (text_at input text) (seen_position argument.now.position)
+        → piece_meant input (spec_at input specs step.new.spec) step.new ≡ Some (NextArgument (seen_argument argument.now)) }
+    ensures spec { step.new.spec ≡ 0 }
+    ensures others { SameBehind step.old step.new }
+{
+    let (position, number) = position(&argument.position);
+    step.kind = PIECE_ARGUMENT;
+    step.position = position;
+    step.number = number;
+    step.text = text;
+    step.position_span = extent(&argument.position_span);
+    step.spec = no_spec(&argument.format);
+}
+
+/// The same, where the texts are those of the argument's spans, less an offset. Those of a specification that asks for nothing
+/// are not looked for.
+#[inline(always)]
+fn put_plain_argument(
+    argument: &Argument<'_>,
+    input: &str,
+    offset: usize,
+    specs: &mut [Spec],
+    used: &mut usize,
+    step: &mut Step,
+)
+    requires stands { ArgumentStands input.now offset (seen_argument argument.now) }
+    requires room { used.old < usize.MAX }
+    ensures told { used.new ≤ length specs.old
+        → piece_meant input.now (spec_at input.now specs.new step.new.spec) step.new ≡ Some (NextArgument (seen_argument argument.now)) }
+    ensures number { step.new.spec ≤ used.new }
+    ensures used { used.new ≡ used.old + (if is_default (seen_spec argument.now.format) then 0 else 1) }
+    ensures front { take used.old specs.new ≡ take used.old specs.old }
+    ensures kept { drop used.new specs.new ≡ drop used.new specs.old }
+    ensures others { SameBehind step.old step.new }
+{
+    if is_default(&argument.format) {
+        put_bare_argument(argument, name_extent(input, offset, argument), step);
+    } else {
+        let texts = argument_texts(input, offset, argument);
+        put_argument(argument, &texts, specs, used, step);
+    }
+}
+
+/// Writes a piece whose texts stand there, and whose placeholder was read into an argument, into its step, and its
+/// specification behind the `used` records, if it is not the default one and there is room.
+#[tactic(auto, unfolding(crate::specs::Meant::piece_meant))]
+pub fn put_piece(
+    piece: &Option<Taken<'_>>,
+    argument: &Argument<'_>,
+    texts: &Texts,
+    specs: &mut [Spec],
+    used: &mut usize,
+    step: &mut Step,
+)
+    requires room { used.old < usize.MAX }
+    ensures told { (input : List ℕ) → PieceAt input texts.now (option_map (seen_taken argument.now) piece.now) → used.new ≤ length specs.old
+        → piece_meant input (spec_at input specs.new step.new.spec) step.new ≡ option_map (seen_taken argument.now) piece.now }
+    ensures number { step.new.spec ≤ used.new }
+    ensures used { used.new ≡ used.old + specs_in (option_map (seen_taken argument.now) piece.now) }
+    ensures front { take used.old specs.new ≡ take used.old specs.old }
+    ensures kept { drop used.new specs.new ≡ drop used.new specs.old }
+    ensures others { SameBehind step.old step.new }
+{
+    match piece {
+        None => bare(PIECE_NONE, NOWHERE, step),
+        Some(Taken::Lit(_)) => bare(PIECE_TEXT, texts.text, step),
+        Some(Taken::NextArgument) => put_argument(argument, texts, specs, used, step),
+    }
+}
+
+/// The same where the texts stand at the spans of the piece, less an offset, and a run of text in front of what was read.
+#[tactic(auto, unfolding(crate::specs::Meant::piece_meant))]
+#[inline(always)]
+pub fn put_plain(
+    piece: &Option<Taken<'_>>,
+    argument: &Argument<'_>,
+    input: &str,
+    offset: usize,
+    read: usize,
+    specs: &mut [Spec],
+    used: &mut usize,
+    step: &mut Step,
+)
+    requires stands { PieceStands input.now offset read (option_map (seen_taken argument.now) piece.now) }
+    requires room { used.old < usize.MAX }
+    ensures told { used.new ≤ length specs.old
+        → piece_meant input.now (spec_at input.now specs.new step.new.spec) step.new ≡ option_map (seen_taken argument.now) piece.now }
+    ensures number { step.new.spec ≤ used.new }
+    ensures used { used.new ≡ used.old + specs_in (option_map (seen_taken argument.now) piece.now) }
+    ensures front { take used.old specs.new ≡ take used.old specs.old }
+    ensures kept { drop used.new specs.new ≡ drop used.new specs.old }
+    ensures others { SameBehind step.old step.new }
+{
+    match piece {
+        None => bare(PIECE_NONE, NOWHERE, step),
+        Some(Taken::Lit(text)) => bare(PIECE_TEXT, run_extent(input, read, text), step),
+        Some(Taken::NextArgument) => {
+            put_plain_argument(argument, input, offset, specs, used, step)
+        }
+    }
+}

@@ -1,0 +1,236 @@
+//! A whole input at once.
+
+ghost use Rattle.std.specs.Prelude.{◌≡◌, ◌≤◌, ℕ, Bool, IfOk, IsFalse, None, OnErr, OnOk};
+ghost use Rattle.std.specs.Prelude.{Option, Some, chars, drop, length, map, option_map, string_bytes, take};
+ghost use Rattle.rustc_parse_format.specs.Seen.{pair, seen_mode};
+ghost use Rattle.rustc_parse_format.specs.Characters.{Text};
+ghost use Rattle.rustc_parse_format.specs.LiteralReading.{is_longer};
+ghost use Rattle.rustc_parse_format.specs.Types.{Mode};
+ghost use Rattle.rustc_parse_format.specs.State.{first_state};
+ghost use Rattle.rustc_parse_format.specs.World.{hashes, quote_offset};
+ghost use Rattle.flat_reading.specs.Asked.{Fits, IsCounted, IsKept, IsTold, asked_state, buffers, limit};
+ghost use Rattle.flat_reading.specs.Meant.{place};
+ghost use Rattle.flat_reading.specs.Stand.{IsGuided, IsPlain, guide_of};
+
+use crate::errors::put_errors;
+use crate::finders::Finders;
+use crate::flat::{NO_EXTENT, extent, flag};
+use crate::records::{Answer, Extent, Fault, Spec, Step};
+use crate::task::Task;
+use crate::walk::{look_ahead, walk};
+use rustc_parse_format::{ParseMode, Parser};
+use std::alloc::{AllocError, Global};
+use std::ops::Range;
+
+fn owned(alloc: Global, snippet: Option<&str>) -> Result<Option<String>, AllocError>
+    ensures { IfOk result (λ s. option_map (λ t. chars (string_bytes t)) s ≡ option_map (λ t. chars t.now) snippet.entry) }
+{
+    match snippet {
+        Some(text) => Ok(Some(String::from_str(alloc, text)?)),
+        None => Ok(None),
+    }
+}
+
+/// How many bytes stand in front of the text in its literal.
+fn offset_of(style: Option<usize>) -> usize
+    requires { hashes style ≤ limit }
+    ensures { result ≡ quote_offset style }
+{
+    match style {
+        None => 1,
+        Some(hashes) => hashes + 2,
+    }
+}
+
+/// An ordinary literal is longer than what it stands for and two quotes, which an appended newline does not belong to: so it may
+/// have escapes.
+fn is_longer(input: &str, literal: &str, appended_newline: bool) -> bool
+    requires { length input.now ≤ limit }
+    ensures { result ≡ is_longer (chars input.now) None (Some (chars literal.now)) appended_newline }
+{
+    let quotes = if appended_newline { 1 } else { 2 };
+    literal.len() != input.len() + quotes
+}
+
+/// The literal is an ordinary one that may have escapes.
+fn may_have_escapes(
+    input: &str,
+    style: Option<usize>,
+    snippet: Option<&str>,
+    appended_newline: bool,
+) -> bool
+    requires { length input.now ≤ limit }
+    ensures { IsFalse result → (mode : Mode)
+        → IsPlain (first_state mode (chars input.now) style (option_map (λ t. chars t.now) snippet.entry) appended_newline) (quote_offset style) }
+{
+    if style.is_some() {
+        return false;
+    }
+    match snippet {
+        Some(literal) => is_longer(input, literal, appended_newline),
+        None => false,
+    }
+}
+
+/// Another parser over the input, whose places are those in it, one byte later.
+#[inline(never)]
+fn new_guide<'a>(
+    alloc: Global,
+    mode: ParseMode,
+    input: &'a str,
+) -> Result<Option<Box<Parser<'a>>>, AllocError>
+    requires { length input.now ≤ limit }
+    ensures { IfOk result (λ g. (style : Option ℕ) (snippet : Option Text) (appended : Bool)
+        → IsGuided (first_state (seen_mode mode) (chars input.now) style snippet appended) (quote_offset style) (guide_of g)) }
+{
+    let guide = Parser::new(alloc, input, None, None, false, mode)?;
+    Ok(Some(Box::new(alloc, guide)?))
+}
+
+/// In an ordinary source literal with escapes places are not as in the input, so another parser goes along.
+fn guide_for<'a>(
+    alloc: Global,
+    parser: &Parser<'_>,
+    mode: ParseMode,
+    input: &'a str,
+    style: Option<usize>,
+    snippet: Option<&str>,
+    appended_newline: bool,
+) -> Result<Option<Box<Parser<'a>>>, AllocError>
+    requires { length input.now ≤ limit }
+    ensures { IfOk result (λ g. parser.now
+        ≡ first_state (seen_mode mode) (chars input.now) style (option_map (λ t. chars t.now) snippet.entry) appended_newline
+        → IsGuided parser.now (quote_offset style) (guide_of g)) }
+{
+    if parser.is_source_literal() {
+        if may_have_escapes(input, style, snippet, appended_newline) {
+            let guide = new_guide(alloc, mode, input)?;
+            return Ok(guide);
+        }
+        return Ok(None);
+    }
+    Ok(None)
+}
+
+/// Writes the lines, as far as there is room.
+fn put_lines(spans: &[Range<usize>], lines: &mut [Extent])
+    ensures held { length spans.now ≤ length lines.old → map place (take (length spans.now) lines.new) ≡ map pair spans.now }
+    ensures kept { drop (length spans.now) lines.new ≡ drop (length spans.now) lines.old }
+{
+    for i in 0..spans.len() {
+        if i < lines.len() {
+            lines[i] = extent(&spans[i]);
+        }
+    }
+}
+
+/// Reads an input to its end by a parser that is at its start. An error leaves the answer as it was.
+#[inline(always)]
+fn read_by<'a>(
+    alloc: Global,
+    start: Parser<'a>,
+    asked: Task<'a>,
+    steps: &mut [Step],
+    specs: &mut [Spec],
+    faults: &mut [Fault],
+    texts: &mut [u8],
+    lines: &mut [Extent],
+    answer: &mut Answer,
+) -> Result<(), AllocError>
+    requires input_length { length asked.input.now ≤ limit }
+    requires hashes { hashes asked.style ≤ limit }
+    requires start { start ≡ asked_state asked }
+    requires short { length start.rest ≤ length asked.input.now }
+    ensures counted { OnOk result (IsCounted asked.entry.peeks (asked_state asked.entry) answer.new) }
+    ensures told { OnOk result (Fits (buffers steps.old specs.old faults.old texts.old lines.old) answer.new
+        → IsTold asked.entry.peeks (asked_state asked.entry) asked.entry.input.now (buffers steps.new specs.new faults.new texts.new lines.new) answer.new) }
+    ensures kept { OnOk result (IsKept answer.new (buffers steps.old specs.old faults.old texts.old lines.old)
+        (buffers steps.new specs.new faults.new texts.new lines.new)) }
+    ensures err { OnErr result (answer.new ≡ answer.old) }
+{
+    let Task {
+        mode,
+        input,
+        style,
+        snippet,
+        appended_newline,
+        peeks,
+    } = asked;
+    let mut parser = start;
+    let mut finders = Finders::new(alloc);
+    let mut peek = NO_EXTENT;
+    let mut peek_ahead = NO_EXTENT;
+    let mut guide = guide_for(
+        alloc,
+        &parser,
+        mode,
+        input,
+        style,
+        snippet,
+        appended_newline,
+    )?;
+    let is_source_literal = flag(parser.is_source_literal());
+    if peeks {
+        look_ahead(&parser, &mut peek, &mut peek_ahead);
+    }
+    let offset = offset_of(style);
+    let (count, used) = walk(
+        &mut parser,
+        &mut guide,
+        offset,
+        peeks,
+        input,
+        &mut finders,
+        steps,
+        specs,
+    )?;
+    let errors = parser.errors();
+    let spans = parser.line_spans();
+    put_lines(spans, lines);
+    *answer = Answer {
+        steps: count,
+        specs: used,
+        faults: errors.len(),
+        texts: put_errors(errors, &finders, faults, texts),
+        lines: spans.len(),
+        fronts: finders.fronts(),
+        is_source_literal,
+        peek,
+        peek_ahead,
+    };
+    Ok(())
+}
+
+/// Reads an input to its end. An error leaves the answer as it was.
+pub fn read(
+    alloc: Global,
+    asked: Task<'_>,
+    steps: &mut [Step],
+    specs: &mut [Spec],
+    faults: &mut [Fault],
+    texts: &mut [u8],
+    lines: &mut [Extent],
+    answer: &mut Answer,
+) -> Result<(), AllocError>
+    requires input_length { length asked.input.now ≤ limit }
+    requires hashes { hashes asked.style ≤ limit }
+    ensures counted { OnOk result (IsCounted asked.entry.peeks (asked_state asked.entry) answer.new) }
+    ensures told { OnOk result (Fits (buffers steps.old specs.old faults.old texts.old lines.old) answer.new
+        → IsTold asked.entry.peeks (asked_state asked.entry) asked.entry.input.now (buffers steps.new specs.new faults.new texts.new lines.new) answer.new) }
+    ensures kept { OnOk result (IsKept answer.new (buffers steps.old specs.old faults.old texts.old lines.old)
+        (buffers steps.new specs.new faults.new texts.new lines.new)) }
+    ensures err { OnErr result (answer.new ≡ answer.old) }
+{
+    let literal = owned(alloc, asked.snippet)?;
+    let start = Parser::new(
+        alloc,
+        asked.input,
+        asked.style,
+        literal,
+        asked.appended_newline,
+        asked.mode,
+    )?;
+    read_by(
+        alloc, start, asked, steps, specs, faults, texts, lines, answer,
+    )
+}

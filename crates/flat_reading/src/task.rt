@@ -1,0 +1,103 @@
+//! What a caller asks for, and what is refused.
+
+ghost use Rattle.std.specs.Prelude.{◌≡◌, ◌≤◌, IfErr, IfOk, IfSome, Some, None, chars, is_some, length, option_map};
+ghost use Rattle.std.specs.Str.{is_utf8};
+ghost use Rattle.rustc_parse_format.specs.Seen.{seen_mode};
+ghost use Rattle.rustc_parse_format.specs.World.{hashes};
+ghost use Rattle.flat_reading.specs.Asked.{limit, mode_meant, refusal, snippet_meant, style_meant};
+ghost use Rattle.flat_reading.specs.Meant.{is_set};
+
+use crate::records::{
+    MODE_DIAGNOSTIC, MODE_DIAGNOSTIC_NAMED, MODE_FORMAT, MODE_INLINE_ASM, NO_SUCH_MODE, NOT_TEXT,
+    Options, SNIPPET_NOT_TEXT, TOO_LONG,
+};
+use rustc_parse_format::ParseMode;
+
+/// How an input is to be read.
+#[derive(Clone, Copy)]
+pub struct Task<'a> {
+    pub mode: ParseMode,
+    pub input: &'a str,
+    /// How many hashes a raw literal has.
+    pub style: Option<usize>,
+    pub snippet: Option<&'a str>,
+    pub appended_newline: bool,
+    /// Whether the places of the peeks are wanted.
+    pub peeks: bool,
+}
+
+/// The most bytes of an input, and the most hashes.
+const LIMIT: usize = 1_000_000_000_000;
+
+fn mode_of(mode: u32) -> Option<ParseMode>
+    ensures { option_map seen_mode result ≡ mode_meant mode }
+{
+    match mode {
+        MODE_FORMAT => Some(ParseMode::Format),
+        MODE_INLINE_ASM => Some(ParseMode::InlineAsm),
+        MODE_DIAGNOSTIC => Some(ParseMode::Diagnostic),
+        MODE_DIAGNOSTIC_NAMED => Some(ParseMode::DiagnosticNamed),
+        _ => None,
+    }
+}
+
+fn style_of(options: &Options) -> Option<usize>
+    ensures { result ≡ style_meant options.now }
+{
+    if options.is_raw == 0 {
+        None
+    } else {
+        Some(options.hashes)
+    }
+}
+
+fn text_of(bytes: &[u8]) -> Option<&str>
+    ensures some { is_some result ≡ is_utf8 bytes.now }
+    ensures same { IfSome result (λ t. t.now ≡ bytes.now) }
+{
+    match str::from_utf8(bytes) {
+        Ok(text) => Some(text),
+        Err(_) => None,
+    }
+}
+
+/// What is asked for, or the code of the refusal.
+pub fn task_of<'a>(input: &'a [u8], snippet: &'a [u8], options: &Options) -> Result<Task<'a>, u32>
+    ensures refused { IfErr result (λ e. refusal input.now snippet.now options.now ≡ Some e) }
+    ensures accepted { IfOk result (λ _. refusal input.now snippet.now options.now ≡ None) }
+    ensures mode { IfOk result (λ a. Some (seen_mode a.mode) ≡ mode_meant options.now.mode) }
+    ensures input { IfOk result (λ a. a.input.now ≡ input.now) }
+    ensures style { IfOk result (λ a. a.style ≡ style_meant options.now) }
+    ensures snippet { IfOk result (λ a. option_map (λ t. chars t.now) a.snippet ≡ snippet_meant options.now snippet.now) }
+    ensures newline { IfOk result (λ a. a.appended_newline ≡ is_set options.now.appended_newline) }
+    ensures peeks { IfOk result (λ a. a.peeks ≡ is_set options.now.peeks) }
+    ensures input_length { IfOk result (λ a. length a.input.now ≤ limit) }
+    ensures hashes { IfOk result (λ a. hashes a.style ≤ limit) }
+{
+    let Some(mode) = mode_of(options.mode) else {
+        return Err(NO_SUCH_MODE);
+    };
+    let Some(text) = text_of(input) else {
+        return Err(NOT_TEXT);
+    };
+    let snippet = if options.has_snippet == 0 {
+        None
+    } else {
+        let Some(snippet) = text_of(snippet) else {
+            return Err(SNIPPET_NOT_TEXT);
+        };
+        Some(snippet)
+    };
+    let style = style_of(options);
+    if style.unwrap_or(0) > LIMIT || input.len() > LIMIT {
+        return Err(TOO_LONG);
+    }
+    Ok(Task {
+        mode,
+        input: text,
+        style,
+        snippet,
+        appended_newline: options.appended_newline != 0,
+        peeks: options.peeks != 0,
+    })
+}

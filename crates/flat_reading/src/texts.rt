@@ -1,0 +1,175 @@
+//! Where the texts of a piece stand in the input.
+
+ghost use Rattle.std.specs.Prelude.{◌≡◌, ℕ, ◌-◌, IsFalse, IsTrue, List, chars, option_map};
+ghost use Rattle.rustc_parse_format.specs.Characters.{byte_length};
+ghost use Rattle.rustc_parse_format.specs.Seen.{pair, seen, seen_argument, seen_count, seen_position, seen_spec};
+ghost use Rattle.flat_reading.specs.declared.records.Extent.{Extent as ExtentRecord};
+ghost use Rattle.flat_reading.specs.Meant.{text_at, type_meant};
+ghost use Rattle.flat_reading.specs.Stand.{ArgumentStands, CountAt, CountStands, HasBytes, IsListed, PieceAt};
+ghost use Rattle.flat_reading.specs.Stand.{PieceStands, PositionAt, PositionStands, SpecAt, StandsAt, StandsBehind, TypeStands};
+
+use crate::flat::NOWHERE;
+use crate::records::{Extent, TYPE_DEBUG, TYPE_LOWER_HEX, TYPE_NONE, TYPE_TEXT, TYPE_UPPER_HEX};
+use rustc_parse_format::{Argument, Count, FormatSpec, Piece, Position};
+
+/// The extents of the texts of a piece, and the kind of its type.
+#[derive(Clone, Copy)]
+pub struct Texts {
+    /// The text, or the name of the argument.
+    pub text: Extent,
+    /// The name of the width.
+    pub width: Extent,
+    /// The name of the precision.
+    pub precision: Extent,
+    /// One of `TYPE_..`.
+    pub type_kind: u32,
+    /// The type, where it is a text.
+    pub ty: Extent,
+}
+
+const NO_TEXTS: Texts = Texts {
+    text: NOWHERE,
+    width: NOWHERE,
+    precision: NOWHERE,
+    type_kind: TYPE_NONE,
+    ty: NOWHERE,
+};
+
+/// The text that stands there. An empty one stands at the start of the input, so that no place is inside a character.
+#[inline(always)]
+fn extent_of(input: &str, from: usize, text: &str) -> Extent
+    requires { StandsAt input.now from (chars text.now) }
+    ensures { text_at input.now result ≡ chars text.now }
+{
+    if text.is_empty() {
+        return NOWHERE;
+    }
+    Extent {
+        from,
+        to: from + text.len(),
+    }
+}
+
+/// These bytes stand there.
+fn stands(input: &str, from: usize, bytes: &[u8]) -> bool
+    ensures yes { IsTrue result → HasBytes input.now from bytes.now }
+    ensures no { IsFalse result → ¬ (HasBytes input.now from bytes.now) }
+{
+    let Some(to) = from.checked_add(bytes.len()) else {
+        return false;
+    };
+    match input.as_bytes().get(from..to) {
+        Some(part) => part == bytes,
+        None => false,
+    }
+}
+
+/// The text that stands there, perhaps behind a prefix.
+#[inline(never)]
+fn extent_behind(input: &str, prefix: &[u8], from: usize, text: &str) -> Extent
+    requires { StandsBehind input.now prefix.now from (chars text.now) }
+    ensures { text_at input.now result ≡ chars text.now }
+{
+    if stands(input, from, prefix) && stands(input, from + prefix.len(), text.as_bytes()) {
+        extent_of(input, from + prefix.len(), text)
+    } else {
+        extent_of(input, from, text)
+    }
+}
+
+#[inline(always)]
+fn count_extent(input: &str, offset: usize, count: &Count<'_>) -> Extent
+    requires { CountStands input.now offset (seen_count count.now) }
+    ensures { CountAt (text_at input.now result) (seen_count count.now) }
+{
+    match count {
+        Count::CountIsName(name, span) => {
+            extent_of(input, span.start.saturating_sub(offset), name)
+        }
+        _ => NOWHERE,
+    }
+}
+
+/// The kind of a type without a span.
+fn listed_type(ty: &str) -> u32
+    ensures { (r : ExtentRecord) → IsListed (chars ty.now) → (input : List ℕ) → type_meant input result r ≡ chars ty.now }
+{
+    match ty.chars().next() {
+        Some('x') => TYPE_LOWER_HEX,
+        Some('X') => TYPE_UPPER_HEX,
+        Some('?') => TYPE_DEBUG,
+        _ => TYPE_NONE,
+    }
+}
+
+/// A type: its kind, and where it stands.
+#[inline(always)]
+fn type_extent(input: &str, offset: usize, format: &FormatSpec<'_>) -> (u32, Extent)
+    requires { TypeStands input.now offset (option_map pair format.now.ty_span) (chars format.now.ty.now) }
+    ensures { type_meant input.now result.0 result.1 ≡ chars format.now.ty.now }
+{
+    match &format.ty_span {
+        Some(span) => (
+            TYPE_TEXT,
+            extent_behind(input, b":", span.start.saturating_sub(offset), format.ty),
+        ),
+        None => (listed_type(format.ty), NOWHERE),
+    }
+}
+
+/// The name that an argument has for its position.
+#[inline(always)]
+pub fn name_extent(input: &str, offset: usize, argument: &Argument<'_>) -> Extent
+    requires { PositionStands input.now (argument.now.position_span.start - offset) (seen_position argument.now.position) }
+    ensures { PositionAt (text_at input.now result) (seen_position argument.now.position) }
+{
+    match &argument.position {
+        Position::ArgumentNamed(name) => {
+            let from = argument.position_span.start.saturating_sub(offset);
+            extent_behind(input, b"r#", from, name)
+        }
+        _ => NOWHERE,
+    }
+}
+
+/// The name of an argument, and the texts of what it asks for.
+pub fn argument_texts(input: &str, offset: usize, argument: &Argument<'_>) -> Texts
+    requires { ArgumentStands input.now offset (seen_argument argument.now) }
+    ensures position { PositionAt (text_at input.now result.text) (seen_position argument.now.position) }
+    ensures format { SpecAt input.now result (seen_spec argument.now.format) }
+{
+    let format = &argument.format;
+    let (type_kind, ty) = type_extent(input, offset, format);
+    Texts {
+        text: name_extent(input, offset, argument),
+        width: count_extent(input, offset, &format.width),
+        precision: count_extent(input, offset, &format.precision),
+        type_kind,
+        ty,
+    }
+}
+
+/// The text that was read last.
+#[inline(always)]
+pub fn run_extent(input: &str, read: usize, text: &str) -> Extent
+    requires { StandsAt input.now (read - byte_length (chars text.now)) (chars text.now) }
+    ensures { text_at input.now result ≡ chars text.now }
+{
+    extent_of(input, read.saturating_sub(text.len()), text)
+}
+
+/// Where the texts of a piece stand, whose spans are so many bytes behind the places in the input, and which was read up to
+/// a byte of the input.
+pub fn texts_of(input: &str, offset: usize, read: usize, piece: &Option<Piece<'_>>) -> Texts
+    requires { PieceStands input.now offset read (option_map seen piece.now) }
+    ensures { PieceAt input.now result (option_map seen piece.now) }
+{
+    match piece {
+        None => NO_TEXTS,
+        Some(Piece::Lit(text)) => Texts {
+            text: run_extent(input, read, text),
+            ..NO_TEXTS
+        },
+        Some(Piece::NextArgument(argument)) => argument_texts(input, offset, argument),
+    }
+}

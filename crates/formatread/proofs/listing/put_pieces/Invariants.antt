@@ -1,9 +1,0 @@
-use Rattle.std.proofs.Common.{◌≡◌, ◌++◌, drop, flat_map, map, string_bytes}
-use Rattle.rustc_parse_format.specs.Seen.{seen}
-use Rattle.formatread.specs.Listing.{piece_line}
-use Rattle.formatread.proofs.listing.put_pieces.Given as goal
-
--- the lines so far, then those of what is left, are all lines
-abbrev pub invariant-loop-piece : goal.invariant-loop-piece
-invariant-loop-piece l =
-    string_bytes l.out ++ flat_map piece_line (map seen (drop l.piece-index l.pieces)) ≡ string_bytes l.fn.out ++ flat_map piece_line (map seen l.pieces)

@@ -1,0 +1,10 @@
+use Rattle.std.proofs.Common.{◌≡◌, ◌++◌, drop, flat_map, map, string_bytes}
+use Rattle.rustc_parse_format.specs.Seen.{seen_error}
+use Rattle.piece_listing.specs.Listing.{fault_line}
+use Rattle.piece_listing.proofs.listing.put_faults.Given as goal
+
+-- the lines so far, then those of what is left, are all lines
+abbrev pub invariant-loop-error : goal.invariant-loop-error
+invariant-loop-error l =
+    string_bytes l.out ++ flat_map fault_line (map seen_error (drop l.error-index l.errors))
+    ≡ string_bytes l.fn.out ++ flat_map fault_line (map seen_error l.errors)

@@ -1,0 +1,20 @@
+-- What a contract sees of a task.
+use Rattle.std.specs.Prelude.{ℕ, List, [], map, chars, Option, Some, None, option_map}
+use denote.Ref.{Bor}
+use Rattle.piece_listing.specs.declared.given.Given.{Given as DeclaredGiven}
+use Rattle.piece_listing.specs.declared.task.Task.{Task as DeclaredTask}
+use Rattle.rustc_parse_format.specs.Characters.{Text}
+use Rattle.rustc_parse_format.specs.Seen.{seen_mode}
+use Rattle.piece_listing.specs.Given.{Given, parts}
+use Rattle.piece_listing.specs.Program.{Task}
+
+-- the names of a list, by what is behind its first comma
+abbrev pub seen_names : Option (Bor (List ℕ)) → List Text
+seen_names None = []
+seen_names (Some w) = map chars (parts w.now)
+
+abbrev pub seen_given : DeclaredGiven → Given
+seen_given g = record { positional = g.positional; names = seen_names g.names }
+
+abbrev pub seen_task : DeclaredTask → Task
+seen_task t = record { mode = seen_mode t.mode; is_literal = t.is_literal; given = option_map seen_given t.given }

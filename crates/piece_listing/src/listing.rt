@@ -1,0 +1,358 @@
+ghost use Rattle.std.specs.Prelude.{◌≡◌, ◌++◌, [], IfOk, IsOk, OnOk, map, chars, codes, decimal, encode_utf8_all, flat_map, option_map, string_bytes};
+ghost use Rattle.rustc_parse_format.specs.Written.{written};
+ghost use Rattle.rustc_parse_format.specs.Seen.{pair, seen, seen_alignment, seen_count, seen_debug_hex, seen_error, seen_position, seen_sign, seen_spec};
+ghost use Rattle.placeholder_check.specs.Seen.{seen_report};
+ghost use Rattle.piece_listing.specs.Program.{no_entries};
+ghost use Rattle.piece_listing.specs.Listing.{align_entry, at_entry, count_entry, count_text, fault_line, fill_entry, flag_entry, flag_entries, hex_entry};
+ghost use Rattle.piece_listing.specs.Listing.{listing, piece_line, position_text, precision_entry, quoted, sign_entry, span_text, type_entry, value_entries, width_entry};
+
+use super::report_lines::put_report;
+use placeholder_check::Report;
+use rustc_parse_format::{
+    Alignment, Argument, Count, DebugHex, FormatSpec, ParseError, Piece, Position, Sign,
+    put_written,
+};
+use std::alloc::{AllocError, Global};
+use std::ops::Range;
+
+/// Adds each character of a text as it is written.
+fn put_characters(out: &mut String, text: &str) -> Result<(), AllocError>
+    ensures { OnOk result (string_bytes out.new ≡ string_bytes out.old ++
+        flat_map written (chars text.now)) }
+{
+    for c in text.chars() {
+        put_written(out, c)?;
+    }
+    Ok(())
+}
+
+/// Adds a text between quotes.
+pub fn put_quoted(out: &mut String, text: &str) -> Result<(), AllocError>
+    ensures { OnOk result (string_bytes out.new ≡ string_bytes out.old ++ quoted (chars text.now)) }
+{
+    out.push_str("\"")?;
+    put_characters(out, text)?;
+    out.push_str("\"")?;
+    Ok(())
+}
+
+/// Adds the line of a text.
+fn put_literal(out: &mut String, text: &str) -> Result<(), AllocError>
+    ensures { OnOk result (string_bytes out.new ≡ string_bytes out.old ++
+        (codes "lit " ++ (quoted (chars text.now) ++ codes "\n"))) }
+{
+    out.push_str("lit ")?;
+    put_quoted(out, text)?;
+    out.push_str("\n")?;
+    Ok(())
+}
+
+/// Adds a text, as it stands, after another.
+fn put_name(out: &mut String, label: &str, name: &str) -> Result<(), AllocError>
+    ensures { OnOk result (string_bytes out.new ≡ string_bytes out.old ++
+        (label.now ++ encode_utf8_all (chars name.now))) }
+{
+    out.push_str(label)?;
+    out.push_str(name)?;
+    Ok(())
+}
+
+/// Adds a number after a label.
+fn put_number(out: &mut String, label: &str, number: usize) -> Result<(), AllocError>
+    ensures { OnOk result (string_bytes out.new ≡ string_bytes out.old ++ (label.now ++ decimal number)) }
+{
+    write!(out, "{label}{number}")?;
+    Ok(())
+}
+
+/// Adds a span after a mark.
+fn put_span(out: &mut String, mark: &str, span: &Range<usize>) -> Result<(), AllocError>
+    ensures { OnOk result (string_bytes out.new ≡ string_bytes out.old ++
+        (mark.now ++ span_text (pair span.now))) }
+{
+    write!(out, "{mark}{}..{}", span.start, span.end)?;
+    Ok(())
+}
+
+/// Adds the span of the part in front, if it has one.
+fn put_at(out: &mut String, span: &Option<Range<usize>>) -> Result<(), AllocError>
+    ensures { OnOk result (string_bytes out.new ≡ string_bytes out.old ++
+        at_entry (option_map pair span.now)) }
+{
+    if let Some(span) = span {
+        put_span(out, "@", span)?;
+    }
+    Ok(())
+}
+
+/// Adds a position.
+fn put_position(out: &mut String, position: &Position<'_>) -> Result<(), AllocError>
+    ensures { OnOk result (string_bytes out.new ≡ string_bytes out.old ++
+        position_text (seen_position position.now)) }
+{
+    match position {
+        Position::ArgumentImplicitlyIs(n) => put_number(out, "implicit ", *n)?,
+        Position::ArgumentIs(n) => put_number(out, "index ", *n)?,
+        Position::ArgumentNamed(name) => put_name(out, "name ", name)?,
+    }
+    Ok(())
+}
+
+/// Adds a fill.
+fn put_fill(
+    out: &mut String,
+    fill: Option<char>,
+    span: &Option<Range<usize>>,
+) -> Result<(), AllocError>
+    ensures { OnOk result (string_bytes out.new ≡ string_bytes out.old ++
+        fill_entry fill (option_map pair span.now)) }
+{
+    if let Some(c) = fill {
+        out.push_str(" fill=\"")?;
+        put_written(out, c)?;
+        out.push_str("\"")?;
+        put_at(out, span)?;
+    }
+    Ok(())
+}
+
+/// Adds an alignment.
+fn put_alignment(out: &mut String, align: Alignment) -> Result<(), AllocError>
+    ensures { OnOk result (string_bytes out.new ≡ string_bytes out.old ++
+        align_entry (seen_alignment align)) }
+{
+    let text = match align {
+        Alignment::AlignLeft => " align=left",
+        Alignment::AlignRight => " align=right",
+        Alignment::AlignCenter => " align=center",
+        Alignment::AlignUnknown => "",
+    };
+    out.push_str(text)?;
+    Ok(())
+}
+
+/// Adds a sign.
+fn put_sign(out: &mut String, sign: Option<Sign>) -> Result<(), AllocError>
+    ensures { OnOk result (string_bytes out.new ≡ string_bytes out.old ++
+        sign_entry (option_map seen_sign sign)) }
+{
+    let text = match sign {
+        None => "",
+        Some(Sign::Plus) => " sign=+",
+        Some(Sign::Minus) => " sign=-",
+    };
+    out.push_str(text)?;
+    Ok(())
+}
+
+/// Adds the name of a flag that is set.
+fn put_flag(out: &mut String, name: &str, flag: bool) -> Result<(), AllocError>
+    ensures { OnOk result (string_bytes out.new ≡ string_bytes out.old ++ flag_entry flag name.now) }
+{
+    if flag {
+        out.push_str(name)?;
+    }
+    Ok(())
+}
+
+/// Adds fill, alignment and flags.
+#[tactic(auto, unfolding(crate::specs::Listing::flag_entries))]
+fn put_flags(out: &mut String, spec: &FormatSpec<'_>) -> Result<(), AllocError>
+    ensures { OnOk result (string_bytes out.new ≡ string_bytes out.old ++
+        flag_entries (seen_spec spec.now)) }
+{
+    put_fill(out, spec.fill, &spec.fill_span)?;
+    put_alignment(out, spec.align)?;
+    put_sign(out, spec.sign)?;
+    put_flag(out, " alt", spec.alternate)?;
+    put_flag(out, " zero", spec.zero_pad)?;
+    Ok(())
+}
+
+/// Adds a count.
+fn put_count(out: &mut String, count: &Count<'_>) -> Result<(), AllocError>
+    ensures { OnOk result (string_bytes out.new ≡ string_bytes out.old ++
+        count_text (seen_count count.now)) }
+{
+    match count {
+        Count::CountIs(n) => put_number(out, "is:", usize::from(*n))?,
+        Count::CountIsName(name, span) => {
+            put_name(out, "name:", name)?;
+            put_span(out, "@", span)?;
+        }
+        Count::CountIsParam(n) => put_number(out, "param:", *n)?,
+        Count::CountIsStar(n) => put_number(out, "star:", *n)?,
+        Count::CountImplied => out.push_str("implied")?,
+    }
+    Ok(())
+}
+
+/// Adds a part that is a count: its name, the count and its span.
+fn put_named_count(
+    out: &mut String,
+    name: &str,
+    count: &Count<'_>,
+    span: &Option<Range<usize>>,
+) -> Result<(), AllocError>
+    ensures { OnOk result (string_bytes out.new ≡ string_bytes out.old ++
+        count_entry name.now (seen_count count.now) (option_map pair span.now)) }
+{
+    out.push_str(name)?;
+    put_count(out, count)?;
+    put_at(out, span)?;
+    Ok(())
+}
+
+/// Adds a width, unless it is implied.
+fn put_width(
+    out: &mut String,
+    width: &Count<'_>,
+    span: &Option<Range<usize>>,
+) -> Result<(), AllocError>
+    ensures { OnOk result (string_bytes out.new ≡ string_bytes out.old ++
+        width_entry (seen_count width.now) (option_map pair span.now)) }
+{
+    if matches!(width, Count::CountImplied) {
+        return Ok(());
+    }
+    put_named_count(out, " width=", width, span)?;
+    Ok(())
+}
+
+/// Adds a precision that was written.
+fn put_precision(
+    out: &mut String,
+    precision: &Count<'_>,
+    span: &Option<Range<usize>>,
+) -> Result<(), AllocError>
+    ensures { OnOk result (string_bytes out.new ≡ string_bytes out.old ++
+        precision_entry (option_map pair span.now) (seen_count precision.now)) }
+{
+    if let Some(_) = span {
+        put_named_count(out, " precision=", precision, span)?;
+    }
+    Ok(())
+}
+
+/// Adds the case of hexadecimal digits.
+fn put_hex(out: &mut String, hex: Option<DebugHex>) -> Result<(), AllocError>
+    ensures { OnOk result (string_bytes out.new ≡ string_bytes out.old ++
+        hex_entry (option_map seen_debug_hex hex)) }
+{
+    let text = match hex {
+        None => "",
+        Some(DebugHex::Lower) => " hex=lower",
+        Some(DebugHex::Upper) => " hex=upper",
+    };
+    out.push_str(text)?;
+    Ok(())
+}
+
+/// Adds a type that was written.
+fn put_type(out: &mut String, ty: &str, span: &Option<Range<usize>>) -> Result<(), AllocError>
+    ensures { OnOk result (string_bytes out.new ≡ string_bytes out.old ++
+        type_entry (option_map pair span.now) (chars ty.now)) }
+{
+    if span.is_none() && ty.is_empty() {
+        return Ok(());
+    }
+    out.push_str(" ty=")?;
+    put_quoted(out, ty)?;
+    put_at(out, span)?;
+    Ok(())
+}
+
+/// Adds counts and type.
+#[tactic(auto, unfolding(crate::specs::Listing::value_entries))]
+fn put_values(out: &mut String, spec: &FormatSpec<'_>) -> Result<(), AllocError>
+    ensures { OnOk result (string_bytes out.new ≡ string_bytes out.old ++
+        value_entries (seen_spec spec.now)) }
+{
+    put_width(out, &spec.width, &spec.width_span)?;
+    put_precision(out, &spec.precision, &spec.precision_span)?;
+    put_hex(out, spec.debug_hex)?;
+    put_type(out, spec.ty, &spec.ty_span)?;
+    Ok(())
+}
+
+/// Adds the line of a placeholder.
+fn put_argument(out: &mut String, argument: &Argument<'_>) -> Result<(), AllocError>
+    ensures { OnOk result (string_bytes out.new ≡ string_bytes out.old ++
+        (codes "arg " ++ (position_text (seen_position argument.now.position)
+        ++ (codes " " ++ (span_text (pair argument.now.position_span)
+        ++ (flag_entries (seen_spec argument.now.format)
+        ++ (value_entries (seen_spec argument.now.format) ++ codes "\n"))))))) }
+{
+    out.push_str("arg ")?;
+    put_position(out, &argument.position)?;
+    put_span(out, " ", &argument.position_span)?;
+    put_flags(out, &argument.format)?;
+    put_values(out, &argument.format)?;
+    out.push_str("\n")?;
+    Ok(())
+}
+
+/// Adds the line of a piece.
+fn put_piece(out: &mut String, piece: &Piece<'_>) -> Result<(), AllocError>
+    ensures { OnOk result (string_bytes out.new ≡ string_bytes out.old ++ piece_line (seen piece.now)) }
+{
+    match piece {
+        Piece::Lit(text) => put_literal(out, text)?,
+        Piece::NextArgument(argument) => put_argument(out, argument)?,
+    }
+    Ok(())
+}
+
+/// Adds a line for each piece.
+fn put_pieces(out: &mut String, pieces: &[Piece<'_>]) -> Result<(), AllocError>
+    ensures lines { OnOk result (string_bytes out.new ≡ string_bytes out.old ++
+        flat_map piece_line (map seen pieces.now)) }
+    ensures empty { pieces.now ≡ [] → IsOk result }
+{
+    for piece in pieces {
+        put_piece(out, piece)?;
+    }
+    Ok(())
+}
+
+/// Adds the line of an error.
+fn put_fault(out: &mut String, error: &ParseError) -> Result<(), AllocError>
+    ensures { OnOk result (string_bytes out.new ≡ string_bytes out.old ++
+        fault_line (seen_error error.now)) }
+{
+    put_span(out, "fault ", &error.span)?;
+    out.push_str(" ")?;
+    out.push_str(error.description.as_str())?;
+    out.push_str("\n")?;
+    Ok(())
+}
+
+/// Adds a line for each error, in their order.
+fn put_faults(out: &mut String, errors: &[ParseError]) -> Result<(), AllocError>
+    ensures lines { OnOk result (string_bytes out.new ≡ string_bytes out.old ++
+        flat_map fault_line (map seen_error errors.now)) }
+    ensures empty { errors.now ≡ [] → IsOk result }
+{
+    for error in errors {
+        put_fault(out, error)?;
+    }
+    Ok(())
+}
+
+/// The listing of pieces, errors and a report: a line for each piece, each error and each entry.
+pub fn listing(
+    alloc: Global,
+    pieces: &[Piece<'_>],
+    errors: &[ParseError],
+    report: &Report<'_>,
+) -> Result<String, AllocError>
+    ensures lines { IfOk result (λ text. string_bytes text
+        ≡ listing (map seen pieces.now) (map seen_error errors.now) (seen_report report.now)) }
+    ensures empty { pieces.now ≡ [] → errors.now ≡ [] → seen_report report.now ≡ no_entries → IsOk result }
+{
+    let mut out = String::new(alloc);
+    put_pieces(&mut out, pieces)?;
+    put_faults(&mut out, errors)?;
+    put_report(&mut out, report)?;
+    Ok(out)
+}

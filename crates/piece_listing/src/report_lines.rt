@@ -1,0 +1,97 @@
+//! The report on pieces, and its lines.
+
+ghost use Rattle.std.specs.Prelude.{◌≡◌, ◌++◌, [], None, IfOk, IsOk, OnOk, chars, codes, flat_map, map, option_map, string_bytes};
+ghost use Rattle.rustc_parse_format.specs.Seen.{seen};
+ghost use Rattle.placeholder_check.specs.Seen.{seen_report, texts};
+ghost use Rattle.piece_listing.specs.Listing.{index_line, name_line, report_lines};
+ghost use Rattle.piece_listing.specs.Program.{IsReportFor, has_entries, no_entries};
+ghost use Rattle.piece_listing.specs.SeenTask.{seen_given};
+
+use super::given::{Given, names};
+use super::listing::put_quoted;
+use placeholder_check::{Report, check};
+use rustc_parse_format::Piece;
+use std::alloc::{AllocError, Global};
+
+/// The report on pieces for which these arguments are given, or one without entries.
+pub fn report_for<'a>(
+    alloc: Global,
+    pieces: &[Piece<'a>],
+    given: Option<Given<'a>>,
+) -> Result<Report<'a>, AllocError>
+    ensures report { IfOk result (λ r. IsReportFor (option_map seen_given given.entry) (map seen pieces.now) (seen_report r)) }
+    ensures none { given.entry ≡ None → IsOk result }
+    ensures no_entries { given.entry ≡ None → IfOk result (λ r. seen_report r ≡ no_entries) }
+{
+    match given {
+        Some(given) => {
+            let names = names(alloc, given.names)?;
+            check(alloc, pieces, given.positional, names.as_slice())
+        }
+        None => Ok(Report {
+            missing_index: Vec::new(alloc),
+            missing_name: Vec::new(alloc),
+            unused_index: Vec::new(alloc),
+            unused_name: Vec::new(alloc),
+        }),
+    }
+}
+
+/// Whether a report has an entry.
+pub fn has_entries(report: &Report<'_>) -> bool
+    ensures { result ≡ has_entries (seen_report report.now) }
+{
+    report.missing_index.len() > 0
+        || report.missing_name.len() > 0
+        || report.unused_index.len() > 0
+        || report.unused_name.len() > 0
+}
+
+/// Adds a line for each number, with this in front.
+fn put_numbers(out: &mut String, label: &str, numbers: &[usize]) -> Result<(), AllocError>
+    ensures lines { OnOk result (string_bytes out.new ≡ string_bytes out.old ++
+        flat_map (index_line label.now) numbers.now) }
+    ensures empty { numbers.now ≡ [] → IsOk result }
+{
+    for n in numbers {
+        write!(out, "{label}{n}\n")?;
+    }
+    Ok(())
+}
+
+/// Adds the line of a name, with this in front.
+fn put_name(out: &mut String, label: &str, name: &str) -> Result<(), AllocError>
+    ensures { OnOk result (string_bytes out.new ≡ string_bytes out.old ++
+        name_line label.now (chars name.now)) }
+{
+    out.push_str(label)?;
+    put_quoted(out, name)?;
+    out.push_str("\n")?;
+    Ok(())
+}
+
+/// Adds a line for each name, with this in front.
+fn put_names(out: &mut String, label: &str, names: &[&str]) -> Result<(), AllocError>
+    ensures lines { OnOk result (string_bytes out.new ≡ string_bytes out.old ++
+        flat_map (name_line label.now) (texts names.now)) }
+    ensures empty { names.now ≡ [] → IsOk result }
+{
+    for name in names {
+        put_name(out, label, name)?;
+    }
+    Ok(())
+}
+
+/// Adds the lines of a report.
+#[tactic(auto, unfolding(crate::specs::Listing::report_lines))]
+pub fn put_report(out: &mut String, report: &Report<'_>) -> Result<(), AllocError>
+    ensures lines { OnOk result (string_bytes out.new ≡ string_bytes out.old ++
+        report_lines (seen_report report.now)) }
+    ensures empty { seen_report report.now ≡ no_entries → IsOk result }
+{
+    put_numbers(out, "missing index ", report.missing_index.as_slice())?;
+    put_names(out, "missing name ", report.missing_name.as_slice())?;
+    put_numbers(out, "unused index ", report.unused_index.as_slice())?;
+    put_names(out, "unused name ", report.unused_name.as_slice())?;
+    Ok(())
+}

@@ -1,0 +1,89 @@
+//! What the words of the program ask for.
+
+ghost use Rattle.std.specs.Prelude.{◌≡◌, map, option_map, string_bytes};
+ghost use Rattle.rustc_parse_format.specs.Seen.{seen_mode};
+ghost use Rattle.piece_listing.specs.Given.{given_by};
+ghost use Rattle.piece_listing.specs.Program.{asked, mode_named, task, task_with};
+ghost use Rattle.piece_listing.specs.SeenTask.{seen_given, seen_task};
+
+use super::given::{Given, given_by};
+use rustc_parse_format::ParseMode;
+
+/// What the words ask for.
+#[derive(Copy, Clone)]
+pub struct Task<'a> {
+    pub mode: ParseMode,
+    /// The input is a string literal.
+    pub is_literal: bool,
+    /// The arguments, where the pieces are to be compared with some.
+    pub given: Option<Given<'a>>,
+}
+
+/// The mode that a word names.
+#[tactic(auto, unfolding(crate::specs::Program::mode_named))]
+fn mode_named(word: &str) -> Option<ParseMode>
+    ensures { option_map seen_mode result ≡ mode_named word.now }
+{
+    if word == "format" {
+        Some(ParseMode::Format)
+    } else if word == "asm" {
+        Some(ParseMode::InlineAsm)
+    } else if word == "diagnostic" {
+        Some(ParseMode::Diagnostic)
+    } else if word == "diagnostic-named" {
+        Some(ParseMode::DiagnosticNamed)
+    } else {
+        None
+    }
+}
+
+/// The task with the mode that a word names.
+fn task_in<'a>(word: &str, is_literal: bool, given: Option<Given<'a>>) -> Option<Task<'a>>
+    ensures { option_map seen_task result ≡ task is_literal (option_map seen_given given.entry) (mode_named word.now) }
+{
+    let mode = mode_named(word)?;
+    Some(Task {
+        mode,
+        is_literal,
+        given,
+    })
+}
+
+/// The same with a list of arguments, where the word for it is one.
+fn task_with<'a>(word: &str, is_literal: bool, list: &'a str) -> Option<Task<'a>>
+    ensures { option_map seen_task result ≡ task_with is_literal (given_by list.now) (mode_named word.now) }
+{
+    let given = given_by(list)?;
+    task_in(word, is_literal, Some(given))
+}
+
+/// What the words ask for.
+pub fn asked(words: &[String]) -> Option<Task<'_>>
+    ensures { option_map seen_task result ≡ asked (map string_bytes words.now) }
+{
+    match words {
+        [word] => task_in(word.as_str(), false, None),
+        [word, first] => {
+            if first.as_str() == "--literal" {
+                task_in(word.as_str(), true, None)
+            } else {
+                None
+            }
+        }
+        [word, first, list] => {
+            if first.as_str() == "--args" {
+                task_with(word.as_str(), false, list.as_str())
+            } else {
+                None
+            }
+        }
+        [word, first, second, list] => {
+            if first.as_str() == "--literal" && second.as_str() == "--args" {
+                task_with(word.as_str(), true, list.as_str())
+            } else {
+                None
+            }
+        }
+        _ => None,
+    }
+}
