@@ -3,7 +3,9 @@
  * One call reads a whole input into records of the caller's. Nothing is owned and nothing is kept: each record is plain
  * numbers, so any memory of its size may be passed, and a copy of it stays right as long as the input and the texts stand.
  * A place in the input is one in its bytes. A place in the source is one in the snippet, if it is the source literal, and
- * otherwise in a literal that has the input behind its opening quote as it stands. */
+ * otherwise in a literal that has the input behind its opening quote as it stands. But there the end of the text is the
+ * length of the snippet, or without one that of the input (less 1 where a newline was appended), and no quote is counted; so
+ * a range up to the end may be empty or end before it starts. */
 #ifndef DEPHUNGO_H
 #define DEPHUNGO_H
 #include <stddef.h>
@@ -135,7 +137,7 @@ typedef struct dephungo_step {
     size_t number;                   /* of a position IMPLICIT or INDEX */
     dephungo_range text;             /* the TEXT, or the name of a position NAMED, in the input */
     dephungo_range position_span;    /* of an ARGUMENT: where its position stands in the source */
-    size_t spec;                     /* of an ARGUMENT: 0 if it asks for nothing, or n for record n of the buffer, from 1 */
+    size_t spec;                     /* of an ARGUMENT: 0 for the default one, which has no place, or n for record n of the buffer, from 1 */
     dephungo_maybe_range place;      /* where the placeholder that it closed stands in the source; only in a source literal */
     size_t read;                     /* up to which byte of the input was read by then */
     size_t next;                     /* the number of the next implicit argument after it */

@@ -182,7 +182,7 @@ pub struct Step {
     pub text: Extent,
     /// of an ARGUMENT: where its position stands in the source
     pub position_span: Extent,
-    /// of an ARGUMENT: 0 if it asks for nothing, or n for record n of the buffer, from 1
+    /// of an ARGUMENT: 0 for the default one, which has no place, or n for record n of the buffer, from 1
     pub spec: usize,
     /// where the placeholder that it closed stands in the source; only in a source literal
     pub place: MaybeExtent,

@@ -136,13 +136,6 @@ fn put_taken(out: &mut String, parser: &mut Parser<'_>) -> Result<(), AllocError
     put_errors(out, parser.take_errors().as_slice())
 }
 
-/// Adds how many errors the next call puts in front, and how many there are then.
-fn put_fronts(out: &mut String, parser: &mut Parser<'_>) -> Result<(), AllocError> {
-    let (_, fronts) = parser.next_into(&mut blank_argument())?;
-    let errors = parser.errors().len();
-    write!(out, "{fronts} of {errors}")
-}
-
 /// An argument before anything is read into it.
 fn blank_argument<'a>() -> Argument<'a> {
     Argument {
@@ -150,6 +143,13 @@ fn blank_argument<'a>() -> Argument<'a> {
         position_span: 0..0,
         format: FormatSpec::default(),
     }
+}
+
+/// Adds how many errors the next call puts in front, and how many there are then.
+fn put_fronts(out: &mut String, parser: &mut Parser<'_>) -> Result<(), AllocError> {
+    let (_, fronts) = parser.next_into(&mut blank_argument())?;
+    let errors = parser.errors().len();
+    write!(out, "{fronts} of {errors}")
 }
 
 /// Adds the piece that the next call reads into an argument, and how many errors it puts in front.

@@ -6,8 +6,8 @@
 //!
 //! `rows` is the table of what is read, and `walks`, `taken`, `items` and `whole` are the ways to read it. `spare` has the calls
 //! that no want of memory stops, which are made before each other call and behind each refusal. `contents` and `copies`
-//! are about the calls that read nothing. Nothing here takes memory of its own but snippets: `sheet` keeps text without
-//! it, and `listing` writes on it.
+//! are about the calls that read nothing. Nothing here takes memory of its own but snippets, and the one
+//! request after calls that make none: `sheet` keeps text without it, and `listing` writes on it.
 #![tactic(auto)]
 
 #[cfg(test)]
