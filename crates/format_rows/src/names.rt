@@ -1,10 +1,17 @@
 //! Which arguments a format string asks for by name.
 
-use rustc_parse_format::{ArgumentNamed, ParseMode, Piece, read_all};
+use rustc_parse_format::{ArgumentNamed, ParseError, ParseMode, Piece, read_all};
 use std::alloc::{AllocError, Global};
 
-/// The names that the pieces ask for, in order.
-fn names_of<'a>(alloc: Global, pieces: &[Piece<'a>]) -> Result<Vec<&'a str>, AllocError> {
+/// The names that the pieces of a text ask for, in order, or None for one with errors.
+fn names_of<'a>(
+    alloc: Global,
+    pieces: &[Piece<'a>],
+    errors: &[ParseError],
+) -> Result<Option<Vec<&'a str>>, AllocError> {
+    if !errors.is_empty() {
+        return Ok(None);
+    }
     let mut names = Vec::new(alloc);
     for piece in pieces {
         if let Piece::NextArgument(argument) = piece {
@@ -13,7 +20,7 @@ fn names_of<'a>(alloc: Global, pieces: &[Piece<'a>]) -> Result<Vec<&'a str>, All
             }
         }
     }
-    Ok(names)
+    Ok(Some(names))
 }
 
 /// The names in the placeholders of a format string, in order, or None for a text with a fault or one that is too long.
@@ -22,8 +29,5 @@ pub fn names<'a>(alloc: Global, text: &'a str) -> Result<Option<Vec<&'a str>>, A
         return Ok(None);
     }
     let (pieces, parser) = read_all(alloc, text, None, None, false, ParseMode::Format)?;
-    if !parser.errors().is_empty() {
-        return Ok(None);
-    }
-    Ok(Some(names_of(alloc, &pieces)?))
+    names_of(alloc, &pieces, parser.errors())
 }

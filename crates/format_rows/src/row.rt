@@ -110,14 +110,17 @@ pub fn put_source_by_parser(
     alloc: Global,
     row: Row<'_>,
     out: &mut String,
-) -> Result<(), Fail> {
+) -> Result<(), AllocError> {
     let is_source = start(rt, alloc, row.world, row.input)?.is_source_literal();
-    put_source(out, is_source)?;
-    Ok(())
+    put_source(out, is_source)
 }
 
 /// Adds what the test of literals says of it. The row has to have a snippet.
-pub fn put_source_by_literal(rt: &impl Abort, row: Row<'_>, out: &mut String) -> Result<(), Fail> {
+pub fn put_source_by_literal(
+    rt: &impl Abort,
+    row: Row<'_>,
+    out: &mut String,
+) -> Result<(), AllocError> {
     let Row {
         name,
         world,
@@ -128,8 +131,7 @@ pub fn put_source_by_literal(rt: &impl Abort, row: Row<'_>, out: &mut String) ->
         panic!(rt; "row {name} has no snippet");
     };
     let is_source = is_source_literal(input, world.style, snippet, world.appended_newline);
-    put_source(out, is_source)?;
-    Ok(())
+    put_source(out, is_source)
 }
 
 /// Adds what a call gave. Returns whether it is a piece.
@@ -212,10 +214,9 @@ pub fn put_by_next(
     row: Row<'_>,
     spans: bool,
     out: &mut String,
-) -> Result<(), Fail> {
+) -> Result<(), AllocError> {
     let mut parser = start(rt, alloc, row.world, row.input)?;
-    put_to_end(rt, row, spans, &mut parser, out)?;
-    Ok(())
+    put_to_end(rt, row, spans, &mut parser, out)
 }
 
 /// How many calls of a listing give no piece.
@@ -286,8 +287,7 @@ pub fn put_by_read_all(
     row: Row<'_>,
     spans: bool,
     out: &mut String,
-) -> Result<(), Fail> {
+) -> Result<(), AllocError> {
     let (pieces, mut parser) = read(rt, alloc, row.world, row.input)?;
-    put_read(out, row, spans, pieces.as_slice(), &mut parser)?;
-    Ok(())
+    put_read(out, row, spans, pieces.as_slice(), &mut parser)
 }

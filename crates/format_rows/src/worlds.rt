@@ -40,7 +40,12 @@ fn wanting<'a>(row: Row<'a>, wanted: &'a str) -> Row<'a> {
 }
 
 /// Adds what a row's input gives without spans, by `next` and by `read_all`.
-fn put_both(rt: &impl Abort, alloc: Global, row: Row<'_>, out: &mut String) -> Result<(), Fail> {
+fn put_both(
+    rt: &impl Abort,
+    alloc: Global,
+    row: Row<'_>,
+    out: &mut String,
+) -> Result<(), AllocError> {
     put_by_next(rt, alloc, row, false, out)?;
     put_by_read_all(rt, alloc, row, false, out)
 }
