@@ -11,7 +11,10 @@ use flat_reading::records::{Answer, DONE, Extent, Fault, NO_MEMORY, Options, SHO
 use flat_reading::task::task_of;
 use std::alloc::Global;
 
-/// Reads an input, call by call, up to and with the call at its end.
+/// Reads an input, call by call, up to and with the call at its end, into records of the caller's. Answers one of the codes of
+/// `records`: `DONE`, and all is written; `SHORT`, and the answer tells how much room it takes; `NO_MEMORY`, and the answer is as
+/// it was. With each of these two nothing is said of the records. With any other code nothing is written. The input has at most
+/// 10^12 bytes, and a raw literal at most so many hashes.
 #[unsafe(no_mangle)]
 pub extern "C" fn dephungo_read(
     alloc: Global,

@@ -201,7 +201,11 @@ fn read_by<'a>(
     Ok(())
 }
 
-/// Reads an input to its end. An error leaves the answer as it was.
+/// Reads an input to its end, up to and with the call there, into records of the caller's.
+///
+/// The input has at most 10^12 bytes, and a raw literal at most so many hashes; what `task_of` gives has no more. Where all
+/// records fit, they tell of the whole. The answer counts them in any case, and so tells how much room they take: the texts in
+/// bytes. An error is refused memory, and leaves the answer as it was; of the records it says nothing.
 pub fn read(
     alloc: Global,
     asked: Task<'_>,

@@ -1,4 +1,5 @@
-//! The records that cross to C: plain numbers, so that any bytes are a record.
+//! The records that cross to C: plain numbers, so that any bytes are a record. A place in the input is one in its bytes, and one
+//! in the source is as the spans of `rustc_parse_format` are.
 
 /// From a byte up to another.
 #[repr(C)]

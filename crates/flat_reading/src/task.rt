@@ -16,11 +16,15 @@ use rustc_parse_format::ParseMode;
 /// How an input is to be read.
 #[derive(Clone, Copy)]
 pub struct Task<'a> {
+    /// What kind of text it is.
     pub mode: ParseMode,
+    /// The text.
     pub input: &'a str,
-    /// How many hashes a raw literal has.
+    /// How many hashes a raw literal has; None for an ordinary one.
     pub style: Option<usize>,
+    /// What stands in the source where the input should come from.
     pub snippet: Option<&'a str>,
+    /// The input ends in a newline that the source has not.
     pub appended_newline: bool,
     /// Whether the places of the peeks are wanted.
     pub peeks: bool,

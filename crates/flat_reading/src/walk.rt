@@ -38,20 +38,18 @@ const BLANK: Step = Step {
     peek_ahead: NO_EXTENT,
 };
 
-/// Puts where the next character and the one after it stand in the source, where that is asked for.
+/// Where the character after the next one stands in the source.
 #[inline(always)]
-fn put_peeks(parser: &Parser<'_>, peeks: bool, peek: &mut MaybeExtent, peek_ahead: &mut MaybeExtent)
-    ensures place { maybe_place peek.new ≡ looked_for peeks (place_of_first parser.now parser.now.rest) }
-    ensures ahead { maybe_place peek_ahead.new ≡ looked_for peeks (place_of_first parser.now (behind_first parser.now.rest)) }
+fn place_ahead(parser: &Parser<'_>) -> MaybeExtent
+    ensures { maybe_place result ≡ place_of_first parser.now (behind_first parser.now.rest) }
 {
-    *peek = NO_EXTENT;
-    *peek_ahead = NO_EXTENT;
-    if peeks {
-        look_ahead(parser, peek, peek_ahead);
+    match parser.peek_ahead() {
+        Some((place, _, _)) => there(&place),
+        None => NO_EXTENT,
     }
 }
 
-/// The same where it is asked for, over what says that there is none.
+/// Puts where the next character and the one after it stand in the source, over what says that there is none.
 #[inline(never)]
 pub fn look_ahead(parser: &Parser<'_>, peek: &mut MaybeExtent, peek_ahead: &mut MaybeExtent)
     requires { (maybe_place peek.old ≡ None) × (maybe_place peek_ahead.old ≡ None) }
@@ -64,14 +62,16 @@ pub fn look_ahead(parser: &Parser<'_>, peek: &mut MaybeExtent, peek_ahead: &mut 
     }
 }
 
-/// Where the character after the next one stands in the source.
+/// The same, where it is asked for.
 #[inline(always)]
-fn place_ahead(parser: &Parser<'_>) -> MaybeExtent
-    ensures { maybe_place result ≡ place_of_first parser.now (behind_first parser.now.rest) }
+fn put_peeks(parser: &Parser<'_>, peeks: bool, peek: &mut MaybeExtent, peek_ahead: &mut MaybeExtent)
+    ensures place { maybe_place peek.new ≡ looked_for peeks (place_of_first parser.now parser.now.rest) }
+    ensures ahead { maybe_place peek_ahead.new ≡ looked_for peeks (place_of_first parser.now (behind_first parser.now.rest)) }
 {
-    match parser.peek_ahead() {
-        Some((place, _, _)) => there(&place),
-        None => NO_EXTENT,
+    *peek = NO_EXTENT;
+    *peek_ahead = NO_EXTENT;
+    if peeks {
+        look_ahead(parser, peek, peek_ahead);
     }
 }
 

@@ -51,7 +51,7 @@ fn list_source(
     requires { hashes style ≤ limit }
     ensures lines { IfOk result (λ x. IsListed (seen_task task.entry)
         (record { text = chars text.now; style = style; snippet = seen_snippet snippet }) (string_bytes x.0, x.1)) }
-    // The last line of a source literal and a report take memory, and nothing else of an empty text does.
+    // Of an empty text nothing but the last line of a source literal and a report may take memory.
     ensures empty { text.now ≡ [] → (HasSource (chars text.now) style (seen_snippet snippet) false → ⊥) → task.entry.given ≡ None → IsOk result }
 {
     let (pieces, parser) = read_all(alloc, text, style, snippet, false, task.mode)?;

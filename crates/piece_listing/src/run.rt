@@ -65,7 +65,9 @@ fn write_whole<W: Write>(writer: &mut W, bytes: &[u8]) -> Result<(), RunFault>
 /// Lists the pieces and the faults of all that the reader holds, as the words ask, and, where they
 /// give arguments, the report on these. Answers whether there is a line that is of no piece.
 ///
-/// A read or a write that fails is not tried again.
+/// The words are those after the program's name, and are looked at before anything is read. The reader may hold 1,048,576 bytes.
+/// A read or a write that fails is not tried again. After a refusal nothing is written, but for one of a write, after which a
+/// part of the listing may be.
 pub fn run<R: Read, W: Write>(
     alloc: Global,
     reader: &mut R,

@@ -11,7 +11,7 @@ pub enum RunFault {
     Words,
     /// A read failed.
     Read,
-    /// The input is longer than the program takes.
+    /// The input is longer than the program takes, which is 1,048,576 bytes.
     TooLong,
     /// The input is not UTF-8.
     NotText,

@@ -24,8 +24,9 @@ pub struct Report<'a> {
     pub unused_name: Vec<&'a str>,
 }
 
-/// The report on pieces for which so many arguments are given by position and these by name. Out of memory, none is
-/// given.
+/// The report on pieces for which so many arguments are given by position, with the numbers from 0 on, and these by name. A
+/// position, a width and a precision use an argument, as `std::fmt` has it; but no number means one that is given by name. Out
+/// of memory, no report is given.
 pub fn check<'a>(
     alloc: Global,
     pieces: &[Piece<'a>],

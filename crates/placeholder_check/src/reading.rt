@@ -18,7 +18,7 @@ use rustc_parse_format::{ParseMode, Parser, Piece, read_all};
 use std::alloc::{AllocError, Global};
 
 /// The pieces of an input and the parser after them, as `read_all` gives them, and the report on the pieces, as
-/// [`check`] gives it. Out of memory, nothing is given.
+/// [`check`] gives it. The hashes, the bytes of the input and 2 together must fit `usize`. Out of memory, nothing is given.
 pub fn read_and_check<'a>(
     alloc: Global,
     input: &'a str,

@@ -12,7 +12,7 @@ ghost use Rattle.rustc_parse_format.specs.Seen.{seen, seen_alignment, seen_argum
 ghost use Rattle.rustc_parse_format.specs.Seen.{seen_debug_hex, seen_mode, seen_position, seen_sign, seen_spec};
 
 use crate::types::{
-    Alignment, Argument, Count, DebugHex, FormatSpec, ParseMode, Piece, Position, Sign,
+    Alignment, Argument, Count, DebugHex, FormatSpec, ParseMode, Piece, Position, Sign, Taken,
 };
 use std::alloc::AllocError;
 
@@ -180,6 +180,13 @@ pub fn clone_of_argument<'input>(
     ensures { IsOkAnd result (λ a. a ≡ argument.now) }
 {
     argument.clone()
+}
+
+/// A clone of a piece whose placeholder is elsewhere is made, and is its source.
+fn clone_of_taken<'input>(taken: &Taken<'input>) -> Result<Taken<'input>, AllocError>
+    ensures { IsOkAnd result (λ t. t ≡ taken.now) }
+{
+    taken.clone()
 }
 
 /// The texts of a placeholder are UTF-8.

@@ -44,7 +44,8 @@ fn read_characters(
 }
 
 /// The characters that the content of an ordinary string literal stands for, each with the bytes of the content that it
-/// comes from, or `None` if the text is no content.
+/// comes from, or `None` if the text is no content. The rule is the Rust Reference's, of string literals; a backslash in front of
+/// an LF, with all HT, LF, CR and space after that, stands for nothing. An error is refused memory.
 pub fn read_content(
     alloc: Global,
     content: &str,
@@ -251,7 +252,9 @@ pub(crate) fn source_end(
     }
 }
 
-/// Whether the snippet is the source literal of the input. A raw literal is named by the number of its hashes.
+/// Whether the snippet is the source literal of the input: a literal of this style, ordinary (None) or raw with so many hashes,
+/// that stands for the input, which with an appended newline ends in one that the literal has not. The rule is the Rust
+/// Reference's, but that a raw literal may hold any character. Takes no memory.
 pub fn is_source_literal(
     input: &str,
     style: Option<usize>,

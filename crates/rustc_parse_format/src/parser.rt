@@ -70,8 +70,9 @@ impl<'input> Parser<'input> {
     ghost use Rattle.rustc_parse_format.specs.World.{Place, hashes, piece_in, place_of, text_end};
 
     /// A parser at the start of an input, which stands in a literal of this style: None for an ordinary literal, or the
-    /// number of the hashes of a raw one. The snippet is the source that the input is said to come from. The hashes, the
-    /// bytes of the input and 2 together must fit `usize`. Takes no memory and always succeeds.
+    /// number of the hashes of a raw one. The snippet is the source that the input is said to come from; one that is not its
+    /// source literal changes nothing but where the text ends. An appended newline is one at the end of the input that the
+    /// source has not. The hashes, the bytes of the input and 2 together must fit `usize`. Takes no memory and always succeeds.
     #[inline(always)]
     pub fn new(
         alloc: Global,
@@ -110,7 +111,7 @@ impl<'input> Parser<'input> {
     }
 
     /// A count of the steps from here on, which contracts see and no code: it is nothing when the program runs. A step is a
-    /// move of the parser over one character of the input.
+    /// move of the parser over one character of the input. The blank is a fresh one of three parts, for `L`.
     pub fn count<L: Ledger>(&self, blank: Blank) -> StepCount<'input, L>
         requires name { blank.name ≡ L.name }
         requires parts { blank.parts ≡ L.parts }
@@ -144,7 +145,8 @@ impl<'input> Parser<'input> {
         result
     }
 
-    /// The next piece, as by [`Parser::next`], with its steps counted. An error leaves the parser and the count as they were.
+    /// The next piece, as by [`Parser::next`], with its steps counted. The count must have gone through all calls of this parser
+    /// since it was begun. An error leaves the parser and the count as they were.
     pub fn next_counted<L: Ledger>(
         &mut self,
         count: &mut StepCount<'input, L>,
@@ -199,7 +201,8 @@ impl<'input> Parser<'input> {
     }
 
     /// The next piece, or None at the end and over a closing brace that closes nothing, after which a later call goes
-    /// on: a parser is not fused. An error leaves the parser as it was.
+    /// on: a parser is not fused. A fault of the input is no error of the call: it is added to [`Parser::errors`]. An error is
+    /// refused memory, and leaves the parser as it was.
     pub fn next(&mut self) -> Result<Option<Piece<'input>>, AllocError>
         // The piece and the new state are the definition's call, put through the parser's world.
         ensures piece { IfOk result (λ p. option_map seen p ≡ option_map (piece_in self.old.world) (next_call self.old).piece) }
@@ -325,14 +328,16 @@ impl<'input> Parser<'input> {
         self.reader.cursor.position()
     }
 
-    /// The errors of all calls so far, in their order.
+    /// The errors of all calls so far. A raw identifier, a flag after the type `?`, and a mistake that is known where a closing
+    /// brace is missing, stand in front of all earlier ones; the others come after them.
     pub fn errors(&self) -> &[ParseError]
         ensures { map seen_error result.now ≡ self.now.errors }
     {
         self.lists.errors.as_slice()
     }
 
-    /// In a source literal the places of the placeholders that a brace closed, from brace to brace, in bytes of the snippet.
+    /// In a source literal the places of the placeholders that a brace closed, from brace to brace, in bytes of the snippet. A
+    /// brace that is taken after a mistake, as in `{a.b}`, closes none. Without a source literal there are none.
     pub fn arg_places(&self) -> &[Range<usize>]
         ensures { map pair result.now ≡ self.now.arg_places }
     {
@@ -340,7 +345,8 @@ impl<'input> Parser<'input> {
     }
 
     /// In a source literal the lines of what was read as text, each without the white space at its very start and without its
-    /// newline, in bytes of the snippet; the last one comes with a call at the end.
+    /// newline, in bytes of the snippet; the last one comes with a call at the end. Where an appended newline was read as text,
+    /// that one ends before it starts. Without a source literal there are none.
     pub fn line_spans(&self) -> &[Range<usize>]
         ensures { map pair result.now ≡ self.now.line_spans }
     {

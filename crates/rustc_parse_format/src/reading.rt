@@ -60,7 +60,8 @@ fn read_uncounted<'input, L: Ledger>(
 }
 
 /// The pieces of an input, up to the first call that gives none, and the parser after them. The arguments are those of
-/// [`Parser::new`]. Out of memory, neither is given.
+/// [`Parser::new`], and so is what they owe. That call may be one over a closing brace that closes nothing: then the rest is not
+/// read, and an error of the parser says so. Where it has none, all was read. Out of memory, neither is given.
 pub fn read_all<'input>(
     alloc: Global,
     input: &'input str,
@@ -126,7 +127,7 @@ pub fn read_all<'input>(
 
 /// Calls a new parser some number of times. A call may be refused or find the end, and others follow. The steps of all
 /// calls that were not refused are then at most the position and the greatest position at which it stood, and so at most
-/// two for each character of the input.
+/// two for each character of the input. The count must have been begun at the start of the input.
 #[tactic(auto, using(crate::proofs::Steps::part_le))]
 pub fn steps_are_few<'input, L: Ledger>(
     parser: &mut Parser<'input>,

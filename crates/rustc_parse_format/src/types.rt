@@ -6,14 +6,15 @@ use crate::laws::{clone_of_argument, default_of_spec, specs_are_equal};
 use std::alloc::{AllocError, Global};
 use std::ops::Range;
 
-/// What kind of text is parsed.
+/// What kind of text is parsed. In each, `{{` and `}}` are braces of the text, and a placeholder may have a position, and after
+/// a colon what the mode says.
 #[derive(Copy, Clone, Debug, Eq, PartialEq)]
 pub enum ParseMode {
-    /// A format string, as `format_args!` takes it.
+    /// A format string, as `format_args!` takes it: a specification, by the grammar in the documentation of `std::fmt`.
     Format,
-    /// An inline assembly template, as `asm!` takes it.
+    /// An inline assembly template, as `asm!` takes it: a modifier, which is one word or nothing.
     InlineAsm,
-    /// The text of a diagnostic attribute.
+    /// The text of a diagnostic attribute: any text without braces.
     Diagnostic,
     /// The same, where each argument has to be a name and nothing else: `{name}`, or `{name:}`.
     DiagnosticNamed,
@@ -37,7 +38,7 @@ pub enum Taken<'input> {
     NextArgument,
 }
 
-/// What a placeholder asks for. Spans are ranges of bytes.
+/// What a placeholder asks for. Spans are places in the source, in bytes.
 #[derive(Clone, Debug, PartialEq, Drop)]
 pub struct Argument<'input> {
     /// Which argument is meant.
@@ -48,7 +49,7 @@ pub struct Argument<'input> {
     pub format: FormatSpec<'input>,
 }
 
-/// A specification. By default each part is absent.
+/// A specification. By default each part is absent. Spans are places in the source, in bytes, and None where the part is absent.
 #[derive(Clone, Debug, PartialEq, Default, Drop)]
 pub struct FormatSpec<'input> {
     /// The character that fills the width.
@@ -65,17 +66,18 @@ pub struct FormatSpec<'input> {
     pub zero_pad: bool,
     /// The flag `x` or `X` in front of the type `?`.
     pub debug_hex: Option<DebugHex>,
-    /// The precision.
+    /// The precision. One that is a dot alone is `CountImplied`, and has a span.
     pub precision: Count<'input>,
     /// Where the precision stands, with its dot.
     pub precision_span: Option<Range<usize>>,
     /// The width.
     pub width: Count<'input>,
-    /// Where the width stands.
+    /// Where the width stands, without the flag `0`.
     pub width_span: Option<Range<usize>>,
-    /// The type or modifier, which may be empty.
+    /// The type, the modifier, or the text after the colon in a diagnostic. It may be empty.
     pub ty: &'input str,
-    /// Where the type stands.
+    /// Where that stands: of a word that is not empty, and of the text in a diagnostic, with its colon, even where it is empty.
+    /// The types `x`, `X`, `?`, `x?` and `X?` have none.
     pub ty_span: Option<Range<usize>>,
 }
 
@@ -84,7 +86,7 @@ pub struct FormatSpec<'input> {
 pub enum Position<'input> {
     /// The next argument, whose number this is.
     ArgumentImplicitlyIs(usize),
-    /// The argument of this number.
+    /// The argument of this number: the one that is written, modulo 65536. One above 65535 is a fault.
     ArgumentIs(usize),
     /// The argument of this name.
     ArgumentNamed(&'input str),
@@ -125,11 +127,11 @@ pub enum DebugHex {
 /// A width or a precision.
 #[derive(Clone, Debug, PartialEq, Default, Drop)]
 pub enum Count<'input> {
-    /// This number.
+    /// This number: the one that is written, modulo 65536. One above 65535 is a fault.
     CountIs(u16),
     /// The value of the argument of this name, and where the name stands.
     CountIsName(&'input str, Range<usize>),
-    /// The value of the argument of this number.
+    /// The value of the argument of this number, which is as for [`Position::ArgumentIs`].
     CountIsParam(usize),
     /// The value of the next argument, whose number this is.
     CountIsStar(usize),
@@ -138,7 +140,8 @@ pub enum Count<'input> {
     CountImplied,
 }
 
-/// A fault of the input. Spans are ranges of bytes.
+/// A fault of the input. Spans are places in the source, in bytes. Which fault comes, its words and its span are those of the
+/// original, or this project's own where `docs/DIFFERENCES.md` says so.
 #[derive(Drop)]
 pub struct ParseError {
     /// What is wrong.
@@ -184,7 +187,7 @@ impl<'input> Piece<'input> {
     ghost use Rattle.rustc_parse_format.specs.Seen.{seen};
     ghost use Rattle.rustc_parse_format.specs.Types.{IsText};
 
-    /// The same piece again. Only a placeholder needs memory.
+    /// The same piece again. Only a placeholder needs memory, and an error is a refusal of that.
     pub fn clone(&self, alloc: Global) -> Result<Piece<'input>, AllocError>
         ensures clone { IfOk result (λ p. seen p ≡ seen self.now) }
         ensures spare { IsText (seen self.now) → IsOk result }
@@ -216,7 +219,7 @@ impl Argument<'_> {
     ghost use Rattle.rustc_parse_format.specs.Identifiers.{IsIdentifier};
     ghost use Rattle.rustc_parse_format.specs.Seen.{seen_argument};
 
-    /// It is a name and nothing else.
+    /// It is a name and nothing else: its specification is the default, in which no span is there either.
     pub fn is_identifier(&self) -> bool
         ensures { IsTrue result ↔ IsIdentifier (seen_argument self.now) }
     {
