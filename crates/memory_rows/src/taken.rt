@@ -68,12 +68,21 @@ fn put_pieces(
     Ok(())
 }
 
-/// Reads a row up to the first call without a piece.
+/// A parser reads a row up to the first call without a piece.
+fn check_walk(
+    rt: &(impl Abort + Print),
+    alloc: Global,
+    row: Row,
+    parser: &mut Parser<'_>,
+) -> Result<(), Fail> {
+    let mut out = Sheet::new();
+    put_pieces(rt, alloc, parser, row.input.len(), &mut out)?;
+    check_row(rt, row, &mut out, &Sheet::new(), parser)
+}
+
 fn walk(rt: &(impl Abort + Print), alloc: Global, row: Row) -> Result<(), Fail> {
     let mut parser = start(rt, alloc, row)?;
-    let mut out = Sheet::new();
-    put_pieces(rt, alloc, &mut parser, row.input.len(), &mut out)?;
-    check_row(rt, row, &mut out, &Sheet::new(), &mut parser)
+    check_walk(rt, alloc, row, &mut parser)
 }
 
 #[test]
@@ -81,6 +90,16 @@ fn next_into_out_of_memory_changes_nothing(rt: HostRuntime) -> Result<(), Fail> 
     for row in rows() {
         walk(&rt, rt.alloc(), *row)?;
     }
+    Ok(())
+}
+
+/// So many calls give a placeholder, and then the input is at its end.
+fn check_placeholders(rt: &impl Abort, parser: &mut Parser<'_>, count: usize) -> Result<(), Fail> {
+    for _ in 0..count {
+        let is_read = next_is_read(parser)?;
+        assert!(rt; is_read);
+    }
+    assert!(rt; parser.peek().is_none());
     Ok(())
 }
 
@@ -94,12 +113,7 @@ fn check_clean(
 ) -> Result<(), Fail> {
     assert!(rt; input.len() < 10000);
     let mut parser = Parser::new(alloc, input, Some(1), None, false, mode)?;
-    for _ in 0..count {
-        let is_read = next_is_read(&mut parser)?;
-        assert!(rt; is_read);
-    }
-    assert!(rt; parser.peek().is_none());
-    Ok(())
+    check_placeholders(rt, &mut parser, count)
 }
 
 /// The first request of the whole is the one that is made at the end, so no placeholder takes memory.
