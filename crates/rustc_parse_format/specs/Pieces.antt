@@ -1,5 +1,5 @@
--- What a caller sees of the iterator over the pieces of a parser.
-use Rattle.std.specs.Prelude.{◌≡◌, ℕ, suc, Bool, true, false, not, if◌then◌else◌, length, Option, Some, None, option_map, Result, Ok, Err}
+-- What a caller sees of calls of a parser, and of the iterator over its pieces.
+use Rattle.std.specs.Prelude.{◌≡◌, ℕ, zero, suc, Bool, true, false, not, if◌then◌else◌, length, Option, Some, None, option_map, Result, Ok, Err}
 use Rattle.std.specs.declared.alloc.AllocError.{AllocError}
 use Rattle.std.specs.Borrow.{GName}
 use Rattle.rustc_parse_format.specs.declared.pieces.Pieces.{Pieces}
@@ -26,6 +26,11 @@ abbrev pub IsCall : State → Option (Result DeclaredPiece AllocError) → State
 IsCall s (Some (Ok p)) t = (Some (seen p) ≡ option_map (piece_in s.world) (next_call s).piece) × (t ≡ after s (next_call s))
 IsCall s (Some (Err e)) t = (NeedsNoMemory s (next_call s) → ⊥) × (t ≡ s)
 IsCall s None t = ((next_call s).piece ≡ None) × (t ≡ after s (next_call s))
+
+-- So many calls, one after the other, the first of them at s, leave the parser at u.
+abbrev pub AreCalls : ℕ → State → State → Type 0
+AreCalls zero s u = u ≡ s
+AreCalls (suc n) s u = (t : State) × AreCalls n s t × ((item : Option (Result DeclaredPiece AllocError)) × IsCall t item u)
 
 -- only after a piece another item may come
 abbrev pub is_piece : Option (Result DeclaredPiece AllocError) → Bool

@@ -8,6 +8,7 @@ ghost use Rattle.rustc_parse_format.specs.Seen.{seen, seen_mode, seen_snippet};
 ghost use Rattle.rustc_parse_format.specs.Source.{HasSource};
 ghost use Rattle.rustc_parse_format.specs.State.{AreLines, Walks, after_all, calls, closed_of, first_state};
 ghost use Rattle.rustc_parse_format.specs.Call.{faults_of, pieces_of, walk};
+ghost use Rattle.rustc_parse_format.specs.Pieces.{AreCalls};
 ghost use Rattle.rustc_parse_format.specs.Steps.{AreFew, IsInWord, IsStart};
 ghost use Rattle.rustc_parse_format.specs.Syntax.{FieldText, IsOnlyCut};
 ghost use Rattle.rustc_parse_format.specs.World.{hashes, pieces_in, place_of};
@@ -125,9 +126,10 @@ pub fn read_all<'input>(
     Ok((pieces, parser))
 }
 
-/// Calls a new parser some number of times. A call may be refused or find the end, and others follow. The steps of all
-/// calls that were not refused are then at most the position and the greatest position at which it stood, and so at most
-/// two for each character of the input. The count must have been begun at the start of the input.
+/// Calls a new parser some number of times. A call may be refused, which leaves the parser as it was, or find the end, and
+/// others follow. The steps of all calls that were not refused are then at most the position and the greatest position at
+/// which it stood, and so at most two for each character of the input. The count must have been begun at the start of the
+/// input.
 #[tactic(auto, using(crate::proofs::Steps::part_le))]
 pub fn steps_are_few<'input, L: Ledger>(
     parser: &mut Parser<'input>,
@@ -135,7 +137,8 @@ pub fn steps_are_few<'input, L: Ledger>(
     count: &mut StepCount<'input, L>,
 )
     requires { IsStart parser.old count.old }
-    ensures { AreFew parser.new count.new }
+    ensures calls { AreCalls times parser.old parser.new }
+    ensures few { AreFew parser.new count.new }
 {
     for _ in 0..times {
         let _ = parser.next_counted(count);
