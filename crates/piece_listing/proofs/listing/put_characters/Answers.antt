@@ -8,7 +8,7 @@ use Rattle.piece_listing.proofs.listing.put_characters.Goals as goal
 
 pub loop-c-preserved : goal.loop-c-preserved
 loop-c-preserved c =
-    c.in_ok-put_written.ensures
+    c.in_ok-put_written.ensures.ok
     ∙ ap (λ x. x ++ written c.in-Some.c) c.loop-c.invariant
     ∙ written-push (string_bytes c.args.out.now) c.loop-c.yielded c.in-Some.c
 
