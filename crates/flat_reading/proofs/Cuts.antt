@@ -22,6 +22,9 @@ is_some_of n e = grind (arith, nat_tests)
 test : (n l b : ℕ) → n ≤ l → (n < l → 128 ≤ b → 192 ≤ b) → (nat_le n l && (nat_le l n || (nat_lt b 128 || nat_le 192 b))) ≡ true
 test n l b h k = grind (arith, nat_tests)
 
+not_backwards : (n m : ℕ) → n ≤ m → nat_le n m ≡ true
+not_backwards n m h = grind (arith, nat_tests)
+
 passes : (bs : List ℕ) (i : ℕ) → IsCharBoundary bs i → is_boundary bs i ≡ true
 passes bs i h = test i (length bs) (slice_index bs i) h.0 h.1
 
@@ -48,7 +51,7 @@ unfolding text_at
 cut_text bs text from v u some h =
     let start = begins bs text from (from + length text) u some refl h.0 h.1 in
     let stop = ends bs text from (from + length text) v u refl h.0 h.1 start in
-    rw (passes bs from start, passes bs (from + length text) stop) (ap chars h.1)
+    rw (not_backwards from (from + length text) (omega arith), passes bs from start, passes bs (from + length text) stop) (ap chars h.1)
 
 some_chars : (text : List ℕ) → IsUtf8 text → 0 < length text → chars text ≢ []
 some_chars text u some e = let k : length text ≡ 0 = sym (width_chars text u) ∙ ap byte_length e in omega arith

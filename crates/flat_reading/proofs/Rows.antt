@@ -44,6 +44,11 @@ half-is_no_text : text_at (97 ∷ 195 ∷ 169 ∷ []) (record { from = 1; to = 2
 unfolding text_at
 half-is_no_text = refl
 
+-- Nor is what runs backwards, though nothing stands there.
+backwards-is_no_text : text_at (97 ∷ 98 ∷ []) (record { from = 2; to = 0 }) ≡ 1114112 ∷ []
+unfolding text_at
+backwards-is_no_text = refl
+
 mode-is_refused : refusal [] [] (record { mode = 4; is_raw = 0; hashes = 0; has_snippet = 0; appended_newline = 0; peeks = 0 }) ≡ Some 5
 mode-is_refused = refl
 

@@ -18,9 +18,14 @@ place r = (r.from, r.to)
 abbrev pub is_boundary : List ℕ → ℕ → Bool
 is_boundary input i = nat_le i (length input) && (nat_le (length input) i || (nat_lt (slice_index input i) 128 || nat_le 192 (slice_index input i)))
 
--- the characters that stand there; where that cuts a character, what is no text
+-- no character has this number
+abbrev pub no_text : Text
+no_text = 1114112 ∷ []
+
+-- the characters that stand there; where that runs backwards or cuts a character, what is no text
 unfoldable pub text_at : List ℕ → Extent → Text
-text_at input r = if is_boundary input r.from && is_boundary input r.to then chars (slice_range input r.from r.to) else 1114112 ∷ []
+text_at input r =
+    if nat_le r.from r.to && (is_boundary input r.from && is_boundary input r.to) then chars (slice_range input r.from r.to) else no_text
 
 abbrev pub is_set : ℕ → Bool
 is_set n = not (n == 0)
