@@ -6,7 +6,7 @@ use Rattle.rustc_parse_format.specs.Faults.{UnmatchedBrace, RawIdentifier}
 use Rattle.rustc_parse_format.specs.World.{Place}
 use Rattle.rustc_parse_format.specs.State.{State, first_state}
 use Rattle.rustc_parse_format.proofs.Rows.{computing}
-use Rattle.flat_reading.specs.Meant.{text_at}
+use Rattle.flat_reading.specs.Meant.{spec_at, text_at}
 use Rattle.flat_reading.specs.Asked.{refusal}
 use Rattle.flat_reading.specs.Events.{Event, add_finders, events, found_by, fronts_of, is_default, states}
 
@@ -48,6 +48,11 @@ half-is_no_text = refl
 backwards-is_no_text : text_at (97 ∷ 98 ∷ []) (record { from = 2; to = 0 }) ≡ 1114112 ∷ []
 unfolding text_at
 backwards-is_no_text = refl
+
+-- No record is there for the number 1.
+beyond-is_no_spec : spec_at [] [] 1 ≡ record (default_spec {A = Place}) { fill = Some 1114112 }
+unfolding spec_at
+beyond-is_no_spec = refl
 
 mode-is_refused : refusal [] [] (record { mode = 4; is_raw = 0; hashes = 0; has_snippet = 0; appended_newline = 0; peeks = 0 }) ≡ Some 5
 mode-is_refused = refl

@@ -5,7 +5,7 @@ use Rattle.std.proofs.lemmas.List.{get_or-map, get_or-take, get_or-set_same, tak
 use Rattle.rustc_parse_format.specs.Types.{Spec, Alignment, Left, Right, Center, Unknown, Count, Is, Name, Param, Star, Implied, default_spec}
 use Rattle.rustc_parse_format.specs.Characters.{Text, is_nil}
 use Rattle.flat_reading.specs.declared.records.Spec.{Spec as SpecRecord}
-use Rattle.flat_reading.specs.Meant.{spec_at, spec_meant}
+use Rattle.flat_reading.specs.Meant.{no_spec, spec_at, spec_meant}
 use Rattle.flat_reading.specs.Events.{is_default, is_implied, is_unknown}
 
 both : {a b : Bool} → (a && b) ≡ true → (a ≡ true) × (b ≡ true)
@@ -85,13 +85,13 @@ pub spec_at-put : (input : List ℕ) (specs : List SpecRecord) (n : ℕ) (r : Sp
 unfolding spec_at
 spec_at-put input specs n r h =
     let long : n < length (set specs n r) = omega (arith, length-set specs n r) in
-    rw add-one (get_or-map (spec_meant input) (set specs n r) n r default_spec long ∙ ap (spec_meant input) (get_or-set_same specs n r r h))
+    rw add-one (get_or-map (spec_meant input) (set specs n r) n r no_spec long ∙ ap (spec_meant input) (get_or-set_same specs n r r h))
 
 -- Those in front of a number stay.
 pub spec_at-front : (input : List ℕ) (xs ys : List SpecRecord) (k n : ℕ) → n ≤ k → take k xs ≡ take k ys → spec_at input xs n ≡ spec_at input ys n
 unfolding spec_at
 spec_at-front input xs ys k zero h e = refl
 spec_at-front input xs ys k (suc n) h e =
-    sym (get_or-take k (map (spec_meant input) xs) n default_spec (omega arith))
-    ∙ ap (λ l. get_or l n default_spec) (take-map (spec_meant input) k xs ∙ ap (map (spec_meant input)) e ∙ sym (take-map (spec_meant input) k ys))
-    ∙ get_or-take k (map (spec_meant input) ys) n default_spec (omega arith)
+    sym (get_or-take k (map (spec_meant input) xs) n no_spec (omega arith))
+    ∙ ap (λ l. get_or l n no_spec) (take-map (spec_meant input) k xs ∙ ap (map (spec_meant input)) e ∙ sym (take-map (spec_meant input) k ys))
+    ∙ get_or-take k (map (spec_meant input) ys) n no_spec (omega arith)

@@ -75,9 +75,13 @@ spec_meant input s = record {
   ty_span = maybe_place s.ty_span;
 }
 
--- the specification with this number: the default one is 0, and those of the buffer are counted from 1
+-- no placeholder asks for this: its fill is no character
+abbrev pub no_spec : Spec Place
+no_spec = record default_spec { fill = Some 1114112 }
+
+-- The specification with this number: the default one is 0, and those of the buffer are counted from 1. No other number has one.
 unfoldable pub spec_at : List ℕ → List SpecRecord → ℕ → Spec Place
-spec_at input specs n = slice_index_or (default_spec ∷ map (spec_meant input) specs) n default_spec
+spec_at input specs n = slice_index_or (default_spec ∷ map (spec_meant input) specs) n no_spec
 
 abbrev pub position_meant : List ℕ → ℕ → ℕ → Extent → Position
 position_meant input kind number name =
