@@ -45,13 +45,18 @@ ends bs text from to v u e fit same start =
     ∙ ap (λ l. take from bs ++ l) (sym (between_is bs from to) ∙ same) in
     IsCharBoundary-from_take bs to v fit (rw parts (IsUtf8-append (take from bs) text (IsUtf8-take bs from v start) u))
 
+-- what stands between two places that cut no character
+pub uncut_text : (bs : List ℕ) (from to : ℕ) → from ≤ to → IsCharBoundary bs from → IsCharBoundary bs to
+    → text_at bs (record { from = from; to = to }) ≡ chars (slice_range bs from to)
+unfolding text_at
+uncut_text bs from to h start stop = rw (not_backwards from to h, passes bs from start, passes bs to stop) refl
+
 pub cut_text : (bs text : List ℕ) (from : ℕ) → IsUtf8 bs → IsUtf8 text → 0 < length text → HasBytes bs from text →
     text_at bs (record { from = from; to = from + length text }) ≡ chars text
-unfolding text_at
 cut_text bs text from v u some h =
     let start = begins bs text from (from + length text) u some refl h.0 h.1 in
     let stop = ends bs text from (from + length text) v u refl h.0 h.1 start in
-    rw (not_backwards from (from + length text) (omega arith), passes bs from start, passes bs (from + length text) stop) (ap chars h.1)
+    uncut_text bs from (from + length text) (omega arith) start stop ∙ ap chars h.1
 
 some_chars : (text : List ℕ) → IsUtf8 text → 0 < length text → chars text ≢ []
 some_chars text u some e = let k : length text ≡ 0 = sym (width_chars text u) ∙ ap byte_length e in omega arith

@@ -8,7 +8,7 @@ use Rattle.flat_reading.specs.declared.records.Spec.{Spec as SpecRecord}
 use Rattle.flat_reading.specs.Meant.{no_spec, spec_at, spec_meant}
 use Rattle.flat_reading.specs.Events.{is_default, is_implied, is_unknown}
 
-both : {a b : Bool} → (a && b) ≡ true → (a ≡ true) × (b ≡ true)
+pub both : {a b : Bool} → (a && b) ≡ true → (a ≡ true) × (b ≡ true)
 both {a = true} {b = true} e = (refl, refl)
 both {a = true} {b = false} e = cc
 both {a = false} {b = b} e = cc

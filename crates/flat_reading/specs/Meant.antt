@@ -27,6 +27,10 @@ unfoldable pub text_at : List ℕ → Extent → Text
 text_at input r =
     if nat_le r.from r.to && (is_boundary input r.from && is_boundary input r.to) then chars (slice_range input r.from r.to) else no_text
 
+-- the characters of a run of text, which ends at the byte up to which was read
+abbrev pub run_at : List ℕ → ℕ → Extent → Text
+run_at input read r = if r.to == read then text_at input r else no_text
+
 abbrev pub is_set : ℕ → Bool
 is_set n = not (n == 0)
 
@@ -98,5 +102,5 @@ argument_meant input spec r = record {
 -- the piece of a step, with the specification of its argument
 unfoldable pub piece_meant : List ℕ → Spec Place → Step → Option (Piece Place)
 piece_meant input spec r =
-    if r.kind == 1 then Some (Lit (text_at input r.text))
+    if r.kind == 1 then Some (Lit (run_at input r.read r.text))
     else (if r.kind == 2 then Some (NextArgument (argument_meant input spec r)) else None)

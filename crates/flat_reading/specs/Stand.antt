@@ -13,7 +13,7 @@ use Rattle.flat_reading.specs.declared.records.Step.{Step}
 use Rattle.flat_reading.specs.declared.records.Spec.{Spec as SpecRecord}
 use Rattle.flat_reading.specs.declared.texts.Texts.{Texts}
 use Rattle.flat_reading.specs.Events.{event, position, step_meant}
-use Rattle.flat_reading.specs.Meant.{text_at, type_meant}
+use Rattle.flat_reading.specs.Meant.{run_at, text_at, type_meant}
 
 -- these bytes stand there
 abbrev pub HasBytes : List ℕ → ℕ → List ℕ → Type 0
@@ -30,6 +30,10 @@ StandsAt input from t = t ≢ [] → Stands input from t
 -- or it stands there behind these bytes
 abbrev pub StandsBehind : List ℕ → List ℕ → ℕ → Text → Type 0
 StandsBehind input prefix from t = StandsAt input from t ⊎ HasBytes input from (prefix ++ encode_utf8_all t)
+
+-- the text is what was read last
+abbrev pub IsLast : List ℕ → ℕ → Text → Type 0
+IsLast input read t = text_at input (record { from = read - byte_length t; to = read }) ≡ t
 
 -- The texts of a piece stand at their spans less an offset, and that of a run in front of what was read.
 abbrev pub CountStands : List ℕ → ℕ → Count Place → Type 0
@@ -63,10 +67,10 @@ pub record ArgumentStands (input : List ℕ) (offset : ℕ) (a : Argument Place)
 
 abbrev pub PieceStands : List ℕ → ℕ → ℕ → Option (Piece Place) → Type 0
 PieceStands input offset read None = Unit {0}
-PieceStands input offset read (Some (Lit t)) = StandsAt input (read - byte_length t) t
+PieceStands input offset read (Some (Lit t)) = IsLast input read t
 PieceStands input offset read (Some (NextArgument a)) = ArgumentStands input offset a
 
--- The extents are those of the texts of the piece.
+-- The extents are those of the texts of the piece, which was read up to a byte.
 abbrev pub CountAt : {A : Type 0} → Text → Count A → Type 0
 CountAt t (Is n) = Unit {0}
 CountAt t (Name w s) = t ≡ w
@@ -84,10 +88,10 @@ PositionAt t (Implicit n) = Unit {0}
 PositionAt t (Index n) = Unit {0}
 PositionAt t (Named w) = t ≡ w
 
-abbrev pub PieceAt : {A : Type 0} → List ℕ → Texts → Option (Piece A) → Type 0
-PieceAt input x None = Unit {0}
-PieceAt input x (Some (Lit t)) = text_at input x.text ≡ t
-PieceAt input x (Some (NextArgument a)) = PositionAt (text_at input x.text) a.position × SpecAt input x a.format
+abbrev pub PieceAt : {A : Type 0} → List ℕ → ℕ → Texts → Option (Piece A) → Type 0
+PieceAt input read x None = Unit {0}
+PieceAt input read x (Some (Lit t)) = run_at input read x.text ≡ t
+PieceAt input read x (Some (NextArgument a)) = PositionAt (text_at input x.text) a.position × SpecAt input x a.format
 
 -- the places of a parser are those in the input, so many bytes later
 abbrev pub IsPlain : State → ℕ → Type 0
@@ -121,8 +125,8 @@ pub record IsAdded (peeks : Bool) (input : List ℕ) (s : State) (count used : �
   pub told : used ≤ length specs → step_meant input specs step ≡ event peeks s
 
 -- the guide's texts are those of the piece
-abbrev pub StandsAlike : List ℕ → State → Option (Piece Place) → Type 0
-StandsAlike input g o = (x : Texts) → PieceAt input x (option_map (piece_in g.world) (next_call g).piece) → PieceAt input x o
+abbrev pub StandsAlike : List ℕ → ℕ → State → Option (Piece Place) → Type 0
+StandsAlike input read g o = (x : Texts) → PieceAt input read x (option_map (piece_in g.world) (next_call g).piece) → PieceAt input read x o
 
 -- what stands behind the call is the same
 abbrev pub SameBehind : Step → Step → Type 0

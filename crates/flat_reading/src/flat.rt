@@ -358,7 +358,7 @@ pub fn put_piece(
     step: &mut Step,
 )
     requires room { used.old < usize.MAX }
-    ensures told { (input : List ℕ) → PieceAt input texts.now (option_map (seen_taken argument.now) piece.now) → used.new ≤ length specs.old
+    ensures told { (input : List ℕ) → PieceAt input step.old.read texts.now (option_map (seen_taken argument.now) piece.now) → used.new ≤ length specs.old
         → piece_meant input (spec_at input specs.new step.new.spec) step.new ≡ option_map (seen_taken argument.now) piece.now }
     ensures number { step.new.spec ≤ used.new }
     ensures used { used.new ≡ used.old + specs_in (option_map (seen_taken argument.now) piece.now) }
@@ -381,12 +381,11 @@ pub fn put_plain(
     argument: &Argument<'_>,
     input: &str,
     offset: usize,
-    read: usize,
     specs: &mut [Spec],
     used: &mut usize,
     step: &mut Step,
 )
-    requires stands { PieceStands input.now offset read (option_map (seen_taken argument.now) piece.now) }
+    requires stands { PieceStands input.now offset step.old.read (option_map (seen_taken argument.now) piece.now) }
     requires room { used.old < usize.MAX }
     ensures told { used.new ≤ length specs.old
         → piece_meant input.now (spec_at input.now specs.new step.new.spec) step.new ≡ option_map (seen_taken argument.now) piece.now }
@@ -398,7 +397,7 @@ pub fn put_plain(
 {
     match piece {
         None => bare(PIECE_NONE, NOWHERE, step),
-        Some(Taken::Lit(text)) => bare(PIECE_TEXT, run_extent(input, read, text), step),
+        Some(Taken::Lit(text)) => bare(PIECE_TEXT, run_extent(step.read, text), step),
         Some(Taken::NextArgument) => {
             put_plain_argument(argument, input, offset, specs, used, step)
         }

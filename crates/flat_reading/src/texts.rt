@@ -1,11 +1,10 @@
 //! Where the texts of a piece stand in the input.
 
 ghost use Rattle.std.specs.Prelude.{◌≡◌, ℕ, ◌-◌, IsFalse, IsTrue, List, chars, option_map};
-ghost use Rattle.rustc_parse_format.specs.Characters.{byte_length};
 ghost use Rattle.rustc_parse_format.specs.Seen.{pair, seen, seen_argument, seen_count, seen_position, seen_spec};
 ghost use Rattle.flat_reading.specs.declared.records.Extent.{Extent as ExtentRecord};
-ghost use Rattle.flat_reading.specs.Meant.{text_at, type_meant};
-ghost use Rattle.flat_reading.specs.Stand.{ArgumentStands, CountAt, CountStands, HasBytes, IsListed, PieceAt};
+ghost use Rattle.flat_reading.specs.Meant.{run_at, text_at, type_meant};
+ghost use Rattle.flat_reading.specs.Stand.{ArgumentStands, CountAt, CountStands, HasBytes, IsLast, IsListed, PieceAt};
 ghost use Rattle.flat_reading.specs.Stand.{PieceStands, PositionAt, PositionStands, SpecAt, StandsAt, StandsBehind, TypeStands};
 
 use crate::flat::NOWHERE;
@@ -151,23 +150,25 @@ pub fn argument_texts(input: &str, offset: usize, argument: &Argument<'_>) -> Te
 
 /// The text that was read last.
 #[inline(always)]
-pub fn run_extent(input: &str, read: usize, text: &str) -> Extent
-    requires { StandsAt input.now (read - byte_length (chars text.now)) (chars text.now) }
-    ensures { text_at input.now result ≡ chars text.now }
+pub fn run_extent(read: usize, text: &str) -> Extent
+    ensures { (input : List ℕ) → IsLast input read (chars text.now) → run_at input read result ≡ chars text.now }
 {
-    extent_of(input, read.saturating_sub(text.len()), text)
+    Extent {
+        from: read.saturating_sub(text.len()),
+        to: read,
+    }
 }
 
 /// Where the texts of a piece stand, whose spans are so many bytes behind the places in the input, and which was read up to
 /// a byte of the input.
 pub fn texts_of(input: &str, offset: usize, read: usize, piece: &Option<Piece<'_>>) -> Texts
     requires { PieceStands input.now offset read (option_map seen piece.now) }
-    ensures { PieceAt input.now result (option_map seen piece.now) }
+    ensures { PieceAt input.now read result (option_map seen piece.now) }
 {
     match piece {
         None => NO_TEXTS,
         Some(Piece::Lit(text)) => Texts {
-            text: run_extent(input, read, text),
+            text: run_extent(read, text),
             ..NO_TEXTS
         },
         Some(Piece::NextArgument(argument)) => argument_texts(input, offset, argument),

@@ -107,16 +107,15 @@ fn put_state(parser: &Parser<'_>, step: &mut Step)
 fn put_guided(
     guide: &mut Parser<'_>,
     input: &str,
-    read: usize,
     given: &Option<Taken<'_>>,
     argument: &Argument<'_>,
     specs: &mut [Spec],
     used: &mut usize,
     step: &mut Step,
 ) -> Result<(), AllocError>
-    requires along { IsAlong guide.old input.now read }
+    requires along { IsAlong guide.old input.now step.old.read }
     requires room { used.old < usize.MAX }
-    ensures told { OnOk result (StandsAlike input.now guide.old (option_map (seen_taken argument.now) given.now) → used.new ≤ length specs.old
+    ensures told { OnOk result (StandsAlike input.now step.old.read guide.old (option_map (seen_taken argument.now) given.now) → used.new ≤ length specs.old
         → piece_meant input.now (spec_at input.now specs.new step.new.spec) step.new ≡ option_map (seen_taken argument.now) given.now) }
     ensures number { OnOk result (step.new.spec ≤ used.new) }
     ensures used { OnOk result (used.new ≡ used.old + specs_in (option_map (seen_taken argument.now) given.now)) }
@@ -126,7 +125,7 @@ fn put_guided(
     ensures state { OnOk result (guide.new ≡ after guide.old (next_call guide.old)) }
 {
     let same = guide.next()?;
-    let texts = texts_of(input, 1, read, &same);
+    let texts = texts_of(input, 1, step.read, &same);
     put_piece(given, argument, &texts, specs, used, step);
     Ok(())
 }
@@ -137,17 +136,16 @@ fn put_given(
     guide: &mut Option<Box<Parser<'_>>>,
     input: &str,
     offset: usize,
-    read: usize,
     given: &Option<Taken<'_>>,
     argument: &Argument<'_>,
     specs: &mut [Spec],
     used: &mut usize,
     step: &mut Step,
 ) -> Result<(), AllocError>
-    requires alone { IfNone (guide_of guide.old) (PieceStands input.now offset read (option_map (seen_taken argument.now) given.now)) }
-    requires along { IfSome (guide_of guide.old) (λ g. IsAlong g input.now read) }
+    requires alone { IfNone (guide_of guide.old) (PieceStands input.now offset step.old.read (option_map (seen_taken argument.now) given.now)) }
+    requires along { IfSome (guide_of guide.old) (λ g. IsAlong g input.now step.old.read) }
     requires room { used.old < usize.MAX }
-    ensures told { OnOk result (IfSome (guide_of guide.old) (λ g. StandsAlike input.now g (option_map (seen_taken argument.now) given.now)) → used.new ≤ length specs.old
+    ensures told { OnOk result (IfSome (guide_of guide.old) (λ g. StandsAlike input.now step.old.read g (option_map (seen_taken argument.now) given.now)) → used.new ≤ length specs.old
         → piece_meant input.now (spec_at input.now specs.new step.new.spec) step.new ≡ option_map (seen_taken argument.now) given.now) }
     ensures number { OnOk result (step.new.spec ≤ used.new) }
     ensures used { OnOk result (used.new ≡ used.old + specs_in (option_map (seen_taken argument.now) given.now)) }
@@ -158,11 +156,11 @@ fn put_given(
 {
     match guide {
         None => {
-            put_plain(given, argument, input, offset, read, specs, used, step);
+            put_plain(given, argument, input, offset, specs, used, step);
             Ok(())
         }
         Some(guide) => {
-            put_guided(guide, input, read, given, argument, specs, used, step)?;
+            put_guided(guide, input, given, argument, specs, used, step)?;
             Ok(())
         }
     }
@@ -206,10 +204,7 @@ fn step<'a>(
     step.place = closed(parser, places);
     put_peeks(parser, peeks, &mut step.peek, &mut step.peek_ahead);
     finders.add(number, fronts, parser.errors().len() - faults)?;
-    let read = step.read;
-    put_given(
-        guide, input, offset, read, &given, argument, specs, used, step,
-    )?;
+    put_given(guide, input, offset, &given, argument, specs, used, step)?;
     Ok(())
 }
 

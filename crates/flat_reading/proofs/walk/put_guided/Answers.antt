@@ -4,7 +4,7 @@ use Rattle.flat_reading.proofs.walk.put_guided.Goals as goal
 pub texts_of-texts-requires : goal.texts_of-texts-requires
 texts_of-texts-requires c =
     let h = c.requires.along in
-    call_stands c.args.input.now c.args.guide.now 1 c.args.read _ c.utf8.input h.input_is h.left h.is_plain h.reads c.in_ok-same.ensures.piece
+    call_stands c.args.input.now c.args.guide.now 1 c.args.step.now.read _ c.utf8.input h.input_is h.left h.is_plain h.reads c.in_ok-same.ensures.piece
 
 pub returns-clause-told : goal.returns-clause-told
 returns-clause-told c = λ alike room.
