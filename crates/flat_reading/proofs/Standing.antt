@@ -1,5 +1,6 @@
 -- The texts of a call's piece stand in the input where they are looked for.
-use Rattle.std.proofs.Common.{◌≡◌, ℕ, ◌+◌, ◌-◌, ◌++◌, true, [], ◌∷◌, arith, append_assoc, List, Option, Some, None, chars, IsUtf8, inl, inr, refl, subst, sym, ap, ◌∙◌}
+use Rattle.std.proofs.Common.{◌≡◌, ℕ, ◌+◌, ◌-◌, ◌++◌, true, [], ◌∷◌, append_assoc, List, Option, Some, None, chars, IsUtf8, inl, inr, refl}
+use Rattle.std.proofs.Common.{arith, subst, sym, ap, ◌∙◌}
 use Rattle.std.specs.Prelude.{IfNone, IfSome, option_map}
 use Rattle.std.proofs.lemmas.Str.{chars-encodes, scalars-chars}
 use Rattle.std.proofs.Math.Utf8.{scalar, scalars}
@@ -16,11 +17,13 @@ use Rattle.rustc_parse_format.specs.State.{State, next_call, after}
 use Rattle.rustc_parse_format.specs.Agreement.{Agree}
 use Rattle.rustc_parse_format.proofs.Agreement.{next_agrees}
 use Rattle.rustc_parse_format.proofs.ParserLaws.{bare_given, call_rest}
-use Rattle.rustc_parse_format.proofs.TextPlaces.{CountTexts, EndsAt, PieceStands as TextPieceStands, PieceTexts, PositionTexts, TypeTexts, call_stands as call_texts}
+use Rattle.rustc_parse_format.proofs.TextPlaces.{CountTexts, EndsAt, PieceStands as TextPieceStands, PieceTexts, PositionTexts, TypeTexts}
+use Rattle.rustc_parse_format.proofs.TextPlaces.{call_stands as call_texts}
 use Rattle.rustc_parse_format.proofs.TextBytes.{HasLast, HasName, HasText, piece_has, text-bytes}
 use Rattle.flat_reading.specs.declared.texts.Texts.{Texts}
 use Rattle.flat_reading.specs.Events.{position}
-use Rattle.flat_reading.specs.Stand.{CountAt, CountStands, EndsWith, IsAlong, IsGuided, IsLast, IsPlain, PieceAt, PieceStands, PositionStands, StandsAlike, TypeStands}
+use Rattle.flat_reading.specs.Stand.{CountAt, CountStands, EndsWith, IsAlong, IsGuided, IsLast, IsPlain, PieceAt, PieceStands, PositionStands}
+use Rattle.flat_reading.specs.Stand.{StandsAlike, TypeStands}
 
 -- of a run, that it was read last
 abbrev RunStands : List ℕ → ℕ → Option (Piece Place) → Type 0
@@ -134,7 +137,8 @@ at_bare input read x (Some (Lit w)) h = h
 at_bare input read x (Some (NextArgument a)) h =
     (h.0, record { width = count_at_bare _ a.format.width h.1.width; precision = count_at_bare _ a.format.precision h.1.precision; ty = h.1.ty })
 
-pub same_texts : (input : List ℕ) (read : ℕ) (x : Texts) (s t : State) (o : Option (Piece Place)) → Agree s t → o ≡ option_map (piece_in s.world) (next_call s).piece →
+pub same_texts : (input : List ℕ) (read : ℕ) (x : Texts) (s t : State) (o : Option (Piece Place)) → Agree s t
+    → o ≡ option_map (piece_in s.world) (next_call s).piece →
     PieceAt input read x (option_map (piece_in t.world) (next_call t).piece) → PieceAt input read x o
 same_texts input read x s t o g e h =
     let bares = bare_given s.world (next_call s).piece ∙ (next_agrees s t g).0 ∙ sym (bare_given t.world (next_call t).piece) in

@@ -1,5 +1,5 @@
 -- What a caller asks for, what is refused, and what is told of an input that is read.
-use Rattle.std.specs.Prelude.{◌≡◌, Bool, ℕ, ◌<◌, ◌≤◌, ◌-◌, ◌^◌, not, ◌&&◌, ◌||◌, ◌==◌, nat_lt, if◌then◌else◌, List, length, map, take, drop, Option, Some}
+use Rattle.std.specs.Prelude.{◌≡◌, Bool, ℕ, ◌≤◌, ◌-◌, ◌^◌, not, ◌&&◌, ◌||◌, ◌==◌, nat_lt, if◌then◌else◌, List, length, map, min, take, drop, Option, Some}
 use Rattle.std.specs.Prelude.{None, chars, is_none, option_map, unwrap_or}
 use Rattle.std.specs.Str.{is_utf8}
 use Rattle.rustc_parse_format.specs.Characters.{Text, behind_first}
@@ -58,12 +58,12 @@ pub record Buffers : Type 0 where
 abbrev pub buffers : List Step → List SpecRecord → List Fault → List ℕ → List Extent → Buffers
 buffers steps specs faults texts lines = record { steps = steps; specs = specs; faults = faults; texts = texts; lines = lines }
 
--- The answer of all calls from s on is exact, but for texts beyond the greatest number.
+-- The answer of all calls from s on is exact; of texts beyond the greatest number it is that number.
 pub record IsCounted (peeks : Bool) (s : State) (a : Answer) : Type 0 where
   pub steps : a.steps ≡ length (states s)
   pub specs : a.specs ≡ spec_count s
   pub faults : a.faults ≡ length (end_of s).errors
-  pub texts : a.texts < 2 ^ 64 - 1 → a.texts ≡ texts_len (end_of s).errors
+  pub texts : a.texts ≡ min (texts_len (end_of s).errors) (2 ^ 64 - 1)
   pub lines : a.lines ≡ length (end_of s).line_spans
   pub fronts : a.fronts ≡ fronts_of s
   pub source : is_set a.is_source_literal ≡ s.world.has_source

@@ -1,6 +1,6 @@
 //! Errors as records, with their texts in a buffer.
 
-ghost use Rattle.std.specs.Prelude.{◌≡◌, ◌+◌, ◌<◌, ◌≤◌, ◌++◌, drop, length, map, option_map, string_bytes, take};
+ghost use Rattle.std.specs.Prelude.{◌≡◌, ◌+◌, ◌≤◌, ◌++◌, drop, length, map, min, option_map, string_bytes, take};
 ghost use Rattle.rustc_parse_format.specs.Seen.{pair, seen_error, seen_suggestion};
 ghost use Rattle.flat_reading.specs.declared.records.Fault.{Fault as FaultRecord};
 ghost use Rattle.flat_reading.specs.Held.{Grows, Holds, HoldsError, HoldsErrors, HoldsMaybe, HoldsSecond};
@@ -19,7 +19,7 @@ use std::ops::Range;
 /// Puts a text behind the `used` bytes, if there is room, and counts it.
 fn put(texts: &mut [u8], used: &mut usize, text: &str) -> Extent
     ensures grows { Grows texts.old texts.new used.old used.new }
-    ensures counted { used.new < usize.MAX → used.new ≡ used.old + length text.now }
+    ensures counted { used.new ≡ min (used.old + length text.now) usize.MAX }
     ensures holds { used.new ≤ length texts.old → Holds (take used.new texts.new) result.from result.to text.now }
 {
     let from = *used;
@@ -32,8 +32,9 @@ fn put(texts: &mut [u8], used: &mut usize, text: &str) -> Extent
 }
 
 fn put_note(texts: &mut [u8], used: &mut usize, note: &Option<String>) -> MaybeExtent
+    requires { used.old ≤ usize.MAX }
     ensures grows { Grows texts.old texts.new used.old used.new }
-    ensures counted { used.new < usize.MAX → used.new ≡ used.old + maybe_len (option_map string_bytes note.now) }
+    ensures counted { used.new ≡ min (used.old + maybe_len (option_map string_bytes note.now)) usize.MAX }
     ensures holds { used.new ≤ length texts.old → HoldsMaybe (take used.new texts.new) result (option_map string_bytes note.now) }
 {
     match note {
@@ -54,8 +55,9 @@ fn put_second(
     used: &mut usize,
     second: &Option<(String, Range<usize>)>,
 ) -> (MaybeExtent, Extent)
+    requires { used.old ≤ usize.MAX }
     ensures grows { Grows texts.old texts.new used.old used.new }
-    ensures counted { used.new < usize.MAX → used.new ≡ used.old + second_len (option_map (λ x. (string_bytes x.0, pair x.1)) second.now) }
+    ensures counted { used.new ≡ min (used.old + second_len (option_map (λ x. (string_bytes x.0, pair x.1)) second.now)) usize.MAX }
     ensures holds { used.new ≤ length texts.old → HoldsSecond (take used.new texts.new) result.0 result.1 (option_map (λ x. (string_bytes x.0, pair x.1)) second.now) }
 {
     match second {
@@ -77,8 +79,9 @@ fn put_suggestion(
     used: &mut usize,
     suggestion: &Suggestion,
 ) -> (u32, Extent, Extent)
+    requires { used.old ≤ usize.MAX }
     ensures grows { Grows texts.old texts.new used.old used.new }
-    ensures counted { used.new < usize.MAX → used.new ≡ used.old + suggestion_len (seen_suggestion suggestion.now) }
+    ensures counted { used.new ≡ min (used.old + suggestion_len (seen_suggestion suggestion.now)) usize.MAX }
     ensures holds { used.new ≤ length texts.old → HoldsSuggestion (take used.new texts.new) result.0 result.1 result.2 (seen_suggestion suggestion.now) }
 {
     match suggestion {
@@ -99,7 +102,7 @@ fn put_suggestion(
 /// The record of an error that a step found.
 fn put_error(texts: &mut [u8], used: &mut usize, error: &ParseError, step: usize) -> Fault
     ensures grows { Grows texts.old texts.new used.old used.new }
-    ensures counted { used.new < usize.MAX → used.new ≡ used.old + message_len (seen_error error.now) }
+    ensures counted { used.new ≡ min (used.old + message_len (seen_error error.now)) usize.MAX }
     ensures holds { used.new ≤ length texts.old → HoldsError (take used.new texts.new) result (seen_error error.now) }
     ensures step { result.step ≡ step }
 {
@@ -137,7 +140,7 @@ pub fn put_errors(
     ensures holds { result ≤ length texts.old → length errors.now ≤ length faults.old
         → HoldsErrors texts.new (take (length errors.now) faults.new) (map seen_error errors.now) }
     ensures found { length errors.now ≤ length faults.old → map (λ (f : FaultRecord). f.step) (take (length errors.now) faults.new) ≡ finders.now.calls }
-    ensures counted { result < usize.MAX → result ≡ texts_len (map seen_error errors.now) }
+    ensures counted { result ≡ min (texts_len (map seen_error errors.now)) usize.MAX }
     ensures kept_texts { drop result texts.new ≡ drop result texts.old }
     ensures kept_faults { drop (length errors.now) faults.new ≡ drop (length errors.now) faults.old }
 {

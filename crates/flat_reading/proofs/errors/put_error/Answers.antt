@@ -19,13 +19,13 @@ returns c =
     let all = Grows-trans _ _ _ _ _ _ a1 one behind_one in
     record {
       grows = all;
-      counted = λ small. omega (
+      counted = omega (
         arith,
-        c.put-description.ensures.counted (omega arith),
-        c.put_note-note.ensures.counted (omega arith),
-        c.put-label.ensures.counted (omega arith),
-        c.put_second.ensures.counted (omega arith),
-        c.put_suggestion-suggestion.ensures.counted (omega arith),
+        c.put-description.ensures.counted,
+        c.put_note-note.ensures.counted,
+        c.put-label.ensures.counted,
+        c.put_second.ensures.counted,
+        c.put_suggestion-suggestion.ensures.counted,
         ap length c.as_str.ensures.value,
         ap length c.as_str-2.ensures.value,
       );

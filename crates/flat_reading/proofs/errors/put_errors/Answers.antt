@@ -43,9 +43,9 @@ loop-i-preserved c =
             ∙ sym (take_more c.args.finders.now.calls c.loop-i.i 0 (omega (arith, c.requires, c.loop-i-test.true))))
         | else-i-faults w ↦ absurd (omega (arith, w.if-i-faults.false, few, ap length w.faults-is))
       ];
-      counted = λ small.
-          let now = c.put_error-fault.ensures.counted small in
-          let before = c.loop-i.invariant.counted (omega arith) in
+      counted =
+          let now = c.put_error-fault.ensures.counted in
+          let before = c.loop-i.invariant.counted in
           let sum = sum_by-append message_len (map seen_error (take c.loop-i.i c.args.errors.now)) (seen_error c.index-errors-i.result ∷ []) in
           rw (more, map-append seen_error (take c.loop-i.i c.args.errors.now) (c.index-errors-i.result ∷ [])) (omega (arith, now, before, sum));
       kept = elim c.if-i-faults.branch [
@@ -70,6 +70,6 @@ returns-clause-found c = λ few.
     ))
 
 pub returns-clause-counted : goal.returns-clause-counted
-returns-clause-counted c = λ small.
+returns-clause-counted c =
     let all : c.loop-i.i ≡ length c.args.errors.now = omega (arith, c.loop-i-test.false, c.loop-i.auto.i-end) in
-    rw (all, take_all (length c.args.errors.now) c.args.errors.now (omega arith)) at c.loop-i.invariant.counted small
+    rw (all, take_all (length c.args.errors.now) c.args.errors.now (omega arith)) at c.loop-i.invariant.counted

@@ -1,4 +1,4 @@
-use Rattle.std.proofs.Common.{◌≡◌, ◌<◌, ◌≤◌, length, map, take, drop}
+use Rattle.std.proofs.Common.{◌≡◌, ◌≤◌, length, map, min, take, drop}
 use Rattle.rustc_parse_format.specs.Seen.{seen_error}
 use Rattle.flat_reading.specs.declared.records.Fault.{Fault}
 use Rattle.flat_reading.specs.Held.{Grows, HoldsErrors, texts_len}
@@ -9,6 +9,6 @@ invariant-loop-i l = record {
   grows : Grows l.fn.texts l.texts 0 l.used;
   holds : l.used ≤ length l.texts → l.i ≤ length l.faults → HoldsErrors (take l.used l.texts) (take l.i l.faults) (map seen_error (take l.i l.errors));
   found : l.i ≤ length l.faults → map (λ (f : Fault). f.step) (take l.i l.faults) ≡ take l.i l.finders.calls;
-  counted : l.used < 18446744073709551615 → l.used ≡ texts_len (map seen_error (take l.i l.errors));
+  counted : l.used ≡ min (texts_len (map seen_error (take l.i l.errors))) 18446744073709551615;
   kept : drop l.i l.faults ≡ drop l.i l.fn.faults;
 }

@@ -37,8 +37,8 @@ pub returns-clause-told : goal.returns-clause-told
 returns-clause-told c = λ room.
     let s = c.args.parser.now in
     let state = c.in_ok-given.ensures.state in
-    let same = alike c.args.input.now _ s c.args.offset (guide_of c.args.guide.now) (option_map (seen_taken c.next_into.new.argument) c.in_ok-given.given) c.requires.guided
-    c.in_ok-given.ensures.piece in
+    let same = alike c.args.input.now _ s c.args.offset (guide_of c.args.guide.now) (option_map (seen_taken c.next_into.new.argument) c.in_ok-given.given)
+    c.requires.guided c.in_ok-given.ensures.piece in
     let kept = c.in_ok-put_given.ensures.others in
     let place = rw state at c.closed-step.ensures in
     told c.args.peeks c.args.input.now c.put_given.new.specs c.put_given.new.step s c.next_into.new.self state
