@@ -77,7 +77,7 @@ few_more : (k : ℕ) (rs : List Step) (r : Step) → AllFew k rs → r.spec ≤ 
 few_more k [] r few h = (h, tt)
 few_more k (q ∷ rs) r few h = (few.0, few_more k rs r few.1 h)
 
-same_meant : (input : List ℕ) (xs ys : List SpecRecord) (k : ℕ) (rs : List Step) → take k xs ≡ take k ys → AllFew k rs → map (step_meant input xs) rs
+pub same_meant : (input : List ℕ) (xs ys : List SpecRecord) (k : ℕ) (rs : List Step) → take k xs ≡ take k ys → AllFew k rs → map (step_meant input xs) rs
     ≡ map (step_meant input ys) rs
 same_meant input xs ys k [] e few = refl
 same_meant input xs ys k (r ∷ rs) e few =

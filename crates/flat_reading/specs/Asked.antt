@@ -72,7 +72,7 @@ pub record IsCounted (peeks : Bool) (s : State) (a : Answer) : Type 0 where
 
 -- The records tell of all these calls, and of the errors and the lines of their end.
 pub record IsTold (peeks : Bool) (s : State) (input : List ℕ) (b : Buffers) (a : Answer) : Type 0 where
-  pub steps : map (step_meant input b.specs) (take a.steps b.steps) ≡ events peeks s
+  pub steps : map (step_meant input (take a.specs b.specs)) (take a.steps b.steps) ≡ events peeks s
   pub errors : HoldsErrors b.texts (take a.faults b.faults) (end_of s).errors
   pub finders : map (λ (f : Fault). f.step) (take a.faults b.faults) ≡ found_by s
   pub lines : map place (take a.lines b.lines) ≡ (end_of s).line_spans

@@ -359,7 +359,7 @@ pub fn walk<'a>(
     ensures count { IfOk result (λ k. k.0 ≡ length (states parser.old)) }
     ensures specs { IfOk result (λ k. k.1 ≡ spec_count parser.old) }
     ensures written { IfOk result (λ k. k.0 ≤ length steps.old → k.1 ≤ length specs.old
-        → map (step_meant input.now specs.new) (take k.0 steps.new) ≡ events peeks parser.old) }
+        → map (step_meant input.now (take k.1 specs.new)) (take k.0 steps.new) ≡ events peeks parser.old) }
     ensures state { OnOk result (parser.new ≡ end_of parser.old) }
     ensures finders { OnOk result (finders.new.calls ≡ found_by parser.old) }
     ensures fronts { OnOk result (finders.new.fronts ≡ fronts_of parser.old) }

@@ -1,11 +1,12 @@
-use Rattle.std.proofs.Common.{◌≡◌, ◌+◌, [], length, refl, sym, ap, ◌∙◌, arith}
-use Rattle.std.proofs.lemmas.List.{append-nil}
+use Rattle.std.proofs.Common.{◌≡◌, ◌+◌, [], length, take, refl, sym, ap, ◌∙◌, arith}
+use Rattle.std.proofs.lemmas.List.{append-nil, take-take}
 use Rattle.rustc_parse_format.specs.State.{State, next_call}
 use Rattle.flat_reading.specs.Events.{fronts_in, given, specs_in, states}
 use Rattle.flat_reading.proofs.Lists.{still_behind}
 use Rattle.flat_reading.proofs.Standing.{still_ends}
 use Rattle.flat_reading.proofs.Widths.{none_left, some_left}
-use Rattle.flat_reading.proofs.Walking.{begin, end_finders, end_fronts, end_specs, goes_on, kept_put, one_more, states-end, states-more}
+use Rattle.flat_reading.proofs.Walking.{begin, end_finders, end_fronts, end_specs, goes_on, kept_put, one_more, same_meant, states-end}
+use Rattle.flat_reading.proofs.Walking.{states-more}
 use Rattle.flat_reading.proofs.walk.walk.Goals as goal
 
 pub loop-read-init : goal.loop-read-init
@@ -81,11 +82,12 @@ returns c =
     record {
       count = omega (arith, last.counted);
       specs = omega (arith, last.specs_counted);
-      written = λ room specs_room. sym (append-nil _) ∙ last.written (omega (arith, c.add_end.auto.steps, c.loop-read.auto.steps, room)) (omega (
-        arith,
-        c.loop-read.auto.specs,
-        specs_room,
-      ));
+      written = λ room specs_room. same_meant c.args.input.now (take used specs) specs used _ (take-take used used specs (omega arith)) last.few
+          ∙ sym (append-nil _) ∙ last.written (omega (arith, c.add_end.auto.steps, c.loop-read.auto.steps, room)) (omega (
+            arith,
+            c.loop-read.auto.specs,
+            specs_room,
+          ));
       state = last.state;
       finders = last.finders;
       fronts = omega (arith, last.fronts);
