@@ -40,6 +40,10 @@ maybe_place r = if r.there == 0 then None else Some (r.from, r.to)
 abbrev pub fill_meant : ℕ → Option ℕ
 fill_meant n = if n == 1114112 then None else Some n
 
+-- no placeholder has this fill, which is no character
+abbrev pub no_fill : Option ℕ
+no_fill = Some 1114112
+
 abbrev pub align_meant : ℕ → Alignment
 align_meant n = if n == 1 then Left else (if n == 2 then Right else (if n == 3 then Center else Unknown))
 
@@ -49,22 +53,29 @@ sign_meant n = if n == 1 then Some Plus else (if n == 2 then Some Minus else Non
 abbrev pub hex_meant : ℕ → Option DebugHex
 hex_meant n = if n == 1 then Some Lower else (if n == 2 then Some Upper else None)
 
--- a type of one of the kinds; that of the kind 1 stands in the input
+-- a type of one of the kinds; that of the kind 1 stands in the input, and one of a kind that there is not is no text
 abbrev pub type_meant : List ℕ → ℕ → Extent → Text
 type_meant input kind r =
-    if kind == 1 then text_at input r
-    else (if kind == 2 then codes "x" else (if kind == 3 then codes "X" else (if kind == 4 then codes "?" else [])))
+    if kind == 0 then []
+    else (if kind == 1 then text_at input r
+    else (if kind == 2 then codes "x" else (if kind == 3 then codes "X" else (if kind == 4 then codes "?" else no_text))))
 
+-- a count of one of the kinds; one of a kind that there is not has no text for a name
 unfoldable pub count_meant : List ℕ → CountRecord → Count Place
 count_meant input k =
-    if k.kind == 1 then Is k.number
+    if k.kind == 0 then Implied
+    else (if k.kind == 1 then Is k.number
     else (if k.kind == 2 then Name (text_at input k.name) (place k.name_span)
     else (if k.kind == 3 then Param k.number
-    else (if k.kind == 4 then Star k.number else Implied)))
+    else (if k.kind == 4 then Star k.number else Name no_text (place k.name_span)))))
+
+-- the alignment and the flags are among those that there are
+abbrev pub is_listed : SpecRecord → Bool
+is_listed s = nat_lt s.align 4 && (nat_lt s.sign 3 && nat_lt s.debug_hex 3)
 
 unfoldable pub spec_meant : List ℕ → SpecRecord → Spec Place
 spec_meant input s = record {
-  fill = fill_meant s.fill;
+  fill = if is_listed s then fill_meant s.fill else no_fill;
   fill_span = maybe_place s.fill_span;
   align = align_meant s.align;
   sign = sign_meant s.sign;
@@ -79,9 +90,9 @@ spec_meant input s = record {
   ty_span = maybe_place s.ty_span;
 }
 
--- no placeholder asks for this: its fill is no character
+-- no placeholder asks for this
 abbrev pub no_spec : Spec Place
-no_spec = record default_spec { fill = Some 1114112 }
+no_spec = record default_spec { fill = no_fill }
 
 -- The specification with this number: the default one is 0, and those of the buffer are counted from 1. No other number has one.
 unfoldable pub spec_at : List ℕ → List SpecRecord → ℕ → Spec Place
@@ -89,7 +100,7 @@ spec_at input specs n = slice_index_or (default_spec ∷ map (spec_meant input) 
 
 abbrev pub position_meant : List ℕ → ℕ → ℕ → Extent → Position
 position_meant input kind number name =
-    if kind == 1 then Index number else (if kind == 2 then Named (text_at input name) else Implicit number)
+    if kind == 0 then Implicit number else (if kind == 1 then Index number else Named (if kind == 2 then text_at input name else no_text))
 
 -- the argument of a step, with its specification
 abbrev pub argument_meant : List ℕ → Spec Place → Step → Argument Place
@@ -99,8 +110,9 @@ argument_meant input spec r = record {
   format = spec;
 }
 
--- the piece of a step, with the specification of its argument
+-- the piece of a step, with the specification of its argument; one of a kind that there is not is no text
 unfoldable pub piece_meant : List ℕ → Spec Place → Step → Option (Piece Place)
 piece_meant input spec r =
-    if r.kind == 1 then Some (Lit (run_at input r.read r.text))
-    else (if r.kind == 2 then Some (NextArgument (argument_meant input spec r)) else None)
+    if r.kind == 0 then None
+    else (if r.kind == 1 then Some (Lit (run_at input r.read r.text))
+    else (if r.kind == 2 then Some (NextArgument (argument_meant input spec r)) else Some (Lit no_text)))

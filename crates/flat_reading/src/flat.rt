@@ -78,7 +78,8 @@ fn fill(fill: Option<char>) -> u32
 }
 
 fn align(align: Alignment) -> u32
-    ensures { align_meant result ≡ seen_alignment align }
+    ensures same { align_meant result ≡ seen_alignment align }
+    ensures listed { result < 4 }
 {
     match align {
         Alignment::AlignUnknown => ALIGN_UNKNOWN,
@@ -89,7 +90,8 @@ fn align(align: Alignment) -> u32
 }
 
 fn sign(sign: Option<Sign>) -> u32
-    ensures { sign_meant result ≡ option_map seen_sign sign }
+    ensures same { sign_meant result ≡ option_map seen_sign sign }
+    ensures listed { result < 3 }
 {
     match sign {
         None => SIGN_NONE,
@@ -99,7 +101,8 @@ fn sign(sign: Option<Sign>) -> u32
 }
 
 fn debug_hex(hex: Option<DebugHex>) -> u32
-    ensures { hex_meant result ≡ option_map seen_debug_hex hex }
+    ensures same { hex_meant result ≡ option_map seen_debug_hex hex }
+    ensures listed { result < 3 }
 {
     match hex {
         None => HEX_NONE,
