@@ -16,7 +16,8 @@ use Rattle.flat_reading.specs.declared.records.Step.{Step}
 use Rattle.flat_reading.specs.declared.records.Spec.{Spec as SpecRecord}
 use Rattle.rustc_parse_format.specs.Lines.{closed_in}
 use Rattle.flat_reading.specs.Meant.{maybe_place, piece_meant, spec_at}
-use Rattle.flat_reading.specs.Events.{place_of_first, position, event, events, end_of, found_by, finders_from, add_finders, fronts_in, fronts_of, given, looked_for}
+use Rattle.flat_reading.specs.Events.{place_of_first, position, event, events, end_of, found_by}
+use Rattle.flat_reading.specs.Events.{finders_from, add_finders, fronts_in, fronts_of, given, looked_for}
 use Rattle.flat_reading.specs.Events.{spec_count, specs_in, is_default, states, states_for, step_meant}
 use Rattle.flat_reading.specs.Held.{Found}
 use Rattle.flat_reading.specs.Stand.{IsAdded}
@@ -94,8 +95,8 @@ specs_in-le (Some (NextArgument a)) = by_test (is_default a.format)
     by_test false = omega arith
 
 -- So far so many steps and specifications are told of the calls from the state s0 on, which came to s; the calls at the states `todo` are left.
-pub record IsUpTo (peeks : Bool) (input : List ℕ) (s0 : State) (todo : List State) (s : State) (count used : ℕ) (found : Found) (steps : List Step) (specs : List
-    SpecRecord) : Type 0 where
+pub record IsUpTo (peeks : Bool) (input : List ℕ) (s0 : State) (todo : List State) (s : State) (count used : ℕ) (found : Found) (steps : List Step)
+    (specs : List SpecRecord) : Type 0 where
   pub counted : count + length todo ≡ length (states s0)
   pub specs_counted : used + sum_by (λ (t : State). specs_in (given t)) todo ≡ spec_count s0
   pub fewer : used ≤ count
@@ -124,8 +125,8 @@ put_length count old new r put = by_room (cases_lt count (length old))
     by_room (inl room) = ap length (put.0 room) ∙ length-set old count r
     by_room (inr full) = ap length (put.1 full)
 
-pub one_more : (peeks : Bool) (input : List ℕ) (s0 s new : State) (todo : List State) (count used used' : ℕ) (found found' : Found) (steps steps' : List Step) (specs
-    specs' : List SpecRecord) →
+pub one_more : (peeks : Bool) (input : List ℕ) (s0 s new : State) (todo : List State) (count used used' : ℕ) (found found' : Found) (steps steps' : List Step)
+    (specs specs' : List SpecRecord) →
     IsUpTo peeks input s0 (s ∷ todo) s count used found steps specs → new ≡ after s (next_call s) → used' ≡ used + specs_in (given s) →
     found'.calls ≡ add_finders count found.calls (next_call s).faults → found'.fronts ≡ found.fronts + fronts_in (next_call s) →
     IsAdded peeks input s count used' steps steps' specs' → take used specs' ≡ take used specs → length specs' ≡ length specs →

@@ -2,7 +2,8 @@
 use Rattle.std.proofs.Common.{◌≡◌, ◌++◌, ◌==◌, ℕ, Bool, true, false, not, ◌&&◌, cond, IsTrue, ap, [], ◌∷◌, refl, sym, ◌∙◌, codes}
 use Rattle.std.proofs.lemmas.Bool.{cond_both, eqb-true, false≢true, ne_eqb, or_from}
 use Rattle.std.specs.Char.{is_ascii_digit, is_whitespace}
-use Rattle.rustc_parse_format.specs.Characters.{Text, is_id_start, is_no_brace, front, behind, word, first_passes, behind_first, behind_prefix, behind_white, begins_raw}
+use Rattle.rustc_parse_format.specs.Characters.{Text, is_id_start, is_no_brace, front, behind}
+use Rattle.rustc_parse_format.specs.Characters.{word, first_passes, behind_first, behind_prefix, behind_white, begins_raw}
 use Rattle.rustc_parse_format.specs.Types.{Mode, Format, InlineAsm, Diagnostic, DiagnosticNamed, wants_names, DebugHex, Lower, Upper}
 use Rattle.rustc_parse_format.specs.Counts.{width, precision}
 use Rattle.rustc_parse_format.specs.Syntax.{TypeText, SpecText}

@@ -4,7 +4,8 @@ use Rattle.std.proofs.Common.{◌≡◌, ◌↔◌, IsTrue, [], ◌∷◌, Bool,
 use Rattle.std.specs.Prelude.{is_none, option_map}
 use Rattle.std.proofs.lemmas.Bool.{and_parts, false≢true}
 use Rattle.rustc_parse_format.specs.Characters.{Text, is_nil}
-use Rattle.rustc_parse_format.specs.Types.{is_named, Position, Implicit, Index, Named, Alignment, Left, Right, Center, Unknown, Count, Is, Name, Param, Star, Implied}
+use Rattle.rustc_parse_format.specs.Types.{is_named, Position, Implicit, Index, Named, Alignment, Left, Right}
+use Rattle.rustc_parse_format.specs.Types.{Center, Unknown, Count, Is, Name, Param, Star, Implied}
 use Rattle.rustc_parse_format.specs.Types.{Spec, Argument, default_spec, map_count, map_spec, map_argument}
 use Rattle.rustc_parse_format.specs.Identifiers.{IsIdentifier, is_unknown, is_implied, is_default, is_identifier}
 

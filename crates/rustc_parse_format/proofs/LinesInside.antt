@@ -12,7 +12,8 @@ use Rattle.rustc_parse_format.specs.Spelling.{IsPart, fixed, run}
 use Rattle.rustc_parse_format.specs.Syntax.{SpecText, Default, Formatting, Modifier, DiagnosticText, spec_part}
 use Rattle.rustc_parse_format.specs.Placeholder.{cut}
 use Rattle.rustc_parse_format.specs.Marks.{Mark, Start, Span, marked, over_first}
-use Rattle.rustc_parse_format.specs.Faults.{Fault, UnmatchedBrace, MissingBrace, FillBrace, Underscore, TooLarge, Unnamed, TextAfterColon, RawIdentifier, LateFlag}
+use Rattle.rustc_parse_format.specs.Faults.{Fault, UnmatchedBrace, MissingBrace, FillBrace, Underscore}
+use Rattle.rustc_parse_format.specs.Faults.{TooLarge, Unnamed, TextAfterColon, RawIdentifier, LateFlag}
 use Rattle.rustc_parse_format.specs.Faults.{Message, map_fault, message, is_front, add_errors}
 use Rattle.rustc_parse_format.specs.Call.{Call, IsWalk, GoesOn, call, placeholder, closed_call, unclosed_call}
 use Rattle.rustc_parse_format.specs.Values.{number_after_field}

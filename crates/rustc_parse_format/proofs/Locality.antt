@@ -8,7 +8,8 @@ use Rattle.unicode_ident.proofs.Computing.{unicode_ident}
 use Rattle.std.specs.Char.{is_ascii_digit, is_whitespace}
 use Rattle.rustc_parse_format.specs.Characters.{Text, is_align, is_no_brace, is_id_start, is_id_continue, behind, behind_word, behind_first, begins_with}
 use Rattle.rustc_parse_format.specs.Characters.{begins_raw, first_passes}
-use Rattle.rustc_parse_format.specs.Types.{Mode, Format, InlineAsm, Diagnostic, DiagnosticNamed, Alignment, Left, Right, Center, Unknown, Sign, Plus, Minus, Lower, Upper}
+use Rattle.rustc_parse_format.specs.Types.{Mode, Format, InlineAsm, Diagnostic, DiagnosticNamed, Alignment, Left}
+use Rattle.rustc_parse_format.specs.Types.{Right, Center, Unknown, Sign, Plus, Minus, Lower, Upper}
 use Rattle.rustc_parse_format.specs.Spelling.{Part, IsPart, row, fixed, unless, absent, run, integer, identifier, optional_identifier, begins_with_part}
 use Rattle.rustc_parse_format.proofs.PartNames.{begins_count, begins_with_part-count}
 use Rattle.rustc_parse_format.specs.Syntax.{PositionText, Digits, Word, RawWord, NoPosition, position_part, fill_part, align_part, is_sign, sign_part}

@@ -5,7 +5,8 @@ use Rattle.std.specs.Prelude.{◌==◌, ◌||◌, not}
 use Rattle.std.proofs.lemmas.Bool.{cond_both, cond-true, cond-false, or_from, or_parts, or_cases, or_left, or_right, not-true, false≢true, eqb-true}
 use Rattle.rustc_parse_format.specs.Characters.{Text, is_align, is_no_brace, word, behind_word, behind_first, begins_with, first_passes}
 use Rattle.rustc_parse_format.specs.Spelling.{IsPart, fixed, absent, run, optional_identifier}
-use Rattle.rustc_parse_format.specs.Types.{Mode, Format, InlineAsm, Diagnostic, DiagnosticNamed, Alignment, Left, Right, Center, Unknown, Sign, Plus, Minus, DebugHex, Lower}
+use Rattle.rustc_parse_format.specs.Types.{Mode, Format, InlineAsm, Diagnostic, DiagnosticNamed, Alignment, Left}
+use Rattle.rustc_parse_format.specs.Types.{Right, Center, Unknown, Sign, Plus, Minus, DebugHex, Lower}
 use Rattle.rustc_parse_format.specs.Types.{Upper}
 use Rattle.rustc_parse_format.specs.Syntax.{WidthText, width_part, PrecisionText, precision_part, fill_part, align_part, is_sign, sign_part, alternate_part}
 use Rattle.rustc_parse_format.specs.Syntax.{is_type_character, TypeText, DebugHexType, CharacterType, WordType, type_part, FormatText, format_part, SpecText}

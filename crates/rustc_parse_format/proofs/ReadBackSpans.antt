@@ -19,7 +19,8 @@ use Rattle.rustc_parse_format.specs.Meaning.{count_of, count_span, width_of, wid
 use Rattle.rustc_parse_format.specs.Meaning.{from_type, from_precision, from_width, format_of, spec_of, argument}
 use Rattle.rustc_parse_format.specs.Faults.{Fault, Underscore, TooLarge, Unnamed, TextAfterColon, LateFlag}
 use Rattle.rustc_parse_format.specs.PartFaults.{word_faults, number_faults, argument_faults, width_faults, precision_faults, type_faults, format_faults}
-use Rattle.rustc_parse_format.specs.PartFaults.{raw_faults, position_faults, name_faults, text_faults, spec_faults, cut_faults, is_debug_flag, late_flag, flag_faults}
+use Rattle.rustc_parse_format.specs.PartFaults.{raw_faults, position_faults, name_faults, text_faults}
+use Rattle.rustc_parse_format.specs.PartFaults.{spec_faults, cut_faults, is_debug_flag, late_flag, flag_faults}
 use Rattle.rustc_parse_format.specs.Values.{given_position, is_name}
 use Rattle.rustc_parse_format.specs.ReadBack.{IsForward, optional, spans_of_count, spans_of_spec, spans_of, spans_of_fault}
 use Rattle.rustc_parse_format.proofs.PartLaws.{IsRow, opened, only, two-split}

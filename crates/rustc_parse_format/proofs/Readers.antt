@@ -56,7 +56,8 @@ faults_on : (w : World) (old : List (Fault Place)) (fs : List (Fault Span)) (b :
 faults_on w old fs b s gs =
     let ns : List (Fault Span) = cond b (Unnamed s ∷ []) [] in
     ap (λ xs. ((old ++ faults_in w fs) ++ xs) ++ faults_in w gs) (names_in w b s)
-    ∙ ap (λ xs. xs ++ faults_in w gs) (append_assoc old (faults_in w fs) (faults_in w ns) ∙ ap (λ hs. old ++ hs) (sym (map-append (map_fault (place_of w)) fs ns)))
+    ∙ ap (λ xs. xs ++ faults_in w gs)
+    (append_assoc old (faults_in w fs) (faults_in w ns) ∙ ap (λ hs. old ++ hs) (sym (map-append (map_fault (place_of w)) fs ns)))
     ∙ append_assoc old (faults_in w (fs ++ ns)) (faults_in w gs)
     ∙ ap (λ hs. old ++ hs) (sym (map-append (map_fault (place_of w)) (fs ++ ns) gs))
 

@@ -6,7 +6,8 @@ use Rattle.std.specs.List.{AllByRecursion, list_all}
 use Rattle.std.proofs.lemmas.Bool.{and_parts, not-true, false≢true}
 use Rattle.rustc_parse_format.specs.Characters.{Text}
 use Rattle.rustc_parse_format.specs.Marks.{Span}
-use Rattle.rustc_parse_format.specs.Types.{Mode, Format, InlineAsm, Diagnostic, DiagnosticNamed, Unknown, Position, Implicit, Index, Named, Star, Piece, Lit, NextArgument}
+use Rattle.rustc_parse_format.specs.Types.{Mode, Format, InlineAsm, Diagnostic, DiagnosticNamed, Unknown, Position}
+use Rattle.rustc_parse_format.specs.Types.{Implicit, Index, Named, Star, Piece, Lit, NextArgument}
 use Rattle.rustc_parse_format.specs.Types.{default_spec}
 use Rattle.rustc_parse_format.specs.Syntax.{Word, NoPosition, NoCount, PlainWidth, StarPrecision, WordType, FormatText, Default, Formatting, FieldText}
 use Rattle.rustc_parse_format.specs.Syntax.{PieceText, RunText, DoubledText, PlaceholderText, piece_part}

@@ -1,5 +1,6 @@
 -- Bytes of a kept snippet that are no backslash stand for themselves: what was passed within them stands there as it is.
-use Rattle.std.proofs.Common.{◌≡◌, ◌≢◌, ◌++◌, ◌+◌, ◌-◌, ◌<◌, ◌≤◌, Bool, true, false, List, ℕ, [], ◌∷◌, take, drop, length, get_or, chars, IsUtf8, IsCharBoundary}
+use Rattle.std.proofs.Common.{◌≡◌, ◌≢◌, ◌++◌, ◌+◌, ◌-◌, ◌<◌, ◌≤◌, Bool, true, false}
+use Rattle.std.proofs.Common.{List, ℕ, [], ◌∷◌, take, drop, length, get_or, chars, IsUtf8, IsCharBoundary}
 use Rattle.std.proofs.Common.{suc, zero, inl, inr, ◌⊎◌, ap, refl, subst, sym, ◌∙◌, arith, append_assoc, length-drop}
 use Rattle.std.specs.Char.{len_utf8}
 use Rattle.std.specs.Prelude.{◌&&◌, IsTrue, encode_utf8}
@@ -9,7 +10,8 @@ use Rattle.std.proofs.Math.Utf8.{encodes}
 use Rattle.std.proofs.lemmas.Bool.{and_parts, and_from, false≢true, eqb-true, cases_eq}
 use Rattle.std.proofs.lemmas.List.{append_cancel_right, drop-drop, drop_more, get_or-take, length-take-le, take-append-drop, take-take}
 use Rattle.std.proofs.lemmas.List.Folds.{list_all-append, list_all_at}
-use Rattle.std.proofs.lemmas.Str.{IsCharBoundary-from_drop, IsUtf8-drop, IsUtf8-from_is_utf8, is_utf8-from_IsUtf8, encode_ascii, encodes-append, encodes-chars, len_utf8_bounds, length-encode}
+use Rattle.std.proofs.lemmas.Str.{IsCharBoundary-from_drop, IsUtf8-drop, IsUtf8-from_is_utf8, is_utf8-from_IsUtf8}
+use Rattle.std.proofs.lemmas.Str.{encode_ascii, encodes-append, encodes-chars, len_utf8_bounds, length-encode}
 use Rattle.rustc_parse_format.specs.declared.source.Look.{Look}
 use Rattle.rustc_parse_format.specs.Bytes.{IsLeft}
 use Rattle.rustc_parse_format.specs.Characters.{Text, behind_first, byte_length}
@@ -142,7 +144,9 @@ bare_still : (s : List ℕ) (w : World) (mark rest : List ℕ) (at : Look) → I
 bare_still s w mark rest at h l none =
     let k = left mark rest l in
     let within = l.within in
-    let same : chars mark ≡ chars rest = front_gone mark rest (IsUtf8-from_is_utf8 mark l.valid) (IsUtf8-from_is_utf8 rest l.valid_rest) (omega arith) k.pre k.whole in
+    let valid = IsUtf8-from_is_utf8 mark l.valid in
+    let valid_rest = IsUtf8-from_is_utf8 rest l.valid_rest in
+    let same : chars mark ≡ chars rest = front_gone mark rest valid valid_rest (omega arith) k.pre k.whole in
     let stays : at.byte ≡ at.byte + Moved mark rest = omega (arith, none) in
     subst (IsHere s w (chars rest)) stays (subst (λ t. IsHere s w t at.byte) same h.0)
 

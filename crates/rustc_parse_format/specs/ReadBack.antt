@@ -7,7 +7,8 @@ use Rattle.rustc_parse_format.specs.LiteralUnits.{LiteralUnit, Plain, spelling, 
 use Rattle.rustc_parse_format.specs.Source.{units_between, unappended}
 use Rattle.rustc_parse_format.specs.Marks.{Mark, Start, End, Span}
 use Rattle.rustc_parse_format.specs.Types.{Count, Name, Spec, Piece, Lit, NextArgument}
-use Rattle.rustc_parse_format.specs.Faults.{Fault, UnmatchedBrace, MissingBrace, FillBrace, Underscore, TooLarge, Unnamed, TextAfterColon, RawIdentifier, LateFlag}
+use Rattle.rustc_parse_format.specs.Faults.{Fault, UnmatchedBrace, MissingBrace, FillBrace, Underscore}
+use Rattle.rustc_parse_format.specs.Faults.{TooLarge, Unnamed, TextAfterColon, RawIdentifier, LateFlag}
 use Rattle.rustc_parse_format.specs.Faults.{MissingColon, LateDebug, LateAlign, Grouping, DebugPrint, LateSign, FieldAccess, TupleIndex}
 use Rattle.rustc_parse_format.specs.Faults.{Message, Suggestion, Nothing, UsePositional, RemoveRawIdent, ReorderFormatParameter, AddMissingColon}
 use Rattle.rustc_parse_format.specs.Faults.{UseRustDebugPrintingMacro}

@@ -4,7 +4,8 @@ use Rattle.std.specs.declared.string.String.{String}
 use Rattle.std.specs.declared.alloc.Global.{Global}
 use Rattle.std.specs.declared.ops.Range.{Range}
 use Rattle.rustc_parse_format.specs.declared.types.ParseMode.{ParseMode as DeclaredMode}
-use Rattle.rustc_parse_format.specs.declared.types.ParseMode.TheVariants.{Format as FormatMode, InlineAsm as InlineAsmMode, Diagnostic as DiagnosticMode, DiagnosticNamed as NamesMode}
+use Rattle.rustc_parse_format.specs.declared.types.ParseMode.TheVariants.{Format as FormatMode, InlineAsm as InlineAsmMode}
+use Rattle.rustc_parse_format.specs.declared.types.ParseMode.TheVariants.{Diagnostic as DiagnosticMode, DiagnosticNamed as NamesMode}
 use Rattle.rustc_parse_format.specs.declared.types.Piece.{Piece as DeclaredPiece}
 use Rattle.rustc_parse_format.specs.declared.types.Piece.TheVariants.{Lit as LitPiece, NextArgument as ArgumentPiece}
 use Rattle.rustc_parse_format.specs.declared.types.Taken.{Taken as DeclaredTaken}
@@ -27,7 +28,8 @@ use Rattle.rustc_parse_format.specs.declared.types.Suggestion.TheVariants.{None 
 use Rattle.rustc_parse_format.specs.declared.types.Suggestion.TheVariants.{ReorderFormatParameter as Reorder, AddMissingColon as AddColon}
 use Rattle.rustc_parse_format.specs.declared.types.Suggestion.TheVariants.{UseRustDebugPrintingMacro as UseDebugMacro}
 use Rattle.rustc_parse_format.specs.Characters.{Text}
-use Rattle.rustc_parse_format.specs.Types.{Mode, Format, InlineAsm, Diagnostic, DiagnosticNamed, Alignment, Left, Right, Center, Unknown, Sign, Plus, Minus, DebugHex, Lower}
+use Rattle.rustc_parse_format.specs.Types.{Mode, Format, InlineAsm, Diagnostic, DiagnosticNamed, Alignment, Left}
+use Rattle.rustc_parse_format.specs.Types.{Right, Center, Unknown, Sign, Plus, Minus, DebugHex, Lower}
 use Rattle.rustc_parse_format.specs.Types.{Upper, Position, Implicit, Index, Named, Count, Is, Name, Param, Star, Implied, Spec, Argument, Piece, Lit}
 use Rattle.rustc_parse_format.specs.Types.{NextArgument}
 use Rattle.rustc_parse_format.specs.Faults.{Message, Suggestion, Nothing, UsePositional, RemoveRawIdent, ReorderFormatParameter, AddMissingColon}

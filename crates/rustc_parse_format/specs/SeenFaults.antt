@@ -8,7 +8,8 @@ use Rattle.rustc_parse_format.specs.declared.faults.Fault.TheVariants.{MissingCo
 use Rattle.rustc_parse_format.specs.declared.faults.Fault.TheVariants.{Grouping as Comma, DebugPrint as EqualsSign, LateSign as SignAfter}
 use Rattle.rustc_parse_format.specs.declared.faults.Fault.TheVariants.{FieldAccess as NamedField, TupleIndex as NumberedField}
 use Rattle.rustc_parse_format.specs.Faults.{MissingColon, LateDebug, LateAlign, Grouping, DebugPrint, LateSign, FieldAccess, TupleIndex}
-use Rattle.rustc_parse_format.specs.Faults.{Fault, UnmatchedBrace, MissingBrace, FillBrace, Underscore, TooLarge, Unnamed, TextAfterColon, RawIdentifier, LateFlag}
+use Rattle.rustc_parse_format.specs.Faults.{Fault, UnmatchedBrace, MissingBrace, FillBrace, Underscore}
+use Rattle.rustc_parse_format.specs.Faults.{TooLarge, Unnamed, TextAfterColon, RawIdentifier, LateFlag}
 use Rattle.rustc_parse_format.specs.Seen.{pair}
 use Rattle.rustc_parse_format.specs.World.{Place}
 

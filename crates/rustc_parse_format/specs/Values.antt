@@ -2,7 +2,8 @@
 -- The public rule is `std::fmt`, of positional parameters, widths and precisions.
 use Rattle.std.specs.Prelude.{ℕ, Bool, true, false, suc, if◌then◌else◌, [], ◌∷◌, Option, Some, None, codes, is_some, unwrap_or}
 use Rattle.rustc_parse_format.specs.Characters.{Text, number}
-use Rattle.rustc_parse_format.specs.Types.{DebugHex, Position, Implicit, Index, Named, is_named, Count, Is, Name, Param, Star, Implied, Spec, Argument, Piece, Lit}
+use Rattle.rustc_parse_format.specs.Types.{DebugHex, Position, Implicit, Index, Named, is_named, Count, Is}
+use Rattle.rustc_parse_format.specs.Types.{Name, Param, Star, Implied, Spec, Argument, Piece, Lit}
 use Rattle.rustc_parse_format.specs.Types.{NextArgument, default_spec}
 use Rattle.rustc_parse_format.specs.Syntax.{PositionText, Digits, Word, RawWord, NoPosition, CountText, NumberCount, IndexCount, NameCount, NoCount}
 use Rattle.rustc_parse_format.specs.Syntax.{WidthText, PaddedWidth, ZeroIndexWidth, PlainWidth, PrecisionText, NoPrecision, StarPrecision}

@@ -53,7 +53,8 @@ returns-clause-told c = λ room.
 
 pub returns-clause-guided : goal.returns-clause-guided
 returns-clause-guided c =
-    rw (c.in_ok-given.ensures.state, c.in_ok-put_given.ensures.state) (still_guided c.args.parser.now c.args.offset (guide_of c.args.guide.now) c.requires.guided)
+    let guided = still_guided c.args.parser.now c.args.offset (guide_of c.args.guide.now) c.requires.guided in
+    rw (c.in_ok-given.ensures.state, c.in_ok-put_given.ensures.state) guided
 
 pub returns-clause-finders : goal.returns-clause-finders
 returns-clause-finders c =
