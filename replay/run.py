@@ -20,6 +20,8 @@ import cases
 HERE = os.path.dirname(os.path.abspath(__file__))
 LIMIT = 1048576
 SECONDS = 60
+# How many cases there are: one that is lost is a failure.
+CASES = 1489
 SAYS = {
     "": "",
     "Words": "usage: formatread format|asm|diagnostic|diagnostic-named [--literal] [--args N,NAME,..]",
@@ -113,6 +115,9 @@ def main():
         return 1
     todo = [(case, None) for some in read for case in some]
     todo += [(case[:6], case[6]) for case in made_cases()]
+    if not said.lists and len(todo) != CASES:
+        print(f"replay: 0 passed, 1 failed: there are {len(todo)} cases, and not {CASES}")
+        return 1
     with ThreadPoolExecutor(os.cpu_count()) as pool:
         why = list(pool.map(lambda it: run(program, *it), todo))
     failed = [(case, it) for (case, _), it in zip(todo, why) if it]

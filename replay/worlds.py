@@ -22,6 +22,8 @@ import cases
 
 HERE = os.path.dirname(os.path.abspath(__file__))
 SECONDS = 60
+# How many inputs there are: one that is lost is a failure.
+CASES = 555
 # After a brace that closes nothing, reading goes on. No input of library.tsv is such a one.
 LONE = [("lone-brace", "format", b"}a"), ("lone-braces", "format", b"}}}a}")]
 
@@ -108,6 +110,9 @@ def main():
         print("worlds: 0 passed, 1 failed: the program was not built")
         return 1
     todo = inputs()
+    if len(todo) != CASES:
+        print(f"worlds: 0 passed, 1 failed: there are {len(todo)} inputs, and not {CASES}")
+        return 1
     with ThreadPoolExecutor(os.cpu_count()) as pool:
         why = list(pool.map(lambda it: fault(program, *it[1:]), todo))
     failed = [(case, it) for case, it in zip(todo, why) if it]
