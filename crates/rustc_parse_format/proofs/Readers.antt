@@ -1,5 +1,5 @@
 -- What a reader stands at after several parts.
-use Rattle.std.proofs.Common.{◌≡◌, ◌++◌, ◌&&◌, ℕ, Bool, true, false, not, cond, suc, List, [], ◌∷◌, refl, Option, sym, ap, ◌∙◌, append_assoc}
+use Rattle.std.proofs.Common.{◌≡◌, ◌++◌, ◌&&◌, ℕ, Bool, true, false, not, cond, suc, List, [], ◌∷◌, refl, Option, sym, ap, subst, ◌∙◌, append_assoc}
 use Rattle.std.proofs.lemmas.List.{append-nil, map-append}
 use Rattle.rustc_parse_format.specs.Characters.{Text}
 use Rattle.rustc_parse_format.specs.Faults.{Fault, Unnamed, map_fault}
@@ -12,8 +12,16 @@ use Rattle.rustc_parse_format.specs.Placeholder.{cut, position}
 use Rattle.rustc_parse_format.specs.Values.{given_position, is_name, number_after_field, number_after_position, number_after_spec}
 use Rattle.rustc_parse_format.specs.PartFaults.{position_faults, name_faults, cut_faults, spec_faults}
 use Rattle.rustc_parse_format.specs.Meaning.{spec_texts}
-use Rattle.rustc_parse_format.specs.Midway.{Midway, read_texts, read_to}
+use Rattle.rustc_parse_format.specs.Back.{Back}
+use Rattle.rustc_parse_format.specs.Midway.{IsAt, Midway, read_texts, read_to}
 use Rattle.rustc_parse_format.specs.World.{World, Place, faults_in, place_of}
+
+-- a place, with what was given back
+pub at_any : (s new : Midway) (b : Back) → new ≡ record s { back = b } → IsAt s new
+at_any s new b e = subst (λ (m : Midway). m ≡ record s { back = m.back }) (sym e) refl
+
+pub at_exactly : {s new : Midway} → new ≡ s → IsAt s new
+at_exactly {s} {new} e = at_any s new s.back e
 
 -- where nothing is read
 pub read_nothing : (s : Midway) (r : Text) (fs : List (Fault Span)) → r ≡ s.rest → fs ≡ [] → s ≡ read_to s r s.next fs

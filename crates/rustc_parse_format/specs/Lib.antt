@@ -29,7 +29,9 @@ pub mod Source
 pub mod World
 pub mod Lines
 pub mod SeenSource
+pub mod Back
 pub mod Midway
 pub mod ReadBack
+pub mod Reads
 pub mod LiteralReading
 pub mod KnownTexts

@@ -4,6 +4,7 @@ use Rattle.std.specs.Prelude.{chars, Bool, not, ◌&&◌, if◌then◌else◌, �
 use Rattle.std.specs.Char.{is_whitespace}
 use Rattle.rustc_parse_format.specs.declared.source.Source.{Source}
 use Rattle.rustc_parse_format.specs.Characters.{Text, front, behind, behind_first, begins_with, is_no_brace}
+use Rattle.rustc_parse_format.specs.Back.{Back}
 use Rattle.rustc_parse_format.specs.Marks.{Span, marked, through}
 use Rattle.rustc_parse_format.specs.Faults.{Fault}
 use Rattle.rustc_parse_format.specs.World.{World, Place, StartBehind, faults_in, place_at}
@@ -19,6 +20,9 @@ pub record Unread : Type 0 where
   pub world : World
   pub input : Text
   pub rest : Text
+  pub back : Back
+  -- how often it was put back after a refusal, whose steps do not count
+  pub undone : ℕ
 
 -- What a reader stands at: the same, with the number that the next implicit argument takes, and what the call has found so far.
 pub record Midway : Type 0 where
@@ -26,6 +30,8 @@ pub record Midway : Type 0 where
   pub world : World
   pub input : Text
   pub rest : Text
+  pub back : Back
+  pub undone : ℕ
   pub next : ℕ
   pub faults : List (Fault Place)
   -- where the line starts that is read, and the lines in front of it that ended in this call
@@ -45,6 +51,8 @@ midway u n start = record {
   world = u.world;
   input = u.input;
   rest = u.rest;
+  back = u.back;
+  undone = u.undone;
   next = n;
   faults = [];
   line_start = start;
@@ -57,8 +65,12 @@ abbrev pub HasFoundNothing : Midway → Type 0
 HasFoundNothing s = (s.faults ≡ []) × (s.lines ≡ []) × (s.closed ≡ None)
 
 -- what a cursor at the front of this rest of the input of a source stands at
-abbrev pub unread_at : Source → List ℕ → Unread
-unread_at s rest = record { source = s; world = seen_world s; input = chars s.input.now; rest = chars rest }
+abbrev pub unread_at : Source → List ℕ → Back → ℕ → Unread
+unread_at s rest b n = record { source = s; world = seen_world s; input = chars s.input.now; rest = chars rest; back = b; undone = n }
+
+-- at this place, whatever was given back
+abbrev pub IsAt : Midway → Midway → Type 0
+IsAt s new = new ≡ record s { back = new.back }
 
 -- read up to the rest r and the number n, with these faults found on the way
 abbrev pub read_to : Midway → Text → ℕ → List (Fault Span) → Midway

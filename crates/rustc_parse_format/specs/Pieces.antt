@@ -5,7 +5,7 @@ use Rattle.std.specs.Borrow.{GName}
 use Rattle.rustc_parse_format.specs.declared.pieces.Pieces.{Pieces}
 use Rattle.rustc_parse_format.specs.declared.types.Piece.{Piece as DeclaredPiece}
 use Rattle.rustc_parse_format.specs.Seen.{seen}
-use Rattle.rustc_parse_format.specs.State.{State, NeedsNoMemory, after, next_call}
+use Rattle.rustc_parse_format.specs.State.{State, NeedsNoMemory, after, next_call, with_back}
 use Rattle.rustc_parse_format.specs.World.{piece_in}
 
 -- where its parser stands
@@ -20,12 +20,12 @@ lender_of it = it.parser.ghost_name
 abbrev pub has_ended : Pieces → Bool
 has_ended it = it.ended
 
--- A call of the parser at s leaves it at t, and this is its item: the piece; the refusal, which moves nothing, and which a call that
+-- A call of the parser at s leaves it at t, but for what it gave back, and this is its item: the piece; the refusal, which moves nothing, and which a call that
 -- needs no memory never is; or none where the call gives no piece.
 abbrev pub IsCall : State → Option (Result DeclaredPiece AllocError) → State → Type 0
-IsCall s (Some (Ok p)) t = (Some (seen p) ≡ option_map (piece_in s.world) (next_call s).piece) × (t ≡ after s (next_call s))
+IsCall s (Some (Ok p)) t = (Some (seen p) ≡ option_map (piece_in s.world) (next_call s).piece) × (with_back t s.back ≡ after s (next_call s))
 IsCall s (Some (Err e)) t = (NeedsNoMemory s (next_call s) → ⊥) × (t ≡ s)
-IsCall s None t = ((next_call s).piece ≡ None) × (t ≡ after s (next_call s))
+IsCall s None t = ((next_call s).piece ≡ None) × (with_back t s.back ≡ after s (next_call s))
 
 -- So many calls, one after the other, the first of them at s, leave the parser at u.
 abbrev pub AreCalls : ℕ → State → State → Type 0

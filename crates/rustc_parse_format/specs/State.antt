@@ -1,6 +1,7 @@
 -- What a caller sees of a parser between two calls.
 use Rattle.std.specs.Prelude.{◌≡◌, ◌≢◌, ◌++◌, ◌&&◌, ◌⊎◌, ℕ, ◌-◌, Bool, if◌then◌else◌, List, [], ◌∷◌, length, Option, Some, None, option_map}
 use Rattle.rustc_parse_format.specs.Characters.{Text, byte_length, is_nil}
+use Rattle.rustc_parse_format.specs.Back.{Back, nothing_back}
 use Rattle.rustc_parse_format.specs.Types.{Mode, Piece, bare}
 use Rattle.rustc_parse_format.specs.Faults.{Message, add_errors}
 use Rattle.rustc_parse_format.specs.World.{World, Place, place_at, world, quote_offset, faults_in, pieces_in}
@@ -19,6 +20,8 @@ pub record State : Type 0 where
   pub input : Text
   -- what has not been read
   pub rest : Text
+  -- what was given back
+  pub back : Back
   -- the number that the next implicit argument takes
   pub next : ℕ
   pub errors : List (Message Place)
@@ -36,6 +39,7 @@ fresh mode w input start = record {
   world = w;
   input = input;
   rest = input;
+  back = nothing_back input;
   next = 0;
   errors = [];
   arg_places = [];
@@ -54,6 +58,10 @@ next_call s = call s.mode s.next s.rest
 -- The last line goes up to the end of the text, and comes with a call at the end.
 abbrev pub last_lines : State → List Place → List Place
 last_lines s ls = if s.world.has_source && is_nil s.rest then with_last (s.line_start, s.world.end) ls else ls
+
+-- the same, but for what was given back
+abbrev pub with_back : State → Back → State
+with_back s b = record s { back = b }
 
 -- after that call
 abbrev pub after : State → Call → State

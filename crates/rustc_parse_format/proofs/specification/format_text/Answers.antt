@@ -1,4 +1,4 @@
-use Rattle.std.proofs.Common.{map, refl, ◌∙◌, ◌++◌}
+use Rattle.std.proofs.Common.{arith, length, map, refl, ap, ◌∙◌, ◌++◌}
 use Rattle.std.proofs.lemmas.Bool.{false≢true}
 use Rattle.rustc_parse_format.specs.Counts.{precision, width}
 use Rattle.rustc_parse_format.specs.Values.{number_after_precision}
@@ -8,29 +8,47 @@ use Rattle.std.specs.Prelude.{option_map}
 use Rattle.rustc_parse_format.specs.Seen.{pair}
 use Rattle.rustc_parse_format.specs.SeenFaults.{seen_fault}
 use Rattle.rustc_parse_format.specs.Specification.{format_text, precision_at, type, type_at, width_at}
-use Rattle.rustc_parse_format.specs.Midway.{midway}
+use Rattle.rustc_parse_format.specs.Midway.{Midway, Unread, midway}
 use Rattle.rustc_parse_format.proofs.PartPlaces.{from_precision-at, from_type-at, from_width-at, format_faults-at}
 use Rattle.rustc_parse_format.proofs.CleanWords.{none_left, none_right}
-use Rattle.rustc_parse_format.proofs.Readers.{read_three}
+use Rattle.rustc_parse_format.proofs.Rests.{IsRest-le, align_at_rest, width_from_align}
+use Rattle.rustc_parse_format.proofs.Readers.{at_exactly, read_three}
 use Rattle.rustc_parse_format.proofs.specification.format_text.Goals as goal
+
+pub width-requires : goal.width-requires
+width-requires c =
+    let t = c.reader.inside.cursor.rest in
+    let b = rw c.fill-fill.ensures.rest at c.alignment-align.ensures.rest in
+    let h = rw b at c.sign-sign.ensures.rest in
+    let k = rw h at c.alternate-alternate.ensures.rest in
+    omega (
+      arith,
+      IsRest-le (align_at_rest t),
+      IsRest-le (width_from_align t),
+      ap (λ (u : Unread). length u.rest) k,
+      ap (λ (u : Unread). u.back.left) k,
+      ap (λ (s : Midway). length s.rest) c.reader.view_is,
+      ap (λ (s : Midway). s.back.left) c.reader.view_is,
+      c.requires.furthest,
+    )
 
 pub returns-clause-value : goal.returns-clause-value
 unfolding format_text format_of
-returns-clause-value g c =
+returns-clause-value c =
     let t = c.reader.inside.cursor.rest in
     let a = c.fill-fill.ensures in
     let b = rw a.rest at c.alignment-align.ensures in
     let h = rw b.rest at c.sign-sign.ensures in
     let k = rw h.rest at c.alternate-alternate.ensures in
     let w = rw k.rest at c.in_ok-width.ensures in
-    let p = rw w.state at c.in_ok-precision.ensures in
-    let y = rw p.state at c.in_ok-type_part.ensures in
+    let p = rw w.reads.state at c.in_ok-precision.ensures in
+    let y = rw p.reads.state at c.in_ok-type_part.ensures in
     rw (← c.reader.view_is, from_width-at t, from_precision-at t, from_type-at t)
     (rw (a.value, a.span, b.value, h.value, k.value, w.zero_pad, w.count, w.span, p.value, p.span, y.ty, y.debug_hex, y.span) refl)
 
 pub returns-clause-state : goal.returns-clause-state
 unfolding format_text
-returns-clause-state g c =
+returns-clause-state c =
     let t = c.reader.inside.cursor.rest in
     let n = c.reader.inside.curarg in
     let s = record (midway c.reader.inside.cursor n c.reader.inside.line_start) {
@@ -45,14 +63,16 @@ returns-clause-state g c =
     let b = rw c.fill-fill.ensures.rest at c.alignment-align.ensures.rest in
     let h = rw b at c.sign-sign.ensures.rest in
     let k = rw h at c.alternate-alternate.ensures.rest in
-    let w = rw k at c.in_ok-width.ensures.state in
-    let p = rw w at c.in_ok-precision.ensures.state in
+    let w = rw k at c.in_ok-width.ensures.reads.state in
+    let p = rw w at c.in_ok-precision.ensures.reads.state in
     let y = rw p at c.in_ok-type_part.ensures.state in
-    rw (← c.reader.view_is, format_faults-at t) (y ∙ read_three s (precision_at t) (type_at t) (type (type_at t)).1 n m m ws ps ys)
+    let e = at_exactly (y ∙ ap (λ (z : Midway). record z { back = c.precision.new.reader.back })
+    (read_three s (precision_at t) (type_at t) (type (type_at t)).1 n m m ws ps ys)) in
+    rw (← c.reader.view_is, format_faults-at t) e
 
 pub returns-in_err-width-clause-spare : goal.returns-in_err-width-clause-spare
 unfolding format_text
-returns-in_err-width-clause-spare g c =
+returns-in_err-width-clause-spare c =
     let t = c.reader.inside.cursor.rest in
     let ws = width_faults (width_at t) (width (width_at t)).0 in
     let ps = precision_faults (precision_at t) (precision (precision_at t)).0 in
@@ -60,12 +80,12 @@ returns-in_err-width-clause-spare g c =
     let b = rw c.fill-fill.ensures.rest at c.alignment-align.ensures.rest in
     let h = rw b at c.sign-sign.ensures.rest in
     let k = rw h at c.alternate-alternate.ensures.rest in
-    let w = rw k at c.in_err-width.ensures.spare in
+    let w = rw k at c.in_err-width.ensures.reads.spare in
     rw (← c.reader.view_is, format_faults-at t) (λ none. absurd (false≢true (w (none_left ws ps (none_left (ws ++ ps) ys none)))))
 
 pub returns-in_err-precision-clause-spare : goal.returns-in_err-precision-clause-spare
 unfolding format_text
-returns-in_err-precision-clause-spare g c =
+returns-in_err-precision-clause-spare c =
     let t = c.reader.inside.cursor.rest in
     let ws = width_faults (width_at t) (width (width_at t)).0 in
     let ps = precision_faults (precision_at t) (precision (precision_at t)).0 in
@@ -73,13 +93,13 @@ returns-in_err-precision-clause-spare g c =
     let b = rw c.fill-fill.ensures.rest at c.alignment-align.ensures.rest in
     let h = rw b at c.sign-sign.ensures.rest in
     let k = rw h at c.alternate-alternate.ensures.rest in
-    let w = rw k at c.in_ok-width.ensures.state in
-    let p = rw w at c.in_err-precision.ensures.spare in
+    let w = rw k at c.in_ok-width.ensures.reads.state in
+    let p = rw w at c.in_err-precision.ensures.reads.spare in
     rw (← c.reader.view_is, format_faults-at t) (λ none. absurd (false≢true (p (none_right ws ps (none_left (ws ++ ps) ys none)))))
 
 pub returns-in_err-type_part-clause-spare : goal.returns-in_err-type_part-clause-spare
 unfolding format_text
-returns-in_err-type_part-clause-spare g c =
+returns-in_err-type_part-clause-spare c =
     let t = c.reader.inside.cursor.rest in
     let ws = width_faults (width_at t) (width (width_at t)).0 in
     let ps = precision_faults (precision_at t) (precision (precision_at t)).0 in
@@ -87,7 +107,7 @@ returns-in_err-type_part-clause-spare g c =
     let b = rw c.fill-fill.ensures.rest at c.alignment-align.ensures.rest in
     let h = rw b at c.sign-sign.ensures.rest in
     let k = rw h at c.alternate-alternate.ensures.rest in
-    let w = rw k at c.in_ok-width.ensures.state in
-    let p = rw w at c.in_ok-precision.ensures.state in
+    let w = rw k at c.in_ok-width.ensures.reads.state in
+    let p = rw w at c.in_ok-precision.ensures.reads.state in
     let y = rw p at c.in_err-type_part.ensures.spare in
     rw (← c.reader.view_is, format_faults-at t) (λ none. absurd (false≢true (y (none_right (ws ++ ps) ys none))))
