@@ -9,7 +9,9 @@ ghost use Rattle.rustc_parse_format.specs.Meaning.{argument};
 ghost use Rattle.rustc_parse_format.specs.PartFaults.{cut_faults, name_faults, position_faults, raw_faults};
 ghost use Rattle.rustc_parse_format.specs.Placeholder.{cut, position};
 ghost use Rattle.rustc_parse_format.specs.Seen.{pair, seen_argument, seen_mode, seen_position, seen_spec};
-ghost use Rattle.rustc_parse_format.specs.Midway.{FindsNothing, IsAt, read_texts, read_to};
+ghost use Rattle.rustc_parse_format.specs.Midway.{FindsNothing, read_texts, read_to, read_tries};
+ghost use Rattle.rustc_parse_format.specs.Reads.{Reads};
+ghost use Rattle.rustc_parse_format.specs.Tries.{spec_tries};
 ghost use Rattle.rustc_parse_format.specs.Types.{Implicit, default_spec, map_argument};
 ghost use Rattle.rustc_parse_format.specs.Values.{given_position, number_after_field};
 ghost use Rattle.rustc_parse_format.specs.World.{faults_in, place_of};
@@ -44,10 +46,8 @@ fn raw_word<'input>(reader: &mut Reader<'input>) -> Result<&'input str, AllocErr
 #[tactic(auto, using(crate::proofs::TriedParts::tried_parts, crate::proofs::Readers::read_nothing))]
 fn position<'input>(reader: &mut Reader<'input>) -> Result<Option<Position<'input>>, AllocError>
     ensures value { IfOk result (λ p. option_map seen_position p ≡ given_position (position reader.old.rest).0) }
-    ensures state { OnOk result (reader.new ≡ (let p = position reader.old.rest in
-        read_to reader.old p.1 reader.old.next (position_faults reader.old.rest p.0))) }
-    ensures err { OnErr result (reader.new.source ≡ reader.old.source) }
-    ensures spare { position_faults reader.old.rest (position reader.old.rest).0 ≡ [] → IsOk result }
+    ensures reads { let p = position reader.old.rest in
+        Reads reader.old result reader.new p.1 reader.old.next (position_faults reader.old.rest p.0) [] }
 {
     if reader.cursor.starts_digit() {
         let number = integer(reader)?;
@@ -151,8 +151,9 @@ pub fn read_argument<'input>(
     requires numbers { reader.old.next + 1 + length reader.old.rest < 2 ^ 64 }
     ensures value { OnOk result (seen_argument into.new
         ≡ map_argument (place_of reader.old.world) (argument reader.old.next (cut (seen_mode mode) reader.old.rest))) }
-    ensures state { OnOk result (IsAt (let a = cut (seen_mode mode) reader.old.rest in
-        read_texts (read_to reader.old a.rest (number_after_field reader.old.next a.field) (cut_faults (seen_mode mode) a)) (spec_texts a.field.spec a.rest)) reader.new) }
+    ensures state { OnOk result (reader.new ≡ (let a = cut (seen_mode mode) reader.old.rest in
+        read_texts (read_tries (read_to reader.old a.rest (number_after_field reader.old.next a.field) (cut_faults (seen_mode mode) a))
+        (spec_tries a.field.spec a.rest)) (spec_texts a.field.spec a.rest))) }
     ensures err { OnErr result (reader.new.source ≡ reader.old.source) }
     ensures spare { (let a = cut (seen_mode mode) reader.old.rest in
         FindsNothing reader.old (cut_faults (seen_mode mode) a) (spec_texts a.field.spec a.rest) → IsOk result) }
