@@ -1,18 +1,10 @@
--- Steps: what one move does, where the cursor never stood further on, and that a word given back is paid.
-use Rattle.std.proofs.Common.{◌≡◌, ℕ, ◌+◌, ◌++◌, ◌≤◌, Bool, true, false, cond, [], ◌∷◌, length, refl, ap, ◌∙◌, arith}
+-- What was given back: it stays paid where the cursor moves forward, and where it gives a word back.
+use Rattle.std.proofs.Common.{◌≡◌, ℕ, ◌+◌, ◌-◌, ◌++◌, ◌≤◌, Bool, true, false, cond, [], ◌∷◌, length, refl, ap, ◌∙◌, arith}
 use Rattle.std.specs.Prelude.{◌||◌, if◌then◌else◌, is_some}
 use Rattle.unicode_ident.proofs.Computing.{unicode_ident}
 use Rattle.std.proofs.lemmas.Bool.{eqb-true}
 use Rattle.rustc_parse_format.specs.Characters.{Text, is_id_start, is_id_continue, behind, behind_first, behind_word, begins_with, first}
-use Rattle.rustc_parse_format.specs.Steps.{Trail, Forward, Paid, IsFurthest, is_word_part, behind_part}
-
-pub forward_then : {t u v : Text} {a b d : Trail} → Forward t a u b → Forward u b v d → Forward t a v d
-forward_then h k = record {
-  steps = omega (arith, h.steps, k.steps);
-  left = omega (arith, h.left, k.left);
-  rest = omega (arith, h.rest, k.rest);
-  part = omega (arith, h.part, k.part);
-}
+use Rattle.rustc_parse_format.specs.Back.{Back, IsPaid, given_back, is_word_part, behind_part}
 
 pub behind-le : (p : ℕ → Bool) (t : Text) → length (behind p t) ≤ length t
 behind-le p [] = omega arith
@@ -70,45 +62,27 @@ pub at_colon : (t : Text) → begins_with 58 t ≡ true → length t ≤ behind_
 unfolding unicode_ident
 at_colon t h = not_part 58 t refl h
 
--- one step over a character
-pub forward_one : (c : ℕ) (t : Text) (a b : Trail) → b ≡ record a { steps = a.steps + 1 } → Forward (c ∷ t) a t b
-forward_one c t a b e = record {
-  steps = omega (arith, ap (λ (x : Trail). x.steps) e);
-  left = ap (λ (x : Trail). x.left) e;
-  rest = omega arith;
-  part = part_behind_first c t;
-}
+pub behind_first-part : (t : Text) → behind_part (behind_first t) ≤ behind_part t
+behind_first-part [] = omega arith
+behind_first-part (c ∷ t) = part_behind_first c t
 
--- a step over the next character, if there is one
-pub moved : (t r : Text) (a b : Trail) → r ≡ behind_first t → b ≡ (if is_some (first t) then record a { steps = a.steps + 1 } else a) → Forward t a r b
-moved [] r a b f e = rw (e, f) (record { steps = refl; left = refl; rest = omega arith; part = omega arith })
-moved (c ∷ t) r a b f e = rw f (forward_one c t a b e)
+-- a front less
+pub behind-part : (p : ℕ → Bool) (t : Text) → behind_part (behind p t) ≤ behind_part t
+behind-part p [] = omega arith
+behind-part p (c ∷ t) =
+    elim (p c) as (λ b. behind_part (cond b (behind p t) (c ∷ t)) ≤ behind_part (c ∷ t)) [
+      | true ↦ omega (arith, behind-part p t, part_behind_first c t)
+      | false ↦ omega arith
+    ]
 
--- a step over each character of a run
-pub forward_run : (u r : Text) (a b : Trail) → b ≡ record a { steps = a.steps + length u } → Forward (u ++ r) a r b
-forward_run [] r a b e = record {
-  steps = omega (arith, ap (λ (x : Trail). x.steps) e);
-  left = ap (λ (x : Trail). x.left) e;
-  rest = omega arith;
-  part = omega arith;
-}
-forward_run (c ∷ u) r a b e =
-    let one : Trail = record a { steps = a.steps + 1 } in
-    let n : a.steps + length (c ∷ u) ≡ (a.steps + 1) + length u = omega arith in
-    forward_then (forward_one c (u ++ r) a one refl) (forward_run u r one b (e ∙ ap (λ k. record a { steps = k }) n))
+-- forward
+pub paid_on : (n t u : Text) (b : Back) → behind_part u ≤ behind_part t → IsPaid n t b → IsPaid n u b
+paid_on n t u b le h = record { again = h.again; word = omega (arith, h.word, le) }
 
--- A word is tried where the cursor never stood further on, and given back.
-pub paid_back : (t u v : Text) (a b d : Trail) → IsFurthest t a → u ≡ behind_word t → Forward t a u b → v ≡ t → d ≡ record b { left = length u } → Paid t a v d
-paid_back t u v a b d h w k same e =
-    let left : d.left ≡ length u = ap (λ (x : Trail). x.left) e in
-    let steps : d.steps ≡ b.steps = ap (λ (x : Trail). x.steps) e in
-    let size = k.steps in
-    rw same (record {
-      least = omega (arith, steps, size, k.rest);
-      steps = omega (arith, h, left, steps, size);
-      left = omega (arith, h, left, k.rest);
-      word = omega (arith, left, ap length w, part_behind_word t);
-    })
+-- and back, over a word
+pub paid_back : (n u t : Text) (b : Back) → length t ≤ b.left → length u ≤ length t → behind_part t ≤ length u → IsPaid n u b → IsPaid n t (given_back u t b)
+paid_back n u t b far earlier word h = record { again = omega (arith, h.again); word = word }
 
-pub paid_then : {t u v : Text} {a b d : Trail} → Paid t a u b → Paid u b v d → Paid t a v d
-paid_then h k = record { least = omega (arith, h.least, k.least); steps = omega (arith, h.steps, k.steps); left = omega (arith, h.left, k.left); word = k.word }
+-- where nothing was given back
+pub paid_first : (n t : Text) → length t ≤ length n → IsPaid n t (record { again = 0; left = length t })
+paid_first n t le = record { again = omega arith; word = part_le t }

@@ -1,4 +1,5 @@
 pub mod Characters
+pub mod Tries
 pub mod Types
 pub mod Spelling
 pub mod Syntax
@@ -29,7 +30,9 @@ pub mod Source
 pub mod World
 pub mod Lines
 pub mod SeenSource
+pub mod Back
 pub mod Midway
 pub mod ReadBack
+pub mod Reads
 pub mod LiteralReading
 pub mod KnownTexts

@@ -4,6 +4,7 @@ use Rattle.std.specs.Prelude.{chars, Bool, not, ◌&&◌, if◌then◌else◌, �
 use Rattle.std.specs.Char.{is_whitespace}
 use Rattle.rustc_parse_format.specs.declared.source.Source.{Source}
 use Rattle.rustc_parse_format.specs.Characters.{Text, front, behind, behind_first, begins_with, is_no_brace}
+use Rattle.rustc_parse_format.specs.Back.{Back}
 use Rattle.rustc_parse_format.specs.Marks.{Span, marked, through}
 use Rattle.rustc_parse_format.specs.Faults.{Fault}
 use Rattle.rustc_parse_format.specs.World.{World, Place, StartBehind, faults_in, place_at}
@@ -11,6 +12,7 @@ use Rattle.rustc_parse_format.specs.Call.{Call, unclosed_fault}
 use Rattle.rustc_parse_format.specs.Recovery.{Recovery, recovery}
 use Rattle.rustc_parse_format.specs.Types.{Mode, Argument}
 use Rattle.rustc_parse_format.specs.SeenSource.{seen_world}
+use Rattle.rustc_parse_format.specs.Tries.{tried}
 use Rattle.rustc_parse_format.specs.Lines.{lines_in, closed_in, read_lines}
 
 -- What a cursor stands at: the rest of an input, in its world, which its source gives.
@@ -19,6 +21,9 @@ pub record Unread : Type 0 where
   pub world : World
   pub input : Text
   pub rest : Text
+  pub back : Back
+  -- how often it was put back after a refusal, whose steps do not count
+  pub undone : ℕ
 
 -- What a reader stands at: the same, with the number that the next implicit argument takes, and what the call has found so far.
 pub record Midway : Type 0 where
@@ -26,6 +31,8 @@ pub record Midway : Type 0 where
   pub world : World
   pub input : Text
   pub rest : Text
+  pub back : Back
+  pub undone : ℕ
   pub next : ℕ
   pub faults : List (Fault Place)
   -- where the line starts that is read, and the lines in front of it that ended in this call
@@ -45,6 +52,8 @@ midway u n start = record {
   world = u.world;
   input = u.input;
   rest = u.rest;
+  back = u.back;
+  undone = u.undone;
   next = n;
   faults = [];
   line_start = start;
@@ -57,12 +66,16 @@ abbrev pub HasFoundNothing : Midway → Type 0
 HasFoundNothing s = (s.faults ≡ []) × (s.lines ≡ []) × (s.closed ≡ None)
 
 -- what a cursor at the front of this rest of the input of a source stands at
-abbrev pub unread_at : Source → List ℕ → Unread
-unread_at s rest = record { source = s; world = seen_world s; input = chars s.input.now; rest = chars rest }
+abbrev pub unread_at : Source → List ℕ → Back → ℕ → Unread
+unread_at s rest b n = record { source = s; world = seen_world s; input = chars s.input.now; rest = chars rest; back = b; undone = n }
 
 -- read up to the rest r and the number n, with these faults found on the way
 abbrev pub read_to : Midway → Text → ℕ → List (Fault Span) → Midway
 read_to s r n fs = record s { rest = r; next = n; faults = s.faults ++ faults_in s.world fs }
+
+-- with the words at these rests tried
+abbrev pub read_tries : Midway → List Text → Midway
+read_tries s ts = record s { back = tried s.back ts }
 
 -- with these characters read as text
 abbrev pub read_texts : Midway → List (ℕ × ℕ) → Midway
@@ -103,7 +116,8 @@ closed_then old (Some p) = Some p
 
 -- after a call
 abbrev pub read_call : Midway → Call → Midway
-read_call s k = record (read_texts (read_to s k.rest k.next k.faults) k.texts) { closed = closed_then s.closed (closed_in s.world k.closes) }
+read_call s k =
+    record (read_texts (read_tries (read_to s k.rest k.next k.faults) k.tries) k.texts) { closed = closed_then s.closed (closed_in s.world k.closes) }
 
 -- behind a sign with this fault, or in front of one that has none
 abbrev pub behind_sign : Midway → Option (Fault Place) → Midway
@@ -112,7 +126,7 @@ behind_sign s (Some f) = record s { rest = behind_first s.rest; faults = s.fault
 
 -- after a recovery
 abbrev pub recovered : Midway → Recovery → Midway
-recovered s k = read_texts (read_to s k.rest k.next k.faults) k.texts
+recovered s k = read_texts (read_tries (read_to s k.rest k.next k.faults) k.tries) k.texts
 
 -- where the closing brace of the placeholder at o, with the argument a, should stand: after the brace, or after the recovery
 abbrev pub behind_closing : Mode → Text → Argument Span → Midway → Midway

@@ -9,11 +9,9 @@ ghost use Rattle.rustc_parse_format.specs.Marks.{End, Span, over_first, up_to};
 ghost use Rattle.rustc_parse_format.specs.Seen.{pair, seen_argument, seen_mode, seen_spec};
 ghost use Rattle.rustc_parse_format.specs.SeenFaults.{seen_fault};
 ghost use Rattle.rustc_parse_format.specs.Midway.{FindsNothing, behind_closing, opens_placeholder, read_call};
-ghost use Rattle.rustc_parse_format.specs.Steps.{Forward, IsInWord, Paid};
 ghost use Rattle.rustc_parse_format.specs.Types.{Argument as ArgumentValue, Mode, Lit, NextArgument, default_spec, map_argument};
 ghost use Rattle.rustc_parse_format.specs.World.{number_of, piece_in, place_of};
 
-use crate::cursor::Trail;
 use crate::faults::Fault;
 use crate::placeholder::read_argument;
 use crate::reader::Reader;
@@ -21,7 +19,6 @@ use crate::recover::recover;
 use crate::types::{Argument, FormatSpec, ParseMode};
 use std::alloc::AllocError;
 use std::ops::Range;
-use std::sync::ledger::Ledger;
 
 /// The span of the fill, where the fill is a closing brace.
 fn brace_fill(format: &FormatSpec<'_>) -> Option<Range<usize>>
@@ -66,90 +63,76 @@ fn note_missing<'input>(
 }
 
 /// Moves over the closing brace of the placeholder that starts at a byte. In a source literal it has its place.
-fn take_brace<'input, L: Ledger>(
-    start: usize,
-    reader: &mut Reader<'input>,
-    trail: &mut Trail<'input, L>,
-)
+fn take_brace<'input>(start: usize, reader: &mut Reader<'input>)
     ensures state { reader.new ≡ record reader.old {
       rest = behind_first reader.old.rest;
       closed = if reader.old.world.has_source then Some (start, number_of reader.old.world (End (length reader.old.rest))) else reader.old.closed;
     } }
-    ensures steps { Forward reader.old.rest trail.old reader.new.rest trail.new }
 {
     if reader.cursor.is_source_literal() {
-        let brace = reader.cursor.take_place(trail);
+        let brace = reader.cursor.take_place();
         reader.closed = Some(start..brace.end);
     } else {
-        reader.cursor.advance(trail);
+        reader.cursor.advance();
     }
 }
 
 /// Moves over the closing brace, or finds that it is missing and goes on from there. The placeholder opens at `opening`.
 #[tactic(auto, using(crate::proofs::Steps::part_le))]
-fn close<'input, L: Ledger>(
+fn close<'input>(
     mode: ParseMode,
     argument: &Argument<'input>,
     opening: Range<usize>,
     reader: &mut Reader<'input>,
-    trail: &mut Trail<'input, L>,
 ) -> Result<(), AllocError>
     requires numbers { reader.old.next + length reader.old.rest < 2 ^ 64 }
-    requires steps { IsInWord reader.old.rest trail.old }
     ensures state { OnOk result ((o : Text) (a : ArgumentValue Span) → pair opening ≡ place_of reader.old.world (over_first o)
         → seen_argument argument.now ≡ map_argument (place_of reader.old.world) a
         → reader.new ≡ behind_closing (seen_mode mode) o a reader.old) }
     ensures source { reader.new.source ≡ reader.old.source }
     ensures spare { begins_with 125 reader.old.rest ≡ true → IsOk result }
-    ensures steps { OnOk result (Paid reader.old.rest trail.old reader.new.rest trail.new) }
 {
     if reader.cursor.is_next('}') {
-        take_brace(opening.start, reader, trail);
+        take_brace(opening.start, reader);
         return Ok(());
     }
     note_missing(argument, opening.start..opening.end, reader)?;
-    recover(mode, argument, opening, reader, trail)
+    recover(mode, argument, opening, reader)
 }
 
 /// Reads the placeholder at the front into a blank argument.
 #[tactic(auto, using(crate::proofs::Steps::part_le, crate::proofs::Placeholders::placeholder_given))]
-fn read_braced<'input, L: Ledger>(
+fn read_braced<'input>(
     mode: ParseMode,
     into: &mut Argument<'input>,
     reader: &mut Reader<'input>,
-    trail: &mut Trail<'input, L>,
 ) -> Result<(), AllocError>
     requires blank { seen_spec into.old.format ≡ default_spec }
     requires here { reader.old.rest ≢ [] }
-    requires steps { IsInWord reader.old.rest trail.old }
     requires numbers { reader.old.next + length reader.old.rest < 2 ^ 64 }
     ensures value { OnOk result (Some (NextArgument (seen_argument into.new)) ≡ option_map (piece_in reader.old.world)
         (placeholder (seen_mode mode) reader.old.next reader.old.rest (behind_first reader.old.rest)).piece) }
-    ensures state { OnOk result (reader.new
-        ≡ read_call reader.old (placeholder (seen_mode mode) reader.old.next reader.old.rest (behind_first reader.old.rest))) }
+    ensures state { OnOk result (reader.new ≡ read_call reader.old (placeholder (seen_mode mode) reader.old.next reader.old.rest (behind_first reader.old.rest))) }
     ensures err { OnErr result (reader.new.source ≡ reader.old.source) }
     ensures spare { (let k = placeholder (seen_mode mode) reader.old.next reader.old.rest (behind_first reader.old.rest) in
         FindsNothing reader.old k.faults k.texts → IsOk result) }
-    ensures steps { OnOk result (Paid reader.old.rest trail.old reader.new.rest trail.new) }
 {
-    let opening = reader.cursor.take_place(trail);
-    read_argument(mode, into, reader, trail)?;
-    reader.cursor.skip_white(trail);
-    close(mode, into, opening, reader, trail)?;
+    let opening = reader.cursor.take_place();
+    read_argument(mode, into, reader)?;
+    reader.cursor.skip_white();
+    close(mode, into, opening, reader)?;
     Ok(())
 }
 
 /// Reads the placeholder at the front into a blank argument, as the whole call.
 #[inline(always)]
-pub fn read_placeholder<'input, L: Ledger>(
+pub fn read_placeholder<'input>(
     mode: ParseMode,
     into: &mut Argument<'input>,
     reader: &mut Reader<'input>,
-    trail: &mut Trail<'input, L>,
 ) -> Result<(), AllocError>
     requires blank { seen_spec into.old.format ≡ default_spec }
     requires opens { opens_placeholder reader.old.rest ≡ true }
-    requires steps { IsInWord reader.old.rest trail.old }
     requires numbers { reader.old.next + length reader.old.rest < 2 ^ 64 }
     ensures value { OnOk result (Some (NextArgument (seen_argument into.new)) ≡ option_map (piece_in reader.old.world)
         (call (seen_mode mode) reader.old.next reader.old.rest).piece) }
@@ -157,40 +140,34 @@ pub fn read_placeholder<'input, L: Ledger>(
     ensures err { OnErr result (reader.new.source ≡ reader.old.source) }
     ensures spare { (let k = call (seen_mode mode) reader.old.next reader.old.rest in
         FindsNothing reader.old k.faults k.texts → IsOk result) }
-    ensures steps { OnOk result (Paid reader.old.rest trail.old reader.new.rest trail.new) }
 {
-    read_braced(mode, into, reader, trail)?;
+    read_braced(mode, into, reader)?;
     Ok(())
 }
 
 /// Reads what is no placeholder: text, or nothing at the end and over a closing brace that closes nothing.
 #[tactic(auto, using(crate::proofs::Steps::part_le), unfolding(crate::specs::Call::call))]
-pub fn read_bare<'input, L: Ledger>(
-    reader: &mut Reader<'input>,
-    trail: &mut Trail<'input, L>,
-) -> Result<Option<&'input str>, AllocError>
+pub fn read_bare<'input>(reader: &mut Reader<'input>) -> Result<Option<&'input str>, AllocError>
     requires bare { opens_placeholder reader.old.rest ≡ false }
-    requires steps { IsInWord reader.old.rest trail.old }
     ensures piece { IfOk result (λ p. (m : Mode) → option_map (λ t. Lit (chars t.now)) p ≡ option_map (piece_in reader.old.world)
         (call m reader.old.next reader.old.rest).piece) }
     ensures state { OnOk result ((m : Mode) → reader.new ≡ read_call reader.old (call m reader.old.next reader.old.rest)) }
     ensures spare { (m : Mode) → (let k = call m reader.old.next reader.old.rest in FindsNothing reader.old k.faults k.texts → IsOk result) }
     ensures source { reader.new.source ≡ reader.old.source }
-    ensures steps { OnOk result (Paid reader.old.rest trail.old reader.new.rest trail.new) }
 {
     let Some(c) = reader.cursor.peek() else {
         return Ok(None);
     };
     if c != '{' && c != '}' {
-        let text = reader.take_text(trail)?;
+        let text = reader.take_text()?;
         return Ok(Some(text));
     }
     if c == '{' || reader.cursor.goes_on_with(c) {
-        reader.cursor.advance(trail);
-        let text = reader.take_text_behind_first(trail)?;
+        reader.cursor.advance();
+        let text = reader.take_text_behind_first()?;
         return Ok(Some(text));
     }
-    let span = reader.cursor.take_place(trail);
+    let span = reader.cursor.take_place();
     reader.note(Fault::UnmatchedBrace(span))?;
     Ok(None)
 }

@@ -1,28 +1,27 @@
 //! Integers, words and counts, and the sizes of a format specification that are made of them: its width and its precision.
 
 ghost use Rattle.std.specs.Prelude.{[], ◌+◌, ◌++◌, ◌<◌, ◌^◌, ◌∷◌, ◌≡◌, bytes_eq, chars, codes};
-ghost use Rattle.std.specs.Prelude.{false, IfOk, if◌then◌else◌, IsOk, length, OnErr, OnOk, option_map};
-ghost use Rattle.rustc_parse_format.specs.Characters.{behind_digits, behind_word, digits, number, word};
+ghost use Rattle.std.specs.Prelude.{false, IfOk, if◌then◌else◌, IsOk, length, OnErr, OnOk, option_map, true};
+ghost use Rattle.rustc_parse_format.specs.Characters.{behind_digits, behind_word, digits, first_passes, is_id_start, number, word};
 ghost use Rattle.rustc_parse_format.specs.Counts.{behind_name, count, precision, width};
 ghost use Rattle.rustc_parse_format.specs.Faults.{TooLarge, Underscore};
 ghost use Rattle.rustc_parse_format.specs.Marks.{End};
 ghost use Rattle.rustc_parse_format.specs.Meaning.{count_of, count_span, precision_of, precision_span, width_of, width_span};
 ghost use Rattle.rustc_parse_format.specs.PartFaults.{argument_faults, number_faults, precision_faults, width_faults, word_faults};
 ghost use Rattle.rustc_parse_format.specs.Seen.{pair, seen_count};
-ghost use Rattle.rustc_parse_format.specs.Midway.{read_to};
-ghost use Rattle.rustc_parse_format.specs.Steps.{Forward, IsFurthest, IsInWord, Paid};
+ghost use Rattle.rustc_parse_format.specs.Reads.{Reads};
+ghost use Rattle.rustc_parse_format.specs.Tries.{count_tries, precision_tries, width_tries};
 ghost use Rattle.rustc_parse_format.specs.Types.{map_count};
 ghost use Rattle.rustc_parse_format.specs.Values.{is_padded, number_after_precision};
+ghost use Rattle.rustc_parse_format.specs.Back.{IsFurthest};
 ghost use Rattle.rustc_parse_format.specs.World.{number_of, place_of};
 
 use crate::characters::is_underscore;
-use crate::cursor::Trail;
 use crate::faults::Fault;
 use crate::reader::Reader;
 use crate::types::Count;
 use std::alloc::AllocError;
 use std::ops::Range;
-use std::sync::ledger::Ledger;
 
 /// Notes digits that start at a byte, and whose number is above 65535. Their span takes in the next character.
 fn note_number<'input>(
@@ -60,35 +59,23 @@ fn note_word(reader: &mut Reader<'_>, word: &str, span: Range<usize>) -> Result<
 }
 
 /// Reads the integer at the front, where there is one: its number modulo 65536. One above 65535 is a fault.
-pub fn integer<'input, L: Ledger>(
-    reader: &mut Reader<'input>,
-    trail: &mut Trail<'input, L>,
-) -> Result<u16, AllocError>
+pub fn integer<'input>(reader: &mut Reader<'input>) -> Result<u16, AllocError>
     ensures value { IfOk result (λ n. n ≡ number (digits reader.old.rest)) }
-    ensures state { OnOk result (reader.new ≡ read_to reader.old (behind_digits reader.old.rest) reader.old.next (number_faults reader.old.rest)) }
-    ensures err { OnErr result (reader.new.source ≡ reader.old.source) }
-    ensures spare { number_faults reader.old.rest ≡ [] → IsOk result }
-    ensures steps { OnOk result (Forward reader.old.rest trail.old reader.new.rest trail.new) }
+    ensures reads { Reads reader.old result reader.new (behind_digits reader.old.rest) reader.old.next (number_faults reader.old.rest) [] }
 {
     let start = reader.start();
-    let (digits, number, over) = reader.cursor.number(trail);
+    let (digits, number, over) = reader.cursor.number();
     note_number(reader, digits, over, start)?;
     Ok(number)
 }
 
 /// Reads the word at the front, which may be empty. The word `_` is a fault.
-pub fn word<'input, L: Ledger>(
-    reader: &mut Reader<'input>,
-    trail: &mut Trail<'input, L>,
-) -> Result<&'input str, AllocError>
+pub fn word<'input>(reader: &mut Reader<'input>) -> Result<&'input str, AllocError>
     ensures value { IfOk result (λ w. chars w.now ≡ word reader.old.rest) }
-    ensures state { OnOk result (reader.new ≡ read_to reader.old (behind_word reader.old.rest) reader.old.next (word_faults reader.old.rest)) }
-    ensures err { OnErr result (reader.new.source ≡ reader.old.source) }
-    ensures spare { word_faults reader.old.rest ≡ [] → IsOk result }
-    ensures steps { OnOk result (Forward reader.old.rest trail.old reader.new.rest trail.new) }
+    ensures reads { Reads reader.old result reader.new (behind_word reader.old.rest) reader.old.next (word_faults reader.old.rest) [] }
 {
     let start = reader.start();
-    let word = reader.cursor.word(trail);
+    let word = reader.cursor.word();
     reader.cursor.settle();
     note_word(reader, word, start..reader.start())?;
     Ok(word)
@@ -96,75 +83,62 @@ pub fn word<'input, L: Ledger>(
 
 /// Reads the name at the front, with its `$`. Without a `$` the word is left, and looked at all the same.
 #[tactic(auto, using(crate::proofs::Steps::part_le))]
-fn name_count<'input, L: Ledger>(
-    reader: &mut Reader<'input>,
-    trail: &mut Trail<'input, L>,
-) -> Result<Count<'input>, AllocError>
-    requires { IsFurthest reader.old.rest trail.old }
+fn name_count<'input>(reader: &mut Reader<'input>) -> Result<Count<'input>, AllocError>
+    requires furthest { IsFurthest reader.old.rest reader.old.back }
+    requires word { first_passes is_id_start reader.old.rest ≡ true }
     ensures value { IfOk result (λ k. seen_count k ≡ map_count (place_of reader.old.world)
         (let k = behind_name reader.old.rest (word reader.old.rest) (behind_word reader.old.rest) in count_of reader.old.rest k.0 k.1)) }
-    ensures state { OnOk result (reader.new ≡ (let k = behind_name reader.old.rest (word reader.old.rest) (behind_word reader.old.rest) in
-        read_to reader.old k.1 reader.old.next (word_faults reader.old.rest))) }
-    ensures err { OnErr result (reader.new.source ≡ reader.old.source) }
-    ensures spare { word_faults reader.old.rest ≡ [] → IsOk result }
-    ensures steps { OnOk result (Paid reader.old.rest trail.old reader.new.rest trail.new) }
+    ensures reads { Reads reader.old result reader.new (behind_name reader.old.rest (word reader.old.rest) (behind_word reader.old.rest)).1
+        reader.old.next (word_faults reader.old.rest) (count_tries reader.old.rest (behind_name reader.old.rest (word reader.old.rest) (behind_word reader.old.rest)).0) }
 {
     let front = reader.cursor.spot();
     let start = reader.cursor.start();
-    let name = word(reader, trail)?;
+    let name = word(reader)?;
     let span = start..reader.cursor.start();
-    if reader.cursor.take_char('$', trail) {
+    if reader.cursor.take_char('$') {
         return Ok(Count::CountIsName(name, span));
     }
-    reader.cursor.go_back(front, trail);
+    reader.cursor.go_back(front);
     Ok(Count::CountImplied)
 }
 
 /// Reads the count at the front: a number, a number of an argument, a name of one, or none.
 #[tactic(auto, using(crate::proofs::Steps::part_le, crate::proofs::TriedParts::tried_parts, crate::proofs::Readers::read_nothing))]
-pub fn count<'input, L: Ledger>(
-    reader: &mut Reader<'input>,
-    trail: &mut Trail<'input, L>,
-) -> Result<Count<'input>, AllocError>
-    requires { IsFurthest reader.old.rest trail.old }
+pub fn count<'input>(reader: &mut Reader<'input>) -> Result<Count<'input>, AllocError>
+    requires { IsFurthest reader.old.rest reader.old.back }
     ensures value { IfOk result (λ k. seen_count k
         ≡ map_count (place_of reader.old.world) (count_of reader.old.rest (count reader.old.rest).0 (count reader.old.rest).1)) }
-    ensures state { OnOk result (reader.new ≡ read_to reader.old (count reader.old.rest).1 reader.old.next (argument_faults reader.old.rest)) }
-    ensures err { OnErr result (reader.new.source ≡ reader.old.source) }
-    ensures spare { argument_faults reader.old.rest ≡ [] → IsOk result }
-    ensures steps { OnOk result (Paid reader.old.rest trail.old reader.new.rest trail.new) }
+    ensures reads { Reads reader.old result reader.new (count reader.old.rest).1 reader.old.next (argument_faults reader.old.rest)
+        (count_tries reader.old.rest (count reader.old.rest).0) }
 {
     if reader.cursor.starts_digit() {
-        let number = integer(reader, trail)?;
-        if reader.cursor.take_char('$', trail) {
+        let number = integer(reader)?;
+        if reader.cursor.take_char('$') {
             return Ok(Count::CountIsParam(usize::from(number)));
         }
         return Ok(Count::CountIs(number));
     }
     if reader.cursor.starts_word() {
-        return name_count(reader, trail);
+        return name_count(reader);
     }
     Ok(Count::CountImplied)
 }
 
 /// Reads the count at the front, and where it stands.
 #[tactic(auto, using(crate::proofs::Steps::part_le))]
-fn spanned_count<'input, L: Ledger>(
+fn spanned_count<'input>(
     reader: &mut Reader<'input>,
-    trail: &mut Trail<'input, L>,
 ) -> Result<(Count<'input>, Option<Range<usize>>), AllocError>
-    requires { IsFurthest reader.old.rest trail.old }
+    requires { IsFurthest reader.old.rest reader.old.back }
     ensures value { IfOk result (λ k. seen_count k.0
         ≡ map_count (place_of reader.old.world) (count_of reader.old.rest (count reader.old.rest).0 (count reader.old.rest).1)) }
     ensures span { IfOk result (λ k. option_map pair k.1 ≡ option_map (place_of reader.old.world)
         (count_span reader.old.rest (count reader.old.rest).0 (count reader.old.rest).1)) }
-    ensures state { OnOk result (reader.new ≡ read_to reader.old (count reader.old.rest).1 reader.old.next (argument_faults reader.old.rest)) }
-    ensures err { OnErr result (reader.new.source ≡ reader.old.source) }
-    ensures spare { argument_faults reader.old.rest ≡ [] → IsOk result }
-    ensures steps { OnOk result (Paid reader.old.rest trail.old reader.new.rest trail.new) }
+    ensures reads { Reads reader.old result reader.new (count reader.old.rest).1 reader.old.next (argument_faults reader.old.rest)
+        (count_tries reader.old.rest (count reader.old.rest).0) }
 {
     let start = reader.start();
-    let count = count(reader, trail)?;
+    let count = count(reader)?;
     let span = match count {
         Count::CountImplied => None,
         _ => Some(start..reader.start()),
@@ -182,23 +156,20 @@ pub struct WidthPart<'input> {
 
 /// Reads the count of a width, which has the flag `0` or not.
 #[tactic(auto, using(crate::proofs::Steps::part_le))]
-fn counted<'input, L: Ledger>(
+fn counted<'input>(
     zero_pad: bool,
     reader: &mut Reader<'input>,
-    trail: &mut Trail<'input, L>,
 ) -> Result<WidthPart<'input>, AllocError>
-    requires { IsFurthest reader.old.rest trail.old }
+    requires { IsFurthest reader.old.rest reader.old.back }
     ensures zero_pad { IfOk result (λ w. w.zero_pad ≡ zero_pad) }
     ensures count { IfOk result (λ w. seen_count w.count
         ≡ map_count (place_of reader.old.world) (count_of reader.old.rest (count reader.old.rest).0 (count reader.old.rest).1)) }
     ensures span { IfOk result (λ w. option_map pair w.span ≡ option_map (place_of reader.old.world)
         (count_span reader.old.rest (count reader.old.rest).0 (count reader.old.rest).1)) }
-    ensures state { OnOk result (reader.new ≡ read_to reader.old (count reader.old.rest).1 reader.old.next (argument_faults reader.old.rest)) }
-    ensures err { OnErr result (reader.new.source ≡ reader.old.source) }
-    ensures spare { argument_faults reader.old.rest ≡ [] → IsOk result }
-    ensures steps { OnOk result (Paid reader.old.rest trail.old reader.new.rest trail.new) }
+    ensures reads { Reads reader.old result reader.new (count reader.old.rest).1 reader.old.next (argument_faults reader.old.rest)
+        (count_tries reader.old.rest (count reader.old.rest).0) }
 {
-    let (count, span) = spanned_count(reader, trail)?;
+    let (count, span) = spanned_count(reader)?;
     Ok(WidthPart {
         zero_pad,
         count,
@@ -208,32 +179,26 @@ fn counted<'input, L: Ledger>(
 
 /// Reads the width at the front. A `0` in front of it is a flag, unless a `$` makes it an index.
 #[tactic(auto, using(crate::proofs::Steps::part_le, crate::proofs::SpecParts::widths_at_front))]
-pub fn width<'input, L: Ledger>(
-    reader: &mut Reader<'input>,
-    trail: &mut Trail<'input, L>,
-) -> Result<WidthPart<'input>, AllocError>
-    requires { IsFurthest reader.old.rest trail.old }
+pub fn width<'input>(reader: &mut Reader<'input>) -> Result<WidthPart<'input>, AllocError>
+    requires { IsFurthest reader.old.rest reader.old.back }
     ensures zero_pad { IfOk result (λ w. w.zero_pad ≡ is_padded (width reader.old.rest).0) }
     ensures count { IfOk result (λ w. seen_count w.count ≡ map_count (place_of reader.old.world)
         (width_of reader.old.rest (width reader.old.rest).0 (width reader.old.rest).1)) }
     ensures span { IfOk result (λ w. option_map pair w.span ≡ option_map (place_of reader.old.world)
         (width_span reader.old.rest (width reader.old.rest).0 (width reader.old.rest).1)) }
-    ensures state { OnOk result (reader.new ≡ (let w = width reader.old.rest in
-        read_to reader.old w.1 reader.old.next (width_faults reader.old.rest w.0))) }
-    ensures err { OnErr result (reader.new.source ≡ reader.old.source) }
-    ensures spare { width_faults reader.old.rest (width reader.old.rest).0 ≡ [] → IsOk result }
-    ensures steps { OnOk result (Paid reader.old.rest trail.old reader.new.rest trail.new) }
+    ensures reads { Reads reader.old result reader.new (width reader.old.rest).1 reader.old.next (width_faults reader.old.rest (width reader.old.rest).0)
+        (width_tries reader.old.rest (width reader.old.rest).0) }
 {
     if !reader.cursor.is_next('0') {
-        return counted(false, reader, trail);
+        return counted(false, reader);
     }
     let start = reader.cursor.start();
-    reader.cursor.advance(trail);
+    reader.cursor.advance();
     if !reader.cursor.is_next('$') {
-        return counted(true, reader, trail);
+        return counted(true, reader);
     }
     let span = start..reader.cursor.stop();
-    reader.cursor.advance(trail);
+    reader.cursor.advance();
     Ok(WidthPart {
         zero_pad: false,
         count: Count::CountIsParam(0),
@@ -243,32 +208,29 @@ pub fn width<'input, L: Ledger>(
 
 /// Reads the precision at the front, and where it stands. A star takes the next number.
 #[tactic(auto, using(crate::proofs::Steps::part_le, crate::proofs::Steps::at_dot, crate::proofs::SpecParts::precisions_at_front))]
-pub fn precision<'input, L: Ledger>(
+pub fn precision<'input>(
     reader: &mut Reader<'input>,
-    trail: &mut Trail<'input, L>,
 ) -> Result<(Count<'input>, Option<Range<usize>>), AllocError>
     requires numbers { reader.old.next + 1 < 2 ^ 64 }
-    requires steps { IsInWord reader.old.rest trail.old }
     ensures value { IfOk result (λ k. seen_count k.0 ≡ map_count (place_of reader.old.world)
         (precision_of reader.old.next reader.old.rest (precision reader.old.rest).0 (precision reader.old.rest).1)) }
     ensures span { IfOk result (λ k. option_map pair k.1 ≡ option_map (place_of reader.old.world)
         (precision_span reader.old.rest (precision reader.old.rest).0 (precision reader.old.rest).1)) }
-    ensures state { OnOk result (reader.new ≡ (let p = precision reader.old.rest in
-        read_to reader.old p.1 (number_after_precision reader.old.next p.0) (precision_faults reader.old.rest p.0))) }
-    ensures err { OnErr result (reader.new.source ≡ reader.old.source) }
-    ensures spare { precision_faults reader.old.rest (precision reader.old.rest).0 ≡ [] → IsOk result }
-    ensures steps { OnOk result (Paid reader.old.rest trail.old reader.new.rest trail.new) }
+    ensures reads { Reads reader.old result reader.new (precision reader.old.rest).1
+        (number_after_precision reader.old.next (precision reader.old.rest).0) (precision_faults reader.old.rest (precision reader.old.rest).0)
+        (precision_tries reader.old.rest (precision reader.old.rest).0) }
 {
+    reader.cursor.steps_are_few();
     if !reader.cursor.is_next('.') {
         return Ok((Count::CountImplied, None));
     }
     let start = reader.start();
-    reader.advance(trail);
+    reader.advance();
     if reader.cursor.is_next('*') {
         let number = reader.take_number();
-        reader.advance(trail);
+        reader.advance();
         return Ok((Count::CountIsStar(number), Some(start..reader.start())));
     }
-    let count = count(reader, trail)?;
+    let count = count(reader)?;
     Ok((count, Some(start..reader.start())))
 }

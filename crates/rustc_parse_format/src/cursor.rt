@@ -6,29 +6,33 @@ use crate::characters::{Class, before, behind_first, behind_run, first, is_id_st
 use crate::source::{Source, Spot, look_again};
 use std::marker::Model;
 use std::ops::Range;
-use std::sync::ledger::{Blank, Ledger};
-pub use steps::{StepCount, Trail};
+use steps::Steps;
+pub use steps::Tally;
 
 /// A place in the input: what is left of it, and where that stands in the source.
 #[derive(Drop)]
 pub struct Cursor<'input> {
     source: Source<'input>,
     spot: Spot<'input>,
+    tally: Tally,
+    undone: Steps,
 }
 
 impl<'input> Model for Cursor<'input> {
     ghost use Rattle.rustc_parse_format.specs.Midway.{Unread, unread_at};
     ghost use Rattle.rustc_parse_format.specs.SeenSource.{IsSpot};
+    ghost use Rattle.rustc_parse_format.specs.Back.{IsPaid};
+    ghost use Rattle.std.specs.Prelude.{chars};
 
     ghost Value = { Unread };
 
-    ghost view = { λ c. unread_at c.source c.spot.rest.now };
+    ghost view = { λ c. unread_at c.source c.spot.rest.now c.tally c.undone.made };
 
-    ghost invariant = { λ c. IsSpot c.source c.spot.rest.now c.spot.mark.now c.spot.at };
+    ghost invariant = { λ c. IsSpot c.source c.spot.rest.now c.spot.mark.now c.spot.at × IsPaid (chars c.source.input.now) (chars c.spot.rest.now) c.tally };
 }
 
 impl<'input> Cursor<'input> {
-    ghost use Rattle.std.specs.Prelude.{◌≡◌, ◌-◌, ◌++◌, chars, if◌then◌else◌, IsTrue, length, option_map, Some};
+    ghost use Rattle.std.specs.Prelude.{◌≡◌, ◌+◌, ◌-◌, ◌≤◌, ◌++◌, chars, if◌then◌else◌, IsTrue, length, option_map, Some};
     ghost use Rattle.rustc_parse_format.specs.Characters.{Text, byte_length, begins_raw, begins_with, first, behind_first, behind};
     ghost use Rattle.rustc_parse_format.specs.Characters.{behind_white, word, behind_word, digits, behind_digits, number, is_id_start, is_over, first_passes};
     ghost use Rattle.std.specs.Char.{is_ascii_digit, is_whitespace};
@@ -39,20 +43,27 @@ impl<'input> Cursor<'input> {
     ghost use Rattle.rustc_parse_format.specs.Midway.{IsPastIndent, opens_placeholder, unread_at};
     ghost use Rattle.rustc_parse_format.specs.SeenSource.{IsSpot};
     ghost use Rattle.rustc_parse_format.specs.State.{first_of};
-    ghost use Rattle.rustc_parse_format.specs.Steps.{Forward};
+    ghost use Rattle.rustc_parse_format.specs.Back.{IsFurthest, IsPaid, behind_part, given_back, nothing_back};
+    ghost use Rattle.rustc_parse_format.specs.Steps.{AreFew};
     ghost use Rattle.rustc_parse_format.specs.World.{number_of, place_at};
 
     /// At a spot of a source.
     pub fn new(source: Source<'input>, spot: Spot<'input>) -> Cursor<'input>
         requires { IsSpot source spot.rest.now spot.mark.now spot.at }
-        ensures { result ≡ unread_at source.entry spot.entry.rest.now }
+        ensures { result ≡ unread_at source.entry spot.entry.rest.now (nothing_back (chars spot.entry.rest.now)) 0 }
     {
-        Cursor { source, spot }
+        let tally = Tally::new(spot.rest);
+        Cursor {
+            source,
+            spot,
+            tally,
+            undone: Steps::start(),
+        }
     }
 
     /// The spot where it stands.
     pub fn spot(&self) -> Spot<'input>
-        ensures at { self.now ≡ unread_at self.now.source result.rest.now }
+        ensures at { self.now ≡ unread_at self.now.source result.rest.now self.now.back self.now.undone }
         ensures spot { IsSpot self.now.source result.rest.now result.mark.now result.at }
     {
         Spot {
@@ -62,18 +73,33 @@ impl<'input> Cursor<'input> {
         }
     }
 
-    /// A count of the steps from here on.
-    pub fn count<L: Ledger>(&self, blank: Blank) -> StepCount<'input, L>
-        requires name { blank.name ≡ L.name }
-        requires parts { blank.parts ≡ L.parts }
-        requires three { blank.parts ≡ 3 }
-        ensures { result ≡ record { steps = 0; left = length self.now.rest } }
+    /// What it has given back.
+    pub fn tally(&self) -> Tally
+        ensures back { result ≡ self.now.back }
+        ensures paid { IsPaid self.now.input self.now.rest result }
     {
-        StepCount::new(blank, self.spot.rest)
+        let _at = self.spot.at;
+        self.tally.same()
+    }
+
+    /// It has taken few steps. Nothing is done.
+    pub fn steps_are_few(&self)
+        ensures few { AreFew self.now.input self.now.rest self.now.back }
+        ensures word { behind_part self.now.rest ≤ self.now.back.left }
+    {
+        let _at = self.spot.at;
+    }
+
+    /// What was read since an earlier spot.
+    pub fn since(&self, from: &Spot<'input>) -> &'input str
+        requires { (read : Text) × (chars from.now.rest.now ≡ read ++ self.now.rest) }
+        ensures { (read : Text) → chars from.now.rest.now ≡ read ++ self.now.rest → chars result.now ≡ read }
+    {
+        before(from.rest, self.spot.rest)
     }
 
     /// What is left.
-    pub fn rest(&self) -> &'input str
+    fn rest(&self) -> &'input str
         ensures { chars result.now ≡ self.now.rest }
     {
         self.spot.rest
@@ -95,22 +121,18 @@ impl<'input> Cursor<'input> {
     }
 
     /// Moves over the next character, if there is one. Only this, `take_place` and `pass_run` move forward.
-    pub fn advance<L: Ledger>(&mut self, trail: &mut Trail<'input, L>)
+    pub fn advance(&mut self)
         ensures rest { self.new ≡ record self.old { rest = behind_first self.old.rest } }
-        ensures steps { Forward self.old.rest trail.old self.new.rest trail.new }
     {
-        trail.step(self.peek());
         self.pass();
     }
 
     /// Moves over the next character, if there is one, and gives its place, or that of the end of the text.
     #[inline(always)]
-    pub fn take_place<L: Ledger>(&mut self, trail: &mut Trail<'input, L>) -> Range<usize>
+    pub fn take_place(&mut self) -> Range<usize>
         ensures place { pair result ≡ place_at self.old.world (length self.old.rest) }
         ensures rest { self.new ≡ record self.old { rest = behind_first self.old.rest } }
-        ensures steps { Forward self.old.rest trail.old self.new.rest trail.new }
     {
-        trail.step(self.peek());
         self.pass_place()
     }
 
@@ -131,21 +153,26 @@ impl<'input> Cursor<'input> {
     }
 
     /// Goes back to an earlier spot.
-    pub fn go_back<L: Ledger>(&mut self, spot: Spot<'input>, trail: &mut Trail<'input, L>)
-        requires { IsSpot self.old.source spot.rest.now spot.mark.now spot.at }
-        ensures place { self.new ≡ unread_at self.old.source spot.entry.rest.now }
-        ensures steps { trail.new ≡ record trail.old { left = length self.old.rest } }
+    pub fn go_back(&mut self, spot: Spot<'input>)
+        requires spot { IsSpot self.old.source spot.rest.now spot.mark.now spot.at }
+        requires furthest { IsFurthest (chars spot.rest.now) self.old.back }
+        requires earlier { length self.old.rest ≤ length (chars spot.rest.now) }
+        requires word { behind_part (chars spot.rest.now) ≤ length self.old.rest }
+        ensures { self.new ≡ unread_at self.old.source spot.entry.rest.now (given_back self.old.rest (chars spot.entry.rest.now) self.old.back) self.old.undone }
     {
-        trail.go_back(self.spot.rest);
-        self.put(spot);
+        self.tally.go_back(self.spot.rest, spot.rest);
+        self.spot = spot;
     }
 
-    /// Puts it at a spot of its source.
-    pub fn put(&mut self, spot: Spot<'input>)
-        requires { IsSpot self.old.source spot.rest.now spot.mark.now spot.at }
-        ensures { self.new ≡ unread_at self.old.source spot.entry.rest.now }
+    /// Puts it back where it stood before a call that was refused.
+    pub fn undo(&mut self, spot: Spot<'input>, tally: Tally)
+        requires spot { IsSpot self.old.source spot.rest.now spot.mark.now spot.at }
+        requires paid { IsPaid (chars self.old.source.input.now) (chars spot.rest.now) tally }
+        ensures { self.new ≡ unread_at self.old.source spot.entry.rest.now tally (self.old.undone + 1) }
     {
         self.spot = spot;
+        self.tally = tally;
+        self.undone = Steps::more(&self.undone, &1);
     }
 
     /// What is left is a rest of the input. Nothing is done.
@@ -244,16 +271,15 @@ impl<'input> Cursor<'input> {
     }
 
     /// Moves over the character, and answers whether it is there.
-    pub fn take_char<L: Ledger>(&mut self, c: char, trail: &mut Trail<'input, L>) -> bool
+    pub fn take_char(&mut self, c: char) -> bool
         ensures value { result ≡ begins_with c self.old.rest }
         ensures rest { self.new ≡ record self.old {
           rest = if begins_with c self.old.rest then behind_first self.old.rest else self.old.rest;
         } }
-        ensures steps { Forward self.old.rest trail.old self.new.rest trail.new }
     {
         let is_there = self.is_next(c);
         if is_there {
-            self.advance(trail);
+            self.advance();
         }
         is_there
     }
@@ -298,31 +324,28 @@ impl<'input> Cursor<'input> {
 
     /// Moves over the longest front of the class.
     #[inline(always)]
-    pub fn skip<L: Ledger>(&mut self, class: Class, trail: &mut Trail<'input, L>)
+    pub fn skip(&mut self, class: Class)
         ensures rest { self.new ≡ record self.old { rest = behind (passes class) self.old.rest } }
-        ensures steps { Forward self.old.rest trail.old self.new.rest trail.new }
     {
         match class {
-            Class::Text => return self.pass_run(Class::Text, trail),
-            Class::Line => return self.pass_run(Class::Line, trail),
+            Class::Text => return self.pass_run(Class::Text),
+            Class::Line => return self.pass_run(Class::Line),
             _ => {}
         }
         while let Some(c) = self.peek() {
             if !class.passes(c) {
                 break;
             }
-            self.advance(trail);
+            self.advance();
         }
     }
 
     /// Moves over the longest front of the class at once.
-    fn pass_run<L: Ledger>(&mut self, class: Class, trail: &mut Trail<'input, L>)
+    fn pass_run(&mut self, class: Class)
         requires { IsOfAscii (passes class) }
         ensures rest { self.new ≡ record self.old { rest = behind (passes class) self.old.rest } }
-        ensures steps { Forward self.old.rest trail.old self.new.rest trail.new }
     {
         let rest = behind_run(self.spot.rest, class);
-        trail.run(before(self.spot.rest, rest));
         self.spot.rest = rest;
     }
 
@@ -336,55 +359,50 @@ impl<'input> Cursor<'input> {
 
     /// Moves over the white space at the front, of which there is mostly none.
     #[inline(always)]
-    pub fn skip_white<L: Ledger>(&mut self, trail: &mut Trail<'input, L>)
+    pub fn skip_white(&mut self)
         ensures rest { self.new ≡ record self.old { rest = behind_white self.old.rest } }
-        ensures steps { Forward self.old.rest trail.old self.new.rest trail.new }
     {
         if self.starts_white() {
-            self.skip_spaces(trail);
+            self.skip_spaces();
         }
     }
 
     /// Moves over the white space at the front.
     #[tactic(auto, unfolding(crate::specs::Characters::behind_white))]
     #[inline(never)]
-    fn skip_spaces<L: Ledger>(&mut self, trail: &mut Trail<'input, L>)
+    fn skip_spaces(&mut self)
         ensures rest { self.new ≡ record self.old { rest = behind_white self.old.rest } }
-        ensures steps { Forward self.old.rest trail.old self.new.rest trail.new }
     {
-        self.skip(Class::White, trail);
+        self.skip(Class::White);
     }
 
     /// Moves over the word at the front.
     #[tactic(auto, unfolding(crate::specs::Characters::behind_word))]
-    fn skip_word<L: Ledger>(&mut self, trail: &mut Trail<'input, L>)
+    fn skip_word(&mut self)
         ensures rest { self.new ≡ record self.old { rest = behind_word self.old.rest } }
-        ensures steps { Forward self.old.rest trail.old self.new.rest trail.new }
     {
         if self.starts_word() {
-            self.advance(trail);
-            self.skip(Class::Continue, trail);
+            self.advance();
+            self.skip(Class::Continue);
         }
     }
 
     /// Reads the word at the front, which may be empty.
-    pub fn word<L: Ledger>(&mut self, trail: &mut Trail<'input, L>) -> &'input str
+    pub fn word(&mut self) -> &'input str
         ensures value { chars result.now ≡ word self.old.rest }
         ensures rest { self.new ≡ record self.old { rest = behind_word self.old.rest } }
-        ensures steps { Forward self.old.rest trail.old self.new.rest trail.new }
     {
         let text = self.rest();
-        self.skip_word(trail);
+        self.skip_word();
         before(text, self.rest())
     }
 
     /// Moves over the digits at the front: their number modulo 65536, and whether it is above 65535.
     #[tactic(auto, unfolding(crate::specs::Characters::digits, crate::specs::Characters::behind_digits))]
-    fn skip_number<L: Ledger>(&mut self, trail: &mut Trail<'input, L>) -> (u16, bool)
+    fn skip_number(&mut self) -> (u16, bool)
         ensures value { result.0 ≡ number (digits self.old.rest) }
         ensures over { result.1 ≡ is_over (digits self.old.rest) }
         ensures rest { self.new ≡ record self.old { rest = behind_digits self.old.rest } }
-        ensures steps { Forward self.old.rest trail.old self.new.rest trail.new }
     {
         let mut value = 0;
         let mut over = false;
@@ -395,21 +413,20 @@ impl<'input> Cursor<'input> {
             let more = with_digit(value, c);
             value = more.0;
             over |= more.1;
-            self.advance(trail);
+            self.advance();
         }
         (value, over)
     }
 
     /// Reads the digits at the front: their number modulo 65536, and whether it is above 65535.
-    pub fn number<L: Ledger>(&mut self, trail: &mut Trail<'input, L>) -> (&'input str, u16, bool)
+    pub fn number(&mut self) -> (&'input str, u16, bool)
         ensures text { chars result.0.now ≡ digits self.old.rest }
         ensures value { result.1 ≡ number (digits self.old.rest) }
         ensures over { result.2 ≡ is_over (digits self.old.rest) }
         ensures rest { self.new ≡ record self.old { rest = behind_digits self.old.rest } }
-        ensures steps { Forward self.old.rest trail.old self.new.rest trail.new }
     {
         let text = self.rest();
-        let (value, over) = self.skip_number(trail);
+        let (value, over) = self.skip_number();
         (before(text, self.rest()), value, over)
     }
 }

@@ -33,10 +33,9 @@ mod types;
 mod world;
 mod written;
 
-pub use cursor::StepCount;
 pub use parser::Parser;
 pub use pieces::Pieces;
-pub use reading::{read_all, steps_are_few};
+pub use reading::read_all;
 pub use types::Alignment::{AlignCenter, AlignLeft, AlignRight, AlignUnknown};
 pub use types::Count::{CountImplied, CountIs, CountIsName, CountIsParam, CountIsStar};
 pub use types::Position::{ArgumentImplicitlyIs, ArgumentIs, ArgumentNamed};

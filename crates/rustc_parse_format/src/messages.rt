@@ -62,15 +62,14 @@ fn align_after(alloc: Global, sign: char) -> Result<String, AllocError>
     format!(in alloc; "expected `{sign}` to occur after `:`")
 }
 
-/// Writes the note of an error, if it has one.
-fn remark(alloc: Global, into: &mut ParseError, note: Option<&str>) -> Result<(), AllocError>
-    requires { (seen_error into.old).note ≡ None }
-    ensures { OnOk result (seen_error into.new ≡ record (seen_error into.old) { note = option_map (λ t. t.now) note.entry }) }
+/// The note of an error, if it has one.
+fn remark(alloc: Global, note: Option<&str>) -> Result<Option<String>, AllocError>
+    ensures { IfOk result (λ s. option_map (λ t. string_bytes t) s ≡ option_map (λ t. t.now) note.entry) }
 {
-    if let Some(text) = note {
-        into.note = Some(String::from_str(alloc, text)?);
+    match note {
+        Some(text) => Ok(Some(String::from_str(alloc, text)?)),
+        None => Ok(None),
     }
-    Ok(())
 }
 
 /// Writes where an error is, and what is there.
@@ -105,7 +104,7 @@ fn say(
     }) }
 {
     into.description = String::from_str(alloc, description)?;
-    remark(alloc, into, note)?;
+    into.note = remark(alloc, note)?;
     show(alloc, into, label, span)
 }
 
@@ -136,7 +135,7 @@ fn tell_brace(
         ≡ error (expected found) (Some note.now) (codes "expected `}`") (pair span) (Some (second.entry.0.now, pair second.entry.1))) }
 {
     into.description = expected_brace(alloc, found)?;
-    remark(alloc, into, Some(note))?;
+    into.note = remark(alloc, Some(note))?;
     show(alloc, into, "expected `}`", span)?;
     show_second(alloc, into, second.0, second.1)
 }

@@ -2,16 +2,16 @@
 
 mod steps;
 
-use crate::cursor::{Cursor, StepCount};
+use crate::cursor::Cursor;
+use crate::laws::default_of_spec;
 use crate::lists::Lists;
 use crate::reader::Reader;
 use crate::source::Spot;
 use crate::types::{Argument, ParseError, ParseMode, Piece, Taken};
 use crate::world::{first_look, quote_offset, source_of};
 use std::alloc::{AllocError, Global};
-use std::marker::{Brand, Model};
+use std::marker::Model;
 use std::ops::Range;
-use std::sync::ledger::{Blank, Ledger};
 
 /// A parser over an input.
 #[derive(Drop)]
@@ -36,6 +36,8 @@ impl<'input> Model for Parser<'input> {
       world = p.reader.world;
       input = p.reader.input;
       rest = p.reader.rest;
+      back = p.reader.back;
+      undone = p.reader.undone;
       next = p.reader.next;
       errors = p.lists.errors;
       arg_places = p.lists.arg_places;
@@ -61,10 +63,10 @@ impl<'input> Parser<'input> {
     ghost use Rattle.rustc_parse_format.specs.Seen.{pair, seen, seen_error, seen_mode, seen_snippet, seen_taken};
     ghost use Rattle.rustc_parse_format.specs.Literal.{IsSource};
     ghost use Rattle.rustc_parse_format.specs.Source.{HasSource};
-    ghost use Rattle.rustc_parse_format.specs.State.{AddsNothing, ComesFrom, GivesPiece, State, after, first_of, first_state, last_lines, next_call};
+    ghost use Rattle.rustc_parse_format.specs.State.{AddsNothing, ComesFrom, GivesPiece, IsPutBack, State, after, first_of, first_state, last_lines, next_call};
     ghost use Rattle.rustc_parse_format.specs.Spelling.{IsPart};
     ghost use Rattle.rustc_parse_format.specs.State.{NeedsNoMemory};
-    ghost use Rattle.rustc_parse_format.specs.Steps.{IsInWord, Paid};
+    ghost use Rattle.rustc_parse_format.specs.Steps.{AreFew};
     ghost use Rattle.rustc_parse_format.specs.Placeholder.{placed};
     ghost use Rattle.rustc_parse_format.specs.Syntax.{FieldText, opened_part};
     ghost use Rattle.rustc_parse_format.specs.World.{Place, hashes, piece_in, place_of, text_end};
@@ -110,94 +112,19 @@ impl<'input> Parser<'input> {
         })
     }
 
-    /// A count of the steps from here on, which contracts see and no code: it is nothing when the program runs. A step is a
-    /// move of the parser over one character of the input. The blank is a fresh one of three parts, for `L`.
-    pub fn count<L: Ledger>(&self, blank: Blank) -> StepCount<'input, L>
-        requires name { blank.name ≡ L.name }
-        requires parts { blank.parts ≡ L.parts }
-        requires three { blank.parts ≡ 3 }
-        ensures { result ≡ record { steps = 0; left = length self.now.rest } }
-    {
-        self.reader.cursor.count(blank)
-    }
-
-    /// One call, on a count. An error leaves the parser and the count as they were.
-    fn step_on<L: Ledger>(
-        &mut self,
-        fronts: &mut usize,
-        count: &mut StepCount<'input, L>,
-    ) -> Result<Option<Piece<'input>>, AllocError>
-        requires { IsInWord self.old.rest count.old }
-        ensures piece { IfOk result (λ p. option_map seen p ≡ option_map (piece_in self.old.world) (next_call self.old).piece) }
-        ensures state { OnOk result (self.new ≡ after self.old (next_call self.old)) }
-        ensures err { OnErr result (self.new ≡ self.old) }
-        ensures spare { NeedsNoMemory self.old (next_call self.old) → IsOk result }
-        ensures fronts { OnOk result (fronts.new ≡ length (filter is_front (next_call self.old).faults)) }
-        ensures steps { Paid self.old.rest count.old self.new.rest count.new }
-        ensures refused { OnErr result (count.new ≡ count.old) }
-    {
-        let result = self.step(fronts, &mut count.call);
-        if result.is_ok() {
-            count.before.keep(&mut count.call);
-        } else {
-            count.before.undo(&mut count.call);
-        }
-        result
-    }
-
-    /// The next piece, as by [`Parser::next`], with its steps counted. The count must have gone through all calls of this parser
-    /// since it was begun. An error leaves the parser and the count as they were.
-    pub fn next_counted<L: Ledger>(
-        &mut self,
-        count: &mut StepCount<'input, L>,
-    ) -> Result<Option<Piece<'input>>, AllocError>
-        requires { IsInWord self.old.rest count.old }
-        ensures piece { IfOk result (λ p. option_map seen p ≡ option_map (piece_in self.old.world) (next_call self.old).piece) }
-        ensures state { OnOk result (self.new ≡ after self.old (next_call self.old)) }
-        ensures err { OnErr result (self.new ≡ self.old) }
-        ensures spare { NeedsNoMemory self.old (next_call self.old) → IsOk result }
-        ensures steps { Paid self.old.rest count.old self.new.rest count.new }
-        ensures refused { OnErr result (count.new ≡ count.old) }
-    {
-        let mut fronts = 0;
-        self.step_on(&mut fronts, count)
-    }
-
-    /// A call whose steps nobody counts.
-    fn next_uncounted<L: Ledger>(
-        &mut self,
-        fronts: &mut usize,
-        blank: Blank,
-    ) -> Result<Option<Piece<'input>>, AllocError>
-        requires name { blank.name ≡ L.name }
-        requires parts { blank.parts ≡ L.parts }
-        requires three { blank.parts ≡ 3 }
-        ensures piece { IfOk result (λ p. option_map seen p ≡ option_map (piece_in self.old.world) (next_call self.old).piece) }
-        ensures state { OnOk result (self.new ≡ after self.old (next_call self.old)) }
-        ensures err { OnErr result (self.new ≡ self.old) }
-        ensures spare { NeedsNoMemory self.old (next_call self.old) → IsOk result }
-        ensures fronts { OnOk result (fronts.new ≡ length (filter is_front (next_call self.old).faults)) }
-    {
-        let mut count = self.count::<L>(blank);
-        self.step_on(fronts, &mut count)
-    }
-
-    /// A call whose count is thrown away.
-    fn one_call(&mut self, fronts: &mut usize) -> Result<Option<Piece<'input>>, AllocError>
-        ensures piece { IfOk result (λ p. option_map seen p ≡ option_map (piece_in self.old.world) (next_call self.old).piece) }
-        ensures state { OnOk result (self.new ≡ after self.old (next_call self.old)) }
-        ensures err { OnErr result (self.new ≡ self.old) }
-        ensures spare { NeedsNoMemory self.old (next_call self.old) → IsOk result }
-        ensures fronts { OnOk result (fronts.new ≡ length (filter is_front (next_call self.old).faults)) }
-    {
-        self.next_uncounted::<Brand>(fronts, Blank::new(3))
-    }
-
     /// What is left is a rest of the input. Nothing is done.
     fn reads_its_input(&self)
         ensures { (front : Text) × (self.now.input ≡ front ++ self.now.rest) }
     {
         self.reader.cursor.reads_its_input();
+    }
+
+    /// It has taken few steps: at least its position, at most that and its reach, and so at most two for each character of the input.
+    /// Nothing is done.
+    pub fn steps_are_few(&self)
+        ensures { AreFew self.now.input self.now.rest self.now.back }
+    {
+        self.reader.cursor.steps_are_few();
     }
 
     /// The next piece, or None at the end and over a closing brace that closes nothing, after which a later call goes
@@ -207,7 +134,7 @@ impl<'input> Parser<'input> {
         // The piece and the new state are the definition's call, put through the parser's world.
         ensures piece { IfOk result (λ p. option_map seen p ≡ option_map (piece_in self.old.world) (next_call self.old).piece) }
         ensures state { OnOk result (self.new ≡ after self.old (next_call self.old)) }
-        ensures err { OnErr result (self.new ≡ self.old) }
+        ensures err { OnErr result (IsPutBack self.old self.new) }
         ensures spare { NeedsNoMemory self.old (next_call self.old) → IsOk result }
 
         // A piece that begins the rest is the one that is given, and then nothing is a fault.
@@ -254,31 +181,12 @@ impl<'input> Parser<'input> {
         ensures progress { OnOk result (self.old.rest ≢ [] → length self.new.rest < length self.old.rest) }
         ensures numbers { OnOk result (self.new.next + length self.new.rest ≤ self.old.next + length self.old.rest) }
         ensures short { length self.new.rest ≤ length self.old.rest }
+
+        // After any calls the steps are few: at most two for each character of the input.
+        ensures few { AreFew self.new.input self.new.rest self.new.back }
     {
         self.reads_its_input();
-        let mut fronts = 0;
-        self.one_call(&mut fronts)
-    }
-
-    /// A call into an argument, whose steps nobody counts.
-    #[inline(always)]
-    fn take_uncounted<L: Ledger>(
-        &mut self,
-        into: &mut Argument<'input>,
-        fronts: &mut usize,
-        blank: Blank,
-    ) -> Result<Option<Taken<'input>>, AllocError>
-        requires name { blank.name ≡ L.name }
-        requires parts { blank.parts ≡ L.parts }
-        requires three { blank.parts ≡ 3 }
-        ensures piece { IfOk result (λ p. option_map (seen_taken into.new) p ≡ option_map (piece_in self.old.world) (next_call self.old).piece) }
-        ensures state { OnOk result (self.new ≡ after self.old (next_call self.old)) }
-        ensures err { OnErr result (self.new ≡ self.old) }
-        ensures spare { AddsNothing self.old (next_call self.old) → IsOk result }
-        ensures fronts { OnOk result (fronts.new ≡ length (filter is_front (next_call self.old).faults)) }
-    {
-        let mut count = self.count::<L>(blank);
-        self.take(into, fronts, &mut count.call)
+        self.step()
     }
 
     /// The next piece, as by [`Parser::next`], where a placeholder is read into an argument of the caller's and takes no memory
@@ -294,12 +202,20 @@ impl<'input> Parser<'input> {
             ≡ option_map (piece_in self.old.world) (next_call self.old).piece) }
         ensures fronts { IfOk result (λ x. x.1 ≡ length (filter is_front (next_call self.old).faults)) }
         ensures state { OnOk result (self.new ≡ after self.old (next_call self.old)) }
-        ensures err { OnErr result (self.new ≡ self.old) }
+        ensures err { OnErr result (IsPutBack self.old self.new) }
         ensures spare { AddsNothing self.old (next_call self.old) → IsOk result }
+        ensures few { AreFew self.new.input self.new.rest self.new.back }
     {
-        let mut fronts = 0;
-        let piece = self.take_uncounted::<Brand>(argument, &mut fronts, Blank::new(3))?;
-        Ok((piece, fronts))
+        if self.reader.cursor.opens_placeholder() {
+            argument.format = default_of_spec();
+            let fronts = self.step_into(argument)?;
+            return Ok((Some(Taken::NextArgument), fronts));
+        }
+        let (text, fronts) = self.step_bare()?;
+        match text {
+            Some(text) => Ok((Some(Taken::Lit(text)), fronts)),
+            None => Ok((None, fronts)),
+        }
     }
 
     /// The place of the next character in the source, its byte position in the input, and itself, or None at the end.

@@ -9,14 +9,14 @@ ghost use Rattle.rustc_parse_format.specs.Meaning.{argument};
 ghost use Rattle.rustc_parse_format.specs.PartFaults.{cut_faults, name_faults, position_faults, raw_faults};
 ghost use Rattle.rustc_parse_format.specs.Placeholder.{cut, position};
 ghost use Rattle.rustc_parse_format.specs.Seen.{pair, seen_argument, seen_mode, seen_position, seen_spec};
-ghost use Rattle.rustc_parse_format.specs.Midway.{FindsNothing, read_texts, read_to};
-ghost use Rattle.rustc_parse_format.specs.Steps.{Forward, IsInWord, Paid};
+ghost use Rattle.rustc_parse_format.specs.Midway.{FindsNothing, read_texts, read_to, read_tries};
+ghost use Rattle.rustc_parse_format.specs.Reads.{Reads};
+ghost use Rattle.rustc_parse_format.specs.Tries.{spec_tries};
 ghost use Rattle.rustc_parse_format.specs.Types.{Implicit, default_spec, map_argument};
 ghost use Rattle.rustc_parse_format.specs.Values.{given_position, number_after_field};
 ghost use Rattle.rustc_parse_format.specs.World.{faults_in, place_of};
 
 use crate::counts::{integer, word};
-use crate::cursor::Trail;
 use crate::faults::Fault;
 use crate::laws::default_of_spec;
 use crate::reader::Reader;
@@ -24,24 +24,19 @@ use crate::specification::specification;
 use crate::types::{Argument, ParseMode, Position, wants_names};
 use std::alloc::AllocError;
 use std::ops::Range;
-use std::sync::ledger::Ledger;
 
 /// Reads the raw identifier at the front, which is a fault: the word without its `r#`.
-fn raw_word<'input, L: Ledger>(
-    reader: &mut Reader<'input>,
-    trail: &mut Trail<'input, L>,
-) -> Result<&'input str, AllocError>
+fn raw_word<'input>(reader: &mut Reader<'input>) -> Result<&'input str, AllocError>
     ensures value { IfOk result (λ w. chars w.now ≡ word (behind_prefix reader.old.rest)) }
     ensures state { OnOk result (reader.new
         ≡ read_to reader.old (behind_word (behind_prefix reader.old.rest)) reader.old.next (raw_faults reader.old.rest)) }
     ensures err { OnErr result (reader.new.source ≡ reader.old.source) }
-    ensures steps { OnOk result (Forward reader.old.rest trail.old reader.new.rest trail.new) }
 {
     let from = reader.start();
-    reader.advance(trail);
+    reader.advance();
     let prefix = from..reader.stop();
-    reader.advance(trail);
-    let word = word(reader, trail)?;
+    reader.advance();
+    let word = word(reader)?;
     let span = from..reader.start();
     reader.note(Fault::RawIdentifier(span, prefix))?;
     Ok(word)
@@ -49,27 +44,21 @@ fn raw_word<'input, L: Ledger>(
 
 /// Reads the position at the front: an integer, else a word, raw or not, else none.
 #[tactic(auto, using(crate::proofs::TriedParts::tried_parts, crate::proofs::Readers::read_nothing))]
-fn position<'input, L: Ledger>(
-    reader: &mut Reader<'input>,
-    trail: &mut Trail<'input, L>,
-) -> Result<Option<Position<'input>>, AllocError>
+fn position<'input>(reader: &mut Reader<'input>) -> Result<Option<Position<'input>>, AllocError>
     ensures value { IfOk result (λ p. option_map seen_position p ≡ given_position (position reader.old.rest).0) }
-    ensures state { OnOk result (reader.new ≡ (let p = position reader.old.rest in
-        read_to reader.old p.1 reader.old.next (position_faults reader.old.rest p.0))) }
-    ensures err { OnErr result (reader.new.source ≡ reader.old.source) }
-    ensures spare { position_faults reader.old.rest (position reader.old.rest).0 ≡ [] → IsOk result }
-    ensures steps { OnOk result (Forward reader.old.rest trail.old reader.new.rest trail.new) }
+    ensures reads { let p = position reader.old.rest in
+        Reads reader.old result reader.new p.1 reader.old.next (position_faults reader.old.rest p.0) [] }
 {
     if reader.cursor.starts_digit() {
-        let number = integer(reader, trail)?;
+        let number = integer(reader)?;
         return Ok(Some(Position::ArgumentIs(usize::from(number))));
     }
     if reader.cursor.starts_raw() {
-        let name = raw_word(reader, trail)?;
+        let name = raw_word(reader)?;
         return Ok(Some(Position::ArgumentNamed(name)));
     }
     if reader.cursor.starts_word() {
-        let name = word(reader, trail)?;
+        let name = word(reader)?;
         return Ok(Some(Position::ArgumentNamed(name)));
     }
     Ok(None)
@@ -96,11 +85,10 @@ fn note_unnamed<'input>(
 
 /// Reads the position at the front and the white space after it, and says where they stand. Where the mode wants names, any
 /// other position is a fault.
-fn spaced_position<'input, L: Ledger>(
+fn spaced_position<'input>(
     mode: ParseMode,
     span: &mut Range<usize>,
     reader: &mut Reader<'input>,
-    trail: &mut Trail<'input, L>,
 ) -> Result<Option<Position<'input>>, AllocError>
     ensures value { IfOk result (λ p. option_map seen_position p ≡ given_position (position reader.old.rest).0) }
     ensures span { OnOk result (pair span.new
@@ -114,11 +102,10 @@ fn spaced_position<'input, L: Ledger>(
     ensures spare { (let p = position reader.old.rest in
         position_faults reader.old.rest p.0 ≡ []
         → name_faults (seen_mode mode) (given_position p.0) (up_to reader.old.rest (behind_white p.1)) ≡ [] → IsOk result) }
-    ensures steps { OnOk result (Forward reader.old.rest trail.old reader.new.rest trail.new) }
 {
     let start = reader.start();
-    let given = position(reader, trail)?;
-    reader.cursor.skip_white(trail);
+    let given = position(reader)?;
+    reader.cursor.skip_white();
     let end = reader.start();
     *span = start..end;
     note_unnamed(mode, &given, start..end, reader)?;
@@ -155,26 +142,24 @@ pub fn blank_argument<'input>() -> Argument<'input>
 
 /// Reads a position, white space and a specification into a blank argument.
 #[tactic(auto, using(crate::proofs::Steps::part_le), unfolding(crate::specs::Placeholder::cut, crate::specs::Meaning::argument, crate::specs::Values::number_after_field, crate::specs::PartFaults::cut_faults))]
-pub fn read_argument<'input, L: Ledger>(
+pub fn read_argument<'input>(
     mode: ParseMode,
     into: &mut Argument<'input>,
     reader: &mut Reader<'input>,
-    trail: &mut Trail<'input, L>,
 ) -> Result<(), AllocError>
     requires blank { seen_spec into.old.format ≡ default_spec }
     requires numbers { reader.old.next + 1 + length reader.old.rest < 2 ^ 64 }
-    requires steps { IsInWord reader.old.rest trail.old }
     ensures value { OnOk result (seen_argument into.new
         ≡ map_argument (place_of reader.old.world) (argument reader.old.next (cut (seen_mode mode) reader.old.rest))) }
     ensures state { OnOk result (reader.new ≡ (let a = cut (seen_mode mode) reader.old.rest in
-        read_texts (read_to reader.old a.rest (number_after_field reader.old.next a.field) (cut_faults (seen_mode mode) a)) (spec_texts a.field.spec a.rest))) }
+        read_texts (read_tries (read_to reader.old a.rest (number_after_field reader.old.next a.field) (cut_faults (seen_mode mode) a))
+        (spec_tries a.field.spec a.rest)) (spec_texts a.field.spec a.rest))) }
     ensures err { OnErr result (reader.new.source ≡ reader.old.source) }
     ensures spare { (let a = cut (seen_mode mode) reader.old.rest in
         FindsNothing reader.old (cut_faults (seen_mode mode) a) (spec_texts a.field.spec a.rest) → IsOk result) }
-    ensures steps { OnOk result (Paid reader.old.rest trail.old reader.new.rest trail.new) }
 {
-    let given = spaced_position(mode, &mut into.position_span, reader, trail)?;
-    specification(mode, &mut into.format, reader, trail)?;
+    let given = spaced_position(mode, &mut into.position_span, reader)?;
+    specification(mode, &mut into.format, reader)?;
     into.position = position_of(given, reader);
     Ok(())
 }

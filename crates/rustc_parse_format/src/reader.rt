@@ -7,17 +7,16 @@ ghost use Rattle.rustc_parse_format.specs.Marks.{End, Start};
 ghost use Rattle.rustc_parse_format.specs.Seen.{pair};
 ghost use Rattle.rustc_parse_format.specs.SeenFaults.{seen_fault};
 ghost use Rattle.rustc_parse_format.specs.SeenSource.{IsSpot};
-ghost use Rattle.rustc_parse_format.specs.Steps.{Forward};
+ghost use Rattle.rustc_parse_format.specs.Back.{IsPaid};
 ghost use Rattle.rustc_parse_format.specs.World.{number_of};
 
-use crate::characters::{Class, before};
-use crate::cursor::{Cursor, Trail};
+use crate::characters::Class;
+use crate::cursor::{Cursor, Tally};
 use crate::faults::Fault;
 use crate::source::Spot;
 use std::alloc::{AllocError, Global};
 use std::marker::Model;
 use std::ops::Range;
-use std::sync::ledger::Ledger;
 
 /// A parser in the middle of a call.
 #[derive(Drop)]
@@ -54,6 +53,7 @@ impl<'input> Model for Reader<'input> {
 #[derive(Drop)]
 pub struct Front<'input> {
     spot: Spot<'input>,
+    tally: Tally,
     curarg: usize,
     line_start: usize,
 }
@@ -76,11 +76,13 @@ impl<'input> Reader<'input> {
     /// Where it stands before a call.
     pub fn front(&self) -> Front<'input>
         requires { HasFoundNothing self.now }
-        ensures at { self.now ≡ midway (unread_at self.now.source result.spot.rest.now) result.curarg result.line_start }
+        ensures at { self.now ≡ midway (unread_at self.now.source result.spot.rest.now result.tally self.now.undone) result.curarg result.line_start }
+        ensures paid { IsPaid (chars self.now.source.input.now) (chars result.spot.rest.now) result.tally }
         ensures spot { IsSpot self.now.source result.spot.rest.now result.spot.mark.now result.spot.at }
     {
         Front {
             spot: self.cursor.spot(),
+            tally: self.cursor.tally(),
             curarg: self.curarg,
             line_start: self.line_start,
         }
@@ -88,10 +90,11 @@ impl<'input> Reader<'input> {
 
     /// Goes back to where a call began, and forgets what it has found.
     pub fn go_back(&mut self, alloc: Global, front: Front<'input>)
-        requires { IsSpot self.old.source front.spot.rest.now front.spot.mark.now front.spot.at }
-        ensures { self.new ≡ midway (unread_at self.old.source front.entry.spot.rest.now) front.entry.curarg front.entry.line_start }
+        requires spot { IsSpot self.old.source front.spot.rest.now front.spot.mark.now front.spot.at }
+        requires paid { IsPaid (chars self.old.source.input.now) (chars front.spot.rest.now) front.tally }
+        ensures { self.new ≡ midway (unread_at self.old.source front.entry.spot.rest.now front.entry.tally (self.old.undone + 1)) front.entry.curarg front.entry.line_start }
     {
-        self.cursor.put(front.spot);
+        self.cursor.undo(front.spot, front.tally);
         self.curarg = front.curarg;
         self.found = Vec::new(alloc);
         self.line_start = front.line_start;
@@ -117,11 +120,10 @@ impl<'input> Reader<'input> {
 
     /// Moves over the next character.
     #[inline(always)]
-    pub fn advance<L: Ledger>(&mut self, trail: &mut Trail<'input, L>)
+    pub fn advance(&mut self)
         ensures state { self.new ≡ record self.old { rest = behind_first self.old.rest } }
-        ensures steps { Forward self.old.rest trail.old self.new.rest trail.new }
     {
-        self.cursor.advance(trail);
+        self.cursor.advance();
     }
 
     /// Notes a fault.
@@ -166,70 +168,60 @@ impl<'input> Reader<'input> {
     }
 
     /// Reads the run of text at the front.
-    pub fn take_text<L: Ledger>(
-        &mut self,
-        trail: &mut Trail<'input, L>,
-    ) -> Result<&'input str, AllocError>
+    pub fn take_text(&mut self) -> Result<&'input str, AllocError>
         ensures value { IfOk result (λ t. chars t.now ≡ front is_no_brace self.old.rest) }
         ensures state { OnOk result (self.new ≡ read_run self.old) }
         ensures spare { IsInOneLine self.old → IsOk result }
         ensures err { OnErr result (self.new.source ≡ self.old.source) }
-        ensures steps { OnOk result (Forward self.old.rest trail.old self.new.rest trail.new) }
     {
-        let text = self.cursor.rest();
-        self.skip_text(trail)?;
-        Ok(before(text, self.cursor.rest()))
+        let from = self.cursor.spot();
+        self.skip_text()?;
+        Ok(self.cursor.since(&from))
     }
 
     /// Reads the next character, and the run of text after it, which alone counts as text for the lines.
-    pub fn take_text_behind_first<L: Ledger>(
-        &mut self,
-        trail: &mut Trail<'input, L>,
-    ) -> Result<&'input str, AllocError>
+    pub fn take_text_behind_first(&mut self) -> Result<&'input str, AllocError>
         ensures value { IfOk result (λ t. chars t.now ≡ with_first self.old.rest (front is_no_brace (behind_first self.old.rest))) }
         ensures state { OnOk result (self.new ≡ read_run (record self.old { rest = behind_first self.old.rest })) }
         ensures spare { IsInOneLine (record self.old { rest = behind_first self.old.rest }) → IsOk result }
         ensures err { OnErr result (self.new.source ≡ self.old.source) }
-        ensures steps { OnOk result (Forward self.old.rest trail.old self.new.rest trail.new) }
     {
-        let text = self.cursor.rest();
-        self.cursor.advance(trail);
-        self.skip_text(trail)?;
-        Ok(before(text, self.cursor.rest()))
+        let from = self.cursor.spot();
+        self.cursor.advance();
+        self.skip_text()?;
+        Ok(self.cursor.since(&from))
     }
 
     /// Moves over the run of text at the front, in a source literal line by line.
-    fn skip_text<L: Ledger>(&mut self, trail: &mut Trail<'input, L>) -> Result<(), AllocError>
+    fn skip_text(&mut self) -> Result<(), AllocError>
         ensures state { OnOk result (self.new ≡ read_run self.old) }
         ensures spare { IsInOneLine self.old → IsOk result }
         ensures err { OnErr result (self.new.source ≡ self.old.source) }
-        ensures steps { OnOk result (Forward self.old.rest trail.old self.new.rest trail.new) }
     {
         if self.cursor.is_source_literal() {
-            return self.skip_lines(trail);
+            return self.skip_lines();
         }
-        self.cursor.skip(Class::Text, trail);
+        self.cursor.skip(Class::Text);
         Ok(())
     }
 
     /// Moves over the run of text at the front of a source literal, line by line.
-    fn skip_lines<L: Ledger>(&mut self, trail: &mut Trail<'input, L>) -> Result<(), AllocError>
+    fn skip_lines(&mut self) -> Result<(), AllocError>
         requires { IsTrue self.old.world.has_source }
         ensures state { OnOk result (self.new ≡ read_run self.old) }
         ensures spare { IsInOneLine self.old → IsOk result }
         ensures err { OnErr result (self.new.source ≡ self.old.source) }
-        ensures steps { OnOk result (Forward self.old.rest trail.old self.new.rest trail.new) }
     {
         while let Some(c) = self.cursor.peek() {
             if !Class::Text.passes(c) {
                 break;
             }
             if c == '\n' {
-                self.take_newline(trail)?;
+                self.take_newline()?;
             } else if self.is_past_indent(c) {
-                self.skip_line(trail);
+                self.skip_line();
             } else {
-                self.pass_in_line(c, trail);
+                self.pass_in_line(c);
             }
         }
         Ok(())
@@ -246,32 +238,29 @@ impl<'input> Reader<'input> {
     }
 
     /// Moves up to the end of the line, or to a brace in it.
-    fn skip_line<L: Ledger>(&mut self, trail: &mut Trail<'input, L>)
+    fn skip_line(&mut self)
         ensures state { self.new ≡ record self.old { rest = behind is_in_line self.old.rest } }
-        ensures steps { Forward self.old.rest trail.old self.new.rest trail.new }
     {
-        self.cursor.skip(Class::Line, trail);
+        self.cursor.skip(Class::Line);
     }
 
     /// Moves over the newline at the front of what is left of a source literal: it ends the line that is read.
-    fn take_newline<L: Ledger>(&mut self, trail: &mut Trail<'input, L>) -> Result<(), AllocError>
+    fn take_newline(&mut self) -> Result<(), AllocError>
         ensures state { OnOk result (self.new ≡ passed_next 10 self.old) }
         ensures err { OnErr result (self.new.source ≡ self.old.source) }
-        ensures steps { OnOk result (Forward self.old.rest trail.old self.new.rest trail.new) }
     {
-        let newline = self.cursor.take_place(trail);
+        let newline = self.cursor.take_place();
         self.lines.push(self.line_start..newline.start)?;
         self.line_start = newline.end;
         Ok(())
     }
 
     /// Moves over the next character of a source literal, which is no newline: white space where the line starts is left out of it.
-    fn pass_in_line<L: Ledger>(&mut self, c: char, trail: &mut Trail<'input, L>)
+    fn pass_in_line(&mut self, c: char)
         requires { c ≢ 10 }
         ensures state { self.new ≡ passed_next c self.old }
-        ensures steps { Forward self.old.rest trail.old self.new.rest trail.new }
     {
-        let place = self.cursor.take_place(trail);
+        let place = self.cursor.take_place();
         if place.start == self.line_start && c.is_whitespace() {
             self.line_start = place.end;
         }

@@ -7,9 +7,8 @@ ghost use Rattle.rustc_parse_format.specs.Types.{Mode, Piece as BarePiece, bare}
 ghost use Rattle.rustc_parse_format.specs.Seen.{seen, seen_mode, seen_snippet};
 ghost use Rattle.rustc_parse_format.specs.Source.{HasSource};
 ghost use Rattle.rustc_parse_format.specs.State.{AreLines, Walks, after_all, calls, closed_of, first_state};
+ghost use Rattle.rustc_parse_format.specs.Steps.{AreFew};
 ghost use Rattle.rustc_parse_format.specs.Call.{faults_of, pieces_of, walk};
-ghost use Rattle.rustc_parse_format.specs.Pieces.{AreCalls};
-ghost use Rattle.rustc_parse_format.specs.Steps.{AreFew, IsInWord, IsStart};
 ghost use Rattle.rustc_parse_format.specs.Syntax.{FieldText, IsOnlyCut};
 ghost use Rattle.rustc_parse_format.specs.World.{hashes, pieces_in, place_of};
 ghost use Rattle.std.specs.List.{AllByRecursion};
@@ -17,47 +16,26 @@ ghost use Rattle.rustc_parse_format.specs.Faults.{add_errors, bare_fault, bare_m
 ghost use Rattle.rustc_parse_format.specs.Literal.{IsSource};
 ghost use Rattle.rustc_parse_format.specs.ReadBack.{AllSpans, IsInside, LiesInside, ReadsBack};
 
-use crate::cursor::StepCount;
 use crate::parser::Parser;
 use crate::types::{ParseMode, Piece};
 use std::alloc::{AllocError, Global};
-use std::marker::Brand;
-use std::sync::ledger::{Blank, Ledger};
 
 /// The pieces of a parser up to the first call that gives none.
-fn read_pieces<'input, L: Ledger>(
+fn read_pieces<'input>(
     alloc: Global,
     parser: &mut Parser<'input>,
-    count: &mut StepCount<'input, L>,
 ) -> Result<Vec<Piece<'input>>, AllocError>
-    requires { IsInWord parser.old.rest count.old }
     ensures pieces { IfOk result (λ ps. map seen ps.items ≡ pieces_in parser.old.world (pieces_of (calls parser.old))) }
     ensures state { IfOk result (λ ps. parser.new ≡ after_all parser.old (calls parser.old)) }
-    ensures few { IsStart parser.old count.old → AreFew parser.new count.new }
+    ensures few { IfOk result (λ ps. AreFew parser.new.input parser.new.rest parser.new.back) }
     ensures empty { parser.old.rest ≡ [] → parser.old.world.has_source ≡ false → IsOk result }
 {
     let mut pieces = Vec::new(alloc);
-    while let Some(piece) = parser.next_counted(count)? {
+    while let Some(piece) = parser.next()? {
         pieces.push(piece)?;
     }
+    parser.steps_are_few();
     Ok(pieces)
-}
-
-/// The same, with steps that nobody counts.
-fn read_uncounted<'input, L: Ledger>(
-    alloc: Global,
-    parser: &mut Parser<'input>,
-    blank: Blank,
-) -> Result<Vec<Piece<'input>>, AllocError>
-    requires name { blank.name ≡ L.name }
-    requires parts { blank.parts ≡ L.parts }
-    requires three { blank.parts ≡ 3 }
-    ensures pieces { IfOk result (λ ps. map seen ps.items ≡ pieces_in parser.old.world (pieces_of (calls parser.old))) }
-    ensures state { IfOk result (λ ps. parser.new ≡ after_all parser.old (calls parser.old)) }
-    ensures empty { parser.old.rest ≡ [] → parser.old.world.has_source ≡ false → IsOk result }
-{
-    let mut count = parser.count::<L>(blank);
-    read_pieces(alloc, parser, &mut count)
 }
 
 /// The pieces of an input, up to the first call that gives none, and the parser after them. The arguments are those of
@@ -81,6 +59,9 @@ pub fn read_all<'input>(
     ensures walks { IfOk result (λ x. Walks
         (first_state (seen_mode mode) (chars input.now) style (seen_snippet snippet) appended_newline)
         (map seen x.0.items) x.1) }
+
+    // It takes few steps, those of its last call too.
+    ensures few { IfOk result (λ x. AreFew x.1.input x.1.rest x.1.back) }
 
     ensures source { IfOk result (λ x. IsTrue x.1.world.has_source
         ↔ HasSource (chars input.now) style (seen_snippet snippet) appended_newline) }
@@ -122,25 +103,6 @@ pub fn read_all<'input>(
     ensures empty { input.now ≡ [] → (HasSource (chars input.now) style (seen_snippet snippet) appended_newline → ⊥) → IsOk result }
 {
     let mut parser = Parser::new(alloc, input, style, snippet, appended_newline, mode)?;
-    let pieces = read_uncounted::<Brand>(alloc, &mut parser, Blank::new(3))?;
+    let pieces = read_pieces(alloc, &mut parser)?;
     Ok((pieces, parser))
-}
-
-/// Calls a new parser some number of times. A call may be refused, which leaves the parser as it was, or find the end, and
-/// others follow. The steps of all calls that were not refused are then at most the position and the greatest position at
-/// which it stood, and so at most two for each character of the input. The count must have been begun at the start of the
-/// input.
-#[tactic(auto, using(crate::proofs::Steps::part_le))]
-pub fn steps_are_few<'input, L: Ledger>(
-    parser: &mut Parser<'input>,
-    times: u64,
-    count: &mut StepCount<'input, L>,
-)
-    requires { IsStart parser.old count.old }
-    ensures calls { AreCalls times parser.old parser.new }
-    ensures few { AreFew parser.new count.new }
-{
-    for _ in 0..times {
-        let _ = parser.next_counted(count);
-    }
 }

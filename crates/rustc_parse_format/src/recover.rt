@@ -8,19 +8,16 @@ ghost use Rattle.rustc_parse_format.specs.Midway.{behind_sign, recovered};
 ghost use Rattle.rustc_parse_format.specs.Recovery.{field, field_fault, late_debug, recovery, sign_fault};
 ghost use Rattle.rustc_parse_format.specs.Seen.{pair, seen_argument, seen_mode, seen_position};
 ghost use Rattle.rustc_parse_format.specs.SeenFaults.{seen_fault};
-ghost use Rattle.rustc_parse_format.specs.Steps.{Forward, IsInWord, Paid};
 ghost use Rattle.rustc_parse_format.specs.Types.{Argument as ArgumentValue, map_argument};
 ghost use Rattle.rustc_parse_format.specs.World.{number_of, place_of};
 
 use crate::counts::word;
-use crate::cursor::Trail;
 use crate::faults::Fault;
 use crate::placeholder::{blank_argument, read_argument};
 use crate::reader::Reader;
 use crate::types::{Argument, ParseMode, Position};
 use std::alloc::AllocError;
 use std::ops::Range;
-use std::sync::ledger::Ledger;
 
 /// The fault of one sign, with the character after it. The placeholder opens at `opening`.
 fn sign_fault<'input>(
@@ -42,42 +39,36 @@ fn sign_fault<'input>(
 }
 
 /// Takes the sign at the front with its fault, and leaves any other character.
-fn take_sign<'input, L: Ledger>(
+fn take_sign<'input>(
     sign: char,
     next: char,
     opening: Range<usize>,
     reader: &mut Reader<'input>,
-    trail: &mut Trail<'input, L>,
 ) -> Result<(), AllocError>
     ensures state { OnOk result (reader.new ≡ behind_sign reader.old
         (sign_fault sign next (place_of reader.old.world (over_first reader.old.rest)) (pair opening))) }
     ensures err { OnErr result (reader.new.source ≡ reader.old.source) }
-    ensures steps { OnOk result (Forward reader.old.rest trail.old reader.new.rest trail.new) }
 {
     let span = reader.start()..reader.stop();
     let Some(fault) = sign_fault(sign, next, span, opening) else {
         return Ok(());
     };
-    reader.advance(trail);
+    reader.advance();
     reader.note(fault)
 }
 
 /// Takes the `?` at the front, and a colon with a word where they follow.
 #[tactic(auto, unfolding(crate::specs::Recovery::late_debug))]
-fn late_debug<'input, L: Ledger>(
-    reader: &mut Reader<'input>,
-    trail: &mut Trail<'input, L>,
-) -> Result<(), AllocError>
+fn late_debug<'input>(reader: &mut Reader<'input>) -> Result<(), AllocError>
     ensures state { OnOk result (reader.new ≡ recovered reader.old (late_debug reader.old.next reader.old.rest)) }
     ensures err { OnErr result (reader.new.source ≡ reader.old.source) }
-    ensures steps { OnOk result (Forward reader.old.rest trail.old reader.new.rest trail.new) }
 {
     let span = reader.start()..reader.stop();
-    reader.advance(trail);
-    if !reader.cursor.take_char(':', trail) {
+    reader.advance();
+    if !reader.cursor.take_char(':') {
         return Ok(());
     }
-    let word = word(reader, trail)?;
+    let word = word(reader)?;
     reader.note(Fault::LateDebug(word, span))
 }
 
@@ -101,25 +92,22 @@ fn note_field(
 
 /// Takes the `.` at the front, the field after it, and the brace that follows it at once. The argument starts at `from`.
 #[tactic(auto, using(crate::proofs::Steps::part_le), unfolding(crate::specs::Recovery::field))]
-fn field<'input, L: Ledger>(
+fn field<'input>(
     mode: ParseMode,
     from: usize,
     reader: &mut Reader<'input>,
-    trail: &mut Trail<'input, L>,
 ) -> Result<(), AllocError>
     requires here { reader.old.rest ≢ [] }
     requires numbers { reader.old.next + length reader.old.rest < 2 ^ 64 }
-    requires steps { IsInWord reader.old.rest trail.old }
     ensures state { OnOk result ((m : Mark) → from ≡ number_of reader.old.world m
         → reader.new ≡ recovered reader.old (field (seen_mode mode) reader.old.next m reader.old.rest)) }
     ensures source { reader.new.source ≡ reader.old.source }
-    ensures steps { OnOk result (Paid reader.old.rest trail.old reader.new.rest trail.new) }
 {
-    reader.cursor.advance(trail);
+    reader.cursor.advance();
     let mut field = blank_argument();
-    read_argument(mode, &mut field, reader, trail)?;
+    read_argument(mode, &mut field, reader)?;
     let span = from..field.position_span.end;
-    if reader.cursor.take_char('}', trail) {
+    if reader.cursor.take_char('}') {
         note_field(&field.position, span, reader)?;
     }
     Ok(())
@@ -141,20 +129,17 @@ fn begins_late_debug(sign: char, next: char) -> bool
 
 /// Goes on in front of what stands in place of the brace that should close this argument. The placeholder opens at `opening`.
 #[tactic(auto, using(crate::proofs::Steps::part_le))]
-pub fn recover<'input, L: Ledger>(
+pub fn recover<'input>(
     mode: ParseMode,
     argument: &Argument<'input>,
     opening: Range<usize>,
     reader: &mut Reader<'input>,
-    trail: &mut Trail<'input, L>,
 ) -> Result<(), AllocError>
     requires numbers { reader.old.next + length reader.old.rest < 2 ^ 64 }
-    requires steps { IsInWord reader.old.rest trail.old }
     ensures state { OnOk result ((o : Text) (a : ArgumentValue Span) → pair opening ≡ place_of reader.old.world (over_first o)
         → seen_argument argument.now ≡ map_argument (place_of reader.old.world) a
         → reader.new ≡ recovered reader.old (recovery (seen_mode mode) reader.old.next o a reader.old.rest)) }
     ensures source { reader.new.source ≡ reader.old.source }
-    ensures steps { OnOk result (Paid reader.old.rest trail.old reader.new.rest trail.new) }
 {
     let Some(sign) = reader.cursor.peek() else {
         return Ok(());
@@ -163,10 +148,10 @@ pub fn recover<'input, L: Ledger>(
         return Ok(());
     };
     if begins_field(sign, argument) {
-        return field(mode, argument.position_span.start, reader, trail);
+        return field(mode, argument.position_span.start, reader);
     }
     if begins_late_debug(sign, next) {
-        return late_debug(reader, trail);
+        return late_debug(reader);
     }
-    take_sign(sign, next, opening, reader, trail)
+    take_sign(sign, next, opening, reader)
 }

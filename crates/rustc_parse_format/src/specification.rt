@@ -8,37 +8,34 @@ ghost use Rattle.rustc_parse_format.specs.Meaning.{fill_span, format_of, spec_of
 ghost use Rattle.rustc_parse_format.specs.PartFaults.{flag_faults, format_faults, late_flag, spec_faults, text_faults, type_faults, word_faults};
 ghost use Rattle.rustc_parse_format.specs.Seen.{pair, seen_alignment, seen_debug_hex, seen_mode, seen_sign, seen_spec};
 ghost use Rattle.rustc_parse_format.specs.Specification.{align, alternate, fill, format_text, sign, specification, type};
-ghost use Rattle.rustc_parse_format.specs.Midway.{FindsNothing, IsInOneLine, read_run, read_texts, read_to};
-ghost use Rattle.rustc_parse_format.specs.Steps.{Forward, IsFurthest, IsInWord, Paid};
+ghost use Rattle.rustc_parse_format.specs.Midway.{FindsNothing, IsInOneLine, read_run, read_texts, read_to, read_tries};
+ghost use Rattle.rustc_parse_format.specs.Reads.{Reads};
+ghost use Rattle.rustc_parse_format.specs.Tries.{format_tries, spec_tries};
 ghost use Rattle.rustc_parse_format.specs.Types.{default_spec, map_spec};
 ghost use Rattle.rustc_parse_format.specs.Values.{debug_hex_of, number_after_precision, number_after_spec, type_of};
+ghost use Rattle.rustc_parse_format.specs.Back.{IsFurthest};
 ghost use Rattle.rustc_parse_format.specs.World.{number_of, place_of};
 
 use crate::characters::first;
 use crate::counts::{precision, width, word};
-use crate::cursor::{Cursor, Trail};
+use crate::cursor::Cursor;
 use crate::faults::Fault;
 use crate::reader::Reader;
 use crate::types::{Alignment, DebugHex, FormatSpec, ParseMode, Sign, wants_names};
 use std::alloc::AllocError;
 use std::ops::Range;
-use std::sync::ledger::Ledger;
 
 /// Reads the fill at the front: a character with an alignment after it.
-fn fill<'input, L: Ledger>(
-    cursor: &mut Cursor<'input>,
-    trail: &mut Trail<'input, L>,
-) -> (Option<char>, Option<Range<usize>>)
+fn fill<'input>(cursor: &mut Cursor<'input>) -> (Option<char>, Option<Range<usize>>)
     ensures value { result.0 ≡ (fill cursor.old.rest).0 }
     ensures span { option_map pair result.1
         ≡ option_map (place_of cursor.old.world) (fill_span cursor.old.rest (fill cursor.old.rest).0) }
     ensures rest { cursor.new ≡ record cursor.old { rest = (fill cursor.old.rest).1 } }
-    ensures steps { Forward cursor.old.rest trail.old cursor.new.rest trail.new }
 {
     match (cursor.peek(), cursor.peek_ahead()) {
         (Some(c), Some('<' | '>' | '^')) => {
             let span = cursor.start()..cursor.stop();
-            cursor.advance(trail);
+            cursor.advance();
             (Some(c), Some(span))
         }
         _ => (None, None),
@@ -46,13 +43,9 @@ fn fill<'input, L: Ledger>(
 }
 
 /// Reads the alignment at the front.
-fn alignment<'input, L: Ledger>(
-    cursor: &mut Cursor<'input>,
-    trail: &mut Trail<'input, L>,
-) -> Alignment
+fn alignment<'input>(cursor: &mut Cursor<'input>) -> Alignment
     ensures value { seen_alignment result ≡ (align cursor.old.rest).0 }
     ensures rest { cursor.new ≡ record cursor.old { rest = (align cursor.old.rest).1 } }
-    ensures steps { Forward cursor.old.rest trail.old cursor.new.rest trail.new }
 {
     let alignment = match cursor.peek() {
         Some('<') => Alignment::AlignLeft,
@@ -60,56 +53,47 @@ fn alignment<'input, L: Ledger>(
         Some('^') => Alignment::AlignCenter,
         _ => return Alignment::AlignUnknown,
     };
-    cursor.advance(trail);
+    cursor.advance();
     alignment
 }
 
 /// Reads the sign flag at the front.
-fn sign<'input, L: Ledger>(
-    cursor: &mut Cursor<'input>,
-    trail: &mut Trail<'input, L>,
-) -> Option<Sign>
+fn sign<'input>(cursor: &mut Cursor<'input>) -> Option<Sign>
     ensures value { option_map seen_sign result ≡ (sign cursor.old.rest).0 }
     ensures rest { cursor.new ≡ record cursor.old { rest = (sign cursor.old.rest).1 } }
-    ensures steps { Forward cursor.old.rest trail.old cursor.new.rest trail.new }
 {
     let sign = match cursor.peek() {
         Some('+') => Sign::Plus,
         Some('-') => Sign::Minus,
         _ => return None,
     };
-    cursor.advance(trail);
+    cursor.advance();
     Some(sign)
 }
 
 /// Reads the flag `#` at the front.
-fn alternate<'input, L: Ledger>(cursor: &mut Cursor<'input>, trail: &mut Trail<'input, L>) -> bool
+fn alternate<'input>(cursor: &mut Cursor<'input>) -> bool
     ensures value { result ≡ (alternate cursor.old.rest).0 }
     ensures rest { cursor.new ≡ record cursor.old { rest = (alternate cursor.old.rest).1 } }
-    ensures steps { Forward cursor.old.rest trail.old cursor.new.rest trail.new }
 {
-    cursor.take_char('#', trail)
+    cursor.take_char('#')
 }
 
 /// Reads the word at the front, and where it stands if it is not empty.
 #[tactic(auto, using(crate::proofs::WordFronts::words_at_front, crate::proofs::Readers::read_nothing))]
-fn spanned_word<'input, L: Ledger>(
+fn spanned_word<'input>(
     reader: &mut Reader<'input>,
-    trail: &mut Trail<'input, L>,
 ) -> Result<(&'input str, Option<Range<usize>>), AllocError>
     ensures value { IfOk result (λ w. chars w.0.now ≡ word reader.old.rest) }
     ensures span { IfOk result (λ w. option_map pair w.1 ≡ option_map (place_of reader.old.world)
         (word_span reader.old.rest (word reader.old.rest) (behind_word reader.old.rest))) }
-    ensures state { OnOk result (reader.new ≡ read_to reader.old (behind_word reader.old.rest) reader.old.next (word_faults reader.old.rest)) }
-    ensures err { OnErr result (reader.new.source ≡ reader.old.source) }
-    ensures spare { word_faults reader.old.rest ≡ [] → IsOk result }
-    ensures steps { OnOk result (Forward reader.old.rest trail.old reader.new.rest trail.new) }
+    ensures reads { Reads reader.old result reader.new (behind_word reader.old.rest) reader.old.next (word_faults reader.old.rest) [] }
 {
     if !reader.cursor.starts_word() {
         return Ok(("", None));
     }
     let start = reader.start();
-    let word = word(reader, trail)?;
+    let word = word(reader)?;
     Ok((word, Some(start..reader.start())))
 }
 
@@ -135,9 +119,8 @@ fn character_type<'input>(ty: &'input str) -> TypePart<'input>
 }
 
 /// Reads the letter `x` or `X`. With a `?` after it the letter is a case of the type `?`, else it is the type.
-fn hex_type<'input, L: Ledger>(
+fn hex_type<'input>(
     cursor: &mut Cursor<'input>,
-    trail: &mut Trail<'input, L>,
     case: DebugHex,
     letter: &'input str,
 ) -> TypePart<'input>
@@ -147,10 +130,9 @@ fn hex_type<'input, L: Ledger>(
     ensures rest { cursor.new ≡ record cursor.old {
       rest = if begins_with 63 (behind_first cursor.old.rest) then behind_first (behind_first cursor.old.rest) else behind_first cursor.old.rest;
     } }
-    ensures steps { Forward cursor.old.rest trail.old cursor.new.rest trail.new }
 {
-    cursor.advance(trail);
-    if cursor.take_char('?', trail) {
+    cursor.advance();
+    if cursor.take_char('?') {
         return TypePart {
             ty: "?",
             debug_hex: Some(case),
@@ -181,47 +163,34 @@ fn note_flag(reader: &mut Reader<'_>, start: usize) -> Result<(), AllocError>
 }
 
 /// Reads the type `?` at the front, and notes a flag after it, which is left.
-fn debug_type<'input, L: Ledger>(
-    reader: &mut Reader<'input>,
-    trail: &mut Trail<'input, L>,
-) -> Result<(), AllocError>
-    ensures state { OnOk result (reader.new ≡ read_to reader.old (behind_first reader.old.rest) reader.old.next (flag_faults reader.old.rest)) }
-    ensures err { OnErr result (reader.new.source ≡ reader.old.source) }
-    ensures spare { flag_faults reader.old.rest ≡ [] → IsOk result }
-    ensures steps { OnOk result (Forward reader.old.rest trail.old reader.new.rest trail.new) }
+fn debug_type<'input>(reader: &mut Reader<'input>) -> Result<(), AllocError>
+    ensures reads { Reads reader.old result reader.new (behind_first reader.old.rest) reader.old.next (flag_faults reader.old.rest) [] }
 {
     let start = reader.start();
-    reader.advance(trail);
+    reader.advance();
     note_flag(reader, start)
 }
 
 /// Reads the type at the front.
 #[tactic(auto, using(crate::proofs::SpecParts::types_at_front))]
-fn type_part<'input, L: Ledger>(
-    reader: &mut Reader<'input>,
-    trail: &mut Trail<'input, L>,
-) -> Result<TypePart<'input>, AllocError>
+fn type_part<'input>(reader: &mut Reader<'input>) -> Result<TypePart<'input>, AllocError>
     ensures ty { IfOk result (λ y. chars y.ty.now ≡ type_of (type reader.old.rest).0) }
     ensures debug_hex { IfOk result (λ y. option_map seen_debug_hex y.debug_hex ≡ debug_hex_of (type reader.old.rest).0) }
     ensures span { IfOk result (λ y. option_map pair y.span ≡ option_map (place_of reader.old.world)
         (type_span reader.old.rest (type reader.old.rest).0 (type reader.old.rest).1)) }
-    ensures state { OnOk result (reader.new ≡ (let y = type reader.old.rest in
-        read_to reader.old y.1 reader.old.next (type_faults reader.old.rest y.0))) }
-    ensures err { OnErr result (reader.new.source ≡ reader.old.source) }
-    ensures spare { type_faults reader.old.rest (type reader.old.rest).0 ≡ [] → IsOk result }
-    ensures steps { OnOk result (Forward reader.old.rest trail.old reader.new.rest trail.new) }
+    ensures reads { Reads reader.old result reader.new (type reader.old.rest).1 reader.old.next (type_faults reader.old.rest (type reader.old.rest).0) [] }
 {
     if reader.cursor.is_next('x') {
-        return Ok(hex_type(&mut reader.cursor, trail, DebugHex::Lower, "x"));
+        return Ok(hex_type(&mut reader.cursor, DebugHex::Lower, "x"));
     }
     if reader.cursor.is_next('X') {
-        return Ok(hex_type(&mut reader.cursor, trail, DebugHex::Upper, "X"));
+        return Ok(hex_type(&mut reader.cursor, DebugHex::Upper, "X"));
     }
     if reader.cursor.is_next('?') {
-        debug_type(reader, trail)?;
+        debug_type(reader)?;
         return Ok(character_type("?"));
     }
-    let (ty, span) = spanned_word(reader, trail)?;
+    let (ty, span) = spanned_word(reader)?;
     Ok(TypePart {
         ty,
         debug_hex: None,
@@ -231,38 +200,34 @@ fn type_part<'input, L: Ledger>(
 
 /// Reads the format specification at the front into its place.
 #[tactic(auto, using(crate::proofs::Steps::part_le), unfolding(crate::specs::Specification::format_text, crate::specs::Meaning::format_of))]
-fn format_text<'input, L: Ledger>(
+fn format_text<'input>(
     format: &mut FormatSpec<'input>,
     reader: &mut Reader<'input>,
-    trail: &mut Trail<'input, L>,
 ) -> Result<(), AllocError>
     requires numbers { reader.old.next + 1 < 2 ^ 64 }
-    requires steps { IsFurthest reader.old.rest trail.old }
+    requires furthest { IsFurthest reader.old.rest reader.old.back }
     ensures value { OnOk result (seen_spec format.new ≡ map_spec (place_of reader.old.world)
         (format_of reader.old.next reader.old.rest (format_text reader.old.rest).0 (format_text reader.old.rest).1)) }
-    ensures state { OnOk result (reader.new ≡ (let f = format_text reader.old.rest in
-        read_to reader.old f.1 (number_after_precision reader.old.next f.0.precision) (format_faults f.0 f.1))) }
-    ensures err { OnErr result (reader.new.source ≡ reader.old.source) }
-    ensures spare { format_faults (format_text reader.old.rest).0 (format_text reader.old.rest).1 ≡ [] → IsOk result }
-    ensures steps { OnOk result (Paid reader.old.rest trail.old reader.new.rest trail.new) }
+    ensures reads { let f = format_text reader.old.rest in
+        Reads reader.old result reader.new f.1 (number_after_precision reader.old.next f.0.precision) (format_faults f.0 f.1) (format_tries f.0 f.1) }
 {
-    let (fill, fill_span) = fill(&mut reader.cursor, trail);
+    let (fill, fill_span) = fill(&mut reader.cursor);
     format.fill = fill;
     format.fill_span = fill_span;
-    let align = alignment(&mut reader.cursor, trail);
+    let align = alignment(&mut reader.cursor);
     format.align = align;
-    let sign = sign(&mut reader.cursor, trail);
+    let sign = sign(&mut reader.cursor);
     format.sign = sign;
-    let alternate = alternate(&mut reader.cursor, trail);
+    let alternate = alternate(&mut reader.cursor);
     format.alternate = alternate;
-    let width = width(reader, trail)?;
+    let width = width(reader)?;
     format.zero_pad = width.zero_pad;
     format.width = width.count;
     format.width_span = width.span;
-    let (precision, precision_span) = precision(reader, trail)?;
+    let (precision, precision_span) = precision(reader)?;
     format.precision = precision;
     format.precision_span = precision_span;
-    let type_part = type_part(reader, trail)?;
+    let type_part = type_part(reader)?;
     format.debug_hex = type_part.debug_hex;
     format.ty = type_part.ty;
     format.ty_span = type_part.span;
@@ -270,21 +235,17 @@ fn format_text<'input, L: Ledger>(
 }
 
 /// Reads the modifier of inline assembly at the front into the place of a default specification.
-fn modifier<'input, L: Ledger>(
+fn modifier<'input>(
     format: &mut FormatSpec<'input>,
     reader: &mut Reader<'input>,
-    trail: &mut Trail<'input, L>,
 ) -> Result<(), AllocError>
     ensures value { OnOk result (seen_spec format.new ≡ record (seen_spec format.old) {
       ty = word reader.old.rest;
       ty_span = option_map (place_of reader.old.world) (word_span reader.old.rest (word reader.old.rest) (behind_word reader.old.rest));
     }) }
-    ensures state { OnOk result (reader.new ≡ read_to reader.old (behind_word reader.old.rest) reader.old.next (word_faults reader.old.rest)) }
-    ensures err { OnErr result (reader.new.source ≡ reader.old.source) }
-    ensures spare { word_faults reader.old.rest ≡ [] → IsOk result }
-    ensures steps { OnOk result (Forward reader.old.rest trail.old reader.new.rest trail.new) }
+    ensures reads { Reads reader.old result reader.new (behind_word reader.old.rest) reader.old.next (word_faults reader.old.rest) [] }
 {
-    let (ty, ty_span) = spanned_word(reader, trail)?;
+    let (ty, ty_span) = spanned_word(reader)?;
     format.ty = ty;
     format.ty_span = ty_span;
     Ok(())
@@ -310,11 +271,10 @@ fn note_text<'input>(
 }
 
 /// Reads a colon and the text of a diagnostic, whose span takes in the colon, into the place of a default specification.
-fn diagnostic_text<'input, L: Ledger>(
+fn diagnostic_text<'input>(
     mode: ParseMode,
     format: &mut FormatSpec<'input>,
     reader: &mut Reader<'input>,
-    trail: &mut Trail<'input, L>,
 ) -> Result<(), AllocError>
     ensures value { OnOk result (seen_spec format.new ≡ record (seen_spec format.old) {
       ty = front is_no_brace (behind_first reader.old.rest);
@@ -329,11 +289,10 @@ fn diagnostic_text<'input, L: Ledger>(
     ensures spare { (let t = behind_first reader.old.rest in
         text_faults (seen_mode mode) (front is_no_brace t) (up_to reader.old.rest (behind is_no_brace t)) ≡ []
         → IsInOneLine (record reader.old { rest = t }) → IsOk result) }
-    ensures steps { OnOk result (Forward reader.old.rest trail.old reader.new.rest trail.new) }
 {
     let start = reader.start();
-    reader.advance(trail);
-    let ty = reader.take_text(trail)?;
+    reader.advance();
+    let ty = reader.take_text()?;
     let end = reader.start();
     format.ty = ty;
     format.ty_span = Some(start..end);
@@ -342,38 +301,37 @@ fn diagnostic_text<'input, L: Ledger>(
 
 /// Reads the specification at the front into the place of a default one: a colon and what the mode has after it, or nothing.
 #[tactic(auto, using(crate::proofs::Steps::part_le, crate::proofs::Steps::at_colon))]
-pub fn specification<'input, L: Ledger>(
+pub fn specification<'input>(
     mode: ParseMode,
     format: &mut FormatSpec<'input>,
     reader: &mut Reader<'input>,
-    trail: &mut Trail<'input, L>,
 ) -> Result<(), AllocError>
     requires blank { seen_spec format.old ≡ default_spec }
     requires numbers { reader.old.next + length reader.old.rest < 2 ^ 64 }
-    requires steps { IsInWord reader.old.rest trail.old }
     ensures value { OnOk result (seen_spec format.new ≡ map_spec (place_of reader.old.world) (spec_of reader.old.next reader.old.rest
         (specification (seen_mode mode) reader.old.rest).0 (specification (seen_mode mode) reader.old.rest).1)) }
     ensures state { OnOk result (reader.new ≡ (let s = specification (seen_mode mode) reader.old.rest in
-        read_texts (read_to reader.old s.1 (number_after_spec reader.old.next s.0) (spec_faults (seen_mode mode) reader.old.rest s.0 s.1)) (spec_texts s.0 s.1))) }
+        read_texts (read_tries (read_to reader.old s.1 (number_after_spec reader.old.next s.0) (spec_faults (seen_mode mode) reader.old.rest s.0 s.1))
+        (spec_tries s.0 s.1)) (spec_texts s.0 s.1))) }
     ensures err { OnErr result (reader.new.source ≡ reader.old.source) }
     ensures spare { (let s = specification (seen_mode mode) reader.old.rest in
         FindsNothing reader.old (spec_faults (seen_mode mode) reader.old.rest s.0 s.1) (spec_texts s.0 s.1) → IsOk result) }
-    ensures steps { OnOk result (Paid reader.old.rest trail.old reader.new.rest trail.new) }
 {
+    reader.cursor.steps_are_few();
     if !reader.cursor.is_next(':') {
         return Ok(());
     }
     match mode {
         ParseMode::Format => {
-            reader.cursor.advance(trail);
-            format_text(format, reader, trail)
+            reader.cursor.advance();
+            format_text(format, reader)
         }
         ParseMode::InlineAsm => {
-            reader.cursor.advance(trail);
-            modifier(format, reader, trail)
+            reader.cursor.advance();
+            modifier(format, reader)
         }
         ParseMode::Diagnostic | ParseMode::DiagnosticNamed => {
-            diagnostic_text(mode, format, reader, trail)
+            diagnostic_text(mode, format, reader)
         }
     }
 }

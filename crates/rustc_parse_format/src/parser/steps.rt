@@ -1,48 +1,40 @@
 //! One call of a parser on a trail: it happens whole or not at all.
 
 use crate::call::{read_bare, read_placeholder};
-use crate::cursor::Trail;
-use crate::laws::default_of_spec;
 use crate::lists::ends_with;
 use crate::parser::Parser;
 use crate::placeholder::blank_argument;
-use crate::types::{Argument, Piece, Taken};
+use crate::types::{Argument, Piece};
 use std::alloc::AllocError;
-use std::sync::ledger::Ledger;
 
 impl<'input> Parser<'input> {
     ghost use Rattle.std.specs.Prelude.{◌≡◌, [], true, false, Some, IfOk, IsOk, OnErr, OnOk, chars, length, option_map};
     ghost use Rattle.std.specs.List.{filter};
     ghost use Rattle.rustc_parse_format.specs.Faults.{is_front};
     ghost use Rattle.rustc_parse_format.specs.Midway.{opens_placeholder};
-    ghost use Rattle.rustc_parse_format.specs.Seen.{seen, seen_argument, seen_spec, seen_taken};
-    ghost use Rattle.rustc_parse_format.specs.State.{AddsNothing, NeedsNoMemory, after, last_lines, next_call};
-    ghost use Rattle.rustc_parse_format.specs.Steps.{IsInWord, Paid};
+    ghost use Rattle.rustc_parse_format.specs.Seen.{seen, seen_argument, seen_spec};
+    ghost use Rattle.rustc_parse_format.specs.State.{AddsNothing, IsPutBack, NeedsNoMemory, after, last_lines, next_call};
+    ghost use Rattle.rustc_parse_format.specs.Steps.{AreFew};
     ghost use Rattle.rustc_parse_format.specs.Types.{Lit, NextArgument, default_spec};
     ghost use Rattle.rustc_parse_format.specs.World.{piece_in};
 
-    /// One call that reads the placeholder at the front into a blank argument, on a trail. It tells how many of its errors were
-    /// put in front of the earlier ones.
+    /// One call that reads the placeholder at the front into a blank argument. It tells how many of its errors were put in front of the
+    /// earlier ones.
     #[inline(always)]
-    fn step_into<L: Ledger>(
-        &mut self,
-        into: &mut Argument<'input>,
-        fronts: &mut usize,
-        trail: &mut Trail<'input, L>,
-    ) -> Result<(), AllocError>
+    pub(super) fn step_into(&mut self, into: &mut Argument<'input>) -> Result<usize, AllocError>
         requires blank { seen_spec into.old.format ≡ default_spec }
         requires opens { opens_placeholder self.old.rest ≡ true }
-        requires steps { IsInWord self.old.rest trail.old }
         ensures value { OnOk result (Some (NextArgument (seen_argument into.new))
             ≡ option_map (piece_in self.old.world) (next_call self.old).piece) }
+        ensures fronts { IfOk result (λ n. n ≡ length (filter is_front (next_call self.old).faults)) }
         ensures state { OnOk result (self.new ≡ after self.old (next_call self.old)) }
-        ensures err { OnErr result (self.new ≡ self.old) }
+        ensures err { OnErr result (IsPutBack self.old self.new) }
         ensures spare { AddsNothing self.old (next_call self.old) → IsOk result }
-        ensures fronts { OnOk result (fronts.new ≡ length (filter is_front (next_call self.old).faults)) }
-        ensures steps { OnOk result (Paid self.old.rest trail.old self.new.rest trail.new) }
+        ensures few { AreFew self.new.input self.new.rest self.new.back }
     {
+        self.steps_are_few();
         let front = self.reader.front();
-        let Ok(()) = read_placeholder(self.mode, into, &mut self.reader, trail) else {
+        let Ok(()) = read_placeholder(self.mode, into, &mut self.reader) else {
             self.reader.go_back(self.alloc, front);
             return Err(AllocError);
         };
@@ -50,33 +42,28 @@ impl<'input> Parser<'input> {
             self.reader.go_back(self.alloc, front);
             return Err(AllocError);
         };
-        *fronts = count;
-        Ok(())
+        self.steps_are_few();
+        Ok(count)
     }
 
     /// The same of a call on what is no placeholder: it gives text or nothing.
     #[inline(always)]
-    fn step_bare<L: Ledger>(
-        &mut self,
-        fronts: &mut usize,
-        trail: &mut Trail<'input, L>,
-    ) -> Result<Option<&'input str>, AllocError>
-        requires bare { opens_placeholder self.old.rest ≡ false }
-        requires steps { IsInWord self.old.rest trail.old }
-        ensures piece { IfOk result (λ p. option_map (λ t. Lit (chars t.now)) p ≡ option_map (piece_in self.old.world) (next_call self.old).piece) }
+    pub(super) fn step_bare(&mut self) -> Result<(Option<&'input str>, usize), AllocError>
+        requires { opens_placeholder self.old.rest ≡ false }
+        ensures piece { IfOk result (λ x. option_map (λ t. Lit (chars t.now)) x.0 ≡ option_map (piece_in self.old.world) (next_call self.old).piece) }
+        ensures fronts { IfOk result (λ x. x.1 ≡ length (filter is_front (next_call self.old).faults)) }
         ensures state { OnOk result (self.new ≡ after self.old (next_call self.old)) }
-        ensures err { OnErr result (self.new ≡ self.old) }
+        ensures err { OnErr result (IsPutBack self.old self.new) }
         ensures spare { AddsNothing self.old (next_call self.old) → IsOk result }
-        ensures fronts { OnOk result (fronts.new ≡ length (filter is_front (next_call self.old).faults)) }
-        ensures steps { OnOk result (Paid self.old.rest trail.old self.new.rest trail.new) }
+        ensures few { AreFew self.new.input self.new.rest self.new.back }
     {
+        self.steps_are_few();
         if self.reader.is_at_end() {
             self.end_line()?;
-            *fronts = 0;
-            return Ok(None);
+            return Ok((None, 0));
         }
         let front = self.reader.front();
-        let Ok(text) = read_bare(&mut self.reader, trail) else {
+        let Ok(text) = read_bare(&mut self.reader) else {
             self.reader.go_back(self.alloc, front);
             return Err(AllocError);
         };
@@ -84,57 +71,27 @@ impl<'input> Parser<'input> {
             self.reader.go_back(self.alloc, front);
             return Err(AllocError);
         };
-        *fronts = count;
-        Ok(text)
+        self.steps_are_few();
+        Ok((text, count))
     }
 
-    /// One call, on a trail. The argument that it gives is made before it is read.
-    pub(super) fn step<L: Ledger>(
-        &mut self,
-        fronts: &mut usize,
-        trail: &mut Trail<'input, L>,
-    ) -> Result<Option<Piece<'input>>, AllocError>
-        requires { IsInWord self.old.rest trail.old }
+    /// One call. The argument that it gives is made before it is read.
+    pub(super) fn step(&mut self) -> Result<Option<Piece<'input>>, AllocError>
         ensures piece { IfOk result (λ p. option_map seen p ≡ option_map (piece_in self.old.world) (next_call self.old).piece) }
         ensures state { OnOk result (self.new ≡ after self.old (next_call self.old)) }
-        ensures err { OnErr result (self.new ≡ self.old) }
+        ensures err { OnErr result (IsPutBack self.old self.new) }
         ensures spare { NeedsNoMemory self.old (next_call self.old) → IsOk result }
-        ensures fronts { OnOk result (fronts.new ≡ length (filter is_front (next_call self.old).faults)) }
-        ensures steps { OnOk result (Paid self.old.rest trail.old self.new.rest trail.new) }
+        ensures few { AreFew self.new.input self.new.rest self.new.back }
     {
         if self.reader.cursor.opens_placeholder() {
+            self.steps_are_few();
             let mut argument = Box::new(self.alloc, blank_argument())?;
-            self.step_into(&mut argument, fronts, trail)?;
+            self.step_into(&mut argument)?;
             return Ok(Some(Piece::NextArgument(argument)));
         }
-        match self.step_bare(fronts, trail)? {
+        let (text, _) = self.step_bare()?;
+        match text {
             Some(text) => Ok(Some(Piece::Lit(text))),
-            None => Ok(None),
-        }
-    }
-
-    /// The same, where a placeholder is read into an argument of the caller's.
-    #[inline(always)]
-    pub(super) fn take<L: Ledger>(
-        &mut self,
-        into: &mut Argument<'input>,
-        fronts: &mut usize,
-        trail: &mut Trail<'input, L>,
-    ) -> Result<Option<Taken<'input>>, AllocError>
-        requires { IsInWord self.old.rest trail.old }
-        ensures piece { IfOk result (λ p. option_map (seen_taken into.new) p ≡ option_map (piece_in self.old.world) (next_call self.old).piece) }
-        ensures state { OnOk result (self.new ≡ after self.old (next_call self.old)) }
-        ensures err { OnErr result (self.new ≡ self.old) }
-        ensures spare { AddsNothing self.old (next_call self.old) → IsOk result }
-        ensures fronts { OnOk result (fronts.new ≡ length (filter is_front (next_call self.old).faults)) }
-    {
-        if self.reader.cursor.opens_placeholder() {
-            into.format = default_of_spec();
-            self.step_into(into, fronts, trail)?;
-            return Ok(Some(Taken::NextArgument));
-        }
-        match self.step_bare(fronts, trail)? {
-            Some(text) => Ok(Some(Taken::Lit(text))),
             None => Ok(None),
         }
     }

@@ -8,24 +8,26 @@ use Rattle.rustc_parse_format.specs.Midway.{Midway, Unread, midway}
 use Rattle.rustc_parse_format.proofs.Placeholders.{argument-finds, numbers_left, placeholder-faultless, placeholder_closed}
 use Rattle.rustc_parse_format.proofs.call.read_braced.Goals as goal
 
-pub close-requires-clause-numbers : goal.close-requires-clause-numbers
-close-requires-clause-numbers g c =
+pub close-requires : goal.close-requires
+close-requires c =
     let u = c.reader.inside.cursor in
     let given = rw c.take_place-opening.ensures.rest at c.in_ok-read_argument.ensures in
     let whole = c.reader-2.view_is ∙ given.state in
     let rest = ap (λ (x : Midway). x.rest) c.reader.view_is in
     let white = ap (λ (x : Unread). x.rest) c.skip_white.ensures.rest in
-    omega (
-      arith,
-      numbers_left (seen_mode c.args.mode) c.reader.inside.curarg c.reader-2.inside.curarg u.rest c.skip_white.new.self.rest
-          (λ e. c.requires.here (sym rest ∙ e)) (ap (λ (x : Midway). x.next) whole) (white ∙ ap (λ (x : Midway). behind_white x.rest) whole),
-      ap length rest,
-      ap (λ (x : Midway). x.next) c.reader.view_is,
-      c.requires.numbers,
-    )
+    record {
+      numbers = omega (
+        arith,
+        numbers_left (seen_mode c.args.mode) c.reader.inside.curarg c.reader-2.inside.curarg u.rest c.skip_white.new.self.rest
+            (λ e. c.requires.here (sym rest ∙ e)) (ap (λ (x : Midway). x.next) whole) (white ∙ ap (λ (x : Midway). behind_white x.rest) whole),
+        ap length rest,
+        ap (λ (x : Midway). x.next) c.reader.view_is,
+        c.requires.numbers,
+      );
+    }
 
 pub returns-clause-state : goal.returns-clause-state
-returns-clause-state g c =
+returns-clause-state c =
     let u = c.reader.inside.cursor in
     let s = record (midway u c.reader.inside.curarg c.reader.inside.line_start) {
       faults = map seen_fault c.reader.inside.found.items;
@@ -33,12 +35,13 @@ returns-clause-state g c =
       closed = option_map pair c.reader.inside.closed;
     } in
     let given = rw c.take_place-opening.ensures.rest at c.in_ok-read_argument.ensures in
+    let e = c.reader-2.view_is ∙ given.state in
     rw (← c.reader.view_is) (placeholder_closed s _ c.close.new.reader (seen_mode c.args.mode) u.rest (behind_first u.rest) (pair c.take_place-opening.result)
-    (seen_argument c.read_argument.new.into) (c.reader-2.view_is ∙ given.state) c.take_place-opening.ensures.place given.value
+    (seen_argument c.read_argument.new.into) e c.take_place-opening.ensures.place given.value
     (rw c.skip_white.ensures.rest at c.in_ok-close.ensures.state))
 
 pub returns-in_err-read_argument-clause-spare : goal.returns-in_err-read_argument-clause-spare
-returns-in_err-read_argument-clause-spare g c =
+returns-in_err-read_argument-clause-spare c =
     let u = c.reader.inside.cursor in
     let s = record (midway u c.reader.inside.curarg c.reader.inside.line_start) {
       faults = map seen_fault c.reader.inside.found.items;
@@ -49,7 +52,7 @@ returns-in_err-read_argument-clause-spare g c =
     rw (← c.reader.view_is) (λ h. absurd (false≢true (spare (argument-finds s (seen_mode c.args.mode) u.rest (behind_first u.rest) h))))
 
 pub returns-in_err-close-clause-spare : goal.returns-in_err-close-clause-spare
-returns-in_err-close-clause-spare g c =
+returns-in_err-close-clause-spare c =
     let u = c.reader.inside.cursor in
     let s = record (midway u c.reader.inside.curarg c.reader.inside.line_start) {
       faults = map seen_fault c.reader.inside.found.items;

@@ -1,17 +1,50 @@
-use Rattle.std.proofs.Common.{◌∙◌, refl}
+use Rattle.std.proofs.Common.{◌∙◌, ap, arith, length, refl}
 use Rattle.std.proofs.lemmas.Bool.{false≢true}
 use Rattle.std.specs.Prelude.{option_map}
 use Rattle.rustc_parse_format.specs.Meaning.{argument}
-use Rattle.rustc_parse_format.specs.Placeholder.{cut}
+use Rattle.rustc_parse_format.specs.Placeholder.{cut, position}
 use Rattle.rustc_parse_format.specs.Seen.{seen_mode, seen_position}
+use Rattle.rustc_parse_format.specs.Midway.{Midway}
 use Rattle.rustc_parse_format.specs.PartFaults.{cut_faults}
 use Rattle.rustc_parse_format.proofs.CleanWords.{none_left, none_right}
+use Rattle.rustc_parse_format.specs.Characters.{behind_white}
+use Rattle.rustc_parse_format.proofs.Numbers.{specification_number}
+use Rattle.rustc_parse_format.proofs.Rests.{IsRest-le, behind_white_rest, position_rest}
 use Rattle.rustc_parse_format.proofs.Readers.{argument_read}
 use Rattle.rustc_parse_format.proofs.placeholder.read_argument.Goals as goal
 
+pub specification-requires-clause-numbers : goal.specification-requires-clause-numbers
+specification-requires-clause-numbers c =
+    let t = c.args.reader.now.rest in
+    let a = c.in_ok-given.ensures in
+    let read = rw a.span at a.state in
+    omega (
+      arith,
+      IsRest-le (position_rest t),
+      IsRest-le (behind_white_rest (position t).1),
+      ap (λ (s : Midway). length s.rest) read,
+      ap (λ (s : Midway). s.next) read,
+      c.requires.numbers,
+    )
+
+pub position_of-into-requires : goal.position_of-into-requires
+position_of-into-requires c =
+    let t = c.args.reader.now.rest in
+    let a = c.in_ok-given.ensures in
+    let read = rw a.span at a.state in
+    let state = rw read at c.in_ok-specification.ensures.state in
+    omega (
+      arith,
+      IsRest-le (position_rest t),
+      IsRest-le (behind_white_rest (position t).1),
+      specification_number (seen_mode c.args.mode) c.args.reader.now.next (behind_white (position t).1),
+      ap (λ (s : Midway). s.next) state,
+      c.requires.numbers,
+    )
+
 pub returns-clause-value : goal.returns-clause-value
 unfolding argument cut
-returns-clause-value g c =
+returns-clause-value c =
     let a = c.in_ok-given.ensures in
     let read = rw a.span at a.state in
     let state = rw read at c.in_ok-specification.ensures.state in
@@ -20,7 +53,7 @@ returns-clause-value g c =
     rw (position, a.span, spec) refl
 
 pub returns-clause-state : goal.returns-clause-state
-returns-clause-state g c =
+returns-clause-state c =
     let a = c.in_ok-given.ensures in
     let read = rw a.span at a.state in
     let state = rw read at c.in_ok-specification.ensures.state in
@@ -29,12 +62,12 @@ returns-clause-state g c =
 
 pub returns-in_err-given-clause-spare : goal.returns-in_err-given-clause-spare
 unfolding cut cut_faults
-returns-in_err-given-clause-spare g c h =
+returns-in_err-given-clause-spare c h =
     let given = none_left _ _ h.0 in absurd (false≢true (c.in_err-given.ensures.spare (none_left _ _ given) (none_right _ _ given)))
 
 pub returns-in_err-specification-clause-spare : goal.returns-in_err-specification-clause-spare
 unfolding cut cut_faults
-returns-in_err-specification-clause-spare g c h =
+returns-in_err-specification-clause-spare c h =
     let a = c.in_ok-given.ensures in
     let read = rw a.span at a.state in
     let spare = rw read at c.in_err-specification.ensures.spare in

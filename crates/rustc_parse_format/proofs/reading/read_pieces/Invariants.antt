@@ -2,19 +2,16 @@ use Rattle.std.proofs.Common.{◌≡◌, ◌++◌, [], length, map}
 use Rattle.rustc_parse_format.specs.Seen.{seen}
 use Rattle.rustc_parse_format.specs.State.{calls, after_all}
 use Rattle.rustc_parse_format.specs.Call.{pieces_of}
-use Rattle.rustc_parse_format.specs.Steps.{Paid}
 use Rattle.rustc_parse_format.specs.World.{pieces_in}
 use Rattle.rustc_parse_format.proofs.reading.read_pieces.Given as goal
 
 abbrev pub invariant-loop-pieces : goal.invariant-loop-pieces
-invariant-loop-pieces g l = record {
+invariant-loop-pieces l = record {
   world : l.parser.world ≡ l.fn.parser.world;
   pieces : map seen l.pieces.items ++ pieces_in l.fn.parser.world (pieces_of (calls l.parser)) ≡ pieces_in l.fn.parser.world (pieces_of (calls l.fn.parser));
   empty : l.fn.parser.rest ≡ [] → l.parser.rest ≡ [];
   state : after_all l.parser (calls l.parser) ≡ after_all l.fn.parser (calls l.fn.parser);
-  input : l.parser.input ≡ l.fn.parser.input;
-  steps : Paid l.fn.parser.rest l.fn.count l.parser.rest l.count;
 }
 
 abbrev pub decreases-loop-pieces : goal.decreases-loop-pieces
-decreases-loop-pieces g l = length l.parser.rest
+decreases-loop-pieces l = length l.parser.rest

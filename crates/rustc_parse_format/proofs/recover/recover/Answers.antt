@@ -7,19 +7,19 @@ use Rattle.rustc_parse_format.proofs.Recoveries.{nothing_left, short-recovers, f
 use Rattle.rustc_parse_format.proofs.recover.recover.Goals as goal
 
 pub returns-in_default-clause-state : goal.returns-in_default-clause-state
-returns-in_default-clause-state g c =
+returns-in_default-clause-state c =
     let at = ap (λ (x : Midway). x.rest) c.reader.view_is in
     short-recovers c.args.reader.now (seen_mode c.args.mode) (pair c.args.opening) (seen_argument c.args.argument.now)
     (nothing_left c.args.reader.now.rest (ap first (sym at) ∙ (sym c.peek.ensures ∙ c.in_default.is)))
 
 pub returns-in_default-peek_ahead-clause-state : goal.returns-in_default-peek_ahead-clause-state
-returns-in_default-peek_ahead-clause-state g c =
+returns-in_default-peek_ahead-clause-state c =
     let at = ap (λ (x : Midway). x.rest) c.reader.view_is in
     short-recovers c.args.reader.now (seen_mode c.args.mode) (pair c.args.opening) (seen_argument c.args.argument.now)
     (ap (λ (t : Text). first (behind_first t)) (sym at) ∙ (sym c.peek_ahead.ensures ∙ c.in_default-peek_ahead.is))
 
 pub returns-then-begins_field-clause-state : goal.returns-then-begins_field-clause-state
-returns-then-begins_field-clause-state g c =
+returns-then-begins_field-clause-state c =
     let at = ap (λ (x : Midway). x.rest) c.reader.view_is in
     on_ok c.field.result c.field.ensures.state
     (field-recovers c.args.reader.now c.field.new.reader (seen_mode c.args.mode) (pair c.args.opening) (seen_argument c.args.argument.now)
@@ -29,7 +29,7 @@ returns-then-begins_field-clause-state g c =
     (sym c.if-begins_field.true ∙ c.begins_field.ensures))
 
 pub returns-then-begins_late_debug-clause-state : goal.returns-then-begins_late_debug-clause-state
-returns-then-begins_late_debug-clause-state g c =
+returns-then-begins_late_debug-clause-state c =
     let at = ap (λ (x : Midway). x.rest) c.reader.view_is in
     on_ok c.late_debug.result c.late_debug.ensures.state
     (late_debug-recovers c.args.reader.now c.late_debug.new.reader (seen_mode c.args.mode) (pair c.args.opening) (seen_argument c.args.argument.now)
@@ -40,7 +40,7 @@ returns-then-begins_late_debug-clause-state g c =
     (sym c.if-begins_late_debug.true ∙ c.begins_late_debug.ensures))
 
 pub returns-clause-state : goal.returns-clause-state
-returns-clause-state g c =
+returns-clause-state c =
     let at = ap (λ (x : Midway). x.rest) c.reader.view_is in
     on_ok c.take_sign.result c.take_sign.ensures.state
     (sign-recovers c.args.reader.now c.take_sign.new.reader (seen_mode c.args.mode) (pair c.args.opening) (seen_argument c.args.argument.now)

@@ -12,25 +12,25 @@ use Rattle.rustc_parse_format.proofs.StateLines.{at_end, end_faults, finds_nothi
 use Rattle.rustc_parse_format.proofs.parser.Parser.step_bare.Goals as goal
 
 pub returns-then-is_at_end-clause-piece : goal.returns-then-is_at_end-clause-piece
-returns-then-is_at_end-clause-piece g c =
+returns-then-is_at_end-clause-piece c =
     let s = c.args.self.now in
     let end : s.rest ≡ [] = rw (← c.self.view_is) (c.is_at_end.ensures.0 c.if-is_at_end.true) in
     sym (ap (option_map (piece_in s.world)) (at_end s end).0)
 
 pub returns-then-is_at_end-clause-state : goal.returns-then-is_at_end-clause-state
-returns-then-is_at_end-clause-state g c =
+returns-then-is_at_end-clause-state c =
     let s = c.args.self.now in
     let end : s.rest ≡ [] = rw (← c.self.view_is) (c.is_at_end.ensures.0 c.if-is_at_end.true) in
     c.in_ok-end_line.ensures.state ∙ sym (at_end s end).1
 
 pub returns-then-is_at_end-clause-fronts : goal.returns-then-is_at_end-clause-fronts
-returns-then-is_at_end-clause-fronts g c =
+returns-then-is_at_end-clause-fronts c =
     let s = c.args.self.now in
     let end : s.rest ≡ [] = rw (← c.self.view_is) (c.is_at_end.ensures.0 c.if-is_at_end.true) in
     rw (end_faults s end) refl
 
 pub returns-clause-fronts : goal.returns-clause-fronts
-returns-clause-fronts g c =
+returns-clause-fronts c =
     let r = c.self.inside.reader in
     let s = c.args.self.now in
     let read : ◌≡◌ {A = Midway} c.read_bare.new.reader (read_call r (next_call s)) =
@@ -42,7 +42,7 @@ returns-clause-fronts g c =
     c.in-Ok-take_over.ensures.fronts ∙ ap (λ fs. length (filter is_front fs)) found ∙ count_of_fronts s.world (next_call s).faults
 
 pub returns-in_default-take_over-clause-spare : goal.returns-in_default-take_over-clause-spare
-returns-in_default-take_over-clause-spare g c n =
+returns-in_default-take_over-clause-spare c n =
     let r = c.self.inside.reader in
     let s = c.args.self.now in
     let left : r.rest ≢ [] = search rules in
@@ -54,7 +54,7 @@ returns-in_default-take_over-clause-spare g c n =
     c.in_default-take_over.ensures.none (subst HasFoundNothing (sym read) none)
 
 pub returns-in_default-clause-spare : goal.returns-in_default-clause-spare
-returns-in_default-clause-spare g c n =
+returns-in_default-clause-spare c n =
     let r = c.self.inside.reader in
     let s = c.args.self.now in
     let left : r.rest ≢ [] = search rules in
@@ -64,7 +64,7 @@ returns-in_default-clause-spare g c n =
     (subst (λ (x : State). FindsNothing r (next_call x).faults (next_call x).texts) (sym c.self.view_is) none)
 
 pub invariant_of-self-in-Ok-take_over : goal.invariant_of-self-in-Ok-take_over
-invariant_of-self-in-Ok-take_over g c =
+invariant_of-self-in-Ok-take_over c =
     let most = call_next-le (seen_mode c.self.inside.mode) c.self.inside.reader.next c.self.inside.reader.rest in
     let fits = c.self.invariant.0 in
     let taken : ◌≡◌ {A = Midway} c.take_over.new.reader (record c.read_bare.new.reader { faults = []; lines = []; closed = None }) = search rules in

@@ -13,7 +13,7 @@ use Rattle.rustc_parse_format.proofs.ParserLaws.{count_of_fronts}
 use Rattle.rustc_parse_format.proofs.parser.Parser.step_into.Goals as goal
 
 pub returns-clause-fronts : goal.returns-clause-fronts
-returns-clause-fronts g c =
+returns-clause-fronts c =
     let r = c.self.inside.reader in
     let s = c.args.self.now in
     let read : ◌≡◌ {A = Midway} c.read_placeholder.new.reader (read_call r (next_call s)) =
@@ -25,7 +25,7 @@ returns-clause-fronts g c =
     c.in-Ok-take_over.ensures.fronts ∙ ap (λ fs. length (filter is_front fs)) found ∙ count_of_fronts s.world (next_call s).faults
 
 pub returns-in_default-clause-spare : goal.returns-in_default-clause-spare
-returns-in_default-clause-spare g c n =
+returns-in_default-clause-spare c n =
     let r = c.self.inside.reader in
     let s = c.args.self.now in
     let none = finds_nothing s r (next_call s) (opens-some s.rest c.requires.opens) (ap (λ (x : State). x.world) c.self.view_is)
@@ -33,7 +33,7 @@ returns-in_default-clause-spare g c n =
     c.in_default.ensures.spare (subst (λ (x : State). FindsNothing r (next_call x).faults (next_call x).texts) (sym c.self.view_is) none)
 
 pub returns-in_default-take_over-clause-spare : goal.returns-in_default-take_over-clause-spare
-returns-in_default-take_over-clause-spare g c n =
+returns-in_default-take_over-clause-spare c n =
     let r = c.self.inside.reader in
     let s = c.args.self.now in
     let none = nothing_found s r (next_call s) (opens-some s.rest c.requires.opens) c.self.invariant.1 (ap (λ (x : State). x.world) c.self.view_is)
@@ -43,7 +43,7 @@ returns-in_default-take_over-clause-spare g c n =
     c.in_default-take_over.ensures.none (subst HasFoundNothing (sym read) none)
 
 pub invariant_of-self-in-Ok-take_over : goal.invariant_of-self-in-Ok-take_over
-invariant_of-self-in-Ok-take_over g c =
+invariant_of-self-in-Ok-take_over c =
     let most = call_next-le (seen_mode c.self.inside.mode) c.self.inside.reader.next c.self.inside.reader.rest in
     let fits = c.self.invariant.0 in
     let taken : ◌≡◌ {A = Midway} c.take_over.new.reader (record c.read_placeholder.new.reader { faults = []; lines = []; closed = None }) = search rules in

@@ -1,48 +1,45 @@
 use Rattle.std.proofs.Common.{rules, ◌≡◌, ap, subst, sym, ◌∙◌, length, arith, refl, Some, true}
 use Rattle.rustc_parse_format.specs.Characters.{first, is_no_brace, is_in_line}
 use Rattle.rustc_parse_format.specs.Midway.{Midway, IsInOneLine, IsPastIndent, read_run}
-use Rattle.rustc_parse_format.proofs.Steps.{forward_then}
 use Rattle.rustc_parse_format.proofs.RunLines.{run-step, one_line-step, one_line-no_newline}
 use Rattle.rustc_parse_format.proofs.RunSkips.{run-skip, one_line-skip, behind-shorter}
 use Rattle.rustc_parse_format.proofs.reader.Reader.skip_lines.Goals as goal
 
 pub loop-c-smaller-then-is_past_indent : goal.loop-c-smaller-then-is_past_indent
-loop-c-smaller-then-is_past_indent g c =
+loop-c-smaller-then-is_past_indent c =
     let next : first c.loop-c.self.rest ≡ Some c.in-Some.c = search rules in
     let passes : is_in_line c.in-Some.c ≡ true = search rules in
     let skipped = rw c.is_past_indent.ensures.state at c.skip_line.ensures.state in
     omega (arith, ap (λ (s : Midway). length s.rest) skipped, behind-shorter is_in_line c.loop-c.self.rest c.in-Some.c next passes)
 
 pub loop-c-preserved-then-is_past_indent : goal.loop-c-preserved-then-is_past_indent
-loop-c-preserved-then-is_past_indent g c =
+loop-c-preserved-then-is_past_indent c =
     let s = c.loop-c.self in
     let before = c.loop-c.invariant in
     let next : first s.rest ≡ Some c.in-Some.c = search rules in
     let past : IsPastIndent c.in-Some.c s.line_start s.world s.rest = c.is_past_indent.ensures.past c.if-is_past_indent.true next in
-    let skipped = rw c.is_past_indent.ensures.state at c.skip_line.ensures in
+    let skipped = rw c.is_past_indent.ensures.state at c.skip_line.ensures.state in
     record {
       source = search rules;
-      run = ap read_run skipped.state ∙ (run-skip s c.in-Some.c before.source next past ∙ before.run);
-      spare = λ one. subst IsInOneLine (sym skipped.state) (one_line-skip s c.in-Some.c before.source next past (before.spare one));
-      steps = forward_then before.steps skipped.steps;
+      run = ap read_run skipped ∙ (run-skip s c.in-Some.c before.source next past ∙ before.run);
+      spare = λ one. subst IsInOneLine (sym skipped) (one_line-skip s c.in-Some.c before.source next past (before.spare one));
     }
 
 pub loop-c-preserved : goal.loop-c-preserved
-loop-c-preserved g c =
+loop-c-preserved c =
     let s = c.loop-c.self in
     let before = c.loop-c.invariant in
     let next : first s.rest ≡ Some c.in-Some.c = search rules in
     let passes : is_no_brace c.in-Some.c ≡ true = search rules in
-    let passed = rw c.is_past_indent.ensures.state at c.pass_in_line.ensures in
+    let passed = rw c.is_past_indent.ensures.state at c.pass_in_line.ensures.state in
     record {
       source = search rules;
-      run = ap read_run passed.state ∙ (run-step s c.in-Some.c before.source next passes ∙ before.run);
-      spare = λ one. subst IsInOneLine (sym passed.state) (one_line-step s c.in-Some.c before.source next passes (before.spare one));
-      steps = forward_then before.steps passed.steps;
+      run = ap read_run passed ∙ (run-step s c.in-Some.c before.source next passes ∙ before.run);
+      spare = λ one. subst IsInOneLine (sym passed) (one_line-step s c.in-Some.c before.source next passes (before.spare one));
     }
 
 pub loop-c-preserved-in-Continue-1 : goal.loop-c-preserved-in-Continue-1
-loop-c-preserved-in-Continue-1 g c =
+loop-c-preserved-in-Continue-1 c =
     let s = c.loop-c.self in
     let before = c.loop-c.invariant in
     let next : first s.rest ≡ Some 10 = search rules in
@@ -51,11 +48,10 @@ loop-c-preserved-in-Continue-1 g c =
       source = search rules;
       run = ap read_run ended.state ∙ (run-step s 10 before.source next refl ∙ before.run);
       spare = λ one. subst IsInOneLine (sym ended.state) (one_line-step s 10 before.source next refl (before.spare one));
-      steps = forward_then before.steps ended.steps;
     }
 
 pub returns-in_err-take_newline-clause-spare : goal.returns-in_err-take_newline-clause-spare
-returns-in_err-take_newline-clause-spare g c one =
+returns-in_err-take_newline-clause-spare c one =
     let s = c.loop-c.self in
     let before = c.loop-c.invariant in
     let next : first s.rest ≡ Some 10 = search rules in

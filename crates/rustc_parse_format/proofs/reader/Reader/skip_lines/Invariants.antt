@@ -1,15 +1,13 @@
 use Rattle.std.proofs.Common.{◌≡◌, length, true}
 use Rattle.rustc_parse_format.specs.Midway.{Midway, IsInOneLine, read_run}
-use Rattle.rustc_parse_format.specs.Steps.{Forward}
 use Rattle.rustc_parse_format.proofs.reader.Reader.skip_lines.Given as goal
 
 abbrev pub invariant-loop-c : goal.invariant-loop-c
-invariant-loop-c g l = record {
+invariant-loop-c l = record {
   source : l.self.world.has_source ≡ true;
   run : ◌≡◌ {A = Midway} (read_run l.self) (read_run l.fn.self);
   spare : IsInOneLine l.fn.self → IsInOneLine l.self;
-  steps : Forward l.fn.self.rest l.fn.trail l.self.rest l.trail;
 }
 
 abbrev pub decreases-loop-c : goal.decreases-loop-c
-decreases-loop-c g l = length l.self.rest
+decreases-loop-c l = length l.self.rest

@@ -1,23 +1,21 @@
 use Rattle.std.proofs.Common.{◌≡◌, ◌++◌, ◌∙◌, ap, sym, chars}
 use Rattle.rustc_parse_format.specs.Characters.{Text, front, behind, is_no_brace}
-use Rattle.rustc_parse_format.specs.Midway.{Midway}
+use Rattle.rustc_parse_format.specs.Midway.{Midway, Unread}
 use Rattle.rustc_parse_format.proofs.Fronts.{front-behind}
 use Rattle.rustc_parse_format.proofs.reader.Reader.take_text.Goals as goal
 
-pub before-requires : goal.before-requires
-before-requires g c =
+pub since-requires : goal.since-requires
+since-requires c =
     let t : Text = c.args.self.now.rest in
-    let left : chars c.rest.result.now ≡ behind is_no_brace t =
-    c.rest.ensures ∙ ap (λ (s : Midway). s.rest) (c.self-2.view_is ∙ c.in_ok-skip_text.ensures.state) in (
+    let left : ◌≡◌ {A = Text} c.self-2.inside.cursor.rest (behind is_no_brace t) = ap (λ (s : Midway). s.rest) (c.self-2.view_is ∙ c.in_ok-skip_text.ensures.state) in (
       front is_no_brace t,
-      c.rest-text.ensures
+      sym (ap (λ (u : Unread). u.rest) c.spot-from.ensures.at)
           ∙ (ap (λ (s : Midway). s.rest) c.self.view_is ∙ (front-behind is_no_brace t ∙ ap (λ (u : Text). front is_no_brace t ++ u) (sym left))),
     )
 
 pub returns-clause-value : goal.returns-clause-value
-returns-clause-value g c =
+returns-clause-value c =
     let t : Text = c.args.self.now.rest in
-    let left : chars c.rest.result.now ≡ behind is_no_brace t =
-    c.rest.ensures ∙ ap (λ (s : Midway). s.rest) (c.self-2.view_is ∙ c.in_ok-skip_text.ensures.state) in
-    c.before-2.ensures (front is_no_brace t) (c.rest-text.ensures
+    let left : ◌≡◌ {A = Text} c.self-2.inside.cursor.rest (behind is_no_brace t) = ap (λ (s : Midway). s.rest) (c.self-2.view_is ∙ c.in_ok-skip_text.ensures.state) in
+    c.since.ensures (front is_no_brace t) (sym (ap (λ (u : Unread). u.rest) c.spot-from.ensures.at)
     ∙ (ap (λ (s : Midway). s.rest) c.self.view_is ∙ (front-behind is_no_brace t ∙ ap (λ (u : Text). front is_no_brace t ++ u) (sym left))))

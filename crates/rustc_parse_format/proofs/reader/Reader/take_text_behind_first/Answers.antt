@@ -4,24 +4,24 @@ use Rattle.rustc_parse_format.specs.Midway.{Midway, Unread}
 use Rattle.rustc_parse_format.proofs.Fronts.{first-behind}
 use Rattle.rustc_parse_format.proofs.reader.Reader.take_text_behind_first.Goals as goal
 
-pub before-requires : goal.before-requires
-before-requires g c =
+pub since-requires : goal.since-requires
+since-requires c =
     let t : Text = c.args.self.now.rest in
     let read : Text = with_first t (front is_no_brace (behind_first t)) in
-    let left : chars c.rest.result.now ≡ behind is_no_brace (behind_first t) =
-    c.rest.ensures ∙ (ap (λ (s : Midway). s.rest) (c.self-2.view_is ∙ c.in_ok-skip_text.ensures.state) ∙ ap (behind is_no_brace)
+    let left : ◌≡◌ {A = Text} c.self-2.inside.cursor.rest (behind is_no_brace (behind_first t)) =
+    (ap (λ (s : Midway). s.rest) (c.self-2.view_is ∙ c.in_ok-skip_text.ensures.state) ∙ ap (behind is_no_brace)
     (ap (λ (u : Unread). u.rest) c.advance.ensures.rest ∙ ap (λ (s : Midway). behind_first s.rest) c.self.view_is)) in (
       read,
-      c.rest-text.ensures
+      sym (ap (λ (u : Unread). u.rest) c.spot-from.ensures.at)
           ∙ (ap (λ (s : Midway). s.rest) c.self.view_is ∙ (first-behind is_no_brace t ∙ ap (λ (u : Text). read ++ u) (sym left))),
     )
 
 pub returns-clause-value : goal.returns-clause-value
-returns-clause-value g c =
+returns-clause-value c =
     let t : Text = c.args.self.now.rest in
     let read : Text = with_first t (front is_no_brace (behind_first t)) in
-    let left : chars c.rest.result.now ≡ behind is_no_brace (behind_first t) =
-    c.rest.ensures ∙ (ap (λ (s : Midway). s.rest) (c.self-2.view_is ∙ c.in_ok-skip_text.ensures.state) ∙ ap (behind is_no_brace)
+    let left : ◌≡◌ {A = Text} c.self-2.inside.cursor.rest (behind is_no_brace (behind_first t)) =
+    (ap (λ (s : Midway). s.rest) (c.self-2.view_is ∙ c.in_ok-skip_text.ensures.state) ∙ ap (behind is_no_brace)
     (ap (λ (u : Unread). u.rest) c.advance.ensures.rest ∙ ap (λ (s : Midway). behind_first s.rest) c.self.view_is)) in
-    c.before-2.ensures (read) (c.rest-text.ensures
+    c.since.ensures read (sym (ap (λ (u : Unread). u.rest) c.spot-from.ensures.at)
     ∙ (ap (λ (s : Midway). s.rest) c.self.view_is ∙ (first-behind is_no_brace t ∙ ap (λ (u : Text). read ++ u) (sym left))))
