@@ -35,3 +35,4 @@ pub mod ReadBack
 pub mod Reads
 pub mod LiteralReading
 pub mod KnownTexts
+pub mod Equivalence
