@@ -1,4 +1,5 @@
--- Where the mode wants names, a text in the grammar uses names and no numbers; in another mode it may use a number.
+-- Where the mode wants names, a text in the grammar uses names and no numbers; in another mode it
+-- may use a number.
 use Rattle.std.proofs.Common.{◌≡◌, ℕ, ◌<◌, false, true, codes, IsTrue, List, [], ◌∷◌, ◌++◌, arith, refl, sym, ◌∙◌}
 use Rattle.std.specs.List.{AllByRecursion, Contains}
 use Rattle.std.proofs.lemmas.Bool.{and_parts, false≢true}

@@ -12,8 +12,9 @@ abbrev pub IsByName : Use → Type 0
 IsByName (ByIndex n) = ⊥
 IsByName (ByName w) = Unit {0}
 
--- Whatever text reads as whatever pieces, at whatever number, each of their uses is by name. So whatever arguments are given, the
--- report on them has no missing number, and each number that is given is unused.
+-- Whatever text reads as whatever pieces, at whatever number, each of their uses is by name. So
+-- whatever arguments are given, the report on them has no missing number, and each number that is
+-- given is unused.
 pub record NamesAlone (m : Mode) : Type 0 where
   pub uses_are_names : (c : ℕ) (t : Text) (ps : List (Piece (Unit {0}))) → Reads m c t ps → AllByRecursion IsByName (uses ps)
   pub no_number_is_used : (c : ℕ) (t : Text) (ps : List (Piece (Unit {0}))) → Reads m c t ps → (positional : ℕ) (names : List Text) (r : Report) →

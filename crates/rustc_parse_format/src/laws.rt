@@ -1,10 +1,12 @@
-//! What the derives of the public types promise, each as the contract of a small function that calls the derive.
+//! What the derives of the public types promise, each as the contract of a small function that
+//! calls the derive.
 //!
-//! A clone is always made, and is its source. `==` is true exactly where two values are seen the same: field by field, texts
-//! by their characters, and with every span. So it is reflexive, symmetric and transitive. The defaults ask for nothing.
+//! A clone is always made, and is its source. `==` is true exactly where two values are seen the
+//! same: field by field, texts by their characters, and with every span. So it is reflexive,
+//! symmetric and transitive. The defaults ask for nothing.
 
-// Two texts of the same characters have the same bytes because each is UTF-8. A contract knows that of a `&str` that
-// is passed, so the functions named `know_` pass each text of a value on.
+// Two texts of the same characters have the same bytes because each is UTF-8. A contract knows that
+// of a `&str` that is passed, so the functions named `know_` pass each text of a value on.
 
 ghost use Rattle.std.specs.Prelude.{◌≡◌, ◌↔◌, IsOkAnd, IsTrue, IsUtf8};
 ghost use Rattle.rustc_parse_format.specs.Equivalence.{AreSame, IsEquivalence};
@@ -229,7 +231,8 @@ pub fn pieces_are_equal<'input>(a: &Piece<'input>, b: &Piece<'input>) -> bool
     a == b
 }
 
-/// What `==` tells of the values of each type is reflexive, symmetric and transitive. Nothing is done.
+/// What `==` tells of the values of each type is reflexive, symmetric and transitive. Nothing is
+/// done.
 #[tactic(auto, using(crate::proofs::Equality::seen_equivalence))]
 pub fn equality_is_an_equivalence()
     ensures modes { IsEquivalence (AreSame seen_mode) }
