@@ -3,6 +3,7 @@ mod args;
 mod fakes;
 mod listings;
 mod memory;
+mod programs;
 mod streams;
 
 use fakes::{Endless, Faltering, Sheet, Stuck, Stumbling};

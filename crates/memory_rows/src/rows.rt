@@ -28,6 +28,20 @@ pub const STAR: Row = Row {
         curarg 4\n",
 };
 
+/// Text of a source literal that ends no line takes no memory, whatever it is written as.
+pub const ESCAPE: Row = Row {
+    mode: ParseMode::Format,
+    style: None,
+    snippet: Some("\"\\u{1F600}{}\""),
+    input: "😀{}",
+    lines: "lit \"😀\"\n\
+        arg implicit 0 11..11\n\
+        source yes\n\
+        curarg 1\n\
+        place 10..12\n\
+        line 1..12\n",
+};
+
 const ROWS: &[Row] = &[
     Row {
         mode: ParseMode::Format,
@@ -42,6 +56,7 @@ const ROWS: &[Row] = &[
             curarg 1\n",
     },
     STAR,
+    ESCAPE,
     Row {
         mode: ParseMode::Format,
         style: None,

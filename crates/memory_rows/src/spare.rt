@@ -16,7 +16,7 @@ fn is_text(piece: &Piece<'_>, text: &str) -> bool {
 }
 
 /// The next piece is this text.
-fn next_is(parser: &mut Parser<'_>, text: &str) -> Result<bool, AllocError> {
+pub fn next_is(parser: &mut Parser<'_>, text: &str) -> Result<bool, AllocError> {
     match parser.next()? {
         Some(piece) => Ok(is_text(&piece, text)),
         None => Ok(false),
@@ -66,8 +66,18 @@ fn check_empty(rt: &impl Abort, pieces: &[Piece<'_>], parser: &Parser<'_>) {
     assert!(rt; parser.errors().is_empty());
 }
 
-/// Nothing is read of nothing.
+/// Such a parser comes to its end at once.
+fn check_no_piece(rt: &impl Abort, parser: &mut Parser<'_>) -> Result<(), Fail> {
+    let is_end = parser.next()?.is_none();
+    assert!(rt; is_end);
+    assert!(rt; parser.errors().is_empty());
+    Ok(())
+}
+
+/// Nothing is read of nothing, by one call and by all.
 fn check_nothing(rt: &impl Abort, alloc: Global) -> Result<(), Fail> {
+    let mut parser = Parser::new(alloc, "", None, None, false, ParseMode::Format)?;
+    check_no_piece(rt, &mut parser)?;
     let read = read_all(alloc, "", None, None, false, ParseMode::Diagnostic)?;
     check_empty(rt, read.0.as_slice(), &read.1);
     Ok(())

@@ -1,6 +1,7 @@
 pub mod Uses
 pub mod Entries
 pub mod Report
+pub mod Names
 pub mod Reading
 pub mod Seen
 pub mod Noted

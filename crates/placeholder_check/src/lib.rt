@@ -3,6 +3,7 @@
 
 mod checker;
 mod entries;
+pub mod laws;
 mod reading;
 mod uses;
 

@@ -1,11 +1,13 @@
 //! Tests of the library by the values that its calls take and give, where the tables and scripts of `format_rows` show too
 //! little, and of `placeholder_check`.
 //!
-//! `values` has what is exported, the defaults, clones and equality, `pieces` the pieces themselves, `faults` very many
-//! faults, `literals` the calls that read literals without a parser, and `reports` the reports of `placeholder_check` on
-//! texts.
+//! `values` has what is exported, the defaults, clones and equality, `pieces` the pieces
+//! themselves, `ends` where a text ends, `faults` very many faults, `literals` the calls that read
+//! literals without a parser, and `reports` the reports of `placeholder_check` on texts.
 #![tactic(auto)]
 
+#[cfg(test)]
+mod ends;
 #[cfg(test)]
 mod faults;
 #[cfg(test)]

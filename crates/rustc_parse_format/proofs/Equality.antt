@@ -8,6 +8,7 @@ use Rattle.std.specs.Option.{option_eq}
 use Rattle.std.specs.Prelude.{IsUtf8, chars, option_map}
 use Rattle.std.specs.contracts.prelude.BoolPartialEq.TheImpl as bool_eq
 use Rattle.std.specs.declared.ops.Range.{Range}
+use Rattle.rustc_parse_format.specs.Equivalence.{AreSame, IsEquivalence}
 use Rattle.rustc_parse_format.specs.Seen.{pair}
 use Rattle.rustc_parse_format.specs.World.{Place}
 
@@ -77,3 +78,7 @@ plain_option_same E e None None = (λ _. refl, λ _. refl)
 plain_option_same E e None (Some y) = differ (λ h. cc)
 plain_option_same E e (Some x) None = differ (λ h. cc)
 plain_option_same E e (Some x) (Some y) = same_along (ap (λ z. Some z)) (λ (h : Some x ≡ Some y). cc) (e x y)
+
+-- What is the same where it is seen the same is an equivalence.
+pub seen_equivalence : {A V : Type 0} (see : A → V) → IsEquivalence (AreSame see)
+seen_equivalence see = record { reflexive = λ a. refl; symmetric = λ a b h. sym h; transitive = λ a b c h k. h ∙ k }

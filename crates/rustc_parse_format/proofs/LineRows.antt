@@ -88,6 +88,11 @@ end_of_input : (world (codes "{a\n") None None true).end ≡ 2
 unfolding computing_lines
 end_of_input = refl
 
+-- which has nothing to be taken off where it is empty,
+end_of_empty_input : (world [] None None true).end ≡ 0
+unfolding computing_lines
+end_of_empty_input = refl
+
 -- of a snippet that is not the source literal, whose é has two bytes,
 end_of_foreign_snippet : (world (codes "a") None (Some (codes "\"é\"")) false).end ≡ 4
 unfolding computing_lines

@@ -1,7 +1,7 @@
 -- What a call and a walk say of places: spans read back, lie inside the snippet, and do not depend on the world; lines and places of
 -- arguments are those of what was read.
-use Rattle.std.proofs.Common.{◌≡◌, ◌≢◌, ℕ, ◌++◌, Bool, true, false, cond, List, [], ◌∷◌, length, map, refl, ap, sym, subst, ◌∙◌, arith, Option, Some, None}
-use Rattle.std.proofs.Common.{append_assoc, inl, inr, ◌⊎◌, suc}
+use Rattle.std.proofs.Common.{◌≡◌, ◌≢◌, ℕ, ◌++◌, Bool, true, false, cond, List, [], ◌∷◌, length, map, refl, ap, sym, subst, ◌∙◌, Option, Some, None}
+use Rattle.std.proofs.Common.{append_assoc, suc}
 use Rattle.std.specs.Prelude.{if◌then◌else◌, option_map}
 use Rattle.std.specs.List.{AllByRecursion, filter}
 use Rattle.std.proofs.lemmas.List.{append-nil, map-append}
@@ -9,8 +9,6 @@ use Rattle.std.proofs.lemmas.Bool.{cond_both}
 use Rattle.std.proofs.lemmas.Option.{none-some}
 use Rattle.std.specs.Prelude.{◌==◌}
 use Rattle.rustc_parse_format.specs.Characters.{is_brace, is_no_brace, begins_with, behind_first, behind_white}
-use Rattle.rustc_parse_format.proofs.Placeholders.{placeholder-piece}
-use Rattle.rustc_parse_format.proofs.StateWalks.{after-more}
 use Rattle.rustc_parse_format.specs.Characters.{Text}
 use Rattle.rustc_parse_format.specs.Marks.{Span}
 use Rattle.rustc_parse_format.specs.Types.{Mode, Piece, bare}
@@ -25,7 +23,7 @@ use Rattle.rustc_parse_format.specs.Call.{Call, IsWalk, GoesOn, call, closed_cal
 use Rattle.rustc_parse_format.specs.Lines.{IsLines, lines_in, listed, noted, closed_in, closed_places, with_last}
 use Rattle.rustc_parse_format.specs.Literal.{IsSource}
 use Rattle.rustc_parse_format.specs.ReadBack.{AllSpans, IsInside, ReadsBack}
-use Rattle.rustc_parse_format.specs.State.{State, AreLines, ComesFrom, after, after_all, calls, closed_of, first_state, next_call, texts_of}
+use Rattle.rustc_parse_format.specs.State.{State, AreLines, ComesFrom, after, after_all, calls, closed_of, first_state, next_call, reach_end, texts_of}
 use Rattle.rustc_parse_format.specs.World.{World, Place, literal_world, literal_end, text_end, place_at, faults_in, piece_in, pieces_in, place_of, world}
 use Rattle.rustc_parse_format.proofs.Rests.{IsRest, IsRest-cons, IsRest-self, IsRest-trans, behind_rest, behind_first_rest, behind_white_rest, cut_rest}
 use Rattle.rustc_parse_format.specs.Placeholder.{cut}
@@ -182,9 +180,22 @@ pub call_places : (s : State) → s.world.has_source ≡ true →
     (after s (next_call s)).arg_places ≡ s.arg_places ++ listed (option_map (place_of s.world) (next_call s).closes)
 call_places s h = ap (λ o. s.arg_places ++ listed o) (closed_in-source s.world (next_call s).closes h)
 
+-- Without a source literal there is neither a line nor a place,
+after-sourceless : (s : State) (k : Call) → s.world.has_source ≡ false →
+    ((after s k).arg_places ≡ s.arg_places) × ((after s k).line_spans ≡ s.line_spans)
+after-sourceless s k h = rw (h, append-nil s.arg_places, append-nil s.line_spans) (refl, refl)
+
 pub call_sourceless : (s : State) → s.world.has_source ≡ false →
     ((after s (next_call s)).arg_places ≡ s.arg_places) × ((after s (next_call s)).line_spans ≡ s.line_spans)
-call_sourceless s h = rw (h, append-nil s.arg_places, append-nil s.line_spans) (refl, refl)
+call_sourceless s h = after-sourceless s (next_call s) h
+
+-- after all calls too.
+pub after_all-sourceless : (s : State) (ks : List Call) → s.world.has_source ≡ false →
+    ((after_all s ks).arg_places ≡ s.arg_places) × ((after_all s ks).line_spans ≡ s.line_spans)
+after_all-sourceless s [] h = (refl, refl)
+after_all-sourceless s (k ∷ ks) h =
+    let one = after-sourceless s k h in
+    let more = after_all-sourceless (after s k) ks h in (more.0 ∙ one.0, more.1 ∙ one.1)
 
 -- The same of a walk.
 pub after_all-places : (s : State) (ks : List Call) → (after_all s ks).arg_places ≡ s.arg_places ++ closed_of s.world ks
@@ -200,11 +211,14 @@ walked-next : (s : State) (k : Call) (ks : List Call) →
     walked s (k ∷ ks) ≡ ((walked (after s k) ks).0, (lines_in s.world s.line_start k.texts).1 ++ (walked (after s k) ks).1)
 walked-next s k ks = lines_in-append s.world s.line_start k.texts (texts_of ks)
 
+-- the lines with the last one, where the end was reached
+abbrev ended : Bool → ℕ → ℕ → List Place → List Place
+ended b start end ls = if b then with_last (start, end) ls else ls
+
 -- The lines of a walk: all of it, and at the end the last line.
 record Walked (s : State) (ks : List Call) (new : State) : Type 0 where
   start : new.line_start ≡ (walked s ks).0
-  lines : (new.line_spans ≡ with_last (new.line_start, s.world.end) (s.line_spans ++ (walked s ks).1))
-      ⊎ ((new.line_spans ≡ s.line_spans ++ (walked s ks).1) × (new.errors ≢ []))
+  lines : new.line_spans ≡ ended (reach_end s.rest ks) new.line_start s.world.end (s.line_spans ++ (walked s ks).1)
 
 only_call : (s : State) (k : Call) → walked s (k ∷ []) ≡ lines_in s.world s.line_start k.texts
 only_call s k = ap (lines_in s.world s.line_start) (append-nil k.texts)
@@ -213,34 +227,18 @@ end_walked : (s : State) → s.rest ≡ [] → s.world.has_source ≡ true → W
 unfolding call
 end_walked s e h =
     rw (e, h, append-nil s.line_spans)
-    (record { start = refl; lines = inl (ap (with_last (s.line_start, s.world.end)) (sym (append-nil s.line_spans))) })
-
-none_faulty : (mode : Mode) (c b : ℕ) (t : Text) → (call mode c (b ∷ t)).piece ≡ None → (call mode c (b ∷ t)).faults ≢ []
-unfolding call
-none_faulty mode c b t =
-    cond_both {A = Call} (is_brace b) _ _ (λ k. k.piece ≡ None → k.faults ≢ [])
-    (λ e. cond_both {A = Call} (begins_with b t) _ _ (λ k. k.piece ≡ None → k.faults ≢ [])
-    (λ d. λ h. absurd (none-some _ (sym h)))
-    (λ d. cond_both {A = Call} (b == 123) _ _ (λ k. k.piece ≡ None → k.faults ≢ [])
-    (λ o. λ h. absurd (none-some _ (sym h ∙ placeholder-piece mode c (b ∷ t) t))) (λ o. λ h. λ f. absurd (some_list _ _ f))))
-    (λ e. λ h. absurd (none-some _ (sym h)))
-  where
-    some_list : {A : Type 0} (x : A) (xs : List A) → x ∷ xs ≡ [] → ⊥
-    some_list x xs e = cc e
+    (record { start = refl; lines = ap (with_last (s.line_start, s.world.end)) (sym (append-nil s.line_spans)) })
 
 last_call : (s : State) (t : Text) → s.rest ≡ t → s.world.has_source ≡ true → (next_call s).piece ≡ None → Walked s (next_call s ∷ []) (after s (next_call s))
 last_call s [] e h none = end_walked s e h
 last_call s (b ∷ t) e h none =
     let k = next_call s in
-    let faulty : k.faults ≢ [] = rw e (none_faulty s.mode s.next b t (rw e at none)) in
     let some : s.rest ≢ [] = λ f. absurd (some_text b t (sym e ∙ f)) in
     record {
       start = ap (λ (r : ℕ × List Place). r.0) (sym (only_call s k));
-      lines = inr (
-        not_last s s.rest (s.line_spans ++ (lines_in s.world s.line_start k.texts).1) refl some
-            ∙ ap (λ (r : ℕ × List Place). s.line_spans ++ r.1) (sym (only_call s k)),
-        λ f. omega (arith, after-more s k faulty, ap length f),
-      );
+      lines = not_last s s.rest (s.line_spans ++ (lines_in s.world s.line_start k.texts).1) refl some
+          ∙ (ap (λ (r : ℕ × List Place). s.line_spans ++ r.1) (sym (only_call s k))
+          ∙ ap (λ (u : Text). ended (reach_end u (k ∷ [])) (after s k).line_start s.world.end (s.line_spans ++ (walked s (k ∷ [])).1)) (sym e));
     }
   where
     some_text : (c : ℕ) (u : Text) → c ∷ u ≡ [] → ⊥
@@ -248,22 +246,17 @@ last_call s (b ∷ t) e h none =
 
 -- a call with a piece, and the calls after it
 more_calls : (s new : State) (k : Call) (ks : List Call) → (after s k).line_spans ≡ s.line_spans ++ (lines_in s.world s.line_start k.texts).1 →
-    Walked (after s k) ks new → Walked s (k ∷ ks) new
-more_calls s new k ks e w =
-    let l = (lines_in s.world s.line_start k.texts).1 in
-    let m = (walked (after s k) ks).1 in
-    let all : (after s k).line_spans ++ m ≡ s.line_spans ++ (walked s (k ∷ ks)).1 =
-    ap (λ ls. ls ++ m) e ∙ (append_assoc s.line_spans l m ∙ ap (λ (r : ℕ × List Place). s.line_spans ++ r.1) (sym (walked-next s k ks))) in
+    IsWalk s.mode k.next k.rest ks → Walked (after s k) ks new → Walked s (k ∷ ks) new
+more_calls s new k [] e v w = absurd v
+more_calls s new k (l ∷ ks) e v w =
+    let first = (lines_in s.world s.line_start k.texts).1 in
+    let later = (walked (after s k) (l ∷ ks)).1 in
+    let all : (after s k).line_spans ++ later ≡ s.line_spans ++ (walked s (k ∷ l ∷ ks)).1 =
+    ap (λ ls. ls ++ later) e ∙ (append_assoc s.line_spans first later ∙ ap (λ (r : ℕ × List Place). s.line_spans ++ r.1) (sym (walked-next s k (l ∷ ks)))) in
     record {
-      start = w.start ∙ ap (λ (r : ℕ × List Place). r.0) (sym (walked-next s k ks));
-      lines = either all w.lines;
+      start = w.start ∙ ap (λ (r : ℕ × List Place). r.0) (sym (walked-next s k (l ∷ ks)));
+      lines = w.lines ∙ ap (ended (reach_end k.rest (l ∷ ks)) new.line_start s.world.end) all;
     }
-  where
-    either : {ls ms : List Place} → ls ≡ ms →
-        (new.line_spans ≡ with_last (new.line_start, s.world.end) ls) ⊎ ((new.line_spans ≡ ls) × (new.errors ≢ [])) →
-        (new.line_spans ≡ with_last (new.line_start, s.world.end) ms) ⊎ ((new.line_spans ≡ ms) × (new.errors ≢ []))
-    either f (inl x) = inl (x ∙ ap (with_last (new.line_start, s.world.end)) f)
-    either f (inr x) = inr (x.0 ∙ f, x.1)
 
 piece_some : (s : State) (p : Piece Span) → (next_call s).piece ≡ Some p → s.rest ≢ []
 unfolding call
@@ -281,7 +274,7 @@ walk_lines s (k ∷ ks) h w = by_piece k.piece refl w.1 (λ v. walk_lines (after
     by_piece (Some p) e g f =
         let some : s.rest ≢ [] = piece_some s p (ap (λ (x : Call). x.piece) (sym w.0) ∙ e) in
         more_calls s (after_all (after s k) ks) k ks
-        (not_last s s.rest (s.line_spans ++ (lines_in s.world s.line_start k.texts).1) refl some) (f g)
+        (not_last s s.rest (s.line_spans ++ (lines_in s.world s.line_start k.texts).1) refl some) g (f g)
 
 pub are_lines : (s : State) (ks : List Call) → s.world.has_source ≡ true → IsWalk s.mode s.next s.rest ks → AreLines s ks (after_all s ks)
 are_lines s ks h w =

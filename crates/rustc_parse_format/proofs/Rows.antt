@@ -54,10 +54,6 @@ empty-has_no_error : (ended []).errors ≡ []
 unfolding computing
 empty-has_no_error = refl
 
-empty_with_appended_newline-ends_at_zero : (world [] None None true).end ≡ 0
-unfolding computing
-empty_with_appended_newline-ends_at_zero = refl
-
 empty_with_appended_newline-gives_nothing : pieces_in (world [] None None true) (pieces_of (walk Format 0 [])) ≡ []
 unfolding computing
 empty_with_appended_newline-gives_nothing = refl

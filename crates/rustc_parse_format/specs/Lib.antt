@@ -36,3 +36,4 @@ pub mod ReadBack
 pub mod Reads
 pub mod LiteralReading
 pub mod KnownTexts
+pub mod Equivalence

@@ -1,5 +1,5 @@
 -- What a caller sees of a parser between two calls.
-use Rattle.std.specs.Prelude.{◌≡◌, ◌≢◌, ◌++◌, ◌&&◌, ◌⊎◌, ℕ, ◌-◌, Bool, if◌then◌else◌, List, [], ◌∷◌, length, Option, Some, None, option_map}
+use Rattle.std.specs.Prelude.{◌≡◌, ◌++◌, ◌&&◌, ℕ, ◌-◌, Bool, false, if◌then◌else◌, List, [], ◌∷◌, length, Option, Some, None, option_map}
 use Rattle.rustc_parse_format.specs.Characters.{Text, byte_length, is_nil}
 use Rattle.rustc_parse_format.specs.Back.{Back, nothing_back}
 use Rattle.rustc_parse_format.specs.Tries.{tried}
@@ -115,13 +115,20 @@ abbrev pub closed_of : World → List Call → List Place
 closed_of w [] = []
 closed_of w (k ∷ ks) = closed_places w k.closes ++ closed_of w ks
 
--- The lines of a walk in a source literal: those of all that is read as text, and the last one where the walk came to the end; it may
--- stop before, with an error.
+-- These calls, the first of them on the rest t, came to the end: the last of them had nothing left
+-- to read. A walk may stop before, at a closing brace that closes nothing.
+abbrev pub reach_end : Text → List Call → Bool
+reach_end t [] = false
+reach_end t (k ∷ []) = is_nil t
+reach_end t (k ∷ l ∷ ks) = reach_end k.rest (l ∷ ks)
+
+-- The lines of a walk in a source literal: those of all that is read as text, and the last one
+-- exactly where the walk came to the end, with errors or without.
 pub record AreLines (s : State) (ks : List Call) (new : State) : Type 0 where
   pub lines : List Place
   pub are_lines : IsLines s.line_start (noted s.world (texts_of ks)) lines new.line_start
-  pub kept : (new.line_spans ≡ with_last (new.line_start, s.world.end) (s.line_spans ++ lines))
-      ⊎ ((new.line_spans ≡ s.line_spans ++ lines) × (new.errors ≢ []))
+  pub kept : new.line_spans ≡ (let all = s.line_spans ++ lines in
+      if reach_end s.rest ks then with_last (new.line_start, s.world.end) all else all)
 
 -- the input comes from this source literal, and the places are in it
 pub record ComesFrom (s : State) (style : Option ℕ) (snippet : Text) (appended : Bool) : Type 0 where

@@ -93,11 +93,14 @@ pub fn read_all<'input>(
     ensures lies_inside { IfOk result (λ x. (source : Text) → seen_snippet snippet ≡ Some source
         → IsSource (chars input.now) style source appended_newline → LiesInside source appended_newline x.1) }
 
-    // the lines are those of all that was read as text, and each placeholder that was closed has its place.
+    // the lines are those of all that was read as text, with the last one exactly where the end was
+    // reached, and each placeholder that was closed has its place. Elsewhere there is neither.
     ensures lines { IfOk result (λ x. HasSource (chars input.now) style (seen_snippet snippet) appended_newline
         → (let s = first_state (seen_mode mode) (chars input.now) style (seen_snippet snippet) appended_newline in AreLines s (calls s) x.1)) }
     ensures places { IfOk result (λ x. let s = first_state (seen_mode mode) (chars input.now) style (seen_snippet snippet) appended_newline in
         x.1.arg_places ≡ closed_of s.world (calls s)) }
+    ensures sourceless { IfOk result (λ x. (HasSource (chars input.now) style (seen_snippet snippet) appended_newline → ⊥)
+        → (x.1.arg_places ≡ []) × (x.1.line_spans ≡ [])) }
 
     // An empty input that comes from no source literal is read even where no memory is left: it has no line to keep.
     ensures empty { input.now ≡ [] → (HasSource (chars input.now) style (seen_snippet snippet) appended_newline → ⊥) → IsOk result }

@@ -4,7 +4,7 @@ use Rattle.rustc_parse_format.specs.Types.{bare}
 use Rattle.placeholder_check.specs.Report.{IsReport}
 use Rattle.placeholder_check.specs.Seen.{seen_report, texts}
 use Rattle.placeholder_check.specs.Uses.{uses}
-use Rattle.placeholder_check.proofs.NamedArguments.{named-report}
+use Rattle.placeholder_check.proofs.NamedArguments.{named-alone}
 use Rattle.placeholder_check.proofs.Reports.{uses-bare}
 use Rattle.placeholder_check.proofs.reading.read_and_check.Goals as goal
 
@@ -22,4 +22,5 @@ returns-clause-names_alone c = λ named. λ clean.
     let read = rw named at c.in_ok-pieces.ensures.reading clean in
     let report : IsReport (uses (map bare ps)) c.args.positional (texts c.args.names.now) (seen_report c.in_ok-report.report) =
     rw (uses-bare ps, ← c.as_slice.ensures.value) c.in_ok-report.ensures.report in
-    named-report (chars c.args.input.now) (map bare ps) read c.args.positional (texts c.args.names.now) (seen_report c.in_ok-report.report) report
+    named-alone.no_number_is_used 0 (chars c.args.input.now) (map bare ps) read c.args.positional (texts c.args.names.now)
+    (seen_report c.in_ok-report.report) report

@@ -8,7 +8,7 @@ use Rattle.rustc_parse_format.proofs.Readings.{Reads-unique, Reads-spelled}
 use Rattle.rustc_parse_format.proofs.PartCuts.{cut-only}
 use Rattle.rustc_parse_format.proofs.StateWalks.{after_all-world}
 use Rattle.rustc_parse_format.proofs.ReadPieces.{no_source, walks_of, clean_in, in_clean, reading_of, stops_of}
-use Rattle.rustc_parse_format.proofs.ParserLaws.{fresh_inside, fresh_lines, fresh_places, fresh_reads_back, fresh_worlds}
+use Rattle.rustc_parse_format.proofs.ParserLaws.{after_all-sourceless, fresh_inside, fresh_lines, fresh_places, fresh_reads_back, fresh_worlds}
 use Rattle.rustc_parse_format.proofs.LinesInside.{walked_lies_inside}
 use Rattle.rustc_parse_format.proofs.ReadBackWorlds.{has_source-is}
 use Rattle.rustc_parse_format.proofs.Sources.{has_source}
@@ -66,6 +66,15 @@ returns-clause-lines c h =
 pub returns-clause-places : goal.returns-clause-places
 returns-clause-places c =
     fresh_places (first c) c.in_ok-parser.parser _ (started c) c.in_ok-pieces.ensures.state refl
+
+pub returns-clause-sourceless : goal.returns-clause-sourceless
+returns-clause-sourceless c without =
+    let none : c.in_ok-parser.parser.world.has_source ≡ false = no_source _ _ c.in_ok-parser.ensures.source without in
+    let r = after_all-sourceless c.in_ok-parser.parser (calls c.in_ok-parser.parser) none in
+    let state = c.in_ok-pieces.ensures.state in (
+      ap (λ (s : State). s.arg_places) state ∙ (r.0 ∙ ap (λ (s : State). s.arg_places) (started c)),
+      ap (λ (s : State). s.line_spans) state ∙ (r.1 ∙ ap (λ (s : State). s.line_spans) (started c)),
+    )
 
 pub returns-in_err-pieces-clause-empty : goal.returns-in_err-pieces-clause-empty
 returns-in_err-pieces-clause-empty c e without =

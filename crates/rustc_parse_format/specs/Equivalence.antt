@@ -1,0 +1,10 @@
+-- What is the same where all that is seen of it is the same.
+use Rattle.std.specs.Prelude.{◌≡◌}
+
+abbrev pub AreSame : {A V : Type 0} → (A → V) → A → A → Type 0
+AreSame see a b = see a ≡ see b
+
+pub record IsEquivalence {A : Type 0} (Same : A → A → Type 0) : Type 0 where
+  pub reflexive : (a : A) → Same a a
+  pub symmetric : (a b : A) → Same a b → Same b a
+  pub transitive : (a b c : A) → Same a b → Same b c → Same a c
