@@ -91,7 +91,7 @@ fn name_count<'input>(reader: &mut Reader<'input>) -> Result<Count<'input>, Allo
     ensures reads { Reads reader.old result reader.new (behind_name reader.old.rest (word reader.old.rest) (behind_word reader.old.rest)).1
         reader.old.next (word_faults reader.old.rest) (count_tries reader.old.rest (behind_name reader.old.rest (word reader.old.rest) (behind_word reader.old.rest)).0) }
 {
-    let front = reader.cursor.spot();
+    let front = reader.cursor.checkpoint();
     let start = reader.cursor.start();
     let name = word(reader)?;
     let span = start..reader.cursor.start();

@@ -6,9 +6,8 @@ use crate::cursor::Cursor;
 use crate::laws::default_of_spec;
 use crate::lists::Lists;
 use crate::reader::Reader;
-use crate::source::Spot;
 use crate::types::{Argument, ParseError, ParseMode, Piece, Taken};
-use crate::world::{first_look, quote_offset, source_of};
+use crate::world::{quote_offset, source_of};
 use std::alloc::{AllocError, Global};
 use std::marker::Model;
 use std::ops::Range;
@@ -98,12 +97,7 @@ impl<'input> Parser<'input> {
         ensures short { IfOk result (λ p. length p.rest ≤ length input.now) }
     {
         let source = source_of(input, style, snippet, appended_newline);
-        let spot = Spot {
-            rest: input,
-            mark: input,
-            at: first_look(&source),
-        };
-        let cursor = Cursor::new(source, spot);
+        let cursor = Cursor::new(source, input);
         Ok(Parser {
             alloc,
             mode,
