@@ -16,7 +16,7 @@ use Rattle.flat_reading.specs.declared.records.Step.{Step}
 use Rattle.flat_reading.specs.declared.records.Spec.{Spec as SpecRecord}
 use Rattle.rustc_parse_format.specs.Lines.{closed_in}
 use Rattle.flat_reading.specs.Meant.{maybe_place, piece_meant, spec_at}
-use Rattle.flat_reading.specs.Events.{place_of_first, position, event, events, end_of, found_by}
+use Rattle.flat_reading.specs.Events.{Event, place_of_first, position, event, events, end_of, found_by}
 use Rattle.flat_reading.specs.Events.{finders_from, add_finders, fronts_in, fronts_of, given, looked_for}
 use Rattle.flat_reading.specs.Events.{spec_count, specs_in, is_default, states, states_for, step_meant}
 use Rattle.flat_reading.specs.Held.{Found}
@@ -129,7 +129,7 @@ pub one_more : (peeks : Bool) (input : List ℕ) (s0 s new : State) (todo : List
     (specs specs' : List SpecRecord) →
     IsUpTo peeks input s0 (s ∷ todo) s count used found steps specs → new ≡ after s (next_call s) → used' ≡ used + specs_in (given s) →
     found'.calls ≡ add_finders count found.calls (next_call s).faults → found'.fronts ≡ found.fronts + fronts_in (next_call s) →
-    IsAdded peeks input s count used' steps steps' specs' → take used specs' ≡ take used specs → length specs' ≡ length specs →
+    IsAdded input (event peeks s) count used' steps steps' specs' → take used specs' ≡ take used specs → length specs' ≡ length specs →
     IsUpTo peeks input s0 todo new (count + 1) used' found' steps' specs'
 one_more peeks input s0 s new todo count used used' found found' steps steps' specs specs' h state more finders fronts added front long =
     let r = added.step in
@@ -157,9 +157,9 @@ one_more peeks input s0 s new todo count used used' found found' steps steps' sp
     }
 
 -- What was not written yet.
-pub kept_put : (peeks : Bool) (input : List ℕ) (s : State) (old new orig : List Step) (specs : List SpecRecord) (count used : ℕ)
-    → IsAdded peeks input s count used old new specs → drop count old ≡ drop count orig → drop (count + 1) new ≡ drop (count + 1) orig
-kept_put peeks input s old new orig specs count used added h = by_room (cases_lt count (length old))
+pub kept_put : (input : List ℕ) (e : Event) (old new orig : List Step) (specs : List SpecRecord) (count used : ℕ)
+    → IsAdded input e count used old new specs → drop count old ≡ drop count orig → drop (count + 1) new ≡ drop (count + 1) orig
+kept_put input e old new orig specs count used added h = by_room (cases_lt count (length old))
   where
     by_room : (count < length old) ⊎ (length old ≤ count) → drop (count + 1) new ≡ drop (count + 1) orig
     by_room (inl room) = rw (added.put.0 room) (keep_put old orig count added.step h)

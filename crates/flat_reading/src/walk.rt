@@ -6,14 +6,14 @@ ghost use Rattle.rustc_parse_format.specs.Characters.{behind_first};
 ghost use Rattle.rustc_parse_format.specs.Lines.{closed_in, listed};
 ghost use Rattle.rustc_parse_format.specs.Marks.{Span};
 ghost use Rattle.rustc_parse_format.specs.Seen.{pair, seen_taken};
-ghost use Rattle.rustc_parse_format.specs.State.{after, next_call};
+ghost use Rattle.rustc_parse_format.specs.State.{after, next_call, with_back};
 ghost use Rattle.rustc_parse_format.specs.World.{Place};
 ghost use Rattle.flat_reading.specs.declared.records.Spec.{Spec as SpecRecord};
 ghost use Rattle.flat_reading.specs.declared.records.Step.{Step as StepRecord};
 ghost use Rattle.flat_reading.specs.Events.{add_finders, end_of, event, events, found_by, fronts_in, fronts_of};
 ghost use Rattle.flat_reading.specs.Events.{given, looked_for, place_of_first, position, spec_count, specs_in, states, step_meant};
 ghost use Rattle.flat_reading.specs.Meant.{maybe_place, piece_meant, spec_at};
-ghost use Rattle.flat_reading.specs.Stand.{EndsWith, IsAdded, IsAlong, IsGuided, PieceStands, SameBehind, StandsAlike, guide_of};
+ghost use Rattle.flat_reading.specs.Stand.{EndsWith, GoesAlong, IsAdded, IsAlong, IsGuided, PieceStands, SameBehind, StandsAlike, guide_of};
 
 use crate::finders::Finders;
 use crate::flat::{NO_EXTENT, NOWHERE, bare, put_piece, put_plain, there};
@@ -122,7 +122,7 @@ fn put_guided(
     ensures front { OnOk result (take used.old specs.new ≡ take used.old specs.old) }
     ensures kept { OnOk result (drop used.new specs.new ≡ drop used.new specs.old) }
     ensures others { OnOk result (SameBehind step.old step.new) }
-    ensures state { OnOk result (guide.new ≡ after guide.old (next_call guide.old)) }
+    ensures state { OnOk result (guide.new ≡ after (with_back guide.old guide.new.back) (next_call guide.old)) }
 {
     let same = guide.next()?;
     let texts = texts_of(input, 1, step.read, &same);
@@ -152,7 +152,7 @@ fn put_given(
     ensures front { OnOk result (take used.old specs.new ≡ take used.old specs.old) }
     ensures kept { OnOk result (drop used.new specs.new ≡ drop used.new specs.old) }
     ensures others { OnOk result (SameBehind step.old step.new) }
-    ensures state { OnOk result (guide_of guide.new ≡ option_map (λ g. after g (next_call g)) (guide_of guide.old)) }
+    ensures state { OnOk result (GoesAlong (guide_of guide.old) (guide_of guide.new)) }
 {
     match guide {
         None => {
@@ -191,7 +191,7 @@ fn step<'a>(
     ensures used { OnOk result (used.new ≡ used.old + specs_in (given parser.old)) }
     ensures front { OnOk result (take used.old specs.new ≡ take used.old specs.old) }
     ensures kept { OnOk result (drop used.new specs.new ≡ drop used.new specs.old) }
-    ensures state { OnOk result (parser.new ≡ after parser.old (next_call parser.old)) }
+    ensures state { OnOk result (parser.new ≡ after (with_back parser.old parser.new.back) (next_call parser.old)) }
     ensures read { OnOk result (step.new.read ≡ position parser.new.input parser.new.rest) }
     ensures guided { OnOk result (IsGuided parser.new offset (guide_of guide.new)) }
     ensures finders { OnOk result (finders.new.calls ≡ add_finders number finders.old.calls (next_call parser.old).faults) }
@@ -226,11 +226,11 @@ fn step_unwritten<'a>(
     requires left { EndsWith parser.old.input parser.old.rest }
     requires guided { IsGuided parser.old offset (guide_of guide.old) }
     requires room { used.old < usize.MAX }
-    ensures added { OnOk result ((full : List StepRecord) → length full ≤ number → IsAdded peeks input.now parser.old number used.new full full specs.new) }
+    ensures added { OnOk result ((full : List StepRecord) → length full ≤ number → IsAdded input.now (event peeks parser.old) number used.new full full specs.new) }
     ensures used { OnOk result (used.new ≡ used.old + specs_in (given parser.old)) }
     ensures front { OnOk result (take used.old specs.new ≡ take used.old specs.old) }
     ensures kept { OnOk result (drop used.new specs.new ≡ drop used.new specs.old) }
-    ensures state { OnOk result (parser.new ≡ after parser.old (next_call parser.old)) }
+    ensures state { OnOk result (parser.new ≡ after (with_back parser.old parser.new.back) (next_call parser.old)) }
     ensures read { IfOk result (λ n. n ≡ position parser.new.input parser.new.rest) }
     ensures guided { OnOk result (IsGuided parser.new offset (guide_of guide.new)) }
     ensures finders { OnOk result (finders.new.calls ≡ add_finders number finders.old.calls (next_call parser.old).faults) }
@@ -262,11 +262,11 @@ fn add_step<'a>(
     requires left { EndsWith parser.old.input parser.old.rest }
     requires guided { IsGuided parser.old offset (guide_of guide.old) }
     requires room { used.old < usize.MAX }
-    ensures added { OnOk result (IsAdded peeks input.now parser.old number used.new steps.old steps.new specs.new) }
+    ensures added { OnOk result (IsAdded input.now (event peeks parser.old) number used.new steps.old steps.new specs.new) }
     ensures used { OnOk result (used.new ≡ used.old + specs_in (given parser.old)) }
     ensures front { OnOk result (take used.old specs.new ≡ take used.old specs.old) }
     ensures kept { OnOk result (drop used.new specs.new ≡ drop used.new specs.old) }
-    ensures state { OnOk result (parser.new ≡ after parser.old (next_call parser.old)) }
+    ensures state { OnOk result (parser.new ≡ after (with_back parser.old parser.new.back) (next_call parser.old)) }
     ensures read { IfOk result (λ n. n ≡ position parser.new.input parser.new.rest) }
     ensures guided { OnOk result (IsGuided parser.new offset (guide_of guide.new)) }
     ensures finders { OnOk result (finders.new.calls ≡ add_finders number finders.old.calls (next_call parser.old).faults) }
@@ -305,7 +305,7 @@ fn put_end<'a>(
     requires { parser.old.rest ≡ [] }
     ensures told { OnOk result ((peeks : Bool) (input : List ℕ) (specs : List SpecRecord) → step_meant input specs step.new ≡ event peeks parser.old) }
     ensures number { OnOk result (step.new.spec ≡ 0) }
-    ensures state { OnOk result (parser.new ≡ after parser.old (next_call parser.old)) }
+    ensures state { OnOk result (parser.new ≡ after (with_back parser.old parser.new.back) (next_call parser.old)) }
 {
     let _none = parser.next_into(argument)?;
     put_state(parser, step);
@@ -326,8 +326,8 @@ fn add_end<'a>(
 ) -> Result<(), AllocError>
     requires { parser.old.rest ≡ [] }
     ensures added { OnOk result ((peeks : Bool) (input : List ℕ) (used : ℕ) (specs : List SpecRecord)
-        → IsAdded peeks input parser.old number used steps.old steps.new specs) }
-    ensures state { OnOk result (parser.new ≡ after parser.old (next_call parser.old)) }
+        → IsAdded input (event peeks parser.old) number used steps.old steps.new specs) }
+    ensures state { OnOk result (parser.new ≡ after (with_back parser.old parser.new.back) (next_call parser.old)) }
 {
     if number >= steps.len() {
         let mut spare = BLANK;
@@ -360,7 +360,7 @@ pub fn walk<'a>(
     ensures specs { IfOk result (λ k. k.1 ≡ spec_count parser.old) }
     ensures written { IfOk result (λ k. k.0 ≤ length steps.old → k.1 ≤ length specs.old
         → map (step_meant input.now (take k.1 specs.new)) (take k.0 steps.new) ≡ events peeks parser.old) }
-    ensures state { OnOk result (parser.new ≡ end_of parser.old) }
+    ensures state { OnOk result (with_back parser.new parser.old.back ≡ end_of parser.old) }
     ensures finders { OnOk result (finders.new.calls ≡ found_by parser.old) }
     ensures fronts { OnOk result (finders.new.fronts ≡ fronts_of parser.old) }
     ensures kept_steps { IfOk result (λ k. drop k.0 steps.new ≡ drop k.0 steps.old) }

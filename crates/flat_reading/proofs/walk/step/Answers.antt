@@ -1,7 +1,7 @@
 use Rattle.std.proofs.Common.{◌≡◌, ◌-◌, length, refl, sym, ap, ◌∙◌, arith}
 use Rattle.std.proofs.lemmas.List.{length-map}
 use Rattle.rustc_parse_format.specs.Seen.{pair, seen_error, seen_taken}
-use Rattle.rustc_parse_format.specs.State.{State, next_call}
+use Rattle.rustc_parse_format.specs.State.{State, next_call, with_back}
 use Rattle.std.specs.Prelude.{option_map}
 use Rattle.flat_reading.specs.Meant.{maybe_place}
 use Rattle.flat_reading.proofs.Walking.{told}
@@ -41,7 +41,7 @@ returns-clause-told c = λ room.
     c.requires.guided c.in_ok-given.ensures.piece in
     let kept = c.in_ok-put_given.ensures.others in
     let place = rw state at c.closed-step.ensures in
-    told c.args.peeks c.args.input.now c.put_given.new.specs c.put_given.new.step s c.next_into.new.self state
+    told c.args.peeks c.args.input.now c.put_given.new.specs c.put_given.new.step (with_back s c.next_into.new.self.back) c.next_into.new.self state
     (c.in_ok-put_given.ensures.told same room ∙ c.in_ok-given.ensures.piece)
     (ap maybe_place kept.0
     ∙ place s.arg_places (next_call s).closes (sym (length-map c.arg_places-places.result.now pair) ∙ ap length c.arg_places-places.ensures) refl)
@@ -53,8 +53,8 @@ returns-clause-told c = λ room.
 
 pub returns-clause-guided : goal.returns-clause-guided
 returns-clause-guided c =
-    let guided = still_guided c.args.parser.now c.args.offset (guide_of c.args.guide.now) c.requires.guided in
-    rw (c.in_ok-given.ensures.state, c.in_ok-put_given.ensures.state) guided
+    still_guided c.args.parser.now c.next_into.new.self c.args.offset (guide_of c.args.guide.now) (guide_of c.put_given.new.guide) c.requires.guided
+    c.in_ok-given.ensures.state c.in_ok-put_given.ensures.state
 
 pub returns-clause-finders : goal.returns-clause-finders
 returns-clause-finders c =
