@@ -12,6 +12,7 @@ use Rattle.rustc_parse_format.specs.Call.{Call, call}
 use Rattle.rustc_parse_format.specs.State.{State, next_call, after, after_all}
 use Rattle.rustc_parse_format.proofs.Progress.{call-lt}
 use Rattle.rustc_parse_format.proofs.StateLines.{at_end, closed_in-none, end_faults}
+use Rattle.flat_reading.specs.declared.flat.SpecBuffer.{SpecBuffer}
 use Rattle.flat_reading.specs.declared.records.Step.{Step}
 use Rattle.flat_reading.specs.declared.records.Spec.{Spec as SpecRecord}
 use Rattle.rustc_parse_format.specs.Lines.{closed_in}
@@ -20,9 +21,9 @@ use Rattle.flat_reading.specs.Events.{Event, place_of_first, position, event, ev
 use Rattle.flat_reading.specs.Events.{finders_from, add_finders, fronts_in, fronts_of, given, looked_for}
 use Rattle.flat_reading.specs.Events.{spec_count, specs_in, is_default, states, states_for, step_meant}
 use Rattle.flat_reading.specs.Held.{Found}
-use Rattle.flat_reading.specs.Stand.{IsAdded}
+use Rattle.flat_reading.specs.Stand.{Adds, IsAdded}
 use Rattle.flat_reading.proofs.Finding.{length-add_finders, length-after}
-use Rattle.flat_reading.proofs.Lists.{keep_more, keep_put}
+use Rattle.flat_reading.proofs.Lists.{keep_more, keep_put, still_behind}
 use Rattle.flat_reading.proofs.Specs.{spec_at-front}
 
 cut_at_end : (t : Text) (es : List State) → length t ≤ 0 → cond (is_nil t) [] es ≡ []
@@ -155,6 +156,16 @@ one_more peeks input s0 s new todo count used used' found found' steps steps' sp
           ∙ ap (λ e. map (step_meant input specs) (take count steps) ++ (e ∷ map (event peeks) todo)) (added.told in_specs)
           ∙ earlier);
     }
+
+-- From the start on.
+pub added_on : (m : ℕ) (a b c : SpecBuffer) → a.used ≡ 0 → Adds b.used a b → Adds m b c → Adds c.used a c
+added_on m a b c e h k = record {
+  same = k.same ∙ h.same;
+  room = k.room ∙ h.room;
+  used = omega (arith, e);
+  front = rw e refl;
+  kept = k.kept ∙ still_behind b.records.now a.records.now b.used c.used (omega (arith, k.used)) h.kept;
+}
 
 -- What was not written yet.
 pub kept_put : (input : List ℕ) (e : Event) (old new orig : List Step) (specs : List SpecRecord) (count used : ℕ)
