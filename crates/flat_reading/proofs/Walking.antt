@@ -12,17 +12,18 @@ use Rattle.rustc_parse_format.specs.Call.{Call, call}
 use Rattle.rustc_parse_format.specs.State.{State, next_call, after, after_all}
 use Rattle.rustc_parse_format.proofs.Progress.{call-lt}
 use Rattle.rustc_parse_format.proofs.StateLines.{at_end, closed_in-none, end_faults}
+use Rattle.flat_reading.specs.declared.flat.SpecBuffer.{SpecBuffer}
 use Rattle.flat_reading.specs.declared.records.Step.{Step}
 use Rattle.flat_reading.specs.declared.records.Spec.{Spec as SpecRecord}
 use Rattle.rustc_parse_format.specs.Lines.{closed_in}
 use Rattle.flat_reading.specs.Meant.{maybe_place, piece_meant, spec_at}
-use Rattle.flat_reading.specs.Events.{place_of_first, position, event, events, end_of, found_by}
+use Rattle.flat_reading.specs.Events.{Event, place_of_first, position, event, events, end_of, found_by}
 use Rattle.flat_reading.specs.Events.{finders_from, add_finders, fronts_in, fronts_of, given, looked_for}
 use Rattle.flat_reading.specs.Events.{spec_count, specs_in, is_default, states, states_for, step_meant}
 use Rattle.flat_reading.specs.Held.{Found}
-use Rattle.flat_reading.specs.Stand.{IsAdded}
+use Rattle.flat_reading.specs.Stand.{Adds, IsAdded}
 use Rattle.flat_reading.proofs.Finding.{length-add_finders, length-after}
-use Rattle.flat_reading.proofs.Lists.{keep_more, keep_put}
+use Rattle.flat_reading.proofs.Lists.{keep_more, keep_put, still_behind}
 use Rattle.flat_reading.proofs.Specs.{spec_at-front}
 
 cut_at_end : (t : Text) (es : List State) → length t ≤ 0 → cond (is_nil t) [] es ≡ []
@@ -129,7 +130,7 @@ pub one_more : (peeks : Bool) (input : List ℕ) (s0 s new : State) (todo : List
     (specs specs' : List SpecRecord) →
     IsUpTo peeks input s0 (s ∷ todo) s count used found steps specs → new ≡ after s (next_call s) → used' ≡ used + specs_in (given s) →
     found'.calls ≡ add_finders count found.calls (next_call s).faults → found'.fronts ≡ found.fronts + fronts_in (next_call s) →
-    IsAdded peeks input s count used' steps steps' specs' → take used specs' ≡ take used specs → length specs' ≡ length specs →
+    IsAdded input (event peeks s) count used' steps steps' specs' → take used specs' ≡ take used specs → length specs' ≡ length specs →
     IsUpTo peeks input s0 todo new (count + 1) used' found' steps' specs'
 one_more peeks input s0 s new todo count used used' found found' steps steps' specs specs' h state more finders fronts added front long =
     let r = added.step in
@@ -156,10 +157,20 @@ one_more peeks input s0 s new todo count used used' found found' steps steps' sp
           ∙ earlier);
     }
 
+-- From the start on.
+pub added_on : (m : ℕ) (a b c : SpecBuffer) → a.used ≡ 0 → Adds b.used a b → Adds m b c → Adds c.used a c
+added_on m a b c e h k = record {
+  same = k.same ∙ h.same;
+  room = k.room ∙ h.room;
+  used = omega (arith, e);
+  front = rw e refl;
+  kept = k.kept ∙ still_behind b.records.now a.records.now b.used c.used (omega (arith, k.used)) h.kept;
+}
+
 -- What was not written yet.
-pub kept_put : (peeks : Bool) (input : List ℕ) (s : State) (old new orig : List Step) (specs : List SpecRecord) (count used : ℕ)
-    → IsAdded peeks input s count used old new specs → drop count old ≡ drop count orig → drop (count + 1) new ≡ drop (count + 1) orig
-kept_put peeks input s old new orig specs count used added h = by_room (cases_lt count (length old))
+pub kept_put : (input : List ℕ) (e : Event) (old new orig : List Step) (specs : List SpecRecord) (count used : ℕ)
+    → IsAdded input e count used old new specs → drop count old ≡ drop count orig → drop (count + 1) new ≡ drop (count + 1) orig
+kept_put input e old new orig specs count used added h = by_room (cases_lt count (length old))
   where
     by_room : (count < length old) ⊎ (length old ≤ count) → drop (count + 1) new ≡ drop (count + 1) orig
     by_room (inl room) = rw (added.put.0 room) (keep_put old orig count added.step h)

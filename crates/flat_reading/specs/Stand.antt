@@ -1,18 +1,21 @@
 -- Where the texts of a piece stand in the input: private words, for contracts of private functions.
-use Rattle.std.specs.Prelude.{◌≡◌, ◌≢◌, ℕ, ◌+◌, ◌-◌, ◌<◌, ◌≤◌, ◌⊎◌, List, [], ◌++◌, length, set, option_map, Bool, Option, Some, None, chars, codes}
+use Rattle.std.specs.Prelude.{◌≡◌, ◌≢◌, ℕ, ◌+◌, ◌-◌, ◌<◌, ◌≤◌, ◌⊎◌, List, [], ◌++◌, length, take, drop, set, option_map, Bool, Option, Some, None, chars, codes}
 use Rattle.std.specs.Prelude.{encode_utf8_all, slice_range}
+use Rattle.std.specs.Str.{IsUtf8}
 use Rattle.rustc_parse_format.specs.Characters.{Text}
 use Rattle.rustc_parse_format.specs.Characters.{byte_length}
 use Rattle.rustc_parse_format.specs.Types.{Position, Implicit, Index, Named, Count, Is, Name, Param, Star, Implied, Spec, Argument, Piece, Lit, NextArgument}
 use Rattle.rustc_parse_format.specs.World.{Place, piece_in, plain_world}
-use Rattle.rustc_parse_format.specs.State.{State, next_call}
+use Rattle.rustc_parse_format.specs.State.{State, after, next_call, with_back}
 use Rattle.rustc_parse_format.specs.Agreement.{Agree}
 use Rattle.std.specs.declared.alloc.Global.{Global}
 use Rattle.std.specs.declared.boxed.Box.{Box}
+use Rattle.flat_reading.specs.declared.flat.SpecBuffer.{SpecBuffer}
 use Rattle.flat_reading.specs.declared.records.Step.{Step}
 use Rattle.flat_reading.specs.declared.records.Spec.{Spec as SpecRecord}
 use Rattle.flat_reading.specs.declared.texts.Texts.{Texts}
-use Rattle.flat_reading.specs.Events.{event, position, step_meant}
+use Rattle.flat_reading.specs.declared.walk.Walker.{Walker}
+use Rattle.flat_reading.specs.Events.{Event, add_finders, fronts_in, position, step_meant}
 use Rattle.flat_reading.specs.Meant.{run_at, text_at, type_meant}
 
 -- these bytes stand there
@@ -106,6 +109,13 @@ abbrev pub IsGuided : State → ℕ → Option State → Type 0
 IsGuided s offset None = IsPlain s offset
 IsGuided s offset (Some o) = Agree s o × IsPlain o 1
 
+-- the guide made its next call, if there is one
+abbrev pub GoesAlong : Option State → Option State → Type 0
+GoesAlong None None = Unit {0}
+GoesAlong None (Some h) = ⊥
+GoesAlong (Some g) None = ⊥
+GoesAlong (Some g) (Some h) = h ≡ after (with_back g h.back) (next_call g)
+
 -- the second is what is left of the first
 abbrev pub EndsWith : Text → Text → Type 0
 EndsWith input rest = (front : Text) × (input ≡ front ++ rest)
@@ -117,12 +127,36 @@ pub record IsAlong (s : State) (input : List ℕ) (read : ℕ) : Type 0 where
   pub left : EndsWith s.input s.rest
   pub reads : read ≡ position s.input (next_call s).rest
 
--- where there is room, a step was put that tells of the call at s, with so many specifications by then
-pub record IsAdded (peeks : Bool) (input : List ℕ) (s : State) (count used : ℕ) (old new : List Step) (specs : List SpecRecord) : Type 0 where
+-- So many specifications were added behind the others, as far as there was room, and nothing else was written.
+pub record Adds (n : ℕ) (old new : SpecBuffer) : Type 0 where
+  pub same : new.records.ghost_name ≡ old.records.ghost_name
+  pub room : length new.records.now ≡ length old.records.now
+  pub used : new.used ≡ old.used + n
+  pub front : take old.used new.records.now ≡ take old.used old.records.now
+  pub kept : drop new.used new.records.now ≡ drop new.used old.records.now
+
+-- What is left ends the input, and it is known where the texts of its pieces stand.
+pub record IsOnItsWay (w : Walker) : Type 0 where
+  pub utf8 : IsUtf8 w.input.now
+  pub input : chars w.input.now ≡ w.parser.input
+  pub left : EndsWith w.parser.input w.parser.rest
+  pub guided : IsGuided w.parser w.offset (guide_of w.guide)
+
+-- the call with this number was made, and it is known which errors it found
+pub record MakesCall (number : ℕ) (old new : Walker) : Type 0 where
+  pub state : new.parser ≡ after (with_back old.parser new.parser.back) (next_call old.parser)
+  pub ready : IsOnItsWay new
+  pub finders : new.finders.calls ≡ add_finders number old.finders.calls (next_call old.parser).faults
+  pub fronts : new.finders.fronts ≡ old.finders.fronts + fronts_in (next_call old.parser)
+  pub input : new.input.now ≡ old.input.now
+  pub peeks : new.peeks ≡ old.peeks
+
+-- where there is room, a step was put that tells of an event, with so many specifications by then
+pub record IsAdded (input : List ℕ) (e : Event) (count used : ℕ) (old new : List Step) (specs : List SpecRecord) : Type 0 where
   pub step : Step
   pub put : (count < length old → new ≡ set old count step) × (length old ≤ count → new ≡ old)
   pub few : step.spec ≤ used
-  pub told : used ≤ length specs → step_meant input specs step ≡ event peeks s
+  pub told : used ≤ length specs → step_meant input specs step ≡ e
 
 -- the guide's texts are those of the piece
 abbrev pub StandsAlike : List ℕ → ℕ → State → Option (Piece Place) → Type 0

@@ -10,7 +10,7 @@ ghost use Rattle.flat_reading.specs.declared.records.Spec.{Spec as SpecRecord};
 ghost use Rattle.flat_reading.specs.Events.{has_no_counts, has_no_flags, is_default, specs_in};
 ghost use Rattle.flat_reading.specs.Meant.{align_meant, count_meant, fill_meant, hex_meant, is_set, maybe_place, piece_meant};
 ghost use Rattle.flat_reading.specs.Meant.{place as place_meant, position_meant, sign_meant, spec_at, spec_meant, text_at};
-ghost use Rattle.flat_reading.specs.Stand.{ArgumentStands, CountAt, PieceAt, PieceStands, PositionAt, SameBehind, SpecAt};
+ghost use Rattle.flat_reading.specs.Stand.{Adds, ArgumentStands, CountAt, PieceAt, PieceStands, PositionAt, SameBehind, SpecAt};
 
 use crate::records::{
     ALIGN_CENTER, ALIGN_LEFT, ALIGN_RIGHT, ALIGN_UNKNOWN, COUNT_IMPLIED, COUNT_IS, COUNT_IS_NAME,
@@ -199,23 +199,6 @@ fn is_default(spec: &FormatSpec<'_>) -> bool
     has_no_flags(spec) && has_no_counts(spec) && is_empty(spec.ty) && spec.ty_span.is_none()
 }
 
-/// Writes a specification behind the `used` records, if there is room, and gives its number.
-#[inline(never)]
-fn add_spec(spec: &FormatSpec<'_>, texts: &Texts, specs: &mut [Spec], used: &mut usize) -> usize
-    requires room { used.old < usize.MAX }
-    ensures told { (input : List ℕ) → SpecAt input texts.now (seen_spec spec.now) → used.new ≤ length specs.old → spec_at input specs.new result ≡ seen_spec spec.now }
-    ensures number { result ≡ used.new }
-    ensures used { used.new ≡ used.old + 1 }
-    ensures front { take used.old specs.new ≡ take used.old specs.old }
-    ensures kept { drop used.new specs.new ≡ drop used.new specs.old }
-{
-    if *used < specs.len() {
-        specs[*used] = spec_record(spec, texts);
-    }
-    *used += 1;
-    *used
-}
-
 /// The number of a specification that is the default one, which no record tells of.
 #[inline(always)]
 fn no_spec(spec: &FormatSpec<'_>) -> usize
@@ -227,20 +210,60 @@ fn no_spec(spec: &FormatSpec<'_>) -> usize
     0
 }
 
-/// The same, if it is not the default one.
-#[inline(always)]
-fn put_spec(spec: &FormatSpec<'_>, texts: &Texts, specs: &mut [Spec], used: &mut usize) -> usize
-    requires room { used.old < usize.MAX }
-    ensures told { (input : List ℕ) → SpecAt input texts.now (seen_spec spec.now) → used.new ≤ length specs.old → spec_at input specs.new result ≡ seen_spec spec.now }
-    ensures number { result ≤ used.new }
-    ensures used { used.new ≡ used.old + (if is_default (seen_spec spec.now) then 0 else 1) }
-    ensures front { take used.old specs.new ≡ take used.old specs.old }
-    ensures kept { drop used.new specs.new ≡ drop used.new specs.old }
-{
-    if is_default(spec) {
-        return no_spec(spec);
+/// Room for specifications: each is written behind the others, as far as there is room.
+#[derive(Drop)]
+pub struct SpecBuffer<'a> {
+    records: &'a mut [Spec],
+    /// How many there are, those without room among them.
+    used: usize,
+}
+
+impl<'a> SpecBuffer<'a> {
+    pub fn new(records: &'a mut [Spec]) -> SpecBuffer<'a>
+        ensures same { result.records.ghost_name ≡ records.entry.ghost_name }
+        ensures records { result.records.now ≡ records.old }
+        ensures used { result.used ≡ 0 }
+    {
+        SpecBuffer { records, used: 0 }
     }
-    add_spec(spec, texts, specs, used)
+
+    /// How many specifications there are.
+    pub fn used(&self) -> usize
+        ensures { result ≡ self.now.used }
+    {
+        self.used
+    }
+
+    /// Adds a specification and gives its number.
+    #[inline(never)]
+    fn add(&mut self, spec: &FormatSpec<'_>, texts: &Texts) -> usize
+        requires room { self.old.used < usize.MAX }
+        ensures told { (input : List ℕ) → SpecAt input texts.now (seen_spec spec.now) → self.new.used ≤ length self.old.records.now
+            → spec_at input self.new.records.now result ≡ seen_spec spec.now }
+        ensures number { result ≡ self.new.used }
+        ensures adds { Adds 1 self.old self.new }
+    {
+        if self.used < self.records.len() {
+            self.records[self.used] = spec_record(spec, texts);
+        }
+        self.used += 1;
+        self.used
+    }
+
+    /// The same, if it is not the default one.
+    #[inline(always)]
+    fn put(&mut self, spec: &FormatSpec<'_>, texts: &Texts) -> usize
+        requires room { self.old.used < usize.MAX }
+        ensures told { (input : List ℕ) → SpecAt input texts.now (seen_spec spec.now) → self.new.used ≤ length self.old.records.now
+            → spec_at input self.new.records.now result ≡ seen_spec spec.now }
+        ensures number { result ≤ self.new.used }
+        ensures adds { Adds (if is_default (seen_spec spec.now) then 0 else 1) self.old self.new }
+    {
+        if is_default(spec) {
+            return no_spec(spec);
+        }
+        self.add(spec, texts)
+    }
 }
 
 /// A position: its kind and its number.
@@ -259,21 +282,13 @@ fn position(position: &Position<'_>) -> (u32, usize)
 /// Writes an argument whose texts stand there into its step, and its specification as above.
 #[tactic(auto, unfolding(crate::specs::Meant::piece_meant))]
 #[inline(never)]
-fn put_argument(
-    argument: &Argument<'_>,
-    texts: &Texts,
-    specs: &mut [Spec],
-    used: &mut usize,
-    step: &mut Step,
-)
-    requires room { used.old < usize.MAX }
+fn put_argument(argument: &Argument<'_>, texts: &Texts, specs: &mut SpecBuffer<'_>, step: &mut Step)
+    requires room { specs.old.used < usize.MAX }
     ensures told { (input : List ℕ) → PositionAt (text_at input texts.now.text) (seen_position argument.now.position)
-        → SpecAt input texts.now (seen_spec argument.now.format) → used.new ≤ length specs.old
-        → piece_meant input (spec_at input specs.new step.new.spec) step.new ≡ Some (NextArgument (seen_argument argument.now)) }
-    ensures number { step.new.spec ≤ used.new }
-    ensures used { used.new ≡ used.old + (if is_default (seen_spec argument.now.format) then 0 else 1) }
-    ensures front { take used.old specs.new ≡ take used.old specs.old }
-    ensures kept { drop used.new specs.new ≡ drop used.new specs.old }
+        → SpecAt input texts.now (seen_spec argument.now.format) → specs.new.used ≤ length specs.old.records.now
+        → piece_meant input (spec_at input specs.new.records.now step.new.spec) step.new ≡ Some (NextArgument (seen_argument argument.now)) }
+    ensures number { step.new.spec ≤ specs.new.used }
+    ensures adds { Adds (if is_default (seen_spec argument.now.format) then 0 else 1) specs.old specs.new }
     ensures others { SameBehind step.old step.new }
 {
     let (position, number) = position(&argument.position);
@@ -282,7 +297,7 @@ fn put_argument(
     step.number = number;
     step.text = texts.text;
     step.position_span = extent(&argument.position_span);
-    step.spec = put_spec(&argument.format, texts, specs, used);
+    step.spec = specs.put(&argument.format, texts);
 }
 
 /// A step of no argument.
@@ -327,52 +342,46 @@ fn put_plain_argument(
     argument: &Argument<'_>,
     input: &str,
     offset: usize,
-    specs: &mut [Spec],
-    used: &mut usize,
+    specs: &mut SpecBuffer<'_>,
     step: &mut Step,
 )
     requires stands { ArgumentStands input.now offset (seen_argument argument.now) }
-    requires room { used.old < usize.MAX }
-    ensures told { used.new ≤ length specs.old
-        → piece_meant input.now (spec_at input.now specs.new step.new.spec) step.new ≡ Some (NextArgument (seen_argument argument.now)) }
-    ensures number { step.new.spec ≤ used.new }
-    ensures used { used.new ≡ used.old + (if is_default (seen_spec argument.now.format) then 0 else 1) }
-    ensures front { take used.old specs.new ≡ take used.old specs.old }
-    ensures kept { drop used.new specs.new ≡ drop used.new specs.old }
+    requires room { specs.old.used < usize.MAX }
+    ensures told { specs.new.used ≤ length specs.old.records.now
+        → piece_meant input.now (spec_at input.now specs.new.records.now step.new.spec) step.new ≡ Some (NextArgument (seen_argument argument.now)) }
+    ensures number { step.new.spec ≤ specs.new.used }
+    ensures adds { Adds (if is_default (seen_spec argument.now.format) then 0 else 1) specs.old specs.new }
     ensures others { SameBehind step.old step.new }
 {
     if is_default(&argument.format) {
         put_bare_argument(argument, name_extent(input, offset, argument), step);
     } else {
         let texts = argument_texts(input, offset, argument);
-        put_argument(argument, &texts, specs, used, step);
+        put_argument(argument, &texts, specs, step);
     }
 }
 
 /// Writes a piece whose texts stand there, and whose placeholder was read into an argument, into its step, and its
-/// specification behind the `used` records, if it is not the default one and there is room.
+/// specification behind the others, if it is not the default one.
 #[tactic(auto, unfolding(crate::specs::Meant::piece_meant))]
 pub fn put_piece(
     piece: &Option<Taken<'_>>,
     argument: &Argument<'_>,
     texts: &Texts,
-    specs: &mut [Spec],
-    used: &mut usize,
+    specs: &mut SpecBuffer<'_>,
     step: &mut Step,
 )
-    requires room { used.old < usize.MAX }
-    ensures told { (input : List ℕ) → PieceAt input step.old.read texts.now (option_map (seen_taken argument.now) piece.now) → used.new ≤ length specs.old
-        → piece_meant input (spec_at input specs.new step.new.spec) step.new ≡ option_map (seen_taken argument.now) piece.now }
-    ensures number { step.new.spec ≤ used.new }
-    ensures used { used.new ≡ used.old + specs_in (option_map (seen_taken argument.now) piece.now) }
-    ensures front { take used.old specs.new ≡ take used.old specs.old }
-    ensures kept { drop used.new specs.new ≡ drop used.new specs.old }
+    requires room { specs.old.used < usize.MAX }
+    ensures told { (input : List ℕ) → PieceAt input step.old.read texts.now (option_map (seen_taken argument.now) piece.now) → specs.new.used ≤ length specs.old.records.now
+        → piece_meant input (spec_at input specs.new.records.now step.new.spec) step.new ≡ option_map (seen_taken argument.now) piece.now }
+    ensures number { step.new.spec ≤ specs.new.used }
+    ensures adds { Adds (specs_in (option_map (seen_taken argument.now) piece.now)) specs.old specs.new }
     ensures others { SameBehind step.old step.new }
 {
     match piece {
         None => bare(PIECE_NONE, NOWHERE, step),
         Some(Taken::Lit(_)) => bare(PIECE_TEXT, texts.text, step),
-        Some(Taken::NextArgument) => put_argument(argument, texts, specs, used, step),
+        Some(Taken::NextArgument) => put_argument(argument, texts, specs, step),
     }
 }
 
@@ -384,25 +393,20 @@ pub fn put_plain(
     argument: &Argument<'_>,
     input: &str,
     offset: usize,
-    specs: &mut [Spec],
-    used: &mut usize,
+    specs: &mut SpecBuffer<'_>,
     step: &mut Step,
 )
     requires stands { PieceStands input.now offset step.old.read (option_map (seen_taken argument.now) piece.now) }
-    requires room { used.old < usize.MAX }
-    ensures told { used.new ≤ length specs.old
-        → piece_meant input.now (spec_at input.now specs.new step.new.spec) step.new ≡ option_map (seen_taken argument.now) piece.now }
-    ensures number { step.new.spec ≤ used.new }
-    ensures used { used.new ≡ used.old + specs_in (option_map (seen_taken argument.now) piece.now) }
-    ensures front { take used.old specs.new ≡ take used.old specs.old }
-    ensures kept { drop used.new specs.new ≡ drop used.new specs.old }
+    requires room { specs.old.used < usize.MAX }
+    ensures told { specs.new.used ≤ length specs.old.records.now
+        → piece_meant input.now (spec_at input.now specs.new.records.now step.new.spec) step.new ≡ option_map (seen_taken argument.now) piece.now }
+    ensures number { step.new.spec ≤ specs.new.used }
+    ensures adds { Adds (specs_in (option_map (seen_taken argument.now) piece.now)) specs.old specs.new }
     ensures others { SameBehind step.old step.new }
 {
     match piece {
         None => bare(PIECE_NONE, NOWHERE, step),
         Some(Taken::Lit(text)) => bare(PIECE_TEXT, run_extent(step.read, text), step),
-        Some(Taken::NextArgument) => {
-            put_plain_argument(argument, input, offset, specs, used, step)
-        }
+        Some(Taken::NextArgument) => { put_plain_argument(argument, input, offset, specs, step) }
     }
 }

@@ -13,11 +13,10 @@ ghost use Rattle.flat_reading.specs.Meant.{place};
 ghost use Rattle.flat_reading.specs.Stand.{IsGuided, IsPlain, guide_of};
 
 use crate::errors::put_errors;
-use crate::finders::Finders;
-use crate::flat::{NO_EXTENT, extent, flag};
+use crate::flat::{NO_EXTENT, SpecBuffer, extent, flag};
 use crate::records::{Answer, Extent, Fault, Spec, Step};
 use crate::task::Task;
-use crate::walk::{look_ahead, walk};
+use crate::walk::{Walker, look_ahead};
 use rustc_parse_format::{ParseMode, Parser};
 use std::alloc::{AllocError, Global};
 use std::ops::Range;
@@ -53,21 +52,15 @@ fn is_longer(input: &str, literal: &str, appended_newline: bool) -> bool
 }
 
 /// The literal is an ordinary one that may have escapes.
-fn may_have_escapes(
-    input: &str,
-    style: Option<usize>,
-    snippet: Option<&str>,
-    appended_newline: bool,
-) -> bool
-    requires { length input.now ≤ limit }
-    ensures { IsFalse result → (mode : Mode)
-        → IsPlain (first_state mode (chars input.now) style (option_map (λ t. chars t.now) snippet.entry) appended_newline) (quote_offset style) }
+fn may_have_escapes(asked: &Task<'_>) -> bool
+    requires { length asked.now.input.now ≤ limit }
+    ensures { IsFalse result → IsPlain (asked_state asked.now) (quote_offset asked.now.style) }
 {
-    if style.is_some() {
+    if asked.style.is_some() {
         return false;
     }
-    match snippet {
-        Some(literal) => is_longer(input, literal, appended_newline),
+    match asked.snippet {
+        Some(literal) => is_longer(asked.input, literal, asked.appended_newline),
         None => false,
     }
 }
@@ -91,20 +84,14 @@ fn new_guide<'a>(
 fn guide_for<'a>(
     alloc: Global,
     parser: &Parser<'_>,
-    mode: ParseMode,
-    input: &'a str,
-    style: Option<usize>,
-    snippet: Option<&str>,
-    appended_newline: bool,
+    asked: &Task<'a>,
 ) -> Result<Option<Box<Parser<'a>>>, AllocError>
-    requires { length input.now ≤ limit }
-    ensures { IfOk result (λ g. parser.now
-        ≡ first_state (seen_mode mode) (chars input.now) style (option_map (λ t. chars t.now) snippet.entry) appended_newline
-        → IsGuided parser.now (quote_offset style) (guide_of g)) }
+    requires { length asked.now.input.now ≤ limit }
+    ensures { IfOk result (λ g. parser.now ≡ asked_state asked.now → IsGuided parser.now (quote_offset asked.now.style) (guide_of g)) }
 {
     if parser.is_source_literal() {
-        if may_have_escapes(input, style, snippet, appended_newline) {
-            let guide = new_guide(alloc, mode, input)?;
+        if may_have_escapes(asked) {
+            let guide = new_guide(alloc, asked.mode, asked.input)?;
             return Ok(guide);
         }
         return Ok(None);
@@ -148,52 +135,27 @@ fn read_by<'a>(
         (buffers steps.new specs.new faults.new texts.new lines.new)) }
     ensures err { OnErr result (answer.new ≡ answer.old) }
 {
-    let Task {
-        mode,
-        input,
-        style,
-        snippet,
-        appended_newline,
-        peeks,
-    } = asked;
-    let mut parser = start;
-    let mut finders = Finders::new(alloc);
     let mut peek = NO_EXTENT;
     let mut peek_ahead = NO_EXTENT;
-    let mut guide = guide_for(
-        alloc,
-        &parser,
-        mode,
-        input,
-        style,
-        snippet,
-        appended_newline,
-    )?;
-    let is_source_literal = flag(parser.is_source_literal());
-    if peeks {
-        look_ahead(&parser, &mut peek, &mut peek_ahead);
+    let guide = guide_for(alloc, &start, &asked)?;
+    let is_source_literal = flag(start.is_source_literal());
+    if asked.peeks {
+        look_ahead(&start, &mut peek, &mut peek_ahead);
     }
-    let offset = offset_of(style);
-    let (count, used) = walk(
-        &mut parser,
-        &mut guide,
-        offset,
-        peeks,
-        input,
-        &mut finders,
-        steps,
-        specs,
-    )?;
-    let errors = parser.errors();
-    let spans = parser.line_spans();
+    let offset = offset_of(asked.style);
+    let mut walker = Walker::new(alloc, start, asked.input, offset, guide, asked.peeks);
+    let mut specs = SpecBuffer::new(specs);
+    let count = walker.walk(steps, &mut specs)?;
+    let errors = walker.parser.errors();
+    let spans = walker.parser.line_spans();
     put_lines(spans, lines);
     *answer = Answer {
         steps: count,
-        specs: used,
+        specs: specs.used(),
         faults: errors.len(),
-        texts: put_errors(errors, &finders, faults, texts),
+        texts: put_errors(errors, &walker.finders, faults, texts),
         lines: spans.len(),
-        fronts: finders.fronts(),
+        fronts: walker.finders.fronts(),
         is_source_literal,
         peek,
         peek_ahead,

@@ -1,26 +1,26 @@
 //! The calls of a parser, one behind the other, as records.
 
-ghost use Rattle.std.specs.Prelude.{◌≡◌, ℕ, ◌+◌, ◌<◌, ◌≤◌, ◌^◌, ◌++◌, [], Bool, List, None, Option};
+ghost use Rattle.std.specs.Prelude.{◌≡◌, ℕ, ◌<◌, ◌≤◌, ◌^◌, ◌++◌, [], Bool, List, None, Option};
 ghost use Rattle.std.specs.Prelude.{IfNone, IfOk, IfSome, OnOk, chars, drop, length, map, option_map, take};
 ghost use Rattle.rustc_parse_format.specs.Characters.{behind_first};
 ghost use Rattle.rustc_parse_format.specs.Lines.{closed_in, listed};
 ghost use Rattle.rustc_parse_format.specs.Marks.{Span};
 ghost use Rattle.rustc_parse_format.specs.Seen.{pair, seen_taken};
-ghost use Rattle.rustc_parse_format.specs.State.{after, next_call};
+ghost use Rattle.rustc_parse_format.specs.State.{after, next_call, with_back};
 ghost use Rattle.rustc_parse_format.specs.World.{Place};
 ghost use Rattle.flat_reading.specs.declared.records.Spec.{Spec as SpecRecord};
 ghost use Rattle.flat_reading.specs.declared.records.Step.{Step as StepRecord};
-ghost use Rattle.flat_reading.specs.Events.{add_finders, end_of, event, events, found_by, fronts_in, fronts_of};
+ghost use Rattle.flat_reading.specs.Events.{end_of, event, events, found_by, fronts_of};
 ghost use Rattle.flat_reading.specs.Events.{given, looked_for, place_of_first, position, spec_count, specs_in, states, step_meant};
 ghost use Rattle.flat_reading.specs.Meant.{maybe_place, piece_meant, spec_at};
-ghost use Rattle.flat_reading.specs.Stand.{EndsWith, IsAdded, IsAlong, IsGuided, PieceStands, SameBehind, StandsAlike, guide_of};
+ghost use Rattle.flat_reading.specs.Stand.{Adds, GoesAlong, IsAdded, IsAlong, IsGuided, IsOnItsWay, MakesCall, PieceStands, SameBehind, StandsAlike, guide_of};
 
 use crate::finders::Finders;
-use crate::flat::{NO_EXTENT, NOWHERE, bare, put_piece, put_plain, there};
-use crate::records::{MaybeExtent, PIECE_NONE, POSITION_IMPLICIT, Spec, Step};
+use crate::flat::{NO_EXTENT, NOWHERE, SpecBuffer, bare, put_piece, put_plain, there};
+use crate::records::{MaybeExtent, PIECE_NONE, POSITION_IMPLICIT, Step};
 use crate::texts::texts_of;
 use rustc_parse_format::{Argument, FormatSpec, Parser, Position, Taken};
-use std::alloc::AllocError;
+use std::alloc::{AllocError, Global};
 
 /// A step that tells of nothing.
 const BLANK: Step = Step {
@@ -109,180 +109,23 @@ fn put_guided(
     input: &str,
     given: &Option<Taken<'_>>,
     argument: &Argument<'_>,
-    specs: &mut [Spec],
-    used: &mut usize,
+    specs: &mut SpecBuffer<'_>,
     step: &mut Step,
 ) -> Result<(), AllocError>
     requires along { IsAlong guide.old input.now step.old.read }
-    requires room { used.old < usize.MAX }
-    ensures told { OnOk result (StandsAlike input.now step.old.read guide.old (option_map (seen_taken argument.now) given.now) → used.new ≤ length specs.old
-        → piece_meant input.now (spec_at input.now specs.new step.new.spec) step.new ≡ option_map (seen_taken argument.now) given.now) }
-    ensures number { OnOk result (step.new.spec ≤ used.new) }
-    ensures used { OnOk result (used.new ≡ used.old + specs_in (option_map (seen_taken argument.now) given.now)) }
-    ensures front { OnOk result (take used.old specs.new ≡ take used.old specs.old) }
-    ensures kept { OnOk result (drop used.new specs.new ≡ drop used.new specs.old) }
+    requires room { specs.old.used < usize.MAX }
+    ensures told { OnOk result (StandsAlike input.now step.old.read guide.old (option_map (seen_taken argument.now) given.now)
+        → specs.new.used ≤ length specs.old.records.now
+        → piece_meant input.now (spec_at input.now specs.new.records.now step.new.spec) step.new ≡ option_map (seen_taken argument.now) given.now) }
+    ensures number { OnOk result (step.new.spec ≤ specs.new.used) }
+    ensures adds { OnOk result (Adds (specs_in (option_map (seen_taken argument.now) given.now)) specs.old specs.new) }
     ensures others { OnOk result (SameBehind step.old step.new) }
-    ensures state { OnOk result (guide.new ≡ after guide.old (next_call guide.old)) }
+    ensures state { OnOk result (guide.new ≡ after (with_back guide.old guide.new.back) (next_call guide.old)) }
 {
     let same = guide.next()?;
     let texts = texts_of(input, 1, step.read, &same);
-    put_piece(given, argument, &texts, specs, used, step);
+    put_piece(given, argument, &texts, specs, step);
     Ok(())
-}
-
-/// Writes the piece that a call gave. Its texts stand at its own spans, or at those of the guide's call.
-#[inline(always)]
-fn put_given(
-    guide: &mut Option<Box<Parser<'_>>>,
-    input: &str,
-    offset: usize,
-    given: &Option<Taken<'_>>,
-    argument: &Argument<'_>,
-    specs: &mut [Spec],
-    used: &mut usize,
-    step: &mut Step,
-) -> Result<(), AllocError>
-    requires alone { IfNone (guide_of guide.old) (PieceStands input.now offset step.old.read (option_map (seen_taken argument.now) given.now)) }
-    requires along { IfSome (guide_of guide.old) (λ g. IsAlong g input.now step.old.read) }
-    requires room { used.old < usize.MAX }
-    ensures told { OnOk result (IfSome (guide_of guide.old) (λ g. StandsAlike input.now step.old.read g (option_map (seen_taken argument.now) given.now)) → used.new ≤ length specs.old
-        → piece_meant input.now (spec_at input.now specs.new step.new.spec) step.new ≡ option_map (seen_taken argument.now) given.now) }
-    ensures number { OnOk result (step.new.spec ≤ used.new) }
-    ensures used { OnOk result (used.new ≡ used.old + specs_in (option_map (seen_taken argument.now) given.now)) }
-    ensures front { OnOk result (take used.old specs.new ≡ take used.old specs.old) }
-    ensures kept { OnOk result (drop used.new specs.new ≡ drop used.new specs.old) }
-    ensures others { OnOk result (SameBehind step.old step.new) }
-    ensures state { OnOk result (guide_of guide.new ≡ option_map (λ g. after g (next_call g)) (guide_of guide.old)) }
-{
-    match guide {
-        None => {
-            put_plain(given, argument, input, offset, specs, used, step);
-            Ok(())
-        }
-        Some(guide) => {
-            put_guided(guide, input, given, argument, specs, used, step)?;
-            Ok(())
-        }
-    }
-}
-
-/// The call with this number, into its step. The places of texts are those of the parser's spans, so many bytes behind the
-/// places in the input; or those of the spans of a guide, which goes along, one byte behind them.
-#[inline(always)]
-fn step<'a>(
-    parser: &mut Parser<'a>,
-    argument: &mut Argument<'a>,
-    guide: &mut Option<Box<Parser<'_>>>,
-    offset: usize,
-    peeks: bool,
-    input: &str,
-    number: usize,
-    finders: &mut Finders,
-    specs: &mut [Spec],
-    used: &mut usize,
-    step: &mut Step,
-) -> Result<(), AllocError>
-    requires input { chars input.now ≡ parser.old.input }
-    requires left { EndsWith parser.old.input parser.old.rest }
-    requires guided { IsGuided parser.old offset (guide_of guide.old) }
-    requires room { used.old < usize.MAX }
-    ensures told { OnOk result (used.new ≤ length specs.old → step_meant input.now specs.new step.new ≡ event peeks parser.old) }
-    ensures number { OnOk result (step.new.spec ≤ used.new) }
-    ensures used { OnOk result (used.new ≡ used.old + specs_in (given parser.old)) }
-    ensures front { OnOk result (take used.old specs.new ≡ take used.old specs.old) }
-    ensures kept { OnOk result (drop used.new specs.new ≡ drop used.new specs.old) }
-    ensures state { OnOk result (parser.new ≡ after parser.old (next_call parser.old)) }
-    ensures read { OnOk result (step.new.read ≡ position parser.new.input parser.new.rest) }
-    ensures guided { OnOk result (IsGuided parser.new offset (guide_of guide.new)) }
-    ensures finders { OnOk result (finders.new.calls ≡ add_finders number finders.old.calls (next_call parser.old).faults) }
-    ensures fronts { OnOk result (finders.new.fronts ≡ finders.old.fronts + fronts_in (next_call parser.old)) }
-{
-    let faults = parser.errors().len();
-    let places = parser.arg_places().len();
-    let (given, fronts) = parser.next_into(argument)?;
-    put_state(parser, step);
-    step.place = closed(parser, places);
-    put_peeks(parser, peeks, &mut step.peek, &mut step.peek_ahead);
-    finders.add(number, fronts, parser.errors().len() - faults)?;
-    put_given(guide, input, offset, &given, argument, specs, used, step)?;
-    Ok(())
-}
-
-/// The call with this number, where there is no room for its step: how far the input was read.
-#[inline(never)]
-fn step_unwritten<'a>(
-    parser: &mut Parser<'a>,
-    argument: &mut Argument<'a>,
-    guide: &mut Option<Box<Parser<'_>>>,
-    offset: usize,
-    peeks: bool,
-    input: &str,
-    number: usize,
-    finders: &mut Finders,
-    specs: &mut [Spec],
-    used: &mut usize,
-) -> Result<usize, AllocError>
-    requires input { chars input.now ≡ parser.old.input }
-    requires left { EndsWith parser.old.input parser.old.rest }
-    requires guided { IsGuided parser.old offset (guide_of guide.old) }
-    requires room { used.old < usize.MAX }
-    ensures added { OnOk result ((full : List StepRecord) → length full ≤ number → IsAdded peeks input.now parser.old number used.new full full specs.new) }
-    ensures used { OnOk result (used.new ≡ used.old + specs_in (given parser.old)) }
-    ensures front { OnOk result (take used.old specs.new ≡ take used.old specs.old) }
-    ensures kept { OnOk result (drop used.new specs.new ≡ drop used.new specs.old) }
-    ensures state { OnOk result (parser.new ≡ after parser.old (next_call parser.old)) }
-    ensures read { IfOk result (λ n. n ≡ position parser.new.input parser.new.rest) }
-    ensures guided { OnOk result (IsGuided parser.new offset (guide_of guide.new)) }
-    ensures finders { OnOk result (finders.new.calls ≡ add_finders number finders.old.calls (next_call parser.old).faults) }
-    ensures fronts { OnOk result (finders.new.fronts ≡ finders.old.fronts + fronts_in (next_call parser.old)) }
-{
-    let mut spare = BLANK;
-    step(
-        parser, argument, guide, offset, peeks, input, number, finders, specs, used, &mut spare,
-    )?;
-    Ok(spare.read)
-}
-
-/// The call with this number, written behind so many steps, if there is room: how far the input was read.
-#[inline(always)]
-fn add_step<'a>(
-    parser: &mut Parser<'a>,
-    argument: &mut Argument<'a>,
-    guide: &mut Option<Box<Parser<'_>>>,
-    offset: usize,
-    peeks: bool,
-    input: &str,
-    number: usize,
-    finders: &mut Finders,
-    steps: &mut [Step],
-    specs: &mut [Spec],
-    used: &mut usize,
-) -> Result<usize, AllocError>
-    requires input { chars input.now ≡ parser.old.input }
-    requires left { EndsWith parser.old.input parser.old.rest }
-    requires guided { IsGuided parser.old offset (guide_of guide.old) }
-    requires room { used.old < usize.MAX }
-    ensures added { OnOk result (IsAdded peeks input.now parser.old number used.new steps.old steps.new specs.new) }
-    ensures used { OnOk result (used.new ≡ used.old + specs_in (given parser.old)) }
-    ensures front { OnOk result (take used.old specs.new ≡ take used.old specs.old) }
-    ensures kept { OnOk result (drop used.new specs.new ≡ drop used.new specs.old) }
-    ensures state { OnOk result (parser.new ≡ after parser.old (next_call parser.old)) }
-    ensures read { IfOk result (λ n. n ≡ position parser.new.input parser.new.rest) }
-    ensures guided { OnOk result (IsGuided parser.new offset (guide_of guide.new)) }
-    ensures finders { OnOk result (finders.new.calls ≡ add_finders number finders.old.calls (next_call parser.old).faults) }
-    ensures fronts { OnOk result (finders.new.fronts ≡ finders.old.fronts + fronts_in (next_call parser.old)) }
-{
-    if number < steps.len() {
-        let place = &mut steps[number];
-        step(
-            parser, argument, guide, offset, peeks, input, number, finders, specs, used, place,
-        )?;
-        Ok(steps[number].read)
-    } else {
-        step_unwritten(
-            parser, argument, guide, offset, peeks, input, number, finders, specs, used,
-        )
-    }
 }
 
 /// An argument before anything is read into it.
@@ -295,97 +138,225 @@ fn blank_argument<'a>() -> Argument<'a> {
     }
 }
 
-/// The call at the end, into its step. It gives no piece and finds no fault.
-#[inline(always)]
-fn put_end<'a>(
-    parser: &mut Parser<'a>,
-    argument: &mut Argument<'a>,
-    step: &mut Step,
-) -> Result<(), AllocError>
-    requires { parser.old.rest ≡ [] }
-    ensures told { OnOk result ((peeks : Bool) (input : List ℕ) (specs : List SpecRecord) → step_meant input specs step.new ≡ event peeks parser.old) }
-    ensures number { OnOk result (step.new.spec ≡ 0) }
-    ensures state { OnOk result (parser.new ≡ after parser.old (next_call parser.old)) }
-{
-    let _none = parser.next_into(argument)?;
-    put_state(parser, step);
-    step.place = NO_EXTENT;
-    step.peek = NO_EXTENT;
-    step.peek_ahead = NO_EXTENT;
-    bare(PIECE_NONE, NOWHERE, step);
-    Ok(())
+/// A parser, call by call, with what is told of its calls.
+#[derive(Drop)]
+pub struct Walker<'a> {
+    pub parser: Parser<'a>,
+    pub input: &'a str,
+    /// The places of texts are those of the parser's spans, so many bytes behind the places in the input,
+    pub offset: usize,
+    /// or those of the spans of this one, which goes along, one byte behind them.
+    pub guide: Option<Box<Parser<'a>>>,
+    /// The places of the next two characters are asked for.
+    pub peeks: bool,
+    /// What placeholders are read into.
+    pub argument: Argument<'a>,
+    pub finders: Finders,
 }
 
-/// The call at the end, written behind so many steps, if there is room.
-#[inline(always)]
-fn add_end<'a>(
-    parser: &mut Parser<'a>,
-    argument: &mut Argument<'a>,
-    number: usize,
-    steps: &mut [Step],
-) -> Result<(), AllocError>
-    requires { parser.old.rest ≡ [] }
-    ensures added { OnOk result ((peeks : Bool) (input : List ℕ) (used : ℕ) (specs : List SpecRecord)
-        → IsAdded peeks input parser.old number used steps.old steps.new specs) }
-    ensures state { OnOk result (parser.new ≡ after parser.old (next_call parser.old)) }
-{
-    if number >= steps.len() {
-        let mut spare = BLANK;
-        put_end(parser, argument, &mut spare)?;
-        return Ok(());
-    }
-    put_end(parser, argument, &mut steps[number])?;
-    Ok(())
-}
-
-/// All calls up to and with the one at the end of the input: how many there are, and how many specifications. What fits is
-/// written.
-pub fn walk<'a>(
-    parser: &mut Parser<'a>,
-    guide: &mut Option<Box<Parser<'_>>>,
-    offset: usize,
-    peeks: bool,
-    input: &str,
-    finders: &mut Finders,
-    steps: &mut [Step],
-    specs: &mut [Spec],
-) -> Result<(usize, usize), AllocError>
-    requires input { chars input.now ≡ parser.old.input }
-    requires guided { IsGuided parser.old offset (guide_of guide.old) }
-    requires small { length parser.old.rest < 2 ^ 63 }
-    requires none { finders.old.calls ≡ [] }
-    requires no_fronts { finders.old.fronts ≡ 0 }
-    requires start { parser.old.rest ≡ parser.old.input }
-    ensures count { IfOk result (λ k. k.0 ≡ length (states parser.old)) }
-    ensures specs { IfOk result (λ k. k.1 ≡ spec_count parser.old) }
-    ensures written { IfOk result (λ k. k.0 ≤ length steps.old → k.1 ≤ length specs.old
-        → map (step_meant input.now (take k.1 specs.new)) (take k.0 steps.new) ≡ events peeks parser.old) }
-    ensures state { OnOk result (parser.new ≡ end_of parser.old) }
-    ensures finders { OnOk result (finders.new.calls ≡ found_by parser.old) }
-    ensures fronts { OnOk result (finders.new.fronts ≡ fronts_of parser.old) }
-    ensures kept_steps { IfOk result (λ k. drop k.0 steps.new ≡ drop k.0 steps.old) }
-    ensures kept_specs { IfOk result (λ k. drop k.1 specs.new ≡ drop k.1 specs.old) }
-{
-    let mut argument = blank_argument();
-    let mut count = 0;
-    let mut used = 0;
-    let mut read = 0;
-    while read < input.len() {
-        read = add_step(
+impl<'a> Walker<'a> {
+    /// At the start of an input, with its guide.
+    pub fn new(
+        alloc: Global,
+        parser: Parser<'a>,
+        input: &'a str,
+        offset: usize,
+        guide: Option<Box<Parser<'a>>>,
+        peeks: bool,
+    ) -> Walker<'a>
+        requires input { chars input.now ≡ parser.input }
+        requires start { parser.rest ≡ parser.input }
+        requires guided { IsGuided parser offset (guide_of guide) }
+        ensures ready { IsOnItsWay result }
+        ensures parser { result.parser ≡ parser.entry }
+        ensures input { result.input.now ≡ input.now }
+        ensures peeks { result.peeks ≡ peeks }
+        ensures finders { result.finders ≡ record { calls = []; fronts = 0 } }
+    {
+        Walker {
             parser,
-            &mut argument,
-            guide,
-            offset,
-            peeks,
             input,
-            count,
-            finders,
-            steps,
-            specs,
-            &mut used,
-        )?;
-        count += 1;
+            offset,
+            guide,
+            peeks,
+            argument: blank_argument(),
+            finders: Finders::new(alloc),
+        }
     }
-    add_end(parser, &mut argument, count, steps)?;
-    Ok((count + 1, used))
+
+    /// Writes the piece that a call gave. Its texts stand at its own spans, or at those of the guide's call.
+    #[inline(always)]
+    fn put_given(
+        &mut self,
+        given: &Option<Taken<'_>>,
+        specs: &mut SpecBuffer<'_>,
+        step: &mut Step,
+    ) -> Result<(), AllocError>
+        requires alone { IfNone (guide_of self.old.guide)
+            (PieceStands self.old.input.now self.old.offset step.old.read (option_map (seen_taken self.old.argument) given.now)) }
+        requires along { IfSome (guide_of self.old.guide) (λ g. IsAlong g self.old.input.now step.old.read) }
+        requires room { specs.old.used < usize.MAX }
+        ensures told { OnOk result (IfSome (guide_of self.old.guide) (λ g. StandsAlike self.old.input.now step.old.read g (option_map (seen_taken self.old.argument) given.now))
+            → specs.new.used ≤ length specs.old.records.now
+            → piece_meant self.old.input.now (spec_at self.old.input.now specs.new.records.now step.new.spec) step.new ≡ option_map (seen_taken self.old.argument) given.now) }
+        ensures number { OnOk result (step.new.spec ≤ specs.new.used) }
+        ensures adds { OnOk result (Adds (specs_in (option_map (seen_taken self.old.argument) given.now)) specs.old specs.new) }
+        ensures others { OnOk result (SameBehind step.old step.new) }
+        ensures guide { OnOk result (GoesAlong (guide_of self.old.guide) (guide_of self.new.guide)) }
+        ensures same { OnOk result (self.new ≡ record self.old { guide = self.new.guide }) }
+    {
+        match &mut self.guide {
+            None => {
+                put_plain(given, &self.argument, self.input, self.offset, specs, step);
+                Ok(())
+            }
+            Some(guide) => {
+                put_guided(guide, self.input, given, &self.argument, specs, step)?;
+                Ok(())
+            }
+        }
+    }
+
+    /// The call with this number, into its step.
+    #[inline(always)]
+    fn step(
+        &mut self,
+        number: usize,
+        specs: &mut SpecBuffer<'_>,
+        step: &mut Step,
+    ) -> Result<(), AllocError>
+        requires ready { IsOnItsWay self.old }
+        requires room { specs.old.used < usize.MAX }
+        ensures told { OnOk result (specs.new.used ≤ length specs.old.records.now
+            → step_meant self.old.input.now specs.new.records.now step.new ≡ event self.old.peeks self.old.parser) }
+        ensures number { OnOk result (step.new.spec ≤ specs.new.used) }
+        ensures adds { OnOk result (Adds (specs_in (given self.old.parser)) specs.old specs.new) }
+        ensures call { OnOk result (MakesCall number self.old self.new) }
+        ensures read { OnOk result (step.new.read ≡ position self.new.parser.input self.new.parser.rest) }
+    {
+        let faults = self.parser.errors().len();
+        let places = self.parser.arg_places().len();
+        let (given, fronts) = self.parser.next_into(&mut self.argument)?;
+        put_state(&self.parser, step);
+        step.place = closed(&self.parser, places);
+        put_peeks(
+            &self.parser,
+            self.peeks,
+            &mut step.peek,
+            &mut step.peek_ahead,
+        );
+        self.finders
+            .add(number, fronts, self.parser.errors().len() - faults)?;
+        self.put_given(&given, specs, step)?;
+        Ok(())
+    }
+
+    /// The call with this number, where there is no room for its step: how far the input was read.
+    #[inline(never)]
+    fn step_unwritten(
+        &mut self,
+        number: usize,
+        specs: &mut SpecBuffer<'_>,
+    ) -> Result<usize, AllocError>
+        requires ready { IsOnItsWay self.old }
+        requires room { specs.old.used < usize.MAX }
+        ensures added { OnOk result ((full : List StepRecord) → length full ≤ number
+            → IsAdded self.old.input.now (event self.old.peeks self.old.parser) number specs.new.used full full specs.new.records.now) }
+        ensures adds { OnOk result (Adds (specs_in (given self.old.parser)) specs.old specs.new) }
+        ensures call { OnOk result (MakesCall number self.old self.new) }
+        ensures read { IfOk result (λ n. n ≡ position self.new.parser.input self.new.parser.rest) }
+    {
+        let mut spare = BLANK;
+        self.step(number, specs, &mut spare)?;
+        Ok(spare.read)
+    }
+
+    /// The call with this number, written behind so many steps, if there is room: how far the input was read.
+    #[inline(always)]
+    fn add_step(
+        &mut self,
+        number: usize,
+        steps: &mut [Step],
+        specs: &mut SpecBuffer<'_>,
+    ) -> Result<usize, AllocError>
+        requires ready { IsOnItsWay self.old }
+        requires room { specs.old.used < usize.MAX }
+        ensures added { OnOk result (IsAdded self.old.input.now (event self.old.peeks self.old.parser) number specs.new.used steps.old steps.new specs.new.records.now) }
+        ensures adds { OnOk result (Adds (specs_in (given self.old.parser)) specs.old specs.new) }
+        ensures call { OnOk result (MakesCall number self.old self.new) }
+        ensures read { IfOk result (λ n. n ≡ position self.new.parser.input self.new.parser.rest) }
+    {
+        if number < steps.len() {
+            self.step(number, specs, &mut steps[number])?;
+            Ok(steps[number].read)
+        } else {
+            self.step_unwritten(number, specs)
+        }
+    }
+
+    /// The call at the end, into its step. It gives no piece and finds no fault.
+    #[inline(always)]
+    fn put_end(&mut self, step: &mut Step) -> Result<(), AllocError>
+        requires { self.old.parser.rest ≡ [] }
+        ensures told { OnOk result ((peeks : Bool) (input : List ℕ) (specs : List SpecRecord) → step_meant input specs step.new ≡ event peeks self.old.parser) }
+        ensures number { OnOk result (step.new.spec ≡ 0) }
+        ensures state { OnOk result (self.new.parser ≡ after (with_back self.old.parser self.new.parser.back) (next_call self.old.parser)) }
+        ensures finders { OnOk result (self.new.finders ≡ self.old.finders) }
+    {
+        let _none = self.parser.next_into(&mut self.argument)?;
+        put_state(&self.parser, step);
+        step.place = NO_EXTENT;
+        step.peek = NO_EXTENT;
+        step.peek_ahead = NO_EXTENT;
+        bare(PIECE_NONE, NOWHERE, step);
+        Ok(())
+    }
+
+    /// The call at the end, written behind so many steps, if there is room.
+    #[inline(always)]
+    fn add_end(&mut self, number: usize, steps: &mut [Step]) -> Result<(), AllocError>
+        requires { self.old.parser.rest ≡ [] }
+        ensures added { OnOk result ((peeks : Bool) (input : List ℕ) (used : ℕ) (specs : List SpecRecord)
+            → IsAdded input (event peeks self.old.parser) number used steps.old steps.new specs) }
+        ensures state { OnOk result (self.new.parser ≡ after (with_back self.old.parser self.new.parser.back) (next_call self.old.parser)) }
+        ensures finders { OnOk result (self.new.finders ≡ self.old.finders) }
+    {
+        if number >= steps.len() {
+            let mut spare = BLANK;
+            self.put_end(&mut spare)?;
+            return Ok(());
+        }
+        self.put_end(&mut steps[number])?;
+        Ok(())
+    }
+
+    /// All calls up to and with the one at the end of the input: how many there are. What fits is written.
+    pub fn walk(
+        &mut self,
+        steps: &mut [Step],
+        specs: &mut SpecBuffer<'_>,
+    ) -> Result<usize, AllocError>
+        requires ready { IsOnItsWay self.old }
+        requires small { length self.old.parser.rest < 2 ^ 63 }
+        requires none { self.old.finders ≡ record { calls = []; fronts = 0 } }
+        requires start { self.old.parser.rest ≡ self.old.parser.input }
+        requires empty { specs.old.used ≡ 0 }
+        ensures count { IfOk result (λ k. k ≡ length (states self.old.parser)) }
+        ensures specs { OnOk result (Adds (spec_count self.old.parser) specs.old specs.new) }
+        ensures written { IfOk result (λ k. k ≤ length steps.old → specs.new.used ≤ length specs.old.records.now
+            → map (step_meant self.old.input.now (take specs.new.used specs.new.records.now)) (take k steps.new) ≡ events self.old.peeks self.old.parser) }
+        ensures state { OnOk result (with_back self.new.parser self.old.parser.back ≡ end_of self.old.parser) }
+        ensures finders { OnOk result (self.new.finders.calls ≡ found_by self.old.parser) }
+        ensures fronts { OnOk result (self.new.finders.fronts ≡ fronts_of self.old.parser) }
+        ensures kept_steps { IfOk result (λ k. drop k steps.new ≡ drop k steps.old) }
+    {
+        let mut count = 0;
+        let mut read = 0;
+        while read < self.input.len() {
+            read = self.add_step(count, steps, specs)?;
+            count += 1;
+        }
+        self.add_end(count, steps)?;
+        Ok(count + 1)
+    }
 }

@@ -1,4 +1,4 @@
-use Rattle.flat_reading.proofs.walk.put_given.Goals as goal
+use Rattle.flat_reading.proofs.walk.Walker.put_given.Goals as goal
 
 pub returns-in_ok-put_guided-in-Some-clause-told : goal.returns-in_ok-put_guided-in-Some-clause-told
 returns-in_ok-put_guided-in-Some-clause-told c = λ alike room.

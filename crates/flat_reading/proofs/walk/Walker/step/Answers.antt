@@ -1,0 +1,80 @@
+use Rattle.std.proofs.Common.{◌≡◌, ◌+◌, ◌-◌, length, refl, sym, ap, ◌∙◌, arith}
+use Rattle.std.proofs.lemmas.List.{length-map}
+use Rattle.rustc_parse_format.specs.Seen.{pair, seen_error, seen_taken}
+use Rattle.rustc_parse_format.specs.State.{State, next_call, with_back}
+use Rattle.std.specs.Prelude.{option_map}
+use Rattle.flat_reading.specs.Meant.{maybe_place}
+use Rattle.flat_reading.proofs.Walking.{told}
+use Rattle.flat_reading.specs.Events.{fronts_in, position}
+use Rattle.flat_reading.proofs.Standing.{alike, alone, still_ends, still_guided}
+use Rattle.flat_reading.proofs.Finding.{add_finders-is, few_fronts, length-after}
+use Rattle.flat_reading.specs.Stand.{guide_of}
+use Rattle.flat_reading.proofs.walk.Walker.step.Goals as goal
+
+pub put_given-requires-clause-alone : goal.put_given-requires-clause-alone
+put_given-requires-clause-alone c =
+    let read = c.put_state.ensures.read ∙ ap (λ (s : State). position s.input s.rest) c.in_ok-given.ensures.state in
+    alone c.args.self.now.input.now c.args.self.now.parser c.args.self.now.offset _ (guide_of c.args.self.now.guide) _ c.requires.ready.utf8 c.requires.ready.input c.requires.ready.left c.requires.ready.guided
+    read c.in_ok-given.ensures.piece
+
+pub overflow_sub-errors : goal.overflow_sub-errors
+overflow_sub-errors c =
+    let before = sym (length-map c.errors-faults.result.now seen_error) ∙ ap length c.errors-faults.ensures in
+    let behind = sym (length-map c.errors.result.now seen_error) ∙ ap length c.errors.ensures in
+    let grown = ap (λ (s : State). length s.errors) c.in_ok-given.ensures.state ∙ length-after c.args.self.now.parser (next_call c.args.self.now.parser) in
+    omega (arith, before, behind, grown)
+
+pub add-requires : goal.add-requires
+add-requires c =
+    let before = sym (length-map c.errors-faults.result.now seen_error) ∙ ap length c.errors-faults.ensures in
+    let behind = sym (length-map c.errors.result.now seen_error) ∙ ap length c.errors.ensures in
+    let grown = ap (λ (s : State). length s.errors) c.in_ok-given.ensures.state ∙ length-after c.args.self.now.parser (next_call c.args.self.now.parser) in
+    let few = few_fronts (next_call c.args.self.now.parser).faults in
+    let fronts : c.in_ok-given.fronts ≡ fronts_in (next_call c.args.self.now.parser) = c.in_ok-given.ensures.fronts in
+    omega (arith, before, behind, grown, few, fronts)
+
+pub returns-clause-told : goal.returns-clause-told
+returns-clause-told c = λ room.
+    let s = c.args.self.now.parser in
+    let state = c.in_ok-given.ensures.state in
+    let same = alike c.args.self.now.input.now _ s c.args.self.now.offset (guide_of c.args.self.now.guide) (option_map (seen_taken c.next_into.new.argument) c.in_ok-given.given)
+    c.requires.ready.guided c.in_ok-given.ensures.piece in
+    let kept = c.in_ok-put_given.ensures.others in
+    let place = rw state at c.closed-step.ensures in
+    told c.args.self.now.peeks c.args.self.now.input.now c.put_given.new.specs.records.now c.put_given.new.step (with_back s c.next_into.new.self.back) c.next_into.new.self state
+    (c.in_ok-put_given.ensures.told same room ∙ c.in_ok-given.ensures.piece)
+    (ap maybe_place kept.0
+    ∙ place s.arg_places (next_call s).closes (sym (length-map c.arg_places-places.result.now pair) ∙ ap length c.arg_places-places.ensures) refl)
+    (kept.1 ∙ c.put_state.ensures.read)
+    (kept.2 ∙ c.put_state.ensures.next)
+    (kept.3 ∙ c.put_state.ensures.lines)
+    (ap maybe_place kept.4 ∙ c.put_peeks.ensures.place)
+    (ap maybe_place kept.5 ∙ c.put_peeks.ensures.ahead)
+
+pub returns-clause-call : goal.returns-clause-call
+returns-clause-call c =
+    let old = c.args.self.now in
+    let ready = c.requires.ready in
+    let before = sym (length-map c.errors-faults.result.now seen_error) ∙ ap length c.errors-faults.ensures in
+    let behind = sym (length-map c.errors.result.now seen_error) ∙ ap length c.errors.ensures in
+    let grown = ap (λ (s : State). length s.errors) c.in_ok-given.ensures.state ∙ length-after old.parser (next_call old.parser) in
+    let fs = (next_call old.parser).faults in
+    let fronts : c.in_ok-given.fronts ≡ fronts_in (next_call old.parser) = c.in_ok-given.ensures.fronts in
+    let found : length c.errors.result.now - length c.errors-faults.result.now ≡ length fs = omega (arith, before, behind, grown) in
+    let t = c.next_into.new.self in
+    let state = c.in_ok-given.ensures.state in
+    let same = c.in_ok-put_given.ensures.same in
+    rw same (record {
+      state = state;
+      ready = record {
+        utf8 = ready.utf8;
+        input = ready.input ∙ sym (ap (λ (s : State). s.input) state);
+        left = still_ends (with_back old.parser t.back) t ready.left state;
+        guided = still_guided old.parser t old.offset (guide_of old.guide) (guide_of c.put_given.new.self.guide) ready.guided state
+            c.in_ok-put_given.ensures.guide;
+      };
+      finders = rw (found, fronts) at c.in_ok-add.ensures.calls ∙ sym (add_finders-is c.args.number old.finders.calls fs);
+      fronts = c.in_ok-add.ensures.fronts ∙ ap (λ n. old.finders.fronts + n) fronts;
+      input = refl;
+      peeks = refl;
+    })
