@@ -3,8 +3,13 @@
 
 pub mod literal;
 mod parser;
-// A member that only contracts read, or a variant that nobody makes, is no matter of Rust's.
-#[allow(dead_code)]
+// Here the text is that of another language, which has a form less in some places.
+#[allow(
+    dead_code,
+    clippy::needless_range_loop,
+    clippy::question_mark,
+    clippy::type_complexity
+)]
 mod proved;
 mod report;
 mod shim;

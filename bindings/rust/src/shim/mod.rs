@@ -17,3 +17,25 @@ macro_rules! format_in {
     }};
 }
 pub(crate) use format_in;
+
+#[cfg(test)]
+mod tests {
+    /// The classes that the extracted modules ask the standard library for are those that the proofs speak of: each character.
+    #[test]
+    fn white_space_and_digits() {
+        let white = |c| {
+            matches!(c, '\t'..='\r' | ' ' | '\u{85}' | '\u{a0}' | '\u{1680}' | '\u{2000}'..='\u{200a}' | '\u{2028}'
+                | '\u{2029}' | '\u{202f}' | '\u{205f}' | '\u{3000}')
+        };
+        for c in '\0'..=char::MAX {
+            assert_eq!(c.is_whitespace(), white(c), "{c:?}");
+            assert_eq!(c.is_ascii_digit(), c.is_digit(10), "{c:?}");
+            let digit = "0123456789abcdef"
+                .find(c.to_ascii_lowercase())
+                .map(|at| at as u32);
+            assert_eq!(c.to_digit(16), digit, "{c:?}");
+            assert_eq!(c.to_digit(8), digit.filter(|&digit| digit < 8), "{c:?}");
+            assert_eq!(c.to_string().len(), c.len_utf8(), "{c:?}");
+        }
+    }
+}

@@ -1,5 +1,4 @@
 //! Sixteen lanes of bytes, as two words: safe code, and the same on every processor.
-
 /// Lanes of bytes, the first of which is the lowest of the first word.
 #[allow(non_camel_case_types)]
 #[derive(Clone, Copy)]

@@ -27,26 +27,23 @@ pub fn is_xid_continue(c: char) -> bool {
 mod tests {
     use super::*;
 
-    /// XID_RANGES is a file with a letter, S or C, and the two ends of a range on each line.
+    /// The class of each character by the ranges of a table, one after the other, and by what it is in ASCII.
+    fn class(bounds: &[u32], in_ascii: fn(char) -> bool) -> Vec<bool> {
+        let mut is: Vec<bool> = ('\0'..='\u{7f}').map(in_ascii).collect();
+        for (at, &bound) in bounds.iter().enumerate() {
+            is.resize(bound as usize, at % 2 == 1);
+        }
+        is.resize(0x11_0000, false);
+        is
+    }
+
     #[test]
     fn each_character_is_as_the_ranges_say() {
-        let Ok(path) = std::env::var("XID_RANGES") else {
-            return;
-        };
-        let mut is = vec![[false; 2]; 0x11_0000];
-        for line in std::fs::read_to_string(path).unwrap().lines() {
-            let words: Vec<&str> = line.split_whitespace().collect();
-            let end = |at: usize| usize::from_str_radix(words[at], 16).unwrap();
-            is[end(1)..=end(2)]
-                .iter_mut()
-                .for_each(|is| is[usize::from(words[0] == "C")] = true);
-        }
+        let starts = class(&START, |c| c.is_ascii_alphabetic());
+        let continues = class(&CONTINUE, |c| c.is_ascii_alphanumeric() || c == '_');
         for c in '\0'..=char::MAX {
-            assert_eq!(
-                [is_xid_start(c), is_xid_continue(c)],
-                is[c as usize],
-                "{c:?}"
-            );
+            let wanted = (starts[c as usize], continues[c as usize]);
+            assert_eq!((is_xid_start(c), is_xid_continue(c)), wanted, "{c:?}");
         }
     }
 }
