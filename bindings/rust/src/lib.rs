@@ -6,6 +6,7 @@ mod parser;
 // Here the text is that of another language, which has a form less in some places.
 #[allow(
     dead_code,
+    clippy::needless_question_mark,
     clippy::needless_range_loop,
     clippy::question_mark,
     clippy::type_complexity
