@@ -1,4 +1,6 @@
 """Crates as a whole: which of their items are needed, and the sources in Rust that these make."""
+import subprocess
+
 from extraction import rules
 from extraction.source import Import, Source
 from extraction.tokens import Refused
@@ -30,6 +32,14 @@ def extracted(crates, callers):
             target = source.name.replace(".rt", ".rs")
             made.append((f"{source.crate}/{'mod.rs' if target == 'lib.rs' else target}", text))
     return made
+
+
+def laid_out(text):
+    """A file as rustfmt lays it out."""
+    done = subprocess.run(["rustfmt", "--edition", "2021", "--config", "max_width=100"], input=text, capture_output=True, text=True)
+    if done.returncode != 0:
+        raise Refused(0, done.stderr)
+    return done.stdout
 
 
 def in_place(path, call, *arguments):
@@ -174,8 +184,10 @@ def rust_of(source, needs, crates, empty):
             body += comments(source, item)
             uses_shim |= item_rewritten(source, item, crates, empty, cloned)
             body += text_of(source, item, False)
-    shim = "use crate::shim::prelude::*;\n" if uses_shim else ""
-    return source.top.rstrip() + "\n\n" + NOTICE.format(place=f"crates/{source.crate}/src/{source.name}") + shim + body.strip("\n") + "\n"
+    body = body.strip("\n")
+    if uses_shim:
+        body = "use crate::shim::prelude::*;" + ("\n" if body.startswith(("use", "mod", "pub use")) else "\n\n") + body
+    return f"{source.top.rstrip()}\n\n{NOTICE.format(place=f'crates/{source.crate}/src/{source.name}')}{body}\n"
 
 
 def item_rewritten(source, item, crates, empty, cloned):

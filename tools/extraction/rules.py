@@ -21,13 +21,15 @@ METHODS = {"push": "try_push", "push_str": "try_push_str", "insert": "try_insert
            "extend": "try_extend", "reserve": "try_reserve_more", "clone": "try_clone",
            # of the standard library only since Rust 1.91
            "floor_char_boundary": "boundary_at_most"}
+# What a path may begin with besides what a file names.
+KNOWN = ("self", "super", "char", "str", "u8", "u8x16", "u16", "u32", "u64", "usize")
 MACROS = ("matches", "format")
 ATTRIBUTES = {"cycle", "default", "derive", "doc", "inline", "tactic"}
 DERIVES = {"Clone", "Copy", "Debug", "Default", "Drop", "Eq", "PartialEq"}
 # Members that what calls the crates has to write, for which they have no call.
 OPENED = {"Cursor": {"source"}}
 # Words of forms that are not known to mean the same in both languages, or are known not to.
-UNKNOWN = {"anyhow", "as_mut_ptr", "as_ptr", "async", "await", "dyn", "empty", "extern", "from_fn", "ghost", "macro_rules", "once",
+UNKNOWN = {"anyhow", "as_mut_ptr", "as_ptr", "async", "await", "dyn", "extern", "ghost", "macro_rules",
            "size_of", "spawn", "static", "trait", "try_from", "try_into", "try_recv", "try_send", "union", "unsafe",
            "where", "requires", "ensures"}
 
@@ -185,11 +187,12 @@ def erase_statement(source, first):
     """Leaves a statement out. One that is a block's value stays, and with it the type of that, which is then refused."""
     last = first
     while source.text(last) != ";":
-        if source.text(last) in ("?", "return", "mut"):
-            source.refuse(last, f"`{source.text(last)}` in what is done to a value that takes no bytes")
         last = source.next(source.close(last) if source.tokens[last].is_sign("(", "[", "{") else last)
         if source.text(last) == "}":
             return
+    for at in source.places(first, last):
+        if source.text(at) in ("?", "return", "mut"):
+            source.refuse(at, f"`{source.text(at)}` in what is done to a value that takes no bytes")
     source.cut(first, last)
 
 
@@ -216,8 +219,10 @@ def rewrite(source, item, crate, crates):
                 if source.text(source.next(called)) == "(" and source.text(called) in CONSTRUCTORS:
                     source.tokens[called].text = CONSTRUCTORS[source.text(called)]
                     uses_shim = True
-                elif source.text(called) not in ("len", "is_empty"):
+                else:
                     source.refuse(called, f"a call `{text}::{source.text(called)}`")
+            elif text[0].islower() and text not in (*KNOWN, *modules_of(source), *source.imports()):
+                source.refuse(at, f"a path that begins with `{text}`")
         elif source.is_word(at) and text in METHODS and before in (".", "fn") and behind == "(":
             if text == "clone" and before == "." and source.text(source.next(source.close(source.next(at)))) != "?":
                 source.refuse(at, "a clone whose refusal is not answered on the spot")
@@ -263,6 +268,8 @@ def refuse_unknown(source, at):
         source.refuse(at, f"`{text}`")
     elif text == "fn" and behind == "(":
         source.refuse(at, "a pointer to a function")
+    elif text == "impl" and before in (":", "->", "&", "<", "("):
+        source.refuse(at, "a type that is only told by its trait")
     elif text == ".." and ends_value(source, source.prev(at)) and behind in (")", "]", ",", ";", "{", "=>"):
         if behind != "]" or not is_index(source, at):
             source.refuse(at, "a range without an end")
@@ -297,12 +304,18 @@ def is_pattern(source, at):
 # ------------------------------------------------------------------------------------------------------- imports
 
 
+def modules_of(source):
+    return [item.name for item in source.items if item.kind == "mod"]
+
+
 def imported(source, item, crate, crates, is_named):
     """The lines of a `use` of which the names are kept that something names."""
     of = {}
     for path, called in Import(source, source.next(item.head)).paths():
         if called != "*" and not is_named(called):
             continue
+        if path[0] not in ("crate", "self", "super", "std", "unicode_ident", *crates, *modules_of(source)):
+            source.refuse(item.head, f"`{'::'.join(path)}`, which is not known")
         if path[0] in ("crate", *crates):
             path = ["crate", "proved", crate if path[0] == "crate" else path[0]] + path[1:]
         elif path[0] in ("std", "unicode_ident"):

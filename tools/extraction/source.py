@@ -2,6 +2,7 @@
 from extraction.tokens import TRIVIA, Refused, closing, tokens_of
 
 KINDS = ("fn", "struct", "enum", "impl", "mod", "use", "const", "type", "ghost")
+TRAITS = ("FusedIterator", "Iterator", "Model")
 
 
 class Item:
@@ -98,6 +99,7 @@ class Source:
         elif kind not in ("use", "ghost"):
             item.name = self.text(self.next(at))
         if kind in ("fn", "struct", "enum"):
+            self.parameters(self.next(at, 2), f"a `{kind}` with a parameter that is a type")
             item.open = self.opening(at)
         return item
 
@@ -121,19 +123,25 @@ class Source:
             at = self.next(self.close(at) if self.tokens[at].is_sign("(", "[") else at)
         return at
 
+    def parameters(self, at, refused):
+        """What comes after parameters in angles, if there are any; only lifetimes may be among them."""
+        if self.text(at) != "<":
+            return at
+        while self.text(at) != ">":
+            at = self.next(at)
+            if self.is_word(at):
+                self.refuse(at, refused)
+        return self.next(at)
+
     def impl(self, item):
         """What an impl is of, its trait, and its parts."""
-        at = self.next(item.head)
-        if self.text(at) == "<":
-            while self.text(at) != ">":
-                at = self.next(at)
-                if self.is_word(at):
-                    self.refuse(at, "an impl with a parameter that is a type")
-            at = self.next(at)
+        at = self.parameters(self.next(item.head), "an `impl` with a parameter that is a type")
         item.open = self.opening(at)
         words = [self.text(here) for here in self.places(at, item.open - 1)]
         if "for" in words:
             item.trait = words[words.index("for") - 1]
+            if item.trait not in TRAITS:
+                self.refuse(item.head, f"an `impl` of `{item.trait}`")
             words = words[words.index("for") + 1:]
         item.name = words[0]
         item.parts = self.items_between(item.open + 1, item.last)
