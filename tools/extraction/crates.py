@@ -1,4 +1,5 @@
 """Crates as a whole: which of their items are needed, and the sources in Rust that these make."""
+import re
 import subprocess
 
 from extraction import rules
@@ -186,7 +187,7 @@ def rust_of(source, needs, crates, empty):
             body += text_of(source, item, False)
     body = body.strip("\n")
     if uses_shim:
-        body = "use crate::shim::prelude::*;" + ("\n" if body.startswith(("use", "mod", "pub use")) else "\n\n") + body
+        body = "use crate::shim::prelude::*;" + ("\n" if re.match(r"(pub(\(\w+\))? )?(use|mod) ", body) else "\n\n") + body
     return f"{source.top.rstrip()}\n\n{NOTICE.format(place=f'crates/{source.crate}/src/{source.name}')}{body}\n"
 
 
