@@ -6,7 +6,12 @@ from extraction import rules
 from extraction.source import Import, Source
 from extraction.tokens import Refused
 
-NOTICE = "// Extracted from {place} by tools/extract: not to be edited.\n\n"
+NOTICE = """\
+// Extracted from {place} by tools/extract: not to be edited.
+// That source is proved, and each contract here is its. That this text means the same is tested: rows of answers from outside and the
+// proved static library (.ci/bindings), and the original (bindings/agree), give the same over it.
+
+"""
 
 
 def extracted(crates, callers):
@@ -26,7 +31,7 @@ def extracted(crates, callers):
     for path in callers:
         needs.add_caller(in_place(str(path), Source, path.name, path.read_text(), False))
     needs.follow()
-    made = [("mod.rs", NOTICE.format(place="the crates of the parser") + "".join(f"pub mod {name};\n" for name in sorted(crates)))]
+    made = [("mod.rs", "// The crates that are extracted. Made by tools/extract: not to be edited.\n\n" + "".join(f"pub mod {name};\n" for name in sorted(crates)))]
     for source in sources:
         if needs.has(source.crate, *module_of(source.name)):
             text = in_place(source.path, rust_of, source, needs, list(crates), empty)

@@ -1,4 +1,4 @@
-// Extracted from the crates of the parser by tools/extract: not to be edited.
+// The crates that are extracted. Made by tools/extract: not to be edited.
 
 pub mod placeholder_check;
 pub mod rustc_parse_format;
