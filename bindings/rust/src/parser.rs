@@ -96,9 +96,14 @@ impl<'input> Parser<'input> {
         }
     }
 
-    /// Adds the errors of the faults that a call found, each at its end of the list.
+    /// Adds the errors of the faults that a call found, each at its end of the list. Mostly there is one.
     #[inline(never)]
     fn add_errors(&mut self) {
+        if self.reader.found.len() == 1 {
+            if let Some(fault) = self.reader.found.pop() {
+                return add_error(&mut self.errors, fault);
+            }
+        }
         for fault in self.reader.found.drain(..) {
             add_error(&mut self.errors, fault);
         }
