@@ -173,37 +173,38 @@ fn same_in_each_world(name: &str, input: &str, mode: ParseMode) {
     assert_eq!((&ordinary, &raw), (&plain, &plain), "row {name} in three worlds");
 }
 
-fn main() {
+/// Compares each row of a text, and says how many there are.
+pub fn compare(file: &str, text: &str) -> usize {
     let mut rows = 0;
-    for file in std::env::args().skip(1) {
-        let text = std::fs::read_to_string(&file).expect("a file of rows");
-        for line in text
-            .split('\n')
-            .filter(|line| !line.is_empty() && !line.starts_with("# ") && !line.starts_with("note#"))
-        {
-            let [name, mode, style, newline, snippet, input, wanted] = line.split('\t').collect::<Vec<_>>()[..] else {
-                panic!("{file}: {line:?}")
-            };
-            let mode = match mode {
-                "format" => ParseMode::Format,
-                "asm" => ParseMode::InlineAsm,
-                "diagnostic" => ParseMode::Diagnostic,
-                "diagnostic-named" => ParseMode::DiagnosticNamed,
-                other => panic!("{file}: the mode {other}"),
-            };
-            let (input, snippet) = (text_of(input), text_of(snippet));
-            let snippet = snippet.strip_prefix('=').map(str::to_string);
-            let out = listing(&input, style.parse().ok(), snippet, newline == "1", mode, false);
-            // where the text ends is no field
-            let wanted: String = text_of(wanted)
-                .split_inclusive('\n')
-                .filter(|line| !line.starts_with("end "))
-                .collect();
-            assert_eq!(out, wanted, "row {name} of {file}");
-            same_in_each_world(name, &input, mode);
-            rows += 1;
+    for line in text.split('\n').filter(|line| !line.is_empty() && !line.starts_with("# ") && !line.starts_with("note#")) {
+        let [name, mode, style, newline, snippet, input, wanted] = line.split('\t').collect::<Vec<_>>()[..] else {
+            panic!("{file}: {line:?}")
+        };
+        let mode = match mode {
+            "format" => ParseMode::Format,
+            "asm" => ParseMode::InlineAsm,
+            "diagnostic" => ParseMode::Diagnostic,
+            "diagnostic-named" => ParseMode::DiagnosticNamed,
+            other => panic!("{file}: the mode {other}"),
+        };
+        if style.parse::<u64>().map_or(false, |hashes| hashes > usize::MAX as u64 / 2) && usize::BITS < 64 {
+            continue;
         }
+        let (input, snippet) = (text_of(input), text_of(snippet));
+        let snippet = snippet.strip_prefix('=').map(str::to_string);
+        let out = listing(&input, style.parse().ok(), snippet, newline == "1", mode, false);
+        // where the text ends is no field
+        let wanted: String = text_of(wanted).split_inclusive('\n').filter(|line| !line.starts_with("end ")).collect();
+        assert_eq!(out, wanted, "row {name} of {file}");
+        same_in_each_world(name, &input, mode);
+        rows += 1;
     }
+    rows
+}
+
+fn main() {
+    let text = |file: &String| std::fs::read_to_string(file).expect("a file of rows");
+    let rows: usize = std::env::args().skip(1).map(|file| compare(&file, &text(&file))).sum();
     assert!(rows > 0, "no row");
     println!("{rows} rows, each in three worlds besides: all agree");
 }
