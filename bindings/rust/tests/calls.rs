@@ -314,3 +314,9 @@ fn fields_can_be_moved_out() {
     let (errors, places) = (parser.errors, parser.arg_places);
     assert_eq!((errors.len(), places.len()), (1, 0));
 }
+
+#[test]
+#[cfg(target_pointer_width = "64")]
+fn a_piece_takes_two_words() {
+    assert_eq!(std::mem::size_of::<Piece<'_>>(), 16);
+}
