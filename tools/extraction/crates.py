@@ -127,6 +127,8 @@ class Needs:
                     for part in item.parts if item.kind == "impl" and not item.trait else [item]:
                         if not part.is_kept and self.is_needed(source, item, part):
                             part.is_kept = item.is_kept = grown = True
+                            for inner in part.parts:
+                                inner.is_kept = inner.kind != "ghost"
                             self.add(source, part)
                             if part is not item:
                                 self.items.add((source.path, item.name))
@@ -139,15 +141,12 @@ class Needs:
     def is_needed(self, source, item, part):
         if item.kind != "impl":
             return part.kind in ("fn", "struct", "enum", "const", "type") and (source.path, part.name) in self.items
-        of = self.resolved(self.absolute(source, source.imports().get(item.name, [item.name])))
-        of = (source.path, item.name) if of[0] is None else of
-        if of not in self.items or part.kind == "ghost":
+        path = source.imports().get(item.name)
+        of = self.resolved(self.absolute(source, path)) if path else (source.path, item.name)
+        if of not in self.items or part.kind == "ghost" or clones_in(source, part):
             return False
-        if part is item:
-            return True
-        return not clones_in(source, part) and (
-            (item.name, part.name) in self.methods or part.is_public and of in self.shown
-            or (".", part.name, source.count_of(source.next(part.head, 2)) - 1) in self.methods)
+        return (part is item or (item.name, part.name) in self.methods or part.is_public and of in self.shown
+                or part.kind == "fn" and (".", part.name, source.count_of(source.next(part.head, 2)) - 1) in self.methods)
 
 
 def module_of(name):
@@ -158,7 +157,7 @@ def module_of(name):
 
 def clones_in(source, item):
     """Whether a method is a clone that asks for an allocator, which no derive is there."""
-    if item.name != "clone":
+    if item.kind != "fn" or item.name != "clone":
         return False
     words = [source.text(at) for at in source.places(item.head, item.open)]
     return words[2:8] == ["(", "&", "self", ",", "alloc", ":"]
