@@ -37,8 +37,6 @@ unfolding placeholder
 placeholder-piece mode c o t = cond_both {A = Call} (begins_with 125 (ending mode t)) _ _ (λ k. k.piece ≡ Some (NextArgument (argument c (cut mode t))))
     (λ e. refl) (λ e. refl)
 
-pub ruleset placeholder_given = (placeholder-piece)
-
 -- One without fault has an argument without one and is closed by a brace,
 pub placeholder-faultless : (mode : Mode) (c : ℕ) (o t : Text) → (placeholder mode c o t).faults ≡ [] → (cut_faults mode (cut mode t) ≡ [])
     × ((placeholder mode c o t).texts ≡ spec_texts (cut mode t).field.spec (cut mode t).rest) × (begins_with 125 (ending mode t) ≡ true)
@@ -177,6 +175,13 @@ call_opens mode c [] e = absurd (false≢true e)
 call_opens mode c (b ∷ t) e =
     let h : ((b == 123) ≡ true) × (not (begins_with 123 t) ≡ true) = and_parts (b == 123) (not (begins_with 123 t)) e in
     call_at_open mode c b t (eqb-true b 123 h.0) (not-true (begins_with 123 t) h.1)
+
+-- and gives its argument
+pub opened-piece : (mode : Mode) (c : ℕ) (t : Text) → opens_placeholder t ≡ true →
+    (call mode c t).piece ≡ Some (NextArgument (argument c (cut mode (behind_first t))))
+opened-piece mode c t e = ap (λ (k : Call). k.piece) (call_opens mode c t e) ∙ placeholder-piece mode c t (behind_first t)
+
+pub ruleset placeholder_given = (opened-piece)
 
 -- and it takes memory
 pub opens-takes : (mode : Mode) (c : ℕ) (t : Text) → opens_placeholder t ≡ true → GivesAtMostText (call mode c t) → ⊥

@@ -2,7 +2,7 @@
 
 ghost use Rattle.std.specs.Prelude.{[], ◌++◌, ◌+◌, ◌<◌, ◌^◌, ◌∷◌, ◌≡◌, ◌≢◌, IfOk, chars, if◌then◌else◌};
 ghost use Rattle.std.specs.Prelude.{IsOk, length, OnErr, OnOk, option_map, Some, false, true};
-ghost use Rattle.rustc_parse_format.specs.Call.{call, placeholder};
+ghost use Rattle.rustc_parse_format.specs.Call.{call};
 ghost use Rattle.rustc_parse_format.specs.Characters.{Text, begins_with, behind_first, first};
 ghost use Rattle.rustc_parse_format.specs.Faults.{brace_fill, no_brace};
 ghost use Rattle.rustc_parse_format.specs.Marks.{End, Span, over_first, up_to};
@@ -102,30 +102,6 @@ fn close<'input>(
 
 /// Reads the placeholder at the front into a blank argument.
 #[tactic(auto, using(crate::proofs::Steps::part_le, crate::proofs::Placeholders::placeholder_given))]
-fn read_braced<'input>(
-    mode: ParseMode,
-    into: &mut Argument<'input>,
-    reader: &mut Reader<'input>,
-) -> Result<(), AllocError>
-    requires blank { seen_spec into.old.format ≡ default_spec }
-    requires here { reader.old.rest ≢ [] }
-    requires numbers { reader.old.next + length reader.old.rest < 2 ^ 64 }
-    ensures value { OnOk result (Some (NextArgument (seen_argument into.new)) ≡ option_map (piece_in reader.old.world)
-        (placeholder (seen_mode mode) reader.old.next reader.old.rest (behind_first reader.old.rest)).piece) }
-    ensures state { OnOk result (reader.new ≡ read_call reader.old (placeholder (seen_mode mode) reader.old.next reader.old.rest (behind_first reader.old.rest))) }
-    ensures err { OnErr result (reader.new.source ≡ reader.old.source) }
-    ensures spare { (let k = placeholder (seen_mode mode) reader.old.next reader.old.rest (behind_first reader.old.rest) in
-        FindsNothing reader.old k.faults k.texts → IsOk result) }
-{
-    let opening = reader.cursor.take_place();
-    read_argument(mode, into, reader)?;
-    reader.cursor.skip_white();
-    close(mode, into, opening, reader)?;
-    Ok(())
-}
-
-/// Reads the placeholder at the front into a blank argument, as the whole call.
-#[inline(always)]
 pub fn read_placeholder<'input>(
     mode: ParseMode,
     into: &mut Argument<'input>,
@@ -141,7 +117,10 @@ pub fn read_placeholder<'input>(
     ensures spare { (let k = call (seen_mode mode) reader.old.next reader.old.rest in
         FindsNothing reader.old k.faults k.texts → IsOk result) }
 {
-    read_braced(mode, into, reader)?;
+    let opening = reader.cursor.take_place();
+    read_argument(mode, into, reader)?;
+    reader.cursor.skip_white();
+    close(mode, into, opening, reader)?;
     Ok(())
 }
 

@@ -124,28 +124,6 @@ pub fn count<'input>(reader: &mut Reader<'input>) -> Result<Count<'input>, Alloc
     Ok(Count::CountImplied)
 }
 
-/// Reads the count at the front, and where it stands.
-#[tactic(auto, using(crate::proofs::Steps::part_le))]
-fn spanned_count<'input>(
-    reader: &mut Reader<'input>,
-) -> Result<(Count<'input>, Option<Range<usize>>), AllocError>
-    requires { IsFurthest reader.old.rest reader.old.back }
-    ensures value { IfOk result (λ k. seen_count k.0
-        ≡ map_count (place_of reader.old.world) (count_of reader.old.rest (count reader.old.rest).0 (count reader.old.rest).1)) }
-    ensures span { IfOk result (λ k. option_map pair k.1 ≡ option_map (place_of reader.old.world)
-        (count_span reader.old.rest (count reader.old.rest).0 (count reader.old.rest).1)) }
-    ensures reads { Reads reader.old result reader.new (count reader.old.rest).1 reader.old.next (argument_faults reader.old.rest)
-        (count_tries reader.old.rest (count reader.old.rest).0) }
-{
-    let start = reader.start();
-    let count = count(reader)?;
-    let span = match count {
-        Count::CountImplied => None,
-        _ => Some(start..reader.start()),
-    };
-    Ok((count, span))
-}
-
 /// A width: whether the flag `0` stands in front of its count, and where the count stands.
 #[derive(Drop)]
 pub struct WidthPart<'input> {
@@ -154,7 +132,7 @@ pub struct WidthPart<'input> {
     pub span: Option<Range<usize>>,
 }
 
-/// Reads the count of a width, which has the flag `0` or not.
+/// Reads the count of a width, and where it stands; the width has the flag `0` or not.
 #[tactic(auto, using(crate::proofs::Steps::part_le))]
 fn counted<'input>(
     zero_pad: bool,
@@ -169,7 +147,12 @@ fn counted<'input>(
     ensures reads { Reads reader.old result reader.new (count reader.old.rest).1 reader.old.next (argument_faults reader.old.rest)
         (count_tries reader.old.rest (count reader.old.rest).0) }
 {
-    let (count, span) = spanned_count(reader)?;
+    let start = reader.start();
+    let count = count(reader)?;
+    let span = match count {
+        Count::CountImplied => None,
+        _ => Some(start..reader.start()),
+    };
     Ok(WidthPart {
         zero_pad,
         count,

@@ -58,8 +58,7 @@ fn add_error(alloc: Global, errors: &mut ErrorList, fault: Fault<'_>) -> Result<
     ensures err { OnErr result (errors.new ≡ errors.old) }
 {
     let is_front = fault.is_front();
-    let mut error = empty_error(alloc);
-    tell(alloc, &mut error, fault)?;
+    let error = error_of(alloc, fault)?;
     if is_front {
         errors.add_front(alloc, error)?;
         Ok(1)

@@ -1,21 +1,66 @@
+use Rattle.std.proofs.Common.{◌∙◌, ap, map, sym, length, arith}
+use Rattle.std.specs.Prelude.{option_map}
 use Rattle.std.proofs.lemmas.Bool.{false≢true}
-use Rattle.rustc_parse_format.specs.Seen.{seen_mode}
-use Rattle.rustc_parse_format.proofs.Placeholders.{call_opens, opens-some}
+use Rattle.rustc_parse_format.specs.Characters.{begins_with, behind_white, behind_first}
+use Rattle.rustc_parse_format.specs.Seen.{pair, seen_argument, seen_mode}
+use Rattle.rustc_parse_format.specs.SeenFaults.{seen_fault}
+use Rattle.rustc_parse_format.specs.Midway.{Midway, Unread, midway}
+use Rattle.rustc_parse_format.proofs.Placeholders.{argument-finds, call_opens, numbers_left, opens-some, placeholder-faultless, placeholder_closed}
 use Rattle.rustc_parse_format.proofs.call.read_placeholder.Goals as goal
 
-pub read_braced-requires-clause-here : goal.read_braced-requires-clause-here
-read_braced-requires-clause-here c = opens-some c.args.reader.now.rest c.requires.opens
-
-pub returns-clause-value : goal.returns-clause-value
-returns-clause-value c =
-    let s = c.args.reader.now in rw (call_opens (seen_mode c.args.mode) s.next s.rest c.requires.opens) c.in_ok-read_braced.ensures.value
+pub close-requires : goal.close-requires
+close-requires c =
+    let u = c.reader.inside.cursor in
+    let given = rw c.take_place-opening.ensures.rest at c.in_ok-read_argument.ensures in
+    let whole = c.reader-2.view_is ∙ given.state in
+    let rest = ap (λ (x : Midway). x.rest) c.reader.view_is in
+    let white = ap (λ (x : Unread). x.rest) c.skip_white.ensures.rest in
+    record {
+      numbers = omega (
+        arith,
+        numbers_left (seen_mode c.args.mode) c.reader.inside.curarg c.reader-2.inside.curarg u.rest c.skip_white.new.self.rest
+            (λ e. opens-some c.args.reader.now.rest c.requires.opens (sym rest ∙ e)) (ap (λ (x : Midway). x.next) whole) (white ∙ ap (λ (x : Midway). behind_white x.rest) whole),
+        ap length rest,
+        ap (λ (x : Midway). x.next) c.reader.view_is,
+        c.requires.numbers,
+      );
+    }
 
 pub returns-clause-state : goal.returns-clause-state
 returns-clause-state c =
-    let s = c.args.reader.now in rw (call_opens (seen_mode c.args.mode) s.next s.rest c.requires.opens) c.in_ok-read_braced.ensures.state
+    let u = c.reader.inside.cursor in
+    let s = record (midway u c.reader.inside.curarg c.reader.inside.line_start) {
+      faults = map seen_fault c.reader.inside.found.items;
+      lines = map pair c.reader.inside.lines.items;
+      closed = option_map pair c.reader.inside.closed;
+    } in
+    let given = rw c.take_place-opening.ensures.rest at c.in_ok-read_argument.ensures in
+    let e = c.reader-2.view_is ∙ given.state in
+    rw (call_opens (seen_mode c.args.mode) c.args.reader.now.next c.args.reader.now.rest c.requires.opens, ← c.reader.view_is) (placeholder_closed s _ c.close.new.reader (seen_mode c.args.mode) u.rest (behind_first u.rest) (pair c.take_place-opening.result)
+    (seen_argument c.read_argument.new.into) e c.take_place-opening.ensures.place given.value
+    (rw c.skip_white.ensures.rest at c.in_ok-close.ensures.state))
 
-pub returns-in_err-read_braced-clause-spare : goal.returns-in_err-read_braced-clause-spare
-returns-in_err-read_braced-clause-spare c h =
-    let s = c.args.reader.now in
-    let opened = rw (call_opens (seen_mode c.args.mode) s.next s.rest c.requires.opens) at h in
-    absurd (false≢true (c.in_err-read_braced.ensures.spare opened))
+pub returns-in_err-read_argument-clause-spare : goal.returns-in_err-read_argument-clause-spare
+returns-in_err-read_argument-clause-spare c =
+    let u = c.reader.inside.cursor in
+    let s = record (midway u c.reader.inside.curarg c.reader.inside.line_start) {
+      faults = map seen_fault c.reader.inside.found.items;
+      lines = map pair c.reader.inside.lines.items;
+      closed = option_map pair c.reader.inside.closed;
+    } in
+    let spare = rw c.take_place-opening.ensures.rest at c.in_err-read_argument.ensures.spare in
+    rw (call_opens (seen_mode c.args.mode) c.args.reader.now.next c.args.reader.now.rest c.requires.opens, ← c.reader.view_is) (λ h. absurd (false≢true (spare (argument-finds s (seen_mode c.args.mode) u.rest (behind_first u.rest) h))))
+
+pub returns-in_err-close-clause-spare : goal.returns-in_err-close-clause-spare
+returns-in_err-close-clause-spare c =
+    let u = c.reader.inside.cursor in
+    let s = record (midway u c.reader.inside.curarg c.reader.inside.line_start) {
+      faults = map seen_fault c.reader.inside.found.items;
+      lines = map pair c.reader.inside.lines.items;
+      closed = option_map pair c.reader.inside.closed;
+    } in
+    let mode = seen_mode c.args.mode in
+    let given = rw c.take_place-opening.ensures.rest at c.in_ok-read_argument.ensures in
+    let at = ap (λ (x : Midway). begins_with 125 (behind_white x.rest)) (c.reader-2.view_is ∙ given.state) in
+    let spare = rw c.skip_white.ensures.rest at c.in_err-close.ensures.spare in
+    rw (call_opens (seen_mode c.args.mode) c.args.reader.now.next c.args.reader.now.rest c.requires.opens, ← c.reader.view_is) (λ h. absurd (false≢true (spare (at ∙ (placeholder-faultless mode s.next u.rest (behind_first u.rest) h.0).2))))
