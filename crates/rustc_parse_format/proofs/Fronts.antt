@@ -1,7 +1,7 @@
 -- The longest front of a text whose characters pass, the word at its front, and what is after them.
 use Rattle.std.proofs.Common.{◌≡◌, ℕ, ◌++◌, Bool, true, false, cond, [], ◌∷◌, refl, ap, ◌∙◌}
 use Rattle.std.specs.List.{list_all}
-use Rattle.std.proofs.lemmas.Bool.{cond_both, cond-true, cond-false, and_parts, and_from}
+use Rattle.std.proofs.lemmas.Bool.{cond_both, cond-true, cond-false, and_parts, and_from, false≢true}
 use Rattle.rustc_parse_format.specs.Characters.{Text, is_id_start, is_id_continue, front, behind, first_passes, word, behind_word, behind_first, with_first}
 
 -- A text is such a front, and what is after it,
@@ -17,6 +17,12 @@ front-behind p (c ∷ t) = by_test (p c) (front-behind p t)
 pub first-behind : (p : ℕ → Bool) (t : Text) → t ≡ with_first t (front p (behind_first t)) ++ behind p (behind_first t)
 first-behind p [] = refl
 first-behind p (c ∷ t) = ap (λ u. c ∷ u) (front-behind p t)
+
+-- what is after a word that is there
+pub behind_word-some : (t : Text) → first_passes is_id_start t ≡ true → behind_word t ≡ behind is_id_continue (behind_first t)
+unfolding behind_word
+behind_word-some [] e = absurd (false≢true e)
+behind_word-some (c ∷ t) e = cond-true (is_id_start c) _ _ e
 
 -- or the word at its front and what is after that.
 pub word-behind : (t : Text) → t ≡ word t ++ behind_word t

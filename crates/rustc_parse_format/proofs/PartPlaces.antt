@@ -6,6 +6,7 @@ use Rattle.rustc_parse_format.specs.Syntax.{width_part, precision_part}
 use Rattle.rustc_parse_format.specs.Specification.{type, width_at, precision_at, type_at, format_text}
 use Rattle.rustc_parse_format.specs.Meaning.{from_type, from_precision, from_width}
 use Rattle.rustc_parse_format.specs.PartFaults.{width_faults, precision_faults, type_faults, format_faults}
+use Rattle.rustc_parse_format.specs.Tries.{width_tries, precision_tries, format_tries}
 use Rattle.rustc_parse_format.proofs.PartCounts.{width-finds, precision-finds}
 use Rattle.rustc_parse_format.proofs.PartSpecs.{type-sound}
 
@@ -27,3 +28,8 @@ pub format_faults-at : (t : Text) → format_faults (format_text t).0 (format_te
     (type (type_at t)).0
 unfolding format_text format_faults
 format_faults-at t = rw (from_width-at t, from_precision-at t, from_type-at t) refl
+
+pub format_tries-at : (t : Text) → format_tries (format_text t).0 (format_text t).1
+    ≡ width_tries (width_at t) (width (width_at t)).0 ++ precision_tries (precision_at t) (precision (precision_at t)).0
+unfolding format_text format_tries
+format_tries-at t = rw (from_width-at t, from_precision-at t) refl

@@ -15,12 +15,13 @@ use Rattle.rustc_parse_format.specs.PartFaults.{cut_faults}
 use Rattle.rustc_parse_format.specs.Recovery.{recovery}
 use Rattle.rustc_parse_format.specs.Call.{Call, GivesNoArgument, GivesAtMostText, call, placeholder, unclosed_call, unclosed_fault}
 use Rattle.rustc_parse_format.specs.Back.{Back}
-use Rattle.rustc_parse_format.specs.Midway.{FindsNothing, IsAt, Midway, behind_closing, closed_then, opens_placeholder, read_call, read_texts, read_to, recovered}
+use Rattle.rustc_parse_format.specs.Midway.{FindsNothing, Midway, behind_closing, closed_then, opens_placeholder, read_call, read_texts, read_to, read_tries, recovered}
 use Rattle.rustc_parse_format.specs.Lines.{closed_in}
+use Rattle.rustc_parse_format.specs.Tries.{spec_tries}
 use Rattle.rustc_parse_format.proofs.Numbers.{number_after_field-le}
 use Rattle.rustc_parse_format.proofs.Rests.{IsRest-le, behind_white_rest}
 use Rattle.rustc_parse_format.proofs.Recoveries.{Recovers}
-use Rattle.rustc_parse_format.proofs.Readers.{at_any, at_exactly, read_three}
+use Rattle.rustc_parse_format.proofs.Readers.{read_three, tried-append}
 use Rattle.rustc_parse_format.proofs.CleanWords.{none_right}
 use Rattle.rustc_parse_format.proofs.LineLaws.{read_texts-append}
 use Rattle.rustc_parse_format.proofs.StateLines.{closed_in-none}
@@ -88,33 +89,33 @@ closed_where false old s w p e f = rw e refl
 -- after the argument of a placeholder and white space
 abbrev pub behind_argument : Midway → Mode → Text → Midway
 behind_argument s mode t =
-    read_texts (read_to s (ending mode t) (number_after_field s.next (cut mode t).field) (cut_faults mode (cut mode t)))
-    (spec_texts (cut mode t).field.spec (cut mode t).rest)
+    read_texts (read_tries (read_to s (ending mode t) (number_after_field s.next (cut mode t).field) (cut_faults mode (cut mode t)))
+    (spec_tries (cut mode t).field.spec (cut mode t).rest)) (spec_texts (cut mode t).field.spec (cut mode t).rest)
 
 -- Where the closing brace stands, it is taken,
 pub brace-closes : (s new : Midway) (mode : Mode) (opening : Place) → begins_with 125 s.rest ≡ true →
     new ≡ record s {
       rest = behind_first s.rest;
       closed = if s.world.has_source then Some (opening.0, number_of s.world (End (length s.rest))) else s.closed;
-    } → (o : Text) (a : Argument Span) → opening ≡ place_of s.world (over_first o) → IsAt (behind_closing mode o a s) new
+    } → (o : Text) (a : Argument Span) → opening ≡ place_of s.world (over_first o) → new ≡ behind_closing mode o a s
 brace-closes s new mode opening b e o a f =
     let at : opening.0 ≡ number_of s.world (Start (length o)) = ap (λ (p : Place). p.0) f in
     let here : (opening.0, number_of s.world (End (length s.rest))) ≡ place_of s.world (through o s.rest) =
     ap (λ (n : ℕ). (n, number_of s.world (End (length s.rest)))) at in
-    at_exactly (e ∙ (ap (λ (p : Option Place). record s { rest = behind_first s.rest; closed = p })
+    e ∙ (ap (λ (p : Option Place). record s { rest = behind_first s.rest; closed = p })
     (closed_where s.world.has_source s.closed (through o s.rest) s.world _ refl here)
-    ∙ sym (cond-true (begins_with 125 s.rest) _ _ b)))
+    ∙ sym (cond-true (begins_with 125 s.rest) _ _ b))
 
 -- and where it is missing, its fault is noted, and the recovery is read.
 pub missing-closes : (s x new : Midway) (mode : Mode) (opening : Place) (seen : Argument Place) → begins_with 125 s.rest ≡ false →
     x ≡ record s {
       faults = s.faults ++ no_brace (brace_fill seen.format.fill seen.format.fill_span) (first s.rest) (place_of s.world (up_to s.rest s.rest)) opening ∷ [];
     } → Recovers x mode opening seen new →
-    (o : Text) (a : Argument Span) → opening ≡ place_of s.world (over_first o) → seen ≡ map_argument (place_of s.world) a → IsAt (behind_closing mode o a s) new
+    (o : Text) (a : Argument Span) → opening ≡ place_of s.world (over_first o) → seen ≡ map_argument (place_of s.world) a → new ≡ behind_closing mode o a s
 missing-closes s x new mode opening seen b e h o a f g =
     let k = rw e at h in
     let fault = unclosed_fault_in s.world o a.format s.rest seen.format (ap (λ (v : Argument Place). v.format) g) in
-    k o a f g ∙ ap (λ (m : Midway). record m { back = new.back }) (ap (λ (z : Fault Place). recovered (record s { faults = s.faults ++ z ∷ [] }) (recovery mode s.next o a s.rest))
+    k o a f g ∙ (ap (λ (z : Fault Place). recovered (record s { faults = s.faults ++ z ∷ [] }) (recovery mode s.next o a s.rest))
     (ap (λ p. no_brace (brace_fill seen.format.fill seen.format.fill_span) (first s.rest) (place_of s.world (up_to s.rest s.rest)) p) f ∙ sym fault)
     ∙ sym (cond-false (begins_with 125 s.rest) _ _ b))
 
@@ -134,10 +135,12 @@ unclosed_read s mode o t =
     let f = unclosed_fault o (argument s.next a).format r in
     let k = recovery mode c o (argument s.next a) r in
     let ts = spec_texts a.field.spec a.rest in
+    let us = spec_tries a.field.spec a.rest in
     rw (closed_in-none s.world)
-    (ap (λ (x : Midway). read_texts (read_texts x ts) k.texts) (read_three s r r k.rest c c k.next (cut_faults mode a) (f ∷ []) k.faults)
-    ∙ (ap (λ fs. read_texts (read_texts (read_to s k.rest k.next fs) ts) k.texts) (append_assoc (cut_faults mode a) (f ∷ []) k.faults)
-    ∙ sym (read_texts-append (read_to s k.rest k.next (cut_faults mode a ++ f ∷ k.faults)) ts k.texts)))
+    (ap (λ (x : Midway). read_texts (read_texts (read_tries (read_tries x us) k.tries) ts) k.texts) (read_three s r r k.rest c c k.next (cut_faults mode a) (f ∷ []) k.faults)
+    ∙ (ap (λ fs. read_texts (read_texts (read_tries (read_tries (read_to s k.rest k.next fs) us) k.tries) ts) k.texts) (append_assoc (cut_faults mode a) (f ∷ []) k.faults)
+    ∙ (ap (λ (b : Back). read_texts (read_texts (record (read_to s k.rest k.next (cut_faults mode a ++ f ∷ k.faults)) { back = b }) ts) k.texts) (tried-append s.back us k.tries)
+    ∙ sym (read_texts-append (read_tries (read_to s k.rest k.next (cut_faults mode a ++ f ∷ k.faults)) (us ++ k.tries)) ts k.texts))))
 
 -- A placeholder is read part by part: its argument, white space, and the closing brace, or its fault and the recovery.
 pub placeholder_read : (s : Midway) (mode : Mode) (o t : Text) →
@@ -145,31 +148,15 @@ pub placeholder_read : (s : Midway) (mode : Mode) (o t : Text) →
 unfolding placeholder
 placeholder_read s mode o t = read_either s (begins_with 125 (ending mode t)) _ _ _ _ refl (unclosed_read s mode o t)
 
--- What was given back changes nothing there.
-closing_back : (s : Midway) (b d : Back) (mode : Mode) (o : Text) (a : Argument Span) →
-    ◌≡◌ {A = Midway} (record (behind_closing mode o a (record s { back = b })) { back = d }) (record (behind_closing mode o a s) { back = d })
-closing_back s b d mode o a =
-    elim (begins_with 125 s.rest) as (λ v. ◌≡◌ {A = Midway}
-    (record (cond v (record s { back = b; rest = behind_first s.rest; closed = closed_then s.closed (closed_in s.world (Some (through o s.rest))) })
-    (recovered (read_to (record s { back = b }) s.rest s.next (unclosed_fault o a.format s.rest ∷ [])) (recovery mode s.next o a s.rest))) { back = d })
-    (record (cond v (record s { rest = behind_first s.rest; closed = closed_then s.closed (closed_in s.world (Some (through o s.rest))) })
-    (recovered (read_to s s.rest s.next (unclosed_fault o a.format s.rest ∷ [])) (recovery mode s.next o a s.rest))) { back = d })) [
-      | true ↦ refl
-      | false ↦ refl
-    ]
-
 -- the same of a reader that stands at x after the argument
 pub placeholder_closed : (s x new : Midway) (mode : Mode) (o t : Text) (opening : Place) (seen : Argument Place) →
-    IsAt (let a = cut mode t in read_texts (read_to s a.rest (number_after_field s.next a.field) (cut_faults mode a)) (spec_texts a.field.spec a.rest)) x →
+    x ≡ (let a = cut mode t in
+    read_texts (read_tries (read_to s a.rest (number_after_field s.next a.field) (cut_faults mode a)) (spec_tries a.field.spec a.rest)) (spec_texts a.field.spec a.rest)) →
     opening ≡ place_of s.world (over_first o) → seen ≡ map_argument (place_of s.world) (argument s.next (cut mode t)) →
     ((q : Text) (a : Argument Span) → opening ≡ place_of x.world (over_first q) → seen ≡ map_argument (place_of x.world) a →
-    IsAt (behind_closing mode q a (record x { rest = behind_white x.rest })) new) →
-    IsAt (read_call s (placeholder mode s.next o t)) new
-placeholder_closed s x new mode o t opening seen e f g h =
-    let k = rw e at h in
-    k o (argument s.next (cut mode t)) f g
-    ∙ closing_back (behind_argument s mode t) x.back new.back mode o (argument s.next (cut mode t))
-    ∙ ap (λ (m : Midway). record m { back = new.back }) (placeholder_read s mode o t)
+    new ≡ behind_closing mode q a (record x { rest = behind_white x.rest })) →
+    new ≡ read_call s (placeholder mode s.next o t)
+placeholder_closed s x new mode o t opening seen e f g h = let k = rw e at h in k o (argument s.next (cut mode t)) f g ∙ placeholder_read s mode o t
 
 -- after the argument there is a number for each character that is left
 pub numbers_left : (mode : Mode) (c n : ℕ) (o r : Text) → o ≢ [] → n ≡ number_after_field c (cut mode (behind_first o)).field →

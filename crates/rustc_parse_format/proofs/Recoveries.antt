@@ -12,8 +12,7 @@ use Rattle.rustc_parse_format.specs.Faults.{Fault, map_fault}
 use Rattle.rustc_parse_format.specs.Identifiers.{is_identifier}
 use Rattle.rustc_parse_format.specs.Recovery.{Recovery, finds, sign_fault, sign, late_debug, field, recovery}
 use Rattle.rustc_parse_format.specs.World.{Place, number_of, place_of}
-use Rattle.rustc_parse_format.proofs.Readers.{at_exactly}
-use Rattle.rustc_parse_format.specs.Midway.{IsAt, Midway, behind_sign, read_texts, read_to, recovered}
+use Rattle.rustc_parse_format.specs.Midway.{Midway, behind_sign, read_texts, read_to, recovered}
 use Rattle.rustc_parse_format.proofs.Identifiers.{identifier-map}
 use Rattle.rustc_parse_format.proofs.Rests.{IsRest, IsRest-self, IsRest-trans, IsRest-le, behind_first_rest, behind_word_rest, cut_rest}
 use Rattle.rustc_parse_format.proofs.Numbers.{number_after_field-le}
@@ -98,30 +97,30 @@ nothing_left (c ∷ t) e = absurd cc
 -- What each reader reads is what the recovery says, of any placeholder and any argument that are seen so.
 abbrev pub Recovers : Midway → Mode → Place → Argument Place → Midway → Type 0
 Recovers s mode opening seen new = (o : Text) (a : Argument Span) → opening ≡ place_of s.world (over_first o) →
-    seen ≡ map_argument (place_of s.world) a → IsAt (recovered s (recovery mode s.next o a s.rest)) new
+    seen ≡ map_argument (place_of s.world) a → new ≡ recovered s (recovery mode s.next o a s.rest)
 
 pub short-recovers : (s : Midway) (mode : Mode) (opening : Place) (seen : Argument Place) → first (behind_first s.rest) ≡ None → Recovers s mode opening seen s
-short-recovers s mode opening seen e o a f g = at_exactly (recovery-short s mode o s.rest a refl e)
+short-recovers s mode opening seen e o a f g = recovery-short s mode o s.rest a refl e
 
 pub field-recovers : (s new : Midway) (mode : Mode) (opening : Place) (seen : Argument Place) (x y : ℕ) → first s.rest ≡ Some x →
     first (behind_first s.rest) ≡ Some y → true ≡ (x == 46 && is_identifier seen) →
-    ((m : Mark) → seen.position_span.0 ≡ number_of s.world m → IsAt (recovered s (field mode s.next m s.rest)) new) → Recovers s mode opening seen new
+    ((m : Mark) → seen.position_span.0 ≡ number_of s.world m → new ≡ recovered s (field mode s.next m s.rest)) → Recovers s mode opening seen new
 field-recovers s new mode opening seen x y e f b k o a g h =
     k a.position_span.from (ap (λ (v : Argument Place). v.position_span.0) h)
-    ∙ ap (λ r. record (recovered s r) { back = new.back }) (sym (recovery-field mode s.next o s.rest a x y e f (field_decided (place_of s.world) x true seen a b h)))
+    ∙ ap (recovered s) (sym (recovery-field mode s.next o s.rest a x y e f (field_decided (place_of s.world) x true seen a b h)))
 
 pub late_debug-recovers : (s new : Midway) (mode : Mode) (opening : Place) (seen : Argument Place) (x y : ℕ) → first s.rest ≡ Some x →
     first (behind_first s.rest) ≡ Some y → false ≡ (x == 46 && is_identifier seen) → true ≡ (x == 63 && not (y == 125)) →
     new ≡ recovered s (late_debug s.next s.rest) → Recovers s mode opening seen new
 late_debug-recovers s new mode opening seen x y e f b d k o a g h =
-    at_exactly (k ∙ ap (recovered s) (sym (recovery-late_debug mode s.next o s.rest a x y e f (field_decided (place_of s.world) x false seen a b h) (sym d))))
+    k ∙ ap (recovered s) (sym (recovery-late_debug mode s.next o s.rest a x y e f (field_decided (place_of s.world) x false seen a b h) (sym d)))
 
 pub sign-recovers : (s new : Midway) (mode : Mode) (opening : Place) (seen : Argument Place) (x y : ℕ) → first s.rest ≡ Some x →
     first (behind_first s.rest) ≡ Some y → false ≡ (x == 46 && is_identifier seen) → false ≡ (x == 63 && not (y == 125)) →
     new ≡ behind_sign s (sign_fault x y (place_of s.world (over_first s.rest)) opening) → Recovers s mode opening seen new
 sign-recovers s new mode opening seen x y e f b d k o a g h =
-    at_exactly (k ∙ (sign-taken s x y o opening g
-    ∙ ap (recovered s) (sym (recovery-sign mode s.next o s.rest a x y e f (field_decided (place_of s.world) x false seen a b h) (sym d)))))
+    k ∙ (sign-taken s x y o opening g
+    ∙ ap (recovered s) (sym (recovery-sign mode s.next o s.rest a x y e f (field_decided (place_of s.world) x false seen a b h) (sym d))))
 
 -- What it leaves is a rest.
 pub behind_brace_rest : (t : Text) → IsRest t (behind_brace t)

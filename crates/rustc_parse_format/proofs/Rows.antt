@@ -10,6 +10,7 @@ use Rattle.rustc_parse_format.specs.Meaning.{format_of, argument}
 use Rattle.rustc_parse_format.specs.Written.{written}
 use Rattle.rustc_parse_format.specs.Faults.{Fault, message}
 use Rattle.rustc_parse_format.specs.PartFaults.{argument_faults, format_faults, cut_faults}
+use Rattle.rustc_parse_format.specs.Tries.{format_tries}
 use Rattle.rustc_parse_format.specs.Identifiers.{is_default}
 use Rattle.rustc_parse_format.specs.Recovery.{recovery, late_debug, field}
 use Rattle.rustc_parse_format.specs.Call.{call, placeholder, walk, pieces_of, faults_of}
@@ -20,7 +21,7 @@ use Rattle.rustc_parse_format.specs.State.{State, fresh, calls, after_all}
 unfoldable pub computing : Unit {0}
 unfolding unicode_ident word behind_word digits behind_digits behind_white cut argument number_after_field argument_faults cut_faults call placeholder walk
     recovery late_debug field is_default
-    written message format_text format_of format_faults world place_at lib.Utf8.encode
+    written message format_text format_of format_faults format_tries world place_at lib.Utf8.encode
 computing = tt
 
 -- an input with no snippet

@@ -138,7 +138,7 @@ world-makes_them_bytes : pieces input ≡ placed
 unfolding computing placed
 world-makes_them_bytes = refl
 
--- After the last call nothing is left, no number was taken, and there is no error.
+-- After the last call nothing is left, no number was taken, and there is no error; no word was given back, since none was tried.
 state-is_at_the_end : ended input ≡ record (start input) { rest = [] }
 unfolding computing
 state-is_at_the_end = refl

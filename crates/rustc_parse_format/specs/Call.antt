@@ -11,6 +11,7 @@ use Rattle.rustc_parse_format.specs.Meaning.{argument, spec_texts}
 use Rattle.rustc_parse_format.specs.Faults.{Fault, UnmatchedBrace, no_brace, brace_fill}
 use Rattle.rustc_parse_format.specs.PartFaults.{cut_faults}
 use Rattle.rustc_parse_format.specs.Recovery.{recovery}
+use Rattle.rustc_parse_format.specs.Tries.{spec_tries}
 
 pub record Call : Type 0 where
   pub piece : Option (Piece Span)
@@ -20,6 +21,8 @@ pub record Call : Type 0 where
   pub next : ℕ
   -- the characters that it reads as text, each by how many are left from it on
   pub texts : List (ℕ × ℕ)
+  -- the rests at which it tries a word, and gives it back
+  pub tries : List Text
   -- the placeholder that it closes, from brace to brace
   pub closes : Option Span
 
@@ -35,6 +38,7 @@ text_call c l t = record {
   rest = behind is_no_brace t;
   next = c;
   texts = marked (front is_no_brace t) (behind is_no_brace t);
+  tries = [];
   closes = None;
 }
 
@@ -46,6 +50,7 @@ closed_call mode c opening a r = record {
   rest = behind_first r;
   next = number_after_field c a.field;
   texts = spec_texts a.field.spec a.rest;
+  tries = spec_tries a.field.spec a.rest;
   closes = Some (through opening r);
 }
 
@@ -59,6 +64,7 @@ unclosed_call mode c opening a r =
       rest = k.rest;
       next = k.next;
       texts = spec_texts a.field.spec a.rest ++ k.texts;
+      tries = spec_tries a.field.spec a.rest ++ k.tries;
       closes = None;
     }
 
@@ -70,10 +76,10 @@ placeholder mode c opening t =
     if begins_with (code "}") r then closed_call mode c opening a r else unclosed_call mode c opening a r
 
 abbrev pub unmatched_call : ℕ → Text → Text → Call
-unmatched_call c at t = record { piece = None; faults = UnmatchedBrace (over_first at) ∷ []; rest = t; next = c; texts = []; closes = None }
+unmatched_call c at t = record { piece = None; faults = UnmatchedBrace (over_first at) ∷ []; rest = t; next = c; texts = []; tries = []; closes = None }
 
 abbrev pub end_call : ℕ → Call
-end_call c = record { piece = None; faults = []; rest = []; next = c; texts = []; closes = None }
+end_call c = record { piece = None; faults = []; rest = []; next = c; texts = []; tries = []; closes = None }
 
 -- the call on the rest t, where the next number is c
 unfoldable pub call : Mode → ℕ → Text → Call

@@ -88,6 +88,10 @@ abbrev pub first_passes : (ℕ → Bool) → Text → Bool
 first_passes p [] = false
 first_passes p (c ∷ t) = p c
 
+-- the text begins with `r#`
+abbrev pub begins_prefix : Text → Bool
+begins_prefix t = begins_with (code "r") t && begins_with (code "#") (behind_first t)
+
 -- the text begins with `r#` and what may begin a word, as a raw identifier does
 abbrev pub begins_raw : Text → Bool
 begins_raw t = begins_with (code "r") t && (begins_with (code "#") (behind_first t) && first_passes is_id_start (behind_first (behind_first t)))

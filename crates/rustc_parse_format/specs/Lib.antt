@@ -1,4 +1,5 @@
 pub mod Characters
+pub mod Tries
 pub mod Types
 pub mod Spelling
 pub mod Syntax

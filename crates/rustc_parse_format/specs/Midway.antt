@@ -12,6 +12,7 @@ use Rattle.rustc_parse_format.specs.Call.{Call, unclosed_fault}
 use Rattle.rustc_parse_format.specs.Recovery.{Recovery, recovery}
 use Rattle.rustc_parse_format.specs.Types.{Mode, Argument}
 use Rattle.rustc_parse_format.specs.SeenSource.{seen_world}
+use Rattle.rustc_parse_format.specs.Tries.{tried}
 use Rattle.rustc_parse_format.specs.Lines.{lines_in, closed_in, read_lines}
 
 -- What a cursor stands at: the rest of an input, in its world, which its source gives.
@@ -68,13 +69,13 @@ HasFoundNothing s = (s.faults ≡ []) × (s.lines ≡ []) × (s.closed ≡ None)
 abbrev pub unread_at : Source → List ℕ → Back → ℕ → Unread
 unread_at s rest b n = record { source = s; world = seen_world s; input = chars s.input.now; rest = chars rest; back = b; undone = n }
 
--- at this place, whatever was given back
-abbrev pub IsAt : Midway → Midway → Type 0
-IsAt s new = new ≡ record s { back = new.back }
-
 -- read up to the rest r and the number n, with these faults found on the way
 abbrev pub read_to : Midway → Text → ℕ → List (Fault Span) → Midway
 read_to s r n fs = record s { rest = r; next = n; faults = s.faults ++ faults_in s.world fs }
+
+-- with the words at these rests tried
+abbrev pub read_tries : Midway → List Text → Midway
+read_tries s ts = record s { back = tried s.back ts }
 
 -- with these characters read as text
 abbrev pub read_texts : Midway → List (ℕ × ℕ) → Midway
@@ -115,7 +116,8 @@ closed_then old (Some p) = Some p
 
 -- after a call
 abbrev pub read_call : Midway → Call → Midway
-read_call s k = record (read_texts (read_to s k.rest k.next k.faults) k.texts) { closed = closed_then s.closed (closed_in s.world k.closes) }
+read_call s k =
+    record (read_texts (read_tries (read_to s k.rest k.next k.faults) k.tries) k.texts) { closed = closed_then s.closed (closed_in s.world k.closes) }
 
 -- behind a sign with this fault, or in front of one that has none
 abbrev pub behind_sign : Midway → Option (Fault Place) → Midway
@@ -124,7 +126,7 @@ behind_sign s (Some f) = record s { rest = behind_first s.rest; faults = s.fault
 
 -- after a recovery
 abbrev pub recovered : Midway → Recovery → Midway
-recovered s k = read_texts (read_to s k.rest k.next k.faults) k.texts
+recovered s k = read_texts (read_tries (read_to s k.rest k.next k.faults) k.tries) k.texts
 
 -- where the closing brace of the placeholder at o, with the argument a, should stand: after the brace, or after the recovery
 abbrev pub behind_closing : Mode → Text → Argument Span → Midway → Midway

@@ -5,7 +5,8 @@ use Rattle.std.specs.Borrow.{GName}
 use Rattle.rustc_parse_format.specs.declared.pieces.Pieces.{Pieces}
 use Rattle.rustc_parse_format.specs.declared.types.Piece.{Piece as DeclaredPiece}
 use Rattle.rustc_parse_format.specs.Seen.{seen}
-use Rattle.rustc_parse_format.specs.State.{State, NeedsNoMemory, after, next_call, with_back}
+use Rattle.rustc_parse_format.specs.State.{State, IsPutBack, NeedsNoMemory, after, next_call}
+use Rattle.rustc_parse_format.specs.Steps.{AreFew}
 use Rattle.rustc_parse_format.specs.World.{piece_in}
 
 -- where its parser stands
@@ -20,12 +21,12 @@ lender_of it = it.parser.ghost_name
 abbrev pub has_ended : Pieces → Bool
 has_ended it = it.ended
 
--- A call of the parser at s leaves it at t, but for what it gave back, and this is its item: the piece; the refusal, which moves nothing, and which a call that
+-- A call of the parser at s leaves it at t, and this is its item: the piece; the refusal, which moves nothing, and which a call that
 -- needs no memory never is; or none where the call gives no piece.
 abbrev pub IsCall : State → Option (Result DeclaredPiece AllocError) → State → Type 0
-IsCall s (Some (Ok p)) t = (Some (seen p) ≡ option_map (piece_in s.world) (next_call s).piece) × (with_back t s.back ≡ after s (next_call s))
-IsCall s (Some (Err e)) t = (NeedsNoMemory s (next_call s) → ⊥) × (t ≡ s)
-IsCall s None t = ((next_call s).piece ≡ None) × (with_back t s.back ≡ after s (next_call s))
+IsCall s (Some (Ok p)) t = (Some (seen p) ≡ option_map (piece_in s.world) (next_call s).piece) × (t ≡ after s (next_call s))
+IsCall s (Some (Err e)) t = (NeedsNoMemory s (next_call s) → ⊥) × IsPutBack s t
+IsCall s None t = ((next_call s).piece ≡ None) × (t ≡ after s (next_call s))
 
 -- So many calls, one after the other, the first of them at s, leave the parser at u.
 abbrev pub AreCalls : ℕ → State → State → Type 0
@@ -38,9 +39,11 @@ is_piece (Some (Ok p)) = true
 is_piece (Some (Err e)) = false
 is_piece None = false
 
--- Such an item and such a state of the iterator come of one more step: the next call of the parser, or nothing where it has ended.
+-- Such an item and such a state of the iterator come of one more step: the next call of the parser, after which it has taken few steps,
+-- or nothing where it has ended.
 pub record GivesItem (old : Pieces) (item : Option (Result DeclaredPiece AllocError)) (new : Pieces) : Type 0 where
   pub called : has_ended old ≡ false → IsCall (parser_of old) item (parser_of new)
+  pub few : has_ended old ≡ false → AreFew (parser_of new).input (parser_of new).rest (parser_of new).back
   pub ended : has_ended old ≡ true → (item ≡ None) × (parser_of new ≡ parser_of old)
   pub goes_on : has_ended new ≡ not (is_piece item)
   pub same_parser : lender_of new ≡ lender_of old

@@ -11,6 +11,7 @@ use Rattle.rustc_parse_format.specs.Meaning.{argument, spec_texts}
 use Rattle.rustc_parse_format.specs.Faults.{Fault, MissingColon, LateDebug, LateAlign, Grouping, DebugPrint, LateSign, FieldAccess, TupleIndex}
 use Rattle.rustc_parse_format.specs.PartFaults.{word_faults, cut_faults}
 use Rattle.rustc_parse_format.specs.Identifiers.{is_identifier}
+use Rattle.rustc_parse_format.specs.Tries.{spec_tries}
 
 pub record Recovery : Type 0 where
   -- in the order in which they were found
@@ -19,10 +20,12 @@ pub record Recovery : Type 0 where
   pub next : ℕ
   -- the characters that it reads as text, each by how many are left from it on
   pub texts : List (ℕ × ℕ)
+  -- the rests at which it tries a word
+  pub tries : List Text
 
 -- it finds these faults up to the rest r, and takes no number
 abbrev pub finds : ℕ → List (Fault Span) → Text → Recovery
-finds c fs r = record { faults = fs; rest = r; next = c; texts = [] }
+finds c fs r = record { faults = fs; rest = r; next = c; texts = []; tries = [] }
 
 -- The fault of one sign x that stands at s, with y after it. The placeholder opens at o.
 abbrev pub sign_fault : {A : Type 0} → ℕ → ℕ → A → A → Option (Fault A)
@@ -62,6 +65,7 @@ field mode c from t =
       rest = behind_brace a.rest;
       next = number_after_field c a.field;
       texts = spec_texts a.field.spec a.rest;
+      tries = spec_tries a.field.spec a.rest;
     }
 
 -- The recovery at t in a placeholder that opens at o, with the argument a, where the next number is c.

@@ -2,6 +2,7 @@
 use Rattle.std.specs.Prelude.{◌≡◌, ◌≢◌, ◌++◌, ◌&&◌, ◌⊎◌, ℕ, ◌-◌, Bool, if◌then◌else◌, List, [], ◌∷◌, length, Option, Some, None, option_map}
 use Rattle.rustc_parse_format.specs.Characters.{Text, byte_length, is_nil}
 use Rattle.rustc_parse_format.specs.Back.{Back, nothing_back}
+use Rattle.rustc_parse_format.specs.Tries.{tried}
 use Rattle.rustc_parse_format.specs.Types.{Mode, Piece, bare}
 use Rattle.rustc_parse_format.specs.Faults.{Message, add_errors}
 use Rattle.rustc_parse_format.specs.World.{World, Place, place_at, world, quote_offset, faults_in, pieces_in}
@@ -22,6 +23,8 @@ pub record State : Type 0 where
   pub rest : Text
   -- what was given back
   pub back : Back
+  -- how often it was put back after a refusal, whose steps do not count
+  pub undone : ℕ
   -- the number that the next implicit argument takes
   pub next : ℕ
   pub errors : List (Message Place)
@@ -40,6 +43,7 @@ fresh mode w input start = record {
   input = input;
   rest = input;
   back = nothing_back input;
+  undone = 0;
   next = 0;
   errors = [];
   arg_places = [];
@@ -59,9 +63,9 @@ next_call s = call s.mode s.next s.rest
 abbrev pub last_lines : State → List Place → List Place
 last_lines s ls = if s.world.has_source && is_nil s.rest then with_last (s.line_start, s.world.end) ls else ls
 
--- the same, but for what was given back
-abbrev pub with_back : State → Back → State
-with_back s b = record s { back = b }
+-- put back after a refusal, and the same but for that
+abbrev pub IsPutBack : State → State → Type 0
+IsPutBack s new = new ≡ record s { undone = new.undone }
 
 -- after that call
 abbrev pub after : State → Call → State
@@ -69,6 +73,7 @@ after s k =
     let lines = lines_in s.world s.line_start k.texts in
     record s {
       rest = k.rest;
+      back = tried s.back k.tries;
       next = k.next;
       errors = add_errors s.errors (faults_in s.world k.faults);
       arg_places = s.arg_places ++ closed_places s.world k.closes;

@@ -8,7 +8,7 @@ ghost use Rattle.rustc_parse_format.specs.Faults.{brace_fill, no_brace};
 ghost use Rattle.rustc_parse_format.specs.Marks.{End, Span, over_first, up_to};
 ghost use Rattle.rustc_parse_format.specs.Seen.{pair, seen_argument, seen_mode, seen_spec};
 ghost use Rattle.rustc_parse_format.specs.SeenFaults.{seen_fault};
-ghost use Rattle.rustc_parse_format.specs.Midway.{FindsNothing, IsAt, behind_closing, opens_placeholder, read_call};
+ghost use Rattle.rustc_parse_format.specs.Midway.{FindsNothing, behind_closing, opens_placeholder, read_call};
 ghost use Rattle.rustc_parse_format.specs.Types.{Argument as ArgumentValue, Mode, Lit, NextArgument, default_spec, map_argument};
 ghost use Rattle.rustc_parse_format.specs.World.{number_of, piece_in, place_of};
 
@@ -88,7 +88,7 @@ fn close<'input>(
     requires numbers { reader.old.next + length reader.old.rest < 2 ^ 64 }
     ensures state { OnOk result ((o : Text) (a : ArgumentValue Span) → pair opening ≡ place_of reader.old.world (over_first o)
         → seen_argument argument.now ≡ map_argument (place_of reader.old.world) a
-        → IsAt (behind_closing (seen_mode mode) o a reader.old) reader.new) }
+        → reader.new ≡ behind_closing (seen_mode mode) o a reader.old) }
     ensures source { reader.new.source ≡ reader.old.source }
     ensures spare { begins_with 125 reader.old.rest ≡ true → IsOk result }
 {
@@ -112,7 +112,7 @@ fn read_braced<'input>(
     requires numbers { reader.old.next + length reader.old.rest < 2 ^ 64 }
     ensures value { OnOk result (Some (NextArgument (seen_argument into.new)) ≡ option_map (piece_in reader.old.world)
         (placeholder (seen_mode mode) reader.old.next reader.old.rest (behind_first reader.old.rest)).piece) }
-    ensures state { OnOk result (IsAt (read_call reader.old (placeholder (seen_mode mode) reader.old.next reader.old.rest (behind_first reader.old.rest))) reader.new) }
+    ensures state { OnOk result (reader.new ≡ read_call reader.old (placeholder (seen_mode mode) reader.old.next reader.old.rest (behind_first reader.old.rest))) }
     ensures err { OnErr result (reader.new.source ≡ reader.old.source) }
     ensures spare { (let k = placeholder (seen_mode mode) reader.old.next reader.old.rest (behind_first reader.old.rest) in
         FindsNothing reader.old k.faults k.texts → IsOk result) }
@@ -136,7 +136,7 @@ pub fn read_placeholder<'input>(
     requires numbers { reader.old.next + length reader.old.rest < 2 ^ 64 }
     ensures value { OnOk result (Some (NextArgument (seen_argument into.new)) ≡ option_map (piece_in reader.old.world)
         (call (seen_mode mode) reader.old.next reader.old.rest).piece) }
-    ensures state { OnOk result (IsAt (read_call reader.old (call (seen_mode mode) reader.old.next reader.old.rest)) reader.new) }
+    ensures state { OnOk result (reader.new ≡ read_call reader.old (call (seen_mode mode) reader.old.next reader.old.rest)) }
     ensures err { OnErr result (reader.new.source ≡ reader.old.source) }
     ensures spare { (let k = call (seen_mode mode) reader.old.next reader.old.rest in
         FindsNothing reader.old k.faults k.texts → IsOk result) }

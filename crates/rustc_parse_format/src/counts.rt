@@ -1,15 +1,16 @@
 //! Integers, words and counts, and the sizes of a format specification that are made of them: its width and its precision.
 
 ghost use Rattle.std.specs.Prelude.{[], ◌+◌, ◌++◌, ◌<◌, ◌^◌, ◌∷◌, ◌≡◌, bytes_eq, chars, codes};
-ghost use Rattle.std.specs.Prelude.{false, IfOk, if◌then◌else◌, IsOk, length, OnErr, OnOk, option_map};
-ghost use Rattle.rustc_parse_format.specs.Characters.{behind_digits, behind_word, digits, number, word};
+ghost use Rattle.std.specs.Prelude.{false, IfOk, if◌then◌else◌, IsOk, length, OnErr, OnOk, option_map, true};
+ghost use Rattle.rustc_parse_format.specs.Characters.{behind_digits, behind_word, digits, first_passes, is_id_start, number, word};
 ghost use Rattle.rustc_parse_format.specs.Counts.{behind_name, count, precision, width};
 ghost use Rattle.rustc_parse_format.specs.Faults.{TooLarge, Underscore};
 ghost use Rattle.rustc_parse_format.specs.Marks.{End};
 ghost use Rattle.rustc_parse_format.specs.Meaning.{count_of, count_span, precision_of, precision_span, width_of, width_span};
 ghost use Rattle.rustc_parse_format.specs.PartFaults.{argument_faults, number_faults, precision_faults, width_faults, word_faults};
 ghost use Rattle.rustc_parse_format.specs.Seen.{pair, seen_count};
-ghost use Rattle.rustc_parse_format.specs.Reads.{Reads, ReadsBack};
+ghost use Rattle.rustc_parse_format.specs.Reads.{Reads};
+ghost use Rattle.rustc_parse_format.specs.Tries.{count_tries, precision_tries, width_tries};
 ghost use Rattle.rustc_parse_format.specs.Types.{map_count};
 ghost use Rattle.rustc_parse_format.specs.Values.{is_padded, number_after_precision};
 ghost use Rattle.rustc_parse_format.specs.Back.{IsFurthest};
@@ -60,7 +61,7 @@ fn note_word(reader: &mut Reader<'_>, word: &str, span: Range<usize>) -> Result<
 /// Reads the integer at the front, where there is one: its number modulo 65536. One above 65535 is a fault.
 pub fn integer<'input>(reader: &mut Reader<'input>) -> Result<u16, AllocError>
     ensures value { IfOk result (λ n. n ≡ number (digits reader.old.rest)) }
-    ensures reads { Reads reader.old result reader.new (behind_digits reader.old.rest) reader.old.next (number_faults reader.old.rest) }
+    ensures reads { Reads reader.old result reader.new (behind_digits reader.old.rest) reader.old.next (number_faults reader.old.rest) [] }
 {
     let start = reader.start();
     let (digits, number, over) = reader.cursor.number();
@@ -71,7 +72,7 @@ pub fn integer<'input>(reader: &mut Reader<'input>) -> Result<u16, AllocError>
 /// Reads the word at the front, which may be empty. The word `_` is a fault.
 pub fn word<'input>(reader: &mut Reader<'input>) -> Result<&'input str, AllocError>
     ensures value { IfOk result (λ w. chars w.now ≡ word reader.old.rest) }
-    ensures reads { Reads reader.old result reader.new (behind_word reader.old.rest) reader.old.next (word_faults reader.old.rest) }
+    ensures reads { Reads reader.old result reader.new (behind_word reader.old.rest) reader.old.next (word_faults reader.old.rest) [] }
 {
     let start = reader.start();
     let word = reader.cursor.word();
@@ -83,12 +84,14 @@ pub fn word<'input>(reader: &mut Reader<'input>) -> Result<&'input str, AllocErr
 /// Reads the name at the front, with its `$`. Without a `$` the word is left, and looked at all the same.
 #[tactic(auto, using(crate::proofs::Steps::part_le))]
 fn name_count<'input>(reader: &mut Reader<'input>) -> Result<Count<'input>, AllocError>
-    requires { IsFurthest reader.old.rest reader.old.back }
+    requires furthest { IsFurthest reader.old.rest reader.old.back }
+    requires word { first_passes is_id_start reader.old.rest ≡ true }
     ensures value { IfOk result (λ k. seen_count k ≡ map_count (place_of reader.old.world)
         (let k = behind_name reader.old.rest (word reader.old.rest) (behind_word reader.old.rest) in count_of reader.old.rest k.0 k.1)) }
-    ensures reads { ReadsBack reader.old result reader.new (behind_name reader.old.rest (word reader.old.rest) (behind_word reader.old.rest)).1 reader.old.next (word_faults reader.old.rest) }
+    ensures reads { Reads reader.old result reader.new (behind_name reader.old.rest (word reader.old.rest) (behind_word reader.old.rest)).1
+        reader.old.next (word_faults reader.old.rest) (count_tries reader.old.rest (behind_name reader.old.rest (word reader.old.rest) (behind_word reader.old.rest)).0) }
 {
-    let front = reader.cursor.spot();
+    let front = reader.cursor.checkpoint();
     let start = reader.cursor.start();
     let name = word(reader)?;
     let span = start..reader.cursor.start();
@@ -105,7 +108,8 @@ pub fn count<'input>(reader: &mut Reader<'input>) -> Result<Count<'input>, Alloc
     requires { IsFurthest reader.old.rest reader.old.back }
     ensures value { IfOk result (λ k. seen_count k
         ≡ map_count (place_of reader.old.world) (count_of reader.old.rest (count reader.old.rest).0 (count reader.old.rest).1)) }
-    ensures reads { ReadsBack reader.old result reader.new (count reader.old.rest).1 reader.old.next (argument_faults reader.old.rest) }
+    ensures reads { Reads reader.old result reader.new (count reader.old.rest).1 reader.old.next (argument_faults reader.old.rest)
+        (count_tries reader.old.rest (count reader.old.rest).0) }
 {
     if reader.cursor.starts_digit() {
         let number = integer(reader)?;
@@ -130,7 +134,8 @@ fn spanned_count<'input>(
         ≡ map_count (place_of reader.old.world) (count_of reader.old.rest (count reader.old.rest).0 (count reader.old.rest).1)) }
     ensures span { IfOk result (λ k. option_map pair k.1 ≡ option_map (place_of reader.old.world)
         (count_span reader.old.rest (count reader.old.rest).0 (count reader.old.rest).1)) }
-    ensures reads { ReadsBack reader.old result reader.new (count reader.old.rest).1 reader.old.next (argument_faults reader.old.rest) }
+    ensures reads { Reads reader.old result reader.new (count reader.old.rest).1 reader.old.next (argument_faults reader.old.rest)
+        (count_tries reader.old.rest (count reader.old.rest).0) }
 {
     let start = reader.start();
     let count = count(reader)?;
@@ -161,7 +166,8 @@ fn counted<'input>(
         ≡ map_count (place_of reader.old.world) (count_of reader.old.rest (count reader.old.rest).0 (count reader.old.rest).1)) }
     ensures span { IfOk result (λ w. option_map pair w.span ≡ option_map (place_of reader.old.world)
         (count_span reader.old.rest (count reader.old.rest).0 (count reader.old.rest).1)) }
-    ensures reads { ReadsBack reader.old result reader.new (count reader.old.rest).1 reader.old.next (argument_faults reader.old.rest) }
+    ensures reads { Reads reader.old result reader.new (count reader.old.rest).1 reader.old.next (argument_faults reader.old.rest)
+        (count_tries reader.old.rest (count reader.old.rest).0) }
 {
     let (count, span) = spanned_count(reader)?;
     Ok(WidthPart {
@@ -180,7 +186,8 @@ pub fn width<'input>(reader: &mut Reader<'input>) -> Result<WidthPart<'input>, A
         (width_of reader.old.rest (width reader.old.rest).0 (width reader.old.rest).1)) }
     ensures span { IfOk result (λ w. option_map pair w.span ≡ option_map (place_of reader.old.world)
         (width_span reader.old.rest (width reader.old.rest).0 (width reader.old.rest).1)) }
-    ensures reads { ReadsBack reader.old result reader.new (width reader.old.rest).1 reader.old.next (width_faults reader.old.rest (width reader.old.rest).0) }
+    ensures reads { Reads reader.old result reader.new (width reader.old.rest).1 reader.old.next (width_faults reader.old.rest (width reader.old.rest).0)
+        (width_tries reader.old.rest (width reader.old.rest).0) }
 {
     if !reader.cursor.is_next('0') {
         return counted(false, reader);
@@ -209,7 +216,9 @@ pub fn precision<'input>(
         (precision_of reader.old.next reader.old.rest (precision reader.old.rest).0 (precision reader.old.rest).1)) }
     ensures span { IfOk result (λ k. option_map pair k.1 ≡ option_map (place_of reader.old.world)
         (precision_span reader.old.rest (precision reader.old.rest).0 (precision reader.old.rest).1)) }
-    ensures reads { ReadsBack reader.old result reader.new (precision reader.old.rest).1 (number_after_precision reader.old.next (precision reader.old.rest).0) (precision_faults reader.old.rest (precision reader.old.rest).0) }
+    ensures reads { Reads reader.old result reader.new (precision reader.old.rest).1
+        (number_after_precision reader.old.next (precision reader.old.rest).0) (precision_faults reader.old.rest (precision reader.old.rest).0)
+        (precision_tries reader.old.rest (precision reader.old.rest).0) }
 {
     reader.cursor.steps_are_few();
     if !reader.cursor.is_next('.') {

@@ -4,10 +4,10 @@ mod steps;
 
 use crate::characters::{Class, before, behind_first, behind_run, first, is_id_start, with_digit};
 use crate::source::{Source, Spot, look_again};
+use crate::world::first_look;
 use std::marker::Model;
 use std::ops::Range;
-use steps::Steps;
-pub use steps::Tally;
+use steps::{Steps, Tally};
 
 /// A place in the input: what is left of it, and where that stands in the source.
 #[derive(Drop)]
@@ -16,6 +16,13 @@ pub struct Cursor<'input> {
     spot: Spot<'input>,
     tally: Tally,
     undone: Steps,
+}
+
+/// Where a cursor stood, and what it had given back there.
+#[derive(Drop)]
+pub struct Checkpoint<'input> {
+    spot: Spot<'input>,
+    tally: Tally,
 }
 
 impl<'input> Model for Cursor<'input> {
@@ -32,8 +39,8 @@ impl<'input> Model for Cursor<'input> {
 }
 
 impl<'input> Cursor<'input> {
-    ghost use Rattle.std.specs.Prelude.{◌≡◌, ◌+◌, ◌-◌, ◌≤◌, ◌++◌, chars, if◌then◌else◌, IsTrue, length, option_map, Some};
-    ghost use Rattle.rustc_parse_format.specs.Characters.{Text, byte_length, begins_raw, begins_with, first, behind_first, behind};
+    ghost use Rattle.std.specs.Prelude.{◌≡◌, ◌+◌, ◌-◌, ◌≤◌, ◌<◌, ◌^◌, ◌++◌, chars, if◌then◌else◌, IsTrue, length, option_map, Some};
+    ghost use Rattle.rustc_parse_format.specs.Characters.{Text, byte_length, begins_prefix, begins_with, first, behind_first, behind};
     ghost use Rattle.rustc_parse_format.specs.Characters.{behind_white, word, behind_word, digits, behind_digits, number, is_id_start, is_over, first_passes};
     ghost use Rattle.std.specs.Char.{is_ascii_digit, is_whitespace};
     ghost use Rattle.rustc_parse_format.specs.Bytes.{IsOfAscii};
@@ -41,45 +48,47 @@ impl<'input> Cursor<'input> {
     ghost use Rattle.rustc_parse_format.specs.Marks.{Start, End};
     ghost use Rattle.rustc_parse_format.specs.Seen.{pair};
     ghost use Rattle.rustc_parse_format.specs.Midway.{IsPastIndent, opens_placeholder, unread_at};
-    ghost use Rattle.rustc_parse_format.specs.SeenSource.{IsSpot};
+    ghost use Rattle.rustc_parse_format.specs.SeenSource.{IsKept, IsSpot};
     ghost use Rattle.rustc_parse_format.specs.State.{first_of};
     ghost use Rattle.rustc_parse_format.specs.Back.{IsFurthest, IsPaid, behind_part, given_back, nothing_back};
     ghost use Rattle.rustc_parse_format.specs.Steps.{AreFew};
     ghost use Rattle.rustc_parse_format.specs.World.{number_of, place_at};
 
-    /// At a spot of a source.
-    pub fn new(source: Source<'input>, spot: Spot<'input>) -> Cursor<'input>
-        requires { IsSpot source spot.rest.now spot.mark.now spot.at }
-        ensures { result ≡ unread_at source.entry spot.entry.rest.now (nothing_back (chars spot.entry.rest.now)) 0 }
+    /// At the front of the input of a source.
+    pub fn new(source: Source<'input>, input: &'input str) -> Cursor<'input>
+        requires input { source.input.now ≡ input.now }
+        requires kept { IsKept source }
+        requires fits { source.offset + length input.now < 2 ^ 64 }
+        ensures { result ≡ unread_at source.entry input.now (nothing_back (chars input.now)) 0 }
     {
-        let tally = Tally::new(spot.rest);
+        let spot = Spot {
+            rest: input,
+            mark: input,
+            at: first_look(&source),
+        };
         Cursor {
             source,
             spot,
-            tally,
+            tally: Tally::new(input),
             undone: Steps::start(),
         }
     }
 
-    /// The spot where it stands.
-    pub fn spot(&self) -> Spot<'input>
-        ensures at { self.now ≡ unread_at self.now.source result.rest.now self.now.back self.now.undone }
-        ensures spot { IsSpot self.now.source result.rest.now result.mark.now result.at }
+    /// Where it stands.
+    pub fn checkpoint(&self) -> Checkpoint<'input>
+        ensures at { self.now ≡ unread_at self.now.source result.spot.rest.now result.tally self.now.undone }
+        ensures spot { IsSpot self.now.source result.spot.rest.now result.spot.mark.now result.spot.at }
+        ensures paid { IsPaid self.now.input self.now.rest result.tally }
     {
-        Spot {
+        let spot = Spot {
             rest: self.spot.rest,
             mark: self.spot.mark,
             at: self.spot.at,
+        };
+        Checkpoint {
+            spot,
+            tally: self.tally.same(),
         }
-    }
-
-    /// What it has given back.
-    pub fn tally(&self) -> Tally
-        ensures back { result ≡ self.now.back }
-        ensures paid { IsPaid self.now.input self.now.rest result }
-    {
-        let _at = self.spot.at;
-        self.tally.same()
     }
 
     /// It has taken few steps. Nothing is done.
@@ -90,19 +99,12 @@ impl<'input> Cursor<'input> {
         let _at = self.spot.at;
     }
 
-    /// What was read since an earlier spot.
-    pub fn since(&self, from: &Spot<'input>) -> &'input str
-        requires { (read : Text) × (chars from.now.rest.now ≡ read ++ self.now.rest) }
-        ensures { (read : Text) → chars from.now.rest.now ≡ read ++ self.now.rest → chars result.now ≡ read }
+    /// What was read since then.
+    pub fn since(&self, from: &Checkpoint<'input>) -> &'input str
+        requires { (read : Text) × (chars from.now.spot.rest.now ≡ read ++ self.now.rest) }
+        ensures { (read : Text) → chars from.now.spot.rest.now ≡ read ++ self.now.rest → chars result.now ≡ read }
     {
-        before(from.rest, self.spot.rest)
-    }
-
-    /// What is left.
-    fn rest(&self) -> &'input str
-        ensures { chars result.now ≡ self.now.rest }
-    {
-        self.spot.rest
+        before(from.spot.rest, self.spot.rest)
     }
 
     /// The next character, or None at the end.
@@ -124,7 +126,7 @@ impl<'input> Cursor<'input> {
     pub fn advance(&mut self)
         ensures rest { self.new ≡ record self.old { rest = behind_first self.old.rest } }
     {
-        self.pass();
+        self.spot.rest = behind_first(self.spot.rest);
     }
 
     /// Moves over the next character, if there is one, and gives its place, or that of the end of the text.
@@ -133,45 +135,29 @@ impl<'input> Cursor<'input> {
         ensures place { pair result ≡ place_at self.old.world (length self.old.rest) }
         ensures rest { self.new ≡ record self.old { rest = behind_first self.old.rest } }
     {
-        self.pass_place()
-    }
-
-    /// Passes the next character, if there is one, and gives its place.
-    #[inline(always)]
-    fn pass_place(&mut self) -> Range<usize>
-        ensures place { pair result ≡ place_at self.old.world (length self.old.rest) }
-        ensures rest { self.new ≡ record self.old { rest = behind_first self.old.rest } }
-    {
         self.source.pass(&mut self.spot)
     }
 
-    /// Passes the next character, if there is one.
-    fn pass(&mut self)
-        ensures { self.new ≡ record self.old { rest = behind_first self.old.rest } }
+    /// Goes back to where it stood.
+    pub fn go_back(&mut self, to: Checkpoint<'input>)
+        requires spot { IsSpot self.old.source to.spot.rest.now to.spot.mark.now to.spot.at }
+        requires furthest { IsFurthest (chars to.spot.rest.now) self.old.back }
+        requires earlier { length self.old.rest ≤ length (chars to.spot.rest.now) }
+        requires word { behind_part (chars to.spot.rest.now) ≤ length self.old.rest }
+        ensures { self.new ≡ unread_at self.old.source to.entry.spot.rest.now (given_back self.old.rest (chars to.entry.spot.rest.now) self.old.back) self.old.undone }
     {
-        self.spot.rest = behind_first(self.spot.rest);
-    }
-
-    /// Goes back to an earlier spot.
-    pub fn go_back(&mut self, spot: Spot<'input>)
-        requires spot { IsSpot self.old.source spot.rest.now spot.mark.now spot.at }
-        requires furthest { IsFurthest (chars spot.rest.now) self.old.back }
-        requires earlier { length self.old.rest ≤ length (chars spot.rest.now) }
-        requires word { behind_part (chars spot.rest.now) ≤ length self.old.rest }
-        ensures { self.new ≡ unread_at self.old.source spot.entry.rest.now (given_back self.old.rest (chars spot.entry.rest.now) self.old.back) self.old.undone }
-    {
-        self.tally.go_back(self.spot.rest, spot.rest);
-        self.spot = spot;
+        self.tally.go_back(self.spot.rest, to.spot.rest);
+        self.spot = to.spot;
     }
 
     /// Puts it back where it stood before a call that was refused.
-    pub fn undo(&mut self, spot: Spot<'input>, tally: Tally)
-        requires spot { IsSpot self.old.source spot.rest.now spot.mark.now spot.at }
-        requires paid { IsPaid (chars self.old.source.input.now) (chars spot.rest.now) tally }
-        ensures { self.new ≡ unread_at self.old.source spot.entry.rest.now tally (self.old.undone + 1) }
+    pub fn undo(&mut self, to: Checkpoint<'input>)
+        requires spot { IsSpot self.old.source to.spot.rest.now to.spot.mark.now to.spot.at }
+        requires paid { IsPaid (chars self.old.source.input.now) (chars to.spot.rest.now) to.tally }
+        ensures { self.new ≡ unread_at self.old.source to.entry.spot.rest.now to.entry.tally (self.old.undone + 1) }
     {
-        self.spot = spot;
-        self.tally = tally;
+        self.spot = to.spot;
+        self.tally = to.tally;
         self.undone = Steps::more(&self.undone, &1);
     }
 
@@ -313,13 +299,18 @@ impl<'input> Cursor<'input> {
         self.peek().is_some_and(is_id_start)
     }
 
-    /// A raw identifier begins here.
-    pub fn starts_raw(&self) -> bool
-        ensures { result ≡ begins_raw self.now.rest }
+    /// The next characters are `r#`.
+    pub fn starts_prefix(&self) -> bool
+        ensures { result ≡ begins_prefix self.now.rest }
     {
-        self.is_next('r')
-            && self.goes_on_with('#')
-            && first(behind_first(behind_first(self.spot.rest))).is_some_and(is_id_start)
+        self.is_next('r') && self.goes_on_with('#')
+    }
+
+    /// A word may begin with the character after the next one.
+    pub fn goes_on_with_word(&self) -> bool
+        ensures { result ≡ first_passes is_id_start (behind_first self.now.rest) }
+    {
+        self.peek_ahead().is_some_and(is_id_start)
     }
 
     /// Moves over the longest front of the class.
@@ -376,25 +367,19 @@ impl<'input> Cursor<'input> {
         self.skip(Class::White);
     }
 
-    /// Moves over the word at the front.
-    #[tactic(auto, unfolding(crate::specs::Characters::behind_word))]
-    fn skip_word(&mut self)
-        ensures rest { self.new ≡ record self.old { rest = behind_word self.old.rest } }
-    {
-        if self.starts_word() {
-            self.advance();
-            self.skip(Class::Continue);
-        }
-    }
-
     /// Reads the word at the front, which may be empty.
+    #[tactic(auto, unfolding(crate::specs::Characters::word, crate::specs::Characters::behind_word))]
     pub fn word(&mut self) -> &'input str
         ensures value { chars result.now ≡ word self.old.rest }
         ensures rest { self.new ≡ record self.old { rest = behind_word self.old.rest } }
     {
-        let text = self.rest();
-        self.skip_word();
-        before(text, self.rest())
+        if !self.starts_word() {
+            return "";
+        }
+        let from = self.checkpoint();
+        self.advance();
+        self.skip(Class::Continue);
+        self.since(&from)
     }
 
     /// Moves over the digits at the front: their number modulo 65536, and whether it is above 65535.
@@ -425,8 +410,8 @@ impl<'input> Cursor<'input> {
         ensures over { result.2 ≡ is_over (digits self.old.rest) }
         ensures rest { self.new ≡ record self.old { rest = behind_digits self.old.rest } }
     {
-        let text = self.rest();
+        let from = self.checkpoint();
         let (value, over) = self.skip_number();
-        (before(text, self.rest()), value, over)
+        (self.since(&from), value, over)
     }
 }

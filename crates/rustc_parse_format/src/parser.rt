@@ -6,9 +6,8 @@ use crate::cursor::Cursor;
 use crate::laws::default_of_spec;
 use crate::lists::Lists;
 use crate::reader::Reader;
-use crate::source::Spot;
 use crate::types::{Argument, ParseError, ParseMode, Piece, Taken};
-use crate::world::{first_look, quote_offset, source_of};
+use crate::world::{quote_offset, source_of};
 use std::alloc::{AllocError, Global};
 use std::marker::Model;
 use std::ops::Range;
@@ -37,6 +36,7 @@ impl<'input> Model for Parser<'input> {
       input = p.reader.input;
       rest = p.reader.rest;
       back = p.reader.back;
+      undone = p.reader.undone;
       next = p.reader.next;
       errors = p.lists.errors;
       arg_places = p.lists.arg_places;
@@ -62,7 +62,7 @@ impl<'input> Parser<'input> {
     ghost use Rattle.rustc_parse_format.specs.Seen.{pair, seen, seen_error, seen_mode, seen_snippet, seen_taken};
     ghost use Rattle.rustc_parse_format.specs.Literal.{IsSource};
     ghost use Rattle.rustc_parse_format.specs.Source.{HasSource};
-    ghost use Rattle.rustc_parse_format.specs.State.{AddsNothing, ComesFrom, GivesPiece, State, after, first_of, first_state, last_lines, next_call, with_back};
+    ghost use Rattle.rustc_parse_format.specs.State.{AddsNothing, ComesFrom, GivesPiece, IsPutBack, State, after, first_of, first_state, last_lines, next_call};
     ghost use Rattle.rustc_parse_format.specs.Spelling.{IsPart};
     ghost use Rattle.rustc_parse_format.specs.State.{NeedsNoMemory};
     ghost use Rattle.rustc_parse_format.specs.Steps.{AreFew};
@@ -97,12 +97,7 @@ impl<'input> Parser<'input> {
         ensures short { IfOk result (λ p. length p.rest ≤ length input.now) }
     {
         let source = source_of(input, style, snippet, appended_newline);
-        let spot = Spot {
-            rest: input,
-            mark: input,
-            at: first_look(&source),
-        };
-        let cursor = Cursor::new(source, spot);
+        let cursor = Cursor::new(source, input);
         Ok(Parser {
             alloc,
             mode,
@@ -132,8 +127,8 @@ impl<'input> Parser<'input> {
     pub fn next(&mut self) -> Result<Option<Piece<'input>>, AllocError>
         // The piece and the new state are the definition's call, put through the parser's world.
         ensures piece { IfOk result (λ p. option_map seen p ≡ option_map (piece_in self.old.world) (next_call self.old).piece) }
-        ensures state { OnOk result (self.new ≡ after (with_back self.old self.new.back) (next_call self.old)) }
-        ensures err { OnErr result (self.new ≡ self.old) }
+        ensures state { OnOk result (self.new ≡ after self.old (next_call self.old)) }
+        ensures err { OnErr result (IsPutBack self.old self.new) }
         ensures spare { NeedsNoMemory self.old (next_call self.old) → IsOk result }
 
         // A piece that begins the rest is the one that is given, and then nothing is a fault.
@@ -143,7 +138,7 @@ impl<'input> Parser<'input> {
             → ((q : BarePiece (Unit {0})) (r : Text) (n : ℕ) → ¬ (Begins self.old.mode self.old.next self.old.rest q r n))
             → length self.old.errors < length self.new.errors) }
         ensures end { IfOk result (λ p. self.old.rest ≡ [] → IsNone p
-            × (self.new ≡ record self.old { line_spans = last_lines self.old self.old.line_spans; back = self.new.back })) }
+            × (self.new ≡ record self.old { line_spans = last_lines self.old self.old.line_spans })) }
         ensures keeps { OnOk result (Keeps self.old.errors self.new.errors) }
 
         // After a single opening brace it is the argument of the one cut, whether a brace closes it or not.
@@ -181,13 +176,11 @@ impl<'input> Parser<'input> {
         ensures numbers { OnOk result (self.new.next + length self.new.rest ≤ self.old.next + length self.old.rest) }
         ensures short { length self.new.rest ≤ length self.old.rest }
 
-        // After any calls the steps are few.
+        // After any calls the steps are few: at most two for each character of the input.
         ensures few { AreFew self.new.input self.new.rest self.new.back }
     {
         self.reads_its_input();
-        let piece = self.step();
-        self.steps_are_few();
-        piece
+        self.step()
     }
 
     /// The next piece, as by [`Parser::next`], where a placeholder is read into an argument of the caller's and takes no memory
@@ -202,9 +195,10 @@ impl<'input> Parser<'input> {
         ensures piece { IfOk result (λ x. option_map (seen_taken argument.new) x.0
             ≡ option_map (piece_in self.old.world) (next_call self.old).piece) }
         ensures fronts { IfOk result (λ x. x.1 ≡ length (filter is_front (next_call self.old).faults)) }
-        ensures state { OnOk result (self.new ≡ after (with_back self.old self.new.back) (next_call self.old)) }
-        ensures err { OnErr result (self.new ≡ self.old) }
+        ensures state { OnOk result (self.new ≡ after self.old (next_call self.old)) }
+        ensures err { OnErr result (IsPutBack self.old self.new) }
         ensures spare { AddsNothing self.old (next_call self.old) → IsOk result }
+        ensures few { AreFew self.new.input self.new.rest self.new.back }
     {
         if self.reader.cursor.opens_placeholder() {
             argument.format = default_of_spec();

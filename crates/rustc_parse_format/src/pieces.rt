@@ -21,7 +21,7 @@ impl<'input> Parser<'input> {
     ghost use Rattle.rustc_parse_format.specs.Call.{pieces_of};
     ghost use Rattle.rustc_parse_format.specs.Pieces.{GivesItem, has_ended, lender_of, parser_of};
     ghost use Rattle.rustc_parse_format.specs.Seen.{seen};
-    ghost use Rattle.rustc_parse_format.specs.State.{after_all, calls, with_back};
+    ghost use Rattle.rustc_parse_format.specs.State.{after_all, calls};
     ghost use Rattle.rustc_parse_format.specs.World.{pieces_in};
 
     /// The pieces from here on. Takes no memory.
@@ -32,7 +32,7 @@ impl<'input> Parser<'input> {
 
         // Up to its end, where no item is a refusal, it gives what the walk of the parser does, and leaves the parser after it.
         ensures walk { (ps : List DeclaredPiece) (last : Pieces) → YieldsThen GivesItem result (map Ok ps) None last
-            → (map seen ps ≡ pieces_in self.old.world (pieces_of (calls self.old))) × (with_back (parser_of last) self.old.back ≡ after_all self.old (calls self.old)) }
+            → (map seen ps ≡ pieces_in self.old.world (pieces_of (calls self.old))) × (parser_of last ≡ after_all self.old (calls self.old)) }
     {
         Pieces {
             parser: self,

@@ -1,16 +1,18 @@
 //! A placeholder after its opening brace: its position and its specification.
 
 ghost use Rattle.std.specs.Prelude.{[], ◌++◌, ◌+◌, ◌<◌, ◌^◌, ◌≡◌, chars, IfOk, if◌then◌else◌};
-ghost use Rattle.std.specs.Prelude.{is_some, IsOk, length, OnErr, OnOk, option_map, Some, suc, unwrap_or};
+ghost use Rattle.std.specs.Prelude.{is_some, IsOk, length, OnErr, OnOk, option_map, Some, suc, true, unwrap_or};
 ghost use Rattle.rustc_parse_format.specs.Meaning.{spec_texts};
-ghost use Rattle.rustc_parse_format.specs.Characters.{behind_prefix, behind_white, behind_word, number, word};
+ghost use Rattle.rustc_parse_format.specs.Characters.{begins_prefix, behind_white, number};
 ghost use Rattle.rustc_parse_format.specs.Marks.{Span, up_to};
 ghost use Rattle.rustc_parse_format.specs.Meaning.{argument};
-ghost use Rattle.rustc_parse_format.specs.PartFaults.{cut_faults, name_faults, position_faults, raw_faults};
+ghost use Rattle.rustc_parse_format.specs.PartFaults.{cut_faults, name_faults, position_faults};
 ghost use Rattle.rustc_parse_format.specs.Placeholder.{cut, position};
 ghost use Rattle.rustc_parse_format.specs.Seen.{pair, seen_argument, seen_mode, seen_position, seen_spec};
-ghost use Rattle.rustc_parse_format.specs.Midway.{FindsNothing, IsAt, read_texts, read_to};
-ghost use Rattle.rustc_parse_format.specs.Types.{Implicit, default_spec, map_argument};
+ghost use Rattle.rustc_parse_format.specs.Midway.{FindsNothing, read_texts, read_to, read_tries};
+ghost use Rattle.rustc_parse_format.specs.Reads.{Reads};
+ghost use Rattle.rustc_parse_format.specs.Tries.{spec_tries};
+ghost use Rattle.rustc_parse_format.specs.Types.{Implicit, Named, default_spec, map_argument};
 ghost use Rattle.rustc_parse_format.specs.Values.{given_position, number_after_field};
 ghost use Rattle.rustc_parse_format.specs.World.{faults_in, place_of};
 
@@ -23,15 +25,21 @@ use crate::types::{Argument, ParseMode, Position, wants_names};
 use std::alloc::AllocError;
 use std::ops::Range;
 
-/// Reads the raw identifier at the front, which is a fault: the word without its `r#`.
-fn raw_word<'input>(reader: &mut Reader<'input>) -> Result<&'input str, AllocError>
-    ensures value { IfOk result (λ w. chars w.now ≡ word (behind_prefix reader.old.rest)) }
-    ensures state { OnOk result (reader.new
-        ≡ read_to reader.old (behind_word (behind_prefix reader.old.rest)) reader.old.next (raw_faults reader.old.rest)) }
-    ensures err { OnErr result (reader.new.source ≡ reader.old.source) }
+/// Reads the word that begins with `r#`: a raw identifier, which is a fault, as the word without its `r#`; and where no word comes
+/// after that, the `r` alone.
+#[tactic(auto, using(crate::proofs::RawWords::raw_words))]
+fn prefixed_word<'input>(reader: &mut Reader<'input>) -> Result<&'input str, AllocError>
+    requires { begins_prefix reader.old.rest ≡ true }
+    ensures value { IfOk result (λ w. Some (Named (chars w.now)) ≡ given_position (position reader.old.rest).0) }
+    ensures reads { let p = position reader.old.rest in
+        Reads reader.old result reader.new p.1 reader.old.next (position_faults reader.old.rest p.0) [] }
 {
     let from = reader.start();
+    let front = reader.cursor.checkpoint();
     reader.advance();
+    if !reader.cursor.goes_on_with_word() {
+        return Ok(reader.cursor.since(&front));
+    }
     let prefix = from..reader.stop();
     reader.advance();
     let word = word(reader)?;
@@ -41,20 +49,18 @@ fn raw_word<'input>(reader: &mut Reader<'input>) -> Result<&'input str, AllocErr
 }
 
 /// Reads the position at the front: an integer, else a word, raw or not, else none.
-#[tactic(auto, using(crate::proofs::TriedParts::tried_parts, crate::proofs::Readers::read_nothing))]
+#[tactic(auto, using(crate::proofs::TriedParts::tried_parts, crate::proofs::Readers::read_nothing, crate::proofs::RawWords::no_raw_words))]
 fn position<'input>(reader: &mut Reader<'input>) -> Result<Option<Position<'input>>, AllocError>
     ensures value { IfOk result (λ p. option_map seen_position p ≡ given_position (position reader.old.rest).0) }
-    ensures state { OnOk result (reader.new ≡ (let p = position reader.old.rest in
-        read_to reader.old p.1 reader.old.next (position_faults reader.old.rest p.0))) }
-    ensures err { OnErr result (reader.new.source ≡ reader.old.source) }
-    ensures spare { position_faults reader.old.rest (position reader.old.rest).0 ≡ [] → IsOk result }
+    ensures reads { let p = position reader.old.rest in
+        Reads reader.old result reader.new p.1 reader.old.next (position_faults reader.old.rest p.0) [] }
 {
     if reader.cursor.starts_digit() {
         let number = integer(reader)?;
         return Ok(Some(Position::ArgumentIs(usize::from(number))));
     }
-    if reader.cursor.starts_raw() {
-        let name = raw_word(reader)?;
+    if reader.cursor.starts_prefix() {
+        let name = prefixed_word(reader)?;
         return Ok(Some(Position::ArgumentNamed(name)));
     }
     if reader.cursor.starts_word() {
@@ -151,8 +157,9 @@ pub fn read_argument<'input>(
     requires numbers { reader.old.next + 1 + length reader.old.rest < 2 ^ 64 }
     ensures value { OnOk result (seen_argument into.new
         ≡ map_argument (place_of reader.old.world) (argument reader.old.next (cut (seen_mode mode) reader.old.rest))) }
-    ensures state { OnOk result (IsAt (let a = cut (seen_mode mode) reader.old.rest in
-        read_texts (read_to reader.old a.rest (number_after_field reader.old.next a.field) (cut_faults (seen_mode mode) a)) (spec_texts a.field.spec a.rest)) reader.new) }
+    ensures state { OnOk result (reader.new ≡ (let a = cut (seen_mode mode) reader.old.rest in
+        read_texts (read_tries (read_to reader.old a.rest (number_after_field reader.old.next a.field) (cut_faults (seen_mode mode) a))
+        (spec_tries a.field.spec a.rest)) (spec_texts a.field.spec a.rest))) }
     ensures err { OnErr result (reader.new.source ≡ reader.old.source) }
     ensures spare { (let a = cut (seen_mode mode) reader.old.rest in
         FindsNothing reader.old (cut_faults (seen_mode mode) a) (spec_texts a.field.spec a.rest) → IsOk result) }

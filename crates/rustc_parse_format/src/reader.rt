@@ -11,9 +11,8 @@ ghost use Rattle.rustc_parse_format.specs.Back.{IsPaid};
 ghost use Rattle.rustc_parse_format.specs.World.{number_of};
 
 use crate::characters::Class;
-use crate::cursor::{Cursor, Tally};
+use crate::cursor::{Checkpoint, Cursor};
 use crate::faults::Fault;
-use crate::source::Spot;
 use std::alloc::{AllocError, Global};
 use std::marker::Model;
 use std::ops::Range;
@@ -52,8 +51,7 @@ impl<'input> Model for Reader<'input> {
 /// Where a call began.
 #[derive(Drop)]
 pub struct Front<'input> {
-    spot: Spot<'input>,
-    tally: Tally,
+    at: Checkpoint<'input>,
     curarg: usize,
     line_start: usize,
 }
@@ -76,13 +74,12 @@ impl<'input> Reader<'input> {
     /// Where it stands before a call.
     pub fn front(&self) -> Front<'input>
         requires { HasFoundNothing self.now }
-        ensures at { self.now ≡ midway (unread_at self.now.source result.spot.rest.now result.tally self.now.undone) result.curarg result.line_start }
-        ensures paid { IsPaid (chars self.now.source.input.now) (chars result.spot.rest.now) result.tally }
-        ensures spot { IsSpot self.now.source result.spot.rest.now result.spot.mark.now result.spot.at }
+        ensures at { self.now ≡ midway (unread_at self.now.source result.at.spot.rest.now result.at.tally self.now.undone) result.curarg result.line_start }
+        ensures paid { IsPaid (chars self.now.source.input.now) (chars result.at.spot.rest.now) result.at.tally }
+        ensures spot { IsSpot self.now.source result.at.spot.rest.now result.at.spot.mark.now result.at.spot.at }
     {
         Front {
-            spot: self.cursor.spot(),
-            tally: self.cursor.tally(),
+            at: self.cursor.checkpoint(),
             curarg: self.curarg,
             line_start: self.line_start,
         }
@@ -90,11 +87,11 @@ impl<'input> Reader<'input> {
 
     /// Goes back to where a call began, and forgets what it has found.
     pub fn go_back(&mut self, alloc: Global, front: Front<'input>)
-        requires spot { IsSpot self.old.source front.spot.rest.now front.spot.mark.now front.spot.at }
-        requires paid { IsPaid (chars self.old.source.input.now) (chars front.spot.rest.now) front.tally }
-        ensures { self.new ≡ midway (unread_at self.old.source front.entry.spot.rest.now front.entry.tally (self.old.undone + 1)) front.entry.curarg front.entry.line_start }
+        requires spot { IsSpot self.old.source front.at.spot.rest.now front.at.spot.mark.now front.at.spot.at }
+        requires paid { IsPaid (chars self.old.source.input.now) (chars front.at.spot.rest.now) front.at.tally }
+        ensures { self.new ≡ midway (unread_at self.old.source front.entry.at.spot.rest.now front.entry.at.tally (self.old.undone + 1)) front.entry.curarg front.entry.line_start }
     {
-        self.cursor.undo(front.spot, front.tally);
+        self.cursor.undo(front.at);
         self.curarg = front.curarg;
         self.found = Vec::new(alloc);
         self.line_start = front.line_start;
@@ -174,7 +171,7 @@ impl<'input> Reader<'input> {
         ensures spare { IsInOneLine self.old → IsOk result }
         ensures err { OnErr result (self.new.source ≡ self.old.source) }
     {
-        let from = self.cursor.spot();
+        let from = self.cursor.checkpoint();
         self.skip_text()?;
         Ok(self.cursor.since(&from))
     }
@@ -186,7 +183,7 @@ impl<'input> Reader<'input> {
         ensures spare { IsInOneLine (record self.old { rest = behind_first self.old.rest }) → IsOk result }
         ensures err { OnErr result (self.new.source ≡ self.old.source) }
     {
-        let from = self.cursor.spot();
+        let from = self.cursor.checkpoint();
         self.cursor.advance();
         self.skip_text()?;
         Ok(self.cursor.since(&from))

@@ -6,8 +6,7 @@ ghost use Rattle.rustc_parse_format.specs.Grammar.{IsInGrammar, IsSpelled, Reads
 ghost use Rattle.rustc_parse_format.specs.Types.{Mode, Piece as BarePiece, bare};
 ghost use Rattle.rustc_parse_format.specs.Seen.{seen, seen_mode, seen_snippet};
 ghost use Rattle.rustc_parse_format.specs.Source.{HasSource};
-ghost use Rattle.rustc_parse_format.specs.State.{AreLines, Walks, after_all, calls, closed_of, first_state, with_back};
-ghost use Rattle.rustc_parse_format.specs.Back.{nothing_back};
+ghost use Rattle.rustc_parse_format.specs.State.{AreLines, Walks, after_all, calls, closed_of, first_state};
 ghost use Rattle.rustc_parse_format.specs.Steps.{AreFew};
 ghost use Rattle.rustc_parse_format.specs.Call.{faults_of, pieces_of, walk};
 ghost use Rattle.rustc_parse_format.specs.Syntax.{FieldText, IsOnlyCut};
@@ -27,7 +26,7 @@ fn read_pieces<'input>(
     parser: &mut Parser<'input>,
 ) -> Result<Vec<Piece<'input>>, AllocError>
     ensures pieces { IfOk result (λ ps. map seen ps.items ≡ pieces_in parser.old.world (pieces_of (calls parser.old))) }
-    ensures state { IfOk result (λ ps. with_back parser.new parser.old.back ≡ after_all parser.old (calls parser.old)) }
+    ensures state { IfOk result (λ ps. parser.new ≡ after_all parser.old (calls parser.old)) }
     ensures few { IfOk result (λ ps. AreFew parser.new.input parser.new.rest parser.new.back) }
     ensures empty { parser.old.rest ≡ [] → parser.old.world.has_source ≡ false → IsOk result }
 {
@@ -55,11 +54,11 @@ pub fn read_all<'input>(
     // It is the walk of a fresh parser, put through its world.
     ensures walk { IfOk result (λ x.
         let s = first_state (seen_mode mode) (chars input.now) style (seen_snippet snippet) appended_newline in
-        (map seen x.0.items ≡ pieces_in s.world (pieces_of (calls s))) × (with_back x.1 s.back ≡ after_all s (calls s))) }
+        (map seen x.0.items ≡ pieces_in s.world (pieces_of (calls s))) × (x.1 ≡ after_all s (calls s))) }
 
     ensures walks { IfOk result (λ x. Walks
         (first_state (seen_mode mode) (chars input.now) style (seen_snippet snippet) appended_newline)
-        (map seen x.0.items) (with_back x.1 (nothing_back (chars input.now)))) }
+        (map seen x.0.items) x.1) }
 
     // It takes few steps, those of its last call too.
     ensures few { IfOk result (λ x. AreFew x.1.input x.1.rest x.1.back) }

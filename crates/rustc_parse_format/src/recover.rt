@@ -4,7 +4,7 @@ ghost use Rattle.std.specs.Prelude.{[], ◌&&◌, ◌++◌, ◌+◌, ◌<◌, �
 ghost use Rattle.rustc_parse_format.specs.Characters.{Text};
 ghost use Rattle.rustc_parse_format.specs.Identifiers.{is_identifier};
 ghost use Rattle.rustc_parse_format.specs.Marks.{Mark, Span, over_first};
-ghost use Rattle.rustc_parse_format.specs.Midway.{IsAt, behind_sign, recovered};
+ghost use Rattle.rustc_parse_format.specs.Midway.{behind_sign, recovered};
 ghost use Rattle.rustc_parse_format.specs.Recovery.{field, field_fault, late_debug, recovery, sign_fault};
 ghost use Rattle.rustc_parse_format.specs.Seen.{pair, seen_argument, seen_mode, seen_position};
 ghost use Rattle.rustc_parse_format.specs.SeenFaults.{seen_fault};
@@ -100,7 +100,7 @@ fn field<'input>(
     requires here { reader.old.rest ≢ [] }
     requires numbers { reader.old.next + length reader.old.rest < 2 ^ 64 }
     ensures state { OnOk result ((m : Mark) → from ≡ number_of reader.old.world m
-        → IsAt (recovered reader.old (field (seen_mode mode) reader.old.next m reader.old.rest)) reader.new) }
+        → reader.new ≡ recovered reader.old (field (seen_mode mode) reader.old.next m reader.old.rest)) }
     ensures source { reader.new.source ≡ reader.old.source }
 {
     reader.cursor.advance();
@@ -138,7 +138,7 @@ pub fn recover<'input>(
     requires numbers { reader.old.next + length reader.old.rest < 2 ^ 64 }
     ensures state { OnOk result ((o : Text) (a : ArgumentValue Span) → pair opening ≡ place_of reader.old.world (over_first o)
         → seen_argument argument.now ≡ map_argument (place_of reader.old.world) a
-        → IsAt (recovered reader.old (recovery (seen_mode mode) reader.old.next o a reader.old.rest)) reader.new) }
+        → reader.new ≡ recovered reader.old (recovery (seen_mode mode) reader.old.next o a reader.old.rest)) }
     ensures source { reader.new.source ≡ reader.old.source }
 {
     let Some(sign) = reader.cursor.peek() else {

@@ -8,7 +8,9 @@ ghost use Rattle.rustc_parse_format.specs.Meaning.{fill_span, format_of, spec_of
 ghost use Rattle.rustc_parse_format.specs.PartFaults.{flag_faults, format_faults, late_flag, spec_faults, text_faults, type_faults, word_faults};
 ghost use Rattle.rustc_parse_format.specs.Seen.{pair, seen_alignment, seen_debug_hex, seen_mode, seen_sign, seen_spec};
 ghost use Rattle.rustc_parse_format.specs.Specification.{align, alternate, fill, format_text, sign, specification, type};
-ghost use Rattle.rustc_parse_format.specs.Midway.{FindsNothing, IsAt, IsInOneLine, read_run, read_texts, read_to};
+ghost use Rattle.rustc_parse_format.specs.Midway.{FindsNothing, IsInOneLine, read_run, read_texts, read_to, read_tries};
+ghost use Rattle.rustc_parse_format.specs.Reads.{Reads};
+ghost use Rattle.rustc_parse_format.specs.Tries.{format_tries, spec_tries};
 ghost use Rattle.rustc_parse_format.specs.Types.{default_spec, map_spec};
 ghost use Rattle.rustc_parse_format.specs.Values.{debug_hex_of, number_after_precision, number_after_spec, type_of};
 ghost use Rattle.rustc_parse_format.specs.Back.{IsFurthest};
@@ -85,9 +87,7 @@ fn spanned_word<'input>(
     ensures value { IfOk result (λ w. chars w.0.now ≡ word reader.old.rest) }
     ensures span { IfOk result (λ w. option_map pair w.1 ≡ option_map (place_of reader.old.world)
         (word_span reader.old.rest (word reader.old.rest) (behind_word reader.old.rest))) }
-    ensures state { OnOk result (reader.new ≡ read_to reader.old (behind_word reader.old.rest) reader.old.next (word_faults reader.old.rest)) }
-    ensures err { OnErr result (reader.new.source ≡ reader.old.source) }
-    ensures spare { word_faults reader.old.rest ≡ [] → IsOk result }
+    ensures reads { Reads reader.old result reader.new (behind_word reader.old.rest) reader.old.next (word_faults reader.old.rest) [] }
 {
     if !reader.cursor.starts_word() {
         return Ok(("", None));
@@ -164,9 +164,7 @@ fn note_flag(reader: &mut Reader<'_>, start: usize) -> Result<(), AllocError>
 
 /// Reads the type `?` at the front, and notes a flag after it, which is left.
 fn debug_type<'input>(reader: &mut Reader<'input>) -> Result<(), AllocError>
-    ensures state { OnOk result (reader.new ≡ read_to reader.old (behind_first reader.old.rest) reader.old.next (flag_faults reader.old.rest)) }
-    ensures err { OnErr result (reader.new.source ≡ reader.old.source) }
-    ensures spare { flag_faults reader.old.rest ≡ [] → IsOk result }
+    ensures reads { Reads reader.old result reader.new (behind_first reader.old.rest) reader.old.next (flag_faults reader.old.rest) [] }
 {
     let start = reader.start();
     reader.advance();
@@ -180,10 +178,7 @@ fn type_part<'input>(reader: &mut Reader<'input>) -> Result<TypePart<'input>, Al
     ensures debug_hex { IfOk result (λ y. option_map seen_debug_hex y.debug_hex ≡ debug_hex_of (type reader.old.rest).0) }
     ensures span { IfOk result (λ y. option_map pair y.span ≡ option_map (place_of reader.old.world)
         (type_span reader.old.rest (type reader.old.rest).0 (type reader.old.rest).1)) }
-    ensures state { OnOk result (reader.new ≡ (let y = type reader.old.rest in
-        read_to reader.old y.1 reader.old.next (type_faults reader.old.rest y.0))) }
-    ensures err { OnErr result (reader.new.source ≡ reader.old.source) }
-    ensures spare { type_faults reader.old.rest (type reader.old.rest).0 ≡ [] → IsOk result }
+    ensures reads { Reads reader.old result reader.new (type reader.old.rest).1 reader.old.next (type_faults reader.old.rest (type reader.old.rest).0) [] }
 {
     if reader.cursor.is_next('x') {
         return Ok(hex_type(&mut reader.cursor, DebugHex::Lower, "x"));
@@ -213,10 +208,8 @@ fn format_text<'input>(
     requires furthest { IsFurthest reader.old.rest reader.old.back }
     ensures value { OnOk result (seen_spec format.new ≡ map_spec (place_of reader.old.world)
         (format_of reader.old.next reader.old.rest (format_text reader.old.rest).0 (format_text reader.old.rest).1)) }
-    ensures state { OnOk result (IsAt (let f = format_text reader.old.rest in
-        read_to reader.old f.1 (number_after_precision reader.old.next f.0.precision) (format_faults f.0 f.1)) reader.new) }
-    ensures err { OnErr result (reader.new.source ≡ reader.old.source) }
-    ensures spare { format_faults (format_text reader.old.rest).0 (format_text reader.old.rest).1 ≡ [] → IsOk result }
+    ensures reads { let f = format_text reader.old.rest in
+        Reads reader.old result reader.new f.1 (number_after_precision reader.old.next f.0.precision) (format_faults f.0 f.1) (format_tries f.0 f.1) }
 {
     let (fill, fill_span) = fill(&mut reader.cursor);
     format.fill = fill;
@@ -250,9 +243,7 @@ fn modifier<'input>(
       ty = word reader.old.rest;
       ty_span = option_map (place_of reader.old.world) (word_span reader.old.rest (word reader.old.rest) (behind_word reader.old.rest));
     }) }
-    ensures state { OnOk result (reader.new ≡ read_to reader.old (behind_word reader.old.rest) reader.old.next (word_faults reader.old.rest)) }
-    ensures err { OnErr result (reader.new.source ≡ reader.old.source) }
-    ensures spare { word_faults reader.old.rest ≡ [] → IsOk result }
+    ensures reads { Reads reader.old result reader.new (behind_word reader.old.rest) reader.old.next (word_faults reader.old.rest) [] }
 {
     let (ty, ty_span) = spanned_word(reader)?;
     format.ty = ty;
@@ -319,8 +310,9 @@ pub fn specification<'input>(
     requires numbers { reader.old.next + length reader.old.rest < 2 ^ 64 }
     ensures value { OnOk result (seen_spec format.new ≡ map_spec (place_of reader.old.world) (spec_of reader.old.next reader.old.rest
         (specification (seen_mode mode) reader.old.rest).0 (specification (seen_mode mode) reader.old.rest).1)) }
-    ensures state { OnOk result (IsAt (let s = specification (seen_mode mode) reader.old.rest in
-        read_texts (read_to reader.old s.1 (number_after_spec reader.old.next s.0) (spec_faults (seen_mode mode) reader.old.rest s.0 s.1)) (spec_texts s.0 s.1)) reader.new) }
+    ensures state { OnOk result (reader.new ≡ (let s = specification (seen_mode mode) reader.old.rest in
+        read_texts (read_tries (read_to reader.old s.1 (number_after_spec reader.old.next s.0) (spec_faults (seen_mode mode) reader.old.rest s.0 s.1))
+        (spec_tries s.0 s.1)) (spec_texts s.0 s.1))) }
     ensures err { OnErr result (reader.new.source ≡ reader.old.source) }
     ensures spare { (let s = specification (seen_mode mode) reader.old.rest in
         FindsNothing reader.old (spec_faults (seen_mode mode) reader.old.rest s.0 s.1) (spec_texts s.0 s.1) → IsOk result) }

@@ -13,7 +13,8 @@ impl<'input> Parser<'input> {
     ghost use Rattle.rustc_parse_format.specs.Faults.{is_front};
     ghost use Rattle.rustc_parse_format.specs.Midway.{opens_placeholder};
     ghost use Rattle.rustc_parse_format.specs.Seen.{seen, seen_argument, seen_spec};
-    ghost use Rattle.rustc_parse_format.specs.State.{AddsNothing, NeedsNoMemory, after, last_lines, next_call, with_back};
+    ghost use Rattle.rustc_parse_format.specs.State.{AddsNothing, IsPutBack, NeedsNoMemory, after, last_lines, next_call};
+    ghost use Rattle.rustc_parse_format.specs.Steps.{AreFew};
     ghost use Rattle.rustc_parse_format.specs.Types.{Lit, NextArgument, default_spec};
     ghost use Rattle.rustc_parse_format.specs.World.{piece_in};
 
@@ -26,10 +27,12 @@ impl<'input> Parser<'input> {
         ensures value { OnOk result (Some (NextArgument (seen_argument into.new))
             ≡ option_map (piece_in self.old.world) (next_call self.old).piece) }
         ensures fronts { IfOk result (λ n. n ≡ length (filter is_front (next_call self.old).faults)) }
-        ensures state { OnOk result (self.new ≡ after (with_back self.old self.new.back) (next_call self.old)) }
-        ensures err { OnErr result (self.new ≡ self.old) }
+        ensures state { OnOk result (self.new ≡ after self.old (next_call self.old)) }
+        ensures err { OnErr result (IsPutBack self.old self.new) }
         ensures spare { AddsNothing self.old (next_call self.old) → IsOk result }
+        ensures few { AreFew self.new.input self.new.rest self.new.back }
     {
+        self.steps_are_few();
         let front = self.reader.front();
         let Ok(()) = read_placeholder(self.mode, into, &mut self.reader) else {
             self.reader.go_back(self.alloc, front);
@@ -39,6 +42,7 @@ impl<'input> Parser<'input> {
             self.reader.go_back(self.alloc, front);
             return Err(AllocError);
         };
+        self.steps_are_few();
         Ok(count)
     }
 
@@ -49,9 +53,11 @@ impl<'input> Parser<'input> {
         ensures piece { IfOk result (λ x. option_map (λ t. Lit (chars t.now)) x.0 ≡ option_map (piece_in self.old.world) (next_call self.old).piece) }
         ensures fronts { IfOk result (λ x. x.1 ≡ length (filter is_front (next_call self.old).faults)) }
         ensures state { OnOk result (self.new ≡ after self.old (next_call self.old)) }
-        ensures err { OnErr result (self.new ≡ self.old) }
+        ensures err { OnErr result (IsPutBack self.old self.new) }
         ensures spare { AddsNothing self.old (next_call self.old) → IsOk result }
+        ensures few { AreFew self.new.input self.new.rest self.new.back }
     {
+        self.steps_are_few();
         if self.reader.is_at_end() {
             self.end_line()?;
             return Ok((None, 0));
@@ -65,17 +71,20 @@ impl<'input> Parser<'input> {
             self.reader.go_back(self.alloc, front);
             return Err(AllocError);
         };
+        self.steps_are_few();
         Ok((text, count))
     }
 
     /// One call. The argument that it gives is made before it is read.
     pub(super) fn step(&mut self) -> Result<Option<Piece<'input>>, AllocError>
         ensures piece { IfOk result (λ p. option_map seen p ≡ option_map (piece_in self.old.world) (next_call self.old).piece) }
-        ensures state { OnOk result (self.new ≡ after (with_back self.old self.new.back) (next_call self.old)) }
-        ensures err { OnErr result (self.new ≡ self.old) }
+        ensures state { OnOk result (self.new ≡ after self.old (next_call self.old)) }
+        ensures err { OnErr result (IsPutBack self.old self.new) }
         ensures spare { NeedsNoMemory self.old (next_call self.old) → IsOk result }
+        ensures few { AreFew self.new.input self.new.rest self.new.back }
     {
         if self.reader.cursor.opens_placeholder() {
+            self.steps_are_few();
             let mut argument = Box::new(self.alloc, blank_argument())?;
             self.step_into(&mut argument)?;
             return Ok(Some(Piece::NextArgument(argument)));

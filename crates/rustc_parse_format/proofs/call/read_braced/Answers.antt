@@ -5,7 +5,6 @@ use Rattle.rustc_parse_format.specs.Characters.{begins_with, behind_white, behin
 use Rattle.rustc_parse_format.specs.Seen.{pair, seen_argument, seen_mode}
 use Rattle.rustc_parse_format.specs.SeenFaults.{seen_fault}
 use Rattle.rustc_parse_format.specs.Midway.{Midway, Unread, midway}
-use Rattle.rustc_parse_format.proofs.Readers.{at_exactly}
 use Rattle.rustc_parse_format.proofs.Placeholders.{argument-finds, numbers_left, placeholder-faultless, placeholder_closed}
 use Rattle.rustc_parse_format.proofs.call.read_braced.Goals as goal
 
@@ -36,7 +35,7 @@ returns-clause-state c =
       closed = option_map pair c.reader.inside.closed;
     } in
     let given = rw c.take_place-opening.ensures.rest at c.in_ok-read_argument.ensures in
-    let e = at_exactly (c.reader-2.view_is ∙ given.state) in
+    let e = c.reader-2.view_is ∙ given.state in
     rw (← c.reader.view_is) (placeholder_closed s _ c.close.new.reader (seen_mode c.args.mode) u.rest (behind_first u.rest) (pair c.take_place-opening.result)
     (seen_argument c.read_argument.new.into) e c.take_place-opening.ensures.place given.value
     (rw c.skip_white.ensures.rest at c.in_ok-close.ensures.state))

@@ -10,7 +10,7 @@ use Rattle.rustc_parse_format.proofs.CleanWords.{none_left, none_right}
 use Rattle.rustc_parse_format.specs.Characters.{behind_white}
 use Rattle.rustc_parse_format.proofs.Numbers.{specification_number}
 use Rattle.rustc_parse_format.proofs.Rests.{IsRest-le, behind_white_rest, position_rest}
-use Rattle.rustc_parse_format.proofs.Readers.{argument_read, at_exactly}
+use Rattle.rustc_parse_format.proofs.Readers.{argument_read}
 use Rattle.rustc_parse_format.proofs.placeholder.read_argument.Goals as goal
 
 pub specification-requires-clause-numbers : goal.specification-requires-clause-numbers
@@ -57,10 +57,8 @@ returns-clause-state c =
     let a = c.in_ok-given.ensures in
     let read = rw a.span at a.state in
     let state = rw read at c.in_ok-specification.ensures.state in
-    let b = c.specification.new.reader.back in
-    let e = at_exactly (rw state at c.position_of-into.ensures.state ∙ ap (λ (m : Midway). record m { back = b })
-    (argument_read c.args.reader.now (seen_mode c.args.mode) (option_map seen_position c.in_ok-given.given) a.value)) in
-    e
+    rw state at c.position_of-into.ensures.state
+    ∙ argument_read c.args.reader.now (seen_mode c.args.mode) (option_map seen_position c.in_ok-given.given) a.value
 
 pub returns-in_err-given-clause-spare : goal.returns-in_err-given-clause-spare
 unfolding cut cut_faults

@@ -1,10 +1,9 @@
-use Rattle.std.proofs.Common.{◌≡◌, ◌∙◌, false, ap, chars, map, refl, subst}
+use Rattle.std.proofs.Common.{◌≡◌, ◌∙◌, false, ap, chars, refl}
 use Rattle.std.proofs.lemmas.Bool.{false≢true}
 use Rattle.std.proofs.lemmas.Str.{chars-nil}
-use Rattle.rustc_parse_format.specs.Back.{Back}
 use Rattle.rustc_parse_format.specs.Characters.{Text}
-use Rattle.rustc_parse_format.specs.Seen.{seen, seen_mode, seen_snippet}
-use Rattle.rustc_parse_format.specs.State.{State, Walks, first_state, calls, with_back}
+use Rattle.rustc_parse_format.specs.Seen.{seen_mode, seen_snippet}
+use Rattle.rustc_parse_format.specs.State.{State, first_state, calls}
 use Rattle.rustc_parse_format.proofs.Readings.{Reads-unique, Reads-spelled}
 use Rattle.rustc_parse_format.proofs.PartCuts.{cut-only}
 use Rattle.rustc_parse_format.proofs.StateWalks.{after_all-world}
@@ -51,9 +50,8 @@ started c = c.in_ok-parser.ensures.start
 
 pub returns-clause-lies_inside : goal.returns-clause-lies_inside
 returns-clause-lies_inside c source e h =
-    let r = walked_lies_inside (seen_mode c.args.mode) (chars c.args.input.now) c.args.style (seen_snippet c.args.snippet) source c.args.appended_newline
-    c.in_ok-parser.parser _ (started c) c.in_ok-pieces.ensures.state e h in
-    record { errors = r.errors; arg_places = r.arg_places; line_spans = r.line_spans; line_start = r.line_start }
+    walked_lies_inside (seen_mode c.args.mode) (chars c.args.input.now) c.args.style (seen_snippet c.args.snippet) source c.args.appended_newline
+    c.in_ok-parser.parser _ (started c) c.in_ok-pieces.ensures.state e h
 
 pub returns-clause-worlds : goal.returns-clause-worlds
 returns-clause-worlds c =
@@ -61,10 +59,9 @@ returns-clause-worlds c =
 
 pub returns-clause-lines : goal.returns-clause-lines
 returns-clause-lines c h =
-    let r = fresh_lines (first c) c.in_ok-parser.parser _ (started c) c.in_ok-pieces.ensures.state
+    fresh_lines (first c) c.in_ok-parser.parser _ (started c) c.in_ok-pieces.ensures.state
     (has_source-is (chars c.args.input.now) c.args.style (seen_snippet c.args.snippet) c.args.appended_newline
-    ∙ (has_source (chars c.args.input.now) c.args.style (seen_snippet c.args.snippet) c.args.appended_newline).1 h) in
-    record { lines = r.lines; are_lines = r.are_lines; kept = r.kept }
+    ∙ (has_source (chars c.args.input.now) c.args.style (seen_snippet c.args.snippet) c.args.appended_newline).1 h)
 
 pub returns-clause-places : goal.returns-clause-places
 returns-clause-places c =
@@ -87,11 +84,7 @@ returns-clause-reading c =
     reading_of (seen_mode c.args.mode) (first c).world (chars c.args.input.now) _ _ _ _ (started c) c.in_ok-pieces.ensures.state c.in_ok-pieces.ensures.pieces
 
 pub returns-clause-walks : goal.returns-clause-walks
-returns-clause-walks c =
-    let ps = map seen c.in_ok-pieces.pieces.items in
-    let new = c.read_pieces.new.parser in
-    subst (λ (b : Back). Walks (first c) ps (with_back new b)) (ap (λ (s : State). s.back) (started c))
-    (walks_of (first c) _ _ _ (started c) c.in_ok-pieces.ensures.state c.in_ok-pieces.ensures.pieces)
+returns-clause-walks c = walks_of (first c) _ _ _ (started c) c.in_ok-pieces.ensures.state c.in_ok-pieces.ensures.pieces
 
 pub returns-clause-round_trip : goal.returns-clause-round_trip
 returns-clause-round_trip c none = Reads-spelled (seen_mode c.args.mode) 0 (chars c.args.input.now) _ (returns-clause-reading c none)

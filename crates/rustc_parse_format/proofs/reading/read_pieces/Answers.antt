@@ -2,18 +2,13 @@ use Rattle.std.proofs.Common.{◌≡◌, ◌∙◌, [], ◌∷◌, ap, map, Opti
 use Rattle.std.specs.Prelude.{option_map}
 use Rattle.std.proofs.lemmas.Bool.{false≢true}
 use Rattle.std.proofs.lemmas.List.{map-append}
-use Rattle.rustc_parse_format.specs.Back.{Back}
 use Rattle.rustc_parse_format.specs.Types.{Piece}
 use Rattle.rustc_parse_format.specs.Seen.{seen}
-use Rattle.rustc_parse_format.specs.State.{State, after, next_call, with_back}
+use Rattle.rustc_parse_format.specs.State.{State, next_call}
 use Rattle.rustc_parse_format.specs.World.{World, Place, piece_in}
 use Rattle.rustc_parse_format.proofs.ReadPieces.{at_end-spare, pieces_more, state_more, pieces_end, state_end}
 use Rattle.rustc_parse_format.proofs.Nexts.{next_ends, piece_moves}
 use Rattle.rustc_parse_format.proofs.reading.read_pieces.Goals as goal
-
--- a call, where what was given back is left out of sight
-moved : (s t : State) (b : Back) → t ≡ after (with_back s t.back) (next_call s) → with_back t b ≡ after (with_back s b) (next_call s)
-moved s t b e = ap (λ (x : State). with_back x b) e
 
 pub loop-pieces-preserved : goal.loop-pieces-preserved
 loop-pieces-preserved c =
@@ -23,11 +18,11 @@ loop-pieces-preserved c =
     let pushed = ap (map seen) c.in_ok-push.ensures.items ∙ map-append seen c.loop-pieces.pieces.items (c.in-Some.piece ∷ []) in
     record {
       world = ap (λ (s : State). s.world) c.in_ok-piece.ensures.state ∙ c.loop-pieces.invariant.world;
-      pieces = rw pushed (pieces_more (with_back c.loop-pieces.parser c.args.parser.now.back) (with_back c.next.new.self c.args.parser.now.back) c.args.parser.now.world
-          (seen c.in-Some.piece) _ _ c.loop-pieces.invariant.world given (moved c.loop-pieces.parser c.next.new.self c.args.parser.now.back c.in_ok-piece.ensures.state) c.loop-pieces.invariant.pieces);
-      empty = λ e. let none = rw c.in-Some.is at (next_ends seen (with_back c.loop-pieces.parser c.args.parser.now.back) (with_back c.next.new.self c.args.parser.now.back) _ c.in_ok-piece.ensures.piece
-          (moved c.loop-pieces.parser c.next.new.self c.args.parser.now.back c.in_ok-piece.ensures.state) (c.loop-pieces.invariant.empty e)).0 in absurd (false≢true (sym none));
-      state = state_more (with_back c.loop-pieces.parser c.args.parser.now.back) (with_back c.next.new.self c.args.parser.now.back) (seen c.in-Some.piece) given (moved c.loop-pieces.parser c.next.new.self c.args.parser.now.back c.in_ok-piece.ensures.state) ∙ c.loop-pieces.invariant.state;
+      pieces = rw pushed (pieces_more c.loop-pieces.parser c.next.new.self c.args.parser.now.world
+          (seen c.in-Some.piece) _ _ c.loop-pieces.invariant.world given c.in_ok-piece.ensures.state c.loop-pieces.invariant.pieces);
+      empty = λ e. let none = rw c.in-Some.is at (next_ends seen c.loop-pieces.parser c.next.new.self _ c.in_ok-piece.ensures.piece
+          c.in_ok-piece.ensures.state (c.loop-pieces.invariant.empty e)).0 in absurd (false≢true (sym none));
+      state = state_more c.loop-pieces.parser c.next.new.self (seen c.in-Some.piece) given c.in_ok-piece.ensures.state ∙ c.loop-pieces.invariant.state;
     }
 
 pub returns-in_err-piece-clause-empty : goal.returns-in_err-piece-clause-empty
@@ -38,7 +33,7 @@ returns-in_err-piece-clause-empty c e h =
 
 pub returns-in_err-push-clause-empty : goal.returns-in_err-push-clause-empty
 returns-in_err-push-clause-empty c e h =
-    let none = rw c.in-Some.is at (next_ends seen (with_back c.loop-pieces.parser c.args.parser.now.back) (with_back c.next.new.self c.args.parser.now.back) _ c.in_ok-piece.ensures.piece (moved c.loop-pieces.parser c.next.new.self c.args.parser.now.back c.in_ok-piece.ensures.state)
+    let none = rw c.in-Some.is at (next_ends seen c.loop-pieces.parser c.next.new.self _ c.in_ok-piece.ensures.piece c.in_ok-piece.ensures.state
     (c.loop-pieces.invariant.empty e)).0 in
     absurd (false≢true (sym none))
 
@@ -52,8 +47,8 @@ pub returns-clause-state : goal.returns-clause-state
 returns-clause-state c =
     let none : ◌≡◌ {A = Option (Piece Place)} None (option_map (piece_in c.loop-pieces.parser.world) (next_call c.loop-pieces.parser).piece) = ap
     (option_map seen) (sym c.in_default.is) ∙ c.in_ok-piece.ensures.piece in
-    state_end (with_back c.loop-pieces.parser c.args.parser.now.back) (with_back c.next.new.self c.args.parser.now.back) _ none (moved c.loop-pieces.parser c.next.new.self c.args.parser.now.back c.in_ok-piece.ensures.state) c.loop-pieces.invariant.state
+    state_end c.loop-pieces.parser c.next.new.self _ none c.in_ok-piece.ensures.state c.loop-pieces.invariant.state
 
 pub loop-pieces-smaller : goal.loop-pieces-smaller
-loop-pieces-smaller c = piece_moves seen (with_back c.loop-pieces.parser c.args.parser.now.back) (with_back c.next.new.self c.args.parser.now.back) c.in-Some.piece
-    (rw c.in-Some.is at c.in_ok-piece.ensures.piece) (moved c.loop-pieces.parser c.next.new.self c.args.parser.now.back c.in_ok-piece.ensures.state)
+loop-pieces-smaller c = piece_moves seen c.loop-pieces.parser c.next.new.self c.in-Some.piece
+    (rw c.in-Some.is at c.in_ok-piece.ensures.piece) c.in_ok-piece.ensures.state

@@ -1,9 +1,10 @@
-use Rattle.std.proofs.Common.{rules, chars, length, length-append, ap, arith}
-use Rattle.rustc_parse_format.proofs.Places.{left}
+use Rattle.std.proofs.Common.{chars, length, refl, arith, ap}
+use Rattle.rustc_parse_format.proofs.SourcePlaces.{first_spot}
 use Rattle.rustc_parse_format.proofs.Steps.{paid_first}
 use Rattle.rustc_parse_format.proofs.cursor.Cursor.new.Goals as goal
 
 pub invariant_of-result : goal.invariant_of-result
-invariant_of-result c =
-    let l = left _ _ c.requires.is_left in
-    (c.requires, rw c.new-tally.ensures (paid_first _ _ (omega (arith, length-append l.pre (chars c.args.spot.rest.now), ap length l.whole))))
+invariant_of-result c = (
+  first_spot c.args.source c.args.input.now c.first_look.result c.utf8.input c.requires.input c.requires.fits c.first_look.ensures c.requires.kept,
+  rw (c.new.ensures, c.requires.input) (paid_first _ _ (omega arith)),
+)

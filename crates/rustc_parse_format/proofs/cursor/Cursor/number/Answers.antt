@@ -1,20 +1,21 @@
-use Rattle.std.proofs.Common.{◌++◌, ◌∙◌, ap, sym}
+use Rattle.std.proofs.Common.{◌≡◌, ◌++◌, ◌∙◌, ap, chars, sym}
 use Rattle.std.specs.Char.{is_ascii_digit}
 use Rattle.rustc_parse_format.specs.Midway.{Unread}
-use Rattle.rustc_parse_format.specs.Characters.{digits, behind_digits}
+use Rattle.rustc_parse_format.specs.Characters.{Text, digits, behind_digits}
 use Rattle.rustc_parse_format.proofs.Fronts.{front-behind}
 use Rattle.rustc_parse_format.proofs.cursor.Cursor.number.Goals as goal
+use Rattle.rustc_parse_format.proofs.cursor.Cursor.number.Goals.{After-from-1}
 
-pub before-requires : goal.before-requires
+-- the digits, and what is left behind them
+whole : (c : After-from-1) → ◌≡◌ {A = Text} (chars c.checkpoint-from.result.spot.rest.now) (digits c.args.self.now.rest ++ c.skip_number-value.new.self.rest)
 unfolding digits behind_digits
-before-requires c = (
-  digits c.args.self.now.rest,
-  c.rest-text.ensures ∙ (front-behind is_ascii_digit c.args.self.now.rest
-      ∙ ap (λ t. digits c.args.self.now.rest ++ t) (sym (c.rest.ensures ∙ ap (λ (u : Unread). u.rest) c.skip_number-value.ensures.rest))),
-)
+whole c =
+    let t = c.args.self.now.rest in
+    sym (ap (λ (u : Unread). u.rest) c.checkpoint-from.ensures.at)
+    ∙ (front-behind is_ascii_digit t ∙ ap (λ (u : Text). digits t ++ u) (sym (ap (λ (u : Unread). u.rest) c.skip_number-value.ensures.rest)))
+
+pub since-requires : goal.since-requires
+since-requires c = (digits c.args.self.now.rest, whole c)
 
 pub returns-clause-text : goal.returns-clause-text
-unfolding digits behind_digits
-returns-clause-text c =
-    c.before-2.ensures _ (c.rest-text.ensures ∙ (front-behind is_ascii_digit c.args.self.now.rest
-    ∙ ap (λ t. digits c.args.self.now.rest ++ t) (sym (c.rest.ensures ∙ ap (λ (u : Unread). u.rest) c.skip_number-value.ensures.rest))))
+returns-clause-text c = c.since.ensures _ (whole c.before.before)

@@ -1,17 +1,25 @@
-use Rattle.std.proofs.Common.{◌++◌, ◌∙◌, ap, sym}
+use Rattle.std.proofs.Common.{◌≡◌, ◌++◌, ◌∙◌, true, ap, chars, rules, sym}
 use Rattle.rustc_parse_format.specs.Midway.{Unread}
-use Rattle.rustc_parse_format.specs.Characters.{word}
-use Rattle.rustc_parse_format.proofs.Fronts.{word-behind}
+use Rattle.rustc_parse_format.specs.Characters.{Text, behind, behind_word, first_passes, is_id_start, is_id_continue, word}
+use Rattle.rustc_parse_format.proofs.Fronts.{behind_word-some, word-behind}
+use Rattle.rustc_parse_format.proofs.WordFronts.{text_nowhere}
 use Rattle.rustc_parse_format.proofs.cursor.Cursor.word.Goals as goal
+use Rattle.rustc_parse_format.proofs.cursor.Cursor.word.Goals.{After-from-1}
 
-pub before-requires : goal.before-requires
-before-requires c = (
-  word c.args.self.now.rest,
-  c.rest-text.ensures ∙ (word-behind c.args.self.now.rest
-      ∙ ap (λ t. word c.args.self.now.rest ++ t) (sym (c.rest.ensures ∙ ap (λ (u : Unread). u.rest) c.skip_word.ensures.rest))),
-)
+-- the word, and what is left behind it
+whole : (c : After-from-1) → ◌≡◌ {A = Text} (chars c.checkpoint-from.result.spot.rest.now) (word c.args.self.now.rest ++ c.skip.new.self.rest)
+whole c =
+    let t = c.args.self.now.rest in
+    let starts : first_passes is_id_start t ≡ true = search rules in
+    let left : ◌≡◌ {A = Text} c.skip.new.self.rest (behind_word t) = ap (λ (u : Unread). u.rest) c.skip.ensures.rest
+    ∙ (ap (λ (u : Unread). behind is_id_continue u.rest) c.advance.ensures.rest ∙ sym (behind_word-some t starts)) in
+    sym (ap (λ (u : Unread). u.rest) c.checkpoint-from.ensures.at) ∙ (word-behind t ∙ ap (λ (u : Text). word t ++ u) (sym left))
+
+pub since-requires : goal.since-requires
+since-requires c = (word c.args.self.now.rest, whole c)
 
 pub returns-clause-value : goal.returns-clause-value
-returns-clause-value c =
-    c.before-2.ensures _ (c.rest-text.ensures ∙ (word-behind c.args.self.now.rest
-    ∙ ap (λ t. word c.args.self.now.rest ++ t) (sym (c.rest.ensures ∙ ap (λ (u : Unread). u.rest) c.skip_word.ensures.rest))))
+returns-clause-value c = c.since.ensures _ (whole c.before)
+
+pub returns-then-not-starts_word-clause-value : goal.returns-then-not-starts_word-clause-value
+returns-then-not-starts_word-clause-value c = text_nowhere c.args.self.now.rest (sym c.if-not-starts_word.ensures)

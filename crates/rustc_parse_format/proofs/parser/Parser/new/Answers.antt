@@ -4,14 +4,8 @@ use Rattle.rustc_parse_format.specs.Seen.{seen_mode, seen_snippet}
 use Rattle.rustc_parse_format.proofs.LinesInside.{fresh_lies_inside}
 use Rattle.rustc_parse_format.proofs.ReadBackWorlds.{has_source-is}
 use Rattle.rustc_parse_format.proofs.ParserLaws.{world-end}
-use Rattle.rustc_parse_format.proofs.SourcePlaces.{first_spot}
 use Rattle.rustc_parse_format.proofs.Sources.{has_source}
 use Rattle.rustc_parse_format.proofs.parser.Parser.new.Goals as goal
-
-pub new-cursor-requires : goal.new-cursor-requires
-new-cursor-requires c =
-    first_spot c.source_of-source.result c.args.input.now c.first_look.result c.utf8.input c.source_of-source.ensures.input
-    c.source_of-source.ensures.fits c.first_look.ensures c.source_of-source.ensures.kept
 
 -- a text has at most as many characters as bytes
 fewer : (t : List ℕ) → IsUtf8 t → length (chars t) ≤ length t

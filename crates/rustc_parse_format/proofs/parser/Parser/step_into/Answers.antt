@@ -16,8 +16,8 @@ pub returns-clause-fronts : goal.returns-clause-fronts
 returns-clause-fronts c =
     let r = c.self.inside.reader in
     let s = c.args.self.now in
-    let read : ◌≡◌ {A = Midway} c.read_placeholder.new.reader (record (read_call r (next_call s)) { back = c.read_placeholder.new.reader.back }) =
-    c.in-Ok.ensures.state ∙ ap (λ (x : State). record (read_call r (next_call x)) { back = c.read_placeholder.new.reader.back }) c.self.view_is in
+    let read : ◌≡◌ {A = Midway} c.read_placeholder.new.reader (read_call r (next_call s)) =
+    c.in-Ok.ensures.state ∙ ap (λ (x : State). read_call r (next_call x)) c.self.view_is in
     let found : c.read_placeholder.new.reader.faults ≡ faults_in s.world (next_call s).faults =
     ap (λ (m : Midway). m.faults) read
     ∙ ap (λ (fs : List (Fault Place)). fs ++ faults_in r.world (next_call s).faults) c.self.invariant.1.0
@@ -38,8 +38,8 @@ returns-in_default-take_over-clause-spare c n =
     let s = c.args.self.now in
     let none = nothing_found s r (next_call s) (opens-some s.rest c.requires.opens) c.self.invariant.1 (ap (λ (x : State). x.world) c.self.view_is)
     (ap (λ (x : State). x.line_start) c.self.view_is) n in
-    let read : ◌≡◌ {A = Midway} c.read_placeholder.new.reader (record (read_call r (next_call s)) { back = c.read_placeholder.new.reader.back }) =
-    c.in-Ok.ensures.state ∙ ap (λ (x : State). record (read_call r (next_call x)) { back = c.read_placeholder.new.reader.back }) c.self.view_is in
+    let read : ◌≡◌ {A = Midway} c.read_placeholder.new.reader (read_call r (next_call s)) =
+    c.in-Ok.ensures.state ∙ ap (λ (x : State). read_call r (next_call x)) c.self.view_is in
     c.in_default-take_over.ensures.none (subst HasFoundNothing (sym read) none)
 
 pub invariant_of-self-in-Ok-take_over : goal.invariant_of-self-in-Ok-take_over

@@ -9,7 +9,7 @@ since-requires c =
     let t : Text = c.args.self.now.rest in
     let left : ◌≡◌ {A = Text} c.self-2.inside.cursor.rest (behind is_no_brace t) = ap (λ (s : Midway). s.rest) (c.self-2.view_is ∙ c.in_ok-skip_text.ensures.state) in (
       front is_no_brace t,
-      sym (ap (λ (u : Unread). u.rest) c.spot-from.ensures.at)
+      sym (ap (λ (u : Unread). u.rest) c.checkpoint-from.ensures.at)
           ∙ (ap (λ (s : Midway). s.rest) c.self.view_is ∙ (front-behind is_no_brace t ∙ ap (λ (u : Text). front is_no_brace t ++ u) (sym left))),
     )
 
@@ -17,5 +17,5 @@ pub returns-clause-value : goal.returns-clause-value
 returns-clause-value c =
     let t : Text = c.args.self.now.rest in
     let left : ◌≡◌ {A = Text} c.self-2.inside.cursor.rest (behind is_no_brace t) = ap (λ (s : Midway). s.rest) (c.self-2.view_is ∙ c.in_ok-skip_text.ensures.state) in
-    c.since.ensures (front is_no_brace t) (sym (ap (λ (u : Unread). u.rest) c.spot-from.ensures.at)
+    c.since.ensures (front is_no_brace t) (sym (ap (λ (u : Unread). u.rest) c.checkpoint-from.ensures.at)
     ∙ (ap (λ (s : Midway). s.rest) c.self.view_is ∙ (front-behind is_no_brace t ∙ ap (λ (u : Text). front is_no_brace t ++ u) (sym left))))

@@ -12,7 +12,7 @@ since-requires c =
     (ap (λ (s : Midway). s.rest) (c.self-2.view_is ∙ c.in_ok-skip_text.ensures.state) ∙ ap (behind is_no_brace)
     (ap (λ (u : Unread). u.rest) c.advance.ensures.rest ∙ ap (λ (s : Midway). behind_first s.rest) c.self.view_is)) in (
       read,
-      sym (ap (λ (u : Unread). u.rest) c.spot-from.ensures.at)
+      sym (ap (λ (u : Unread). u.rest) c.checkpoint-from.ensures.at)
           ∙ (ap (λ (s : Midway). s.rest) c.self.view_is ∙ (first-behind is_no_brace t ∙ ap (λ (u : Text). read ++ u) (sym left))),
     )
 
@@ -23,5 +23,5 @@ returns-clause-value c =
     let left : ◌≡◌ {A = Text} c.self-2.inside.cursor.rest (behind is_no_brace (behind_first t)) =
     (ap (λ (s : Midway). s.rest) (c.self-2.view_is ∙ c.in_ok-skip_text.ensures.state) ∙ ap (behind is_no_brace)
     (ap (λ (u : Unread). u.rest) c.advance.ensures.rest ∙ ap (λ (s : Midway). behind_first s.rest) c.self.view_is)) in
-    c.since.ensures read (sym (ap (λ (u : Unread). u.rest) c.spot-from.ensures.at)
+    c.since.ensures read (sym (ap (λ (u : Unread). u.rest) c.checkpoint-from.ensures.at)
     ∙ (ap (λ (s : Midway). s.rest) c.self.view_is ∙ (first-behind is_no_brace t ∙ ap (λ (u : Text). read ++ u) (sym left))))

@@ -1,0 +1,46 @@
+use Rattle.std.proofs.Common.{◌≡◌, ◌++◌, ◌∙◌, [], ◌∷◌, Some, false, ap, chars, refl, rules, sym}
+use Rattle.rustc_parse_format.specs.Midway.{Midway, Unread}
+use Rattle.rustc_parse_format.specs.Characters.{Text, behind_first, first_passes, is_id_start}
+use Rattle.rustc_parse_format.specs.PartFaults.{position_faults}
+use Rattle.rustc_parse_format.specs.Placeholder.{position}
+use Rattle.rustc_parse_format.specs.Syntax.{PositionText, Word}
+use Rattle.rustc_parse_format.specs.Types.{Named}
+use Rattle.rustc_parse_format.specs.Values.{given_position}
+use Rattle.rustc_parse_format.proofs.RawWords.{r-faultless, r-position, r-whole}
+use Rattle.rustc_parse_format.proofs.Readers.{read_nothing}
+use Rattle.rustc_parse_format.proofs.placeholder.prefixed_word.Goals as goal
+use Rattle.rustc_parse_format.proofs.placeholder.prefixed_word.Goals.{After-front-1}
+
+left : (c : After-front-1) → ◌≡◌ {A = Text} c.reader-2.inside.cursor.rest (behind_first c.args.reader.now.rest)
+left c = ap (λ (s : Midway). s.rest) (c.reader-2.view_is ∙ c.advance.ensures.state)
+
+-- the `r`, and what is left behind it
+whole : (c : After-front-1) → ◌≡◌ {A = Text} (chars c.checkpoint-front.result.spot.rest.now) (114 ∷ c.reader-2.inside.cursor.rest)
+whole c =
+    sym (ap (λ (u : Unread). u.rest) c.checkpoint-front.ensures.at)
+    ∙ (ap (λ (s : Midway). s.rest) c.reader.view_is ∙ (r-whole c.args.reader.now.rest c.requires ∙ ap (λ (u : Text). 114 ∷ u) (sym (left c))))
+
+-- the word is that
+alone : (c : After-front-1) → position c.args.reader.now.rest ≡ (Word (114 ∷ []), behind_first c.args.reader.now.rest)
+alone c = r-position c.args.reader.now.rest c.requires
+    (sym (c.if-not-goes_on_with_word.ensures ∙ ap (λ (u : Text). first_passes is_id_start (behind_first u)) (left c)))
+
+pub since-requires : goal.since-requires
+since-requires c = (114 ∷ [], whole c)
+
+pub returns-then-not-goes_on_with_word-clause-value : goal.returns-then-not-goes_on_with_word-clause-value
+returns-then-not-goes_on_with_word-clause-value c =
+    ap (λ w. Some (Named w)) (c.since.ensures _ (whole c.before.before))
+    ∙ ap (λ (x : PositionText × Text). given_position x.0) (sym (alone c.before.before))
+
+pub returns-then-not-goes_on_with_word-clause-reads : goal.returns-then-not-goes_on_with_word-clause-reads
+returns-then-not-goes_on_with_word-clause-reads c =
+    let s = c.args.reader.now in
+    let here = alone c.before.before in
+    record {
+      state = c.advance.ensures.state ∙ read_nothing (record s { rest = behind_first s.rest }) (position s.rest).1 (position_faults s.rest (position s.rest).0)
+          (ap (λ (x : PositionText × Text). x.1) here)
+          (ap (λ (x : PositionText × Text). position_faults s.rest x.0) here ∙ r-faultless s.rest c.requires);
+      err = tt;
+      spare = λ none. refl;
+    }

@@ -1,0 +1,37 @@
+-- The words that are tried for a count: where no `$` follows, such a word is given back, and read again as what it is. Each is told by
+-- the rest at whose front it stands.
+use Rattle.std.specs.Prelude.{◌++◌, if◌then◌else◌, List, [], ◌∷◌}
+use Rattle.rustc_parse_format.specs.Characters.{Text, behind_first, behind_word, first_passes, is_id_start}
+use Rattle.rustc_parse_format.specs.Back.{Back, given_back}
+use Rattle.rustc_parse_format.specs.Syntax.{CountText, NoCount, WidthText, PaddedWidth, ZeroIndexWidth, PlainWidth, PrecisionText, NoPrecision}
+use Rattle.rustc_parse_format.specs.Syntax.{StarPrecision, DotPrecision, FormatText, SpecText, Formatting}
+use Rattle.rustc_parse_format.specs.Meaning.{from_width, from_precision}
+
+-- after these words were given back, one after the other
+abbrev pub tried : Back → List Text → Back
+tried b [] = b
+tried b (t ∷ ts) = tried (given_back (behind_word t) t b) ts
+
+-- a count that stands at t
+abbrev pub count_tries : Text → CountText → List Text
+count_tries t NoCount = if first_passes is_id_start t then t ∷ [] else []
+count_tries t k = []
+
+abbrev pub width_tries : Text → WidthText → List Text
+width_tries t (PaddedWidth k) = count_tries (behind_first t) k
+width_tries t ZeroIndexWidth = []
+width_tries t (PlainWidth k) = count_tries t k
+
+abbrev pub precision_tries : Text → PrecisionText → List Text
+precision_tries t NoPrecision = []
+precision_tries t StarPrecision = []
+precision_tries t (DotPrecision k) = count_tries (behind_first t) k
+
+-- the format specification in front of r
+unfoldable pub format_tries : FormatText → Text → List Text
+format_tries p r = width_tries (from_width p r) p.width ++ precision_tries (from_precision p r) p.precision
+
+-- the specification in front of r
+abbrev pub spec_tries : SpecText → Text → List Text
+spec_tries (Formatting p) r = format_tries p r
+spec_tries s r = []
