@@ -1,7 +1,7 @@
 use Rattle.std.proofs.Common.{◌≡◌, ◌+◌, ◌-◌, length, refl, sym, ap, ◌∙◌, arith}
 use Rattle.std.proofs.lemmas.List.{length-map}
 use Rattle.rustc_parse_format.specs.Seen.{pair, seen_error, seen_taken}
-use Rattle.rustc_parse_format.specs.State.{State, next_call, with_back}
+use Rattle.rustc_parse_format.specs.State.{State, next_call}
 use Rattle.std.specs.Prelude.{option_map}
 use Rattle.flat_reading.specs.Meant.{maybe_place}
 use Rattle.flat_reading.proofs.Walking.{told}
@@ -44,7 +44,7 @@ returns-clause-told c = λ room.
     let kept = c.in_ok-put_given.ensures.others in
     let place = rw state at c.closed-step.ensures in
     let t = c.next_into.new.self in
-    told w.peeks w.input.now c.put_given.new.specs.records.now c.put_given.new.step (with_back s t.back) t state
+    told w.peeks w.input.now c.put_given.new.specs.records.now c.put_given.new.step s t state
     (c.in_ok-put_given.ensures.told same room ∙ c.in_ok-given.ensures.piece)
     (ap maybe_place kept.0
     ∙ place s.arg_places (next_call s).closes (sym (length-map c.arg_places-places.result.now pair) ∙ ap length c.arg_places-places.ensures) refl)
@@ -72,9 +72,8 @@ returns-clause-call c =
       ready = record {
         utf8 = ready.utf8;
         input = ready.input ∙ sym (ap (λ (s : State). s.input) state);
-        left = still_ends (with_back old.parser t.back) t ready.left state;
-        guided = still_guided old.parser t old.offset (guide_of old.guide) (guide_of c.put_given.new.self.guide) ready.guided state
-            c.in_ok-put_given.ensures.guide;
+        left = still_ends old.parser t ready.left state;
+        guided = rw (state, c.in_ok-put_given.ensures.guide) (still_guided old.parser old.offset (guide_of old.guide) ready.guided);
       };
       finders = rw (found, fronts) at c.in_ok-add.ensures.calls ∙ sym (add_finders-is c.args.number old.finders.calls fs);
       fronts = c.in_ok-add.ensures.fronts ∙ ap (λ n. old.finders.fronts + n) fronts;
