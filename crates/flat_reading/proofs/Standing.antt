@@ -13,7 +13,7 @@ use Rattle.rustc_parse_format.specs.Types.{Mode, Format, InlineAsm, Diagnostic, 
 use Rattle.rustc_parse_format.specs.Types.{Param, Star, Implied}
 use Rattle.rustc_parse_format.specs.Types.{Piece, Lit, NextArgument, bare, bare_count}
 use Rattle.rustc_parse_format.specs.World.{Place, piece_in}
-use Rattle.rustc_parse_format.specs.State.{State, next_call, after, with_back}
+use Rattle.rustc_parse_format.specs.State.{State, next_call, after}
 use Rattle.rustc_parse_format.specs.Agreement.{Agree}
 use Rattle.rustc_parse_format.proofs.Agreement.{next_agrees}
 use Rattle.rustc_parse_format.proofs.ParserLaws.{bare_given, call_rest}
@@ -22,7 +22,7 @@ use Rattle.rustc_parse_format.proofs.TextPlaces.{call_stands as call_texts}
 use Rattle.rustc_parse_format.proofs.TextBytes.{HasLast, HasName, HasText, piece_has, text-bytes}
 use Rattle.flat_reading.specs.declared.texts.Texts.{Texts}
 use Rattle.flat_reading.specs.Events.{position}
-use Rattle.flat_reading.specs.Stand.{CountAt, CountStands, EndsWith, GoesAlong, IsAlong, IsGuided, IsLast, IsPlain, PieceAt, PieceStands, PositionStands}
+use Rattle.flat_reading.specs.Stand.{CountAt, CountStands, EndsWith, IsAlong, IsGuided, IsLast, IsPlain, PieceAt, PieceStands, PositionStands}
 use Rattle.flat_reading.specs.Stand.{StandsAlike, TypeStands}
 
 -- of a run, that it was read last
@@ -149,14 +149,9 @@ same_texts input read x s t o g e h =
     rw e (at_bare {A = Place} input read x (option_map (piece_in s.world) (next_call s).piece) here)
 
 -- The places stay known.
-pub still_guided : (s new : State) (at : ℕ) (o p : Option State) → IsGuided s at o → new ≡ after (with_back s new.back) (next_call s) → GoesAlong o p
-    → IsGuided new at p
-still_guided s new at None None g e h = rw e g
-still_guided s new at None (Some p) g e h = absurd h
-still_guided s new at (Some o) None g e h = absurd h
-still_guided s new at (Some o) (Some p) g e h =
-    let a = (next_agrees s o g.0).1 in
-    rw (e, h) (record { mode = a.mode; input = a.input; rest = a.rest; next = a.next; errors = a.errors }, g.1)
+pub still_guided : (s : State) (at : ℕ) (o : Option State) → IsGuided s at o → IsGuided (after s (next_call s)) at (option_map (λ g. after g (next_call g)) o)
+still_guided s at None p = p
+still_guided s at (Some g) p = ((next_agrees s g p.0).1, p.1)
 
 pub alone : (bytes : List ℕ) (s : State) (at read : ℕ) (g : Option State) (o : Option (Piece Place)) → IsUtf8 bytes → chars bytes ≡ s.input
     → EndsWith s.input s.rest → IsGuided s at g →

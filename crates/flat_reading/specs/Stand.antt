@@ -6,7 +6,7 @@ use Rattle.rustc_parse_format.specs.Characters.{Text}
 use Rattle.rustc_parse_format.specs.Characters.{byte_length}
 use Rattle.rustc_parse_format.specs.Types.{Position, Implicit, Index, Named, Count, Is, Name, Param, Star, Implied, Spec, Argument, Piece, Lit, NextArgument}
 use Rattle.rustc_parse_format.specs.World.{Place, piece_in, plain_world}
-use Rattle.rustc_parse_format.specs.State.{State, after, next_call, with_back}
+use Rattle.rustc_parse_format.specs.State.{State, after, next_call}
 use Rattle.rustc_parse_format.specs.Agreement.{Agree}
 use Rattle.std.specs.declared.alloc.Global.{Global}
 use Rattle.std.specs.declared.boxed.Box.{Box}
@@ -109,13 +109,6 @@ abbrev pub IsGuided : State → ℕ → Option State → Type 0
 IsGuided s offset None = IsPlain s offset
 IsGuided s offset (Some o) = Agree s o × IsPlain o 1
 
--- the guide made its next call, if there is one
-abbrev pub GoesAlong : Option State → Option State → Type 0
-GoesAlong None None = Unit {0}
-GoesAlong None (Some h) = ⊥
-GoesAlong (Some g) None = ⊥
-GoesAlong (Some g) (Some h) = h ≡ after (with_back g h.back) (next_call g)
-
 -- the second is what is left of the first
 abbrev pub EndsWith : Text → Text → Type 0
 EndsWith input rest = (front : Text) × (input ≡ front ++ rest)
@@ -144,7 +137,7 @@ pub record IsOnItsWay (w : Walker) : Type 0 where
 
 -- the call with this number was made, and it is known which errors it found
 pub record MakesCall (number : ℕ) (old new : Walker) : Type 0 where
-  pub state : new.parser ≡ after (with_back old.parser new.parser.back) (next_call old.parser)
+  pub state : new.parser ≡ after old.parser (next_call old.parser)
   pub ready : IsOnItsWay new
   pub finders : new.finders.calls ≡ add_finders number old.finders.calls (next_call old.parser).faults
   pub fronts : new.finders.fronts ≡ old.finders.fronts + fronts_in (next_call old.parser)

@@ -6,14 +6,14 @@ ghost use Rattle.rustc_parse_format.specs.Characters.{behind_first};
 ghost use Rattle.rustc_parse_format.specs.Lines.{closed_in, listed};
 ghost use Rattle.rustc_parse_format.specs.Marks.{Span};
 ghost use Rattle.rustc_parse_format.specs.Seen.{pair, seen_taken};
-ghost use Rattle.rustc_parse_format.specs.State.{after, next_call, with_back};
+ghost use Rattle.rustc_parse_format.specs.State.{after, next_call};
 ghost use Rattle.rustc_parse_format.specs.World.{Place};
 ghost use Rattle.flat_reading.specs.declared.records.Spec.{Spec as SpecRecord};
 ghost use Rattle.flat_reading.specs.declared.records.Step.{Step as StepRecord};
 ghost use Rattle.flat_reading.specs.Events.{end_of, event, events, found_by, fronts_of};
 ghost use Rattle.flat_reading.specs.Events.{given, looked_for, place_of_first, position, spec_count, specs_in, states, step_meant};
 ghost use Rattle.flat_reading.specs.Meant.{maybe_place, piece_meant, spec_at};
-ghost use Rattle.flat_reading.specs.Stand.{Adds, GoesAlong, IsAdded, IsAlong, IsGuided, IsOnItsWay, MakesCall, PieceStands, SameBehind, StandsAlike, guide_of};
+ghost use Rattle.flat_reading.specs.Stand.{Adds, IsAdded, IsAlong, IsGuided, IsOnItsWay, MakesCall, PieceStands, SameBehind, StandsAlike, guide_of};
 
 use crate::finders::Finders;
 use crate::flat::{NO_EXTENT, NOWHERE, SpecBuffer, bare, put_piece, put_plain, there};
@@ -120,7 +120,7 @@ fn put_guided(
     ensures number { OnOk result (step.new.spec ≤ specs.new.used) }
     ensures adds { OnOk result (Adds (specs_in (option_map (seen_taken argument.now) given.now)) specs.old specs.new) }
     ensures others { OnOk result (SameBehind step.old step.new) }
-    ensures state { OnOk result (guide.new ≡ after (with_back guide.old guide.new.back) (next_call guide.old)) }
+    ensures state { OnOk result (guide.new ≡ after guide.old (next_call guide.old)) }
 {
     let same = guide.next()?;
     let texts = texts_of(input, 1, step.read, &same);
@@ -202,7 +202,7 @@ impl<'a> Walker<'a> {
         ensures number { OnOk result (step.new.spec ≤ specs.new.used) }
         ensures adds { OnOk result (Adds (specs_in (option_map (seen_taken self.old.argument) given.now)) specs.old specs.new) }
         ensures others { OnOk result (SameBehind step.old step.new) }
-        ensures guide { OnOk result (GoesAlong (guide_of self.old.guide) (guide_of self.new.guide)) }
+        ensures guide { OnOk result (guide_of self.new.guide ≡ option_map (λ g. after g (next_call g)) (guide_of self.old.guide)) }
         ensures same { OnOk result (self.new ≡ record self.old { guide = self.new.guide }) }
     {
         match &mut self.guide {
@@ -300,7 +300,7 @@ impl<'a> Walker<'a> {
         requires { self.old.parser.rest ≡ [] }
         ensures told { OnOk result ((peeks : Bool) (input : List ℕ) (specs : List SpecRecord) → step_meant input specs step.new ≡ event peeks self.old.parser) }
         ensures number { OnOk result (step.new.spec ≡ 0) }
-        ensures state { OnOk result (self.new.parser ≡ after (with_back self.old.parser self.new.parser.back) (next_call self.old.parser)) }
+        ensures state { OnOk result (self.new.parser ≡ after self.old.parser (next_call self.old.parser)) }
         ensures finders { OnOk result (self.new.finders ≡ self.old.finders) }
     {
         let _none = self.parser.next_into(&mut self.argument)?;
@@ -318,7 +318,7 @@ impl<'a> Walker<'a> {
         requires { self.old.parser.rest ≡ [] }
         ensures added { OnOk result ((peeks : Bool) (input : List ℕ) (used : ℕ) (specs : List SpecRecord)
             → IsAdded input (event peeks self.old.parser) number used steps.old steps.new specs) }
-        ensures state { OnOk result (self.new.parser ≡ after (with_back self.old.parser self.new.parser.back) (next_call self.old.parser)) }
+        ensures state { OnOk result (self.new.parser ≡ after self.old.parser (next_call self.old.parser)) }
         ensures finders { OnOk result (self.new.finders ≡ self.old.finders) }
     {
         if number >= steps.len() {
@@ -345,7 +345,7 @@ impl<'a> Walker<'a> {
         ensures specs { OnOk result (Adds (spec_count self.old.parser) specs.old specs.new) }
         ensures written { IfOk result (λ k. k ≤ length steps.old → specs.new.used ≤ length specs.old.records.now
             → map (step_meant self.old.input.now (take specs.new.used specs.new.records.now)) (take k steps.new) ≡ events self.old.peeks self.old.parser) }
-        ensures state { OnOk result (with_back self.new.parser self.old.parser.back ≡ end_of self.old.parser) }
+        ensures state { OnOk result (self.new.parser ≡ end_of self.old.parser) }
         ensures finders { OnOk result (self.new.finders.calls ≡ found_by self.old.parser) }
         ensures fronts { OnOk result (self.new.finders.fronts ≡ fronts_of self.old.parser) }
         ensures kept_steps { IfOk result (λ k. drop k steps.new ≡ drop k steps.old) }

@@ -87,26 +87,7 @@ fn call_again<'input>(
     second_call(rt, parser, way)
 }
 
-/// Adds so many pieces at most, up to the first call without one.
-fn put_pieces(
-    rt: &(impl Abort + Print),
-    alloc: Global,
-    parser: &mut Parser<'_>,
-    way: Way,
-    most: usize,
-    out: &mut Sheet,
-    taken: &mut Sheet,
-) -> Result<(), Fail> {
-    for _ in 0..most {
-        match call_again(rt, alloc, parser, way, taken)? {
-            Some(piece) => put_piece(out, &piece)?,
-            None => break,
-        }
-    }
-    Ok(())
-}
-
-/// Reads a row from its start, by this parser.
+/// Reads a row from its start, by this parser, up to the first call without a piece.
 fn walk_from(
     rt: &(impl Abort + Print),
     alloc: Global,
@@ -116,8 +97,12 @@ fn walk_from(
 ) -> Result<(), Fail> {
     let mut out = Sheet::new();
     let mut taken = Sheet::new();
-    let most = row.input.len();
-    put_pieces(rt, alloc, parser, way, most, &mut out, &mut taken)?;
+    for _ in 0..row.input.len() {
+        match call_again(rt, alloc, parser, way, &mut taken)? {
+            Some(piece) => put_piece(&mut out, &piece)?,
+            None => break,
+        }
+    }
     check_row(rt, row, &mut out, &taken, parser)
 }
 

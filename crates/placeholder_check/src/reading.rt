@@ -4,7 +4,7 @@ ghost use Rattle.std.specs.Prelude.{◌≡◌, ◌+◌, ◌<◌, ◌^◌, ◌↔
 ghost use Rattle.rustc_parse_format.specs.Call.{pieces_of};
 ghost use Rattle.rustc_parse_format.specs.Grammar.{IsInGrammar};
 ghost use Rattle.rustc_parse_format.specs.Seen.{seen, seen_mode, seen_snippet};
-ghost use Rattle.rustc_parse_format.specs.State.{after_all, calls, first_state, with_back};
+ghost use Rattle.rustc_parse_format.specs.State.{after_all, calls, first_state};
 ghost use Rattle.rustc_parse_format.specs.Types.{DiagnosticNamed};
 ghost use Rattle.rustc_parse_format.specs.World.{hashes, pieces_in};
 ghost use Rattle.placeholder_check.specs.Entries.{Lists};
@@ -34,7 +34,7 @@ pub fn read_and_check<'a>(
     // The pieces and the parser are those of the walk of a fresh parser, and the report is theirs.
     ensures walk { IfOk result (λ x.
         let s = first_state (seen_mode mode) (chars input.now) style (seen_snippet snippet) appended_newline in
-        (map seen x.0.items ≡ pieces_in s.world (pieces_of (calls s))) × (with_back x.1 s.back ≡ after_all s (calls s))) }
+        (map seen x.0.items ≡ pieces_in s.world (pieces_of (calls s))) × (x.1 ≡ after_all s (calls s))) }
     ensures report { IfOk result (λ x. IsReport (uses (map seen x.0.items)) positional (texts names.now) (seen_report x.2)) }
 
     // No error is left exactly where the input is in the grammar, and then the report is that of its one reading.

@@ -1,7 +1,7 @@
 use Rattle.std.proofs.Common.{◌≡◌, ◌+◌, ◌-◌, length, refl, sym, ap, ◌∙◌, arith}
 use Rattle.std.proofs.lemmas.List.{length-map}
 use Rattle.rustc_parse_format.specs.Seen.{pair, seen_error, seen_taken}
-use Rattle.rustc_parse_format.specs.State.{State, next_call, with_back}
+use Rattle.rustc_parse_format.specs.State.{State, next_call}
 use Rattle.std.specs.Prelude.{option_map}
 use Rattle.flat_reading.specs.Meant.{maybe_place}
 use Rattle.flat_reading.proofs.Walking.{told}
@@ -14,8 +14,9 @@ use Rattle.flat_reading.proofs.walk.Walker.step.Goals as goal
 pub put_given-requires-clause-alone : goal.put_given-requires-clause-alone
 put_given-requires-clause-alone c =
     let read = c.put_state.ensures.read ∙ ap (λ (s : State). position s.input s.rest) c.in_ok-given.ensures.state in
-    alone c.args.self.now.input.now c.args.self.now.parser c.args.self.now.offset _ (guide_of c.args.self.now.guide) _ c.requires.ready.utf8 c.requires.ready.input c.requires.ready.left c.requires.ready.guided
-    read c.in_ok-given.ensures.piece
+    let w = c.args.self.now in
+    let ready = c.requires.ready in
+    alone w.input.now w.parser w.offset _ (guide_of w.guide) _ ready.utf8 ready.input ready.left ready.guided read c.in_ok-given.ensures.piece
 
 pub overflow_sub-errors : goal.overflow_sub-errors
 overflow_sub-errors c =
@@ -35,13 +36,15 @@ add-requires c =
 
 pub returns-clause-told : goal.returns-clause-told
 returns-clause-told c = λ room.
-    let s = c.args.self.now.parser in
+    let w = c.args.self.now in
+    let s = w.parser in
     let state = c.in_ok-given.ensures.state in
-    let same = alike c.args.self.now.input.now _ s c.args.self.now.offset (guide_of c.args.self.now.guide) (option_map (seen_taken c.next_into.new.argument) c.in_ok-given.given)
+    let same = alike w.input.now _ s w.offset (guide_of w.guide) (option_map (seen_taken c.next_into.new.argument) c.in_ok-given.given)
     c.requires.ready.guided c.in_ok-given.ensures.piece in
     let kept = c.in_ok-put_given.ensures.others in
     let place = rw state at c.closed-step.ensures in
-    told c.args.self.now.peeks c.args.self.now.input.now c.put_given.new.specs.records.now c.put_given.new.step (with_back s c.next_into.new.self.back) c.next_into.new.self state
+    let t = c.next_into.new.self in
+    told w.peeks w.input.now c.put_given.new.specs.records.now c.put_given.new.step s t state
     (c.in_ok-put_given.ensures.told same room ∙ c.in_ok-given.ensures.piece)
     (ap maybe_place kept.0
     ∙ place s.arg_places (next_call s).closes (sym (length-map c.arg_places-places.result.now pair) ∙ ap length c.arg_places-places.ensures) refl)
@@ -69,9 +72,8 @@ returns-clause-call c =
       ready = record {
         utf8 = ready.utf8;
         input = ready.input ∙ sym (ap (λ (s : State). s.input) state);
-        left = still_ends (with_back old.parser t.back) t ready.left state;
-        guided = still_guided old.parser t old.offset (guide_of old.guide) (guide_of c.put_given.new.self.guide) ready.guided state
-            c.in_ok-put_given.ensures.guide;
+        left = still_ends old.parser t ready.left state;
+        guided = rw (state, c.in_ok-put_given.ensures.guide) (still_guided old.parser old.offset (guide_of old.guide) ready.guided);
       };
       finders = rw (found, fronts) at c.in_ok-add.ensures.calls ∙ sym (add_finders-is c.args.number old.finders.calls fs);
       fronts = c.in_ok-add.ensures.fronts ∙ ap (λ n. old.finders.fronts + n) fronts;

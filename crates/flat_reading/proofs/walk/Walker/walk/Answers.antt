@@ -1,6 +1,6 @@
 use Rattle.std.proofs.Common.{◌≡◌, ◌+◌, [], length, take, refl, sym, ap, ◌∙◌, arith}
 use Rattle.std.proofs.lemmas.List.{append-nil, take-take}
-use Rattle.rustc_parse_format.specs.State.{State, next_call, with_back}
+use Rattle.rustc_parse_format.specs.State.{State, next_call}
 use Rattle.flat_reading.specs.Events.{event, fronts_in, given, spec_count, specs_in, states}
 use Rattle.flat_reading.proofs.Widths.{none_left, some_left}
 use Rattle.flat_reading.proofs.Walking.{added_on, begin, end_finders, end_fronts, end_specs, goes_on, kept_put, one_more, same_meant, states-end}
@@ -41,9 +41,6 @@ loop-read-preserved c =
     let adds = c.in_ok-read.ensures.adds in
     let more = some_left w.input.now s.input s.rest c.loop-read.read invariant.ready.utf8 invariant.ready.input invariant.read c.loop-read-test.true in
     let fewer = goes_on s more in
-    let here = with_back s s0.back in
-    let there = with_back new.parser s0.back in
-    let moved = ap (λ x. with_back x s0.back) call.state in
     let added = rw (invariant.input, invariant.peeks) at c.in_ok-read.ensures.added in
     record {
       ready = call.ready;
@@ -51,9 +48,9 @@ loop-read-preserved c =
       peeks = call.peeks ∙ invariant.peeks;
       read = c.in_ok-read.ensures.read;
       room = omega (arith, invariant.room, fewer, ap (λ (s : State). length s.rest) call.state);
-      up_to = one_more w0.peeks w0.input.now s0 here there (states there) c.loop-read.count c.loop-read.specs.used c.add_step.new.specs.used
+      up_to = one_more w0.peeks w0.input.now s0 s new.parser (states new.parser) c.loop-read.count c.loop-read.specs.used c.add_step.new.specs.used
           w.finders new.finders c.loop-read.steps c.add_step.new.steps c.loop-read.specs.records.now c.add_step.new.specs.records.now
-          (rw (states-more here there more moved) at invariant.up_to) moved adds.used call.finders call.fronts added adds.front adds.room;
+          (rw (states-more s new.parser more call.state) at invariant.up_to) call.state adds.used call.finders call.fronts added adds.front adds.room;
       kept_steps = kept_put w0.input.now (event w0.peeks s) c.loop-read.steps c.add_step.new.steps c.args.steps.now c.add_step.new.specs.records.now
           c.loop-read.count c.add_step.new.specs.used added invariant.kept_steps;
       specs = added_on (specs_in (given s)) c.args.specs.now c.loop-read.specs c.add_step.new.specs c.requires.empty invariant.specs adds;
@@ -72,19 +69,18 @@ returns c =
     let w = c.loop-read.self in
     let s = w.parser in
     let invariant = c.loop-read.invariant in
-    let here = with_back s s0.back in
-    let there = with_back c.add_end.new.self.parser s0.back in
+    let t = c.add_end.new.self.parser in
     let end = none_left w.input.now s.input s.rest c.loop-read.read invariant.ready.utf8 invariant.ready.input invariant.ready.left invariant.read
     c.loop-read-test.false in
-    let state = ap (λ x. with_back x s0.back) c.in_ok-add_end.ensures.state in
+    let state = c.in_ok-add_end.ensures.state in
     let used = c.loop-read.specs.used in
     let specs = c.loop-read.specs.records.now in
     let found = w.finders in
     let added = c.in_ok-add_end.ensures.added w0.peeks w0.input.now used specs in
     let none : used ≡ used + specs_in (given s) = omega (arith, end_specs s end) in
     let no_fronts : found.fronts ≡ found.fronts + fronts_in (next_call s) = omega (arith, end_fronts s end) in
-    let last = one_more w0.peeks w0.input.now s0 here there [] c.loop-read.count used used found found c.loop-read.steps c.add_end.new.steps specs specs
-    (rw (states-end here end) at invariant.up_to) state none (sym (end_finders c.loop-read.count found.calls s end)) no_fronts added refl refl in
+    let last = one_more w0.peeks w0.input.now s0 s t [] c.loop-read.count used used found found c.loop-read.steps c.add_end.new.steps specs specs
+    (rw (states-end s end) at invariant.up_to) state none (sym (end_finders c.loop-read.count found.calls s end)) no_fronts added refl refl in
     let all : used ≡ spec_count s0 = omega (arith, last.specs_counted) in
     record {
       count = omega (arith, last.counted);
