@@ -1,0 +1,221 @@
+"""A source as items: what stands in it, what each defines, and what each names."""
+from extraction.tokens import TRIVIA, Refused, closing, tokens_of
+
+KINDS = ("fn", "struct", "enum", "impl", "mod", "use", "const", "type", "ghost")
+TRAITS = ("FusedIterator", "Iterator", "Model")
+
+
+class Item:
+    """An item: its tokens from `first`, with the comments in front of it, over `start` to `last`."""
+
+    def __init__(self, kind, first, start, head, last):
+        self.kind, self.first, self.start, self.head, self.last = kind, first, start, head, last
+        self.name = self.trait = self.open = self.of = None
+        self.parts, self.members, self.clauses, self.derive = [], [], "", None
+        self.is_public = self.is_kept = self.has_members = False
+
+
+class Source:
+    """The tokens of a file and its items. A token that is left out becomes an empty one, so that places stay."""
+
+    def __init__(self, name, text, has_items=True):
+        self.name, self.tokens, self.items = name, tokens_of(text), []
+        at = 0
+        while at < len(self.tokens) and (self.tokens[at].kind == "space" or self.tokens[at].text.startswith("//!")):
+            at += 1
+        self.top = "".join(token.text for token in self.tokens[:at])
+        if has_items:
+            self.items = self.items_between(at, len(self.tokens))
+
+    # ------------------------------------------------------------------------------------------------- places
+
+    def is_real(self, at):
+        return self.tokens[at].text != "" and self.tokens[at].kind not in TRIVIA
+
+    def next(self, at, count=1):
+        """The place of the next token that counts, or of the one after it, and so on."""
+        for _ in range(count):
+            at += 1
+            while at < len(self.tokens) and not self.is_real(at):
+                at += 1
+        return at
+
+    def prev(self, at, count=1):
+        for _ in range(count):
+            at -= 1
+            while at >= 0 and not self.is_real(at):
+                at -= 1
+        return at
+
+    def text(self, at):
+        return self.tokens[at].text if 0 <= at < len(self.tokens) else ""
+
+    def is_word(self, at):
+        return 0 <= at < len(self.tokens) and self.tokens[at].kind == "word"
+
+    def places(self, first, last):
+        """The places of the tokens that count."""
+        return [at for at in range(first, last + 1) if self.is_real(at)]
+
+    def close(self, at):
+        return closing(self.tokens, at)
+
+    def cut(self, first, last):
+        for token in self.tokens[first:last + 1]:
+            token.text = ""
+
+    def refuse(self, at, what):
+        raise Refused(self.tokens[min(at, len(self.tokens) - 1)].line, what)
+
+    # -------------------------------------------------------------------------------------------------- items
+
+    def items_between(self, at, end):
+        found = []
+        while (start := self.next(at - 1)) < end:
+            found.append(self.item(at, start))
+            at = found[-1].last + 1
+        return found
+
+    def item(self, first, start):
+        at = start
+        while self.text(at) == "#":
+            if self.text(self.next(at)) == "!":
+                return Item("file", first, start, at, self.close(self.next(at, 2)))
+            at = self.next(self.close(self.next(at)))
+        is_public = self.text(at) == "pub"
+        if is_public:
+            at = self.next(at)
+            if self.text(at) == "(":
+                at = self.next(self.close(at))
+        kind = self.text(at)
+        if kind == "const" and self.text(self.next(at)) == "fn":
+            at, kind = self.next(at), "fn"
+        if kind not in KINDS:
+            self.refuse(at, f"an item that begins with `{kind}`")
+        item = Item(kind, first, start, at, self.item_end(kind, at))
+        item.is_public = is_public
+        if kind == "impl":
+            self.impl(item)
+        elif kind not in ("use", "ghost"):
+            item.name = self.text(self.next(at))
+        if kind in ("fn", "struct", "enum"):
+            self.parameters(self.next(at, 2), f"a `{kind}` with a parameter that is a type")
+            item.open = self.opening(at)
+        return item
+
+    def item_end(self, kind, at):
+        """The last token of an item whose head begins at a place."""
+        while True:
+            if self.text(at) == ";" or kind == "mod" and self.text(at) == "{":
+                return at
+            if self.tokens[at].is_sign("(", "[", "{"):
+                is_body = self.text(at) == "{" and kind not in ("use", "const")
+                at = self.close(at)
+                if is_body:
+                    return at
+            at = self.next(at)
+            if at >= len(self.tokens):
+                self.refuse(at, "an item that does not end")
+
+    def opening(self, at):
+        """The brace that opens the body of an item; the end where it has none."""
+        while self.text(at) not in ("{", ";"):
+            at = self.next(self.close(at) if self.tokens[at].is_sign("(", "[") else at)
+        return at
+
+    def parameters(self, at, refused):
+        """What comes after parameters in angles, if there are any; only lifetimes may be among them."""
+        if self.text(at) != "<":
+            return at
+        while self.text(at) != ">":
+            at = self.next(at)
+            if self.is_word(at):
+                self.refuse(at, refused)
+        return self.next(at)
+
+    def impl(self, item):
+        """What an impl is of, its trait, and its parts."""
+        at = self.parameters(self.next(item.head), "an `impl` with a parameter that is a type")
+        item.open = self.opening(at)
+        words = [self.text(here) for here in self.places(at, item.open - 1)]
+        if "for" in words:
+            item.trait = words[words.index("for") - 1]
+            if item.trait not in TRAITS:
+                self.refuse(item.head, f"an `impl` of `{item.trait}`")
+            words = words[words.index("for") + 1:]
+        item.name = words[0]
+        item.parts = self.items_between(item.open + 1, item.last)
+        for part in [item] + item.parts:
+            part.of = item.name
+        if item.trait == "Model":
+            item.kind = "ghost"
+
+    # -------------------------------------------------------------------------------------------------- names
+
+    def names_in(self, first, last, itself=None):
+        """What tokens name: `(".", name, count)` for a method that is called with so many arguments, `(of, name)` for what is behind
+        a type or a module, and `name` for a name by itself, which may be the first one of a path."""
+        found = set()
+        for at in self.places(first, last):
+            if not self.is_word(at):
+                continue
+            name, before, behind = self.text(at), self.prev(at), self.next(at)
+            if self.text(before) == ".":
+                if self.text(behind) == "(":
+                    found.add((".", name, self.count_of(behind)))
+            elif self.text(before) == "::":
+                of = self.text(self.prev(before))
+                found.add((itself if of == "Self" else of, name))
+            else:
+                found.add(name)
+        return found
+
+    def count_of(self, opening):
+        """How many arguments stand in parentheses."""
+        at, end, count = self.next(opening), self.close(opening), 0
+        while at < end:
+            count += 1
+            while at < end and self.text(at) != ",":
+                if self.text(at) == "|":
+                    while self.text(at := self.next(at)) != "|":
+                        pass
+                elif self.tokens[at].is_sign("(", "[", "{"):
+                    at = self.close(at)
+                at = self.next(at)
+            at = self.next(at)
+        return count
+
+    def imports(self):
+        """What this file calls by a name of its own, and by which path it is known."""
+        return {called: path for item in self.items if item.kind == "use"
+                for path, called in Import(self, self.next(item.head)).paths()}
+
+
+class Import:
+    """A part of what a `use` names: a segment of a path with what is behind it, or a name with what it is called."""
+
+    def __init__(self, source, at):
+        self.name, self.behind, self.called = source.text(at), [], source.text(at)
+        at = source.next(at)
+        if source.text(at) == "::":
+            at = source.next(at)
+            if source.text(at) == "{":
+                while source.text(at) not in ("}",):
+                    at = source.next(at)
+                    if source.text(at) != "}":
+                        self.behind.append(Import(source, at))
+                        at = self.behind[-1].end
+                at = source.next(at)
+            else:
+                self.behind.append(Import(source, at))
+                at = self.behind[-1].end
+        elif source.text(at) == "as":
+            self.called = source.text(source.next(at))
+            at = source.next(at, 2)
+        self.end = at
+
+    def paths(self):
+        """Each path that is named, and what it is called."""
+        if not self.behind:
+            return [([self.name], self.called)]
+        return [([self.name] + path, called) for part in self.behind for path, called in part.paths()]
