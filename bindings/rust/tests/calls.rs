@@ -19,13 +19,26 @@ fn argument<'a>(piece: &'a Option<Piece<'_>>) -> &'a Argument<'a> {
 }
 
 fn literal<'a>(input: &'a str, snippet: &str) -> Parser<'a> {
-    Parser::new(input, None, Some(snippet.to_string()), false, ParseMode::Format)
+    Parser::new(
+        input,
+        None,
+        Some(snippet.to_string()),
+        false,
+        ParseMode::Format,
+    )
 }
 
 #[test]
 fn texts_and_doubled_braces() {
     let (pieces, errors) = read("é{{€}}");
-    assert_eq!(pieces, [Some(Piece::Lit("é")), Some(Piece::Lit("{€")), Some(Piece::Lit("}"))]);
+    assert_eq!(
+        pieces,
+        [
+            Some(Piece::Lit("é")),
+            Some(Piece::Lit("{€")),
+            Some(Piece::Lit("}"))
+        ]
+    );
     assert!(errors.is_empty());
 }
 
@@ -33,17 +46,53 @@ fn texts_and_doubled_braces() {
 fn each_field_of_a_specification() {
     let (pieces, errors) = read("{n:€>+#0w$.*x?}{:-<1$.p$}{0:^X}{:abc}");
     let first = &argument(&pieces[0]).format;
-    assert_eq!((first.fill, first.fill_span.clone(), first.align), (Some('€'), Some(4..7), AlignRight));
-    assert_eq!((first.sign, first.alternate, first.zero_pad), (Some(Sign::Plus), true, true));
-    assert_eq!((&first.width, first.width_span.clone()), (&CountIsName("w", 11..12), Some(11..13)));
-    assert_eq!((&first.precision, first.precision_span.clone()), (&CountIsStar(0), Some(13..15)));
-    assert_eq!((first.ty, first.debug_hex, first.ty_span.clone()), ("?", Some(DebugHex::Lower), None));
+    assert_eq!(
+        (first.fill, first.fill_span.clone(), first.align),
+        (Some('€'), Some(4..7), AlignRight)
+    );
+    assert_eq!(
+        (first.sign, first.alternate, first.zero_pad),
+        (Some(Sign::Plus), true, true)
+    );
+    assert_eq!(
+        (&first.width, first.width_span.clone()),
+        (&CountIsName("w", 11..12), Some(11..13))
+    );
+    assert_eq!(
+        (&first.precision, first.precision_span.clone()),
+        (&CountIsStar(0), Some(13..15))
+    );
+    assert_eq!(
+        (first.ty, first.debug_hex, first.ty_span.clone()),
+        ("?", Some(DebugHex::Lower), None)
+    );
     let second = argument(&pieces[1]);
-    assert_eq!((&second.position, second.position.index()), (&ArgumentImplicitlyIs(1), Some(1)));
-    assert_eq!((second.format.fill, second.format.align), (Some('-'), AlignLeft));
-    assert_eq!((&second.format.width, &second.format.precision), (&CountIsParam(1), &CountIsName("p", 25..26)));
-    assert_eq!((argument(&pieces[2]).format.align, argument(&pieces[2]).format.ty), (AlignCenter, "X"));
-    assert_eq!((argument(&pieces[3]).format.ty, argument(&pieces[3]).format.ty_span.clone()), ("abc", Some(36..39)));
+    assert_eq!(
+        (&second.position, second.position.index()),
+        (&ArgumentImplicitlyIs(1), Some(1))
+    );
+    assert_eq!(
+        (second.format.fill, second.format.align),
+        (Some('-'), AlignLeft)
+    );
+    assert_eq!(
+        (&second.format.width, &second.format.precision),
+        (&CountIsParam(1), &CountIsName("p", 25..26))
+    );
+    assert_eq!(
+        (
+            argument(&pieces[2]).format.align,
+            argument(&pieces[2]).format.ty
+        ),
+        (AlignCenter, "X")
+    );
+    assert_eq!(
+        (
+            argument(&pieces[3]).format.ty,
+            argument(&pieces[3]).format.ty_span.clone()
+        ),
+        ("abc", Some(36..39))
+    );
     assert!(errors.is_empty());
 }
 
@@ -51,12 +100,18 @@ fn each_field_of_a_specification() {
 fn a_call_goes_on_behind_none() {
     let mut parser = Parser::new("}a}", None, None, false, ParseMode::Format);
     assert_eq!(parser.next(), None);
-    assert_eq!((parser.errors.len(), parser.errors[0].span.clone()), (1, 1..2));
+    assert_eq!(
+        (parser.errors.len(), parser.errors[0].span.clone()),
+        (1, 1..2)
+    );
     assert_eq!(parser.errors[0].description, "unmatched `}` found");
     assert_eq!(parser.next(), Some(Piece::Lit("a")));
     assert_eq!(parser.next(), None);
     assert_eq!(parser.errors.len(), 2);
-    assert_eq!((parser.next(), parser.next(), parser.errors.len()), (None, None, 2));
+    assert_eq!(
+        (parser.next(), parser.next(), parser.errors.len()),
+        (None, None, 2)
+    );
 }
 
 #[test]
@@ -65,14 +120,29 @@ fn errors_come_to_the_front_of_what_is_left_and_to_its_back() {
     parser.next();
     parser.errors[0].label = "kept".to_string();
     parser.next();
-    let seen: Vec<&str> = parser.errors.iter().map(|error| error.label.as_str()).collect();
-    assert_eq!(seen, ["expected `:` before `?` to format with `Debug`", "kept", "expected `}`"]);
-    assert!(matches!(&parser.errors[0].suggestion, Suggestion::AddMissingColon(at) if *at == (6..7)));
+    let seen: Vec<&str> = parser
+        .errors
+        .iter()
+        .map(|error| error.label.as_str())
+        .collect();
+    assert_eq!(
+        seen,
+        [
+            "expected `:` before `?` to format with `Debug`",
+            "kept",
+            "expected `}`"
+        ]
+    );
+    assert!(
+        matches!(&parser.errors[0].suggestion, Suggestion::AddMissingColon(at) if *at == (6..7))
+    );
     parser.errors.clear();
     assert_eq!(parser.next(), None);
     parser.next();
     assert_eq!(parser.errors.len(), 2);
-    assert!(matches!(&parser.errors[0].suggestion, Suggestion::RemoveRawIdent(at) if *at == (9..11)));
+    assert!(
+        matches!(&parser.errors[0].suggestion, Suggestion::RemoveRawIdent(at) if *at == (9..11))
+    );
     assert_eq!(parser.errors[1].label, "unmatched `}`");
 }
 
@@ -90,7 +160,10 @@ fn each_suggestion_and_each_second_label() {
         })
         .collect();
     assert_eq!(all, [3, 2, 1, 0, 0, 0, 0, 0, 0]);
-    assert_eq!(errors[0].secondary_label, Some(("because of this opening brace".to_string(), 11..12)));
+    assert_eq!(
+        errors[0].secondary_label,
+        Some(("because of this opening brace".to_string(), 11..12))
+    );
     assert!(errors[2].note.is_some() && errors[2].secondary_label.is_none());
 }
 
@@ -114,7 +187,10 @@ fn peeks() {
     assert_eq!(parser.peek_ahead(), Some((7..8, 3, '{')));
     parser.next();
     parser.next();
-    assert_eq!((parser.peek(), parser.peek_ahead()), (Some((9..10, 5, 'a')), None));
+    assert_eq!(
+        (parser.peek(), parser.peek_ahead()),
+        (Some((9..10, 5, 'a')), None)
+    );
     parser.next();
     assert_eq!((parser.peek(), parser.peek_ahead()), (None, None));
 }
@@ -145,13 +221,24 @@ fn places_and_lines_of_a_source_literal() {
     assert_eq!(parser.peek(), Some((1..5, 0, 'a')));
     let pieces: Vec<Piece> = parser.by_ref().collect();
     assert_eq!(pieces.len(), 3);
-    let Piece::NextArgument(argument) = &pieces[1] else { panic!("no argument") };
-    assert_eq!((argument.position_span.clone(), &argument.format.width), (6..7, &CountIsName("w", 8..9)));
-    assert_eq!((parser.arg_places.len(), &parser.arg_places[0]), (1, &(5..11)));
+    let Piece::NextArgument(argument) = &pieces[1] else {
+        panic!("no argument")
+    };
+    assert_eq!(
+        (argument.position_span.clone(), &argument.format.width),
+        (6..7, &CountIsName("w", 8..9))
+    );
+    assert_eq!(
+        (parser.arg_places.len(), &parser.arg_places[0]),
+        (1, &(5..11))
+    );
     assert_eq!(parser.line_spans, [1..11, 15..16]);
     parser.line_spans.clear();
     parser.next();
-    assert_eq!((parser.line_spans.len(), &parser.line_spans[0]), (1, &(15..16)));
+    assert_eq!(
+        (parser.line_spans.len(), &parser.line_spans[0]),
+        (1, &(15..16))
+    );
 }
 
 #[test]
@@ -194,7 +281,10 @@ fn more_than_the_first_buffers_hold() {
         parser.next();
     }
     parser.next();
-    assert_eq!((parser.arg_places.len(), parser.line_spans.len()), (500, 501));
+    assert_eq!(
+        (parser.arg_places.len(), parser.line_spans.len()),
+        (500, 501)
+    );
 }
 
 #[test]
@@ -203,8 +293,16 @@ fn parsers_beside_each_other_and_in_threads() {
     goes_anywhere::<Parser<'_>>();
     let mut first = Parser::new("a{x}", None, None, false, ParseMode::Format);
     let mut second = Parser::new("b{y}", None, None, false, ParseMode::Format);
-    assert_eq!((first.next(), second.next()), (Some(Piece::Lit("a")), Some(Piece::Lit("b"))));
-    let handle = std::thread::spawn(move || (second.count(), Parser::new("{}", None, None, false, ParseMode::Format).count()));
+    assert_eq!(
+        (first.next(), second.next()),
+        (Some(Piece::Lit("a")), Some(Piece::Lit("b")))
+    );
+    let handle = std::thread::spawn(move || {
+        (
+            second.count(),
+            Parser::new("{}", None, None, false, ParseMode::Format).count(),
+        )
+    });
     assert_eq!(handle.join().unwrap(), (1, 1));
     assert!(argument(&first.next()).is_identifier());
 }
@@ -215,4 +313,10 @@ fn fields_can_be_moved_out() {
     parser.next();
     let (errors, places) = (parser.errors, parser.arg_places);
     assert_eq!((errors.len(), places.len()), (1, 0));
+}
+
+#[test]
+#[cfg(target_pointer_width = "64")]
+fn a_piece_takes_two_words() {
+    assert_eq!(std::mem::size_of::<Piece<'_>>(), 16);
 }

@@ -5,7 +5,7 @@ use std::path::PathBuf;
 fn main() {
     println!("cargo:rerun-if-env-changed=DEPHUNGO_LIB");
     let here = PathBuf::from(std::env::var_os("CARGO_MANIFEST_DIR").expect("cargo tells the folder of the crate"));
-    let folder = std::env::var_os("DEPHUNGO_LIB").map_or_else(|| here.join("../../out"), PathBuf::from);
+    let folder = std::env::var_os("DEPHUNGO_LIB").map_or_else(|| here.join("../../../out"), PathBuf::from);
     for library in ["dephungo", "libc_c"] {
         let archive = folder.join(format!("lib{library}.a"));
         println!("cargo:rerun-if-changed={}", archive.display());

@@ -1,0 +1,74 @@
+//! The entries of a list that another lacks.
+
+// Extracted from crates/placeholder_check/src/entries.rt by tools/extract: not to be edited.
+// That source is proved, and each contract here is its. That this text means the same is tested: rows of answers from outside and the
+// proved static library (.ci/bindings), and the original (bindings/agree), give the same over it.
+
+use crate::shim::alloc::{AllocError, Global};
+use crate::shim::prelude::*;
+use std::collections::BTreeSet;
+
+/// The numbers of a set from one on, in rising order.
+// ensures kept { IfOk result (λ v. v.items ≡ filter (λ n. nat_le first n) set.now.keys) }
+// ensures ordered { IsOrdered nat_cmp set.now }
+#[inline]
+pub fn members_from(
+    alloc: Global,
+    set: &BTreeSet<usize>,
+    first: usize,
+) -> Result<Vec<usize>, AllocError> {
+    let mut members = Vec::made_in(alloc);
+    for n in set.iter() {
+        if *n >= first {
+            members.try_push(*n)?;
+        }
+    }
+    Ok(members)
+}
+
+/// The numbers below another that a set lacks, in rising order. There is to be room for so many at once.
+// ensures { IfOk result (λ v. Lists (λ n. (n < end) × (contains nat_cmp set.now n ≡ false)) v.items) }
+#[inline]
+pub fn lacked_below(
+    alloc: Global,
+    set: &BTreeSet<usize>,
+    end: usize,
+    room: usize,
+) -> Result<Vec<usize>, AllocError> {
+    let mut lacked = Vec::made_for(alloc, room)?;
+    for n in 0..end {
+        if !set.contains(&n) {
+            lacked.try_push(n)?;
+        }
+    }
+    Ok(lacked)
+}
+
+/// Adds a name to a set, and says whether it was not there.
+// ensures is_new { IfOk result (λ added. added ≡ not (has_text set.old (chars name.now))) }
+// ensures has { OnOk result ((t : Text) → has_text set.new t ≡ (bytes_eq t (chars name.now) || has_text set.old t)) }
+#[inline]
+fn add<'a>(set: &mut BTreeSet<&'a str>, name: &'a str) -> Result<bool, AllocError> {
+    Ok(set.try_insert(name)?)
+}
+
+/// The first entry of each of the names that the others lack, in order.
+// ensures { IfOk result (λ v. AreFirsts (texts names.now) (texts others.now) (texts v.items)) }
+#[inline]
+pub fn lacked_by<'a>(
+    alloc: Global,
+    names: &[&'a str],
+    others: &[&'a str],
+) -> Result<Vec<&'a str>, AllocError> {
+    let mut seen = BTreeSet::made_in(alloc);
+    for other in others {
+        add(&mut seen, other)?;
+    }
+    let mut lacked = Vec::made_in(alloc);
+    for name in names {
+        if add(&mut seen, name)? {
+            lacked.try_push(*name)?;
+        }
+    }
+    Ok(lacked)
+}

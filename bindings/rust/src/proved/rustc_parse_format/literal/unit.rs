@@ -1,0 +1,146 @@
+//! The unit at the front of the content of an ordinary string literal.
+
+// Extracted from crates/rustc_parse_format/src/literal/unit.rt by tools/extract: not to be edited.
+// That source is proved, and each contract here is its. That this text means the same is tested: rows of answers from outside and the
+// proved static library (.ci/bindings), and the original (bindings/agree), give the same over it.
+
+use super::rest::Rest;
+
+/// What two digits after `\x` stand for.
+// ensures { (r : Text) → meaning (byte_at (high ∷ low ∷ r)) ≡ option_map (λ c. (c ∷ [], r)) result }
+#[inline(always)]
+fn byte_of(high: char, low: char) -> Option<char> {
+    let high = high.to_digit(8)?;
+    let low = low.to_digit(16)?;
+    Some((high * 16 + low) as u8 as char)
+}
+
+/// Takes what is after `\x`.
+// ensures { meaning (byte_at rest.old) ≡ option_map (λ c. (c ∷ [], rest.new)) result }
+#[inline(always)]
+fn read_byte(rest: &mut Rest<'_>) -> Option<char> {
+    let high = rest.next()?;
+    let low = rest.next()?;
+    byte_of(high, low)
+}
+
+/// The most common escape is at the front.
+// ensures { IsTrue result → chars text.now ≡ 92 ∷ 110 ∷ behind_first (behind_first (chars text.now)) }
+#[inline(always)]
+pub fn is_newline_escape(text: &str) -> bool {
+    let bytes = text.as_bytes();
+    if bytes.len() < 2 {
+        return false;
+    }
+    bytes[0] == b'\\' && bytes[1] == b'n'
+}
+
+/// The value of an octal digit.
+// ensures { result ≡ (if is_octal byte then Some (digit_value byte) else None) }
+#[inline(always)]
+fn octal_digit(byte: u8) -> Option<u8> {
+    match byte {
+        b'0'..=b'7' => Some(byte - b'0'),
+        _ => None,
+    }
+}
+
+/// The value of a hexadecimal digit.
+// ensures { result ≡ (if is_hex byte then Some (digit_value byte) else None) }
+#[inline(always)]
+fn hex_digit(byte: u8) -> Option<u8> {
+    match byte {
+        b'0'..=b'9' => Some(byte - b'0'),
+        b'a'..=b'f' => Some(byte - b'a' + 10),
+        b'A'..=b'F' => Some(byte - b'A' + 10),
+        _ => None,
+    }
+}
+
+/// What an escape with `\x` at the front stands for, and what is after it: by its bytes, since a literal may be made of such
+/// escapes.
+// ensures meaning { IfSome result (λ x. meaning (unit_at (chars text.now)) ≡ Some (x.0 ∷ [], chars x.1.now)) }
+// ensures ascii { IfSome result (λ x. x.0 < 128) }
+#[inline(always)]
+pub fn byte_escape(text: &str) -> Option<(u8, &str)> {
+    let bytes = text.as_bytes();
+    if bytes.len() < 4 || bytes[0] != b'\\' || bytes[1] != b'x' {
+        return None;
+    }
+    let high = octal_digit(bytes[2])?;
+    let low = hex_digit(bytes[3])?;
+    Some((high * 16 + low, &text[4..]))
+}
+
+/// Takes what is after `\u`.
+// ensures { meaning (unicode_at rest.old) ≡ option_map (λ c. (c ∷ [], rest.new)) result }
+#[inline(always)]
+fn read_unicode(rest: &mut Rest<'_>) -> Option<char> {
+    if !rest.next_is('{') {
+        return None;
+    }
+    let mut digits: u32 = 0;
+    let mut code: u32 = 0;
+    while let Some(c) = rest.next() {
+        match c {
+            '}' if digits > 0 => return char::from_u32(code),
+            '_' if digits > 0 => {}
+            _ if digits < 6 => {
+                code = code * 16 + c.to_digit(16)?;
+                digits += 1;
+            }
+            _ => return None,
+        }
+    }
+    None
+}
+
+/// What a backslash and this letter stand for.
+// ensures { result ≡ escaped letter }
+#[inline(always)]
+fn escaped(letter: char) -> Option<char> {
+    match letter {
+        'n' => Some('\n'),
+        'r' => Some('\r'),
+        't' => Some('\t'),
+        '0' => Some('\0'),
+        '\'' | '"' | '\\' => Some(letter),
+        _ => None,
+    }
+}
+
+/// Takes what is after a backslash.
+// ensures { meaning (escape_at rest.old) ≡ option_map (λ v. (at_most_one v, rest.new)) result }
+#[inline(always)]
+fn read_escape(rest: &mut Rest<'_>) -> Option<Option<char>> {
+    match rest.next()? {
+        '\n' => {
+            rest.skip_white();
+            Some(None)
+        }
+        'x' => Some(Some(read_byte(rest)?)),
+        'u' => Some(Some(read_unicode(rest)?)),
+        letter => Some(Some(escaped(letter)?)),
+    }
+}
+
+/// Takes the unit at the front, and gives what it stands for, which may be nothing. It gives `None` if no unit stands
+/// there.
+// ensures { meaning (unit_at rest.old) ≡ option_map (λ v. (at_most_one v, rest.new)) result }
+#[inline(always)]
+pub fn read_unit(rest: &mut Rest<'_>) -> Option<Option<char>> {
+    if let Some((byte, behind)) = byte_escape(rest.text()) {
+        *rest = Rest::new(behind);
+        return Some(Some(byte as char));
+    }
+    if is_newline_escape(rest.text()) {
+        rest.next();
+        rest.next();
+        return Some(Some('\n'));
+    }
+    match rest.next()? {
+        '\\' => read_escape(rest),
+        '"' | '\r' => None,
+        c => Some(Some(c)),
+    }
+}
