@@ -1,5 +1,6 @@
-//! The crate of bindings/rust beside a build of the original: agree SEED COUNT. With `--cfg applied` the build is one with the
-//! differences of docs/DIFFERENCES.md applied and the fourth mode, and nothing is left out.
+//! The crate of bindings/rust beside a build of the original, or beside the static library: agree SEED COUNT. With `--cfg applied`
+//! the other has the differences of docs/DIFFERENCES.md and the fourth mode, and nothing is left out. With `--cfg fixed` it does
+//! not let `is_source_literal` be set to true.
 mod cases;
 
 use cases::{case, Case, Random};
@@ -28,12 +29,25 @@ macro_rules! seen_by {
             }
 
             pub fn parser(case: &Case) -> Parser<'_> {
-                Parser::new(&case.input, case.style, case.snippet.clone(), case.newline, mode(case.mode))
+                Parser::new(
+                    &case.input,
+                    case.style,
+                    case.snippet.clone(),
+                    case.newline,
+                    mode(case.mode),
+                )
             }
 
             pub fn error(
                 e: &ParseError,
-            ) -> (&Text, &Option<Text>, &Text, &Place, &Option<(Text, Place)>, (u8, Option<&Place>, Option<&Text>)) {
+            ) -> (
+                &Text,
+                &Option<Text>,
+                &Text,
+                &Place,
+                &Option<(Text, Place)>,
+                (u8, Option<&Place>, Option<&Text>),
+            ) {
                 let suggestion = match &e.suggestion {
                     Suggestion::None => (0, None, None),
                     Suggestion::UsePositional => (1, None, None),
@@ -42,7 +56,14 @@ macro_rules! seen_by {
                     Suggestion::AddMissingColon(at) => (4, Some(at), None),
                     Suggestion::UseRustDebugPrintingMacro => (5, None, None),
                 };
-                (&e.description, &e.note, &e.label, &e.span, &e.secondary_label, suggestion)
+                (
+                    &e.description,
+                    &e.note,
+                    &e.label,
+                    &e.span,
+                    &e.secondary_label,
+                    suggestion,
+                )
             }
 
             /// The bytes of the input in which the texts of a piece stand; None for one that stands elsewhere or is empty.
@@ -59,9 +80,33 @@ macro_rules! seen_by {
                     None => vec![],
                     Some(Piece::Lit(text)) => vec![place(text)],
                     Some(Piece::NextArgument(a)) => {
-                        let name = if let ArgumentNamed(name) = a.position { place(name) } else { None };
-                        vec![name, count(&a.format.width), count(&a.format.precision), place(a.format.ty)]
+                        let name = if let ArgumentNamed(name) = a.position {
+                            place(name)
+                        } else {
+                            None
+                        };
+                        vec![
+                            name,
+                            count(&a.format.width),
+                            count(&a.format.precision),
+                            place(a.format.ty),
+                        ]
                     }
+                }
+            }
+
+            /// What can be asked of a piece: whether its argument is an identifier, its number, whether it asks for nothing, and whether
+            /// its clone is equal to it.
+            pub fn answers(piece: &Option<Piece<'_>>) -> (bool, Option<usize>, bool, bool) {
+                let same = piece.clone() == *piece;
+                match piece {
+                    Some(Piece::NextArgument(a)) => (
+                        a.is_identifier(),
+                        a.position.index(),
+                        a.format == FormatSpec::default(),
+                        same,
+                    ),
+                    _ => (false, None, false, same),
                 }
             }
         }
@@ -105,7 +150,9 @@ fn warns(snippet: &str) -> bool {
 
 /// Whether two descriptions say the same, but for a character beyond ASCII that one of them escapes.
 fn differ_by_an_escape(ours: &str, theirs: &str) -> bool {
-    let found = ours.strip_prefix("expected `}`, found `").and_then(|rest| rest.strip_suffix('`'));
+    let found = ours
+        .strip_prefix("expected `}`, found `")
+        .and_then(|rest| rest.strip_suffix('`'));
     let wide = found.and_then(|found| found.chars().next()).filter(|c| !c.is_ascii());
     wide.is_some_and(|c| theirs == format!("expected `}}`, found `{}`", c.escape_debug()))
 }
@@ -148,7 +195,10 @@ fn compare(case: &Case, random: &mut Random, counts: &mut Counts) {
         && case.style.is_none()
         && warns(case.snippet.as_deref().unwrap_or(""))
     {
-        *counts.by_name.entry("a literal that a warning of the unescaper makes foreign").or_default() += 1;
+        *counts
+            .by_name
+            .entry("a literal that a warning of the unescaper makes foreign")
+            .or_default() += 1;
         return;
     }
     counts.literals += usize::from(a.is_source_literal);
@@ -162,14 +212,22 @@ fn compare(case: &Case, random: &mut Random, counts: &mut Counts) {
             3 => drop((a.errors.pop(), b.errors.pop())),
             4 => drop((a.line_spans.pop(), b.line_spans.pop())),
             5 => (a.arg_places, b.arg_places) = (vec![3..4], vec![3..4]),
-            6 if random.one_in(8) => (a.is_source_literal, b.is_source_literal) = (false, false),
+            6 if random.one_in(8) => {
+                let set = !cfg!(fixed) && random.one_in(2);
+                (a.is_source_literal, b.is_source_literal) = (set, set)
+            }
             _ => {}
         }
         behind += usize::from(b.peek().is_none());
         let (x, y) = (a.next(), b.next());
         counts.calls += 1;
         assert_eq!(format!("{x:?}"), format!("{y:?}"), "piece of {case:?}");
-        assert_eq!(ours::places(&case.input, &x), theirs::places(&case.input, &y), "places of the texts of {case:?}");
+        assert_eq!(ours::answers(&x), theirs::answers(&y), "what is asked of a piece of {case:?}");
+        assert_eq!(
+            ours::places(&case.input, &x),
+            theirs::places(&case.input, &y),
+            "places of the texts of {case:?}"
+        );
     }
     same_state(case, &a, &b, counts);
     counts.faulty += usize::from(!a.errors.is_empty());
@@ -179,7 +237,12 @@ fn main() {
     let words: Vec<u64> = std::env::args().skip(1).map(|word| word.parse().expect("a number")).collect();
     let (seed, count) = (words[0], words[1]);
     let mut random = Random::new(seed);
-    let mut counts = Counts { calls: 0, literals: 0, faulty: 0, by_name: BTreeMap::new() };
+    let mut counts = Counts {
+        calls: 0,
+        literals: 0,
+        faulty: 0,
+        by_name: BTreeMap::new(),
+    };
     let mut panics = 0;
     for _ in 0..count {
         let case = case(&mut random, if cfg!(applied) { 4 } else { 3 });
@@ -194,9 +257,21 @@ fn main() {
         }
         compare(&case, &mut random, &mut counts);
     }
-    let out: usize = counts.by_name.iter().filter(|(name, _)| !name.starts_with('(')).map(|(_, n)| n).sum();
-    println!("seed {seed}: {count} inputs, {} compared, all agree: {} calls", count as usize - out - panics, counts.calls);
-    println!("  {} of them from their source literal, {} with faults in the end", counts.literals, counts.faulty);
+    let out: usize = counts
+        .by_name
+        .iter()
+        .filter(|(name, _)| !name.starts_with('('))
+        .map(|(_, n)| n)
+        .sum();
+    println!(
+        "seed {seed}: {count} inputs, {} compared, all agree: {} calls",
+        count as usize - out - panics,
+        counts.calls
+    );
+    println!(
+        "  {} of them from their source literal, {} with faults in the end",
+        counts.literals, counts.faulty
+    );
     for (name, n) in &counts.by_name {
         println!("  {n} {}{name}", if name.starts_with('(') { "" } else { "left out: " });
     }

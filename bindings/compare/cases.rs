@@ -13,7 +13,7 @@ impl Random {
         self.0 ^= self.0 << 13;
         self.0 ^= self.0 >> 7;
         self.0 ^= self.0 << 17;
-        (self.0 >> 11) as usize % n
+        ((self.0 >> 11) % n as u64) as usize
     }
 
     pub fn one_in(&mut self, n: usize) -> bool {
