@@ -155,18 +155,22 @@ def erase(source, empty, fields):
         if item.name in empty and item.kind in ("struct", "impl"):
             source.cut(item.first, item.last)
     source.items = [item for item in source.items if source.text(item.last)]
-    held = set().union(*fields.values()) if fields else set()
-    for at in range(len(source.tokens)):
-        if not source.is_real(at):
-            continue
-        if (source.text(at) in fields and source.text(source.next(at)) == "{"
-                and source.text(source.prev(at)) not in ("for", "impl", "struct")):
-            erase_members(source, source.next(at), fields[source.text(at)])
-        elif source.text(at) == "let" and source.text(source.next(at, 2)) == "=" and source.text(source.next(at, 3)) in empty:
-            erase_statement(source, at)
-        elif (source.text(at) == "self" and source.text(source.prev(at)) in (";", "{", "}") and source.text(source.next(at)) == "."
-                and source.text(source.next(at, 2)) in held):
-            erase_statement(source, at)
+    for item in source.items:
+        for at in range(item.start, item.last + 1):
+            if source.is_real(at):
+                erase_at(source, at, empty, fields, fields.get(item.name, ()) if item.kind == "impl" else ())
+
+
+def erase_at(source, at, empty, fields, held):
+    """Leaves out what begins at a place, in an impl of a struct that holds such members."""
+    text, before = source.text(at), source.text(source.prev(at))
+    if text in fields and source.text(source.next(at)) == "{" and before not in ("for", "impl", "struct"):
+        erase_members(source, source.next(at), fields[text])
+    elif text == "let" and source.text(source.next(at, 2)) == "=" and source.text(source.next(at, 3)) in empty:
+        erase_statement(source, at)
+    elif (text == "self" and before in (";", "{", "}") and source.text(source.next(at)) == "."
+            and source.text(source.next(at, 2)) in held):
+        erase_statement(source, at)
 
 
 def erase_members(source, opening, names):
