@@ -130,6 +130,9 @@ def empty_types(sources):
     With each goes the set of the names of its members' owners: `{type: {field, ..}}` of the structs that hold one."""
     empty, fields = set(), {}
     structs = [(source, item) for source in sources for item in source.items if item.kind == "struct" and item.has_members]
+    for source, item in structs:
+        if sum(other.name == item.name for _, other in structs) > 1:
+            source.refuse(item.head, f"two structs with the name `{item.name}`")
     grown = True
     while grown:
         grown = False
@@ -165,15 +168,15 @@ def erase_at(source, at, empty, fields, held):
     """Leaves out what begins at a place, in an impl of a struct that holds such members."""
     text, before = source.text(at), source.text(source.prev(at))
     if text in fields and source.text(source.next(at)) == "{" and before not in ("for", "impl", "struct"):
-        erase_members(source, source.next(at), fields[text])
+        erase_members(source, source.next(at), fields[text], empty)
     elif text == "let" and source.text(source.next(at, 2)) == "=" and source.text(source.next(at, 3)) in empty:
-        erase_statement(source, at)
+        erase_statement(source, at, empty)
     elif (text == "self" and before in (";", "{", "}") and source.text(source.next(at)) == "."
             and source.text(source.next(at, 2)) in held):
-        erase_statement(source, at)
+        erase_statement(source, at, empty)
 
 
-def erase_members(source, opening, names):
+def erase_members(source, opening, names, empty):
     """Leaves the members with these names out of a value that is made, or taken apart."""
     at, end = source.next(opening), source.close(opening)
     while at < end:
@@ -183,21 +186,36 @@ def erase_members(source, opening, names):
             if source.text(last) != "," and source.next(last) < end:
                 last = source.next(last)
         if source.text(at) in names:
+            doubt(source, at, last, 0, empty)
             source.cut(at, last)
         at = source.next(last)
 
 
-def erase_statement(source, first):
+def erase_statement(source, first, empty):
     """Leaves a statement out. One that is a block's value stays, and with it the type of that, which is then refused."""
     last = first
     while source.text(last) != ";":
         last = source.next(source.close(last) if source.tokens[last].is_sign("(", "[", "{") else last)
         if source.text(last) == "}":
             return
+    # of `self.member.method(..)` the call is one of the member's own
+    doubt(source, first, last, int(source.text(source.next(first, 5)) == "("), empty)
+    source.cut(first, last)
+
+
+def doubt(source, first, last, own, empty):
+    """Notes where something else could happen in what is left out: a call that is none of a type that takes no bytes, or a way out. It
+    is refused if the function that it stands in is needed."""
     for at in source.places(first, last):
         if source.text(at) in ("?", "return", "mut"):
-            source.refuse(at, f"`{source.text(at)}` in what is done to a value that takes no bytes")
-    source.cut(first, last)
+            source.doubts.append((at, source.text(at)))
+        if source.is_word(at) and source.text(source.next(at)) in ("(", "!"):
+            before = source.prev(at)
+            if source.text(before) == "::" and source.text(source.prev(before)) in empty:
+                continue
+            if own == 0:
+                source.doubts.append((at, source.text(at)))
+            own -= 1
 
 
 # ---------------------------------------------------------------------------------------------- forms written anew
@@ -205,6 +223,9 @@ def erase_statement(source, first):
 
 def rewrite(source, item, crate, crates):
     """Writes the forms of a kept item anew that Rust has not. Answers whether the shim's traits are called."""
+    for at, text in source.doubts:
+        if item.start <= at <= item.last:
+            source.refuse(at, f"`{text}` in what is done to a value that takes no bytes")
     uses_shim = False
     for at in source.places(item.start, item.last):
         if not source.is_real(at):
