@@ -168,15 +168,15 @@ def erase_at(source, at, empty, fields, held):
     """Leaves out what begins at a place, in an impl of a struct that holds such members."""
     text, before = source.text(at), source.text(source.prev(at))
     if text in fields and source.text(source.next(at)) == "{" and before not in ("for", "impl", "struct"):
-        erase_members(source, source.next(at), fields[text], empty)
+        erase_members(source, source.next(at), fields[text], empty, held)
     elif text == "let" and source.text(source.next(at, 2)) == "=" and source.text(source.next(at, 3)) in empty:
-        erase_statement(source, at, empty)
+        erase_statement(source, at, empty, held)
     elif (text == "self" and before in (";", "{", "}") and source.text(source.next(at)) == "."
             and source.text(source.next(at, 2)) in held):
-        erase_statement(source, at, empty)
+        erase_statement(source, at, empty, held)
 
 
-def erase_members(source, opening, names, empty):
+def erase_members(source, opening, names, empty, held):
     """Leaves the members with these names out of a value that is made, or taken apart."""
     at, end = source.next(opening), source.close(opening)
     while at < end:
@@ -186,36 +186,35 @@ def erase_members(source, opening, names, empty):
             if source.text(last) != "," and source.next(last) < end:
                 last = source.next(last)
         if source.text(at) in names:
-            doubt(source, at, last, 0, empty)
+            doubt(source, at, last, empty, held)
             source.cut(at, last)
         at = source.next(last)
 
 
-def erase_statement(source, first, empty):
+def erase_statement(source, first, empty, held):
     """Leaves a statement out. One that is a block's value stays, and with it the type of that, which is then refused."""
     last = first
     while source.text(last) != ";":
         last = source.next(source.close(last) if source.tokens[last].is_sign("(", "[", "{") else last)
         if source.text(last) == "}":
             return
-    # of `self.member.method(..)` the call is one of the member's own
-    doubt(source, first, last, int(source.text(source.next(first, 5)) == "("), empty)
+    doubt(source, first, last, empty, held)
     source.cut(first, last)
 
 
-def doubt(source, first, last, own, empty):
-    """Notes where something else could happen in what is left out: a call that is none of a type that takes no bytes, or a way out. It
+def doubt(source, first, last, empty, held):
+    """Notes where something else could happen in what is left out: a way out, or a call that is none of a type that takes no bytes. It
     is refused if the function that it stands in is needed."""
     for at in source.places(first, last):
+        before = source.prev(at)
         if source.text(at) in ("?", "return", "mut"):
             source.doubts.append((at, source.text(at)))
-        if source.is_word(at) and source.text(source.next(at)) in ("(", "!"):
-            before = source.prev(at)
-            if source.text(before) == "::" and source.text(source.prev(before)) in empty:
-                continue
-            if own == 0:
+        elif source.is_word(at) and source.text(source.next(at)) in ("(", "!"):
+            of = source.text(source.prev(before))
+            is_own = source.text(before) == "::" and of in empty or (
+                source.text(before) == "." and of in held and source.text(source.prev(before, 3)) == "self")
+            if not is_own:
                 source.doubts.append((at, source.text(at)))
-            own -= 1
 
 
 # ---------------------------------------------------------------------------------------------- forms written anew
