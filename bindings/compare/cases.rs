@@ -158,8 +158,21 @@ fn spoilt(random: &mut Random, mut snippet: String) -> String {
         1 => snippet.insert_str(at, random.of(PARTS)),
         2 => drop(snippet.drain(..at)),
         3 => {
-            snippet =
-                random.of(&["", "\"", "r", "r\"", "r\"\"", "\"\"", "x", "\"é", "concat!(\"a\")", "r#\"\"#", "é"]).to_string()
+            snippet = random
+                .of(&[
+                    "",
+                    "\"",
+                    "r",
+                    "r\"",
+                    "r\"\"",
+                    "\"\"",
+                    "x",
+                    "\"é",
+                    "concat!(\"a\")",
+                    "r#\"\"#",
+                    "é",
+                ])
+                .to_string()
         }
         4 => snippet.push_str(random.of(&["\"", "#", "u8", " ", "é"])),
         _ => drop(snippet.pop()),
@@ -179,7 +192,11 @@ pub fn case(random: &mut Random, modes: usize) -> Case {
     }
     let newline = random.one_in(if input.ends_with('\n') { 2 } else { 40 });
     let style = if random.one_in(3) { Some(random.below(4)) } else { None };
-    let written = if newline { input.strip_suffix('\n').unwrap_or(&input) } else { &input };
+    let written = if newline {
+        input.strip_suffix('\n').unwrap_or(&input)
+    } else {
+        &input
+    };
     let snippet = match style {
         _ if random.one_in(4) => None,
         Some(hashes) => {
@@ -193,5 +210,11 @@ pub fn case(random: &mut Random, modes: usize) -> Case {
         }
     };
     let snippet = snippet.map(|snippet| if random.one_in(6) { spoilt(random, snippet) } else { snippet });
-    Case { input, style, snippet, newline, mode: random.below(modes + 2).saturating_sub(2) }
+    Case {
+        input,
+        style,
+        snippet,
+        newline,
+        mode: random.below(modes + 2).saturating_sub(2),
+    }
 }

@@ -3,6 +3,10 @@
 //! bindings/rust, of the original, and with `--cfg library` of the library's own walk and of the export into buffers that are kept.
 #[cfg(library)]
 mod library;
+#[cfg(library)]
+#[allow(dead_code)]
+#[path = "reader/src/records.rs"]
+mod records;
 
 use std::hint::black_box;
 use std::time::Instant;

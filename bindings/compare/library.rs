@@ -2,11 +2,7 @@
 #[allow(dead_code)]
 #[path = "reader/src/call.rs"]
 mod call;
-#[allow(dead_code)]
-#[path = "reader/src/records.rs"]
-mod records;
-
-use super::Counts;
+use super::{records, Counts};
 use std::cell::RefCell;
 
 unsafe extern "C" {

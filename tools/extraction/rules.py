@@ -130,6 +130,9 @@ def empty_types(sources):
     With each goes the set of the names of its members' owners: `{type: {field, ..}}` of the structs that hold one."""
     empty, fields = set(), {}
     structs = [(source, item) for source in sources for item in source.items if item.kind == "struct" and item.has_members]
+    for source, item in structs:
+        if sum(other.name == item.name for _, other in structs) > 1:
+            source.refuse(item.head, f"two structs with the name `{item.name}`")
     grown = True
     while grown:
         grown = False
@@ -155,21 +158,25 @@ def erase(source, empty, fields):
         if item.name in empty and item.kind in ("struct", "impl"):
             source.cut(item.first, item.last)
     source.items = [item for item in source.items if source.text(item.last)]
-    held = set().union(*fields.values()) if fields else set()
-    for at in range(len(source.tokens)):
-        if not source.is_real(at):
-            continue
-        if (source.text(at) in fields and source.text(source.next(at)) == "{"
-                and source.text(source.prev(at)) not in ("for", "impl", "struct")):
-            erase_members(source, source.next(at), fields[source.text(at)])
-        elif source.text(at) == "let" and source.text(source.next(at, 2)) == "=" and source.text(source.next(at, 3)) in empty:
-            erase_statement(source, at)
-        elif (source.text(at) == "self" and source.text(source.prev(at)) in (";", "{", "}") and source.text(source.next(at)) == "."
-                and source.text(source.next(at, 2)) in held):
-            erase_statement(source, at)
+    for item in source.items:
+        for at in range(item.start, item.last + 1):
+            if source.is_real(at):
+                erase_at(source, at, empty, fields, fields.get(item.name, ()) if item.kind == "impl" else ())
 
 
-def erase_members(source, opening, names):
+def erase_at(source, at, empty, fields, held):
+    """Leaves out what begins at a place, in an impl of a struct that holds such members."""
+    text, before = source.text(at), source.text(source.prev(at))
+    if text in fields and source.text(source.next(at)) == "{" and before not in ("for", "impl", "struct"):
+        erase_members(source, source.next(at), fields[text], empty, held)
+    elif text == "let" and source.text(source.next(at, 2)) == "=" and source.text(source.next(at, 3)) in empty:
+        erase_statement(source, at, empty, held)
+    elif (text == "self" and before in (";", "{", "}") and source.text(source.next(at)) == "."
+            and source.text(source.next(at, 2)) in held):
+        erase_statement(source, at, empty, held)
+
+
+def erase_members(source, opening, names, empty, held):
     """Leaves the members with these names out of a value that is made, or taken apart."""
     at, end = source.next(opening), source.close(opening)
     while at < end:
@@ -179,21 +186,35 @@ def erase_members(source, opening, names):
             if source.text(last) != "," and source.next(last) < end:
                 last = source.next(last)
         if source.text(at) in names:
+            doubt(source, at, last, empty, held)
             source.cut(at, last)
         at = source.next(last)
 
 
-def erase_statement(source, first):
+def erase_statement(source, first, empty, held):
     """Leaves a statement out. One that is a block's value stays, and with it the type of that, which is then refused."""
     last = first
     while source.text(last) != ";":
         last = source.next(source.close(last) if source.tokens[last].is_sign("(", "[", "{") else last)
         if source.text(last) == "}":
             return
-    for at in source.places(first, last):
-        if source.text(at) in ("?", "return", "mut"):
-            source.refuse(at, f"`{source.text(at)}` in what is done to a value that takes no bytes")
+    doubt(source, first, last, empty, held)
     source.cut(first, last)
+
+
+def doubt(source, first, last, empty, held):
+    """Notes where something else could happen in what is left out: a way out, or a call that is none of a type that takes no bytes. It
+    is refused if the function that it stands in is needed."""
+    for at in source.places(first, last):
+        before = source.prev(at)
+        if source.text(at) in ("?", "return", "mut"):
+            source.doubts.append((at, source.text(at)))
+        elif source.is_word(at) and source.text(source.next(at)) in ("(", "!"):
+            of = source.text(source.prev(before))
+            is_own = source.text(before) == "::" and of in empty or (
+                source.text(before) == "." and of in held and source.text(source.prev(before, 3)) == "self")
+            if not is_own:
+                source.doubts.append((at, source.text(at)))
 
 
 # ---------------------------------------------------------------------------------------------- forms written anew
@@ -201,6 +222,9 @@ def erase_statement(source, first):
 
 def rewrite(source, item, crate, crates):
     """Writes the forms of a kept item anew that Rust has not. Answers whether the shim's traits are called."""
+    for at, text in source.doubts:
+        if item.start <= at <= item.last:
+            source.refuse(at, f"`{text}` in what is done to a value that takes no bytes")
     uses_shim = False
     for at in source.places(item.start, item.last):
         if not source.is_real(at):

@@ -19,7 +19,7 @@ class Source:
     """The tokens of a file and its items. A token that is left out becomes an empty one, so that places stay."""
 
     def __init__(self, name, text, has_items=True):
-        self.name, self.tokens, self.items = name, tokens_of(text), []
+        self.name, self.tokens, self.items, self.doubts = name, tokens_of(text), [], []
         at = 0
         while at < len(self.tokens) and (self.tokens[at].kind == "space" or self.tokens[at].text.startswith("//!")):
             at += 1
