@@ -58,6 +58,11 @@ fn a_lone_brace_ends_no_parser(rt: HostRuntime) {
         "next lit \"a\"",
         "next none",
         "errors 1..2 unmatched `}` found;",
+        "labels unmatched `}`;",
+        "curarg 0",
+        "is_source_literal no",
+        "arg_places ",
+        "line_spans ",
     ];
     check_parser(&rt, rt.alloc(), plain(), "}a", lines);
 }
@@ -75,6 +80,11 @@ fn each_lone_brace_is_told_once(rt: HostRuntime) {
         "errors 3..4 unmatched `}` found;5..6 unmatched `}` found;",
         "next none",
         "errors 3..4 unmatched `}` found;5..6 unmatched `}` found;",
+        "labels unmatched `}`;unmatched `}`;",
+        "curarg 0",
+        "is_source_literal no",
+        "arg_places ",
+        "line_spans ",
     ];
     check_parser(&rt, rt.alloc(), plain(), "}}}a}", lines);
 }

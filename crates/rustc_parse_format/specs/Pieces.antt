@@ -28,11 +28,6 @@ IsCall s (Some (Ok p)) t = (Some (seen p) ≡ option_map (piece_in s.world) (nex
 IsCall s (Some (Err e)) t = (NeedsNoMemory s (next_call s) → ⊥) × IsPutBack s t
 IsCall s None t = ((next_call s).piece ≡ None) × (t ≡ after s (next_call s))
 
--- So many calls, one after the other, the first of them at s, leave the parser at u.
-abbrev pub AreCalls : ℕ → State → State → Type 0
-AreCalls zero s u = u ≡ s
-AreCalls (suc n) s u = (t : State) × AreCalls n s t × ((item : Option (Result DeclaredPiece AllocError)) × IsCall t item u)
-
 -- only after a piece another item may come
 abbrev pub is_piece : Option (Result DeclaredPiece AllocError) → Bool
 is_piece (Some (Ok p)) = true

@@ -115,7 +115,7 @@ impl<'input> Parser<'input> {
 
     /// It has taken few steps: at least its position, at most that and its reach, and so at most two for each character of the input.
     /// Nothing is done.
-    pub fn steps_are_few(&self)
+    pub(super) fn steps_are_few(&self)
         ensures { AreFew self.now.input self.now.rest self.now.back }
     {
         self.reader.cursor.steps_are_few();
