@@ -5,6 +5,7 @@ use Rattle.unicode_ident.proofs.Computing.{unicode_ident}
 use Rattle.std.proofs.lemmas.Bool.{eqb-true}
 use Rattle.rustc_parse_format.specs.Characters.{Text, is_id_start, is_id_continue, behind, behind_first, behind_word, begins_with, first}
 use Rattle.rustc_parse_format.specs.Back.{Back, IsPaid, given_back, is_word_part, behind_part}
+use Rattle.rustc_parse_format.specs.Midway.{IsCounted, Passed, back_at}
 
 pub behind-le : (p : ℕ → Bool) (t : Text) → length (behind p t) ≤ length t
 behind-le p [] = omega arith
@@ -75,14 +76,22 @@ behind-part p (c ∷ t) =
       | false ↦ omega arith
     ]
 
--- forward
-pub paid_on : (n t u : Text) (b : Back) → behind_part u ≤ behind_part t → IsPaid n t b → IsPaid n u b
-paid_on n t u b le h = record { again = h.again; word = omega (arith, h.word, le) }
+-- forward over k characters
+pub counted_on : (n t u : Text) (k : ℕ) (p : Passed) → k + length u ≡ length t → behind_part u ≤ behind_part t
+    → IsCounted n t p → IsCounted n u (record { made = p.made + k; left = p.left })
+counted_on n t u k p e le h = record {
+  made = omega (arith, h.made, e);
+  paid = record { again = omega (arith, h.paid.again, e); word = omega (arith, h.paid.word, le) };
+}
 
 -- and back, over a word
-pub paid_back : (n u t : Text) (b : Back) → length t ≤ b.left → length u ≤ length t → behind_part t ≤ length u → IsPaid n u b → IsPaid n t (given_back u t b)
-paid_back n u t b far earlier word h = record { again = omega (arith, h.again); word = word }
+pub counted_back : (n u t : Text) (p : Passed) → length t ≤ p.left → length u ≤ length t → behind_part t ≤ length u
+    → IsCounted n u p → IsCounted n t (record { made = p.made; left = length u })
+counted_back n u t p far earlier word h = record {
+  made = omega (arith, h.made, earlier);
+  paid = record { again = omega (arith, h.made, h.paid.again, far, earlier); word = word };
+}
 
--- where nothing was given back
-pub paid_first : (n t : Text) → length t ≤ length n → IsPaid n t (record { again = 0; left = length t })
-paid_first n t le = record { again = omega arith; word = part_le t }
+-- where nothing was passed
+pub counted_first : (n : Text) → IsCounted n n (record { made = 0; left = length n })
+counted_first n = record { made = omega arith; paid = record { again = omega arith; word = part_le n } }

@@ -1,10 +1,10 @@
 -- What contracts of readers see in the middle of a call. Only private contracts use it.
 use Prim.Native.Char.{code}
-use Rattle.std.specs.Prelude.{chars, Bool, not, ◌&&◌, if◌then◌else◌, ◌≡◌, ◌<◌, ℕ, ◌++◌, true, List, [], ◌∷◌, length, Option, Some, None}
+use Rattle.std.specs.Prelude.{chars, Bool, not, ◌&&◌, if◌then◌else◌, ◌≡◌, ◌<◌, ◌≤◌, ◌+◌, ◌-◌, ℕ, ◌++◌, true, List, [], ◌∷◌, length, Option, Some, None}
 use Rattle.std.specs.Char.{is_whitespace}
 use Rattle.rustc_parse_format.specs.declared.source.Source.{Source}
 use Rattle.rustc_parse_format.specs.Characters.{Text, front, behind, behind_first, begins_with, is_no_brace}
-use Rattle.rustc_parse_format.specs.Back.{Back}
+use Rattle.rustc_parse_format.specs.Back.{Back, IsPaid}
 use Rattle.rustc_parse_format.specs.Marks.{Span, marked, through}
 use Rattle.rustc_parse_format.specs.Faults.{Fault}
 use Rattle.rustc_parse_format.specs.World.{World, Place, StartBehind, faults_in, place_at}
@@ -14,6 +14,20 @@ use Rattle.rustc_parse_format.specs.Types.{Mode, Argument}
 use Rattle.rustc_parse_format.specs.SeenSource.{seen_world}
 use Rattle.rustc_parse_format.specs.Tries.{tried}
 use Rattle.rustc_parse_format.specs.Lines.{lines_in, closed_in, read_lines}
+
+-- What a cursor counts: how many characters it passed, and how many were left where it last went back.
+pub record Passed : Type 0 where
+  pub made : ℕ
+  pub left : ℕ
+
+-- what was given back, with the rest t of the input n: what was passed beyond what was read
+abbrev pub back_at : Text → Text → Passed → Back
+back_at n t p = record { again = (p.made + length t) - length n; left = p.left }
+
+-- What was read was passed, and what was given back is paid.
+pub record IsCounted (n t : Text) (p : Passed) : Type 0 where
+  pub made : length n ≤ p.made + length t
+  pub paid : IsPaid n t (back_at n t p)
 
 -- What a cursor stands at: the rest of an input, in its world, which its source gives.
 pub record Unread : Type 0 where

@@ -7,7 +7,7 @@ use crate::source::{Source, Spot, look_again};
 use crate::world::first_look;
 use std::marker::Model;
 use std::ops::Range;
-use steps::{Steps, Tally};
+use steps::{Steps, Tally, count_before, count_next};
 
 /// A place in the input: what is left of it, and where that stands in the source.
 #[derive(Drop)]
@@ -26,16 +26,16 @@ pub struct Checkpoint<'input> {
 }
 
 impl<'input> Model for Cursor<'input> {
-    ghost use Rattle.rustc_parse_format.specs.Midway.{Unread, unread_at};
+    ghost use Rattle.rustc_parse_format.specs.Midway.{IsCounted, Unread, back_at, unread_at};
     ghost use Rattle.rustc_parse_format.specs.SeenSource.{IsSpot};
-    ghost use Rattle.rustc_parse_format.specs.Back.{IsPaid};
     ghost use Rattle.std.specs.Prelude.{chars};
 
     ghost Value = { Unread };
 
-    ghost view = { λ c. unread_at c.source c.spot.rest.now c.tally c.undone.made };
+    // What was passed is shown with what is left, less the input: so a move that counts nothing changes what is shown.
+    ghost view = { λ c. unread_at c.source c.spot.rest.now (back_at (chars c.source.input.now) (chars c.spot.rest.now) c.tally) c.undone.made };
 
-    ghost invariant = { λ c. IsSpot c.source c.spot.rest.now c.spot.mark.now c.spot.at × IsPaid (chars c.source.input.now) (chars c.spot.rest.now) c.tally };
+    ghost invariant = { λ c. IsSpot c.source c.spot.rest.now c.spot.mark.now c.spot.at × IsCounted (chars c.source.input.now) (chars c.spot.rest.now) c.tally };
 }
 
 impl<'input> Cursor<'input> {
@@ -47,10 +47,10 @@ impl<'input> Cursor<'input> {
     ghost use Rattle.rustc_parse_format.specs.Classes.{passes};
     ghost use Rattle.rustc_parse_format.specs.Marks.{Start, End};
     ghost use Rattle.rustc_parse_format.specs.Seen.{pair};
-    ghost use Rattle.rustc_parse_format.specs.Midway.{IsPastIndent, opens_placeholder, unread_at};
+    ghost use Rattle.rustc_parse_format.specs.Midway.{IsCounted, IsPastIndent, back_at, opens_placeholder, unread_at};
     ghost use Rattle.rustc_parse_format.specs.SeenSource.{IsKept, IsSpot};
     ghost use Rattle.rustc_parse_format.specs.State.{first_of};
-    ghost use Rattle.rustc_parse_format.specs.Back.{IsFurthest, IsPaid, behind_part, given_back, nothing_back};
+    ghost use Rattle.rustc_parse_format.specs.Back.{IsFurthest, behind_part, given_back, nothing_back};
     ghost use Rattle.rustc_parse_format.specs.Steps.{AreFew};
     ghost use Rattle.rustc_parse_format.specs.World.{number_of, place_at};
 
@@ -76,9 +76,10 @@ impl<'input> Cursor<'input> {
 
     /// Where it stands.
     pub fn checkpoint(&self) -> Checkpoint<'input>
-        ensures at { self.now ≡ unread_at self.now.source result.spot.rest.now result.tally self.now.undone }
+        ensures at { self.now ≡ unread_at self.now.source result.spot.rest.now
+            (back_at (chars self.now.source.input.now) (chars result.spot.rest.now) result.tally) self.now.undone }
         ensures spot { IsSpot self.now.source result.spot.rest.now result.spot.mark.now result.spot.at }
-        ensures paid { IsPaid self.now.input self.now.rest result.tally }
+        ensures counted { IsCounted (chars self.now.source.input.now) (chars result.spot.rest.now) result.tally }
     {
         let spot = Spot {
             rest: self.spot.rest,
@@ -126,6 +127,7 @@ impl<'input> Cursor<'input> {
     pub fn advance(&mut self)
         ensures rest { self.new ≡ record self.old { rest = behind_first self.old.rest } }
     {
+        self.tally.pass(count_next(self.spot.rest));
         self.spot.rest = behind_first(self.spot.rest);
     }
 
@@ -135,6 +137,7 @@ impl<'input> Cursor<'input> {
         ensures place { pair result ≡ place_at self.old.world (length self.old.rest) }
         ensures rest { self.new ≡ record self.old { rest = behind_first self.old.rest } }
     {
+        self.tally.pass(count_next(self.spot.rest));
         self.source.pass(&mut self.spot)
     }
 
@@ -146,15 +149,16 @@ impl<'input> Cursor<'input> {
         requires word { behind_part (chars to.spot.rest.now) ≤ length self.old.rest }
         ensures { self.new ≡ unread_at self.old.source to.entry.spot.rest.now (given_back self.old.rest (chars to.entry.spot.rest.now) self.old.back) self.old.undone }
     {
-        self.tally.go_back(self.spot.rest, to.spot.rest);
+        self.tally.go_back(self.spot.rest);
         self.spot = to.spot;
     }
 
     /// Puts it back where it stood before a call that was refused.
     pub fn undo(&mut self, to: Checkpoint<'input>)
         requires spot { IsSpot self.old.source to.spot.rest.now to.spot.mark.now to.spot.at }
-        requires paid { IsPaid (chars self.old.source.input.now) (chars to.spot.rest.now) to.tally }
-        ensures { self.new ≡ unread_at self.old.source to.entry.spot.rest.now to.entry.tally (self.old.undone + 1) }
+        requires counted { IsCounted (chars self.old.source.input.now) (chars to.spot.rest.now) to.tally }
+        ensures { self.new ≡ unread_at self.old.source to.entry.spot.rest.now
+            (back_at (chars self.old.source.input.now) (chars to.entry.spot.rest.now) to.entry.tally) (self.old.undone + 1) }
     {
         self.spot = to.spot;
         self.tally = to.tally;
@@ -337,6 +341,7 @@ impl<'input> Cursor<'input> {
         ensures rest { self.new ≡ record self.old { rest = behind (passes class) self.old.rest } }
     {
         let rest = behind_run(self.spot.rest, class);
+        self.tally.pass(count_before(self.spot.rest, rest));
         self.spot.rest = rest;
     }
 

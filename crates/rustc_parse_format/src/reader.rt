@@ -2,12 +2,11 @@
 
 ghost use Rattle.std.specs.Prelude.{◌≡◌, ◌≢◌, ◌++◌, ◌+◌, ◌<◌, ◌^◌, ◌∷◌, [], ◌↔◌, IfOk, IsOk, IsTrue, None, OnErr, OnOk, Some, chars, length, map, option_map};
 ghost use Rattle.rustc_parse_format.specs.Characters.{behind, behind_first, first, front, is_in_line, is_no_brace, with_first};
-ghost use Rattle.rustc_parse_format.specs.Midway.{HasFoundNothing, IsInOneLine, IsPastIndent, midway, passed_next, read_run, unread_at};
+ghost use Rattle.rustc_parse_format.specs.Midway.{HasFoundNothing, IsCounted, IsInOneLine, IsPastIndent, back_at, midway, passed_next, read_run, unread_at};
 ghost use Rattle.rustc_parse_format.specs.Marks.{End, Start};
 ghost use Rattle.rustc_parse_format.specs.Seen.{pair};
 ghost use Rattle.rustc_parse_format.specs.SeenFaults.{seen_fault};
 ghost use Rattle.rustc_parse_format.specs.SeenSource.{IsSpot};
-ghost use Rattle.rustc_parse_format.specs.Back.{IsPaid};
 ghost use Rattle.rustc_parse_format.specs.World.{number_of};
 
 use crate::characters::Class;
@@ -74,8 +73,9 @@ impl<'input> Reader<'input> {
     /// Where it stands before a call.
     pub fn front(&self) -> Front<'input>
         requires { HasFoundNothing self.now }
-        ensures at { self.now ≡ midway (unread_at self.now.source result.at.spot.rest.now result.at.tally self.now.undone) result.curarg result.line_start }
-        ensures paid { IsPaid (chars self.now.source.input.now) (chars result.at.spot.rest.now) result.at.tally }
+        ensures at { self.now ≡ midway (unread_at self.now.source result.at.spot.rest.now
+            (back_at (chars self.now.source.input.now) (chars result.at.spot.rest.now) result.at.tally) self.now.undone) result.curarg result.line_start }
+        ensures counted { IsCounted (chars self.now.source.input.now) (chars result.at.spot.rest.now) result.at.tally }
         ensures spot { IsSpot self.now.source result.at.spot.rest.now result.at.spot.mark.now result.at.spot.at }
     {
         Front {
@@ -88,8 +88,9 @@ impl<'input> Reader<'input> {
     /// Goes back to where a call began, and forgets what it has found.
     pub fn go_back(&mut self, alloc: Global, front: Front<'input>)
         requires spot { IsSpot self.old.source front.at.spot.rest.now front.at.spot.mark.now front.at.spot.at }
-        requires paid { IsPaid (chars self.old.source.input.now) (chars front.at.spot.rest.now) front.at.tally }
-        ensures { self.new ≡ midway (unread_at self.old.source front.entry.at.spot.rest.now front.entry.at.tally (self.old.undone + 1)) front.entry.curarg front.entry.line_start }
+        requires counted { IsCounted (chars self.old.source.input.now) (chars front.at.spot.rest.now) front.at.tally }
+        ensures { self.new ≡ midway (unread_at self.old.source front.entry.at.spot.rest.now
+            (back_at (chars self.old.source.input.now) (chars front.entry.at.spot.rest.now) front.entry.at.tally) (self.old.undone + 1)) front.entry.curarg front.entry.line_start }
     {
         self.cursor.undo(front.at);
         self.curarg = front.curarg;

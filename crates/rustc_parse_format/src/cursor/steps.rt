@@ -1,8 +1,10 @@
-//! What a cursor has given back, in contracts alone: nothing is done when the program runs.
+//! How many steps a cursor has made, in contracts alone: nothing is done when the program runs.
 
-ghost use Rattle.std.specs.Prelude.{◌≡◌, ℕ, ◌+◌, ◌≤◌, chars, length};
+ghost use Rattle.std.specs.Prelude.{◌≡◌, ℕ, ◌+◌, ◌++◌, chars, length};
+ghost use Rattle.rustc_parse_format.specs.Characters.{Text, behind_first};
 ghost use Rattle.std.specs.Borrow.{ftrue};
 
+use crate::characters::{before, first};
 use std::marker::Model;
 
 /// A number that only contracts see. It takes no bytes, and only these two functions make one.
@@ -31,41 +33,45 @@ impl Steps {
     }
 }
 
-/// What a cursor has given back.
+/// How many characters a cursor passed, and how many were left where it last went back.
 #[derive(Drop)]
 pub struct Tally {
-    again: Steps,
+    made: Steps,
     left: Steps,
 }
 
 impl Model for Tally {
-    ghost use Rattle.rustc_parse_format.specs.Back.{Back};
+    ghost use Rattle.rustc_parse_format.specs.Midway.{Passed};
 
-    ghost Value = { Back };
+    ghost Value = { Passed };
 
-    ghost view = { λ t. record { again = t.again.made; left = t.left.made } };
+    ghost view = { λ t. record { made = t.made.made; left = t.left.made } };
 }
 
 impl Tally {
-    ghost use Rattle.rustc_parse_format.specs.Back.{given_back, nothing_back};
-
-    /// Nothing yet, in front of a text.
+    /// None yet, in front of a text.
     pub(super) fn new(text: &str) -> Tally
-        ensures { result ≡ nothing_back (chars text.now) }
+        ensures { result ≡ record { made = 0; left = length (chars text.now) } }
     {
-        let none = Steps::start();
-        let left = Steps::more(&none, &character_count(text));
-        Tally { again: none, left }
+        Tally {
+            made: Steps::start(),
+            left: Steps::more(&Steps::start(), &character_count(text)),
+        }
     }
 
-    /// The cursor goes back from one rest to another one.
-    pub(super) fn go_back(&mut self, from: &str, to: &str)
-        requires { length (chars from.now) ≤ length (chars to.now) }
-        ensures { self.new ≡ given_back (chars from.now) (chars to.now) self.old }
+    /// Some more are passed.
+    #[inline(always)]
+    pub(super) fn pass(&mut self, count: u64)
+        ensures { self.new ≡ record self.old { made = self.old.made + count } }
     {
-        let left = character_count(from);
-        self.again = Steps::more(&self.again, &(character_count(to) - left));
-        self.left = Steps::more(&Steps::start(), &left);
+        self.made = Steps::more(&self.made, &count);
+    }
+
+    /// The cursor goes back from in front of a text.
+    pub(super) fn go_back(&mut self, from: &str)
+        ensures { self.new ≡ record self.old { left = length (chars from.now) } }
+    {
+        self.left = Steps::more(&Steps::start(), &character_count(from));
     }
 
     /// The same.
@@ -73,7 +79,7 @@ impl Tally {
         ensures { result ≡ self.now }
     {
         Tally {
-            again: Steps::more(&self.again, &0),
+            made: Steps::more(&self.made, &0),
             left: Steps::more(&self.left, &0),
         }
     }
@@ -92,4 +98,21 @@ fn character_count(text: &str) -> u64
         }
     }
     count
+}
+
+/// How many characters of a text stand in front of a rest of it.
+#[inline(always)]
+pub(super) fn count_before(text: &str, rest: &str) -> u64
+    requires { (u : Text) × (chars text.now ≡ u ++ chars rest.now) }
+    ensures { result + length (chars rest.now) ≡ length (chars text.now) }
+{
+    character_count(before(text, rest))
+}
+
+/// How many characters a move over the next one passes.
+#[inline(always)]
+pub(super) fn count_next(text: &str) -> u64
+    ensures { result + length (behind_first (chars text.now)) ≡ length (chars text.now) }
+{
+    if first(text).is_some() { 1 } else { 0 }
 }

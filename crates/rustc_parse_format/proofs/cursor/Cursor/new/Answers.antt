@@ -1,10 +1,10 @@
 use Rattle.std.proofs.Common.{chars, length, refl, arith, ap}
 use Rattle.rustc_parse_format.proofs.SourcePlaces.{first_spot}
-use Rattle.rustc_parse_format.proofs.Steps.{paid_first}
+use Rattle.rustc_parse_format.proofs.Steps.{counted_first}
 use Rattle.rustc_parse_format.proofs.cursor.Cursor.new.Goals as goal
 
 pub invariant_of-result : goal.invariant_of-result
 invariant_of-result c = (
   first_spot c.args.source c.args.input.now c.first_look.result c.utf8.input c.requires.input c.requires.fits c.first_look.ensures c.requires.kept,
-  rw (c.new.ensures, c.requires.input) (paid_first _ _ (omega arith)),
+  rw (c.new.ensures, c.requires.input) (counted_first _),
 )
