@@ -19,7 +19,8 @@ close-requires c =
       numbers = omega (
         arith,
         numbers_left (seen_mode c.args.mode) c.reader.inside.curarg c.reader-2.inside.curarg u.rest c.skip_white.new.self.rest
-            (λ e. opens-some c.args.reader.now.rest c.requires.opens (sym rest ∙ e)) (ap (λ (x : Midway). x.next) whole) (white ∙ ap (λ (x : Midway). behind_white x.rest) whole),
+            (λ e. opens-some c.args.reader.now.rest c.requires.opens (sym rest ∙ e)) (ap (λ (x : Midway). x.next) whole)
+            (white ∙ ap (λ (x : Midway). behind_white x.rest) whole),
         ap length rest,
         ap (λ (x : Midway). x.next) c.reader.view_is,
         c.requires.numbers,
@@ -36,7 +37,8 @@ returns-clause-state c =
     } in
     let given = rw c.take_place-opening.ensures.rest at c.in_ok-read_argument.ensures in
     let e = c.reader-2.view_is ∙ given.state in
-    rw (call_opens (seen_mode c.args.mode) c.args.reader.now.next c.args.reader.now.rest c.requires.opens, ← c.reader.view_is) (placeholder_closed s _ c.close.new.reader (seen_mode c.args.mode) u.rest (behind_first u.rest) (pair c.take_place-opening.result)
+    rw (call_opens (seen_mode c.args.mode) c.args.reader.now.next c.args.reader.now.rest c.requires.opens, ← c.reader.view_is)
+    (placeholder_closed s _ c.close.new.reader (seen_mode c.args.mode) u.rest (behind_first u.rest) (pair c.take_place-opening.result)
     (seen_argument c.read_argument.new.into) e c.take_place-opening.ensures.place given.value
     (rw c.skip_white.ensures.rest at c.in_ok-close.ensures.state))
 
@@ -49,7 +51,8 @@ returns-in_err-read_argument-clause-spare c =
       closed = option_map pair c.reader.inside.closed;
     } in
     let spare = rw c.take_place-opening.ensures.rest at c.in_err-read_argument.ensures.spare in
-    rw (call_opens (seen_mode c.args.mode) c.args.reader.now.next c.args.reader.now.rest c.requires.opens, ← c.reader.view_is) (λ h. absurd (false≢true (spare (argument-finds s (seen_mode c.args.mode) u.rest (behind_first u.rest) h))))
+    rw (call_opens (seen_mode c.args.mode) c.args.reader.now.next c.args.reader.now.rest c.requires.opens, ← c.reader.view_is)
+    (λ h. absurd (false≢true (spare (argument-finds s (seen_mode c.args.mode) u.rest (behind_first u.rest) h))))
 
 pub returns-in_err-close-clause-spare : goal.returns-in_err-close-clause-spare
 returns-in_err-close-clause-spare c =
@@ -63,4 +66,5 @@ returns-in_err-close-clause-spare c =
     let given = rw c.take_place-opening.ensures.rest at c.in_ok-read_argument.ensures in
     let at = ap (λ (x : Midway). begins_with 125 (behind_white x.rest)) (c.reader-2.view_is ∙ given.state) in
     let spare = rw c.skip_white.ensures.rest at c.in_err-close.ensures.spare in
-    rw (call_opens (seen_mode c.args.mode) c.args.reader.now.next c.args.reader.now.rest c.requires.opens, ← c.reader.view_is) (λ h. absurd (false≢true (spare (at ∙ (placeholder-faultless mode s.next u.rest (behind_first u.rest) h.0).2))))
+    rw (call_opens (seen_mode c.args.mode) c.args.reader.now.next c.args.reader.now.rest c.requires.opens, ← c.reader.view_is)
+    (λ h. absurd (false≢true (spare (at ∙ (placeholder-faultless mode s.next u.rest (behind_first u.rest) h.0).2))))
