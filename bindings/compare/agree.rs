@@ -1,6 +1,7 @@
-//! The crate of bindings/rust beside a build of the original, or beside the static library: agree SEED COUNT. With `--cfg applied`
-//! the other has the differences of docs/DIFFERENCES.md and the fourth mode, and nothing is left out. With `--cfg fixed` it does
-//! not let `is_source_literal` be set to true.
+//! The crate of bindings/rust beside a build of the original, or beside the static library: agree
+//! SEED COUNT. With `--cfg applied` the other has the differences of docs/DIFFERENCES.md and the
+//! fourth mode, and nothing is left out. With `--cfg fixed` it does not let `is_source_literal` be
+//! set to true.
 mod cases;
 
 use cases::{case, Case, Random};
@@ -10,7 +11,8 @@ use std::panic::catch_unwind;
 type Text = String;
 type Place = std::ops::Range<usize>;
 
-/// An error with all its fields, or a piece with the places of its texts, as something to compare: of either crate.
+/// An error with all its fields, or a piece with the places of its texts, as something to compare:
+/// of either crate.
 macro_rules! seen_by {
     ($name:ident, $of:ident) => {
         mod $name {
@@ -66,7 +68,8 @@ macro_rules! seen_by {
                 )
             }
 
-            /// The bytes of the input in which the texts of a piece stand; None for one that stands elsewhere or is empty.
+            /// The bytes of the input in which the texts of a piece stand; None for one that stands
+            /// elsewhere or is empty.
             pub fn places(input: &str, piece: &Option<Piece<'_>>) -> Vec<Option<usize>> {
                 let place = |text: &str| {
                     let at = (text.as_ptr() as usize).wrapping_sub(input.as_ptr() as usize);
@@ -95,8 +98,8 @@ macro_rules! seen_by {
                 }
             }
 
-            /// What can be asked of a piece: whether its argument is an identifier, its number, whether it asks for nothing, and whether
-            /// its clone is equal to it.
+            /// What can be asked of a piece: whether its argument is an identifier, its number,
+            /// whether it asks for nothing, and whether its clone is equal to it.
             pub fn answers(piece: &Option<Piece<'_>>) -> (bool, Option<usize>, bool, bool) {
                 let same = piece.clone() == *piece;
                 match piece {
@@ -132,7 +135,8 @@ fn left_out(case: &Case) -> Option<&'static str> {
     }
 }
 
-/// Whether the unescaper warns of a continued line: of more than one line, or of white space that it leaves.
+/// Whether the unescaper warns of a continued line: of more than one line, or of white space that
+/// it leaves.
 fn warns(snippet: &str) -> bool {
     let mut rest = snippet;
     while let Some(at) = rest.find('\\') {
@@ -148,7 +152,8 @@ fn warns(snippet: &str) -> bool {
     false
 }
 
-/// Whether two descriptions say the same, but for a character beyond ASCII that one of them escapes.
+/// Whether two descriptions say the same, but for a character beyond ASCII that one of them
+/// escapes.
 fn differ_by_an_escape(ours: &str, theirs: &str) -> bool {
     let found = ours
         .strip_prefix("expected `}`, found `")

@@ -1,6 +1,7 @@
-//! Times in one run, over the same inputs: cost STRINGS, a file with a string and its literal on a line, with a tab between them.
-//! A line of what it writes is a row's name, with a tab behind it and behind each time in microseconds: of the crate of
-//! bindings/rust, of the original, and with `--cfg library` of the library's own walk and of the export into buffers that are kept.
+//! Times in one run, over the same inputs: cost STRINGS, a file with a string and its literal on a
+//! line, with a tab between them. A line of what it writes is a row's name, with a tab behind it
+//! and behind each time in microseconds: of the crate of bindings/rust, of the original, and with
+//! `--cfg library` of the library's own walk and of the export into buffers that are kept.
 #[cfg(library)]
 mod library;
 #[cfg(library)]
@@ -17,7 +18,13 @@ type Counts = (usize, usize);
 macro_rules! walk {
     ($name:ident, $of:ident) => {
         fn $name(input: &str, snippet: Option<&str>) -> Counts {
-            let mut parser = $of::Parser::new(input, None, snippet.map(str::to_string), false, $of::ParseMode::Format);
+            let mut parser = $of::Parser::new(
+                input,
+                None,
+                snippet.map(str::to_string),
+                false,
+                $of::ParseMode::Format,
+            );
             let mut pieces = 0;
             while let Some(piece) = parser.next() {
                 black_box(piece);
@@ -48,10 +55,14 @@ fn sum_of(walk: Walk, inputs: &[(String, Option<String>)]) -> Counts {
     })
 }
 
-/// The shortest of the times of each walk, in turn, so that another load on the machine hits all of them.
+/// The shortest of the times of each walk, in turn, so that another load on the machine hits all of
+/// them.
 fn row(name: &str, inputs: &[(String, Option<String>)], times: usize) {
     let counts = WALKS.iter().map(|(_, counting)| sum_of(*counting, inputs));
-    assert!(counts.clone().all(|c| Some(c) == counts.clone().next()), "{name}: the counts differ");
+    assert!(
+        counts.clone().all(|c| Some(c) == counts.clone().next()),
+        "{name}: the counts differ"
+    );
     let mut best = vec![f64::MAX; WALKS.len()];
     for _ in 0..25 {
         for (best, (timed, _)) in best.iter_mut().zip(WALKS) {
@@ -92,8 +103,14 @@ fn main() {
         .filter_map(|line| line.split_once('\t'))
         .map(|(value, literal)| (column(value), column(literal)))
         .collect();
-    let with: Vec<_> = strings.iter().map(|(value, literal)| (value.clone(), Some(literal.clone()))).collect();
-    let without: Vec<_> = strings.iter().map(|(value, _)| (value.clone(), None)).collect();
+    let with: Vec<_> = strings
+        .iter()
+        .map(|(value, literal)| (value.clone(), Some(literal.clone())))
+        .collect();
+    let without: Vec<_> = strings
+        .iter()
+        .map(|(value, _)| (value.clone(), None))
+        .collect();
     row(&format!("{} strings", strings.len()), &without, 1);
     row("the same, with their literals", &with, 1);
     // a text by itself, as often as told, and then with its literal
@@ -115,10 +132,26 @@ fn main() {
         (&"{_} ".repeat(4096), 1),
         (&"{a.b} ".repeat(1024), 1),
     ] {
-        let shown: String = text.chars().take(14).collect::<String>().replace('\n', "\\n");
-        let often = if times > 1 { format!("{times} times") } else { format!("{} bytes", text.len()) };
+        let shown: String = text
+            .chars()
+            .take(14)
+            .collect::<String>()
+            .replace('\n', "\\n");
+        let often = if times > 1 {
+            format!("{times} times")
+        } else {
+            format!("{} bytes", text.len())
+        };
         let literal = format!("\"{}\"", text.replace('\n', "\\n"));
-        row(&format!("{shown:14} {often}"), &[(text.to_string(), None)], times);
-        row(&format!("{shown:14} {often}, with its literal"), &[(text.to_string(), Some(literal))], times);
+        row(
+            &format!("{shown:14} {often}"),
+            &[(text.to_string(), None)],
+            times,
+        );
+        row(
+            &format!("{shown:14} {often}, with its literal"),
+            &[(text.to_string(), Some(literal))],
+            times,
+        );
     }
 }

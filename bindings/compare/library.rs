@@ -17,7 +17,15 @@ unsafe extern "C" {
 
 pub fn walk(input: &str, snippet: Option<&str>) -> Counts {
     let text = snippet.unwrap_or("");
-    let counts = unsafe { counted_walk(input.as_ptr(), input.len(), text.as_ptr(), text.len(), snippet.is_some()) };
+    let counts = unsafe {
+        counted_walk(
+            input.as_ptr(),
+            input.len(),
+            text.as_ptr(),
+            text.len(),
+            snippet.is_some(),
+        )
+    };
     (counts >> 24, counts & 0xff_ffff)
 }
 
@@ -32,11 +40,21 @@ thread_local! {
 }
 
 /// Reads an input into the kept buffers, and gives what is asked of them and of the answer.
-fn read<T>(input: &str, snippet: Option<&str>, seen: impl FnOnce(&call::Buffers, &records::Answer) -> T) -> T {
+fn read<T>(
+    input: &str,
+    snippet: Option<&str>,
+    seen: impl FnOnce(&call::Buffers, &records::Answer) -> T,
+) -> T {
     KEPT.with_borrow_mut(|buffers| {
-        let options = records::Options { has_snippet: snippet.is_some().into(), ..Default::default() };
+        let options = records::Options {
+            has_snippet: snippet.is_some().into(),
+            ..Default::default()
+        };
         let mut answer = records::Answer::default();
-        assert_eq!(call::read(input, snippet.unwrap_or(""), &options, buffers, &mut answer), records::DONE);
+        assert_eq!(
+            call::read(input, snippet.unwrap_or(""), &options, buffers, &mut answer),
+            records::DONE
+        );
         seen(buffers, &answer)
     })
 }
@@ -45,8 +63,17 @@ fn read<T>(input: &str, snippet: Option<&str>, seen: impl FnOnce(&call::Buffers,
 pub fn export(input: &str, snippet: Option<&str>) -> Counts {
     read(input, snippet, |buffers, answer| {
         let steps = &buffers.steps[..answer.steps];
-        let end = steps.iter().position(|step| step.kind == records::PIECE_NONE).unwrap();
-        (end, buffers.faults[..answer.faults].iter().filter(|fault| fault.step <= end).count())
+        let end = steps
+            .iter()
+            .position(|step| step.kind == records::PIECE_NONE)
+            .unwrap();
+        (
+            end,
+            buffers.faults[..answer.faults]
+                .iter()
+                .filter(|fault| fault.step <= end)
+                .count(),
+        )
     })
 }
 

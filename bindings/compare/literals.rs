@@ -1,5 +1,6 @@
-//! Snippets with right and wrong escapes, over the crate of bindings/rust and over the proved static library: literals SEED COUNT.
-//! Besides, what the functions of `literal` answer is compared with what a parser of the static library shows of it.
+//! Snippets with right and wrong escapes, over the crate of bindings/rust and over the proved
+//! static library: literals SEED COUNT. Besides, what the functions of `literal` answer is compared
+//! with what a parser of the static library shows of it.
 #[allow(dead_code)]
 mod cases;
 use cases::Random;
@@ -83,7 +84,13 @@ macro_rules! seen {
     ($name:ident, $of:ident) => {
         fn $name(input: &str, style: Option<usize>, snippet: &str, newline: bool) -> String {
             use $of::*;
-            let mut parser = Parser::new(input, style, Some(snippet.to_string()), newline, ParseMode::Format);
+            let mut parser = Parser::new(
+                input,
+                style,
+                Some(snippet.to_string()),
+                newline,
+                ParseMode::Format,
+            );
             let mut out = format!("{}", parser.is_source_literal);
             loop {
                 let is_end = parser.peek().is_none();
@@ -121,25 +128,43 @@ macro_rules! seen {
 seen!(ours, dephungo);
 seen!(theirs, proved);
 
-/// The characters that the content of a literal stands for, and their places, are those that a parser of the static library peeks at
-/// over that literal, if it goes through it character by character.
+/// The characters that the content of a literal stands for, and their places, are those that a
+/// parser of the static library peeks at over that literal, if it goes through it character by
+/// character.
 fn same_characters(input: &str, snippet: &str, newline: bool) {
     let content = dephungo::literal::between_quotes(snippet).expect("a content between quotes");
     let found = dephungo::literal::read_content(content).expect("the content of a literal");
     let text: String = found.iter().map(|(_, c)| *c).collect();
-    assert_eq!(text + if newline { "\n" } else { "" }, input, "the content of {snippet:?}");
-    let mut parser = proved::Parser::new(input, None, Some(snippet.to_string()), newline, proved::ParseMode::Format);
+    assert_eq!(
+        text + if newline { "\n" } else { "" },
+        input,
+        "the content of {snippet:?}"
+    );
+    let mut parser = proved::Parser::new(
+        input,
+        None,
+        Some(snippet.to_string()),
+        newline,
+        proved::ParseMode::Format,
+    );
     while let Some((place, at, c)) = parser.peek() {
         let index = input[..at].chars().count();
         if let Some((wanted, d)) = found.get(index) {
-            assert_eq!((place, c), (wanted.start + 1..wanted.end + 1, *d), "{index} of {snippet:?}");
+            assert_eq!(
+                (place, c),
+                (wanted.start + 1..wanted.end + 1, *d),
+                "{index} of {snippet:?}"
+            );
         }
         parser.next();
     }
 }
 
 fn main() {
-    let words: Vec<u64> = std::env::args().skip(1).map(|word| word.parse().unwrap()).collect();
+    let words: Vec<u64> = std::env::args()
+        .skip(1)
+        .map(|word| word.parse().unwrap())
+        .collect();
     let mut random = Random::new(words[0]);
     let (mut literals, mut errors) = (0, 0);
     for _ in 0..words[1] {
@@ -149,7 +174,11 @@ fn main() {
             content += written;
             input += value;
         }
-        let style = if random.one_in(5) { Some(random.below(3)) } else { None };
+        let style = if random.one_in(5) {
+            Some(random.below(3))
+        } else {
+            None
+        };
         let newline = random.one_in(4);
         let snippet = match style {
             None => format!("\"{content}\""),

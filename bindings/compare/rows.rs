@@ -1,11 +1,13 @@
-//! Rows of answers from outside, over the crate of bindings/rust: rows FILE... Each row is read as it stands there, and all that
-//! this gives is compared; then its input is read in three worlds, as it is, as an ordinary literal in which each character is an
-//! escape with a continuation behind it, and as a raw literal, and what these give is compared without its spans.
+//! Rows of answers from outside, over the crate of bindings/rust: rows FILE... Each row is read as
+//! it stands there, and all that this gives is compared; then its input is read in three worlds, as
+//! it is, as an ordinary literal in which each character is an escape with a continuation behind
+//! it, and as a raw literal, and what these give is compared without its spans.
 use dephungo::*;
 use std::fmt::Write;
 use std::ops::Range;
 
-/// A column, in which a backslash stands before n, t, r and itself, and before x and two digits for a byte.
+/// A column, in which a backslash stands before n, t, r and itself, and before x and two digits for
+/// a byte.
 fn bytes_of(text: &str) -> Vec<u8> {
     let (mut out, mut rest) = (Vec::new(), text);
     while let Some(c) = rest.chars().next() {
@@ -92,9 +94,13 @@ fn argument(a: &Argument<'_>, bare: bool) -> String {
         AlignRight => 2,
         AlignCenter => 3,
     }];
-    out += f
-        .sign
-        .map_or("", |sign| if sign == Sign::Plus { " sign=+" } else { " sign=-" });
+    out += f.sign.map_or("", |sign| {
+        if sign == Sign::Plus {
+            " sign=+"
+        } else {
+            " sign=-"
+        }
+    });
     out += if f.alternate { " alt" } else { "" };
     out += if f.zero_pad { " zero" } else { "" };
     if f.width != CountImplied {
@@ -105,9 +111,13 @@ fn argument(a: &Argument<'_>, bare: bool) -> String {
         out += &count(" precision=", &f.precision, bare);
     }
     out += &at(&f.precision_span, bare);
-    out += f
-        .debug_hex
-        .map_or("", |hex| if hex == DebugHex::Lower { " hex=lower" } else { " hex=upper" });
+    out += f.debug_hex.map_or("", |hex| {
+        if hex == DebugHex::Lower {
+            " hex=lower"
+        } else {
+            " hex=upper"
+        }
+    });
     if !f.ty.is_empty() || f.ty_span.is_some() {
         write!(out, " ty=\"{}\"", escaped(f.ty)).unwrap();
     }
@@ -116,7 +126,9 @@ fn argument(a: &Argument<'_>, bare: bool) -> String {
 
 fn error(out: &mut String, e: &ParseError, bare: bool) {
     writeln!(out, "fault {} {}", told(&e.span, bare), e.description).unwrap();
-    e.note.iter().for_each(|note| writeln!(out, "note {note}").unwrap());
+    e.note
+        .iter()
+        .for_each(|note| writeln!(out, "note {note}").unwrap());
     writeln!(out, "label {}", e.label).unwrap();
     e.secondary_label
         .iter()
@@ -124,19 +136,41 @@ fn error(out: &mut String, e: &ParseError, bare: bool) {
     match &e.suggestion {
         Suggestion::None => {}
         Suggestion::UsePositional => *out += "suggest positional\n",
-        Suggestion::RemoveRawIdent(range) => writeln!(out, "suggest raw {}", told(range, bare)).unwrap(),
-        Suggestion::ReorderFormatParameter(range, text) => writeln!(out, "suggest reorder {} {text}", told(range, bare)).unwrap(),
-        Suggestion::AddMissingColon(range) => writeln!(out, "suggest colon {}", told(range, bare)).unwrap(),
+        Suggestion::RemoveRawIdent(range) => {
+            writeln!(out, "suggest raw {}", told(range, bare)).unwrap()
+        }
+        Suggestion::ReorderFormatParameter(range, text) => {
+            writeln!(out, "suggest reorder {} {text}", told(range, bare)).unwrap()
+        }
+        Suggestion::AddMissingColon(range) => {
+            writeln!(out, "suggest colon {}", told(range, bare)).unwrap()
+        }
         Suggestion::UseRustDebugPrintingMacro => *out += "suggest dbg\n",
     }
 }
 
 /// What reading gives, up to the call at the end of the input.
-fn listing(input: &str, style: Option<usize>, snippet: Option<String>, newline: bool, mode: ParseMode, bare: bool) -> String {
+fn listing(
+    input: &str,
+    style: Option<usize>,
+    snippet: Option<String>,
+    newline: bool,
+    mode: ParseMode,
+    bare: bool,
+) -> String {
     let mut parser = Parser::new(input, style, snippet, newline, mode);
     let mut out = String::new();
     if !bare {
-        writeln!(out, "source {}", if parser.is_source_literal { "yes" } else { "no" }).unwrap();
+        writeln!(
+            out,
+            "source {}",
+            if parser.is_source_literal {
+                "yes"
+            } else {
+                "no"
+            }
+        )
+        .unwrap();
     }
     loop {
         let is_end = parser.peek().is_none();
@@ -166,18 +200,44 @@ fn listing(input: &str, style: Option<usize>, snippet: Option<String>, newline: 
 
 /// Compares what an input gives in three worlds.
 fn same_in_each_world(name: &str, input: &str, mode: ParseMode) {
-    let content: String = input.chars().map(|c| format!("\\u{{{:x}}}\\\n ", c as u32)).collect();
+    let content: String = input
+        .chars()
+        .map(|c| format!("\\u{{{:x}}}\\\n ", c as u32))
+        .collect();
     let plain = listing(input, None, None, false, mode, true);
-    let ordinary = listing(input, None, Some(format!("\"{content}\"")), false, mode, true);
-    let raw = listing(input, Some(3), Some(format!("r###\"{input}\"###")), false, mode, true);
-    assert_eq!((&ordinary, &raw), (&plain, &plain), "row {name} in three worlds");
+    let ordinary = listing(
+        input,
+        None,
+        Some(format!("\"{content}\"")),
+        false,
+        mode,
+        true,
+    );
+    let raw = listing(
+        input,
+        Some(3),
+        Some(format!("r###\"{input}\"###")),
+        false,
+        mode,
+        true,
+    );
+    assert_eq!(
+        (&ordinary, &raw),
+        (&plain, &plain),
+        "row {name} in three worlds"
+    );
 }
 
 /// Compares each row of a text, and says how many there are.
 pub fn compare(file: &str, text: &str) -> usize {
     let mut rows = 0;
-    for line in text.split('\n').filter(|line| !line.is_empty() && !line.starts_with("# ") && !line.starts_with("note#")) {
-        let [name, mode, style, newline, snippet, input, wanted] = line.split('\t').collect::<Vec<_>>()[..] else {
+    for line in text
+        .split('\n')
+        .filter(|line| !line.is_empty() && !line.starts_with("# ") && !line.starts_with("note#"))
+    {
+        let [name, mode, style, newline, snippet, input, wanted] =
+            line.split('\t').collect::<Vec<_>>()[..]
+        else {
             panic!("{file}: {line:?}")
         };
         let mode = match mode {
@@ -187,14 +247,28 @@ pub fn compare(file: &str, text: &str) -> usize {
             "diagnostic-named" => ParseMode::DiagnosticNamed,
             other => panic!("{file}: the mode {other}"),
         };
-        if style.parse::<u64>().map_or(false, |hashes| hashes > usize::MAX as u64 / 2) && usize::BITS < 64 {
+        if style
+            .parse::<u64>()
+            .map_or(false, |hashes| hashes > usize::MAX as u64 / 2)
+            && usize::BITS < 64
+        {
             continue;
         }
         let (input, snippet) = (text_of(input), text_of(snippet));
         let snippet = snippet.strip_prefix('=').map(str::to_string);
-        let out = listing(&input, style.parse().ok(), snippet, newline == "1", mode, false);
+        let out = listing(
+            &input,
+            style.parse().ok(),
+            snippet,
+            newline == "1",
+            mode,
+            false,
+        );
         // where the text ends is no field
-        let wanted: String = text_of(wanted).split_inclusive('\n').filter(|line| !line.starts_with("end ")).collect();
+        let wanted: String = text_of(wanted)
+            .split_inclusive('\n')
+            .filter(|line| !line.starts_with("end "))
+            .collect();
         assert_eq!(out, wanted, "row {name} of {file}");
         same_in_each_world(name, &input, mode);
         rows += 1;
@@ -204,7 +278,10 @@ pub fn compare(file: &str, text: &str) -> usize {
 
 fn main() {
     let text = |file: &String| std::fs::read_to_string(file).expect("a file of rows");
-    let rows: usize = std::env::args().skip(1).map(|file| compare(&file, &text(&file))).sum();
+    let rows: usize = std::env::args()
+        .skip(1)
+        .map(|file| compare(&file, &text(&file)))
+        .sum();
     assert!(rows > 0, "no row");
     println!("{rows} rows, each in three worlds besides: all agree");
 }

@@ -2,36 +2,43 @@
 import re
 import subprocess
 
-from extraction import rules
+from extraction import ghosts, rules
 from extraction.source import Import, Source
 from extraction.tokens import Refused
 
 NOTICE = """\
 // Extracted from {place} by tools/extract: not to be edited.
-// That source is proved, and each contract here is its. That this text means the same is tested: rows of answers from outside and the
-// proved static library (.ci/bindings), and the original (bindings/agree), give the same over it.
+// That source is proved, and each contract here is its. That this text means the same is tested:
+// rows of answers from outside, the proved static library (.ci/bindings) and the original
+// (bindings/agree) give the same over it.
 
 """
 
 
 def extracted(crates, callers):
-    """The sources that crates make, `{name: folder}`, as pairs of a file's name and its text; of all items those that the callers
-    need, which are files in Rust."""
+    """The sources that crates make, `{name: folder}`, as pairs of a file's name and its text; of
+    all items those that the callers need, which are files in Rust."""
     sources = []
     for crate, folder in crates.items():
         for path in sorted(folder.rglob("*.rt")):
             name = str(path.relative_to(folder))
             sources.append(in_place(f"{path}", Source, name, path.read_text()))
             sources[-1].crate, sources[-1].path = crate, str(path)
-            in_place(str(path), rules.strip, sources[-1], sources[-1].items)
-    empty, fields = rules.empty_types(sources)
+            in_place(str(path), ghosts.strip, sources[-1], sources[-1].items)
+    empty, fields = ghosts.empty_types(sources)
     for source in sources:
-        in_place(source.path, rules.erase, source, empty, fields)
+        in_place(source.path, ghosts.erase, source, empty, fields)
     needs = Needs(sources)
     for path in callers:
         needs.add_caller(in_place(str(path), Source, path.name, path.read_text(), False))
     needs.follow()
-    made = [("mod.rs", "// The crates that are extracted. Made by tools/extract: not to be edited.\n\n" + "".join(f"pub mod {name};\n" for name in sorted(crates)))]
+    made = [
+        (
+            "mod.rs",
+            "// The crates that are extracted. Made by tools/extract: not to be edited.\n\n"
+            + "".join(f"pub mod {name};\n" for name in sorted(crates)),
+        )
+    ]
     for source in sources:
         if needs.has(source.crate, *module_of(source.name)):
             text = in_place(source.path, rust_of, source, needs, list(crates), empty)
@@ -42,7 +49,12 @@ def extracted(crates, callers):
 
 def laid_out(text):
     """A file as rustfmt lays it out."""
-    done = subprocess.run(["rustfmt", "--edition", "2021", "--config", "max_width=100"], input=text, capture_output=True, text=True)
+    done = subprocess.run(
+        ["rustfmt", "--edition", "2021", "--config", "max_width=100"],
+        input=text,
+        capture_output=True,
+        text=True,
+    )
     if done.returncode != 0:
         raise Refused(0, done.stderr)
     return done.stdout
@@ -56,7 +68,7 @@ def in_place(path, call, *arguments):
         raise Refused(refused.line, f"{path}:{refused.line}: {refused}") from None
 
 
-# ---------------------------------------------------------------------------------------------------- what is needed
+# ----------------------------------------------------------------------------------- what is needed
 
 
 class Needs:
@@ -68,20 +80,23 @@ class Needs:
         self.items, self.methods, self.shown, self.passed = set(), set(), set(), set()
 
     def add_caller(self, caller):
-        """Adds what a file in Rust names: what it imports of what is extracted, and each method that it calls. What it exports is
-        shown: all public methods of that are needed."""
-        self.methods |= {name for name in caller.names_in(0, len(caller.tokens) - 1) if isinstance(name, tuple)}
+        """Adds what a file in Rust names: what it imports of what is extracted, and each method
+        that it calls. What it exports is shown: all public methods of that are needed."""
+        self.methods |= {
+            name for name in caller.names_in(0, len(caller.tokens) - 1) if isinstance(name, tuple)
+        }
         for at in caller.places(0, len(caller.tokens) - 1):
             if caller.tokens[at].is_word("use"):
                 for path, _ in Import(caller, caller.next(at)).paths():
                     if "proved" in path:
-                        found = self.resolved(path[path.index("proved") + 1:])
+                        found = self.resolved(path[path.index("proved") + 1 :])
                         self.items.add(found)
                         if caller.text(caller.prev(at)) == "pub":
                             self.shown.add(found)
 
     def resolved(self, path):
-        """The file and the name of what a path from the crates on leads to, past what other files import for it."""
+        """The file and the name of what a path from the crates on leads to, past what other files
+        import for it."""
         for cut in range(len(path) - 1, 0, -1):
             source = self.files.get(tuple(path[:cut]))
             if source is not None:
@@ -89,7 +104,7 @@ class Needs:
                 if behind is None:
                     return source.path, path[cut]
                 self.passed.add((source.path, path[cut]))
-                return self.resolved(self.absolute(source, behind) + path[cut + 1:])
+                return self.resolved(self.absolute(source, behind) + path[cut + 1 :])
         return None, path[-1]
 
     def absolute(self, source, path):
@@ -111,11 +126,18 @@ class Needs:
         for name in source.names_in(item.start, item.last, item.of):
             if isinstance(name, tuple):
                 self.methods.add(name)
-                self.items.add(self.resolved(self.absolute(source, imports.get(name[0], [name[0]]) + [name[1]]))
-                               if name[0] != "." else None)
+                self.items.add(
+                    self.resolved(
+                        self.absolute(source, imports.get(name[0], [name[0]]) + [name[1]])
+                    )
+                    if name[0] != "."
+                    else None
+                )
                 continue
             path = imports.get(name)
-            self.items.add((source.path, name) if path is None else self.resolved(self.absolute(source, path)))
+            self.items.add(
+                (source.path, name) if path is None else self.resolved(self.absolute(source, path))
+            )
 
     def follow(self):
         """Marks all items that are needed, and what these need."""
@@ -135,18 +157,29 @@ class Needs:
 
     def has(self, *module):
         """Whether something of a module is needed, or of one in it."""
-        return any(here[:len(module)] == module and any(item.is_kept for item in source.items)
-                   for here, source in self.files.items())
+        return any(
+            here[: len(module)] == module and any(item.is_kept for item in source.items)
+            for here, source in self.files.items()
+        )
 
     def is_needed(self, source, item, part):
         if item.kind != "impl":
-            return part.kind in ("fn", "struct", "enum", "const", "type") and (source.path, part.name) in self.items
+            return (
+                part.kind in ("fn", "struct", "enum", "const", "type")
+                and (source.path, part.name) in self.items
+            )
         path = source.imports().get(item.name)
         of = self.resolved(self.absolute(source, path)) if path else (source.path, item.name)
         if of not in self.items or part.kind == "ghost" or clones_in(source, part):
             return False
-        return (part is item or (item.name, part.name) in self.methods or part.is_public and of in self.shown
-                or part.kind == "fn" and (".", part.name, source.count_of(source.next(part.head, 2)) - 1) in self.methods)
+        return (
+            part is item
+            or (item.name, part.name) in self.methods
+            or part.is_public
+            and of in self.shown
+            or part.kind == "fn"
+            and (".", part.name, source.count_of(source.next(part.head, 2)) - 1) in self.methods
+        )
 
 
 def module_of(name):
@@ -163,17 +196,26 @@ def clones_in(source, item):
     return words[2:8] == ["(", "&", "self", ",", "alloc", ":"]
 
 
-# ------------------------------------------------------------------------------------------------------ what is written
+# ---------------------------------------------------------------------------------- what is written
 
 
 def rust_of(source, needs, crates, empty):
     """The text in Rust of a source."""
-    cloned = {item.name for item in source.items for part in item.parts if part.kind == "fn" and clones_in(source, part)}
+    cloned = {
+        item.name
+        for item in source.items
+        for part in item.parts
+        if part.kind == "fn" and clones_in(source, part)
+    }
     own = set()
     for item in source.items:
         if item.is_kept:
             kept = [part for part in item.parts if part.is_kept and not item.trait] or [item]
-            own |= {name if isinstance(name, str) else name[0] for part in kept for name in source.names_in(part.start, part.last)}
+            own |= {
+                name if isinstance(name, str) else name[0]
+                for part in kept
+                for name in source.names_in(part.start, part.last)
+            }
             own |= source.names_in(item.start, item.open or item.last)
     here = (source.crate, *module_of(source.name))
     body, uses_shim = "", False
@@ -181,9 +223,18 @@ def rust_of(source, needs, crates, empty):
         if item.kind == "mod":
             if needs.has(*here, item.name):
                 # what calls the crates stands outside of them
-                body += comments(source, item) + f"pub{'' if item.is_public else '(crate)'} mod {item.name};"
+                body += (
+                    comments(source, item)
+                    + f"pub{'' if item.is_public else '(crate)'} mod {item.name};"
+                )
         elif item.kind == "use":
-            lines = rules.imported(source, item, source.crate, crates, lambda name: name in own or item.is_public and (source.path, name) in needs.passed)
+            lines = rules.imported(
+                source,
+                item,
+                source.crate,
+                crates,
+                lambda name: name in own or item.is_public and (source.path, name) in needs.passed,
+            )
             body += comments(source, item) + lines if lines else ""
         elif item.is_kept:
             body += comments(source, item)
@@ -191,12 +242,18 @@ def rust_of(source, needs, crates, empty):
             body += text_of(source, item, False)
     body = body.strip("\n")
     if uses_shim:
-        body = "use crate::shim::prelude::*;" + ("\n" if re.match(r"(pub(\(\w+\))? )?(use|mod) ", body) else "\n\n") + body
-    return f"{source.top.rstrip()}\n\n{NOTICE.format(place=f'crates/{source.crate}/src/{source.name}')}{body}\n"
+        body = (
+            "use crate::shim::prelude::*;"
+            + ("\n" if re.match(r"(pub(\(\w+\))? )?(use|mod) ", body) else "\n\n")
+            + body
+        )
+    notice = NOTICE.format(place=f"crates/{source.crate}/src/{source.name}")
+    return f"{source.top.rstrip()}\n\n{notice}{body}\n"
 
 
 def item_rewritten(source, item, crates, empty, cloned):
-    """Writes an item anew, and what is needed of its parts. Answers whether the shim's traits are called."""
+    """Writes an item anew, and what is needed of its parts. Answers whether the shim's traits are
+    called."""
     for part in item.parts:
         if not part.is_kept:
             source.cut(part.first, part.last)
@@ -213,8 +270,8 @@ def item_rewritten(source, item, crates, empty, cloned):
 
 
 def head_of(source, item):
-    """Puts the clauses of a function behind its documentation, and lets it be inlined if nothing is said of that: rustc compiles a
-    crate in parts, and Rattle as a whole."""
+    """Puts the clauses of a function behind its documentation, and lets it be inlined if nothing is
+    said of that: rustc compiles a crate in parts, and Rattle as a whole."""
     if item.kind == "fn":
         words = [source.text(at) for at in source.places(item.start, item.head)]
         inline = "" if "inline" in words else "#[inline]\n"
@@ -236,9 +293,10 @@ def derives(source, item, cloned):
 
 
 def comments(source, item):
-    return "".join(token.text for token in source.tokens[item.first:item.start])
+    return "".join(token.text for token in source.tokens[item.first : item.start])
 
 
 def text_of(source, item, with_comments=True):
     return (comments(source, item) if with_comments else "") + "".join(
-        token.text for token in source.tokens[item.start:item.last + 1])
+        token.text for token in source.tokens[item.start : item.last + 1]
+    )

@@ -1,10 +1,9 @@
-"""The rules by which a source in Rattle becomes one in Rust: each leaves out what only the check reads, or writes a form anew that
-Rust has not. What no rule knows is refused by its name."""
-import textwrap
-
+"""The rules by which a source in Rattle becomes one in Rust: each leaves out what only the check
+reads, or writes a form anew that Rust has not. What no rule knows is refused by its name."""
 from extraction.source import Import
 
-# What of the library may be named, and in whose place it stands. A path that is not here is refused.
+# What of the library may be named, and in whose place it stands. A path that is not here is
+# refused.
 LIBRARY = {
     "std::alloc": "crate::shim::alloc",
     "std::collections::BTreeSet": None,
@@ -15,12 +14,20 @@ LIBRARY = {
     "std::simd::prelude": "crate::shim::simd",
     "unicode_ident": "crate::shim::unicode_ident",
 }
-# Calls that are passed the allocator, or answer a refusal of memory. In Rust they are methods of the shim's traits.
+# Calls that are passed the allocator, or answer a refusal of memory. In Rust they are methods of
+# the shim's traits.
 CONSTRUCTORS = {"new": "made_in", "with_capacity": "made_for", "from_str": "made_from"}
-METHODS = {"push": "try_push", "push_str": "try_push_str", "insert": "try_insert", "append": "try_append",
-           "extend": "try_extend", "reserve": "try_reserve_more", "clone": "try_clone",
-           # of the standard library only since Rust 1.91
-           "floor_char_boundary": "boundary_at_most"}
+METHODS = {
+    "push": "try_push",
+    "push_str": "try_push_str",
+    "insert": "try_insert",
+    "append": "try_append",
+    "extend": "try_extend",
+    "reserve": "try_reserve_more",
+    "clone": "try_clone",
+    # of the standard library only since Rust 1.91
+    "floor_char_boundary": "boundary_at_most",
+}
 # What a path may begin with besides what a file names.
 KNOWN = ("self", "super", "char", "str", "u8", "u8x16", "u16", "u32", "u64", "usize")
 MACROS = ("matches", "format")
@@ -29,199 +36,38 @@ DERIVES = {"Clone", "Copy", "Debug", "Default", "Drop", "Eq", "PartialEq"}
 # Members that what calls the crates has to write, for which they have no call.
 OPENED = {"Cursor": {"source"}}
 # Words of forms that are not known to mean the same in both languages, or are known not to.
-UNKNOWN = {"anyhow", "as_mut_ptr", "as_ptr", "async", "await", "dyn", "extern", "ghost", "macro_rules",
-           "size_of", "spawn", "static", "trait", "try_from", "try_into", "try_recv", "try_send", "union", "unsafe",
-           "where", "requires", "ensures"}
+UNKNOWN = {
+    "anyhow",
+    "as_mut_ptr",
+    "as_ptr",
+    "async",
+    "await",
+    "dyn",
+    "extern",
+    "ghost",
+    "macro_rules",
+    "size_of",
+    "spawn",
+    "static",
+    "trait",
+    "try_from",
+    "try_into",
+    "try_recv",
+    "try_send",
+    "union",
+    "unsafe",
+    "where",
+    "requires",
+    "ensures",
+}
 
 
-# ------------------------------------------------------------------------------------------- what only the check reads
-
-
-def strip(source, items):
-    """Leaves out clauses, ghost items and members, and the attributes that are for the prover. The clauses are kept as text."""
-    for item in items:
-        if item.kind == "ghost":
-            continue
-        if item.kind == "file":
-            if source.text(source.next(item.start, 3)) != "tactic":
-                source.refuse(item.start, "an attribute of a whole file")
-            continue
-        attributes(source, item)
-        if item.kind == "fn":
-            item.clauses = clauses(source, item)
-        elif item.kind == "struct" and source.text(item.open) == "{":
-            members(source, item)
-        elif item.kind == "impl":
-            strip(source, item.parts)
-
-
-def attributes(source, item):
-    at = item.start
-    while source.text(at) == "#":
-        end = source.close(source.next(at))
-        name = source.text(source.next(at, 2))
-        if name not in ATTRIBUTES:
-            source.refuse(at, f"an attribute `{name}`")
-        behind = source.next(end)
-        if name in ("tactic", "cycle"):
-            source.cut(at, behind - 1)
-        elif name == "derive":
-            item.derive = (at, end)
-        at = behind
-    item.start = source.next(item.start - 1)
-
-
-def clauses(source, item):
-    """Takes the clauses of a function out, and answers them as the lines of a comment."""
-    places = source.places(item.head, item.open - 1)
-    first = next((at for at in places if source.tokens[at].is_word("requires", "ensures")), None)
-    if first is None:
-        return ""
-    if not all(source.tokens[at].is_word("requires", "ensures") or source.is_word(at) or source.tokens[at].kind == "ghost"
-               for at in places if at >= first):
-        source.refuse(first, "something behind the clauses of a function that is no clause")
-    last = source.prev(item.open)
-    before = source.prev(first) + 1
-    text = "".join(token.text for token in source.tokens[before:last + 1])
-    source.cut(before, item.open - 1)
-    source.tokens[item.open - 1].kind, source.tokens[item.open - 1].text = "space", " "
-    lines = textwrap.dedent(text.strip("\n")).splitlines()
-    return "".join(f"// {line.removeprefix('// ')}\n" for line in lines if line.strip())
-
-
-def members(source, item):
-    """Leaves out the ghost members of a struct, and lists the places of the others."""
-    at = source.next(item.open)
-    while at < item.last:
-        item.has_members = True
-        end = field_end(source, at, item.last)
-        words = [source.text(here) for here in source.places(at, end)]
-        behind = source.next(end)
-        if "ghost" in words[:words.index(":")]:
-            source.cut(at, end)
-        else:
-            item.members.append((at, end))
-            if words[0] in OPENED.get(item.name, ()):
-                source.tokens[at].text = "pub(crate) " + words[0]
-        at = behind
-
-
-def field_end(source, at, end):
-    """The comma behind a field, or the last token of the last one."""
-    while at < end:
-        if source.tokens[at].is_sign("(", "[", "{"):
-            at = source.close(at)
-        elif source.tokens[at].is_sign("<") :
-            depth = 1
-            while depth > 0:
-                at = source.next(at)
-                depth += (source.text(at) == "<") - (source.text(at) == ">")
-        if source.text(at) == "," or source.next(at) >= end:
-            return at
-        at = source.next(at)
-    return at
-
-
-# --------------------------------------------------------------------------------------- values that take no bytes
-
-
-def empty_types(sources):
-    """The structs of which nothing is there when the program runs: they had ghost members, or members of such types, and no others.
-    With each goes the set of the names of its members' owners: `{type: {field, ..}}` of the structs that hold one."""
-    empty, fields = set(), {}
-    structs = [(source, item) for source in sources for item in source.items if item.kind == "struct" and item.has_members]
-    for source, item in structs:
-        if sum(other.name == item.name for _, other in structs) > 1:
-            source.refuse(item.head, f"two structs with the name `{item.name}`")
-    grown = True
-    while grown:
-        grown = False
-        for source, item in structs:
-            held = fields.setdefault(item.name, set())
-            for at, end in list(item.members):
-                names = [source.text(here) for here in source.places(at, end) if source.text(here) != ","]
-                if names[names.index(":") + 1:] != [names[-1]] or names[-1] not in empty:
-                    continue
-                held.add(names[names.index(":") - 1])
-                item.members.remove((at, end))
-                source.cut(at, end)
-                grown = True
-            if not item.members and item.name not in empty:
-                empty.add(item.name)
-                grown = True
-    return empty, {name: held for name, held in fields.items() if held and name not in empty}
-
-
-def erase(source, empty, fields):
-    """Leaves out the types of which nothing is there, and what is done to the members that had them."""
-    for item in source.items:
-        if item.name in empty and item.kind in ("struct", "impl"):
-            source.cut(item.first, item.last)
-    source.items = [item for item in source.items if source.text(item.last)]
-    for item in source.items:
-        for at in range(item.start, item.last + 1):
-            if source.is_real(at):
-                erase_at(source, at, empty, fields, fields.get(item.name, ()) if item.kind == "impl" else ())
-
-
-def erase_at(source, at, empty, fields, held):
-    """Leaves out what begins at a place, in an impl of a struct that holds such members."""
-    text, before = source.text(at), source.text(source.prev(at))
-    if text in fields and source.text(source.next(at)) == "{" and before not in ("for", "impl", "struct"):
-        erase_members(source, source.next(at), fields[text], empty, held)
-    elif text == "let" and source.text(source.next(at, 2)) == "=" and source.text(source.next(at, 3)) in empty:
-        erase_statement(source, at, empty, held)
-    elif (text == "self" and before in (";", "{", "}") and source.text(source.next(at)) == "."
-            and source.text(source.next(at, 2)) in held):
-        erase_statement(source, at, empty, held)
-
-
-def erase_members(source, opening, names, empty, held):
-    """Leaves the members with these names out of a value that is made, or taken apart."""
-    at, end = source.next(opening), source.close(opening)
-    while at < end:
-        last = at
-        while source.text(last) != "," and source.next(last) < end:
-            last = source.close(last) if source.tokens[last].is_sign("(", "[", "{") else last
-            if source.text(last) != "," and source.next(last) < end:
-                last = source.next(last)
-        if source.text(at) in names:
-            doubt(source, at, last, empty, held)
-            source.cut(at, last)
-        at = source.next(last)
-
-
-def erase_statement(source, first, empty, held):
-    """Leaves a statement out. One that is a block's value stays, and with it the type of that, which is then refused."""
-    last = first
-    while source.text(last) != ";":
-        last = source.next(source.close(last) if source.tokens[last].is_sign("(", "[", "{") else last)
-        if source.text(last) == "}":
-            return
-    doubt(source, first, last, empty, held)
-    source.cut(first, last)
-
-
-def doubt(source, first, last, empty, held):
-    """Notes where something else could happen in what is left out: a way out, or a call that is none of a type that takes no bytes. It
-    is refused if the function that it stands in is needed."""
-    for at in source.places(first, last):
-        before = source.prev(at)
-        if source.text(at) in ("?", "return", "mut"):
-            source.doubts.append((at, source.text(at)))
-        elif source.is_word(at) and source.text(source.next(at)) in ("(", "!"):
-            of = source.text(source.prev(before))
-            is_own = source.text(before) == "::" and of in empty or (
-                source.text(before) == "." and of in held and source.text(source.prev(before, 3)) == "self")
-            if not is_own:
-                source.doubts.append((at, source.text(at)))
-
-
-# ---------------------------------------------------------------------------------------------- forms written anew
+# ------------------------------------------------------------------------------- forms written anew
 
 
 def rewrite(source, item, crate, crates):
-    """Writes the forms of a kept item anew that Rust has not. Answers whether the shim's traits are called."""
+    """Writes the forms of a kept item anew that Rust has not. Answers whether the shim's traits are
+    called."""
     for at, text in source.doubts:
         if item.start <= at <= item.last:
             source.refuse(at, f"`{text}` in what is done to a value that takes no bytes")
@@ -229,7 +75,11 @@ def rewrite(source, item, crate, crates):
     for at in source.places(item.start, item.last):
         if not source.is_real(at):
             continue
-        text, before, behind = source.text(at), source.text(source.prev(at)), source.text(source.next(at))
+        text, before, behind = (
+            source.text(at),
+            source.text(source.prev(at)),
+            source.text(source.next(at)),
+        )
         if source.is_word(at) and behind == "::" and before not in ("::", "."):
             if text in ("crate", *crates):
                 name = crate if text == "crate" else text
@@ -248,7 +98,11 @@ def rewrite(source, item, crate, crates):
             elif text[0].islower() and text not in (*KNOWN, *modules_of(source), *source.imports()):
                 source.refuse(at, f"a path that begins with `{text}`")
         elif source.is_word(at) and text in METHODS and before in (".", "fn") and behind == "(":
-            if text == "clone" and before == "." and source.text(source.next(source.close(source.next(at)))) != "?":
+            if (
+                text == "clone"
+                and before == "."
+                and source.text(source.next(source.close(source.next(at)))) != "?"
+            ):
                 source.refuse(at, "a clone whose refusal is not answered on the spot")
             source.tokens[at].text = METHODS[text]
             uses_shim = True
@@ -257,7 +111,12 @@ def rewrite(source, item, crate, crates):
             opening = source.next(at)
             source.tokens[at].text = "map_or"
             source.tokens[opening].text = "(false, "
-        elif text == "AllocError" and before == "(" and source.text(source.prev(at, 2)) == "Err" and behind == ")":
+        elif (
+            text == "AllocError"
+            and before == "("
+            and source.text(source.prev(at, 2)) == "Err"
+            and behind == ")"
+        ):
             source.refuse(at, "an answer to a refusal of memory, which never comes in Rust")
         elif text == "!" and source.is_word(source.prev(at)) and behind in ("(", "[", "{"):
             uses_shim |= macro(source, source.prev(at))
@@ -282,9 +141,16 @@ def macro(source, at):
 
 def refuse_unknown(source, at):
     """Refuses what both languages read, and do not mean the same by, or may not."""
-    if source.text(at) == "#" and source.text(source.next(at, 2)) not in ATTRIBUTES - {"tactic", "cycle"}:
+    if source.text(at) == "#" and source.text(source.next(at, 2)) not in ATTRIBUTES - {
+        "tactic",
+        "cycle",
+    }:
         source.refuse(at, f"an attribute `{source.text(source.next(at, 2))}`")
-    token, before, behind = source.tokens[at], source.text(source.prev(at)), source.text(source.next(at))
+    token, before, behind = (
+        source.tokens[at],
+        source.text(source.prev(at)),
+        source.text(source.next(at)),
+    )
     text = token.text
     if token.kind == "word" and text in UNKNOWN:
         source.refuse(at, f"`{text}`")
@@ -294,7 +160,11 @@ def refuse_unknown(source, at):
         source.refuse(at, "a pointer to a function")
     elif text == "impl" and before in (":", "->", "&", "<", "("):
         source.refuse(at, "a type that is only told by its trait")
-    elif text == ".." and ends_value(source, source.prev(at)) and behind in (")", "]", ",", ";", "{", "=>"):
+    elif (
+        text == ".."
+        and ends_value(source, source.prev(at))
+        and behind in (")", "]", ",", ";", "{", "=>")
+    ):
         if behind != "]" or not is_index(source, at):
             source.refuse(at, "a range without an end")
     elif text == ".." and before in (",", "{") and behind not in ("}", ")", "]"):
@@ -304,7 +174,11 @@ def refuse_unknown(source, at):
 
 
 def ends_value(source, at):
-    return source.is_word(at) or source.tokens[at].kind in ("number", "char") or source.text(at) in (")", "]")
+    return (
+        source.is_word(at)
+        or source.tokens[at].kind in ("number", "char")
+        or source.text(at) in (")", "]")
+    )
 
 
 def is_index(source, at):
@@ -325,7 +199,7 @@ def is_pattern(source, at):
     return False
 
 
-# ------------------------------------------------------------------------------------------------------- imports
+# ------------------------------------------------------------------------------------------ imports
 
 
 def modules_of(source):
@@ -338,18 +212,32 @@ def imported(source, item, crate, crates, is_named):
     for path, called in Import(source, source.next(item.head)).paths():
         if called != "*" and not is_named(called):
             continue
-        if path[0] not in ("crate", "self", "super", "std", "unicode_ident", *crates, *modules_of(source)):
+        if path[0] not in (
+            "crate",
+            "self",
+            "super",
+            "std",
+            "unicode_ident",
+            *crates,
+            *modules_of(source),
+        ):
             source.refuse(item.head, f"`{'::'.join(path)}`, which is not known")
         if path[0] in ("crate", *crates):
             path = ["crate", "proved", crate if path[0] == "crate" else path[0]] + path[1:]
         elif path[0] in ("std", "unicode_ident"):
-            known = next((name for name in LIBRARY if path[:len(name.split("::"))] == name.split("::")), None)
+            known = next(
+                (name for name in LIBRARY if path[: len(name.split("::"))] == name.split("::")),
+                None,
+            )
             if known is None:
                 source.refuse(item.head, f"`{'::'.join(path)}`, which is not known")
             if LIBRARY[known]:
-                path = LIBRARY[known].split("::") + path[len(known.split("::")):]
+                path = LIBRARY[known].split("::") + path[len(known.split("::")) :]
         name = path[-1] if called == path[-1] else f"{path[-1]} as {called}"
         of.setdefault("::".join(path[:-1]), []).append(name)
-    before = "".join(token.text for token in source.tokens[item.start:item.head])
-    return "\n".join(f"{before}use {f'{parent}::' if parent else ''}{names[0] if len(names) == 1 else '{' + ', '.join(names) + '}'};"
-                     for parent, names in of.items())
+    before = "".join(token.text for token in source.tokens[item.start : item.head])
+    lines = []
+    for parent, names in of.items():
+        named = names[0] if len(names) == 1 else "{" + ", ".join(names) + "}"
+        lines.append(f"{before}use {f'{parent}::' if parent else ''}{named};")
+    return "\n".join(lines)

@@ -6,7 +6,8 @@ TRAITS = ("FusedIterator", "Iterator", "Model")
 
 
 class Item:
-    """An item: its tokens from `first`, with the comments in front of it, over `start` to `last`."""
+    """An item: its tokens from `first`, with the comments in front of it, over `start` to `last`.
+    """
 
     def __init__(self, kind, first, start, head, last):
         self.kind, self.first, self.start, self.head, self.last = kind, first, start, head, last
@@ -16,18 +17,21 @@ class Item:
 
 
 class Source:
-    """The tokens of a file and its items. A token that is left out becomes an empty one, so that places stay."""
+    """The tokens of a file and its items. A token that is left out becomes an empty one, so that
+    places stay."""
 
     def __init__(self, name, text, has_items=True):
         self.name, self.tokens, self.items, self.doubts = name, tokens_of(text), [], []
         at = 0
-        while at < len(self.tokens) and (self.tokens[at].kind == "space" or self.tokens[at].text.startswith("//!")):
+        while at < len(self.tokens) and (
+            self.tokens[at].kind == "space" or self.tokens[at].text.startswith("//!")
+        ):
             at += 1
         self.top = "".join(token.text for token in self.tokens[:at])
         if has_items:
             self.items = self.items_between(at, len(self.tokens))
 
-    # ------------------------------------------------------------------------------------------------- places
+    # --------------------------------------------------------------------------------------- places
 
     def is_real(self, at):
         return self.tokens[at].text != "" and self.tokens[at].kind not in TRIVIA
@@ -61,13 +65,13 @@ class Source:
         return closing(self.tokens, at)
 
     def cut(self, first, last):
-        for token in self.tokens[first:last + 1]:
+        for token in self.tokens[first : last + 1]:
             token.text = ""
 
     def refuse(self, at, what):
         raise Refused(self.tokens[min(at, len(self.tokens) - 1)].line, what)
 
-    # -------------------------------------------------------------------------------------------------- items
+    # ---------------------------------------------------------------------------------------- items
 
     def items_between(self, at, end):
         found = []
@@ -124,7 +128,8 @@ class Source:
         return at
 
     def parameters(self, at, refused):
-        """What comes after parameters in angles, if there are any; only lifetimes may be among them."""
+        """What comes after parameters in angles, if there are any; only lifetimes may be among
+        them."""
         if self.text(at) != "<":
             return at
         while self.text(at) != ">":
@@ -142,7 +147,7 @@ class Source:
             item.trait = words[words.index("for") - 1]
             if item.trait not in TRAITS:
                 self.refuse(item.head, f"an `impl` of `{item.trait}`")
-            words = words[words.index("for") + 1:]
+            words = words[words.index("for") + 1 :]
         item.name = words[0]
         item.parts = self.items_between(item.open + 1, item.last)
         for part in [item] + item.parts:
@@ -150,11 +155,12 @@ class Source:
         if item.trait == "Model":
             item.kind = "ghost"
 
-    # -------------------------------------------------------------------------------------------------- names
+    # ---------------------------------------------------------------------------------------- names
 
     def names_in(self, first, last, itself=None):
-        """What tokens name: `(".", name, count)` for a method that is called with so many arguments, `(of, name)` for what is behind
-        a type or a module, and `name` for a name by itself, which may be the first one of a path."""
+        """What tokens name: `(".", name, count)` for a method that is called with so many
+        arguments, `(of, name)` for what is behind a type or a module, and `name` for a name by
+        itself, which may be the first one of a path."""
         found = set()
         for at in self.places(first, last):
             if not self.is_word(at):
@@ -187,12 +193,17 @@ class Source:
 
     def imports(self):
         """What this file calls by a name of its own, and by which path it is known."""
-        return {called: path for item in self.items if item.kind == "use"
-                for path, called in Import(self, self.next(item.head)).paths()}
+        return {
+            called: path
+            for item in self.items
+            if item.kind == "use"
+            for path, called in Import(self, self.next(item.head)).paths()
+        }
 
 
 class Import:
-    """A part of what a `use` names: a segment of a path with what is behind it, or a name with what it is called."""
+    """A part of what a `use` names: a segment of a path with what is behind it, or a name with what
+    it is called."""
 
     def __init__(self, source, at):
         self.name, self.behind, self.called = source.text(at), [], source.text(at)
@@ -218,4 +229,6 @@ class Import:
         """Each path that is named, and what it is called."""
         if not self.behind:
             return [([self.name], self.called)]
-        return [([self.name] + path, called) for part in self.behind for path, called in part.paths()]
+        return [
+            ([self.name] + path, called) for part in self.behind for path, called in part.paths()
+        ]

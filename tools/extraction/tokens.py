@@ -1,7 +1,9 @@
-"""The tokens of a source in Rattle. What only the check reads, a clause or what a ghost item says, is one token."""
+"""The tokens of a source in Rattle. What only the check reads, a clause or what a ghost item says,
+is one token."""
 import re
 
-TOKEN = re.compile(r"""
+TOKEN = re.compile(
+    r"""
     (?P<space>\s+)
   | (?P<doc>//[/!][^\n]*)
   | (?P<comment>//[^\n]*)
@@ -11,10 +13,14 @@ TOKEN = re.compile(r"""
   | (?P<word>(?:r\#)?[A-Za-z_]\w*)
   | (?P<number>[0-9]\w*)
   | (?P<sign>::|->|=>|\.\.=|\.\.\.|\.\.|.)
-""", re.X)
+""",
+    re.X,
+)
 
 # In a clause a prime belongs to a name, and only texts have to be told from other signs.
-CLAUSE_TOKEN = re.compile(r"""(?P<string>"(?s:\\.|[^"\\])*")|(?P<comment>//[^\n]*)|(?P<sign>(?s:.))""", re.X)
+CLAUSE_TOKEN = re.compile(
+    r"""(?P<string>"(?s:\\.|[^"\\])*")|(?P<comment>//[^\n]*)|(?P<sign>(?s:.))""", re.X
+)
 
 TRIVIA = ("space", "comment", "doc")
 PAIRS = {"(": ")", "[": "]", "{": "}"}
@@ -40,7 +46,8 @@ class Token:
 
 
 def tokens_of(source):
-    """The tokens of a file. The braces of a clause or a ghost item and all in them are one token, of the kind `ghost`."""
+    """The tokens of a file. The braces of a clause or a ghost item and all in them are one token,
+    of the kind `ghost`."""
     found, words, at, line = [], [], 0, 1
     while at < len(source):
         here = TOKEN.match(source, at)
@@ -62,12 +69,15 @@ def tokens_of(source):
 
 
 def opens_clause(words):
-    """Whether the brace after these words opens what only the check reads: `requires {`, `ensures name {`, `ghost name = {` or
-    `ghost name: {`."""
+    """Whether the brace after these words opens what only the check reads: `requires {`, `ensures
+    name {`, `ghost name = {` or `ghost name: {`."""
     before = words[:-1]
-    return (before[-1:] in (["requires"], ["ensures"])
-            or before[-2:-1] in (["requires"], ["ensures"])
-            or before[-3:-2] == ["ghost"] and before[-1] in ("=", ":"))
+    return (
+        before[-1:] in (["requires"], ["ensures"])
+        or before[-2:-1] in (["requires"], ["ensures"])
+        or before[-3:-2] == ["ghost"]
+        and before[-1] in ("=", ":")
+    )
 
 
 def clause_end(source, start, line):

@@ -1,4 +1,5 @@
-//! The parser with public fields, as an iterator: each call is one of the proved reader, and what that found is added to the fields.
+//! The parser with public fields, as an iterator: each call is one of the proved reader, and what
+//! that found is added to the fields.
 use crate::proved::rustc_parse_format::call::{read_bare, read_placeholder};
 use crate::proved::rustc_parse_format::cursor::Cursor;
 use crate::proved::rustc_parse_format::error_list::empty_error;
@@ -14,28 +15,32 @@ use std::ops::Range;
 
 /// A parser over an input: an iterator over its pieces.
 ///
-/// It ends with None at the end of the input, and before that at a lone `}`, which is a fault; behind that one a further call of
-/// `next` goes on.
+/// It ends with None at the end of the input, and before that at a lone `}`, which is a fault;
+/// behind that one a further call of `next` goes on.
 pub struct Parser<'input> {
     mode: ParseMode,
-    /// Between two calls it has found nothing. Its number and whether it reads a source literal are those of the fields here.
+    /// Between two calls it has found nothing. Its number and whether it reads a source literal are
+    /// those of the fields here.
     reader: Reader<'input>,
-    /// The faults so far. A raw identifier, a flag after the type `?`, and a mistake that is known where a closing brace is missing,
-    /// stand in front of all earlier ones; the others come after them.
+    /// The faults so far. A raw identifier, a flag after the type `?`, and a mistake that is known
+    /// where a closing brace is missing, stand in front of all earlier ones; the others come after
+    /// them.
     pub errors: Vec<ParseError>,
     /// The number that the next implicit argument takes.
     pub curarg: usize,
     /// Where each placeholder stands that a brace closed; only in a source literal.
     pub arg_places: Vec<Range<usize>>,
-    /// Whether the snippet is the source literal of the input. Where it is set to false, no more places and lines come.
+    /// Whether the snippet is the source literal of the input. Where it is set to false, no more
+    /// places and lines come.
     pub is_source_literal: bool,
     /// The lines of a source literal, each without its newline and its indent.
     pub line_spans: Vec<Range<usize>>,
 }
 
 impl<'input> Parser<'input> {
-    /// A parser at the start of an input. The style is `Some(hashes)` for a raw literal; the snippet is what stands in the source
-    /// where the input should come from; the last but one word tells whether a newline was appended to the input.
+    /// A parser at the start of an input. The style is `Some(hashes)` for a raw literal; the
+    /// snippet is what stands in the source where the input should come from; the last but one word
+    /// tells whether a newline was appended to the input.
     #[inline]
     pub fn new(
         input: &'input str,
@@ -96,7 +101,8 @@ impl<'input> Parser<'input> {
         }
     }
 
-    /// Adds the errors of the faults that a call found, each at its end of the list. Mostly there is one.
+    /// Adds the errors of the faults that a call found, each at its end of the list. Mostly there
+    /// is one.
     #[inline(never)]
     fn add_errors(&mut self) {
         if self.reader.found.len() == 1 {

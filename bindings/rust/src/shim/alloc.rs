@@ -1,5 +1,5 @@
-//! Memory. In Rust a refusal aborts, so none comes back as an error: `AllocError` has no value, a `Result` with it is its `Ok`, and
-//! each `?` on one compiles to nothing.
+//! Memory. In Rust a refusal aborts, so none comes back as an error: `AllocError` has no value, a
+//! `Result` with it is its `Ok`, and each `?` on one compiles to nothing.
 use std::collections::BTreeSet;
 
 /// The allocator that calls are passed.
@@ -98,7 +98,8 @@ impl StringIn for String {
 }
 
 pub trait StrIn {
-    /// The last place up to this one between two characters. The standard library has it only of late.
+    /// The last place up to this one between two characters. The standard library has it only of
+    /// late.
     fn boundary_at_most(&self, at: usize) -> usize;
 }
 

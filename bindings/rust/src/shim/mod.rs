@@ -1,4 +1,5 @@
-//! What the extracted modules stand on in place of the library of the language that they are proved in.
+//! What the extracted modules stand on in place of the library of the language that they are proved
+//! in.
 pub mod alloc;
 pub mod simd;
 pub mod unicode_ident;
@@ -20,7 +21,8 @@ pub(crate) use format_in;
 
 #[cfg(test)]
 mod tests {
-    /// The classes that the extracted modules ask the standard library for are those that the proofs speak of: each character.
+    /// The classes that the extracted modules ask the standard library for are those that the
+    /// proofs speak of: each character.
     #[test]
     fn white_space_and_digits() {
         let white = |c| {

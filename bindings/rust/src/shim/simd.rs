@@ -22,7 +22,8 @@ fn marked(word: u64) -> u64 {
     (((word & LOW) + LOW) | word) & !LOW
 }
 
-/// The highest bits of the bytes, the lowest byte's first: each is moved to a place of its own in the highest byte.
+/// The highest bits of the bytes, the lowest byte's first: each is moved to a place of its own in
+/// the highest byte.
 #[inline(always)]
 fn gathered(word: u64) -> u64 {
     (word >> 7).wrapping_mul(0x0102_0408_1020_4080) >> 56

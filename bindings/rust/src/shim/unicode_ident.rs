@@ -1,7 +1,8 @@
 //! What may begin an identifier and what may go on with one: `XID_Start` and `XID_Continue`.
 use super::xid::{CONTINUE, START};
 
-/// Whether a character lies in one of the ranges of a table: from an even bound up to the odd one after it.
+/// Whether a character lies in one of the ranges of a table: from an even bound up to the odd one
+/// after it.
 #[cold]
 fn is_within(bounds: &[u32], c: char) -> bool {
     bounds.partition_point(|&bound| bound <= u32::from(c)) % 2 == 1
@@ -27,7 +28,8 @@ pub fn is_xid_continue(c: char) -> bool {
 mod tests {
     use super::*;
 
-    /// The class of each character by the ranges of a table, one after the other, and by what it is in ASCII.
+    /// The class of each character by the ranges of a table, one after the other, and by what it is
+    /// in ASCII.
     fn class(bounds: &[u32], in_ascii: fn(char) -> bool) -> Vec<bool> {
         let mut is: Vec<bool> = ('\0'..='\u{7f}').map(in_ascii).collect();
         for (at, &bound) in bounds.iter().enumerate() {

@@ -1,8 +1,9 @@
 //! The entries of a list that another lacks.
 
 // Extracted from crates/placeholder_check/src/entries.rt by tools/extract: not to be edited.
-// That source is proved, and each contract here is its. That this text means the same is tested: rows of answers from outside and the
-// proved static library (.ci/bindings), and the original (bindings/agree), give the same over it.
+// That source is proved, and each contract here is its. That this text means the same is tested:
+// rows of answers from outside, the proved static library (.ci/bindings) and the original
+// (bindings/agree) give the same over it.
 
 use crate::shim::alloc::{AllocError, Global};
 use crate::shim::prelude::*;

@@ -1,8 +1,9 @@
 //! The placeholders of a text against the arguments that are given for it.
 
 // Extracted from crates/placeholder_check/src/lib.rt by tools/extract: not to be edited.
-// That source is proved, and each contract here is its. That this text means the same is tested: rows of answers from outside and the
-// proved static library (.ci/bindings), and the original (bindings/agree), give the same over it.
+// That source is proved, and each contract here is its. That this text means the same is tested:
+// rows of answers from outside, the proved static library (.ci/bindings) and the original
+// (bindings/agree) give the same over it.
 
 pub(crate) mod checker;
 pub(crate) mod entries;

@@ -1,8 +1,9 @@
 //! Integers, words and counts, and the sizes of a format specification that are made of them: its width and its precision.
 
 // Extracted from crates/rustc_parse_format/src/counts.rt by tools/extract: not to be edited.
-// That source is proved, and each contract here is its. That this text means the same is tested: rows of answers from outside and the
-// proved static library (.ci/bindings), and the original (bindings/agree), give the same over it.
+// That source is proved, and each contract here is its. That this text means the same is tested:
+// rows of answers from outside, the proved static library (.ci/bindings) and the original
+// (bindings/agree) give the same over it.
 
 use crate::proved::rustc_parse_format::characters::is_underscore;
 use crate::proved::rustc_parse_format::faults::Fault;

@@ -1,8 +1,9 @@
 //! A cursor over the input.
 
 // Extracted from crates/rustc_parse_format/src/cursor.rt by tools/extract: not to be edited.
-// That source is proved, and each contract here is its. That this text means the same is tested: rows of answers from outside and the
-// proved static library (.ci/bindings), and the original (bindings/agree), give the same over it.
+// That source is proved, and each contract here is its. That this text means the same is tested:
+// rows of answers from outside, the proved static library (.ci/bindings) and the original
+// (bindings/agree) give the same over it.
 
 use crate::proved::rustc_parse_format::characters::{
     before, behind_first, behind_run, first, is_id_start, with_digit, Class,

@@ -9,8 +9,9 @@
 //! What takes memory is passed the allocator or keeps it, and answers an error where it is refused; a parser is then as it was.
 
 // Extracted from crates/rustc_parse_format/src/lib.rt by tools/extract: not to be edited.
-// That source is proved, and each contract here is its. That this text means the same is tested: rows of answers from outside and the
-// proved static library (.ci/bindings), and the original (bindings/agree), give the same over it.
+// That source is proved, and each contract here is its. That this text means the same is tested:
+// rows of answers from outside, the proved static library (.ci/bindings) and the original
+// (bindings/agree) give the same over it.
 
 pub(crate) mod blocks;
 pub(crate) mod call;

@@ -1,8 +1,9 @@
 //! What a call reads on: a cursor, the number that the next implicit argument takes, and what it has found so far.
 
 // Extracted from crates/rustc_parse_format/src/reader.rt by tools/extract: not to be edited.
-// That source is proved, and each contract here is its. That this text means the same is tested: rows of answers from outside and the
-// proved static library (.ci/bindings), and the original (bindings/agree), give the same over it.
+// That source is proved, and each contract here is its. That this text means the same is tested:
+// rows of answers from outside, the proved static library (.ci/bindings) and the original
+// (bindings/agree) give the same over it.
 
 use crate::proved::rustc_parse_format::characters::Class;
 use crate::proved::rustc_parse_format::cursor::Cursor;

@@ -1,8 +1,9 @@
 //! How a call goes on after the fault of a missing closing brace: by what stands in its place.
 
 // Extracted from crates/rustc_parse_format/src/recover.rt by tools/extract: not to be edited.
-// That source is proved, and each contract here is its. That this text means the same is tested: rows of answers from outside and the
-// proved static library (.ci/bindings), and the original (bindings/agree), give the same over it.
+// That source is proved, and each contract here is its. That this text means the same is tested:
+// rows of answers from outside, the proved static library (.ci/bindings) and the original
+// (bindings/agree) give the same over it.
 
 use crate::proved::rustc_parse_format::counts::word;
 use crate::proved::rustc_parse_format::faults::Fault;

@@ -1,8 +1,9 @@
 //! Where an input stands in its source, and how a place in a snippet goes on from character to character.
 
 // Extracted from crates/rustc_parse_format/src/source.rt by tools/extract: not to be edited.
-// That source is proved, and each contract here is its. That this text means the same is tested: rows of answers from outside and the
-// proved static library (.ci/bindings), and the original (bindings/agree), give the same over it.
+// That source is proved, and each contract here is its. That this text means the same is tested:
+// rows of answers from outside, the proved static library (.ci/bindings) and the original
+// (bindings/agree) give the same over it.
 
 use crate::proved::rustc_parse_format::blocks::calm_front;
 use crate::proved::rustc_parse_format::characters::{behind_first, first};

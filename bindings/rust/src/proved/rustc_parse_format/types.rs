@@ -1,6 +1,7 @@
 // Extracted from crates/rustc_parse_format/src/types.rt by tools/extract: not to be edited.
-// That source is proved, and each contract here is its. That this text means the same is tested: rows of answers from outside and the
-// proved static library (.ci/bindings), and the original (bindings/agree), give the same over it.
+// That source is proved, and each contract here is its. That this text means the same is tested:
+// rows of answers from outside, the proved static library (.ci/bindings) and the original
+// (bindings/agree) give the same over it.
 
 use crate::proved::rustc_parse_format::laws::{default_of_spec, specs_are_equal};
 use std::ops::Range;

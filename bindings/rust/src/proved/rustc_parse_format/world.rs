@@ -1,8 +1,9 @@
 //! Where the input stands in the source.
 
 // Extracted from crates/rustc_parse_format/src/world.rt by tools/extract: not to be edited.
-// That source is proved, and each contract here is its. That this text means the same is tested: rows of answers from outside and the
-// proved static library (.ci/bindings), and the original (bindings/agree), give the same over it.
+// That source is proved, and each contract here is its. That this text means the same is tested:
+// rows of answers from outside, the proved static library (.ci/bindings) and the original
+// (bindings/agree) give the same over it.
 
 use crate::proved::rustc_parse_format::literal::source_end;
 use crate::proved::rustc_parse_format::source::{continuations_width, look_at, Look, Source};

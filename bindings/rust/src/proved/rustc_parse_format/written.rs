@@ -1,8 +1,9 @@
 //! How a character is written in a message and in a quoted text.
 
 // Extracted from crates/rustc_parse_format/src/written.rt by tools/extract: not to be edited.
-// That source is proved, and each contract here is its. That this text means the same is tested: rows of answers from outside and the
-// proved static library (.ci/bindings), and the original (bindings/agree), give the same over it.
+// That source is proved, and each contract here is its. That this text means the same is tested:
+// rows of answers from outside, the proved static library (.ci/bindings) and the original
+// (bindings/agree) give the same over it.
 
 use crate::shim::alloc::AllocError;
 use crate::shim::prelude::*;

@@ -1,0 +1,231 @@
+"""What is there for the check alone, and is left out: clauses, ghost items and members, attributes
+for the prover, and values that take no bytes with what is done to them."""
+import textwrap
+
+from extraction.rules import ATTRIBUTES, OPENED
+
+# ------------------------------------------------------------------------ what only the check reads
+
+
+def strip(source, items):
+    """Leaves out clauses, ghost items and members, and the attributes that are for the prover. The
+    clauses are kept as text."""
+    for item in items:
+        if item.kind == "ghost":
+            continue
+        if item.kind == "file":
+            if source.text(source.next(item.start, 3)) != "tactic":
+                source.refuse(item.start, "an attribute of a whole file")
+            continue
+        attributes(source, item)
+        if item.kind == "fn":
+            item.clauses = clauses(source, item)
+        elif item.kind == "struct" and source.text(item.open) == "{":
+            members(source, item)
+        elif item.kind == "impl":
+            strip(source, item.parts)
+
+
+def attributes(source, item):
+    at = item.start
+    while source.text(at) == "#":
+        end = source.close(source.next(at))
+        name = source.text(source.next(at, 2))
+        if name not in ATTRIBUTES:
+            source.refuse(at, f"an attribute `{name}`")
+        behind = source.next(end)
+        if name in ("tactic", "cycle"):
+            source.cut(at, behind - 1)
+        elif name == "derive":
+            item.derive = (at, end)
+        at = behind
+    item.start = source.next(item.start - 1)
+
+
+def clauses(source, item):
+    """Takes the clauses of a function out, and answers them as the lines of a comment."""
+    places = source.places(item.head, item.open - 1)
+    first = next((at for at in places if source.tokens[at].is_word("requires", "ensures")), None)
+    if first is None:
+        return ""
+    if not all(
+        source.tokens[at].is_word("requires", "ensures")
+        or source.is_word(at)
+        or source.tokens[at].kind == "ghost"
+        for at in places
+        if at >= first
+    ):
+        source.refuse(first, "something behind the clauses of a function that is no clause")
+    last = source.prev(item.open)
+    before = source.prev(first) + 1
+    text = "".join(token.text for token in source.tokens[before : last + 1])
+    source.cut(before, item.open - 1)
+    source.tokens[item.open - 1].kind, source.tokens[item.open - 1].text = "space", " "
+    lines = textwrap.dedent(text.strip("\n")).splitlines()
+    return "".join(f"// {line.removeprefix('// ')}\n" for line in lines if line.strip())
+
+
+def members(source, item):
+    """Leaves out the ghost members of a struct, and lists the places of the others."""
+    at = source.next(item.open)
+    while at < item.last:
+        item.has_members = True
+        end = field_end(source, at, item.last)
+        words = [source.text(here) for here in source.places(at, end)]
+        behind = source.next(end)
+        if "ghost" in words[: words.index(":")]:
+            source.cut(at, end)
+        else:
+            item.members.append((at, end))
+            if words[0] in OPENED.get(item.name, ()):
+                source.tokens[at].text = "pub(crate) " + words[0]
+        at = behind
+
+
+def field_end(source, at, end):
+    """The comma behind a field, or the last token of the last one."""
+    while at < end:
+        if source.tokens[at].is_sign("(", "[", "{"):
+            at = source.close(at)
+        elif source.tokens[at].is_sign("<"):
+            depth = 1
+            while depth > 0:
+                at = source.next(at)
+                depth += (source.text(at) == "<") - (source.text(at) == ">")
+        if source.text(at) == "," or source.next(at) >= end:
+            return at
+        at = source.next(at)
+    return at
+
+
+# ------------------------------------------------------------------------ values that take no bytes
+
+
+def empty_types(sources):
+    """The structs of which nothing is there when the program runs: they had ghost members, or
+    members of such types, and no others. With each goes the set of the names of its members'
+    owners: `{type: {field, ..}}` of the structs that hold one."""
+    empty, fields = set(), {}
+    structs = [
+        (source, item)
+        for source in sources
+        for item in source.items
+        if item.kind == "struct" and item.has_members
+    ]
+    for source, item in structs:
+        if sum(other.name == item.name for _, other in structs) > 1:
+            source.refuse(item.head, f"two structs with the name `{item.name}`")
+    grown = True
+    while grown:
+        grown = False
+        for source, item in structs:
+            held = fields.setdefault(item.name, set())
+            for at, end in list(item.members):
+                names = [
+                    source.text(here) for here in source.places(at, end) if source.text(here) != ","
+                ]
+                if names[names.index(":") + 1 :] != [names[-1]] or names[-1] not in empty:
+                    continue
+                held.add(names[names.index(":") - 1])
+                item.members.remove((at, end))
+                source.cut(at, end)
+                grown = True
+            if not item.members and item.name not in empty:
+                empty.add(item.name)
+                grown = True
+    return empty, {name: held for name, held in fields.items() if held and name not in empty}
+
+
+def erase(source, empty, fields):
+    """Leaves out the types of which nothing is there, and what is done to the members that had
+    them."""
+    for item in source.items:
+        if item.name in empty and item.kind in ("struct", "impl"):
+            source.cut(item.first, item.last)
+    source.items = [item for item in source.items if source.text(item.last)]
+    for item in source.items:
+        for at in range(item.start, item.last + 1):
+            if source.is_real(at):
+                erase_at(
+                    source,
+                    at,
+                    empty,
+                    fields,
+                    fields.get(item.name, ()) if item.kind == "impl" else (),
+                )
+
+
+def erase_at(source, at, empty, fields, held):
+    """Leaves out what begins at a place, in an impl of a struct that holds such members."""
+    text, before = source.text(at), source.text(source.prev(at))
+    if (
+        text in fields
+        and source.text(source.next(at)) == "{"
+        and before not in ("for", "impl", "struct")
+    ):
+        erase_members(source, source.next(at), fields[text], empty, held)
+    elif (
+        text == "let"
+        and source.text(source.next(at, 2)) == "="
+        and source.text(source.next(at, 3)) in empty
+    ):
+        erase_statement(source, at, empty, held)
+    elif (
+        text == "self"
+        and before in (";", "{", "}")
+        and source.text(source.next(at)) == "."
+        and source.text(source.next(at, 2)) in held
+    ):
+        erase_statement(source, at, empty, held)
+
+
+def erase_members(source, opening, names, empty, held):
+    """Leaves the members with these names out of a value that is made, or taken apart."""
+    at, end = source.next(opening), source.close(opening)
+    while at < end:
+        last = at
+        while source.text(last) != "," and source.next(last) < end:
+            last = source.close(last) if source.tokens[last].is_sign("(", "[", "{") else last
+            if source.text(last) != "," and source.next(last) < end:
+                last = source.next(last)
+        if source.text(at) in names:
+            doubt(source, at, last, empty, held)
+            source.cut(at, last)
+        at = source.next(last)
+
+
+def erase_statement(source, first, empty, held):
+    """Leaves a statement out. One that is a block's value stays, and with it the type of that,
+    which is then refused."""
+    last = first
+    while source.text(last) != ";":
+        last = source.next(
+            source.close(last) if source.tokens[last].is_sign("(", "[", "{") else last
+        )
+        if source.text(last) == "}":
+            return
+    doubt(source, first, last, empty, held)
+    source.cut(first, last)
+
+
+def doubt(source, first, last, empty, held):
+    """Notes where something else could happen in what is left out: a way out, or a call that is
+    none of a type that takes no bytes. It is refused if the function that it stands in is needed.
+    """
+    for at in source.places(first, last):
+        before = source.prev(at)
+        if source.text(at) in ("?", "return", "mut"):
+            source.doubts.append((at, source.text(at)))
+        elif source.is_word(at) and source.text(source.next(at)) in ("(", "!"):
+            of = source.text(source.prev(before))
+            is_own = (
+                source.text(before) == "::"
+                and of in empty
+                or (
+                    source.text(before) == "."
+                    and of in held
+                    and source.text(source.prev(before, 3)) == "self"
+                )
+            )
+            if not is_own:
+                source.doubts.append((at, source.text(at)))
