@@ -26,7 +26,9 @@ def extracted(crates, callers):
             sources[-1].crate, sources[-1].path = crate, str(path)
             in_place(str(path), ghosts.strip, sources[-1], sources[-1].items)
     empty, fields = ghosts.empty_types(sources)
+    lookers = ghosts.lookers(sources)
     for source in sources:
+        source.lookers = lookers
         in_place(source.path, ghosts.erase, source, empty, fields)
     needs = Needs(sources)
     for path in callers:

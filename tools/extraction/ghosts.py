@@ -4,6 +4,8 @@ import textwrap
 
 from extraction.rules import ATTRIBUTES, OPENED
 
+NUMBERS = ("bool", "char", "u8", "u16", "u32", "u64", "usize")
+
 # ------------------------------------------------------------------------ what only the check reads
 
 
@@ -136,6 +138,19 @@ def empty_types(sources):
     return empty, {name: held for name, held in fields.items() if held and name not in empty}
 
 
+def lookers(sources):
+    """The names of free functions that can do nothing but give a number: they take texts, numbers
+    and what is lent to be looked at, and each is proved to end."""
+    known = {}
+    for source in sources:
+        for item in source.items:
+            if item.kind == "fn":
+                words = [source.text(at) for at in source.places(item.head, item.open - 1)]
+                looks = words[-1] in NUMBERS and not {"mut", "Global", "fn", "impl"} & {*words[1:]}
+                known.setdefault(item.name, []).append(looks)
+    return {name for name, looks in known.items() if all(looks)}
+
+
 def erase(source, empty, fields):
     """Leaves out the types of which nothing is there, and what is done to the members that had
     them."""
@@ -210,8 +225,8 @@ def erase_statement(source, first, empty, held):
 
 def doubt(source, first, last, empty, held):
     """Notes where something else could happen in what is left out: a way out, or a call that is
-    none of a type that takes no bytes. It is refused if the function that it stands in is needed.
-    """
+    none of a type that takes no bytes and none of a function that only looks. It is refused if the
+    function that it stands in is needed."""
     for at in source.places(first, last):
         before = source.prev(at)
         if source.text(at) in ("?", "return", "mut"):
@@ -221,6 +236,8 @@ def doubt(source, first, last, empty, held):
             is_own = (
                 source.text(before) == "::"
                 and of in empty
+                or source.text(before) not in (".", "::")
+                and source.text(at) in source.lookers
                 or (
                     source.text(before) == "."
                     and of in held

@@ -22,6 +22,7 @@ class Source:
 
     def __init__(self, name, text, has_items=True):
         self.name, self.tokens, self.items, self.doubts = name, tokens_of(text), [], []
+        self.lookers = set()
         at = 0
         while at < len(self.tokens) and (
             self.tokens[at].kind == "space" or self.tokens[at].text.startswith("//!")

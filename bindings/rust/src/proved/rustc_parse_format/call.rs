@@ -74,7 +74,7 @@ fn take_brace<'input>(start: usize, reader: &mut Reader<'input>) {
 // requires numbers { reader.old.next + length reader.old.rest < 2 ^ 64 }
 // ensures state { OnOk result ((o : Text) (a : ArgumentValue Span) → pair opening ≡ place_of reader.old.world (over_first o)
 //     → seen_argument argument.now ≡ map_argument (place_of reader.old.world) a
-//     → IsAt (behind_closing (seen_mode mode) o a reader.old) reader.new) }
+//     → reader.new ≡ behind_closing (seen_mode mode) o a reader.old) }
 // ensures source { reader.new.source ≡ reader.old.source }
 // ensures spare { begins_with 125 reader.old.rest ≡ true → IsOk result }
 #[inline]
@@ -94,16 +94,16 @@ fn close<'input>(
 
 /// Reads the placeholder at the front into a blank argument.
 // requires blank { seen_spec into.old.format ≡ default_spec }
-// requires here { reader.old.rest ≢ [] }
+// requires opens { opens_placeholder reader.old.rest ≡ true }
 // requires numbers { reader.old.next + length reader.old.rest < 2 ^ 64 }
 // ensures value { OnOk result (Some (NextArgument (seen_argument into.new)) ≡ option_map (piece_in reader.old.world)
-//     (placeholder (seen_mode mode) reader.old.next reader.old.rest (behind_first reader.old.rest)).piece) }
-// ensures state { OnOk result (IsAt (read_call reader.old (placeholder (seen_mode mode) reader.old.next reader.old.rest (behind_first reader.old.rest))) reader.new) }
+//     (call (seen_mode mode) reader.old.next reader.old.rest).piece) }
+// ensures state { OnOk result (reader.new ≡ read_call reader.old (call (seen_mode mode) reader.old.next reader.old.rest)) }
 // ensures err { OnErr result (reader.new.source ≡ reader.old.source) }
-// ensures spare { (let k = placeholder (seen_mode mode) reader.old.next reader.old.rest (behind_first reader.old.rest) in
+// ensures spare { (let k = call (seen_mode mode) reader.old.next reader.old.rest in
 //     FindsNothing reader.old k.faults k.texts → IsOk result) }
 #[inline]
-fn read_braced<'input>(
+pub fn read_placeholder<'input>(
     mode: ParseMode,
     into: &mut Argument<'input>,
     reader: &mut Reader<'input>,
@@ -112,26 +112,6 @@ fn read_braced<'input>(
     read_argument(mode, into, reader)?;
     reader.cursor.skip_white();
     close(mode, into, opening, reader)?;
-    Ok(())
-}
-
-/// Reads the placeholder at the front into a blank argument, as the whole call.
-// requires blank { seen_spec into.old.format ≡ default_spec }
-// requires opens { opens_placeholder reader.old.rest ≡ true }
-// requires numbers { reader.old.next + length reader.old.rest < 2 ^ 64 }
-// ensures value { OnOk result (Some (NextArgument (seen_argument into.new)) ≡ option_map (piece_in reader.old.world)
-//     (call (seen_mode mode) reader.old.next reader.old.rest).piece) }
-// ensures state { OnOk result (IsAt (read_call reader.old (call (seen_mode mode) reader.old.next reader.old.rest)) reader.new) }
-// ensures err { OnErr result (reader.new.source ≡ reader.old.source) }
-// ensures spare { (let k = call (seen_mode mode) reader.old.next reader.old.rest in
-//     FindsNothing reader.old k.faults k.texts → IsOk result) }
-#[inline(always)]
-pub fn read_placeholder<'input>(
-    mode: ParseMode,
-    into: &mut Argument<'input>,
-    reader: &mut Reader<'input>,
-) -> Result<(), AllocError> {
-    read_braced(mode, into, reader)?;
     Ok(())
 }
 

@@ -49,7 +49,7 @@ fn note_word(reader: &mut Reader<'_>, word: &str, span: Range<usize>) -> Result<
 
 /// Reads the integer at the front, where there is one: its number modulo 65536. One above 65535 is a fault.
 // ensures value { IfOk result (λ n. n ≡ number (digits reader.old.rest)) }
-// ensures reads { Reads reader.old result reader.new (behind_digits reader.old.rest) reader.old.next (number_faults reader.old.rest) }
+// ensures reads { Reads reader.old result reader.new (behind_digits reader.old.rest) reader.old.next (number_faults reader.old.rest) [] }
 #[inline]
 pub fn integer<'input>(reader: &mut Reader<'input>) -> Result<u16, AllocError> {
     let start = reader.start();
@@ -60,7 +60,7 @@ pub fn integer<'input>(reader: &mut Reader<'input>) -> Result<u16, AllocError> {
 
 /// Reads the word at the front, which may be empty. The word `_` is a fault.
 // ensures value { IfOk result (λ w. chars w.now ≡ word reader.old.rest) }
-// ensures reads { Reads reader.old result reader.new (behind_word reader.old.rest) reader.old.next (word_faults reader.old.rest) }
+// ensures reads { Reads reader.old result reader.new (behind_word reader.old.rest) reader.old.next (word_faults reader.old.rest) [] }
 #[inline]
 pub fn word<'input>(reader: &mut Reader<'input>) -> Result<&'input str, AllocError> {
     let start = reader.start();
@@ -71,13 +71,15 @@ pub fn word<'input>(reader: &mut Reader<'input>) -> Result<&'input str, AllocErr
 }
 
 /// Reads the name at the front, with its `$`. Without a `$` the word is left, and looked at all the same.
-// requires { IsFurthest reader.old.rest reader.old.back }
+// requires furthest { IsFurthest reader.old.rest reader.old.back }
+// requires word { first_passes is_id_start reader.old.rest ≡ true }
 // ensures value { IfOk result (λ k. seen_count k ≡ map_count (place_of reader.old.world)
 //     (let k = behind_name reader.old.rest (word reader.old.rest) (behind_word reader.old.rest) in count_of reader.old.rest k.0 k.1)) }
-// ensures reads { ReadsBack reader.old result reader.new (behind_name reader.old.rest (word reader.old.rest) (behind_word reader.old.rest)).1 reader.old.next (word_faults reader.old.rest) }
+// ensures reads { Reads reader.old result reader.new (behind_name reader.old.rest (word reader.old.rest) (behind_word reader.old.rest)).1
+//     reader.old.next (word_faults reader.old.rest) (count_tries reader.old.rest (behind_name reader.old.rest (word reader.old.rest) (behind_word reader.old.rest)).0) }
 #[inline]
 fn name_count<'input>(reader: &mut Reader<'input>) -> Result<Count<'input>, AllocError> {
-    let front = reader.cursor.spot();
+    let front = reader.cursor.checkpoint();
     let start = reader.cursor.start();
     let name = word(reader)?;
     let span = start..reader.cursor.start();
@@ -92,7 +94,8 @@ fn name_count<'input>(reader: &mut Reader<'input>) -> Result<Count<'input>, Allo
 // requires { IsFurthest reader.old.rest reader.old.back }
 // ensures value { IfOk result (λ k. seen_count k
 //     ≡ map_count (place_of reader.old.world) (count_of reader.old.rest (count reader.old.rest).0 (count reader.old.rest).1)) }
-// ensures reads { ReadsBack reader.old result reader.new (count reader.old.rest).1 reader.old.next (argument_faults reader.old.rest) }
+// ensures reads { Reads reader.old result reader.new (count reader.old.rest).1 reader.old.next (argument_faults reader.old.rest)
+//     (count_tries reader.old.rest (count reader.old.rest).0) }
 #[inline]
 pub fn count<'input>(reader: &mut Reader<'input>) -> Result<Count<'input>, AllocError> {
     if reader.cursor.starts_digit() {
@@ -108,26 +111,6 @@ pub fn count<'input>(reader: &mut Reader<'input>) -> Result<Count<'input>, Alloc
     Ok(Count::CountImplied)
 }
 
-/// Reads the count at the front, and where it stands.
-// requires { IsFurthest reader.old.rest reader.old.back }
-// ensures value { IfOk result (λ k. seen_count k.0
-//     ≡ map_count (place_of reader.old.world) (count_of reader.old.rest (count reader.old.rest).0 (count reader.old.rest).1)) }
-// ensures span { IfOk result (λ k. option_map pair k.1 ≡ option_map (place_of reader.old.world)
-//     (count_span reader.old.rest (count reader.old.rest).0 (count reader.old.rest).1)) }
-// ensures reads { ReadsBack reader.old result reader.new (count reader.old.rest).1 reader.old.next (argument_faults reader.old.rest) }
-#[inline]
-fn spanned_count<'input>(
-    reader: &mut Reader<'input>,
-) -> Result<(Count<'input>, Option<Range<usize>>), AllocError> {
-    let start = reader.start();
-    let count = count(reader)?;
-    let span = match count {
-        Count::CountImplied => None,
-        _ => Some(start..reader.start()),
-    };
-    Ok((count, span))
-}
-
 /// A width: whether the flag `0` stands in front of its count, and where the count stands.
 pub struct WidthPart<'input> {
     pub zero_pad: bool,
@@ -135,20 +118,26 @@ pub struct WidthPart<'input> {
     pub span: Option<Range<usize>>,
 }
 
-/// Reads the count of a width, which has the flag `0` or not.
+/// Reads the count of a width, and where it stands; the width has the flag `0` or not.
 // requires { IsFurthest reader.old.rest reader.old.back }
 // ensures zero_pad { IfOk result (λ w. w.zero_pad ≡ zero_pad) }
 // ensures count { IfOk result (λ w. seen_count w.count
 //     ≡ map_count (place_of reader.old.world) (count_of reader.old.rest (count reader.old.rest).0 (count reader.old.rest).1)) }
 // ensures span { IfOk result (λ w. option_map pair w.span ≡ option_map (place_of reader.old.world)
 //     (count_span reader.old.rest (count reader.old.rest).0 (count reader.old.rest).1)) }
-// ensures reads { ReadsBack reader.old result reader.new (count reader.old.rest).1 reader.old.next (argument_faults reader.old.rest) }
+// ensures reads { Reads reader.old result reader.new (count reader.old.rest).1 reader.old.next (argument_faults reader.old.rest)
+//     (count_tries reader.old.rest (count reader.old.rest).0) }
 #[inline]
 fn counted<'input>(
     zero_pad: bool,
     reader: &mut Reader<'input>,
 ) -> Result<WidthPart<'input>, AllocError> {
-    let (count, span) = spanned_count(reader)?;
+    let start = reader.start();
+    let count = count(reader)?;
+    let span = match count {
+        Count::CountImplied => None,
+        _ => Some(start..reader.start()),
+    };
     Ok(WidthPart {
         zero_pad,
         count,
@@ -163,7 +152,8 @@ fn counted<'input>(
 //     (width_of reader.old.rest (width reader.old.rest).0 (width reader.old.rest).1)) }
 // ensures span { IfOk result (λ w. option_map pair w.span ≡ option_map (place_of reader.old.world)
 //     (width_span reader.old.rest (width reader.old.rest).0 (width reader.old.rest).1)) }
-// ensures reads { ReadsBack reader.old result reader.new (width reader.old.rest).1 reader.old.next (width_faults reader.old.rest (width reader.old.rest).0) }
+// ensures reads { Reads reader.old result reader.new (width reader.old.rest).1 reader.old.next (width_faults reader.old.rest (width reader.old.rest).0)
+//     (width_tries reader.old.rest (width reader.old.rest).0) }
 #[inline]
 pub fn width<'input>(reader: &mut Reader<'input>) -> Result<WidthPart<'input>, AllocError> {
     if !reader.cursor.is_next('0') {
@@ -189,7 +179,9 @@ pub fn width<'input>(reader: &mut Reader<'input>) -> Result<WidthPart<'input>, A
 //     (precision_of reader.old.next reader.old.rest (precision reader.old.rest).0 (precision reader.old.rest).1)) }
 // ensures span { IfOk result (λ k. option_map pair k.1 ≡ option_map (place_of reader.old.world)
 //     (precision_span reader.old.rest (precision reader.old.rest).0 (precision reader.old.rest).1)) }
-// ensures reads { ReadsBack reader.old result reader.new (precision reader.old.rest).1 (number_after_precision reader.old.next (precision reader.old.rest).0) (precision_faults reader.old.rest (precision reader.old.rest).0) }
+// ensures reads { Reads reader.old result reader.new (precision reader.old.rest).1
+//     (number_after_precision reader.old.next (precision reader.old.rest).0) (precision_faults reader.old.rest (precision reader.old.rest).0)
+//     (precision_tries reader.old.rest (precision reader.old.rest).0) }
 #[inline]
 pub fn precision<'input>(
     reader: &mut Reader<'input>,

@@ -9,6 +9,7 @@ use crate::proved::rustc_parse_format::characters::{
     before, behind_first, behind_run, first, is_id_start, with_digit, Class,
 };
 use crate::proved::rustc_parse_format::source::{look_again, Source, Spot};
+use crate::proved::rustc_parse_format::world::first_look;
 use std::ops::Range;
 
 /// A place in the input: what is left of it, and where that stands in the source.
@@ -17,25 +18,40 @@ pub struct Cursor<'input> {
     spot: Spot<'input>,
 }
 
+/// Where a cursor stood, and what it had given back there.
+pub struct Checkpoint<'input> {
+    spot: Spot<'input>,
+}
+
 impl<'input> Cursor<'input> {
-    /// At a spot of a source.
-    // requires { IsSpot source spot.rest.now spot.mark.now spot.at }
-    // ensures { result ≡ unread_at source.entry spot.entry.rest.now (nothing_back (chars spot.entry.rest.now)) 0 }
+    /// At the front of the input of a source.
+    // requires input { source.input.now ≡ input.now }
+    // requires kept { IsKept source }
+    // requires fits { source.offset + length input.now < 2 ^ 64 }
+    // ensures { result ≡ unread_at source.entry input.now (nothing_back (chars input.now)) 0 }
     #[inline]
-    pub fn new(source: Source<'input>, spot: Spot<'input>) -> Cursor<'input> {
+    pub fn new(source: Source<'input>, input: &'input str) -> Cursor<'input> {
+        let spot = Spot {
+            rest: input,
+            mark: input,
+            at: first_look(&source),
+        };
         Cursor { source, spot }
     }
 
-    /// The spot where it stands.
-    // ensures at { self.now ≡ unread_at self.now.source result.rest.now self.now.back self.now.undone }
-    // ensures spot { IsSpot self.now.source result.rest.now result.mark.now result.at }
+    /// Where it stands.
+    // ensures at { self.now ≡ unread_at self.now.source result.spot.rest.now
+    //     (back_at (chars self.now.source.input.now) (chars result.spot.rest.now) result.tally) self.now.undone }
+    // ensures spot { IsSpot self.now.source result.spot.rest.now result.spot.mark.now result.spot.at }
+    // ensures counted { IsCounted (chars self.now.source.input.now) (chars result.spot.rest.now) result.tally }
     #[inline]
-    pub fn spot(&self) -> Spot<'input> {
-        Spot {
+    pub fn checkpoint(&self) -> Checkpoint<'input> {
+        let spot = Spot {
             rest: self.spot.rest,
             mark: self.spot.mark,
             at: self.spot.at,
-        }
+        };
+        Checkpoint { spot }
     }
 
     /// It has taken few steps. Nothing is done.
@@ -46,19 +62,12 @@ impl<'input> Cursor<'input> {
         let _at = self.spot.at;
     }
 
-    /// What was read since an earlier spot.
-    // requires { (read : Text) × (chars from.now.rest.now ≡ read ++ self.now.rest) }
-    // ensures { (read : Text) → chars from.now.rest.now ≡ read ++ self.now.rest → chars result.now ≡ read }
+    /// What was read since then.
+    // requires { (read : Text) × (chars from.now.spot.rest.now ≡ read ++ self.now.rest) }
+    // ensures { (read : Text) → chars from.now.spot.rest.now ≡ read ++ self.now.rest → chars result.now ≡ read }
     #[inline]
-    pub fn since(&self, from: &Spot<'input>) -> &'input str {
-        before(from.rest, self.spot.rest)
-    }
-
-    /// What is left.
-    // ensures { chars result.now ≡ self.now.rest }
-    #[inline]
-    fn rest(&self) -> &'input str {
-        self.spot.rest
+    pub fn since(&self, from: &Checkpoint<'input>) -> &'input str {
+        before(from.spot.rest, self.spot.rest)
     }
 
     /// The next character, or None at the end.
@@ -79,7 +88,7 @@ impl<'input> Cursor<'input> {
     // ensures rest { self.new ≡ record self.old { rest = behind_first self.old.rest } }
     #[inline]
     pub fn advance(&mut self) {
-        self.pass();
+        self.spot.rest = behind_first(self.spot.rest);
     }
 
     /// Moves over the next character, if there is one, and gives its place, or that of the end of the text.
@@ -87,33 +96,18 @@ impl<'input> Cursor<'input> {
     // ensures rest { self.new ≡ record self.old { rest = behind_first self.old.rest } }
     #[inline(always)]
     pub fn take_place(&mut self) -> Range<usize> {
-        self.pass_place()
-    }
-
-    /// Passes the next character, if there is one, and gives its place.
-    // ensures place { pair result ≡ place_at self.old.world (length self.old.rest) }
-    // ensures rest { self.new ≡ record self.old { rest = behind_first self.old.rest } }
-    #[inline(always)]
-    fn pass_place(&mut self) -> Range<usize> {
         self.source.pass(&mut self.spot)
     }
 
-    /// Passes the next character, if there is one.
-    // ensures { self.new ≡ record self.old { rest = behind_first self.old.rest } }
+    /// Goes back to where it stood.
+    // requires spot { IsSpot self.old.source to.spot.rest.now to.spot.mark.now to.spot.at }
+    // requires furthest { IsFurthest (chars to.spot.rest.now) self.old.back }
+    // requires earlier { length self.old.rest ≤ length (chars to.spot.rest.now) }
+    // requires word { behind_part (chars to.spot.rest.now) ≤ length self.old.rest }
+    // ensures { self.new ≡ unread_at self.old.source to.entry.spot.rest.now (given_back self.old.rest (chars to.entry.spot.rest.now) self.old.back) self.old.undone }
     #[inline]
-    fn pass(&mut self) {
-        self.spot.rest = behind_first(self.spot.rest);
-    }
-
-    /// Goes back to an earlier spot.
-    // requires spot { IsSpot self.old.source spot.rest.now spot.mark.now spot.at }
-    // requires furthest { IsFurthest (chars spot.rest.now) self.old.back }
-    // requires earlier { length self.old.rest ≤ length (chars spot.rest.now) }
-    // requires word { behind_part (chars spot.rest.now) ≤ length self.old.rest }
-    // ensures { self.new ≡ unread_at self.old.source spot.entry.rest.now (given_back self.old.rest (chars spot.entry.rest.now) self.old.back) self.old.undone }
-    #[inline]
-    pub fn go_back(&mut self, spot: Spot<'input>) {
-        self.spot = spot;
+    pub fn go_back(&mut self, to: Checkpoint<'input>) {
+        self.spot = to.spot;
     }
 
     /// Where the next character starts in the source, or where the text ends.
@@ -232,13 +226,18 @@ impl<'input> Cursor<'input> {
         self.peek().map_or(false, is_id_start)
     }
 
-    /// A raw identifier begins here.
-    // ensures { result ≡ begins_raw self.now.rest }
+    /// The next characters are `r#`.
+    // ensures { result ≡ begins_prefix self.now.rest }
     #[inline]
-    pub fn starts_raw(&self) -> bool {
-        self.is_next('r')
-            && self.goes_on_with('#')
-            && first(behind_first(behind_first(self.spot.rest))).map_or(false, is_id_start)
+    pub fn starts_prefix(&self) -> bool {
+        self.is_next('r') && self.goes_on_with('#')
+    }
+
+    /// A word may begin with the character after the next one.
+    // ensures { result ≡ first_passes is_id_start (behind_first self.now.rest) }
+    #[inline]
+    pub fn goes_on_with_word(&self) -> bool {
+        self.peek_ahead().map_or(false, is_id_start)
     }
 
     /// Moves over the longest front of the class.
@@ -264,6 +263,7 @@ impl<'input> Cursor<'input> {
     #[inline]
     fn pass_run(&mut self, class: Class) {
         let rest = behind_run(self.spot.rest, class);
+
         self.spot.rest = rest;
     }
 
@@ -290,24 +290,18 @@ impl<'input> Cursor<'input> {
         self.skip(Class::White);
     }
 
-    /// Moves over the word at the front.
-    // ensures rest { self.new ≡ record self.old { rest = behind_word self.old.rest } }
-    #[inline]
-    fn skip_word(&mut self) {
-        if self.starts_word() {
-            self.advance();
-            self.skip(Class::Continue);
-        }
-    }
-
     /// Reads the word at the front, which may be empty.
     // ensures value { chars result.now ≡ word self.old.rest }
     // ensures rest { self.new ≡ record self.old { rest = behind_word self.old.rest } }
     #[inline]
     pub fn word(&mut self) -> &'input str {
-        let text = self.rest();
-        self.skip_word();
-        before(text, self.rest())
+        if !self.starts_word() {
+            return "";
+        }
+        let from = self.checkpoint();
+        self.advance();
+        self.skip(Class::Continue);
+        self.since(&from)
     }
 
     /// Moves over the digits at the front: their number modulo 65536, and whether it is above 65535.
@@ -337,8 +331,8 @@ impl<'input> Cursor<'input> {
     // ensures rest { self.new ≡ record self.old { rest = behind_digits self.old.rest } }
     #[inline]
     pub fn number(&mut self) -> (&'input str, u16, bool) {
-        let text = self.rest();
+        let from = self.checkpoint();
         let (value, over) = self.skip_number();
-        (before(text, self.rest()), value, over)
+        (self.since(&from), value, over)
     }
 }

@@ -1,9 +1,9 @@
-//! What the derives of the public types promise, each as the contract of a small function: a clone is always made
-//! and is its source; `==` is true exactly where the contracts see the same, in every field and every span, so it is
-//! reflexive, symmetric and transitive; the defaults ask for nothing.
+//! What the derives of the public types promise, each as the contract of a small function that
+//! calls the derive.
 //!
-//! Two texts of the same characters have the same bytes because each is UTF-8. A contract knows that of a `&str` that
-//! is passed, so the functions named `know_` pass each text of a value on.
+//! A clone is always made, and is its source. `==` is true exactly where two values are seen the
+//! same: field by field, texts by their characters, and with every span. So it is reflexive,
+//! symmetric and transitive. The defaults ask for nothing.
 
 // Extracted from crates/rustc_parse_format/src/laws.rt by tools/extract: not to be edited.
 // That source is proved, and each contract here is its. That this text means the same is tested:
@@ -36,7 +36,7 @@ fn know_spec(spec: &FormatSpec<'_>) {
 }
 
 /// `==` of two specifications says whether they are seen the same.
-// ensures { IsTrue result ↔ (seen_spec a.now ≡ seen_spec b.now) }
+// ensures { IsTrue result ↔ AreSame seen_spec a.now b.now }
 #[inline]
 pub fn specs_are_equal(a: &FormatSpec<'_>, b: &FormatSpec<'_>) -> bool {
     know_spec(a);

@@ -14,15 +14,20 @@ use crate::proved::rustc_parse_format::types::{wants_names, Argument, ParseMode,
 use crate::shim::alloc::AllocError;
 use std::ops::Range;
 
-/// Reads the raw identifier at the front, which is a fault: the word without its `r#`.
-// ensures value { IfOk result (λ w. chars w.now ≡ word (behind_prefix reader.old.rest)) }
-// ensures state { OnOk result (reader.new
-//     ≡ read_to reader.old (behind_word (behind_prefix reader.old.rest)) reader.old.next (raw_faults reader.old.rest)) }
-// ensures err { OnErr result (reader.new.source ≡ reader.old.source) }
+/// Reads the word that begins with `r#`: a raw identifier, which is a fault, as the word without its `r#`; and where no word comes
+/// after that, the `r` alone.
+// requires { begins_prefix reader.old.rest ≡ true }
+// ensures value { IfOk result (λ w. Some (Named (chars w.now)) ≡ given_position (position reader.old.rest).0) }
+// ensures reads { let p = position reader.old.rest in
+//     Reads reader.old result reader.new p.1 reader.old.next (position_faults reader.old.rest p.0) [] }
 #[inline]
-fn raw_word<'input>(reader: &mut Reader<'input>) -> Result<&'input str, AllocError> {
+fn prefixed_word<'input>(reader: &mut Reader<'input>) -> Result<&'input str, AllocError> {
     let from = reader.start();
+    let front = reader.cursor.checkpoint();
     reader.advance();
+    if !reader.cursor.goes_on_with_word() {
+        return Ok(reader.cursor.since(&front));
+    }
     let prefix = from..reader.stop();
     reader.advance();
     let word = word(reader)?;
@@ -33,18 +38,16 @@ fn raw_word<'input>(reader: &mut Reader<'input>) -> Result<&'input str, AllocErr
 
 /// Reads the position at the front: an integer, else a word, raw or not, else none.
 // ensures value { IfOk result (λ p. option_map seen_position p ≡ given_position (position reader.old.rest).0) }
-// ensures state { OnOk result (reader.new ≡ (let p = position reader.old.rest in
-//     read_to reader.old p.1 reader.old.next (position_faults reader.old.rest p.0))) }
-// ensures err { OnErr result (reader.new.source ≡ reader.old.source) }
-// ensures spare { position_faults reader.old.rest (position reader.old.rest).0 ≡ [] → IsOk result }
+// ensures reads { let p = position reader.old.rest in
+//     Reads reader.old result reader.new p.1 reader.old.next (position_faults reader.old.rest p.0) [] }
 #[inline]
 fn position<'input>(reader: &mut Reader<'input>) -> Result<Option<Position<'input>>, AllocError> {
     if reader.cursor.starts_digit() {
         let number = integer(reader)?;
         return Ok(Some(Position::ArgumentIs(usize::from(number))));
     }
-    if reader.cursor.starts_raw() {
-        let name = raw_word(reader)?;
+    if reader.cursor.starts_prefix() {
+        let name = prefixed_word(reader)?;
         return Ok(Some(Position::ArgumentNamed(name)));
     }
     if reader.cursor.starts_word() {
@@ -135,8 +138,9 @@ pub fn blank_argument<'input>() -> Argument<'input> {
 // requires numbers { reader.old.next + 1 + length reader.old.rest < 2 ^ 64 }
 // ensures value { OnOk result (seen_argument into.new
 //     ≡ map_argument (place_of reader.old.world) (argument reader.old.next (cut (seen_mode mode) reader.old.rest))) }
-// ensures state { OnOk result (IsAt (let a = cut (seen_mode mode) reader.old.rest in
-//     read_texts (read_to reader.old a.rest (number_after_field reader.old.next a.field) (cut_faults (seen_mode mode) a)) (spec_texts a.field.spec a.rest)) reader.new) }
+// ensures state { OnOk result (reader.new ≡ (let a = cut (seen_mode mode) reader.old.rest in
+//     read_texts (read_tries (read_to reader.old a.rest (number_after_field reader.old.next a.field) (cut_faults (seen_mode mode) a))
+//     (spec_tries a.field.spec a.rest)) (spec_texts a.field.spec a.rest))) }
 // ensures err { OnErr result (reader.new.source ≡ reader.old.source) }
 // ensures spare { (let a = cut (seen_mode mode) reader.old.rest in
 //     FindsNothing reader.old (cut_faults (seen_mode mode) a) (spec_texts a.field.spec a.rest) → IsOk result) }

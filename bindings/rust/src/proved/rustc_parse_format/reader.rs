@@ -104,7 +104,7 @@ impl<'input> Reader<'input> {
     // ensures err { OnErr result (self.new.source ≡ self.old.source) }
     #[inline]
     pub fn take_text(&mut self) -> Result<&'input str, AllocError> {
-        let from = self.cursor.spot();
+        let from = self.cursor.checkpoint();
         self.skip_text()?;
         Ok(self.cursor.since(&from))
     }
@@ -116,7 +116,7 @@ impl<'input> Reader<'input> {
     // ensures err { OnErr result (self.new.source ≡ self.old.source) }
     #[inline]
     pub fn take_text_behind_first(&mut self) -> Result<&'input str, AllocError> {
-        let from = self.cursor.spot();
+        let from = self.cursor.checkpoint();
         self.cursor.advance();
         self.skip_text()?;
         Ok(self.cursor.since(&from))

@@ -87,7 +87,7 @@ fn note_field(
 // requires here { reader.old.rest ≢ [] }
 // requires numbers { reader.old.next + length reader.old.rest < 2 ^ 64 }
 // ensures state { OnOk result ((m : Mark) → from ≡ number_of reader.old.world m
-//     → IsAt (recovered reader.old (field (seen_mode mode) reader.old.next m reader.old.rest)) reader.new) }
+//     → reader.new ≡ recovered reader.old (field (seen_mode mode) reader.old.next m reader.old.rest)) }
 // ensures source { reader.new.source ≡ reader.old.source }
 #[inline]
 fn field<'input>(
@@ -123,7 +123,7 @@ fn begins_late_debug(sign: char, next: char) -> bool {
 // requires numbers { reader.old.next + length reader.old.rest < 2 ^ 64 }
 // ensures state { OnOk result ((o : Text) (a : ArgumentValue Span) → pair opening ≡ place_of reader.old.world (over_first o)
 //     → seen_argument argument.now ≡ map_argument (place_of reader.old.world) a
-//     → IsAt (recovered reader.old (recovery (seen_mode mode) reader.old.next o a reader.old.rest)) reader.new) }
+//     → reader.new ≡ recovered reader.old (recovery (seen_mode mode) reader.old.next o a reader.old.rest)) }
 // ensures source { reader.new.source ≡ reader.old.source }
 #[inline]
 pub fn recover<'input>(

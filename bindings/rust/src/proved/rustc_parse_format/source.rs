@@ -208,21 +208,12 @@ fn byte_beyond(snippet: &str, spot: &Spot<'_>) -> usize {
 // requires after { IsLeft spot.now.mark.now spot.now.rest.now }
 // requires here { (w : World) × IsLook snippet.now w (chars spot.now.mark.now) spot.now.at }
 // ensures { (w : World) → IsLook snippet.now w (chars spot.now.mark.now) spot.now.at → IsHere snippet.now w (chars spot.now.rest.now) result }
-#[inline(always)]
+#[inline(never)]
 fn byte_by_look(snippet: &str, spot: &Spot<'_>) -> usize {
     if spot.mark.len() - spot.rest.len() > spot.at.bare {
         return byte_beyond(snippet, spot);
     }
     byte_in_bare(snippet, spot.mark, spot.at, spot.rest)
-}
-
-/// The same, by a call.
-// requires after { IsLeft spot.now.mark.now spot.now.rest.now }
-// requires here { (w : World) × IsLook snippet.now w (chars spot.now.mark.now) spot.now.at }
-// ensures { (w : World) → IsLook snippet.now w (chars spot.now.mark.now) spot.now.at → IsHere snippet.now w (chars spot.now.rest.now) result }
-#[inline(never)]
-fn byte_ahead(snippet: &str, spot: &Spot<'_>) -> usize {
-    byte_by_look(snippet, spot)
 }
 
 /// The same. Where what was passed and the next byte stand in the snippet as they are, it is not looked at.
@@ -235,7 +226,7 @@ pub fn byte_here(snippet: &str, spot: &Spot<'_>) -> usize {
     if moved == 0 || moved < spot.at.bare {
         return spot.at.byte + moved;
     }
-    byte_ahead(snippet, spot)
+    byte_by_look(snippet, spot)
 }
 
 /// Looks at the snippet again, where the next character starts.

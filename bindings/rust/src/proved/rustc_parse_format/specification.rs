@@ -74,9 +74,7 @@ fn alternate<'input>(cursor: &mut Cursor<'input>) -> bool {
 // ensures value { IfOk result (λ w. chars w.0.now ≡ word reader.old.rest) }
 // ensures span { IfOk result (λ w. option_map pair w.1 ≡ option_map (place_of reader.old.world)
 //     (word_span reader.old.rest (word reader.old.rest) (behind_word reader.old.rest))) }
-// ensures state { OnOk result (reader.new ≡ read_to reader.old (behind_word reader.old.rest) reader.old.next (word_faults reader.old.rest)) }
-// ensures err { OnErr result (reader.new.source ≡ reader.old.source) }
-// ensures spare { word_faults reader.old.rest ≡ [] → IsOk result }
+// ensures reads { Reads reader.old result reader.new (behind_word reader.old.rest) reader.old.next (word_faults reader.old.rest) [] }
 #[inline]
 fn spanned_word<'input>(
     reader: &mut Reader<'input>,
@@ -154,9 +152,7 @@ fn note_flag(reader: &mut Reader<'_>, start: usize) -> Result<(), AllocError> {
 }
 
 /// Reads the type `?` at the front, and notes a flag after it, which is left.
-// ensures state { OnOk result (reader.new ≡ read_to reader.old (behind_first reader.old.rest) reader.old.next (flag_faults reader.old.rest)) }
-// ensures err { OnErr result (reader.new.source ≡ reader.old.source) }
-// ensures spare { flag_faults reader.old.rest ≡ [] → IsOk result }
+// ensures reads { Reads reader.old result reader.new (behind_first reader.old.rest) reader.old.next (flag_faults reader.old.rest) [] }
 #[inline]
 fn debug_type<'input>(reader: &mut Reader<'input>) -> Result<(), AllocError> {
     let start = reader.start();
@@ -169,10 +165,7 @@ fn debug_type<'input>(reader: &mut Reader<'input>) -> Result<(), AllocError> {
 // ensures debug_hex { IfOk result (λ y. option_map seen_debug_hex y.debug_hex ≡ debug_hex_of (type reader.old.rest).0) }
 // ensures span { IfOk result (λ y. option_map pair y.span ≡ option_map (place_of reader.old.world)
 //     (type_span reader.old.rest (type reader.old.rest).0 (type reader.old.rest).1)) }
-// ensures state { OnOk result (reader.new ≡ (let y = type reader.old.rest in
-//     read_to reader.old y.1 reader.old.next (type_faults reader.old.rest y.0))) }
-// ensures err { OnErr result (reader.new.source ≡ reader.old.source) }
-// ensures spare { type_faults reader.old.rest (type reader.old.rest).0 ≡ [] → IsOk result }
+// ensures reads { Reads reader.old result reader.new (type reader.old.rest).1 reader.old.next (type_faults reader.old.rest (type reader.old.rest).0) [] }
 #[inline]
 fn type_part<'input>(reader: &mut Reader<'input>) -> Result<TypePart<'input>, AllocError> {
     if reader.cursor.is_next('x') {
@@ -198,10 +191,8 @@ fn type_part<'input>(reader: &mut Reader<'input>) -> Result<TypePart<'input>, Al
 // requires furthest { IsFurthest reader.old.rest reader.old.back }
 // ensures value { OnOk result (seen_spec format.new ≡ map_spec (place_of reader.old.world)
 //     (format_of reader.old.next reader.old.rest (format_text reader.old.rest).0 (format_text reader.old.rest).1)) }
-// ensures state { OnOk result (IsAt (let f = format_text reader.old.rest in
-//     read_to reader.old f.1 (number_after_precision reader.old.next f.0.precision) (format_faults f.0 f.1)) reader.new) }
-// ensures err { OnErr result (reader.new.source ≡ reader.old.source) }
-// ensures spare { format_faults (format_text reader.old.rest).0 (format_text reader.old.rest).1 ≡ [] → IsOk result }
+// ensures reads { let f = format_text reader.old.rest in
+//     Reads reader.old result reader.new f.1 (number_after_precision reader.old.next f.0.precision) (format_faults f.0 f.1) (format_tries f.0 f.1) }
 #[inline]
 fn format_text<'input>(
     format: &mut FormatSpec<'input>,
@@ -235,9 +226,7 @@ fn format_text<'input>(
 //   ty = word reader.old.rest;
 //   ty_span = option_map (place_of reader.old.world) (word_span reader.old.rest (word reader.old.rest) (behind_word reader.old.rest));
 // }) }
-// ensures state { OnOk result (reader.new ≡ read_to reader.old (behind_word reader.old.rest) reader.old.next (word_faults reader.old.rest)) }
-// ensures err { OnErr result (reader.new.source ≡ reader.old.source) }
-// ensures spare { word_faults reader.old.rest ≡ [] → IsOk result }
+// ensures reads { Reads reader.old result reader.new (behind_word reader.old.rest) reader.old.next (word_faults reader.old.rest) [] }
 #[inline]
 fn modifier<'input>(
     format: &mut FormatSpec<'input>,
@@ -302,8 +291,9 @@ fn diagnostic_text<'input>(
 // requires numbers { reader.old.next + length reader.old.rest < 2 ^ 64 }
 // ensures value { OnOk result (seen_spec format.new ≡ map_spec (place_of reader.old.world) (spec_of reader.old.next reader.old.rest
 //     (specification (seen_mode mode) reader.old.rest).0 (specification (seen_mode mode) reader.old.rest).1)) }
-// ensures state { OnOk result (IsAt (let s = specification (seen_mode mode) reader.old.rest in
-//     read_texts (read_to reader.old s.1 (number_after_spec reader.old.next s.0) (spec_faults (seen_mode mode) reader.old.rest s.0 s.1)) (spec_texts s.0 s.1)) reader.new) }
+// ensures state { OnOk result (reader.new ≡ (let s = specification (seen_mode mode) reader.old.rest in
+//     read_texts (read_tries (read_to reader.old s.1 (number_after_spec reader.old.next s.0) (spec_faults (seen_mode mode) reader.old.rest s.0 s.1))
+//     (spec_tries s.0 s.1)) (spec_texts s.0 s.1))) }
 // ensures err { OnErr result (reader.new.source ≡ reader.old.source) }
 // ensures spare { (let s = specification (seen_mode mode) reader.old.rest in
 //     FindsNothing reader.old (spec_faults (seen_mode mode) reader.old.rest s.0 s.1) (spec_texts s.0 s.1) → IsOk result) }

@@ -1,9 +1,10 @@
+//! The public types, with their derives.
+
 // Extracted from crates/rustc_parse_format/src/types.rt by tools/extract: not to be edited.
 // That source is proved, and each contract here is its. That this text means the same is tested:
 // rows of answers from outside, the proved static library (.ci/bindings) and the original
 // (bindings/agree) give the same over it.
 
-use crate::proved::rustc_parse_format::laws::{default_of_spec, specs_are_equal};
 use std::ops::Range;
 
 /// What kind of text is parsed. In each, `{{` and `}}` are braces of the text, and a placeholder may have a position, and after
@@ -21,7 +22,7 @@ pub enum ParseMode {
 }
 
 /// A piece of the input: text as it stands, or a placeholder.
-#[derive(Clone, Debug, PartialEq)]
+#[derive(Debug, PartialEq)]
 pub enum Piece<'input> {
     /// Text, with `{{` and `}}` as one brace each.
     Lit(&'input str),
@@ -169,26 +170,4 @@ pub enum Suggestion {
 #[inline]
 pub fn wants_names(mode: ParseMode) -> bool {
     matches!(mode, ParseMode::DiagnosticNamed)
-}
-
-impl Position<'_> {
-    /// The number of the argument, or None where it is named.
-    // ensures { result ≡ index_of self.now }
-    #[inline]
-    pub fn index(&self) -> Option<usize> {
-        match self {
-            Position::ArgumentIs(n) | Position::ArgumentImplicitlyIs(n) => Some(*n),
-            Position::ArgumentNamed(_) => None,
-        }
-    }
-}
-
-impl Argument<'_> {
-    /// It is a name and nothing else: its specification is the default, in which no span is there either.
-    // ensures { IsTrue result ↔ IsIdentifier (seen_argument self.now) }
-    #[inline]
-    pub fn is_identifier(&self) -> bool {
-        matches!(self.position, Position::ArgumentNamed(_))
-            && specs_are_equal(&self.format, &default_of_spec())
-    }
 }
