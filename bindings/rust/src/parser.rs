@@ -7,8 +7,7 @@ use crate::proved::rustc_parse_format::faults::Fault;
 use crate::proved::rustc_parse_format::messages::tell;
 use crate::proved::rustc_parse_format::placeholder::blank_argument;
 use crate::proved::rustc_parse_format::reader::Reader;
-use crate::proved::rustc_parse_format::source::Spot;
-use crate::proved::rustc_parse_format::world::{first_look, quote_offset, source_of};
+use crate::proved::rustc_parse_format::world::{quote_offset, source_of};
 use crate::shim::alloc::{answer, Global};
 use crate::{ParseError, ParseMode, Piece};
 use std::ops::Range;
@@ -51,14 +50,9 @@ impl<'input> Parser<'input> {
     ) -> Self {
         let source = source_of(input, style, snippet, appended_newline);
         let is_source_literal = source.is_literal;
-        let spot = Spot {
-            rest: input,
-            mark: input,
-            at: first_look(&source),
-        };
         Parser {
             mode,
-            reader: Reader::new(Global, Cursor::new(source, spot), quote_offset(style)),
+            reader: Reader::new(Global, Cursor::new(source, input), quote_offset(style)),
             errors: Vec::new(),
             curarg: 0,
             arg_places: Vec::new(),
