@@ -1,7 +1,7 @@
 //! Integers, words and counts, and the sizes of a format specification that are made of them: its width and its precision.
 
 ghost use Rattle.std.specs.Prelude.{[], ◌+◌, ◌++◌, ◌<◌, ◌^◌, ◌∷◌, ◌≡◌, bytes_eq, chars, codes};
-ghost use Rattle.std.specs.Prelude.{false, IfOk, if◌then◌else◌, IsOk, length, OnErr, OnOk, option_map, true};
+ghost use Rattle.std.specs.Prelude.{false, IfOk, if◌then◌else◌, length, option_map, true};
 ghost use Rattle.rustc_parse_format.specs.Characters.{behind_digits, behind_word, digits, first_passes, is_id_start, number, word};
 ghost use Rattle.rustc_parse_format.specs.Counts.{behind_name, count, precision, width};
 ghost use Rattle.rustc_parse_format.specs.Faults.{TooLarge, Underscore};
@@ -9,7 +9,7 @@ ghost use Rattle.rustc_parse_format.specs.Marks.{End};
 ghost use Rattle.rustc_parse_format.specs.Meaning.{count_of, count_span, precision_of, precision_span, width_of, width_span};
 ghost use Rattle.rustc_parse_format.specs.PartFaults.{argument_faults, number_faults, precision_faults, width_faults, word_faults};
 ghost use Rattle.rustc_parse_format.specs.Seen.{pair, seen_count};
-ghost use Rattle.rustc_parse_format.specs.Reads.{Reads};
+ghost use Rattle.rustc_parse_format.specs.Reads.{Reaches, Reads};
 ghost use Rattle.rustc_parse_format.specs.Tries.{count_tries, precision_tries, width_tries};
 ghost use Rattle.rustc_parse_format.specs.Types.{map_count};
 ghost use Rattle.rustc_parse_format.specs.Values.{is_padded, number_after_precision};
@@ -30,12 +30,10 @@ fn note_number<'input>(
     over: bool,
     start: usize,
 ) -> Result<(), AllocError>
-    ensures state { OnOk result (reader.new ≡ record reader.old {
+    ensures notes { Reaches reader.old result reader.new (record reader.old {
       faults = reader.old.faults ++ (if over
           then TooLarge (chars digits.entry.now) (start, number_of reader.old.world (End (length reader.old.rest))) ∷ [] else []);
-    }) }
-    ensures err { OnErr result (reader.new.source ≡ reader.old.source) }
-    ensures spare { over ≡ false → IsOk result }
+    }) (over ≡ false) }
 {
     if !over {
         return Ok(());
@@ -46,11 +44,9 @@ fn note_number<'input>(
 
 /// Notes a word that is `_`.
 fn note_word(reader: &mut Reader<'_>, word: &str, span: Range<usize>) -> Result<(), AllocError>
-    ensures state { OnOk result (reader.new ≡ record reader.old {
+    ensures notes { Reaches reader.old result reader.new (record reader.old {
       faults = reader.old.faults ++ (if bytes_eq (chars word.now) (codes "_") then Underscore (pair span) ∷ [] else []);
-    }) }
-    ensures err { OnErr result (reader.new.source ≡ reader.old.source) }
-    ensures spare { bytes_eq (chars word.now) (codes "_") ≡ false → IsOk result }
+    }) (bytes_eq (chars word.now) (codes "_") ≡ false) }
 {
     if is_underscore(word) {
         return reader.note(Fault::Underscore(span));

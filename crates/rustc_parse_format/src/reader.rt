@@ -4,6 +4,7 @@ ghost use Rattle.std.specs.Prelude.{◌≡◌, ◌≢◌, ◌++◌, ◌+◌, ◌
 ghost use Rattle.rustc_parse_format.specs.Characters.{behind, behind_first, first, front, is_in_line, is_no_brace, with_first};
 ghost use Rattle.rustc_parse_format.specs.Midway.{HasFoundNothing, IsInOneLine, IsPastIndent, midway, passed_next, read_run, unread_at};
 ghost use Rattle.rustc_parse_format.specs.Marks.{End, Start};
+ghost use Rattle.rustc_parse_format.specs.Reads.{Reaches};
 ghost use Rattle.rustc_parse_format.specs.Seen.{pair};
 ghost use Rattle.rustc_parse_format.specs.SeenFaults.{seen_fault};
 ghost use Rattle.rustc_parse_format.specs.SeenSource.{IsSpot};
@@ -167,9 +168,7 @@ impl<'input> Reader<'input> {
     /// Reads the run of text at the front.
     pub fn take_text(&mut self) -> Result<&'input str, AllocError>
         ensures value { IfOk result (λ t. chars t.now ≡ front is_no_brace self.old.rest) }
-        ensures state { OnOk result (self.new ≡ read_run self.old) }
-        ensures spare { IsInOneLine self.old → IsOk result }
-        ensures err { OnErr result (self.new.source ≡ self.old.source) }
+        ensures reads { Reaches self.old result self.new (read_run self.old) (IsInOneLine self.old) }
     {
         let from = self.cursor.checkpoint();
         self.skip_text()?;
@@ -179,9 +178,7 @@ impl<'input> Reader<'input> {
     /// Reads the next character, and the run of text after it, which alone counts as text for the lines.
     pub fn take_text_behind_first(&mut self) -> Result<&'input str, AllocError>
         ensures value { IfOk result (λ t. chars t.now ≡ with_first self.old.rest (front is_no_brace (behind_first self.old.rest))) }
-        ensures state { OnOk result (self.new ≡ read_run (record self.old { rest = behind_first self.old.rest })) }
-        ensures spare { IsInOneLine (record self.old { rest = behind_first self.old.rest }) → IsOk result }
-        ensures err { OnErr result (self.new.source ≡ self.old.source) }
+        ensures reads { let s = record self.old { rest = behind_first self.old.rest } in Reaches self.old result self.new (read_run s) (IsInOneLine s) }
     {
         let from = self.cursor.checkpoint();
         self.cursor.advance();
@@ -191,9 +188,7 @@ impl<'input> Reader<'input> {
 
     /// Moves over the run of text at the front, in a source literal line by line.
     fn skip_text(&mut self) -> Result<(), AllocError>
-        ensures state { OnOk result (self.new ≡ read_run self.old) }
-        ensures spare { IsInOneLine self.old → IsOk result }
-        ensures err { OnErr result (self.new.source ≡ self.old.source) }
+        ensures reads { Reaches self.old result self.new (read_run self.old) (IsInOneLine self.old) }
     {
         if self.cursor.is_source_literal() {
             return self.skip_lines();
@@ -205,9 +200,7 @@ impl<'input> Reader<'input> {
     /// Moves over the run of text at the front of a source literal, line by line.
     fn skip_lines(&mut self) -> Result<(), AllocError>
         requires { IsTrue self.old.world.has_source }
-        ensures state { OnOk result (self.new ≡ read_run self.old) }
-        ensures spare { IsInOneLine self.old → IsOk result }
-        ensures err { OnErr result (self.new.source ≡ self.old.source) }
+        ensures reads { Reaches self.old result self.new (read_run self.old) (IsInOneLine self.old) }
     {
         while let Some(c) = self.cursor.peek() {
             if !Class::Text.passes(c) {

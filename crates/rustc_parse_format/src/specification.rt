@@ -9,7 +9,7 @@ ghost use Rattle.rustc_parse_format.specs.PartFaults.{flag_faults, format_faults
 ghost use Rattle.rustc_parse_format.specs.Seen.{pair, seen_alignment, seen_debug_hex, seen_mode, seen_sign, seen_spec};
 ghost use Rattle.rustc_parse_format.specs.Specification.{align, alternate, fill, format_text, sign, specification, type};
 ghost use Rattle.rustc_parse_format.specs.Midway.{FindsNothing, IsInOneLine, read_run, read_texts, read_to, read_tries};
-ghost use Rattle.rustc_parse_format.specs.Reads.{Reads};
+ghost use Rattle.rustc_parse_format.specs.Reads.{Reaches, Reads};
 ghost use Rattle.rustc_parse_format.specs.Tries.{format_tries, spec_tries};
 ghost use Rattle.rustc_parse_format.specs.Types.{default_spec, map_spec};
 ghost use Rattle.rustc_parse_format.specs.Values.{debug_hex_of, number_after_precision, number_after_spec, type_of};
@@ -310,12 +310,9 @@ pub fn specification<'input>(
     requires numbers { reader.old.next + length reader.old.rest < 2 ^ 64 }
     ensures value { OnOk result (seen_spec format.new ≡ map_spec (place_of reader.old.world) (spec_of reader.old.next reader.old.rest
         (specification (seen_mode mode) reader.old.rest).0 (specification (seen_mode mode) reader.old.rest).1)) }
-    ensures state { OnOk result (reader.new ≡ (let s = specification (seen_mode mode) reader.old.rest in
-        read_texts (read_tries (read_to reader.old s.1 (number_after_spec reader.old.next s.0) (spec_faults (seen_mode mode) reader.old.rest s.0 s.1))
-        (spec_tries s.0 s.1)) (spec_texts s.0 s.1))) }
-    ensures err { OnErr result (reader.new.source ≡ reader.old.source) }
-    ensures spare { (let s = specification (seen_mode mode) reader.old.rest in
-        FindsNothing reader.old (spec_faults (seen_mode mode) reader.old.rest s.0 s.1) (spec_texts s.0 s.1) → IsOk result) }
+    ensures reads { let s = specification (seen_mode mode) reader.old.rest in let fs = spec_faults (seen_mode mode) reader.old.rest s.0 s.1 in
+        Reaches reader.old result reader.new (read_texts (read_tries (read_to reader.old s.1 (number_after_spec reader.old.next s.0) fs)
+        (spec_tries s.0 s.1)) (spec_texts s.0 s.1)) (FindsNothing reader.old fs (spec_texts s.0 s.1)) }
 {
     reader.cursor.steps_are_few();
     if !reader.cursor.is_next(':') {
