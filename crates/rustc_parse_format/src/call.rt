@@ -59,7 +59,7 @@ fn note_missing<'input>(
     ensures err { OnErr result (reader.new.source ≡ reader.old.source) }
 {
     let fill = brace_fill(&argument.format);
-    let fault = no_brace(fill, reader.cursor.peek(), reader.start(), opening);
+    let fault = no_brace(fill, reader.cursor.peek(), reader.cursor.start(), opening);
     reader.note(fault)
 }
 

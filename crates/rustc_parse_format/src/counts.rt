@@ -38,7 +38,7 @@ fn note_number<'input>(
     if !over {
         return Ok(());
     }
-    let fault = Fault::TooLarge(digits, start..reader.stop());
+    let fault = Fault::TooLarge(digits, start..reader.cursor.stop());
     reader.note(fault)
 }
 
@@ -59,7 +59,7 @@ pub fn integer<'input>(reader: &mut Reader<'input>) -> Result<u16, AllocError>
     ensures value { IfOk result (λ n. n ≡ number (digits reader.old.rest)) }
     ensures reads { Reads reader.old result reader.new (behind_digits reader.old.rest) reader.old.next (number_faults reader.old.rest) [] }
 {
-    let start = reader.start();
+    let start = reader.cursor.start();
     let (digits, number, over) = reader.cursor.number();
     note_number(reader, digits, over, start)?;
     Ok(number)
@@ -70,10 +70,11 @@ pub fn word<'input>(reader: &mut Reader<'input>) -> Result<&'input str, AllocErr
     ensures value { IfOk result (λ w. chars w.now ≡ word reader.old.rest) }
     ensures reads { Reads reader.old result reader.new (behind_word reader.old.rest) reader.old.next (word_faults reader.old.rest) [] }
 {
-    let start = reader.start();
+    let start = reader.cursor.start();
     let word = reader.cursor.word();
     reader.cursor.settle();
-    note_word(reader, word, start..reader.start())?;
+    let end = reader.cursor.start();
+    note_word(reader, word, start..end)?;
     Ok(word)
 }
 
@@ -143,11 +144,11 @@ fn counted<'input>(
     ensures reads { Reads reader.old result reader.new (count reader.old.rest).1 reader.old.next (argument_faults reader.old.rest)
         (count_tries reader.old.rest (count reader.old.rest).0) }
 {
-    let start = reader.start();
+    let start = reader.cursor.start();
     let count = count(reader)?;
     let span = match count {
         Count::CountImplied => None,
-        _ => Some(start..reader.start()),
+        _ => Some(start..reader.cursor.start()),
     };
     Ok(WidthPart {
         zero_pad,
@@ -203,13 +204,16 @@ pub fn precision<'input>(
     if !reader.cursor.is_next('.') {
         return Ok((Count::CountImplied, None));
     }
-    let start = reader.start();
-    reader.advance();
+    let start = reader.cursor.start();
+    reader.cursor.advance();
     if reader.cursor.is_next('*') {
         let number = reader.take_number();
-        reader.advance();
-        return Ok((Count::CountIsStar(number), Some(start..reader.start())));
+        reader.cursor.advance();
+        return Ok((
+            Count::CountIsStar(number),
+            Some(start..reader.cursor.start()),
+        ));
     }
     let count = count(reader)?;
-    Ok((count, Some(start..reader.start())))
+    Ok((count, Some(start..reader.cursor.start())))
 }

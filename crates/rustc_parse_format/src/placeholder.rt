@@ -34,16 +34,16 @@ fn prefixed_word<'input>(reader: &mut Reader<'input>) -> Result<&'input str, All
     ensures reads { let p = position reader.old.rest in
         Reads reader.old result reader.new p.1 reader.old.next (position_faults reader.old.rest p.0) [] }
 {
-    let from = reader.start();
+    let from = reader.cursor.start();
     let front = reader.cursor.checkpoint();
-    reader.advance();
+    reader.cursor.advance();
     if !reader.cursor.goes_on_with_word() {
         return Ok(reader.cursor.since(&front));
     }
-    let prefix = from..reader.stop();
-    reader.advance();
+    let prefix = from..reader.cursor.stop();
+    reader.cursor.advance();
     let word = word(reader)?;
-    let span = from..reader.start();
+    let span = from..reader.cursor.start();
     reader.note(Fault::RawIdentifier(span, prefix))?;
     Ok(word)
 }
@@ -109,10 +109,10 @@ fn spaced_position<'input>(
         position_faults reader.old.rest p.0 ≡ []
         → name_faults (seen_mode mode) (given_position p.0) (up_to reader.old.rest (behind_white p.1)) ≡ [] → IsOk result) }
 {
-    let start = reader.start();
+    let start = reader.cursor.start();
     let given = position(reader)?;
     reader.cursor.skip_white();
-    let end = reader.start();
+    let end = reader.cursor.start();
     *span = start..end;
     note_unnamed(mode, &given, start..end, reader)?;
     Ok(given)

@@ -3,7 +3,7 @@
 ghost use Rattle.std.specs.Prelude.{◌≡◌, ◌≢◌, ◌++◌, ◌+◌, ◌<◌, ◌^◌, ◌∷◌, [], ◌↔◌, IfOk, IsOk, IsTrue, None, OnErr, OnOk, Some, chars, length, map, option_map};
 ghost use Rattle.rustc_parse_format.specs.Characters.{behind, behind_first, first, front, is_in_line, is_no_brace, with_first};
 ghost use Rattle.rustc_parse_format.specs.Midway.{HasFoundNothing, IsInOneLine, IsPastIndent, midway, passed_next, read_run, unread_at};
-ghost use Rattle.rustc_parse_format.specs.Marks.{End, Start};
+ghost use Rattle.rustc_parse_format.specs.Marks.{Start};
 ghost use Rattle.rustc_parse_format.specs.Reads.{Reaches};
 ghost use Rattle.rustc_parse_format.specs.Seen.{pair};
 ghost use Rattle.rustc_parse_format.specs.SeenFaults.{seen_fault};
@@ -98,30 +98,6 @@ impl<'input> Reader<'input> {
         self.line_start = front.line_start;
         self.lines = Vec::new(alloc);
         self.closed = None;
-    }
-
-    /// Where the next character starts.
-    #[inline(always)]
-    pub fn start(&self) -> usize
-        ensures { result ≡ number_of self.now.world (Start (length self.now.rest)) }
-    {
-        self.cursor.start()
-    }
-
-    /// Where the next character ends, or where the source ends.
-    #[inline(always)]
-    pub fn stop(&self) -> usize
-        ensures { result ≡ number_of self.now.world (End (length self.now.rest)) }
-    {
-        self.cursor.stop()
-    }
-
-    /// Moves over the next character.
-    #[inline(always)]
-    pub fn advance(&mut self)
-        ensures state { self.new ≡ record self.old { rest = behind_first self.old.rest } }
-    {
-        self.cursor.advance();
     }
 
     /// Notes a fault.

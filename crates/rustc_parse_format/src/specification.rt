@@ -92,9 +92,9 @@ fn spanned_word<'input>(
     if !reader.cursor.starts_word() {
         return Ok(("", None));
     }
-    let start = reader.start();
+    let start = reader.cursor.start();
     let word = word(reader)?;
-    Ok((word, Some(start..reader.start())))
+    Ok((word, Some(start..reader.cursor.start())))
 }
 
 /// A type, the case of its hexadecimal digits, and where it stands if it is a word.
@@ -157,7 +157,7 @@ fn note_flag(reader: &mut Reader<'_>, start: usize) -> Result<(), AllocError>
     if !matches!(flag, '#' | 'x' | 'X') {
         return Ok(());
     }
-    let (from, to) = (reader.start(), reader.stop());
+    let (from, to) = (reader.cursor.start(), reader.cursor.stop());
     let fault = Fault::LateFlag(flag, from..to, start..to);
     reader.note(fault)
 }
@@ -166,8 +166,8 @@ fn note_flag(reader: &mut Reader<'_>, start: usize) -> Result<(), AllocError>
 fn debug_type<'input>(reader: &mut Reader<'input>) -> Result<(), AllocError>
     ensures reads { Reads reader.old result reader.new (behind_first reader.old.rest) reader.old.next (flag_faults reader.old.rest) [] }
 {
-    let start = reader.start();
-    reader.advance();
+    let start = reader.cursor.start();
+    reader.cursor.advance();
     note_flag(reader, start)
 }
 
@@ -290,10 +290,10 @@ fn diagnostic_text<'input>(
         text_faults (seen_mode mode) (front is_no_brace t) (up_to reader.old.rest (behind is_no_brace t)) ≡ []
         → IsInOneLine (record reader.old { rest = t }) → IsOk result) }
 {
-    let start = reader.start();
-    reader.advance();
+    let start = reader.cursor.start();
+    reader.cursor.advance();
     let ty = reader.take_text()?;
-    let end = reader.start();
+    let end = reader.cursor.start();
     format.ty = ty;
     format.ty_span = Some(start..end);
     note_text(mode, ty, start..end, reader)
