@@ -6,6 +6,7 @@ ghost use Rattle.rustc_parse_format.specs.Call.{call};
 ghost use Rattle.rustc_parse_format.specs.Characters.{Text, begins_with, behind_first, first};
 ghost use Rattle.rustc_parse_format.specs.Faults.{brace_fill, no_brace};
 ghost use Rattle.rustc_parse_format.specs.Marks.{End, Span, over_first, up_to};
+ghost use Rattle.rustc_parse_format.specs.Reads.{Reaches};
 ghost use Rattle.rustc_parse_format.specs.Seen.{pair, seen_argument, seen_mode, seen_spec};
 ghost use Rattle.rustc_parse_format.specs.SeenFaults.{seen_fault};
 ghost use Rattle.rustc_parse_format.specs.Midway.{FindsNothing, behind_closing, opens_placeholder, read_call};
@@ -58,7 +59,7 @@ fn note_missing<'input>(
     ensures err { OnErr result (reader.new.source ≡ reader.old.source) }
 {
     let fill = brace_fill(&argument.format);
-    let fault = no_brace(fill, reader.cursor.peek(), reader.start(), opening);
+    let fault = no_brace(fill, reader.cursor.peek(), reader.cursor.start(), opening);
     reader.note(fault)
 }
 
@@ -112,10 +113,8 @@ pub fn read_placeholder<'input>(
     requires numbers { reader.old.next + length reader.old.rest < 2 ^ 64 }
     ensures value { OnOk result (Some (NextArgument (seen_argument into.new)) ≡ option_map (piece_in reader.old.world)
         (call (seen_mode mode) reader.old.next reader.old.rest).piece) }
-    ensures state { OnOk result (reader.new ≡ read_call reader.old (call (seen_mode mode) reader.old.next reader.old.rest)) }
-    ensures err { OnErr result (reader.new.source ≡ reader.old.source) }
-    ensures spare { (let k = call (seen_mode mode) reader.old.next reader.old.rest in
-        FindsNothing reader.old k.faults k.texts → IsOk result) }
+    ensures reads { let k = call (seen_mode mode) reader.old.next reader.old.rest in
+        Reaches reader.old result reader.new (read_call reader.old k) (FindsNothing reader.old k.faults k.texts) }
 {
     let opening = reader.cursor.take_place();
     read_argument(mode, into, reader)?;

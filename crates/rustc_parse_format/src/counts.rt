@@ -1,7 +1,7 @@
 //! Integers, words and counts, and the sizes of a format specification that are made of them: its width and its precision.
 
 ghost use Rattle.std.specs.Prelude.{[], ◌+◌, ◌++◌, ◌<◌, ◌^◌, ◌∷◌, ◌≡◌, bytes_eq, chars, codes};
-ghost use Rattle.std.specs.Prelude.{false, IfOk, if◌then◌else◌, IsOk, length, OnErr, OnOk, option_map, true};
+ghost use Rattle.std.specs.Prelude.{false, IfOk, if◌then◌else◌, length, option_map, true};
 ghost use Rattle.rustc_parse_format.specs.Characters.{behind_digits, behind_word, digits, first_passes, is_id_start, number, word};
 ghost use Rattle.rustc_parse_format.specs.Counts.{behind_name, count, precision, width};
 ghost use Rattle.rustc_parse_format.specs.Faults.{TooLarge, Underscore};
@@ -9,7 +9,7 @@ ghost use Rattle.rustc_parse_format.specs.Marks.{End};
 ghost use Rattle.rustc_parse_format.specs.Meaning.{count_of, count_span, precision_of, precision_span, width_of, width_span};
 ghost use Rattle.rustc_parse_format.specs.PartFaults.{argument_faults, number_faults, precision_faults, width_faults, word_faults};
 ghost use Rattle.rustc_parse_format.specs.Seen.{pair, seen_count};
-ghost use Rattle.rustc_parse_format.specs.Reads.{Reads};
+ghost use Rattle.rustc_parse_format.specs.Reads.{Reaches, Reads};
 ghost use Rattle.rustc_parse_format.specs.Tries.{count_tries, precision_tries, width_tries};
 ghost use Rattle.rustc_parse_format.specs.Types.{map_count};
 ghost use Rattle.rustc_parse_format.specs.Values.{is_padded, number_after_precision};
@@ -30,27 +30,23 @@ fn note_number<'input>(
     over: bool,
     start: usize,
 ) -> Result<(), AllocError>
-    ensures state { OnOk result (reader.new ≡ record reader.old {
+    ensures notes { Reaches reader.old result reader.new (record reader.old {
       faults = reader.old.faults ++ (if over
           then TooLarge (chars digits.entry.now) (start, number_of reader.old.world (End (length reader.old.rest))) ∷ [] else []);
-    }) }
-    ensures err { OnErr result (reader.new.source ≡ reader.old.source) }
-    ensures spare { over ≡ false → IsOk result }
+    }) (over ≡ false) }
 {
     if !over {
         return Ok(());
     }
-    let fault = Fault::TooLarge(digits, start..reader.stop());
+    let fault = Fault::TooLarge(digits, start..reader.cursor.stop());
     reader.note(fault)
 }
 
 /// Notes a word that is `_`.
 fn note_word(reader: &mut Reader<'_>, word: &str, span: Range<usize>) -> Result<(), AllocError>
-    ensures state { OnOk result (reader.new ≡ record reader.old {
+    ensures notes { Reaches reader.old result reader.new (record reader.old {
       faults = reader.old.faults ++ (if bytes_eq (chars word.now) (codes "_") then Underscore (pair span) ∷ [] else []);
-    }) }
-    ensures err { OnErr result (reader.new.source ≡ reader.old.source) }
-    ensures spare { bytes_eq (chars word.now) (codes "_") ≡ false → IsOk result }
+    }) (bytes_eq (chars word.now) (codes "_") ≡ false) }
 {
     if is_underscore(word) {
         return reader.note(Fault::Underscore(span));
@@ -63,7 +59,7 @@ pub fn integer<'input>(reader: &mut Reader<'input>) -> Result<u16, AllocError>
     ensures value { IfOk result (λ n. n ≡ number (digits reader.old.rest)) }
     ensures reads { Reads reader.old result reader.new (behind_digits reader.old.rest) reader.old.next (number_faults reader.old.rest) [] }
 {
-    let start = reader.start();
+    let start = reader.cursor.start();
     let (digits, number, over) = reader.cursor.number();
     note_number(reader, digits, over, start)?;
     Ok(number)
@@ -74,10 +70,11 @@ pub fn word<'input>(reader: &mut Reader<'input>) -> Result<&'input str, AllocErr
     ensures value { IfOk result (λ w. chars w.now ≡ word reader.old.rest) }
     ensures reads { Reads reader.old result reader.new (behind_word reader.old.rest) reader.old.next (word_faults reader.old.rest) [] }
 {
-    let start = reader.start();
+    let start = reader.cursor.start();
     let word = reader.cursor.word();
     reader.cursor.settle();
-    note_word(reader, word, start..reader.start())?;
+    let end = reader.cursor.start();
+    note_word(reader, word, start..end)?;
     Ok(word)
 }
 
@@ -147,11 +144,11 @@ fn counted<'input>(
     ensures reads { Reads reader.old result reader.new (count reader.old.rest).1 reader.old.next (argument_faults reader.old.rest)
         (count_tries reader.old.rest (count reader.old.rest).0) }
 {
-    let start = reader.start();
+    let start = reader.cursor.start();
     let count = count(reader)?;
     let span = match count {
         Count::CountImplied => None,
-        _ => Some(start..reader.start()),
+        _ => Some(start..reader.cursor.start()),
     };
     Ok(WidthPart {
         zero_pad,
@@ -207,13 +204,16 @@ pub fn precision<'input>(
     if !reader.cursor.is_next('.') {
         return Ok((Count::CountImplied, None));
     }
-    let start = reader.start();
-    reader.advance();
+    let start = reader.cursor.start();
+    reader.cursor.advance();
     if reader.cursor.is_next('*') {
         let number = reader.take_number();
-        reader.advance();
-        return Ok((Count::CountIsStar(number), Some(start..reader.start())));
+        reader.cursor.advance();
+        return Ok((
+            Count::CountIsStar(number),
+            Some(start..reader.cursor.start()),
+        ));
     }
     let count = count(reader)?;
-    Ok((count, Some(start..reader.start())))
+    Ok((count, Some(start..reader.cursor.start())))
 }

@@ -10,7 +10,7 @@ ghost use Rattle.rustc_parse_format.specs.PartFaults.{cut_faults, name_faults, p
 ghost use Rattle.rustc_parse_format.specs.Placeholder.{cut, position};
 ghost use Rattle.rustc_parse_format.specs.Seen.{pair, seen_argument, seen_mode, seen_position, seen_spec};
 ghost use Rattle.rustc_parse_format.specs.Midway.{FindsNothing, read_texts, read_to, read_tries};
-ghost use Rattle.rustc_parse_format.specs.Reads.{Reads};
+ghost use Rattle.rustc_parse_format.specs.Reads.{Reaches, Reads};
 ghost use Rattle.rustc_parse_format.specs.Tries.{spec_tries};
 ghost use Rattle.rustc_parse_format.specs.Types.{Implicit, Named, default_spec, map_argument};
 ghost use Rattle.rustc_parse_format.specs.Values.{given_position, number_after_field};
@@ -34,16 +34,16 @@ fn prefixed_word<'input>(reader: &mut Reader<'input>) -> Result<&'input str, All
     ensures reads { let p = position reader.old.rest in
         Reads reader.old result reader.new p.1 reader.old.next (position_faults reader.old.rest p.0) [] }
 {
-    let from = reader.start();
+    let from = reader.cursor.start();
     let front = reader.cursor.checkpoint();
-    reader.advance();
+    reader.cursor.advance();
     if !reader.cursor.goes_on_with_word() {
         return Ok(reader.cursor.since(&front));
     }
-    let prefix = from..reader.stop();
-    reader.advance();
+    let prefix = from..reader.cursor.stop();
+    reader.cursor.advance();
     let word = word(reader)?;
-    let span = from..reader.start();
+    let span = from..reader.cursor.start();
     reader.note(Fault::RawIdentifier(span, prefix))?;
     Ok(word)
 }
@@ -109,10 +109,10 @@ fn spaced_position<'input>(
         position_faults reader.old.rest p.0 ≡ []
         → name_faults (seen_mode mode) (given_position p.0) (up_to reader.old.rest (behind_white p.1)) ≡ [] → IsOk result) }
 {
-    let start = reader.start();
+    let start = reader.cursor.start();
     let given = position(reader)?;
     reader.cursor.skip_white();
-    let end = reader.start();
+    let end = reader.cursor.start();
     *span = start..end;
     note_unnamed(mode, &given, start..end, reader)?;
     Ok(given)
@@ -157,12 +157,9 @@ pub fn read_argument<'input>(
     requires numbers { reader.old.next + 1 + length reader.old.rest < 2 ^ 64 }
     ensures value { OnOk result (seen_argument into.new
         ≡ map_argument (place_of reader.old.world) (argument reader.old.next (cut (seen_mode mode) reader.old.rest))) }
-    ensures state { OnOk result (reader.new ≡ (let a = cut (seen_mode mode) reader.old.rest in
-        read_texts (read_tries (read_to reader.old a.rest (number_after_field reader.old.next a.field) (cut_faults (seen_mode mode) a))
-        (spec_tries a.field.spec a.rest)) (spec_texts a.field.spec a.rest))) }
-    ensures err { OnErr result (reader.new.source ≡ reader.old.source) }
-    ensures spare { (let a = cut (seen_mode mode) reader.old.rest in
-        FindsNothing reader.old (cut_faults (seen_mode mode) a) (spec_texts a.field.spec a.rest) → IsOk result) }
+    ensures reads { let a = cut (seen_mode mode) reader.old.rest in let fs = cut_faults (seen_mode mode) a in
+        Reaches reader.old result reader.new (read_texts (read_tries (read_to reader.old a.rest (number_after_field reader.old.next a.field) fs)
+        (spec_tries a.field.spec a.rest)) (spec_texts a.field.spec a.rest)) (FindsNothing reader.old fs (spec_texts a.field.spec a.rest)) }
 {
     let given = spaced_position(mode, &mut into.position_span, reader)?;
     specification(mode, &mut into.format, reader)?;

@@ -1,6 +1,6 @@
 //! Ranges in order, of which the first few take no memory.
 
-ghost use Rattle.std.specs.Prelude.{◌≡◌, ◌↔◌, ◌++◌, ◌∷◌, [], IsTrue, OnErr, OnOk, length, map, take};
+ghost use Rattle.std.specs.Prelude.{◌≡◌, ◌↔◌, ◌++◌, ◌∷◌, [], IfOk, IsTrue, OnErr, OnOk, length, map, take};
 ghost use Rattle.rustc_parse_format.specs.Seen.{pair};
 
 use std::alloc::{AllocError, Global};
@@ -28,18 +28,17 @@ impl Model for RangeList {
     ghost invariant = { λ l. (length l.few ≡ 2) × (l.held ≤ 2) × (l.held ≢ 0 → l.many.items ≡ []) };
 }
 
-/// Puts two ranges into an empty list, which then has room for more, or nothing where memory is refused.
+/// A list of two ranges, which has room for one more.
 #[inline(never)]
-fn put_two(few: &[Range<usize>; 2], many: &mut Vec<Range<usize>>) -> Result<(), AllocError>
-    requires { many.old.items ≡ [] }
-    ensures ok { OnOk result (map pair many.new.items ≡ map pair few.now) }
-    ensures err { OnErr result (many.new.items ≡ []) }
+fn list_of_two(alloc: Global, few: &[Range<usize>; 2]) -> Result<Vec<Range<usize>>, AllocError>
+    ensures { IfOk result (λ many. map pair many.items ≡ map pair few.now) }
 {
+    let mut many = Vec::new(alloc);
     many.reserve(3)?;
     let [first, second] = few;
     many.push_reserved(first.start..first.end);
     many.push_reserved(second.start..second.end);
-    Ok(())
+    Ok(many)
 }
 
 impl RangeList {
@@ -90,7 +89,7 @@ impl RangeList {
                 self.held += 1;
                 return Ok(());
             }
-            put_two(&self.few, &mut self.many)?;
+            self.many = list_of_two(*self.many.allocator(), &self.few)?;
             self.held = 0;
         }
         self.many.push(range)?;

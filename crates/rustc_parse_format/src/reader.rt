@@ -3,7 +3,8 @@
 ghost use Rattle.std.specs.Prelude.{◌≡◌, ◌≢◌, ◌++◌, ◌+◌, ◌<◌, ◌^◌, ◌∷◌, [], ◌↔◌, IfOk, IsOk, IsTrue, None, OnErr, OnOk, Some, chars, length, map, option_map};
 ghost use Rattle.rustc_parse_format.specs.Characters.{behind, behind_first, first, front, is_in_line, is_no_brace, with_first};
 ghost use Rattle.rustc_parse_format.specs.Midway.{HasFoundNothing, IsCounted, IsInOneLine, IsPastIndent, back_at, midway, passed_next, read_run, unread_at};
-ghost use Rattle.rustc_parse_format.specs.Marks.{End, Start};
+ghost use Rattle.rustc_parse_format.specs.Marks.{Start};
+ghost use Rattle.rustc_parse_format.specs.Reads.{Reaches};
 ghost use Rattle.rustc_parse_format.specs.Seen.{pair};
 ghost use Rattle.rustc_parse_format.specs.SeenFaults.{seen_fault};
 ghost use Rattle.rustc_parse_format.specs.SeenSource.{IsSpot};
@@ -100,30 +101,6 @@ impl<'input> Reader<'input> {
         self.closed = None;
     }
 
-    /// Where the next character starts.
-    #[inline(always)]
-    pub fn start(&self) -> usize
-        ensures { result ≡ number_of self.now.world (Start (length self.now.rest)) }
-    {
-        self.cursor.start()
-    }
-
-    /// Where the next character ends, or where the source ends.
-    #[inline(always)]
-    pub fn stop(&self) -> usize
-        ensures { result ≡ number_of self.now.world (End (length self.now.rest)) }
-    {
-        self.cursor.stop()
-    }
-
-    /// Moves over the next character.
-    #[inline(always)]
-    pub fn advance(&mut self)
-        ensures state { self.new ≡ record self.old { rest = behind_first self.old.rest } }
-    {
-        self.cursor.advance();
-    }
-
     /// Notes a fault.
     pub fn note(&mut self, fault: Fault<'input>) -> Result<(), AllocError>
         ensures state { OnOk result (self.new ≡ record self.old { faults = self.old.faults ++ seen_fault fault.entry ∷ [] }) }
@@ -168,9 +145,7 @@ impl<'input> Reader<'input> {
     /// Reads the run of text at the front.
     pub fn take_text(&mut self) -> Result<&'input str, AllocError>
         ensures value { IfOk result (λ t. chars t.now ≡ front is_no_brace self.old.rest) }
-        ensures state { OnOk result (self.new ≡ read_run self.old) }
-        ensures spare { IsInOneLine self.old → IsOk result }
-        ensures err { OnErr result (self.new.source ≡ self.old.source) }
+        ensures reads { Reaches self.old result self.new (read_run self.old) (IsInOneLine self.old) }
     {
         let from = self.cursor.checkpoint();
         self.skip_text()?;
@@ -180,9 +155,7 @@ impl<'input> Reader<'input> {
     /// Reads the next character, and the run of text after it, which alone counts as text for the lines.
     pub fn take_text_behind_first(&mut self) -> Result<&'input str, AllocError>
         ensures value { IfOk result (λ t. chars t.now ≡ with_first self.old.rest (front is_no_brace (behind_first self.old.rest))) }
-        ensures state { OnOk result (self.new ≡ read_run (record self.old { rest = behind_first self.old.rest })) }
-        ensures spare { IsInOneLine (record self.old { rest = behind_first self.old.rest }) → IsOk result }
-        ensures err { OnErr result (self.new.source ≡ self.old.source) }
+        ensures reads { let s = record self.old { rest = behind_first self.old.rest } in Reaches self.old result self.new (read_run s) (IsInOneLine s) }
     {
         let from = self.cursor.checkpoint();
         self.cursor.advance();
@@ -192,9 +165,7 @@ impl<'input> Reader<'input> {
 
     /// Moves over the run of text at the front, in a source literal line by line.
     fn skip_text(&mut self) -> Result<(), AllocError>
-        ensures state { OnOk result (self.new ≡ read_run self.old) }
-        ensures spare { IsInOneLine self.old → IsOk result }
-        ensures err { OnErr result (self.new.source ≡ self.old.source) }
+        ensures reads { Reaches self.old result self.new (read_run self.old) (IsInOneLine self.old) }
     {
         if self.cursor.is_source_literal() {
             return self.skip_lines();
@@ -206,9 +177,7 @@ impl<'input> Reader<'input> {
     /// Moves over the run of text at the front of a source literal, line by line.
     fn skip_lines(&mut self) -> Result<(), AllocError>
         requires { IsTrue self.old.world.has_source }
-        ensures state { OnOk result (self.new ≡ read_run self.old) }
-        ensures spare { IsInOneLine self.old → IsOk result }
-        ensures err { OnErr result (self.new.source ≡ self.old.source) }
+        ensures reads { Reaches self.old result self.new (read_run self.old) (IsInOneLine self.old) }
     {
         while let Some(c) = self.cursor.peek() {
             if !Class::Text.passes(c) {

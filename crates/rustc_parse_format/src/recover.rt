@@ -49,11 +49,11 @@ fn take_sign<'input>(
         (sign_fault sign next (place_of reader.old.world (over_first reader.old.rest)) (pair opening))) }
     ensures err { OnErr result (reader.new.source ≡ reader.old.source) }
 {
-    let span = reader.start()..reader.stop();
+    let span = reader.cursor.start()..reader.cursor.stop();
     let Some(fault) = sign_fault(sign, next, span, opening) else {
         return Ok(());
     };
-    reader.advance();
+    reader.cursor.advance();
     reader.note(fault)
 }
 
@@ -63,8 +63,8 @@ fn late_debug<'input>(reader: &mut Reader<'input>) -> Result<(), AllocError>
     ensures state { OnOk result (reader.new ≡ recovered reader.old (late_debug reader.old.next reader.old.rest)) }
     ensures err { OnErr result (reader.new.source ≡ reader.old.source) }
 {
-    let span = reader.start()..reader.stop();
-    reader.advance();
+    let span = reader.cursor.start()..reader.cursor.stop();
+    reader.cursor.advance();
     if !reader.cursor.take_char(':') {
         return Ok(());
     }

@@ -9,7 +9,7 @@ ghost use Rattle.rustc_parse_format.specs.PartFaults.{flag_faults, format_faults
 ghost use Rattle.rustc_parse_format.specs.Seen.{pair, seen_alignment, seen_debug_hex, seen_mode, seen_sign, seen_spec};
 ghost use Rattle.rustc_parse_format.specs.Specification.{align, alternate, fill, format_text, sign, specification, type};
 ghost use Rattle.rustc_parse_format.specs.Midway.{FindsNothing, IsInOneLine, read_run, read_texts, read_to, read_tries};
-ghost use Rattle.rustc_parse_format.specs.Reads.{Reads};
+ghost use Rattle.rustc_parse_format.specs.Reads.{Reaches, Reads};
 ghost use Rattle.rustc_parse_format.specs.Tries.{format_tries, spec_tries};
 ghost use Rattle.rustc_parse_format.specs.Types.{default_spec, map_spec};
 ghost use Rattle.rustc_parse_format.specs.Values.{debug_hex_of, number_after_precision, number_after_spec, type_of};
@@ -92,9 +92,9 @@ fn spanned_word<'input>(
     if !reader.cursor.starts_word() {
         return Ok(("", None));
     }
-    let start = reader.start();
+    let start = reader.cursor.start();
     let word = word(reader)?;
-    Ok((word, Some(start..reader.start())))
+    Ok((word, Some(start..reader.cursor.start())))
 }
 
 /// A type, the case of its hexadecimal digits, and where it stands if it is a word.
@@ -157,7 +157,7 @@ fn note_flag(reader: &mut Reader<'_>, start: usize) -> Result<(), AllocError>
     if !matches!(flag, '#' | 'x' | 'X') {
         return Ok(());
     }
-    let (from, to) = (reader.start(), reader.stop());
+    let (from, to) = (reader.cursor.start(), reader.cursor.stop());
     let fault = Fault::LateFlag(flag, from..to, start..to);
     reader.note(fault)
 }
@@ -166,8 +166,8 @@ fn note_flag(reader: &mut Reader<'_>, start: usize) -> Result<(), AllocError>
 fn debug_type<'input>(reader: &mut Reader<'input>) -> Result<(), AllocError>
     ensures reads { Reads reader.old result reader.new (behind_first reader.old.rest) reader.old.next (flag_faults reader.old.rest) [] }
 {
-    let start = reader.start();
-    reader.advance();
+    let start = reader.cursor.start();
+    reader.cursor.advance();
     note_flag(reader, start)
 }
 
@@ -290,10 +290,10 @@ fn diagnostic_text<'input>(
         text_faults (seen_mode mode) (front is_no_brace t) (up_to reader.old.rest (behind is_no_brace t)) ≡ []
         → IsInOneLine (record reader.old { rest = t }) → IsOk result) }
 {
-    let start = reader.start();
-    reader.advance();
+    let start = reader.cursor.start();
+    reader.cursor.advance();
     let ty = reader.take_text()?;
-    let end = reader.start();
+    let end = reader.cursor.start();
     format.ty = ty;
     format.ty_span = Some(start..end);
     note_text(mode, ty, start..end, reader)
@@ -310,12 +310,9 @@ pub fn specification<'input>(
     requires numbers { reader.old.next + length reader.old.rest < 2 ^ 64 }
     ensures value { OnOk result (seen_spec format.new ≡ map_spec (place_of reader.old.world) (spec_of reader.old.next reader.old.rest
         (specification (seen_mode mode) reader.old.rest).0 (specification (seen_mode mode) reader.old.rest).1)) }
-    ensures state { OnOk result (reader.new ≡ (let s = specification (seen_mode mode) reader.old.rest in
-        read_texts (read_tries (read_to reader.old s.1 (number_after_spec reader.old.next s.0) (spec_faults (seen_mode mode) reader.old.rest s.0 s.1))
-        (spec_tries s.0 s.1)) (spec_texts s.0 s.1))) }
-    ensures err { OnErr result (reader.new.source ≡ reader.old.source) }
-    ensures spare { (let s = specification (seen_mode mode) reader.old.rest in
-        FindsNothing reader.old (spec_faults (seen_mode mode) reader.old.rest s.0 s.1) (spec_texts s.0 s.1) → IsOk result) }
+    ensures reads { let s = specification (seen_mode mode) reader.old.rest in let fs = spec_faults (seen_mode mode) reader.old.rest s.0 s.1 in
+        Reaches reader.old result reader.new (read_texts (read_tries (read_to reader.old s.1 (number_after_spec reader.old.next s.0) fs)
+        (spec_tries s.0 s.1)) (spec_texts s.0 s.1)) (FindsNothing reader.old fs (spec_texts s.0 s.1)) }
 {
     reader.cursor.steps_are_few();
     if !reader.cursor.is_next(':') {

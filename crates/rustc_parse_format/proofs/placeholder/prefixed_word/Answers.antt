@@ -1,5 +1,8 @@
-use Rattle.std.proofs.Common.{◌≡◌, ◌++◌, ◌∙◌, [], ◌∷◌, Some, false, ap, chars, refl, rules, sym}
-use Rattle.rustc_parse_format.specs.Midway.{Midway, Unread}
+use Rattle.std.proofs.Common.{◌≡◌, ◌++◌, ◌∙◌, [], ◌∷◌, Some, ap, chars, map, refl, sym}
+use Rattle.std.specs.Prelude.{option_map}
+use Rattle.rustc_parse_format.specs.Seen.{pair}
+use Rattle.rustc_parse_format.specs.SeenFaults.{seen_fault}
+use Rattle.rustc_parse_format.specs.Midway.{Midway, Unread, midway}
 use Rattle.rustc_parse_format.specs.Characters.{Text, behind_first, first_passes, is_id_start}
 use Rattle.rustc_parse_format.specs.PartFaults.{position_faults}
 use Rattle.rustc_parse_format.specs.Placeholder.{position}
@@ -11,14 +14,14 @@ use Rattle.rustc_parse_format.proofs.Readers.{read_nothing}
 use Rattle.rustc_parse_format.proofs.placeholder.prefixed_word.Goals as goal
 use Rattle.rustc_parse_format.proofs.placeholder.prefixed_word.Goals.{After-front-1}
 
-left : (c : After-front-1) → ◌≡◌ {A = Text} c.reader-2.inside.cursor.rest (behind_first c.args.reader.now.rest)
-left c = ap (λ (s : Midway). s.rest) (c.reader-2.view_is ∙ c.advance.ensures.state)
+left : (c : After-front-1) → ◌≡◌ {A = Text} c.advance.new.self.rest (behind_first c.args.reader.now.rest)
+left c = ap (λ (u : Unread). u.rest) c.advance.ensures.rest ∙ ap (λ (m : Midway). behind_first m.rest) c.reader.view_is
 
 -- the `r`, and what is left behind it
-whole : (c : After-front-1) → ◌≡◌ {A = Text} (chars c.checkpoint-front.result.spot.rest.now) (114 ∷ c.reader-2.inside.cursor.rest)
+whole : (c : After-front-1) → ◌≡◌ {A = Text} (chars c.checkpoint-front.result.spot.rest.now) (114 ∷ c.advance.new.self.rest)
 whole c =
     sym (ap (λ (u : Unread). u.rest) c.checkpoint-front.ensures.at)
-    ∙ (ap (λ (s : Midway). s.rest) c.reader.view_is ∙ (r-whole c.args.reader.now.rest c.requires ∙ ap (λ (u : Text). 114 ∷ u) (sym (left c))))
+    ∙ (ap (λ (m : Midway). m.rest) c.reader.view_is ∙ (r-whole c.args.reader.now.rest c.requires ∙ ap (λ (u : Text). 114 ∷ u) (sym (left c))))
 
 -- the word is that
 alone : (c : After-front-1) → position c.args.reader.now.rest ≡ (Word (114 ∷ []), behind_first c.args.reader.now.rest)
@@ -36,9 +39,15 @@ returns-then-not-goes_on_with_word-clause-value c =
 pub returns-then-not-goes_on_with_word-clause-reads : goal.returns-then-not-goes_on_with_word-clause-reads
 returns-then-not-goes_on_with_word-clause-reads c =
     let s = c.args.reader.now in
+    let r = c.reader.inside in
     let here = alone c.before.before in
+    let moved = ap (λ (u : Unread). record (midway u r.curarg r.line_start) {
+      faults = map seen_fault r.found.items;
+      lines = map pair r.lines.items;
+      closed = option_map pair r.closed;
+    }) c.advance.ensures.rest ∙ ap (λ (m : Midway). record m { rest = behind_first m.rest }) c.reader.view_is in
     record {
-      state = c.advance.ensures.state ∙ read_nothing (record s { rest = behind_first s.rest }) (position s.rest).1 (position_faults s.rest (position s.rest).0)
+      state = moved ∙ read_nothing (record s { rest = behind_first s.rest }) (position s.rest).1 (position_faults s.rest (position s.rest).0)
           (ap (λ (x : PositionText × Text). x.1) here)
           (ap (λ (x : PositionText × Text). position_faults s.rest x.0) here ∙ r-faultless s.rest c.requires);
       err = tt;

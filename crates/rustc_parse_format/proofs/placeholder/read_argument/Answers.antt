@@ -1,4 +1,4 @@
-use Rattle.std.proofs.Common.{◌∙◌, ap, arith, length, refl}
+use Rattle.std.proofs.Common.{◌∙◌, ap, arith, length, refl, rules}
 use Rattle.std.proofs.lemmas.Bool.{false≢true}
 use Rattle.std.specs.Prelude.{option_map}
 use Rattle.rustc_parse_format.specs.Meaning.{argument}
@@ -32,7 +32,7 @@ position_of-into-requires c =
     let t = c.args.reader.now.rest in
     let a = c.in_ok-given.ensures in
     let read = rw a.span at a.state in
-    let state = rw read at c.in_ok-specification.ensures.state in
+    let state = rw read at c.in_ok-specification.ensures.reads.state in
     omega (
       arith,
       IsRest-le (position_rest t),
@@ -47,28 +47,39 @@ unfolding argument cut
 returns-clause-value c =
     let a = c.in_ok-given.ensures in
     let read = rw a.span at a.state in
-    let state = rw read at c.in_ok-specification.ensures.state in
+    let state = rw read at c.in_ok-specification.ensures.reads.state in
     let spec = rw read at c.in_ok-specification.ensures.value in
     let position = rw (state, a.value) at c.position_of-into.ensures.value in
     rw (position, a.span, spec) refl
 
-pub returns-clause-state : goal.returns-clause-state
-returns-clause-state c =
+pub returns-clause-reads : goal.returns-clause-reads
+returns-clause-reads c =
     let a = c.in_ok-given.ensures in
     let read = rw a.span at a.state in
-    let state = rw read at c.in_ok-specification.ensures.state in
-    rw state at c.position_of-into.ensures.state
-    ∙ argument_read c.args.reader.now (seen_mode c.args.mode) (option_map seen_position c.in_ok-given.given) a.value
+    let state = rw read at c.in_ok-specification.ensures.reads.state in
+    record {
+      state = rw state at c.position_of-into.ensures.state
+          ∙ argument_read c.args.reader.now (seen_mode c.args.mode) (option_map seen_position c.in_ok-given.given) a.value;
+      err = tt;
+      spare = λ none. refl;
+    }
 
-pub returns-in_err-given-clause-spare : goal.returns-in_err-given-clause-spare
+pub returns-in_err-given-clause-reads : goal.returns-in_err-given-clause-reads
 unfolding cut cut_faults
-returns-in_err-given-clause-spare c h =
-    let given = none_left _ _ h.0 in absurd (false≢true (c.in_err-given.ensures.spare (none_left _ _ given) (none_right _ _ given)))
+returns-in_err-given-clause-reads c = record {
+  state = search rules;
+  err = search rules;
+  spare = λ h. let given = none_left _ _ h.0 in absurd (false≢true (c.in_err-given.ensures.spare (none_left _ _ given) (none_right _ _ given)));
+}
 
-pub returns-in_err-specification-clause-spare : goal.returns-in_err-specification-clause-spare
+pub returns-in_err-specification-clause-reads : goal.returns-in_err-specification-clause-reads
 unfolding cut cut_faults
-returns-in_err-specification-clause-spare c h =
+returns-in_err-specification-clause-reads c =
     let a = c.in_ok-given.ensures in
     let read = rw a.span at a.state in
-    let spare = rw read at c.in_err-specification.ensures.spare in
-    absurd (false≢true (spare (none_right _ _ h.0, h.1)))
+    let spare = rw read at c.in_err-specification.ensures.reads.spare in
+    record {
+      state = search rules;
+      err = search rules;
+      spare = λ h. absurd (false≢true (spare (none_right _ _ h.0, h.1)));
+    }

@@ -17,7 +17,7 @@ returns-clause-fronts c =
     let r = c.self.inside.reader in
     let s = c.args.self.now in
     let read : ◌≡◌ {A = Midway} c.read_placeholder.new.reader (read_call r (next_call s)) =
-    c.in-Ok.ensures.state ∙ ap (λ (x : State). read_call r (next_call x)) c.self.view_is in
+    c.in-Ok.ensures.reads.state ∙ ap (λ (x : State). read_call r (next_call x)) c.self.view_is in
     let found : c.read_placeholder.new.reader.faults ≡ faults_in s.world (next_call s).faults =
     ap (λ (m : Midway). m.faults) read
     ∙ ap (λ (fs : List (Fault Place)). fs ++ faults_in r.world (next_call s).faults) c.self.invariant.1.0
@@ -30,7 +30,7 @@ returns-in_default-clause-spare c n =
     let s = c.args.self.now in
     let none = finds_nothing s r (next_call s) (opens-some s.rest c.requires.opens) (ap (λ (x : State). x.world) c.self.view_is)
     (ap (λ (x : State). x.line_start) c.self.view_is) n in
-    c.in_default.ensures.spare (subst (λ (x : State). FindsNothing r (next_call x).faults (next_call x).texts) (sym c.self.view_is) none)
+    c.in_default.ensures.reads.spare (subst (λ (x : State). FindsNothing r (next_call x).faults (next_call x).texts) (sym c.self.view_is) none)
 
 pub returns-in_default-take_over-clause-spare : goal.returns-in_default-take_over-clause-spare
 returns-in_default-take_over-clause-spare c n =
@@ -39,7 +39,7 @@ returns-in_default-take_over-clause-spare c n =
     let none = nothing_found s r (next_call s) (opens-some s.rest c.requires.opens) c.self.invariant.1 (ap (λ (x : State). x.world) c.self.view_is)
     (ap (λ (x : State). x.line_start) c.self.view_is) n in
     let read : ◌≡◌ {A = Midway} c.read_placeholder.new.reader (read_call r (next_call s)) =
-    c.in-Ok.ensures.state ∙ ap (λ (x : State). read_call r (next_call x)) c.self.view_is in
+    c.in-Ok.ensures.reads.state ∙ ap (λ (x : State). read_call r (next_call x)) c.self.view_is in
     c.in_default-take_over.ensures.none (subst HasFoundNothing (sym read) none)
 
 pub invariant_of-self-in-Ok-take_over : goal.invariant_of-self-in-Ok-take_over
@@ -47,4 +47,4 @@ invariant_of-self-in-Ok-take_over c =
     let most = call_next-le (seen_mode c.self.inside.mode) c.self.inside.reader.next c.self.inside.reader.rest in
     let fits = c.self.invariant.0 in
     let taken : ◌≡◌ {A = Midway} c.take_over.new.reader (record c.read_placeholder.new.reader { faults = []; lines = []; closed = None }) = search rules in
-    rw (taken, c.in-Ok.ensures.state) (omega arith, (refl, refl, refl))
+    rw (taken, c.in-Ok.ensures.reads.state) (omega arith, (refl, refl, refl))

@@ -50,9 +50,15 @@ loop-c-preserved-in-Continue-1 c =
       spare = λ one. subst IsInOneLine (sym ended.state) (one_line-step s 10 before.source next refl (before.spare one));
     }
 
-pub returns-in_err-take_newline-clause-spare : goal.returns-in_err-take_newline-clause-spare
-returns-in_err-take_newline-clause-spare c one =
+pub returns-in_err-take_newline : goal.returns-in_err-take_newline
+returns-in_err-take_newline c =
     let s = c.loop-c.self in
     let before = c.loop-c.invariant in
     let next : first s.rest ≡ Some 10 = search rules in
-    absurd (one_line-no_newline s 10 before.source next refl (before.spare one) refl)
+    record {
+      reads = record {
+        state = search rules;
+        err = search rules;
+        spare = λ one. absurd (one_line-no_newline s 10 before.source next refl (before.spare one) refl);
+      };
+    }

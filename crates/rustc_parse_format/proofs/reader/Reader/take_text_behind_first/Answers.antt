@@ -9,7 +9,7 @@ since-requires c =
     let t : Text = c.args.self.now.rest in
     let read : Text = with_first t (front is_no_brace (behind_first t)) in
     let left : ◌≡◌ {A = Text} c.self-2.inside.cursor.rest (behind is_no_brace (behind_first t)) =
-    (ap (λ (s : Midway). s.rest) (c.self-2.view_is ∙ c.in_ok-skip_text.ensures.state) ∙ ap (behind is_no_brace)
+    (ap (λ (s : Midway). s.rest) (c.self-2.view_is ∙ c.in_ok-skip_text.ensures.reads.state) ∙ ap (behind is_no_brace)
     (ap (λ (u : Unread). u.rest) c.advance.ensures.rest ∙ ap (λ (s : Midway). behind_first s.rest) c.self.view_is)) in (
       read,
       sym (ap (λ (u : Unread). u.rest) c.checkpoint-from.ensures.at)
@@ -21,7 +21,7 @@ returns-clause-value c =
     let t : Text = c.args.self.now.rest in
     let read : Text = with_first t (front is_no_brace (behind_first t)) in
     let left : ◌≡◌ {A = Text} c.self-2.inside.cursor.rest (behind is_no_brace (behind_first t)) =
-    (ap (λ (s : Midway). s.rest) (c.self-2.view_is ∙ c.in_ok-skip_text.ensures.state) ∙ ap (behind is_no_brace)
+    (ap (λ (s : Midway). s.rest) (c.self-2.view_is ∙ c.in_ok-skip_text.ensures.reads.state) ∙ ap (behind is_no_brace)
     (ap (λ (u : Unread). u.rest) c.advance.ensures.rest ∙ ap (λ (s : Midway). behind_first s.rest) c.self.view_is)) in
     c.since.ensures read (sym (ap (λ (u : Unread). u.rest) c.checkpoint-from.ensures.at)
     ∙ (ap (λ (s : Midway). s.rest) c.self.view_is ∙ (first-behind is_no_brace t ∙ ap (λ (u : Text). read ++ u) (sym left))))
