@@ -51,7 +51,7 @@ fn note_missing<'input>(
     reader: &mut Reader<'input>,
 ) -> Result<(), AllocError> {
     let fill = brace_fill(&argument.format);
-    let fault = no_brace(fill, reader.cursor.peek(), reader.start(), opening);
+    let fault = no_brace(fill, reader.cursor.peek(), reader.cursor.start(), opening);
     reader.note(fault)
 }
 
@@ -98,10 +98,8 @@ fn close<'input>(
 // requires numbers { reader.old.next + length reader.old.rest < 2 ^ 64 }
 // ensures value { OnOk result (Some (NextArgument (seen_argument into.new)) ≡ option_map (piece_in reader.old.world)
 //     (call (seen_mode mode) reader.old.next reader.old.rest).piece) }
-// ensures state { OnOk result (reader.new ≡ read_call reader.old (call (seen_mode mode) reader.old.next reader.old.rest)) }
-// ensures err { OnErr result (reader.new.source ≡ reader.old.source) }
-// ensures spare { (let k = call (seen_mode mode) reader.old.next reader.old.rest in
-//     FindsNothing reader.old k.faults k.texts → IsOk result) }
+// ensures reads { let k = call (seen_mode mode) reader.old.next reader.old.rest in
+//     Reaches reader.old result reader.new (read_call reader.old k) (FindsNothing reader.old k.faults k.texts) }
 #[inline]
 pub fn read_placeholder<'input>(
     mode: ParseMode,

@@ -13,12 +13,10 @@ use crate::shim::alloc::AllocError;
 use std::ops::Range;
 
 /// Notes digits that start at a byte, and whose number is above 65535. Their span takes in the next character.
-// ensures state { OnOk result (reader.new ≡ record reader.old {
+// ensures notes { Reaches reader.old result reader.new (record reader.old {
 //   faults = reader.old.faults ++ (if over
 //       then TooLarge (chars digits.entry.now) (start, number_of reader.old.world (End (length reader.old.rest))) ∷ [] else []);
-// }) }
-// ensures err { OnErr result (reader.new.source ≡ reader.old.source) }
-// ensures spare { over ≡ false → IsOk result }
+// }) (over ≡ false) }
 #[inline]
 fn note_number<'input>(
     reader: &mut Reader<'input>,
@@ -29,16 +27,14 @@ fn note_number<'input>(
     if !over {
         return Ok(());
     }
-    let fault = Fault::TooLarge(digits, start..reader.stop());
+    let fault = Fault::TooLarge(digits, start..reader.cursor.stop());
     reader.note(fault)
 }
 
 /// Notes a word that is `_`.
-// ensures state { OnOk result (reader.new ≡ record reader.old {
+// ensures notes { Reaches reader.old result reader.new (record reader.old {
 //   faults = reader.old.faults ++ (if bytes_eq (chars word.now) (codes "_") then Underscore (pair span) ∷ [] else []);
-// }) }
-// ensures err { OnErr result (reader.new.source ≡ reader.old.source) }
-// ensures spare { bytes_eq (chars word.now) (codes "_") ≡ false → IsOk result }
+// }) (bytes_eq (chars word.now) (codes "_") ≡ false) }
 #[inline]
 fn note_word(reader: &mut Reader<'_>, word: &str, span: Range<usize>) -> Result<(), AllocError> {
     if is_underscore(word) {
@@ -52,7 +48,7 @@ fn note_word(reader: &mut Reader<'_>, word: &str, span: Range<usize>) -> Result<
 // ensures reads { Reads reader.old result reader.new (behind_digits reader.old.rest) reader.old.next (number_faults reader.old.rest) [] }
 #[inline]
 pub fn integer<'input>(reader: &mut Reader<'input>) -> Result<u16, AllocError> {
-    let start = reader.start();
+    let start = reader.cursor.start();
     let (digits, number, over) = reader.cursor.number();
     note_number(reader, digits, over, start)?;
     Ok(number)
@@ -63,10 +59,11 @@ pub fn integer<'input>(reader: &mut Reader<'input>) -> Result<u16, AllocError> {
 // ensures reads { Reads reader.old result reader.new (behind_word reader.old.rest) reader.old.next (word_faults reader.old.rest) [] }
 #[inline]
 pub fn word<'input>(reader: &mut Reader<'input>) -> Result<&'input str, AllocError> {
-    let start = reader.start();
+    let start = reader.cursor.start();
     let word = reader.cursor.word();
     reader.cursor.settle();
-    note_word(reader, word, start..reader.start())?;
+    let end = reader.cursor.start();
+    note_word(reader, word, start..end)?;
     Ok(word)
 }
 
@@ -132,11 +129,11 @@ fn counted<'input>(
     zero_pad: bool,
     reader: &mut Reader<'input>,
 ) -> Result<WidthPart<'input>, AllocError> {
-    let start = reader.start();
+    let start = reader.cursor.start();
     let count = count(reader)?;
     let span = match count {
         Count::CountImplied => None,
-        _ => Some(start..reader.start()),
+        _ => Some(start..reader.cursor.start()),
     };
     Ok(WidthPart {
         zero_pad,
@@ -190,13 +187,16 @@ pub fn precision<'input>(
     if !reader.cursor.is_next('.') {
         return Ok((Count::CountImplied, None));
     }
-    let start = reader.start();
-    reader.advance();
+    let start = reader.cursor.start();
+    reader.cursor.advance();
     if reader.cursor.is_next('*') {
         let number = reader.take_number();
-        reader.advance();
-        return Ok((Count::CountIsStar(number), Some(start..reader.start())));
+        reader.cursor.advance();
+        return Ok((
+            Count::CountIsStar(number),
+            Some(start..reader.cursor.start()),
+        ));
     }
     let count = count(reader)?;
-    Ok((count, Some(start..reader.start())))
+    Ok((count, Some(start..reader.cursor.start())))
 }

@@ -22,16 +22,16 @@ use std::ops::Range;
 //     Reads reader.old result reader.new p.1 reader.old.next (position_faults reader.old.rest p.0) [] }
 #[inline]
 fn prefixed_word<'input>(reader: &mut Reader<'input>) -> Result<&'input str, AllocError> {
-    let from = reader.start();
+    let from = reader.cursor.start();
     let front = reader.cursor.checkpoint();
-    reader.advance();
+    reader.cursor.advance();
     if !reader.cursor.goes_on_with_word() {
         return Ok(reader.cursor.since(&front));
     }
-    let prefix = from..reader.stop();
-    reader.advance();
+    let prefix = from..reader.cursor.stop();
+    reader.cursor.advance();
     let word = word(reader)?;
-    let span = from..reader.start();
+    let span = from..reader.cursor.start();
     reader.note(Fault::RawIdentifier(span, prefix))?;
     Ok(word)
 }
@@ -96,10 +96,10 @@ fn spaced_position<'input>(
     span: &mut Range<usize>,
     reader: &mut Reader<'input>,
 ) -> Result<Option<Position<'input>>, AllocError> {
-    let start = reader.start();
+    let start = reader.cursor.start();
     let given = position(reader)?;
     reader.cursor.skip_white();
-    let end = reader.start();
+    let end = reader.cursor.start();
     *span = start..end;
     note_unnamed(mode, &given, start..end, reader)?;
     Ok(given)
@@ -138,12 +138,9 @@ pub fn blank_argument<'input>() -> Argument<'input> {
 // requires numbers { reader.old.next + 1 + length reader.old.rest < 2 ^ 64 }
 // ensures value { OnOk result (seen_argument into.new
 //     ≡ map_argument (place_of reader.old.world) (argument reader.old.next (cut (seen_mode mode) reader.old.rest))) }
-// ensures state { OnOk result (reader.new ≡ (let a = cut (seen_mode mode) reader.old.rest in
-//     read_texts (read_tries (read_to reader.old a.rest (number_after_field reader.old.next a.field) (cut_faults (seen_mode mode) a))
-//     (spec_tries a.field.spec a.rest)) (spec_texts a.field.spec a.rest))) }
-// ensures err { OnErr result (reader.new.source ≡ reader.old.source) }
-// ensures spare { (let a = cut (seen_mode mode) reader.old.rest in
-//     FindsNothing reader.old (cut_faults (seen_mode mode) a) (spec_texts a.field.spec a.rest) → IsOk result) }
+// ensures reads { let a = cut (seen_mode mode) reader.old.rest in let fs = cut_faults (seen_mode mode) a in
+//     Reaches reader.old result reader.new (read_texts (read_tries (read_to reader.old a.rest (number_after_field reader.old.next a.field) fs)
+//     (spec_tries a.field.spec a.rest)) (spec_texts a.field.spec a.rest)) (FindsNothing reader.old fs (spec_texts a.field.spec a.rest)) }
 #[inline]
 pub fn read_argument<'input>(
     mode: ParseMode,

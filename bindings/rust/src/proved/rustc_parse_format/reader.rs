@@ -42,27 +42,6 @@ impl<'input> Reader<'input> {
         }
     }
 
-    /// Where the next character starts.
-    // ensures { result ≡ number_of self.now.world (Start (length self.now.rest)) }
-    #[inline(always)]
-    pub fn start(&self) -> usize {
-        self.cursor.start()
-    }
-
-    /// Where the next character ends, or where the source ends.
-    // ensures { result ≡ number_of self.now.world (End (length self.now.rest)) }
-    #[inline(always)]
-    pub fn stop(&self) -> usize {
-        self.cursor.stop()
-    }
-
-    /// Moves over the next character.
-    // ensures state { self.new ≡ record self.old { rest = behind_first self.old.rest } }
-    #[inline(always)]
-    pub fn advance(&mut self) {
-        self.cursor.advance();
-    }
-
     /// Notes a fault.
     // ensures state { OnOk result (self.new ≡ record self.old { faults = self.old.faults ++ seen_fault fault.entry ∷ [] }) }
     // ensures source { self.new.source ≡ self.old.source }
@@ -99,9 +78,7 @@ impl<'input> Reader<'input> {
 
     /// Reads the run of text at the front.
     // ensures value { IfOk result (λ t. chars t.now ≡ front is_no_brace self.old.rest) }
-    // ensures state { OnOk result (self.new ≡ read_run self.old) }
-    // ensures spare { IsInOneLine self.old → IsOk result }
-    // ensures err { OnErr result (self.new.source ≡ self.old.source) }
+    // ensures reads { Reaches self.old result self.new (read_run self.old) (IsInOneLine self.old) }
     #[inline]
     pub fn take_text(&mut self) -> Result<&'input str, AllocError> {
         let from = self.cursor.checkpoint();
@@ -111,9 +88,7 @@ impl<'input> Reader<'input> {
 
     /// Reads the next character, and the run of text after it, which alone counts as text for the lines.
     // ensures value { IfOk result (λ t. chars t.now ≡ with_first self.old.rest (front is_no_brace (behind_first self.old.rest))) }
-    // ensures state { OnOk result (self.new ≡ read_run (record self.old { rest = behind_first self.old.rest })) }
-    // ensures spare { IsInOneLine (record self.old { rest = behind_first self.old.rest }) → IsOk result }
-    // ensures err { OnErr result (self.new.source ≡ self.old.source) }
+    // ensures reads { let s = record self.old { rest = behind_first self.old.rest } in Reaches self.old result self.new (read_run s) (IsInOneLine s) }
     #[inline]
     pub fn take_text_behind_first(&mut self) -> Result<&'input str, AllocError> {
         let from = self.cursor.checkpoint();
@@ -123,9 +98,7 @@ impl<'input> Reader<'input> {
     }
 
     /// Moves over the run of text at the front, in a source literal line by line.
-    // ensures state { OnOk result (self.new ≡ read_run self.old) }
-    // ensures spare { IsInOneLine self.old → IsOk result }
-    // ensures err { OnErr result (self.new.source ≡ self.old.source) }
+    // ensures reads { Reaches self.old result self.new (read_run self.old) (IsInOneLine self.old) }
     #[inline]
     fn skip_text(&mut self) -> Result<(), AllocError> {
         if self.cursor.is_source_literal() {
@@ -137,9 +110,7 @@ impl<'input> Reader<'input> {
 
     /// Moves over the run of text at the front of a source literal, line by line.
     // requires { IsTrue self.old.world.has_source }
-    // ensures state { OnOk result (self.new ≡ read_run self.old) }
-    // ensures spare { IsInOneLine self.old → IsOk result }
-    // ensures err { OnErr result (self.new.source ≡ self.old.source) }
+    // ensures reads { Reaches self.old result self.new (read_run self.old) (IsInOneLine self.old) }
     #[inline]
     fn skip_lines(&mut self) -> Result<(), AllocError> {
         while let Some(c) = self.cursor.peek() {

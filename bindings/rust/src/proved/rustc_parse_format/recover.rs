@@ -43,11 +43,11 @@ fn take_sign<'input>(
     opening: Range<usize>,
     reader: &mut Reader<'input>,
 ) -> Result<(), AllocError> {
-    let span = reader.start()..reader.stop();
+    let span = reader.cursor.start()..reader.cursor.stop();
     let Some(fault) = sign_fault(sign, next, span, opening) else {
         return Ok(());
     };
-    reader.advance();
+    reader.cursor.advance();
     reader.note(fault)
 }
 
@@ -56,8 +56,8 @@ fn take_sign<'input>(
 // ensures err { OnErr result (reader.new.source ≡ reader.old.source) }
 #[inline]
 fn late_debug<'input>(reader: &mut Reader<'input>) -> Result<(), AllocError> {
-    let span = reader.start()..reader.stop();
-    reader.advance();
+    let span = reader.cursor.start()..reader.cursor.stop();
+    reader.cursor.advance();
     if !reader.cursor.take_char(':') {
         return Ok(());
     }

@@ -82,9 +82,9 @@ fn spanned_word<'input>(
     if !reader.cursor.starts_word() {
         return Ok(("", None));
     }
-    let start = reader.start();
+    let start = reader.cursor.start();
     let word = word(reader)?;
-    Ok((word, Some(start..reader.start())))
+    Ok((word, Some(start..reader.cursor.start())))
 }
 
 /// A type, the case of its hexadecimal digits, and where it stands if it is a word.
@@ -146,7 +146,7 @@ fn note_flag(reader: &mut Reader<'_>, start: usize) -> Result<(), AllocError> {
     if !matches!(flag, '#' | 'x' | 'X') {
         return Ok(());
     }
-    let (from, to) = (reader.start(), reader.stop());
+    let (from, to) = (reader.cursor.start(), reader.cursor.stop());
     let fault = Fault::LateFlag(flag, from..to, start..to);
     reader.note(fault)
 }
@@ -155,8 +155,8 @@ fn note_flag(reader: &mut Reader<'_>, start: usize) -> Result<(), AllocError> {
 // ensures reads { Reads reader.old result reader.new (behind_first reader.old.rest) reader.old.next (flag_faults reader.old.rest) [] }
 #[inline]
 fn debug_type<'input>(reader: &mut Reader<'input>) -> Result<(), AllocError> {
-    let start = reader.start();
-    reader.advance();
+    let start = reader.cursor.start();
+    reader.cursor.advance();
     note_flag(reader, start)
 }
 
@@ -277,10 +277,10 @@ fn diagnostic_text<'input>(
     format: &mut FormatSpec<'input>,
     reader: &mut Reader<'input>,
 ) -> Result<(), AllocError> {
-    let start = reader.start();
-    reader.advance();
+    let start = reader.cursor.start();
+    reader.cursor.advance();
     let ty = reader.take_text()?;
-    let end = reader.start();
+    let end = reader.cursor.start();
     format.ty = ty;
     format.ty_span = Some(start..end);
     note_text(mode, ty, start..end, reader)
@@ -291,12 +291,9 @@ fn diagnostic_text<'input>(
 // requires numbers { reader.old.next + length reader.old.rest < 2 ^ 64 }
 // ensures value { OnOk result (seen_spec format.new ≡ map_spec (place_of reader.old.world) (spec_of reader.old.next reader.old.rest
 //     (specification (seen_mode mode) reader.old.rest).0 (specification (seen_mode mode) reader.old.rest).1)) }
-// ensures state { OnOk result (reader.new ≡ (let s = specification (seen_mode mode) reader.old.rest in
-//     read_texts (read_tries (read_to reader.old s.1 (number_after_spec reader.old.next s.0) (spec_faults (seen_mode mode) reader.old.rest s.0 s.1))
-//     (spec_tries s.0 s.1)) (spec_texts s.0 s.1))) }
-// ensures err { OnErr result (reader.new.source ≡ reader.old.source) }
-// ensures spare { (let s = specification (seen_mode mode) reader.old.rest in
-//     FindsNothing reader.old (spec_faults (seen_mode mode) reader.old.rest s.0 s.1) (spec_texts s.0 s.1) → IsOk result) }
+// ensures reads { let s = specification (seen_mode mode) reader.old.rest in let fs = spec_faults (seen_mode mode) reader.old.rest s.0 s.1 in
+//     Reaches reader.old result reader.new (read_texts (read_tries (read_to reader.old s.1 (number_after_spec reader.old.next s.0) fs)
+//     (spec_tries s.0 s.1)) (spec_texts s.0 s.1)) (FindsNothing reader.old fs (spec_texts s.0 s.1)) }
 #[inline]
 pub fn specification<'input>(
     mode: ParseMode,
