@@ -68,7 +68,8 @@ unfolding call
 call_short mode c [] = omega arith
 call_short mode c (b ∷ t) = omega (arith, call-lt mode c (b ∷ t) (λ (e : b ∷ t ≡ []). absurd (cc e)))
 
-pub next_short : {A E : Type 0} (r : Result A E) (s new : State) → OnOk r (new ≡ after s (next_call s)) → OnErr r (IsPutBack s new) → length new.rest ≤ length s.rest
+pub next_short : {A E : Type 0} (r : Result A E) (s new : State) → OnOk r (new ≡ after s (next_call s)) → OnErr r (IsPutBack s new) →
+    length new.rest ≤ length s.rest
 next_short (Ok a) s new f g = rw f (call_short s.mode s.next s.rest)
 next_short (Err e) s new f g = rw g (omega arith)
 

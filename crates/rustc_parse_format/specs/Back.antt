@@ -1,5 +1,5 @@
 -- What a cursor has given back. Moving forward changes none of it, so of all readers only those speak of it that may give a word back.
-use Rattle.std.specs.Prelude.{◌≡◌, ℕ, ◌+◌, ◌-◌, ◌≤◌, ◌||◌, Bool, length}
+use Rattle.std.specs.Prelude.{ℕ, ◌+◌, ◌-◌, ◌≤◌, ◌||◌, Bool, length}
 use Rattle.rustc_parse_format.specs.Characters.{Text, is_id_start, is_id_continue, behind}
 
 pub record Back : Type 0 where

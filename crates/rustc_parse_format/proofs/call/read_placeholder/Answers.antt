@@ -19,7 +19,8 @@ close-requires c =
       numbers = omega (
         arith,
         numbers_left (seen_mode c.args.mode) c.reader.inside.curarg c.reader-2.inside.curarg u.rest c.skip_white.new.self.rest
-            (λ e. opens-some c.args.reader.now.rest c.requires.opens (sym rest ∙ e)) (ap (λ (x : Midway). x.next) whole) (white ∙ ap (λ (x : Midway). behind_white x.rest) whole),
+            (λ e. opens-some c.args.reader.now.rest c.requires.opens (sym rest ∙ e)) (ap (λ (x : Midway). x.next) whole)
+            (white ∙ ap (λ (x : Midway). behind_white x.rest) whole),
         ap length rest,
         ap (λ (x : Midway). x.next) c.reader.view_is,
         c.requires.numbers,
@@ -38,7 +39,8 @@ returns-clause-reads c =
     let e = c.reader-2.view_is ∙ given.reads.state in
     let opens = call_opens (seen_mode c.args.mode) c.args.reader.now.next c.args.reader.now.rest c.requires.opens in
     record {
-      state = rw (opens, ← c.reader.view_is) (placeholder_closed s _ c.close.new.reader (seen_mode c.args.mode) u.rest (behind_first u.rest) (pair c.take_place-opening.result)
+      state = rw (opens, ← c.reader.view_is) (placeholder_closed s _ c.close.new.reader (seen_mode c.args.mode) u.rest (behind_first u.rest)
+          (pair c.take_place-opening.result)
           (seen_argument c.read_argument.new.into) e c.take_place-opening.ensures.place given.value
           (rw c.skip_white.ensures.rest at c.in_ok-close.ensures.state));
       err = tt;

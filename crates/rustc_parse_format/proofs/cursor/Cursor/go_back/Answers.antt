@@ -1,5 +1,3 @@
-use Rattle.std.proofs.Common.{rules, chars}
-use Rattle.rustc_parse_format.specs.Midway.{Unread}
 use Rattle.rustc_parse_format.proofs.Steps.{paid_back}
 use Rattle.rustc_parse_format.proofs.cursor.Cursor.go_back.Goals as goal
 

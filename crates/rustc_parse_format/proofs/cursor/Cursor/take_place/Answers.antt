@@ -1,4 +1,4 @@
-use Rattle.std.proofs.Common.{rules, chars}
+use Rattle.std.proofs.Common.{chars}
 use Rattle.rustc_parse_format.proofs.Steps.{paid_on, behind_first-part}
 use Rattle.rustc_parse_format.proofs.cursor.Cursor.take_place.Goals as goal
 
