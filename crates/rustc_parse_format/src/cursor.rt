@@ -75,6 +75,7 @@ impl<'input> Cursor<'input> {
     }
 
     /// Where it stands.
+    #[inline(always)]
     pub fn checkpoint(&self) -> Checkpoint<'input>
         ensures at { self.now ≡ unread_at self.now.source result.spot.rest.now result.tally self.now.undone }
         ensures spot { IsSpot self.now.source result.spot.rest.now result.spot.mark.now result.spot.at }
@@ -100,6 +101,7 @@ impl<'input> Cursor<'input> {
     }
 
     /// What was read since then.
+    #[inline(always)]
     pub fn since(&self, from: &Checkpoint<'input>) -> &'input str
         requires { (read : Text) × (chars from.now.spot.rest.now ≡ read ++ self.now.rest) }
         ensures { (read : Text) → chars from.now.spot.rest.now ≡ read ++ self.now.rest → chars result.now ≡ read }

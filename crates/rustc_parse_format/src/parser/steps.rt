@@ -1,4 +1,4 @@
-//! One call of a parser on a trail: it happens whole or not at all.
+//! One call of a parser: it happens whole or not at all.
 
 use crate::call::{read_bare, read_placeholder};
 use crate::lists::ends_with;
