@@ -248,7 +248,7 @@ impl<'input> Cursor<'input> {
     pub fn position(&self) -> usize
         ensures { result ≡ byte_length self.now.input - byte_length self.now.rest }
     {
-        self.source.position(&self.spot)
+        self.source.input.len() - self.spot.rest.len()
     }
 
     /// The next character is this one.
