@@ -15,8 +15,8 @@ use Rattle.rustc_parse_format.specs.PartFaults.{cut_faults}
 use Rattle.rustc_parse_format.specs.Recovery.{recovery}
 use Rattle.rustc_parse_format.specs.Call.{Call, GivesNoArgument, GivesAtMostText, call, placeholder, unclosed_call, unclosed_fault}
 use Rattle.rustc_parse_format.specs.Back.{Back}
-use Rattle.rustc_parse_format.specs.Midway.{FindsNothing, Midway, behind_closing, closed_then, opens_placeholder}
-use Rattle.rustc_parse_format.specs.Midway.{read_call, read_texts, read_to, read_tries, recovered}
+use Rattle.rustc_parse_format.specs.Midway.{FindsNothing, Midway, behind_closing, closed_then, opens_placeholder, read_call, read_texts, read_to}
+use Rattle.rustc_parse_format.specs.Midway.{read_tries, recovered}
 use Rattle.rustc_parse_format.specs.Lines.{closed_in}
 use Rattle.rustc_parse_format.specs.Tries.{spec_tries}
 use Rattle.rustc_parse_format.proofs.Numbers.{number_after_field-le}
@@ -136,10 +136,10 @@ unclosed_read s mode o t =
     let ts = spec_texts a.field.spec a.rest in
     let us = spec_tries a.field.spec a.rest in
     rw (closed_in-none s.world)
-    (ap (λ (x : Midway). read_texts (read_texts (read_tries (read_tries x us) k.tries) ts) k.texts) (read_three s r r k.rest c c k.next
-    (cut_faults mode a) (f ∷ []) k.faults)
-    ∙ (ap (λ fs. read_texts (read_texts (read_tries (read_tries (read_to s k.rest k.next fs) us) k.tries) ts) k.texts) (append_assoc
-    (cut_faults mode a) (f ∷ []) k.faults)
+    (ap (λ (x : Midway). read_texts (read_texts (read_tries (read_tries x us) k.tries) ts) k.texts)
+    (read_three s r r k.rest c c k.next (cut_faults mode a) (f ∷ []) k.faults)
+    ∙ (ap (λ fs. read_texts (read_texts (read_tries (read_tries (read_to s k.rest k.next fs) us) k.tries) ts) k.texts)
+    (append_assoc (cut_faults mode a) (f ∷ []) k.faults)
     ∙ (ap (λ (b : Back). read_texts (read_texts (record (read_to s k.rest k.next (cut_faults mode a ++ f ∷ k.faults)) { back = b }) ts) k.texts)
     (tried-append s.back us k.tries)
     ∙ sym (read_texts-append (read_tries (read_to s k.rest k.next (cut_faults mode a ++ f ∷ k.faults)) (us ++ k.tries)) ts k.texts))))

@@ -1,9 +1,9 @@
 -- A position at whose front `r#` stands: a raw identifier, or the word `r`.
-use Rattle.std.proofs.Common.{◌≡◌, ◌++◌, ◌&&◌, ◌==◌, Bool, true, false, [], ◌∷◌, refl, ap, sym, ◌∙◌}
+use Rattle.std.proofs.Common.{◌≡◌, ◌&&◌, ◌==◌, Bool, true, false, [], ◌∷◌, refl, ap, sym, ◌∙◌}
 use Rattle.std.proofs.lemmas.Bool.{and_parts, eqb-true, false≢true}
 use Rattle.unicode_ident.proofs.Computing.{unicode_ident}
-use Rattle.rustc_parse_format.specs.Characters.{Text, is_id_start, word, behind_word, behind_first}
-use Rattle.rustc_parse_format.specs.Characters.{behind_prefix, begins_prefix, begins_raw, begins_with, first_passes}
+use Rattle.rustc_parse_format.specs.Characters.{Text, is_id_start, word, behind_word, behind_first, behind_prefix, begins_prefix, begins_raw}
+use Rattle.rustc_parse_format.specs.Characters.{begins_with, first_passes}
 use Rattle.rustc_parse_format.specs.Placeholder.{position}
 use Rattle.rustc_parse_format.specs.PartFaults.{position_faults}
 use Rattle.rustc_parse_format.specs.Syntax.{Word, RawWord}

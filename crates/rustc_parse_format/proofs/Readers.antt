@@ -1,5 +1,5 @@
 -- What a reader stands at after several parts.
-use Rattle.std.proofs.Common.{◌≡◌, ◌++◌, ◌&&◌, ℕ, Bool, true, false, not, cond, suc, List, [], ◌∷◌, refl, Option, sym, ap, subst, ◌∙◌, append_assoc}
+use Rattle.std.proofs.Common.{◌≡◌, ◌++◌, ◌&&◌, ℕ, Bool, true, false, not, cond, suc, List, [], ◌∷◌, refl, Option, sym, ap, ◌∙◌, append_assoc}
 use Rattle.std.proofs.lemmas.List.{append-nil, map-append}
 use Rattle.rustc_parse_format.specs.Characters.{Text}
 use Rattle.rustc_parse_format.specs.Faults.{Fault, Unnamed, map_fault}
@@ -58,8 +58,7 @@ behind_specification mode given s =
     let p = specification mode s.rest in
     let n = number_after_spec s.next p.0 in
     record (read_texts (read_tries (read_to s p.1 n (spec_faults mode s.rest p.0 p.1)) (spec_tries p.0 p.1)) (spec_texts p.0 p.1)) {
-      next =
-          if is_some given then n else suc n;
+      next = if is_some given then n else suc n;
     }
 
 names_in : (w : World) (b : Bool) (s : Span) → cond b (Unnamed (place_of w s) ∷ []) [] ≡ faults_in w (cond b (Unnamed s ∷ []) [])

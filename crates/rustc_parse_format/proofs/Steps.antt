@@ -1,9 +1,9 @@
 -- What was given back: it stays paid where the cursor moves forward, and where it gives a word back.
-use Rattle.std.proofs.Common.{◌≡◌, ℕ, ◌+◌, ◌-◌, ◌++◌, ◌≤◌, Bool, true, false, cond, [], ◌∷◌, length, refl, ap, ◌∙◌, arith}
-use Rattle.std.specs.Prelude.{◌||◌, if◌then◌else◌, is_some}
+use Rattle.std.proofs.Common.{◌≡◌, ℕ, ◌≤◌, Bool, true, false, cond, [], ◌∷◌, length, refl, ap, ◌∙◌, arith}
+use Rattle.std.specs.Prelude.{◌||◌}
 use Rattle.unicode_ident.proofs.Computing.{unicode_ident}
 use Rattle.std.proofs.lemmas.Bool.{eqb-true}
-use Rattle.rustc_parse_format.specs.Characters.{Text, is_id_start, is_id_continue, behind, behind_first, behind_word, begins_with, first}
+use Rattle.rustc_parse_format.specs.Characters.{Text, is_id_start, is_id_continue, behind, behind_first, behind_word, begins_with}
 use Rattle.rustc_parse_format.specs.Back.{Back, IsPaid, given_back, is_word_part, behind_part}
 use Rattle.rustc_parse_format.specs.Midway.{IsCounted, Passed, back_at}
 

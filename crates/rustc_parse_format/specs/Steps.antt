@@ -1,6 +1,6 @@
 -- How many steps a cursor has taken. Moving forward over one character is one step; looking is none, and going back is none. So there
 -- are as many as the characters that were read, and those that were given back.
-use Rattle.std.specs.Prelude.{◌≡◌, ℕ, ◌+◌, ◌-◌, ◌*◌, ◌≤◌, length, max}
+use Rattle.std.specs.Prelude.{ℕ, ◌+◌, ◌-◌, ◌*◌, ◌≤◌, length, max}
 use Rattle.rustc_parse_format.specs.Characters.{Text}
 use Rattle.rustc_parse_format.specs.Back.{Back}
 

@@ -75,6 +75,7 @@ impl<'input> Cursor<'input> {
     }
 
     /// Where it stands.
+    #[inline(always)]
     pub fn checkpoint(&self) -> Checkpoint<'input>
         ensures at { self.now ≡ unread_at self.now.source result.spot.rest.now
             (back_at (chars self.now.source.input.now) (chars result.spot.rest.now) result.tally) self.now.undone }
@@ -101,6 +102,7 @@ impl<'input> Cursor<'input> {
     }
 
     /// What was read since then.
+    #[inline(always)]
     pub fn since(&self, from: &Checkpoint<'input>) -> &'input str
         requires { (read : Text) × (chars from.now.spot.rest.now ≡ read ++ self.now.rest) }
         ensures { (read : Text) → chars from.now.spot.rest.now ≡ read ++ self.now.rest → chars result.now ≡ read }
@@ -250,7 +252,7 @@ impl<'input> Cursor<'input> {
     pub fn position(&self) -> usize
         ensures { result ≡ byte_length self.now.input - byte_length self.now.rest }
     {
-        self.source.position(&self.spot)
+        self.source.input.len() - self.spot.rest.len()
     }
 
     /// The next character is this one.

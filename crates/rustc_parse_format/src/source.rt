@@ -370,16 +370,8 @@ impl<'input> Source<'input> {
         }
     }
 
-    /// The byte position of the next character in the input, or of its end.
-    #[inline(always)]
-    pub fn position(&self, spot: &Spot<'_>) -> usize
-        requires { IsSpot self.now spot.now.rest.now spot.now.mark.now spot.now.at }
-        ensures { result ≡ byte_length (chars self.now.input.now) - byte_length (chars spot.now.rest.now) }
-    {
-        self.input.len() - spot.rest.len()
-    }
-
     /// The place of the next character, its byte position in the input, and itself, or None at the end.
+    #[tactic(auto, using(crate::proofs::Places::position_left))]
     #[inline(always)]
     pub fn next_place(&self, spot: &Spot<'_>) -> Option<(Range<usize>, usize, char)>
         requires { IsSpot self.now spot.now.rest.now spot.now.mark.now spot.now.at }
@@ -387,6 +379,7 @@ impl<'input> Source<'input> {
             ≡ first_of (seen_world self.now) (chars self.now.input.now) (chars spot.now.rest.now) }
     {
         let c = first(spot.rest)?;
-        Some((self.start(spot)..self.stop(spot), self.position(spot), c))
+        let position = self.input.len() - spot.rest.len();
+        Some((self.start(spot)..self.stop(spot), position, c))
     }
 }

@@ -50,6 +50,7 @@ impl Model for Tally {
 
 impl Tally {
     /// None yet, in front of a text.
+    #[inline(always)]
     pub(super) fn new(text: &str) -> Tally
         ensures { result ≡ record { made = 0; left = length (chars text.now) } }
     {
@@ -68,6 +69,7 @@ impl Tally {
     }
 
     /// The cursor goes back from in front of a text.
+    #[inline(always)]
     pub(super) fn go_back(&mut self, from: &str)
         ensures { self.new ≡ record self.old { left = length (chars from.now) } }
     {
@@ -75,6 +77,7 @@ impl Tally {
     }
 
     /// The same.
+    #[inline(always)]
     pub(super) fn same(&self) -> Tally
         ensures { result ≡ self.now }
     {

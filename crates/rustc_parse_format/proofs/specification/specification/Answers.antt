@@ -1,6 +1,6 @@
 use Rattle.std.proofs.Common.{◌≡◌, true, ap, arith, length, rules}
-use Rattle.rustc_parse_format.specs.Characters.{begins_with, behind_first}
-use Rattle.rustc_parse_format.specs.Midway.{Midway, Unread}
+use Rattle.rustc_parse_format.specs.Characters.{begins_with}
+use Rattle.rustc_parse_format.specs.Midway.{Unread}
 use Rattle.rustc_parse_format.proofs.Rests.{IsRest-le, behind_first_rest}
 use Rattle.rustc_parse_format.proofs.Steps.{at_colon}
 use Rattle.rustc_parse_format.proofs.specification.specification.Goals as goal

@@ -1,4 +1,4 @@
-use Rattle.std.proofs.Common.{chars, length, refl, arith, ap}
+use Rattle.std.proofs.Common.{arith}
 use Rattle.rustc_parse_format.proofs.SourcePlaces.{first_spot}
 use Rattle.rustc_parse_format.proofs.Steps.{counted_first}
 use Rattle.rustc_parse_format.proofs.cursor.Cursor.new.Goals as goal

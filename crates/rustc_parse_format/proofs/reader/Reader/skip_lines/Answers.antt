@@ -1,15 +1,39 @@
-use Rattle.std.proofs.Common.{rules, ◌≡◌, ap, subst, sym, ◌∙◌, length, arith, refl, Some, true}
-use Rattle.rustc_parse_format.specs.Characters.{first, is_no_brace, is_in_line}
-use Rattle.rustc_parse_format.specs.Midway.{Midway, IsInOneLine, IsPastIndent, read_run}
+use Rattle.std.proofs.Common.{rules, ◌≡◌, ap, subst, sym, ◌∙◌, length, arith, map, refl, Some, true}
+use Rattle.rustc_parse_format.specs.Characters.{behind, first, is_no_brace, is_in_line}
+use Rattle.rustc_parse_format.specs.Midway.{Midway, Unread, IsInOneLine, IsPastIndent, midway, read_run}
+use Rattle.std.specs.Prelude.{option_map}
+use Rattle.rustc_parse_format.specs.Seen.{pair}
+use Rattle.rustc_parse_format.specs.SeenFaults.{seen_fault}
 use Rattle.rustc_parse_format.proofs.RunLines.{run-step, one_line-step, one_line-no_newline}
 use Rattle.rustc_parse_format.proofs.RunSkips.{run-skip, one_line-skip, behind-shorter}
 use Rattle.rustc_parse_format.proofs.reader.Reader.skip_lines.Goals as goal
+use Rattle.rustc_parse_format.proofs.reader.Reader.skip_lines.Goals.{After-skip}
+
+abbrev after : After-skip → Midway
+after c =
+    let r = c.self-then-is_past_indent.inside in
+    record (midway c.skip.new.self r.curarg r.line_start) {
+      faults = map seen_fault r.found.items;
+      lines = map pair r.lines.items;
+      closed = option_map pair r.closed;
+    }
+
+-- what is left of the line is passed
+passed : (c : After-skip) → ◌≡◌ {A = Midway} (after c) (record c.loop-c.self { rest = behind is_in_line c.loop-c.self.rest })
+passed c =
+    let r = c.self-then-is_past_indent.inside in
+    ap (λ (u : Unread). record (midway u r.curarg r.line_start) {
+      faults = map seen_fault r.found.items;
+      lines = map pair r.lines.items;
+      closed = option_map pair r.closed;
+    }) c.skip.ensures.rest
+    ∙ ap (λ (m : Midway). record m { rest = behind is_in_line m.rest }) (c.self-then-is_past_indent.view_is ∙ c.is_past_indent.ensures.state)
 
 pub loop-c-smaller-then-is_past_indent : goal.loop-c-smaller-then-is_past_indent
 loop-c-smaller-then-is_past_indent c =
     let next : first c.loop-c.self.rest ≡ Some c.in-Some.c = search rules in
     let passes : is_in_line c.in-Some.c ≡ true = search rules in
-    let skipped = rw c.is_past_indent.ensures.state at c.skip_line.ensures.state in
+    let skipped = passed c in
     omega (arith, ap (λ (s : Midway). length s.rest) skipped, behind-shorter is_in_line c.loop-c.self.rest c.in-Some.c next passes)
 
 pub loop-c-preserved-then-is_past_indent : goal.loop-c-preserved-then-is_past_indent
@@ -18,7 +42,7 @@ loop-c-preserved-then-is_past_indent c =
     let before = c.loop-c.invariant in
     let next : first s.rest ≡ Some c.in-Some.c = search rules in
     let past : IsPastIndent c.in-Some.c s.line_start s.world s.rest = c.is_past_indent.ensures.past c.if-is_past_indent.true next in
-    let skipped = rw c.is_past_indent.ensures.state at c.skip_line.ensures.state in
+    let skipped = passed c in
     record {
       source = search rules;
       run = ap read_run skipped ∙ (run-skip s c.in-Some.c before.source next past ∙ before.run);

@@ -1,4 +1,4 @@
-use Rattle.std.proofs.Common.{◌≡◌, ◌++◌, ◌∙◌, ap, sym, chars}
+use Rattle.std.proofs.Common.{◌≡◌, ◌++◌, ◌∙◌, ap, sym}
 use Rattle.rustc_parse_format.specs.Characters.{Text, front, behind, is_no_brace, behind_first, with_first}
 use Rattle.rustc_parse_format.specs.Midway.{Midway, Unread}
 use Rattle.rustc_parse_format.proofs.Fronts.{first-behind}

@@ -1,0 +1,5 @@
+use Rattle.rustc_parse_format.proofs.Places.{position_left}
+use Rattle.rustc_parse_format.proofs.cursor.Cursor.position.Goals as goal
+
+pub returns : goal.returns
+returns c = rw (← c.self.view_is) (position_left _ _ c.self.invariant.0.is_left)
