@@ -44,7 +44,7 @@ impl<'input> Cursor<'input> {
     //     (back_at (chars self.now.source.input.now) (chars result.spot.rest.now) result.tally) self.now.undone }
     // ensures spot { IsSpot self.now.source result.spot.rest.now result.spot.mark.now result.spot.at }
     // ensures counted { IsCounted (chars self.now.source.input.now) (chars result.spot.rest.now) result.tally }
-    #[inline]
+    #[inline(always)]
     pub fn checkpoint(&self) -> Checkpoint<'input> {
         let spot = Spot {
             rest: self.spot.rest,
@@ -65,7 +65,7 @@ impl<'input> Cursor<'input> {
     /// What was read since then.
     // requires { (read : Text) × (chars from.now.spot.rest.now ≡ read ++ self.now.rest) }
     // ensures { (read : Text) → chars from.now.spot.rest.now ≡ read ++ self.now.rest → chars result.now ≡ read }
-    #[inline]
+    #[inline(always)]
     pub fn since(&self, from: &Checkpoint<'input>) -> &'input str {
         before(from.spot.rest, self.spot.rest)
     }

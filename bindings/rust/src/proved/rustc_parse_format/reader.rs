@@ -120,7 +120,7 @@ impl<'input> Reader<'input> {
             if c == '\n' {
                 self.take_newline()?;
             } else if self.is_past_indent(c) {
-                self.skip_line();
+                self.cursor.skip(Class::Line);
             } else {
                 self.pass_in_line(c);
             }
@@ -135,13 +135,6 @@ impl<'input> Reader<'input> {
     fn is_past_indent(&mut self, c: char) -> bool {
         self.cursor.settle();
         self.cursor.is_past_indent(c, self.line_start)
-    }
-
-    /// Moves up to the end of the line, or to a brace in it.
-    // ensures state { self.new ≡ record self.old { rest = behind is_in_line self.old.rest } }
-    #[inline]
-    fn skip_line(&mut self) {
-        self.cursor.skip(Class::Line);
     }
 
     /// Moves over the newline at the front of what is left of a source literal: it ends the line that is read.

@@ -339,14 +339,6 @@ impl<'input> Source<'input> {
         }
     }
 
-    /// The byte position of the next character in the input, or of its end.
-    // requires { IsSpot self.now spot.now.rest.now spot.now.mark.now spot.now.at }
-    // ensures { result ≡ byte_length (chars self.now.input.now) - byte_length (chars spot.now.rest.now) }
-    #[inline(always)]
-    pub fn position(&self, spot: &Spot<'_>) -> usize {
-        self.input.len() - spot.rest.len()
-    }
-
     /// The place of the next character, its byte position in the input, and itself, or None at the end.
     // requires { IsSpot self.now spot.now.rest.now spot.now.mark.now spot.now.at }
     // ensures { option_map (λ x. (pair x.0, x.1, x.2)) result
@@ -354,6 +346,7 @@ impl<'input> Source<'input> {
     #[inline(always)]
     pub fn next_place(&self, spot: &Spot<'_>) -> Option<(Range<usize>, usize, char)> {
         let c = first(spot.rest)?;
-        Some((self.start(spot)..self.stop(spot), self.position(spot), c))
+        let position = self.input.len() - spot.rest.len();
+        Some((self.start(spot)..self.stop(spot), position, c))
     }
 }
