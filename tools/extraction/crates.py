@@ -34,6 +34,13 @@ def extracted(crates, callers):
     for path in callers:
         needs.add_caller(in_place(str(path), Source, path.name, path.read_text(), False))
     needs.follow()
+    cloned = {
+        item.name
+        for source in sources
+        for item in source.items
+        for part in item.parts
+        if part.kind == "fn" and clones_in(source, part)
+    }
     made = [
         (
             "mod.rs",
@@ -43,7 +50,7 @@ def extracted(crates, callers):
     ]
     for source in sources:
         if needs.has(source.crate, *module_of(source.name)):
-            text = in_place(source.path, rust_of, source, needs, list(crates), empty)
+            text = in_place(source.path, rust_of, source, needs, list(crates), empty, cloned)
             target = source.name.replace(".rt", ".rs")
             made.append((f"{source.crate}/{'mod.rs' if target == 'lib.rs' else target}", text))
     return made
@@ -201,14 +208,8 @@ def clones_in(source, item):
 # ---------------------------------------------------------------------------------- what is written
 
 
-def rust_of(source, needs, crates, empty):
+def rust_of(source, needs, crates, empty, cloned):
     """The text in Rust of a source."""
-    cloned = {
-        item.name
-        for item in source.items
-        for part in item.parts
-        if part.kind == "fn" and clones_in(source, part)
-    }
     own = set()
     for item in source.items:
         if item.is_kept:

@@ -22,7 +22,7 @@ pub enum ParseMode {
 }
 
 /// A piece of the input: text as it stands, or a placeholder.
-#[derive(Debug, PartialEq)]
+#[derive(Clone, Debug, PartialEq)]
 pub enum Piece<'input> {
     /// Text, with `{{` and `}}` as one brace each.
     Lit(&'input str),
