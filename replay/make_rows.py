@@ -1,11 +1,11 @@
 #!/usr/bin/env python3
-"""Makes the tables of crates/format_rows from replay/library.tsv.
+"""Makes the tables of crates/tests_rows from replay/library.tsv.
 
     replay/make_rows.py           writes them
     replay/make_rows.py --check   compares them with what it would write
 
 A line of library.tsv has, with tabs between them, a name, the mode, the style, whether a newline was appended, the
-snippet, the input and the answer, as crates/format_rows/src/row.rt says; but bytes are written as in cases.py, and the
+snippet, the input and the answer, as crates/tests_rows/src/row.rt says; but bytes are written as in cases.py, and the
 answer has a line `end N`, which no public call tells and which is dropped. The table
 of snippets has every row with a snippet, with nothing but whether it is the source literal of the input."""
 
@@ -16,7 +16,7 @@ import sys
 import cases
 
 HERE = os.path.dirname(os.path.abspath(__file__))
-SOURCES = os.path.join(HERE, "..", "crates", "format_rows", "src")
+SOURCES = os.path.join(HERE, "..", "crates", "tests_rows", "src")
 
 
 def escaped(data):

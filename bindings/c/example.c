@@ -1,4 +1,4 @@
-/* Lists the pieces and the faults of a format string, its argument. */
+/* Prints the pieces and the errors of a format string, the first command-line argument. */
 #include "dephungo.h"
 #include <stdio.h>
 #include <string.h>
@@ -10,7 +10,7 @@ int main(int argc, char **argv) {
     dephungo_spec specs[32];
     dephungo_fault faults[16];
     uint8_t texts[4096];
-    dephungo_range lines[1]; /* there are none without a snippet */
+    dephungo_range lines[1]; /* without a snippet there are no lines */
     dephungo_answer answer;
     uint32_t code = dephungo_read((const uint8_t *)input, strlen(input), (const uint8_t *)"", 0, &options, steps, 64,
                                   specs, 32, faults, 16, texts, sizeof texts, lines, 1, &answer);

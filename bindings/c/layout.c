@@ -1,4 +1,4 @@
-/* The layout of the records. Made by bindings/make from bindings/records.txt: it compiles only where each record lies as the table says. */
+/* The layout of the records. Made by tools/records from bindings/records.txt: it compiles only where each record lies as the table says. */
 #include "dephungo.h"
 
 _Static_assert(sizeof(dephungo_range) == 16, "the size of dephungo_range");

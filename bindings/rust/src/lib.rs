@@ -3,7 +3,7 @@
 
 pub mod literal;
 mod parser;
-// Here the text is that of another language, which has a form less in some places.
+// These sources are extracted from another language, which lacks some forms that clippy asks for.
 #[allow(
     dead_code,
     clippy::needless_question_mark,

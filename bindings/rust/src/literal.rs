@@ -1,15 +1,18 @@
-//! String literals as they are written in a program: the characters of a content with their places,
-//! and which snippet is the source literal of an input.
+//! String literals as they are written in a program: the characters that they stand for, with byte
+//! ranges, and whether a snippet is the source literal of an input.
 use crate::proved::rustc_parse_format::literal::read_content as read_content_in;
 use crate::shim::alloc::{answer, Global};
 use std::ops::Range;
 
 pub use crate::proved::rustc_parse_format::literal::{between_quotes, is_source_literal};
 
-/// The characters that the content of an ordinary string literal stands for, each with the bytes of
-/// the content that it comes from, or None if the text is no content. The rule is the Rust
-/// Reference's, of string literals; a backslash in front of a newline, with all tabs, newlines,
-/// carriage returns and spaces after that, stands for nothing.
+/// Returns the characters that the content of an ordinary string literal, which is what is between
+/// its quotes, stands for. Each comes with the byte range of the content that it is written as.
+/// Returns `None` if the text is not such a content.
+///
+/// The rules are those of string literals in the Rust Reference. A backslash before a newline
+/// stands for nothing, together with the newline and all tabs, newlines, carriage returns and
+/// spaces after it. An allocation failure aborts, as elsewhere in Rust.
 pub fn read_content(content: &str) -> Option<Vec<(Range<usize>, char)>> {
     answer(read_content_in(Global, content))
 }

@@ -1,45 +1,54 @@
-//! The parser with public fields, as an iterator: each call is one of the proved reader, and what
-//! that found is added to the fields.
-use crate::proved::rustc_parse_format::call::{read_bare, read_placeholder};
+//! The parser with public fields, as an iterator. Each call of `next` makes one call of the proved
+//! reader and adds what that found to the fields.
 use crate::proved::rustc_parse_format::cursor::Cursor;
 use crate::proved::rustc_parse_format::error_list::empty_error;
 use crate::proved::rustc_parse_format::faults::Fault;
 use crate::proved::rustc_parse_format::messages::tell;
 use crate::proved::rustc_parse_format::placeholder::blank_argument;
 use crate::proved::rustc_parse_format::reader::Reader;
-use crate::proved::rustc_parse_format::world::{quote_offset, source_of};
+use crate::proved::rustc_parse_format::source::{quote_offset, source_of};
 use crate::shim::alloc::{answer, Global};
 use crate::{ParseError, ParseMode, Piece};
 use std::ops::Range;
 
-/// A parser over an input: an iterator over its pieces.
+/// A parser of a format string: an iterator over its pieces.
 ///
-/// It ends with None at the end of the input, and before that at a lone `}`, which is a fault;
-/// behind that one a further call of `next` goes on.
+/// The grammar is that of the documentation of `std::fmt`, as rustc's parser reads it. An error in
+/// the input is added to `errors`, and the parser goes on after it. `next` returns `None` at the
+/// end of the input, and also at a `}` that closes nothing, which is an error in the input; the
+/// next call then goes on after that, so the iterator is not fused. An allocation failure aborts,
+/// as elsewhere in Rust.
+///
+/// A span is a byte range in the source: in the snippet, if that is the source literal of the
+/// input, and otherwise in a literal that has the input, as it is, after its opening quote.
 pub struct Parser<'input> {
     mode: ParseMode,
-    /// Between two calls it has found nothing. Its number and whether it reads a source literal are
-    /// those of the fields here.
+    /// The proved reader. Between two calls it holds nothing that it found. Its `curarg` and
+    /// whether it reads a source literal are set from the fields here before each call.
     reader: Reader<'input>,
-    /// The faults so far. A raw identifier, a flag after the type `?`, and a mistake that is known
-    /// where a closing brace is missing, stand in front of all earlier ones; the others come after
-    /// them.
+    /// The errors in the input so far. An error about a raw identifier, a flag after the type `?`,
+    /// or a known mistake where a closing brace is missing is put before all earlier ones; each
+    /// other error is put after them.
     pub errors: Vec<ParseError>,
-    /// The number that the next implicit argument takes.
+    /// The index of the next implicit argument.
     pub curarg: usize,
-    /// Where each placeholder stands that a brace closed; only in a source literal.
+    /// The byte ranges in the source of the placeholders that a closing brace closed, from brace to
+    /// brace. Nothing is added without a source literal.
     pub arg_places: Vec<Range<usize>>,
-    /// Whether the snippet is the source literal of the input. Where it is set to false, no more
-    /// places and lines come.
+    /// Whether the snippet is the source literal of the input. After it is set to false, nothing
+    /// more is added to `arg_places` and `line_spans`.
     pub is_source_literal: bool,
-    /// The lines of a source literal, each without its newline and its indent.
+    /// The byte ranges in the source of the lines of a source literal, each without its newline and
+    /// its indent.
     pub line_spans: Vec<Range<usize>>,
 }
 
 impl<'input> Parser<'input> {
-    /// A parser at the start of an input. The style is `Some(hashes)` for a raw literal; the
-    /// snippet is what stands in the source where the input should come from; the last but one word
-    /// tells whether a newline was appended to the input.
+    /// Creates a parser at the start of an input.
+    ///
+    /// `style` is `None` for an ordinary string literal, and `Some` of the number of hashes for a
+    /// raw one. `snippet` is the source text that the input should come from, if it is known.
+    /// `appended_newline` is whether a newline was appended to the input that is not in the source.
     #[inline]
     pub fn new(
         input: &'input str,
@@ -61,17 +70,19 @@ impl<'input> Parser<'input> {
         }
     }
 
-    /// The next character, with its place in the source and its byte in the input.
+    /// Returns the next character without reading it: its byte range in the source, its byte offset
+    /// in the input, and the character. Returns `None` at the end of the input.
     pub fn peek(&self) -> Option<(Range<usize>, usize, char)> {
-        self.reader.cursor.next_place()
+        self.reader.cursor.peek_place()
     }
 
-    /// The same of the character after it.
+    /// Returns the character after the next one without reading it: its byte range in the source,
+    /// its byte offset in the input, and the character. Returns `None` if there is none.
     pub fn peek_ahead(&self) -> Option<(Range<usize>, usize, char)> {
-        self.reader.cursor.place_ahead()
+        self.reader.cursor.peek_place_ahead()
     }
 
-    /// Adds what a call found to the fields.
+    /// Moves what a call found from the reader to the fields.
     #[inline(always)]
     fn take_over(&mut self) {
         if let Some(place) = self.reader.closed.take() {
@@ -85,7 +96,8 @@ impl<'input> Parser<'input> {
         }
     }
 
-    /// Adds the lines that ended in a call. The first ones are kept where they are.
+    /// Moves the lines that ended in a call to `line_spans`. If that is empty, the vectors are
+    /// swapped.
     #[inline(never)]
     fn add_lines(&mut self) {
         if self.line_spans.is_empty() {
@@ -95,21 +107,16 @@ impl<'input> Parser<'input> {
         }
     }
 
-    /// Adds the errors of the faults that a call found, each at its end of the list. Mostly there
-    /// is one.
+    /// Adds an error for each fault that a call found, at the start or the end of the list.
     #[inline(never)]
     fn add_errors(&mut self) {
-        if self.reader.found.len() == 1 {
-            if let Some(fault) = self.reader.found.pop() {
-                return add_error(&mut self.errors, fault);
-            }
-        }
-        for fault in self.reader.found.drain(..) {
+        let (first, more) = self.reader.found.take(Global);
+        for fault in first.into_iter().chain(more) {
             add_error(&mut self.errors, fault);
         }
     }
 
-    /// Adds the last line of a source literal, unless it is there.
+    /// Adds the last line of a source literal, unless it is already in the list.
     fn end_line(&mut self) {
         if self.is_source_literal {
             let line = self.reader.line();
@@ -129,7 +136,7 @@ impl<'input> Iterator for Parser<'input> {
         reader.cursor.source.is_literal = self.is_source_literal;
         if reader.cursor.opens_placeholder() {
             let mut argument = Box::new(blank_argument());
-            answer(read_placeholder(self.mode, &mut argument, reader));
+            answer(reader.placeholder(self.mode, &mut argument));
             self.curarg = reader.curarg;
             self.take_over();
             return Some(Piece::NextArgument(argument));
@@ -138,13 +145,13 @@ impl<'input> Iterator for Parser<'input> {
             self.end_line();
             return None;
         }
-        let text = answer(read_bare(reader));
+        let text = answer(reader.text());
         self.take_over();
         text.map(Piece::Lit)
     }
 }
 
-/// Adds the error that a fault becomes, which is written where it stays.
+/// Adds the error of a fault, which is written in place in the list.
 fn add_error(errors: &mut Vec<ParseError>, fault: Fault<'_>) {
     let at = if fault.is_front() { 0 } else { errors.len() };
     errors.insert(at, empty_error(Global));

@@ -1,13 +1,17 @@
-//! The placeholders of a text against the arguments that are given for it.
+//! Compares the placeholders of a format string with the arguments that are given to it.
 use crate::proved::placeholder_check::check as check_in;
 use crate::shim::alloc::{answer, Global};
 use crate::Piece;
 
 pub use crate::proved::placeholder_check::Report;
 
-/// The report on pieces for which so many arguments are given by position, with the numbers from 0
-/// on, and these by name. A position, a width and a precision use an argument, as `std::fmt` has
-/// it; but no number means one that is given by name.
+/// Compares the arguments that the pieces use with those that are given: `positional` many by
+/// position, with the indices from 0, and those in `names` by name. Returns the report on missing
+/// and unused arguments.
+///
+/// The position, the width and the precision of a placeholder can each use an argument, as in the
+/// documentation of `std::fmt`; but here an index never refers to an argument that is given by
+/// name. An allocation failure aborts, as elsewhere in Rust.
 pub fn check<'a>(pieces: &[Piece<'a>], positional: usize, names: &[&'a str]) -> Report<'a> {
     answer(check_in(Global, pieces, positional, names))
 }

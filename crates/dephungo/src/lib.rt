@@ -1,20 +1,30 @@
-//! The parser for callers in C and other languages: a whole input at once, into records of the caller's.
+//! The parser for callers in C and other languages: one call reads a whole input and writes the
+//! results into buffers of the caller.
 #![tactic(auto)]
 
 ghost use Rattle.std.specs.Prelude.{◌≡◌, ◌<◌, IfNone, IfSome, Some};
 ghost use Rattle.rustc_parse_format.specs.Types.{Mode};
 ghost use Rattle.flat_reading.specs.Meant.{is_set};
-ghost use Rattle.flat_reading.specs.Asked.{Fits, IsCounted, IsKept, IsTold, begun, buffers, mode_meant, refusal};
+ghost use Rattle.flat_reading.specs.Asked.{Fits, IsCounted, IsKept, IsTold, begun, buffers};
+ghost use Rattle.flat_reading.specs.Asked.{mode_meant, refusal};
 
 use flat_reading::read::read;
 use flat_reading::records::{Answer, DONE, Extent, Fault, NO_MEMORY, Options, SHORT, Spec, Step};
 use flat_reading::task::task_of;
 use std::alloc::Global;
 
-/// Reads an input, call by call, up to and with the call at its end, into records of the caller's. Answers one of the codes of
-/// `records`: `DONE`, and all is written; `SHORT`, and the answer tells how much room it takes; `NO_MEMORY`, and the answer is as
-/// it was. With each of these two nothing is said of the records. With any other code nothing is written. The input has at most
-/// 10^12 bytes, and a raw literal at most so many hashes.
+/// Reads an input, call by call, up to and including the call at its end, and writes the results
+/// into buffers of the caller. The header `bindings/c/dephungo.h` describes the records.
+///
+/// Returns one of the codes of `flat_reading::records`:
+///
+/// - `DONE`: all results are written, and `answer` has their lengths.
+/// - `SHORT`: a buffer is too short. `answer` has the lengths needed, in records and, for `texts`,
+///   in bytes; the contents of the buffers are unspecified.
+/// - `NO_MEMORY`: an allocation fails. `answer` is unchanged; the contents of the buffers are
+///   unspecified.
+/// - Any other code: the input or an option is invalid (not UTF-8, no such mode, or more than
+///   10^12 bytes or hashes of a raw literal), and nothing is written.
 #[unsafe(no_mangle)]
 pub extern "C" fn dephungo_read(
     alloc: Global,
@@ -28,20 +38,29 @@ pub extern "C" fn dephungo_read(
     lines: &mut [Extent],
     answer: &mut Answer,
 ) -> u32
-    // A call is refused exactly where it must be, and then nothing is written.
+    // The code of an invalid input or option is returned exactly if there is one, and then nothing
+    // is written.
     ensures refused { IfSome (refusal input.now snippet.now options.now) (λ e. result ≡ e) }
     ensures accepted { IfNone (refusal input.now snippet.now options.now) (result < 3) }
-    ensures unwritten { IfSome (refusal input.now snippet.now options.now) (λ e. (answer.new ≡ answer.old)
-        × ((buffers steps.new specs.new faults.new texts.new lines.new) ≡ (buffers steps.old specs.old faults.old texts.old lines.old))) }
+    ensures unwritten { IfSome (refusal input.now snippet.now options.now)
+        (λ e. (answer.new ≡ answer.old)
+        × ((buffers steps.new specs.new faults.new texts.new lines.new)
+        ≡ (buffers steps.old specs.old faults.old texts.old lines.old))) }
 
-    // What is read is counted, and written where it fits, which the code says.
-    ensures counted { result < 2 → (m : Mode) → mode_meant options.now.mode ≡ Some m → IsCounted (is_set options.now.peeks) (begun m options.now input.now snippet.now) answer.new }
+    // The answer has the lengths of all results; they are written if they fit, which the code
+    // says; what is past these lengths in a buffer is unchanged.
+    ensures counted { result < 2 → (m : Mode) → mode_meant options.now.mode ≡ Some m
+        → IsCounted (is_set options.now.peeks)
+        (begun m options.now input.now snippet.now) answer.new }
     ensures told { result ≡ DONE → (m : Mode) → mode_meant options.now.mode ≡ Some m
         → IsTold (is_set options.now.peeks) (begun m options.now input.now snippet.now) input.now
         (buffers steps.new specs.new faults.new texts.new lines.new) answer.new }
-    ensures done { result ≡ DONE → Fits (buffers steps.old specs.old faults.old texts.old lines.old) answer.new }
-    ensures short { result ≡ SHORT → ¬ (Fits (buffers steps.old specs.old faults.old texts.old lines.old) answer.new) }
-    ensures kept { result < 2 → IsKept answer.new (buffers steps.old specs.old faults.old texts.old lines.old)
+    ensures done { result ≡ DONE
+        → Fits (buffers steps.old specs.old faults.old texts.old lines.old) answer.new }
+    ensures short { result ≡ SHORT
+        → ¬ (Fits (buffers steps.old specs.old faults.old texts.old lines.old) answer.new) }
+    ensures kept { result < 2
+        → IsKept answer.new (buffers steps.old specs.old faults.old texts.old lines.old)
         (buffers steps.new specs.new faults.new texts.new lines.new) }
     ensures refused_memory { result ≡ NO_MEMORY → answer.new ≡ answer.old }
 {

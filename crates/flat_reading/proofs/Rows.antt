@@ -1,24 +1,29 @@
--- Worked rows, each by computing: what records mean, which calls there are, and which of them found the errors.
+-- Worked examples, each computed: what records mean, which calls there are, and which of them found
+-- the errors.
 use Rattle.std.proofs.Common.{◌≡◌, ℕ, [], ◌∷◌, Some, None, length, map, refl, codes, false, true}
 use Rattle.rustc_parse_format.specs.Characters.{Text}
 use Rattle.rustc_parse_format.specs.Types.{Format, default_spec, Lit}
 use Rattle.rustc_parse_format.specs.Faults.{UnmatchedBrace, RawIdentifier}
 use Rattle.rustc_parse_format.specs.World.{Place}
 use Rattle.rustc_parse_format.specs.State.{State, first_state}
-use Rattle.rustc_parse_format.proofs.Rows.{computing}
+use Rattle.rustc_parse_format.proofs.Rows.Definitions.{computing}
 use Rattle.flat_reading.specs.Meant.{spec_at, text_at}
 use Rattle.flat_reading.specs.Asked.{refusal}
-use Rattle.flat_reading.specs.Events.{Event, add_finders, events, found_by, fronts_of, is_default, states}
+use Rattle.flat_reading.specs.Events.{Event, add_finders, events, found_by, fronts_of, is_default}
+use Rattle.flat_reading.specs.Events.{states}
 
 start : Text → State
 start t = first_state Format t None None false
 
 -- Of three errors of one call the middle one goes to the front, and so do its finders.
-finders-go_as_errors : add_finders {A = ℕ} 3 (1 ∷ []) (UnmatchedBrace 0 ∷ RawIdentifier 0 0 ∷ UnmatchedBrace 0 ∷ []) ≡ 3 ∷ 1 ∷ 3 ∷ 3 ∷ []
+finders-go_as_errors : add_finders {A = ℕ} 3 (1 ∷ []) (UnmatchedBrace 0 ∷ RawIdentifier 0 0
+    ∷ UnmatchedBrace 0 ∷ []) ≡ 3 ∷ 1 ∷ 3 ∷ 3 ∷ []
 finders-go_as_errors = refl
 
--- A lone closing brace gives no piece, the calls go on behind it, and the one at the end is the last.
-calls-go_on : map (λ (e : Event). e.piece) (events false (start (codes "}a"))) ≡ None ∷ Some (Lit (codes "a")) ∷ None ∷ []
+-- A lone closing brace gives no piece, the calls go on behind it, and the one at the end is the
+-- last.
+calls-go_on : map (λ (e : Event). e.piece) (events false (start (codes "}a")))
+    ≡ None ∷ Some (Lit (codes "a")) ∷ None ∷ []
 unfolding computing states start
 calls-go_on = refl
 
@@ -54,7 +59,9 @@ beyond-is_no_spec : spec_at [] [] 1 ≡ record (default_spec {A = Place}) { fill
 unfolding spec_at
 beyond-is_no_spec = refl
 
-mode-is_refused : refusal [] [] (record { mode = 4; is_raw = 0; hashes = 0; has_snippet = 0; appended_newline = 0; peeks = 0 }) ≡ Some 5
+mode-is_refused : refusal [] []
+    (record { mode = 4; is_raw = 0; hashes = 0; has_snippet = 0; appended_newline = 0; peeks = 0 })
+    ≡ Some 5
 mode-is_refused = refl
 
 default-is_default : is_default {A = Place} default_spec ≡ true

@@ -1,8 +1,10 @@
--- The specifications of the buffer, by their numbers.
-use Rattle.std.proofs.Common.{◌≡◌, ℕ, zero, suc, ◌+◌, ◌<◌, ◌≤◌, Bool, true, false, ◌&&◌, not, List, [], ◌∷◌, Option, Some, None, length, take, map}
+-- The specifications in the buffer, by their numbers.
+use Rattle.std.proofs.Common.{◌≡◌, ℕ, zero, suc, ◌+◌, ◌<◌, ◌≤◌, Bool, true, false, ◌&&◌, not, List}
+use Rattle.std.proofs.Common.{[], ◌∷◌, Option, Some, None, length, take, map}
 use Rattle.std.proofs.Common.{set, get_or, refl, sym, ap, ◌∙◌, arith, add-one, is_none, length-set}
 use Rattle.std.proofs.lemmas.List.{get_or-map, get_or-take, get_or-set_same, take-map}
-use Rattle.rustc_parse_format.specs.Types.{Spec, Alignment, Left, Right, Center, Unknown, Count, Is, Name, Param, Star, Implied, default_spec}
+use Rattle.rustc_parse_format.specs.Types.{Spec, Alignment, Left, Right, Center, Unknown, Count, Is}
+use Rattle.rustc_parse_format.specs.Types.{Name, Param, Star, Implied, default_spec}
 use Rattle.rustc_parse_format.specs.Characters.{Text, is_nil}
 use Rattle.flat_reading.specs.declared.records.Spec.{Spec as SpecRecord}
 use Rattle.flat_reading.specs.Meant.{no_spec, spec_at, spec_meant}
@@ -42,7 +44,8 @@ pub default_is : {A : Type 0} (s : Spec A) → is_default s ≡ true → default
 default_is {A = A} s e =
     let parts = both e in
     let rest = both parts.1 in
-    let f1 = both parts.0 in let f2 = both f1.1 in let f3 = both f2.1 in let f4 = both f3.1 in let f5 = both f4.1 in let f6 = both f5.1 in
+    let f1 = both parts.0 in let f2 = both f1.1 in let f3 = both f2.1 in let f4 = both f3.1 in
+    let f5 = both f4.1 in let f6 = both f5.1 in
     let c1 = both rest.0 in let c2 = both c1.1 in let c3 = both c2.1 in
     let t = both rest.1 in
     let same : ◌≡◌ {A = Spec A} default_spec (record {
@@ -76,22 +79,27 @@ default_is {A = A} s e =
     ) refl in
     same
 
-pub spec_at-default : (input : List ℕ) (specs : List SpecRecord) → spec_at input specs 0 ≡ default_spec
+pub spec_at-default : (input : List ℕ) (specs : List SpecRecord)
+    → spec_at input specs 0 ≡ default_spec
 unfolding spec_at
 spec_at-default input specs = refl
 
-pub spec_at-put : (input : List ℕ) (specs : List SpecRecord) (n : ℕ) (r : SpecRecord) → n < length specs → spec_at input (set specs n r) (n + 1)
+pub spec_at-put : (input : List ℕ) (specs : List SpecRecord) (n : ℕ) (r : SpecRecord)
+    → n < length specs → spec_at input (set specs n r) (n + 1)
     ≡ spec_meant input r
 unfolding spec_at
 spec_at-put input specs n r h =
     let long : n < length (set specs n r) = omega (arith, length-set specs n r) in
-    rw add-one (get_or-map (spec_meant input) (set specs n r) n r no_spec long ∙ ap (spec_meant input) (get_or-set_same specs n r r h))
+    rw add-one (get_or-map (spec_meant input) (set specs n r) n r no_spec long
+    ∙ ap (spec_meant input) (get_or-set_same specs n r r h))
 
 -- Those in front of a number stay.
-pub spec_at-front : (input : List ℕ) (xs ys : List SpecRecord) (k n : ℕ) → n ≤ k → take k xs ≡ take k ys → spec_at input xs n ≡ spec_at input ys n
+pub spec_at-front : (input : List ℕ) (xs ys : List SpecRecord) (k n : ℕ) → n ≤ k
+    → take k xs ≡ take k ys → spec_at input xs n ≡ spec_at input ys n
 unfolding spec_at
 spec_at-front input xs ys k zero h e = refl
 spec_at-front input xs ys k (suc n) h e =
     sym (get_or-take k (map (spec_meant input) xs) n no_spec (omega arith))
-    ∙ ap (λ l. get_or l n no_spec) (take-map (spec_meant input) k xs ∙ ap (map (spec_meant input)) e ∙ sym (take-map (spec_meant input) k ys))
+    ∙ ap (λ l. get_or l n no_spec) (take-map (spec_meant input) k xs ∙ ap (map (spec_meant input)) e
+    ∙ sym (take-map (spec_meant input) k ys))
     ∙ get_or-take k (map (spec_meant input) ys) n no_spec (omega arith)

@@ -1,6 +1,8 @@
--- The loop over the calls: what is written so far, and what is left to do.
-use Rattle.std.proofs.Common.{◌≡◌, ◌≢◌, ℕ, zero, suc, ◌+◌, ◌<◌, ◌≤◌, ◌++◌, ◌⊎◌, inl, inr, Bool, true, false, cond, List, [], ◌∷◌, Option, Some, None}
-use Rattle.std.proofs.Common.{length, map, take, drop, set, sum_by, refl, sym, ap, ◌∙◌, append_assoc, arith, add-one, length-set}
+-- The loop over the calls: what has been written so far, and what is left to do.
+use Rattle.std.proofs.Common.{◌≡◌, ◌≢◌, ℕ, zero, suc, ◌+◌, ◌<◌, ◌≤◌, ◌++◌, ◌⊎◌, inl, inr, Bool}
+use Rattle.std.proofs.Common.{true, false, cond, List, [], ◌∷◌, Option, Some, None}
+use Rattle.std.proofs.Common.{length, map, take, drop, set, sum_by, refl, sym, ap, ◌∙◌}
+use Rattle.std.proofs.Common.{append_assoc, arith, add-one, length-set}
 use Rattle.std.specs.Prelude.{option_map}
 use Rattle.std.proofs.lemmas.List.{map-append, take_more_set, take_all}
 use Rattle.std.proofs.lemmas.List.Sums.{sum_by-cons}
@@ -10,16 +12,19 @@ use Rattle.rustc_parse_format.specs.Types.{Piece, Lit, NextArgument, Spec}
 use Rattle.rustc_parse_format.specs.World.{Place, piece_in}
 use Rattle.rustc_parse_format.specs.Call.{Call, call}
 use Rattle.rustc_parse_format.specs.State.{State, next_call, after, after_all}
-use Rattle.rustc_parse_format.proofs.Progress.{call-lt}
-use Rattle.rustc_parse_format.proofs.StateLines.{at_end, closed_in-none, end_faults}
+use Rattle.rustc_parse_format.proofs.Walking.Progress.{call-lt}
+use Rattle.rustc_parse_format.proofs.Lines.StateLines.{at_end, closed_in-none, end_faults}
 use Rattle.flat_reading.specs.declared.flat.SpecBuffer.{SpecBuffer}
 use Rattle.flat_reading.specs.declared.records.Step.{Step}
 use Rattle.flat_reading.specs.declared.records.Spec.{Spec as SpecRecord}
 use Rattle.rustc_parse_format.specs.Lines.{closed_in}
 use Rattle.flat_reading.specs.Meant.{maybe_place, piece_meant, spec_at}
-use Rattle.flat_reading.specs.Events.{Event, place_of_first, position, event, events, end_of, found_by}
-use Rattle.flat_reading.specs.Events.{finders_from, add_finders, fronts_in, fronts_of, given, looked_for}
-use Rattle.flat_reading.specs.Events.{spec_count, specs_in, is_default, states, states_for, step_meant}
+use Rattle.flat_reading.specs.Events.{Event, place_of_first, position, event, events, end_of}
+use Rattle.flat_reading.specs.Events.{found_by}
+use Rattle.flat_reading.specs.Events.{finders_from, add_finders, fronts_in, fronts_of, given}
+use Rattle.flat_reading.specs.Events.{looked_for}
+use Rattle.flat_reading.specs.Events.{spec_count, specs_in, is_default, states, states_for}
+use Rattle.flat_reading.specs.Events.{step_meant}
 use Rattle.flat_reading.specs.Held.{Found}
 use Rattle.flat_reading.specs.Stand.{Adds, IsAdded}
 use Rattle.flat_reading.proofs.Finding.{length-add_finders, length-after}
@@ -30,7 +35,8 @@ cut_at_end : (t : Text) (es : List State) → length t ≤ 0 → cond (is_nil t)
 cut_at_end [] es h = refl
 cut_at_end (c ∷ t) es h = absurd (omega arith)
 
-same_later : (t : Text) (xs ys : List State) → (t ≢ [] → xs ≡ ys) → ◌≡◌ {A = List State} (cond (is_nil t) [] xs) (cond (is_nil t) [] ys)
+same_later : (t : Text) (xs ys : List State) → (t ≢ [] → xs ≡ ys)
+    → ◌≡◌ {A = List State} (cond (is_nil t) [] xs) (cond (is_nil t) [] ys)
 same_later [] xs ys h = refl
 same_later (c ∷ t) xs ys h = h (λ k. cc)
 
@@ -41,7 +47,8 @@ goes_past (c ∷ t) es h = refl
 pub goes_on : (s : State) → s.rest ≢ [] → length (after s (next_call s)).rest < length s.rest
 goes_on s h = call-lt s.mode s.next s.rest h
 
-enough : (n m : ℕ) (s : State) → length s.rest ≤ n → length s.rest ≤ m → states_for n s ≡ states_for m s
+enough : (n m : ℕ) (s : State) → length s.rest ≤ n → length s.rest ≤ m
+    → states_for n s ≡ states_for m s
 enough zero zero s h k = refl
 enough zero (suc m) s h k = ap (λ es. s ∷ es) (sym (cut_at_end s.rest _ h))
 enough (suc n) zero s h k = ap (λ es. s ∷ es) (cut_at_end s.rest _ k)
@@ -54,15 +61,18 @@ pub states-end : (s : State) → s.rest ≡ [] → states s ≡ s ∷ []
 unfolding states
 states-end s e = rw e refl
 
-more_for : (n : ℕ) (s : State) → length s.rest ≡ n → s.rest ≢ [] → states_for n s ≡ s ∷ states (after s (next_call s))
+more_for : (n : ℕ) (s : State) → length s.rest ≡ n → s.rest ≢ []
+    → states_for n s ≡ s ∷ states (after s (next_call s))
 unfolding states
 more_for zero s e h = let l = goes_on s h in absurd (omega arith)
 more_for (suc n) s e h =
     let l = goes_on s h in
     ap (λ es. s ∷ es)
-    (goes_past s.rest _ h ∙ enough n (length (after s (next_call s)).rest) (after s (next_call s)) (omega arith) (omega arith))
+    (goes_past s.rest _ h ∙ enough n (length (after s (next_call s)).rest) (after s (next_call s))
+    (omega arith) (omega arith))
 
-pub states-more : (s new : State) → s.rest ≢ [] → new ≡ after s (next_call s) → states s ≡ s ∷ states new
+pub states-more : (s new : State) → s.rest ≢ [] → new ≡ after s (next_call s)
+    → states s ≡ s ∷ states new
 unfolding states
 states-more s new h e = rw e (more_for (length s.rest) s refl h)
 
@@ -79,11 +89,13 @@ few_more : (k : ℕ) (rs : List Step) (r : Step) → AllFew k rs → r.spec ≤ 
 few_more k [] r few h = (h, tt)
 few_more k (q ∷ rs) r few h = (few.0, few_more k rs r few.1 h)
 
-pub same_meant : (input : List ℕ) (xs ys : List SpecRecord) (k : ℕ) (rs : List Step) → take k xs ≡ take k ys → AllFew k rs → map (step_meant input xs) rs
+pub same_meant : (input : List ℕ) (xs ys : List SpecRecord) (k : ℕ) (rs : List Step)
+    → take k xs ≡ take k ys → AllFew k rs → map (step_meant input xs) rs
     ≡ map (step_meant input ys) rs
 same_meant input xs ys k [] e few = refl
 same_meant input xs ys k (r ∷ rs) e few =
-    let one : step_meant input xs r ≡ step_meant input ys r = rw (spec_at-front input xs ys k r.spec few.0 e) refl in
+    let one : step_meant input xs r ≡ step_meant input ys r =
+    rw (spec_at-front input xs ys k r.spec few.0 e) refl in
     let others = same_meant input xs ys k rs e few.1 in cc
 
 specs_in-le : {A : Type 0} (o : Option (Piece A)) → specs_in o ≤ 1
@@ -95,8 +107,10 @@ specs_in-le (Some (NextArgument a)) = by_test (is_default a.format)
     by_test true = omega arith
     by_test false = omega arith
 
--- So far so many steps and specifications are told of the calls from the state s0 on, which came to s; the calls at the states `todo` are left.
-pub record IsUpTo (peeks : Bool) (input : List ℕ) (s0 : State) (todo : List State) (s : State) (count used : ℕ) (found : Found) (steps : List Step)
+-- So far so many steps and specifications are told of the calls from the state s0 on, which came to
+-- s; the calls at the states `todo` are left.
+pub record IsUpTo (peeks : Bool) (input : List ℕ) (s0 : State) (todo : List State) (s : State)
+    (count used : ℕ) (found : Found) (steps : List Step)
     (specs : List SpecRecord) : Type 0 where
   pub counted : count + length todo ≡ length (states s0)
   pub specs_counted : used + sum_by (λ (t : State). specs_in (given t)) todo ≡ spec_count s0
@@ -105,93 +119,133 @@ pub record IsUpTo (peeks : Bool) (input : List ℕ) (s0 : State) (todo : List St
   pub finders : finders_from count found.calls (map next_call todo) ≡ found_by s0
   pub fronts : found.fronts + sum_by fronts_in (map next_call todo) ≡ fronts_of s0
   pub few : AllFew used (take count steps)
-  pub written : count ≤ length steps → used ≤ length specs → map (step_meant input specs) (take count steps) ++ map (event peeks) todo ≡ events peeks s0
+  pub written : count ≤ length steps → used ≤ length specs
+      → map (step_meant input specs) (take count steps) ++ map (event peeks) todo ≡ events peeks s0
 
 -- a step was put where there is room
 abbrev IsPut : List Step → ℕ → Step → List Step → Type 0
-IsPut old count r new = (count < length old → new ≡ set old count r) × (length old ≤ count → new ≡ old)
+IsPut old count r new = (count < length old → new ≡ set old count r)
+    × (length old ≤ count → new ≡ old)
 
-put_few : (k j : ℕ) (old new : List Step) (count : ℕ) (r : Step) → IsPut old count r new → k ≤ j → r.spec ≤ j → AllFew k (take count old)
+put_few : (k j : ℕ) (old new : List Step) (count : ℕ) (r : Step) → IsPut old count r new → k ≤ j
+    → r.spec ≤ j → AllFew k (take count old)
     → AllFew j (take (count + 1) new)
 put_few k j old new count r put h few all = by_room (cases_lt count (length old))
   where
     by_room : (count < length old) ⊎ (length old ≤ count) → AllFew j (take (count + 1) new)
-    by_room (inl room) = rw (put.0 room, take_more_set old count r room) (few_more j (take count old) r (more_few k j (take count old) h all) few)
-    by_room (inr full) = rw (put.1 full, take_all (count + 1) old (omega arith)) (more_few k j old h (rw (take_all count old full) at all))
+    by_room (inl room) = rw (put.0 room, take_more_set old count r room)
+        (few_more j (take count old) r (more_few k j (take count old) h all) few)
+    by_room (inr full) = rw (put.1 full, take_all (count + 1) old (omega arith))
+        (more_few k j old h (rw (take_all count old full) at all))
 
-put_length : (count : ℕ) (old new : List Step) (r : Step) → IsPut old count r new → length new ≡ length old
+put_length : (count : ℕ) (old new : List Step) (r : Step) → IsPut old count r new
+    → length new ≡ length old
 put_length count old new r put = by_room (cases_lt count (length old))
   where
     by_room : (count < length old) ⊎ (length old ≤ count) → length new ≡ length old
     by_room (inl room) = ap length (put.0 room) ∙ length-set old count r
     by_room (inr full) = ap length (put.1 full)
 
-pub one_more : (peeks : Bool) (input : List ℕ) (s0 s new : State) (todo : List State) (count used used' : ℕ) (found found' : Found) (steps steps' : List Step)
+pub one_more : (peeks : Bool) (input : List ℕ) (s0 s new : State) (todo : List State)
+    (count used used' : ℕ) (found found' : Found) (steps steps' : List Step)
     (specs specs' : List SpecRecord) →
-    IsUpTo peeks input s0 (s ∷ todo) s count used found steps specs → new ≡ after s (next_call s) → used' ≡ used + specs_in (given s) →
-    found'.calls ≡ add_finders count found.calls (next_call s).faults → found'.fronts ≡ found.fronts + fronts_in (next_call s) →
-    IsAdded input (event peeks s) count used' steps steps' specs' → take used specs' ≡ take used specs → length specs' ≡ length specs →
+    IsUpTo peeks input s0 (s ∷ todo) s count used found steps specs → new ≡ after s (next_call s)
+    → used' ≡ used + specs_in (given s) →
+    found'.calls ≡ add_finders count found.calls (next_call s).faults
+    → found'.fronts ≡ found.fronts + fronts_in (next_call s) →
+    IsAdded input (event peeks s) count used' steps steps' specs'
+    → take used specs' ≡ take used specs → length specs' ≡ length specs →
     IsUpTo peeks input s0 todo new (count + 1) used' found' steps' specs'
-one_more peeks input s0 s new todo count used used' found found' steps steps' specs specs' h state more finders fronts added front long =
+one_more peeks input s0 s new todo count used used' found found' steps steps' specs specs' h state
+    more finders fronts added front long =
     let r = added.step in
     let put = added.put in
     let one = specs_in-le (given s) in
     let wide : used ≤ used' = omega (arith, more) in
     record {
       counted = omega (arith, h.counted);
-      specs_counted = omega (arith, h.specs_counted, more, sum_by-cons (λ (t : State). specs_in (given t)) s todo);
+      specs_counted = omega (
+        arith,
+        h.specs_counted,
+        more,
+        sum_by-cons (λ (t : State). specs_in (given t)) s todo,
+      );
       fewer = omega (arith, h.fewer, more, one);
       state = rw state h.state;
       finders = rw (add-one, finders) h.finders;
-      fronts = omega (arith, h.fronts, fronts, sum_by-cons fronts_in (next_call s) (map next_call todo));
+      fronts = omega (
+        arith,
+        h.fronts,
+        fronts,
+        sum_by-cons fronts_in (next_call s) (map next_call todo),
+      );
       few = put_few used used' steps steps' count r put wide added.few h.few;
       written = λ room specs_room.
           let there = put_length count steps steps' r put in
           let fits : count < length steps = omega (arith, there, room) in
           let in_specs : used' ≤ length specs' = omega (arith, long, specs_room) in
           let earlier = h.written (omega arith) (omega arith) in
-          rw (put.0 fits, take_more_set steps count r fits, map-append (step_meant input specs') (take count steps) (r ∷ []))
-          (append_assoc (map (step_meant input specs') (take count steps)) (step_meant input specs' r ∷ []) (map (event peeks) todo)
-          ∙ ap (λ l. l ++ (step_meant input specs' r ∷ map (event peeks) todo)) (same_meant input specs' specs used (take count steps) front h.few)
-          ∙ ap (λ e. map (step_meant input specs) (take count steps) ++ (e ∷ map (event peeks) todo)) (added.told in_specs)
+          rw (
+            put.0 fits,
+            take_more_set steps count r fits,
+            map-append (step_meant input specs') (take count steps) (r ∷ []),
+          )
+          (append_assoc (map (step_meant input specs') (take count steps))
+          (step_meant input specs' r ∷ []) (map (event peeks) todo)
+          ∙ ap (λ l. l ++ (step_meant input specs' r ∷ map (event peeks) todo))
+          (same_meant input specs' specs used (take count steps) front h.few)
+          ∙ ap (λ e. map (step_meant input specs) (take count steps)
+          ++ (e ∷ map (event peeks) todo)) (added.told in_specs)
           ∙ earlier);
     }
 
 -- From the start on.
-pub added_on : (m : ℕ) (a b c : SpecBuffer) → a.used ≡ 0 → Adds b.used a b → Adds m b c → Adds c.used a c
+pub added_on : (m : ℕ) (a b c : SpecBuffer) → a.used ≡ 0 → Adds b.used a b → Adds m b c
+    → Adds c.used a c
 added_on m a b c e h k = record {
   same = k.same ∙ h.same;
   room = k.room ∙ h.room;
   used = omega (arith, e);
   front = rw e refl;
-  kept = k.kept ∙ still_behind b.records.now a.records.now b.used c.used (omega (arith, k.used)) h.kept;
+  kept = k.kept ∙ still_behind b.records.now a.records.now b.used c.used
+      (omega (arith, k.used)) h.kept;
 }
 
 -- What was not written yet.
-pub kept_put : (input : List ℕ) (e : Event) (old new orig : List Step) (specs : List SpecRecord) (count used : ℕ)
-    → IsAdded input e count used old new specs → drop count old ≡ drop count orig → drop (count + 1) new ≡ drop (count + 1) orig
+pub kept_put : (input : List ℕ) (e : Event) (old new orig : List Step) (specs : List SpecRecord)
+    (count used : ℕ)
+    → IsAdded input e count used old new specs → drop count old ≡ drop count orig
+    → drop (count + 1) new ≡ drop (count + 1) orig
 kept_put input e old new orig specs count used added h = by_room (cases_lt count (length old))
   where
-    by_room : (count < length old) ⊎ (length old ≤ count) → drop (count + 1) new ≡ drop (count + 1) orig
+    by_room : (count < length old) ⊎ (length old ≤ count) → drop (count + 1) new
+        ≡ drop (count + 1) orig
     by_room (inl room) = rw (added.put.0 room) (keep_put old orig count added.step h)
     by_room (inr full) = rw (added.put.1 full) (keep_more old orig count h)
 
 -- A step tells of its call.
-pub told : (peeks : Bool) (input : List ℕ) (specs : List SpecRecord) (r : Step) (s t : State) → t ≡ after s (next_call s) →
-    piece_meant input (spec_at input specs r.spec) r ≡ option_map (piece_in s.world) (next_call s).piece → maybe_place r.place
+pub told : (peeks : Bool) (input : List ℕ) (specs : List SpecRecord) (r : Step) (s t : State)
+    → t ≡ after s (next_call s) →
+    piece_meant input (spec_at input specs r.spec) r
+    ≡ option_map (piece_in s.world) (next_call s).piece → maybe_place r.place
     ≡ closed_in s.world (next_call s).closes →
-    r.read ≡ position t.input t.rest → r.next ≡ t.next → r.lines ≡ length t.line_spans → maybe_place r.peek ≡ looked_for peeks (place_of_first t t.rest) →
-    maybe_place r.peek_ahead ≡ looked_for peeks (place_of_first t (behind_first t.rest)) → step_meant input specs r ≡ event peeks s
-told peeks input specs r s t state piece place read next lines peek ahead = rw (piece, place, read, next, lines, peek, ahead, state) refl
+    r.read ≡ position t.input t.rest → r.next ≡ t.next → r.lines ≡ length t.line_spans
+    → maybe_place r.peek ≡ looked_for peeks (place_of_first t t.rest) →
+    maybe_place r.peek_ahead ≡ looked_for peeks (place_of_first t (behind_first t.rest))
+    → step_meant input specs r ≡ event peeks s
+told peeks input specs r s t state piece place read next lines peek ahead =
+    rw (piece, place, read, next, lines, peek, ahead, state) refl
 
--- The call at the end gives nothing, finds nothing and closes nothing, and there is nothing to look for.
+-- The call at the end gives nothing, finds nothing and closes nothing, and there is nothing to look
+-- for.
 pub end_specs : (s : State) → s.rest ≡ [] → specs_in (given s) ≡ 0
 end_specs s e = ap (λ o. specs_in (option_map (piece_in s.world) o)) (at_end s e).0
 
 pub end_fronts : (s : State) → s.rest ≡ [] → fronts_in (next_call s) ≡ 0
 end_fronts s e = rw (end_faults s e) refl
 
-pub end_finders : (n : ℕ) (old : List ℕ) (s : State) → s.rest ≡ [] → add_finders n old (next_call s).faults ≡ old
+pub end_finders : (n : ℕ) (old : List ℕ) (s : State) → s.rest ≡ []
+    → add_finders n old (next_call s).faults ≡ old
 end_finders n old s e = rw (end_faults s e) refl
 
 end_closes : (s : State) → s.rest ≡ [] → closed_in s.world (next_call s).closes ≡ None
@@ -202,28 +256,38 @@ not_looked_for : (peeks : Bool) → looked_for peeks None ≡ None
 not_looked_for true = refl
 not_looked_for false = refl
 
-pub no_piece : (input : List ℕ) (spec : Spec Place) (r : Step) → r.kind ≡ 0 → piece_meant input spec r ≡ None
+pub no_piece : (input : List ℕ) (spec : Spec Place) (r : Step) → r.kind ≡ 0
+    → piece_meant input spec r ≡ None
 unfolding piece_meant
 no_piece input spec r e = rw e refl
 
-pub told_end : (peeks : Bool) (input : List ℕ) (specs : List SpecRecord) (r : Step) (s t : State) → t ≡ after s (next_call s) → s.rest ≡ [] →
-    piece_meant input (spec_at input specs r.spec) r ≡ None → maybe_place r.place ≡ None → r.read ≡ position t.input t.rest → r.next ≡ t.next →
-    r.lines ≡ length t.line_spans → maybe_place r.peek ≡ None → maybe_place r.peek_ahead ≡ None → step_meant input specs r ≡ event peeks s
+pub told_end : (peeks : Bool) (input : List ℕ) (specs : List SpecRecord) (r : Step) (s t : State)
+    → t ≡ after s (next_call s) → s.rest ≡ [] →
+    piece_meant input (spec_at input specs r.spec) r ≡ None → maybe_place r.place ≡ None
+    → r.read ≡ position t.input t.rest → r.next ≡ t.next →
+    r.lines ≡ length t.line_spans → maybe_place r.peek ≡ None → maybe_place r.peek_ahead ≡ None
+    → step_meant input specs r ≡ event peeks s
 told_end peeks input specs r s t state e piece place read next lines peek ahead =
     let none : t.rest ≡ [] = ap (λ (u : State). u.rest) (state ∙ (at_end s e).1) ∙ e in
     let no_peek = ap (λ u. looked_for peeks (place_of_first t u)) none ∙ not_looked_for peeks in
-    let no_ahead = ap (λ u. looked_for peeks (place_of_first t (behind_first u))) none ∙ not_looked_for peeks in
-    told peeks input specs r s t state (piece ∙ sym (ap (option_map (piece_in s.world)) (at_end s e).0)) (place ∙ sym (end_closes s e)) read next lines
+    let no_ahead = ap (λ u. looked_for peeks (place_of_first t (behind_first u))) none
+    ∙ not_looked_for peeks in
+    told peeks input specs r s t state (piece
+    ∙ sym (ap (option_map (piece_in s.world)) (at_end s e).0))
+    (place ∙ sym (end_closes s e)) read next lines
     (peek ∙ sym no_peek) (ahead ∙ sym no_ahead)
 
 -- As many finders as errors.
-pub length-finders : (n : ℕ) (old : List ℕ) (s : State) (ks : List Call) → length old ≡ length s.errors → length (finders_from n old ks)
+pub length-finders : (n : ℕ) (old : List ℕ) (s : State) (ks : List Call)
+    → length old ≡ length s.errors → length (finders_from n old ks)
     ≡ length (after_all s ks).errors
 length-finders n old s [] e = e
 length-finders n old s (k ∷ ks) e =
-    length-finders (suc n) (add_finders n old k.faults) (after s k) ks (omega (arith, length-add_finders n old k.faults, length-after s k, e))
+    length-finders (suc n) (add_finders n old k.faults) (after s k) ks
+    (omega (arith, length-add_finders n old k.faults, length-after s k, e))
 
-pub begin : (peeks : Bool) (input : List ℕ) (s : State) (found : Found) (steps : List Step) (specs : List SpecRecord) → found.calls ≡ [] → found.fronts ≡ 0 →
+pub begin : (peeks : Bool) (input : List ℕ) (s : State) (found : Found) (steps : List Step)
+    (specs : List SpecRecord) → found.calls ≡ [] → found.fronts ≡ 0 →
     IsUpTo peeks input s (states s) s 0 0 found steps specs
 begin peeks input s found steps specs e f = record {
   counted = omega arith;

@@ -1,6 +1,8 @@
--- What the records of errors say, over the buffer of texts.
-use Rattle.std.specs.Prelude.{◌≡◌, ℕ, ◌+◌, ◌≤◌, ◌++◌, List, [], ◌∷◌, length, take, drop, Option, Some, None, slice_range, sum_by}
-use Rattle.rustc_parse_format.specs.Faults.{Message, Suggestion, Nothing, UsePositional, RemoveRawIdent, ReorderFormatParameter, AddMissingColon}
+-- What the records of errors say, with their texts in the buffer of texts.
+use Rattle.std.specs.Prelude.{◌≡◌, ℕ, ◌+◌, ◌≤◌, ◌++◌, List, [], ◌∷◌, length, take, drop, Option}
+use Rattle.std.specs.Prelude.{Some, None, slice_range, sum_by}
+use Rattle.rustc_parse_format.specs.Faults.{Message, Suggestion, Nothing, UsePositional}
+use Rattle.rustc_parse_format.specs.Faults.{RemoveRawIdent, ReorderFormatParameter, AddMissingColon}
 use Rattle.rustc_parse_format.specs.Faults.{UseRustDebugPrintingMacro}
 use Rattle.rustc_parse_format.specs.World.{Place}
 use Rattle.flat_reading.specs.declared.records.Extent.{Extent}
@@ -8,57 +10,65 @@ use Rattle.flat_reading.specs.declared.records.MaybeExtent.{MaybeExtent}
 use Rattle.flat_reading.specs.declared.records.Fault.{Fault}
 use Rattle.flat_reading.specs.Meant.{place}
 
--- the text stands there
+-- The text is in the buffer, from the byte `from` to the byte `to`.
 pub record Holds (texts : List ℕ) (from to : ℕ) (text : List ℕ) : Type 0 where
   pub within : to ≤ length texts
   pub same : slice_range texts from to ≡ text
 
+-- The range holds the text, or both are absent.
 abbrev pub HoldsMaybe : List ℕ → MaybeExtent → Option (List ℕ) → Type 0
 HoldsMaybe texts r None = r.there ≡ 0
 HoldsMaybe texts r (Some t) = (r.there ≡ 1) × Holds texts r.from r.to t
 
+-- The two ranges hold the text of a second label and its place, or there is no second label.
 abbrev pub HoldsSecond : List ℕ → MaybeExtent → Extent → Option (List ℕ × Place) → Type 0
 HoldsSecond texts r s None = r.there ≡ 0
 HoldsSecond texts r s (Some x) = (r.there ≡ 1) × Holds texts r.from r.to x.0 × (place s ≡ x.1)
 
+-- The kind, the span and the text in a record are those of the suggestion.
 abbrev pub HoldsSuggestion : List ℕ → ℕ → Extent → Extent → Suggestion Place → Type 0
 HoldsSuggestion texts kind span text Nothing = kind ≡ 0
 HoldsSuggestion texts kind span text UsePositional = kind ≡ 1
 HoldsSuggestion texts kind span text (RemoveRawIdent s) = (kind ≡ 2) × (place span ≡ s)
-HoldsSuggestion texts kind span text (ReorderFormatParameter s t) = (kind ≡ 3) × (place span ≡ s) × Holds texts text.from text.to t
+HoldsSuggestion texts kind span text (ReorderFormatParameter s t) = (kind ≡ 3) × (place span ≡ s)
+    × Holds texts text.from text.to t
 HoldsSuggestion texts kind span text (AddMissingColon s) = (kind ≡ 4) × (place span ≡ s)
 HoldsSuggestion texts kind span text UseRustDebugPrintingMacro = kind ≡ 5
 
--- the record is the flat form of the error
+-- The record is the flat form of the error.
 pub record HoldsError (texts : List ℕ) (f : Fault) (m : Message Place) : Type 0 where
   pub description : Holds texts f.description.from f.description.to m.description
   pub note : HoldsMaybe texts f.note m.note
   pub label : Holds texts f.label.from f.label.to m.label
   pub span : place f.span ≡ m.span
   pub second : HoldsSecond texts f.second_label f.second_span m.second
-  pub suggestion : HoldsSuggestion texts f.suggestion f.suggestion_span f.suggestion_text m.suggestion
+  pub suggestion : HoldsSuggestion texts f.suggestion f.suggestion_span f.suggestion_text
+      m.suggestion
 
--- each record is that of the error at the same place
+-- There are as many records as errors, and each record is the flat form of the error at the same
+-- index.
 abbrev pub HoldsErrors : List ℕ → List Fault → List (Message Place) → Type 0
 HoldsErrors texts [] [] = Unit {0}
 HoldsErrors texts [] (m ∷ ms) = ⊥
 HoldsErrors texts (f ∷ fs) [] = ⊥
 HoldsErrors texts (f ∷ fs) (m ∷ ms) = HoldsError texts f m × HoldsErrors texts fs ms
 
--- the calls that found the errors, and how many of the errors were put in front
+-- The calls that found the errors, and how many errors were added at the start of the list.
 pub record Found : Type 0 where
   pub calls : List ℕ
   pub fronts : ℕ
 
--- how many bytes the texts of an error take
+-- How many bytes an optional text takes.
 abbrev pub maybe_len : Option (List ℕ) → ℕ
 maybe_len None = 0
 maybe_len (Some t) = length t
 
+-- How many bytes the text of a second label takes.
 abbrev pub second_len : Option (List ℕ × Place) → ℕ
 second_len None = 0
 second_len (Some x) = length x.0
 
+-- How many bytes the text of a suggestion takes.
 abbrev pub suggestion_len : Suggestion Place → ℕ
 suggestion_len Nothing = 0
 suggestion_len UsePositional = 0
@@ -67,19 +77,21 @@ suggestion_len (ReorderFormatParameter s t) = length t
 suggestion_len (AddMissingColon s) = 0
 suggestion_len UseRustDebugPrintingMacro = 0
 
+-- How many bytes the texts of an error take.
 abbrev pub message_len : Message Place → ℕ
-message_len m = length m.description + maybe_len m.note + length m.label + second_len m.second + suggestion_len m.suggestion
+message_len m = length m.description + maybe_len m.note + length m.label + second_len m.second
+    + suggestion_len m.suggestion
 
--- the same of all errors
+-- How many bytes the texts of all errors take.
 abbrev pub texts_len : List (Message Place) → ℕ
 texts_len ms = sum_by message_len ms
 
--- the second begins with the first
+-- The second list begins with the first.
 abbrev pub Extends : List ℕ → List ℕ → Type 0
 Extends xs ys = (more : List ℕ) × (ys ≡ xs ++ more)
 
--- From the old bytes in front of one place to the new ones in front of another: nothing that was there changes, and
--- nothing behind the second one.
+-- Bytes were written from the offset `from` to the offset `to`: those before `from` are unchanged
+-- if there was room, and those after `to` are unchanged.
 pub record Grows (old new : List ℕ) (from to : ℕ) : Type 0 where
   pub forward : from ≤ to
   pub front : to ≤ length old → Extends (take from old) (take to new)

@@ -1,9 +1,14 @@
--- What the records mean: each as the part of a piece that it is the flat form of. Texts stand in the bytes of the input.
-use Rattle.std.specs.Prelude.{ℕ, Bool, ◌==◌, not, ◌&&◌, ◌||◌, nat_le, nat_lt, if◌then◌else◌, List, [], ◌∷◌, length, map, Option, Some, None, chars}
+-- What the flat records mean: each is the flat form of a part of a piece. Texts are ranges of the
+-- bytes of the input. The header `bindings/c/dephungo.h` describes the records for C.
+use Rattle.std.specs.Prelude.{ℕ, Bool, ◌==◌, not, ◌&&◌, ◌||◌, nat_le, nat_lt, if◌then◌else◌, List}
+use Rattle.std.specs.Prelude.{[], ◌∷◌, length, map, Option, Some, None, chars}
 use Rattle.std.specs.Prelude.{codes, slice_index, slice_index_or, slice_range}
 use Rattle.rustc_parse_format.specs.Characters.{Text}
-use Rattle.rustc_parse_format.specs.Types.{Alignment, Left, Right, Center, Unknown, Sign, Plus, Minus, DebugHex, Lower, Upper, Position, Implicit, Index, Named}
-use Rattle.rustc_parse_format.specs.Types.{Count, Is, Name, Param, Star, Implied, Spec, Argument, Piece, Lit, NextArgument, default_spec}
+use Rattle.rustc_parse_format.specs.Types.{Alignment, Left, Right, Center, Unknown, Sign, Plus}
+use Rattle.rustc_parse_format.specs.Types.{Minus, DebugHex, Lower, Upper, Position, Implicit, Index}
+use Rattle.rustc_parse_format.specs.Types.{Named}
+use Rattle.rustc_parse_format.specs.Types.{Count, Is, Name, Param, Star, Implied, Spec, Argument}
+use Rattle.rustc_parse_format.specs.Types.{Piece, Lit, NextArgument, default_spec}
 use Rattle.rustc_parse_format.specs.World.{Place}
 use Rattle.flat_reading.specs.declared.records.Extent.{Extent}
 use Rattle.flat_reading.specs.declared.records.MaybeExtent.{MaybeExtent}
@@ -11,56 +16,70 @@ use Rattle.flat_reading.specs.declared.records.CountRecord.{CountRecord}
 use Rattle.flat_reading.specs.declared.records.Spec.{Spec as SpecRecord}
 use Rattle.flat_reading.specs.declared.records.Step.{Step}
 
+-- The place that a range means.
 abbrev pub place : Extent → Place
 place r = (r.from, r.to)
 
--- a character begins there, or the text ends
+-- A character begins at this byte offset, or the text ends there.
 abbrev pub is_boundary : List ℕ → ℕ → Bool
-is_boundary input i = nat_le i (length input) && (nat_le (length input) i || (nat_lt (slice_index input i) 128 || nat_le 192 (slice_index input i)))
+is_boundary input i = nat_le i (length input)
+    && (nat_le (length input) i
+    || (nat_lt (slice_index input i) 128 || nat_le 192 (slice_index input i)))
 
--- no character has this number
+-- A text that no input has: 1114112 is not the code of a character.
 abbrev pub no_text : Text
 no_text = 1114112 ∷ []
 
--- the characters that stand there; where that runs backwards or cuts a character, what is no text
+-- The characters in a range of the input. If the range runs backwards or cuts a character, the
+-- result is `no_text`.
 unfoldable pub text_at : List ℕ → Extent → Text
 text_at input r =
-    if nat_le r.from r.to && (is_boundary input r.from && is_boundary input r.to) then chars (slice_range input r.from r.to) else no_text
+    if nat_le r.from r.to && (is_boundary input r.from && is_boundary input r.to)
+    then chars (slice_range input r.from r.to) else no_text
 
--- the characters of a run of text, which ends at the byte up to which was read
+-- The characters of a run of text, whose range has to end at `read`, where the call stopped.
 abbrev pub run_at : List ℕ → ℕ → Extent → Text
 run_at input read r = if r.to == read then text_at input r else no_text
 
+-- The number means true: it is not 0.
 abbrev pub is_set : ℕ → Bool
 is_set n = not (n == 0)
 
+-- The place that an optional range means. None if it is absent.
 abbrev pub maybe_place : MaybeExtent → Option Place
 maybe_place r = if r.there == 0 then None else Some (r.from, r.to)
 
+-- The fill that a number stands for: the character with this code, or None for 1114112.
 abbrev pub fill_meant : ℕ → Option ℕ
 fill_meant n = if n == 1114112 then None else Some n
 
--- no placeholder has this fill, which is no character
+-- A fill that no placeholder has: 1114112 is not the code of a character.
 abbrev pub no_fill : Option ℕ
 no_fill = Some 1114112
 
+-- The alignment that a number stands for.
 abbrev pub align_meant : ℕ → Alignment
-align_meant n = if n == 1 then Left else (if n == 2 then Right else (if n == 3 then Center else Unknown))
+align_meant n = if n == 1 then Left
+    else (if n == 2 then Right else (if n == 3 then Center else Unknown))
 
+-- The sign that a number stands for.
 abbrev pub sign_meant : ℕ → Option Sign
 sign_meant n = if n == 1 then Some Plus else (if n == 2 then Some Minus else None)
 
+-- The case of the hexadecimal digits that a number stands for.
 abbrev pub hex_meant : ℕ → Option DebugHex
 hex_meant n = if n == 1 then Some Lower else (if n == 2 then Some Upper else None)
 
--- a type of one of the kinds; that of the kind 1 stands in the input, and one of a kind that there is not is no text
+-- The type of this kind. A type of the kind 1 is a range of the input, and an unknown kind has
+-- `no_text`.
 abbrev pub type_meant : List ℕ → ℕ → Extent → Text
 type_meant input kind r =
     if kind == 0 then []
     else (if kind == 1 then text_at input r
-    else (if kind == 2 then codes "x" else (if kind == 3 then codes "X" else (if kind == 4 then codes "?" else no_text))))
+    else (if kind == 2 then codes "x"
+    else (if kind == 3 then codes "X" else (if kind == 4 then codes "?" else no_text))))
 
--- a count of one of the kinds; one of a kind that there is not has no text for a name
+-- The count of a record, by its kind. An unknown kind has a name that is `no_text`.
 unfoldable pub count_meant : List ℕ → CountRecord → Count Place
 count_meant input k =
     if k.kind == 0 then Implied
@@ -69,10 +88,11 @@ count_meant input k =
     else (if k.kind == 3 then Param k.number
     else (if k.kind == 4 then Star k.number else Name no_text (place k.name_span)))))
 
--- the alignment and the flags are among those that there are
+-- The alignment, the sign and the case of a record have known numbers.
 abbrev pub is_listed : SpecRecord → Bool
 is_listed s = nat_lt s.align 4 && (nat_lt s.sign 3 && nat_lt s.debug_hex 3)
 
+-- The specification that a record means.
 unfoldable pub spec_meant : List ℕ → SpecRecord → Spec Place
 spec_meant input s = record {
   fill = if is_listed s then fill_meant s.fill else no_fill;
@@ -90,19 +110,23 @@ spec_meant input s = record {
   ty_span = maybe_place s.ty_span;
 }
 
--- no placeholder asks for this
+-- A specification that no placeholder has.
 abbrev pub no_spec : Spec Place
 no_spec = record default_spec { fill = no_fill }
 
--- The specification with this number: the default one is 0, and those of the buffer are counted from 1. No other number has one.
+-- The specification with this number. The number 0 is that of the default one, and the records of
+-- the buffer are counted from 1. Any other number means `no_spec`.
 unfoldable pub spec_at : List ℕ → List SpecRecord → ℕ → Spec Place
 spec_at input specs n = slice_index_or (default_spec ∷ map (spec_meant input) specs) n no_spec
 
+-- The position that a kind, a number and a range mean.
 abbrev pub position_meant : List ℕ → ℕ → ℕ → Extent → Position
 position_meant input kind number name =
-    if kind == 0 then Implicit number else (if kind == 1 then Index number else Named (if kind == 2 then text_at input name else no_text))
+    if kind == 0 then Implicit number
+    else (if kind == 1 then Index number
+    else Named (if kind == 2 then text_at input name else no_text))
 
--- the argument of a step, with its specification
+-- The argument of a step, with its specification.
 abbrev pub argument_meant : List ℕ → Spec Place → Step → Argument Place
 argument_meant input spec r = record {
   position = position_meant input r.position r.number r.text;
@@ -110,9 +134,11 @@ argument_meant input spec r = record {
   format = spec;
 }
 
--- the piece of a step, with the specification of its argument; one of a kind that there is not is no text
+-- The piece of a step, with the specification of its argument. An unknown kind means the text
+-- `no_text`.
 unfoldable pub piece_meant : List ℕ → Spec Place → Step → Option (Piece Place)
 piece_meant input spec r =
     if r.kind == 0 then None
     else (if r.kind == 1 then Some (Lit (run_at input r.read r.text))
-    else (if r.kind == 2 then Some (NextArgument (argument_meant input spec r)) else Some (Lit no_text)))
+    else (if r.kind == 2 then Some (NextArgument (argument_meant input spec r))
+    else Some (Lit no_text)))

@@ -1,10 +1,13 @@
--- Where the texts of a piece stand in the input: private words, for contracts of private functions.
-use Rattle.std.specs.Prelude.{◌≡◌, ◌≢◌, ℕ, ◌+◌, ◌-◌, ◌<◌, ◌≤◌, ◌⊎◌, List, [], ◌++◌, length, take, drop, set, option_map, Bool, Option, Some, None, chars, codes}
+-- Where the texts of a piece are in the input. Private definitions, for contracts of private
+-- functions.
+use Rattle.std.specs.Prelude.{◌≡◌, ◌≢◌, ℕ, ◌+◌, ◌-◌, ◌<◌, ◌≤◌, ◌⊎◌, List, [], ◌++◌, length, take}
+use Rattle.std.specs.Prelude.{drop, set, option_map, Bool, Option, Some, None, chars, codes}
 use Rattle.std.specs.Prelude.{encode_utf8_all, slice_range}
 use Rattle.std.specs.Str.{IsUtf8}
 use Rattle.rustc_parse_format.specs.Characters.{Text}
 use Rattle.rustc_parse_format.specs.Characters.{byte_length}
-use Rattle.rustc_parse_format.specs.Types.{Position, Implicit, Index, Named, Count, Is, Name, Param, Star, Implied, Spec, Argument, Piece, Lit, NextArgument}
+use Rattle.rustc_parse_format.specs.Types.{Position, Implicit, Index, Named, Count, Is, Name, Param}
+use Rattle.rustc_parse_format.specs.Types.{Star, Implied, Spec, Argument, Piece, Lit, NextArgument}
 use Rattle.rustc_parse_format.specs.World.{Place, piece_in, plain_world}
 use Rattle.rustc_parse_format.specs.State.{State, after, next_call}
 use Rattle.rustc_parse_format.specs.Agreement.{Agree}
@@ -18,27 +21,29 @@ use Rattle.flat_reading.specs.declared.walk.Walker.{Walker}
 use Rattle.flat_reading.specs.Events.{Event, add_finders, fronts_in, position, step_meant}
 use Rattle.flat_reading.specs.Meant.{run_at, text_at, type_meant}
 
--- these bytes stand there
+-- The input has these bytes from the offset `from` on.
 abbrev pub HasBytes : List ℕ → ℕ → List ℕ → Type 0
-HasBytes input from bytes = (from + length bytes ≤ length input) × (slice_range input from (from + length bytes) ≡ bytes)
+HasBytes input from bytes = (from + length bytes ≤ length input)
+    × (slice_range input from (from + length bytes) ≡ bytes)
 
--- the text stands there
+-- The input has the bytes of this text from the offset `from` on.
 abbrev pub Stands : List ℕ → ℕ → Text → Type 0
 Stands input from t = HasBytes input from (encode_utf8_all t)
 
--- unless it is empty
+-- The input has the bytes of this text from the offset `from` on, unless the text is empty.
 abbrev pub StandsAt : List ℕ → ℕ → Text → Type 0
 StandsAt input from t = t ≢ [] → Stands input from t
 
--- or it stands there behind these bytes
+-- The text is in the input at the offset `from`, or these bytes and then the text are.
 abbrev pub StandsBehind : List ℕ → List ℕ → ℕ → Text → Type 0
-StandsBehind input prefix from t = StandsAt input from t ⊎ HasBytes input from (prefix ++ encode_utf8_all t)
+StandsBehind input prefix from t = StandsAt input from t
+    ⊎ HasBytes input from (prefix ++ encode_utf8_all t)
 
--- the text is what was read last
+-- The text is what was read last: it ends at the offset `read`.
 abbrev pub IsLast : List ℕ → ℕ → Text → Type 0
 IsLast input read t = text_at input (record { from = read - byte_length t; to = read }) ≡ t
 
--- The texts of a piece stand at their spans less an offset, and that of a run in front of what was read.
+-- The name in a count, if it has one, is in the input at the start of its span, less the offset.
 abbrev pub CountStands : List ℕ → ℕ → Count Place → Type 0
 CountStands input offset (Is n) = Unit {0}
 CountStands input offset (Name w s) = StandsAt input (s.0 - offset) w
@@ -46,34 +51,42 @@ CountStands input offset (Param n) = Unit {0}
 CountStands input offset (Star n) = Unit {0}
 CountStands input offset Implied = Unit {0}
 
--- a type without a span is one of these
+-- The type is one that may have no span: it is empty, `x`, `X` or `?`.
 abbrev pub IsListed : Text → Type 0
 IsListed t = (t ≡ []) ⊎ ((t ≡ codes "x") ⊎ ((t ≡ codes "X") ⊎ (t ≡ codes "?")))
 
+-- A type with a span is in the input at the start of its span, less the offset, or after a colon
+-- there. A type without a span is one that may have none.
 abbrev pub TypeStands : List ℕ → ℕ → Option Place → Text → Type 0
 TypeStands input offset None t = IsListed t
 TypeStands input offset (Some s) t = StandsBehind input (codes ":") (s.0 - offset) t
 
+-- The texts of a specification are in the input at the start of their spans, less the offset.
 pub record SpecStands (input : List ℕ) (offset : ℕ) (s : Spec Place) : Type 0 where
   pub width : CountStands input offset s.width
   pub precision : CountStands input offset s.precision
   pub ty : TypeStands input offset s.ty_span s.ty
 
+-- The name of a position, if it has one, is in the input at the offset `from`, or after an `r#`
+-- there.
 abbrev pub PositionStands : List ℕ → ℕ → Position → Type 0
 PositionStands input from (Implicit n) = Unit {0}
 PositionStands input from (Index n) = Unit {0}
 PositionStands input from (Named w) = StandsBehind input (codes "r#") from w
 
+-- The texts of an argument are in the input at the start of their spans, less the offset.
 pub record ArgumentStands (input : List ℕ) (offset : ℕ) (a : Argument Place) : Type 0 where
   pub position : PositionStands input (a.position_span.0 - offset) a.position
   pub format : SpecStands input offset a.format
 
+-- The texts of a piece are in the input at the start of their spans, less the offset. A run of text
+-- is what was read last.
 abbrev pub PieceStands : List ℕ → ℕ → ℕ → Option (Piece Place) → Type 0
 PieceStands input offset read None = Unit {0}
 PieceStands input offset read (Some (Lit t)) = IsLast input read t
 PieceStands input offset read (Some (NextArgument a)) = ArgumentStands input offset a
 
--- The extents are those of the texts of the piece, which was read up to a byte.
+-- The text t is the name in a count, if it has one.
 abbrev pub CountAt : {A : Type 0} → Text → Count A → Type 0
 CountAt t (Is n) = Unit {0}
 CountAt t (Name w s) = t ≡ w
@@ -81,46 +94,53 @@ CountAt t (Param n) = Unit {0}
 CountAt t (Star n) = Unit {0}
 CountAt t Implied = Unit {0}
 
+-- The ranges in x hold the texts of the specification.
 pub record SpecAt {A : Type 0} (input : List ℕ) (x : Texts) (s : Spec A) : Type 0 where
   pub width : CountAt (text_at input x.width) s.width
   pub precision : CountAt (text_at input x.precision) s.precision
   pub ty : type_meant input x.type_kind x.ty ≡ s.ty
 
+-- The text t is the name of a position, if it has one.
 abbrev pub PositionAt : Text → Position → Type 0
 PositionAt t (Implicit n) = Unit {0}
 PositionAt t (Index n) = Unit {0}
 PositionAt t (Named w) = t ≡ w
 
+-- The ranges in x hold the texts of the piece, after which the parser is at the offset `read`.
 abbrev pub PieceAt : {A : Type 0} → List ℕ → ℕ → Texts → Option (Piece A) → Type 0
 PieceAt input read x None = Unit {0}
 PieceAt input read x (Some (Lit t)) = run_at input read x.text ≡ t
-PieceAt input read x (Some (NextArgument a)) = PositionAt (text_at input x.text) a.position × SpecAt input x a.format
+PieceAt input read x (Some (NextArgument a)) = PositionAt (text_at input x.text) a.position
+    × SpecAt input x a.format
 
--- the places of a parser are those in the input, so many bytes later
+-- Each place of the parser is that in the input, moved by `offset` bytes.
 abbrev pub IsPlain : State → ℕ → Type 0
 IsPlain s offset = (b : Bool) × (e : ℕ) × (s.world ≡ plain_world b offset s.input e)
 
--- the parser that goes along
+-- The state of the second parser that goes along with the first, if there is one.
 abbrev pub guide_of : Option (Box State Global) → Option State
 guide_of g = option_map (λ b. b.value) g
 
--- so are its own, or those of another parser that goes along, one byte later
+-- The parser's places are those in the input, moved by `offset` bytes. Or a second parser agrees
+-- with it, whose places are those in the input moved by one byte.
 abbrev pub IsGuided : State → ℕ → Option State → Type 0
 IsGuided s offset None = IsPlain s offset
 IsGuided s offset (Some o) = Agree s o × IsPlain o 1
 
--- the second is what is left of the first
+-- The second text is a suffix of the first.
 abbrev pub EndsWith : Text → Text → Type 0
 EndsWith input rest = (front : Text) × (input ≡ front ++ rest)
 
--- a parser over these bytes that reads up to a byte by its next call, and whose places are one byte later
+-- A parser over these bytes whose next call ends at the offset `read`, and whose places are those
+-- in the input moved by one byte.
 pub record IsAlong (s : State) (input : List ℕ) (read : ℕ) : Type 0 where
   pub is_plain : IsPlain s 1
   pub input_is : chars input ≡ s.input
   pub left : EndsWith s.input s.rest
   pub reads : read ≡ position s.input (next_call s).rest
 
--- So many specifications were added behind the others, as far as there was room, and nothing else was written.
+-- The count of specifications grew by n. They are written after the others, as far as there is
+-- room, and nothing else is written.
 pub record Adds (n : ℕ) (old new : SpecBuffer) : Type 0 where
   pub same : new.records.ghost_name ≡ old.records.ghost_name
   pub room : length new.records.now ≡ length old.records.now
@@ -128,35 +148,42 @@ pub record Adds (n : ℕ) (old new : SpecBuffer) : Type 0 where
   pub front : take old.used new.records.now ≡ take old.used old.records.now
   pub kept : drop new.used new.records.now ≡ drop new.used old.records.now
 
--- What is left ends the input, and it is known where the texts of its pieces stand.
+-- What is left of a walker's input is a suffix of the whole, and it is known where the texts of the
+-- pieces are.
 pub record IsOnItsWay (w : Walker) : Type 0 where
   pub utf8 : IsUtf8 w.input.now
   pub input : chars w.input.now ≡ w.parser.input
   pub left : EndsWith w.parser.input w.parser.rest
   pub guided : IsGuided w.parser w.offset (guide_of w.guide)
 
--- the call with this number was made, and it is known which errors it found
+-- The walker made the next call, which has this number, and recorded which errors it found.
 pub record MakesCall (number : ℕ) (old new : Walker) : Type 0 where
   pub state : new.parser ≡ after old.parser (next_call old.parser)
   pub ready : IsOnItsWay new
-  pub finders : new.finders.calls ≡ add_finders number old.finders.calls (next_call old.parser).faults
+  pub finders : new.finders.calls
+      ≡ add_finders number old.finders.calls (next_call old.parser).faults
   pub fronts : new.finders.fronts ≡ old.finders.fronts + fronts_in (next_call old.parser)
   pub input : new.input.now ≡ old.input.now
   pub peeks : new.peeks ≡ old.peeks
 
--- where there is room, a step was put that tells of an event, with so many specifications by then
-pub record IsAdded (input : List ℕ) (e : Event) (count used : ℕ) (old new : List Step) (specs : List SpecRecord) : Type 0 where
+-- A step that describes the event was written at the index `count`, if there is room. By then
+-- `used` specifications are counted.
+pub record IsAdded (input : List ℕ) (e : Event) (count used : ℕ) (old new : List Step)
+    (specs : List SpecRecord) : Type 0 where
   pub step : Step
   pub put : (count < length old → new ≡ set old count step) × (length old ≤ count → new ≡ old)
   pub few : step.spec ≤ used
   pub told : used ≤ length specs → step_meant input specs step ≡ e
 
--- the guide's texts are those of the piece
+-- Ranges that hold the texts of the piece of the second parser also hold those of the piece o.
 abbrev pub StandsAlike : List ℕ → ℕ → State → Option (Piece Place) → Type 0
-StandsAlike input read g o = (x : Texts) → PieceAt input read x (option_map (piece_in g.world) (next_call g).piece) → PieceAt input read x o
+StandsAlike input read g o = (x : Texts)
+    → PieceAt input read x (option_map (piece_in g.world) (next_call g).piece)
+    → PieceAt input read x o
 
--- what stands behind the call is the same
+-- What the two steps say about the state after the call is the same.
 abbrev pub SameBehind : Step → Step → Type 0
 SameBehind old new =
-    (new.place ≡ old.place) × (new.read ≡ old.read) × (new.next ≡ old.next) × (new.lines ≡ old.lines) × (new.peek ≡ old.peek)
+    (new.place ≡ old.place) × (new.read ≡ old.read) × (new.next ≡ old.next)
+    × (new.lines ≡ old.lines) × (new.peek ≡ old.peek)
     × (new.peek_ahead ≡ old.peek_ahead)

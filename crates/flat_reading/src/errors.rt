@@ -1,10 +1,13 @@
 //! Errors as records, with their texts in a buffer.
 
-ghost use Rattle.std.specs.Prelude.{◌≡◌, ◌+◌, ◌≤◌, ◌++◌, drop, length, map, min, option_map, string_bytes, take};
+ghost use Rattle.std.specs.Prelude.{◌≡◌, ◌+◌, ◌≤◌, ◌++◌, drop, length, map, min, option_map};
+ghost use Rattle.std.specs.Prelude.{string_bytes, take};
 ghost use Rattle.rustc_parse_format.specs.Seen.{pair, seen_error, seen_suggestion};
 ghost use Rattle.flat_reading.specs.declared.records.Fault.{Fault as FaultRecord};
-ghost use Rattle.flat_reading.specs.Held.{Grows, Holds, HoldsError, HoldsErrors, HoldsMaybe, HoldsSecond};
-ghost use Rattle.flat_reading.specs.Held.{HoldsSuggestion, maybe_len, message_len, second_len, suggestion_len, texts_len};
+ghost use Rattle.flat_reading.specs.Held.{Grows, Holds, HoldsError, HoldsErrors, HoldsMaybe};
+ghost use Rattle.flat_reading.specs.Held.{HoldsSecond};
+ghost use Rattle.flat_reading.specs.Held.{HoldsSuggestion, maybe_len, message_len, second_len};
+ghost use Rattle.flat_reading.specs.Held.{suggestion_len, texts_len};
 
 use crate::finders::Finders;
 use crate::flat::{NO_EXTENT, NOWHERE, extent};
@@ -16,11 +19,13 @@ use crate::records::{
 use rustc_parse_format::{ParseError, Suggestion};
 use std::ops::Range;
 
-/// Puts a text behind the `used` bytes, if there is room, and counts it.
+/// Writes a text after the first `used` bytes of `texts`, if it fits, and adds its length to `used`
+/// in any case. Returns its byte range there.
 fn put(texts: &mut [u8], used: &mut usize, text: &str) -> Extent
     ensures grows { Grows texts.old texts.new used.old used.new }
     ensures counted { used.new ≡ min (used.old + length text.now) usize.MAX }
-    ensures holds { used.new ≤ length texts.old → Holds (take used.new texts.new) result.from result.to text.now }
+    ensures holds { used.new ≤ length texts.old
+        → Holds (take used.new texts.new) result.from result.to text.now }
 {
     let from = *used;
     let to = from.saturating_add(text.len());
@@ -31,11 +36,14 @@ fn put(texts: &mut [u8], used: &mut usize, text: &str) -> Extent
     Extent { from, to }
 }
 
+/// Writes a note as `put` does, if there is one, and returns its byte range there.
 fn put_note(texts: &mut [u8], used: &mut usize, note: &Option<String>) -> MaybeExtent
     requires { used.old ≤ usize.MAX }
     ensures grows { Grows texts.old texts.new used.old used.new }
-    ensures counted { used.new ≡ min (used.old + maybe_len (option_map string_bytes note.now)) usize.MAX }
-    ensures holds { used.new ≤ length texts.old → HoldsMaybe (take used.new texts.new) result (option_map string_bytes note.now) }
+    ensures counted { used.new
+        ≡ min (used.old + maybe_len (option_map string_bytes note.now)) usize.MAX }
+    ensures holds { used.new ≤ length texts.old
+        → HoldsMaybe (take used.new texts.new) result (option_map string_bytes note.now) }
 {
     match note {
         Some(note) => {
@@ -50,6 +58,8 @@ fn put_note(texts: &mut [u8], used: &mut usize, note: &Option<String>) -> MaybeE
     }
 }
 
+/// Writes a secondary label as `put` does, if there is one. Returns its byte range there, and the
+/// label's span in the source.
 fn put_second(
     texts: &mut [u8],
     used: &mut usize,
@@ -57,8 +67,12 @@ fn put_second(
 ) -> (MaybeExtent, Extent)
     requires { used.old ≤ usize.MAX }
     ensures grows { Grows texts.old texts.new used.old used.new }
-    ensures counted { used.new ≡ min (used.old + second_len (option_map (λ x. (string_bytes x.0, pair x.1)) second.now)) usize.MAX }
-    ensures holds { used.new ≤ length texts.old → HoldsSecond (take used.new texts.new) result.0 result.1 (option_map (λ x. (string_bytes x.0, pair x.1)) second.now) }
+    ensures counted { used.new
+        ≡ min (used.old + second_len (option_map (λ x. (string_bytes x.0, pair x.1)) second.now))
+        usize.MAX }
+    ensures holds { used.new ≤ length texts.old
+        → HoldsSecond (take used.new texts.new) result.0 result.1
+        (option_map (λ x. (string_bytes x.0, pair x.1)) second.now) }
 {
     match second {
         Some((label, span)) => {
@@ -74,6 +88,8 @@ fn put_second(
     }
 }
 
+/// Writes the text of a suggestion as `put` does, if it has one. Returns one of `MEND_..`, the
+/// suggestion's span in the source, and the byte range of its text in `texts`.
 fn put_suggestion(
     texts: &mut [u8],
     used: &mut usize,
@@ -81,8 +97,11 @@ fn put_suggestion(
 ) -> (u32, Extent, Extent)
     requires { used.old ≤ usize.MAX }
     ensures grows { Grows texts.old texts.new used.old used.new }
-    ensures counted { used.new ≡ min (used.old + suggestion_len (seen_suggestion suggestion.now)) usize.MAX }
-    ensures holds { used.new ≤ length texts.old → HoldsSuggestion (take used.new texts.new) result.0 result.1 result.2 (seen_suggestion suggestion.now) }
+    ensures counted { used.new
+        ≡ min (used.old + suggestion_len (seen_suggestion suggestion.now)) usize.MAX }
+    ensures holds { used.new ≤ length texts.old
+        → HoldsSuggestion (take used.new texts.new) result.0 result.1 result.2
+        (seen_suggestion suggestion.now) }
 {
     match suggestion {
         Suggestion::None => (MEND_NONE, NOWHERE, NOWHERE),
@@ -99,11 +118,13 @@ fn put_suggestion(
     }
 }
 
-/// The record of an error that a step found.
+/// Returns the record of an error that was found by the step with the index `step`, and writes its
+/// texts as `put` does.
 fn put_error(texts: &mut [u8], used: &mut usize, error: &ParseError, step: usize) -> Fault
     ensures grows { Grows texts.old texts.new used.old used.new }
     ensures counted { used.new ≡ min (used.old + message_len (seen_error error.now)) usize.MAX }
-    ensures holds { used.new ≤ length texts.old → HoldsError (take used.new texts.new) result (seen_error error.now) }
+    ensures holds { used.new ≤ length texts.old
+        → HoldsError (take used.new texts.new) result (seen_error error.now) }
     ensures step { result.step ≡ step }
 {
     let description = put(texts, used, error.description.as_str());
@@ -129,7 +150,8 @@ fn put_error(texts: &mut [u8], used: &mut usize, error: &ParseError, step: usize
     }
 }
 
-/// Writes the errors and which steps found them, as far as there is room, and gives how many bytes their texts take.
+/// Writes the records of the errors and their texts, as far as they fit. Returns the length of all
+/// their texts in bytes, or `usize::MAX` if that is less. Does not allocate.
 pub fn put_errors(
     errors: &[ParseError],
     finders: &Finders,
@@ -139,10 +161,13 @@ pub fn put_errors(
     requires { length finders.now.calls ≡ length errors.now }
     ensures holds { result ≤ length texts.old → length errors.now ≤ length faults.old
         → HoldsErrors texts.new (take (length errors.now) faults.new) (map seen_error errors.now) }
-    ensures found { length errors.now ≤ length faults.old → map (λ (f : FaultRecord). f.step) (take (length errors.now) faults.new) ≡ finders.now.calls }
+    ensures found { length errors.now ≤ length faults.old
+        → map (λ (f : FaultRecord). f.step) (take (length errors.now) faults.new)
+        ≡ finders.now.calls }
     ensures counted { result ≡ min (texts_len (map seen_error errors.now)) usize.MAX }
     ensures kept_texts { drop result texts.new ≡ drop result texts.old }
-    ensures kept_faults { drop (length errors.now) faults.new ≡ drop (length errors.now) faults.old }
+    ensures kept_faults { drop (length errors.now) faults.new
+        ≡ drop (length errors.now) faults.old }
 {
     let mut used = 0;
     for i in 0..errors.len() {

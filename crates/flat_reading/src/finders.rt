@@ -1,16 +1,16 @@
-//! Which call found each of the errors.
+//! Which call of the parser found each error.
 
 ghost use Rattle.std.specs.Prelude.{◌≡◌, ◌++◌, OnOk, replicate};
 
 use std::alloc::{AllocError, Global};
 use std::marker::Model;
 
-/// The numbers of the calls that found the errors, in the order of the errors.
+/// The numbers of the calls that found the errors, in the order of the list of errors.
 #[derive(Drop)]
 pub struct Finders {
-    /// Of the errors that were put in front of the others, the last one last.
+    /// Those of the errors that were put at the front of the list, in reverse order.
     fronts: Vec<usize>,
-    /// Of the errors behind them.
+    /// Those of the errors after them.
     backs: Vec<usize>,
 }
 
@@ -20,10 +20,13 @@ impl Model for Finders {
 
     ghost Value = { Found };
 
-    ghost view = { λ f. record { calls = reverse f.fronts.items ++ f.backs.items; fronts = length f.fronts.items } };
+    ghost view = { λ f. record {
+      calls = reverse f.fronts.items ++ f.backs.items;
+      fronts = length f.fronts.items;
+    } };
 }
 
-/// Puts a number so many times behind a list.
+/// Appends a number to a list, `times` times. Returns `Err` if an allocation fails.
 fn repeat(list: &mut Vec<usize>, number: usize, times: usize) -> Result<(), AllocError>
     ensures { OnOk result (list.new.items ≡ list.old.items ++ replicate times number) }
 {
@@ -34,8 +37,10 @@ fn repeat(list: &mut Vec<usize>, number: usize, times: usize) -> Result<(), Allo
 }
 
 impl Finders {
-    ghost use Rattle.std.specs.Prelude.{◌≡◌, ◌+◌, ◌-◌, ◌<◌, ◌≤◌, ◌++◌, [], OnOk, length, replicate, slice_index};
+    ghost use Rattle.std.specs.Prelude.{◌≡◌, ◌+◌, ◌-◌, ◌<◌, ◌≤◌, ◌++◌, [], OnOk, length, replicate};
+    ghost use Rattle.std.specs.Prelude.{slice_index};
 
+    /// Creates an empty list. Does not allocate.
     pub fn new(alloc: Global) -> Finders
         ensures { result ≡ record { calls = []; fronts = 0 } }
     {
@@ -45,10 +50,12 @@ impl Finders {
         }
     }
 
-    /// A call with this number found so many errors, and so many of them were put in front.
+    /// Adds the call `number`, which found `found` errors, of which `fronts` were put at the front
+    /// of the list. Returns `Err` if an allocation fails.
     pub fn add(&mut self, number: usize, fronts: usize, found: usize) -> Result<(), AllocError>
         requires { fronts ≤ found }
-        ensures calls { OnOk result (self.new.calls ≡ replicate fronts number ++ (self.old.calls ++ replicate (found - fronts) number)) }
+        ensures calls { OnOk result (self.new.calls ≡ replicate fronts number
+            ++ (self.old.calls ++ replicate (found - fronts) number)) }
         ensures fronts { OnOk result (self.new.fronts ≡ self.old.fronts + fronts) }
     {
         if found > 0 {
@@ -58,14 +65,14 @@ impl Finders {
         Ok(())
     }
 
-    /// How many errors were put in front.
+    /// Returns the number of errors that were put at the front of the list.
     pub fn fronts(&self) -> usize
         ensures { result ≡ self.now.fronts }
     {
         self.fronts.len()
     }
 
-    /// Which call found the error with this number.
+    /// Returns the number of the call that found the error with this index.
     pub fn get(&self, index: usize) -> usize
         requires { index < length self.now.calls }
         ensures { result ≡ slice_index self.now.calls index }

@@ -1,16 +1,21 @@
-//! Pieces as records.
+//! Writes pieces as records.
 
-ghost use Rattle.std.specs.Prelude.{◌≡◌, ℕ, ◌+◌, ◌<◌, ◌≤◌, if◌then◌else◌, List, Some, chars, drop, length, option_map, take, true};
+ghost use Rattle.std.specs.Prelude.{◌≡◌, ℕ, ◌+◌, ◌<◌, ◌≤◌, if◌then◌else◌, List, Some, chars, drop};
+ghost use Rattle.std.specs.Prelude.{length, option_map, take, true};
 ghost use Rattle.rustc_parse_format.specs.Seen.{pair, seen_alignment, seen_argument, seen_count};
-ghost use Rattle.rustc_parse_format.specs.Seen.{seen_debug_hex, seen_position, seen_sign, seen_spec, seen_taken};
+ghost use Rattle.rustc_parse_format.specs.Seen.{seen_debug_hex, seen_position, seen_sign};
+ghost use Rattle.rustc_parse_format.specs.Seen.{seen_spec, seen_taken};
 ghost use Rattle.rustc_parse_format.specs.Characters.{is_nil};
 ghost use Rattle.rustc_parse_format.specs.Types.{NextArgument};
 ghost use Rattle.flat_reading.specs.declared.records.Extent.{Extent as ExtentRecord};
 ghost use Rattle.flat_reading.specs.declared.records.Spec.{Spec as SpecRecord};
 ghost use Rattle.flat_reading.specs.Events.{has_no_counts, has_no_flags, is_default, specs_in};
-ghost use Rattle.flat_reading.specs.Meant.{align_meant, count_meant, fill_meant, hex_meant, is_set, maybe_place, piece_meant};
-ghost use Rattle.flat_reading.specs.Meant.{place as place_meant, position_meant, sign_meant, spec_at, spec_meant, text_at};
-ghost use Rattle.flat_reading.specs.Stand.{Adds, ArgumentStands, CountAt, PieceAt, PieceStands, PositionAt, SameBehind, SpecAt};
+ghost use Rattle.flat_reading.specs.Meant.{align_meant, count_meant, fill_meant, hex_meant, is_set};
+ghost use Rattle.flat_reading.specs.Meant.{maybe_place, piece_meant};
+ghost use Rattle.flat_reading.specs.Meant.{place as place_meant, position_meant, sign_meant};
+ghost use Rattle.flat_reading.specs.Meant.{spec_at, spec_meant, text_at};
+ghost use Rattle.flat_reading.specs.Stand.{Adds, ArgumentStands, CountAt, PieceAt, PieceStands};
+ghost use Rattle.flat_reading.specs.Stand.{PositionAt, SameBehind, SpecAt};
 
 use crate::records::{
     ALIGN_CENTER, ALIGN_LEFT, ALIGN_RIGHT, ALIGN_UNKNOWN, COUNT_IMPLIED, COUNT_IS, COUNT_IS_NAME,
@@ -22,9 +27,10 @@ use crate::texts::{Texts, argument_texts, name_extent, run_extent};
 use rustc_parse_format::{Alignment, Argument, Count, DebugHex, FormatSpec, Position, Sign, Taken};
 use std::ops::Range;
 
+/// The byte range in a record where none is meant.
 pub const NOWHERE: Extent = Extent { from: 0, to: 0 };
 
-/// The extent of a range.
+/// Returns a byte range as a record.
 pub fn extent(range: &Range<usize>) -> Extent
     ensures { place_meant result ≡ pair range.now }
 {
@@ -34,13 +40,14 @@ pub fn extent(range: &Range<usize>) -> Extent
     }
 }
 
+/// The record of no byte range.
 pub const NO_EXTENT: MaybeExtent = MaybeExtent {
     there: 0,
     from: 0,
     to: 0,
 };
 
-/// The same of a range that is there.
+/// Returns a byte range as a record that may also hold none.
 #[inline(always)]
 pub fn there(range: &Range<usize>) -> MaybeExtent
     ensures { maybe_place result ≡ Some (pair range.now) }
@@ -52,7 +59,7 @@ pub fn there(range: &Range<usize>) -> MaybeExtent
     }
 }
 
-/// The same of a range that may be there.
+/// Returns a byte range, or none, as a record.
 fn maybe(range: &Option<Range<usize>>) -> MaybeExtent
     ensures { maybe_place result ≡ option_map pair range.now }
 {
@@ -62,12 +69,14 @@ fn maybe(range: &Option<Range<usize>>) -> MaybeExtent
     }
 }
 
+/// Returns 1 for true and 0 for false.
 pub fn flag(given: bool) -> u32
     ensures { is_set result ≡ given }
 {
     if given { 1 } else { 0 }
 }
 
+/// Returns the code of a fill character, or `NO_FILL`.
 fn fill(fill: Option<char>) -> u32
     ensures { fill_meant result ≡ fill }
 {
@@ -77,6 +86,7 @@ fn fill(fill: Option<char>) -> u32
     }
 }
 
+/// Returns the one of `ALIGN_..` for an alignment.
 fn align(align: Alignment) -> u32
     ensures same { align_meant result ≡ seen_alignment align }
     ensures listed { result < 4 }
@@ -89,6 +99,7 @@ fn align(align: Alignment) -> u32
     }
 }
 
+/// Returns the one of `SIGN_..` for a sign flag.
 fn sign(sign: Option<Sign>) -> u32
     ensures same { sign_meant result ≡ option_map seen_sign sign }
     ensures listed { result < 3 }
@@ -100,6 +111,7 @@ fn sign(sign: Option<Sign>) -> u32
     }
 }
 
+/// Returns the one of `HEX_..` for the case of hexadecimal digits.
 fn debug_hex(hex: Option<DebugHex>) -> u32
     ensures same { hex_meant result ≡ option_map seen_debug_hex hex }
     ensures listed { result < 3 }
@@ -111,8 +123,14 @@ fn debug_hex(hex: Option<DebugHex>) -> u32
     }
 }
 
+/// Returns the record of a count that has no name.
 fn numbered(kind: u32, number: usize) -> CountRecord
-    ensures { result ≡ record { kind = kind; number = number; name = record { from = 0; to = 0 }; name_span = record { from = 0; to = 0 } } }
+    ensures { result ≡ record {
+      kind = kind;
+      number = number;
+      name = record { from = 0; to = 0 };
+      name_span = record { from = 0; to = 0 };
+    } }
 {
     CountRecord {
         kind,
@@ -122,10 +140,11 @@ fn numbered(kind: u32, number: usize) -> CountRecord
     }
 }
 
-/// A count, whose name stands there in the input.
+/// Returns the record of a count. `name` is the byte range of its name in the input.
 #[tactic(auto, unfolding(crate::specs::Meant::count_meant))]
 fn count(count: &Count<'_>, name: Extent) -> CountRecord
-    ensures { (input : List ℕ) → CountAt (text_at input name) (seen_count count.now) → count_meant input result ≡ seen_count count.now }
+    ensures { (input : List ℕ) → CountAt (text_at input name) (seen_count count.now)
+        → count_meant input result ≡ seen_count count.now }
 {
     match count {
         Count::CountImplied => numbered(COUNT_IMPLIED, 0),
@@ -141,10 +160,11 @@ fn count(count: &Count<'_>, name: Extent) -> CountRecord
     }
 }
 
-/// A specification, whose texts stand there in the input.
+/// Returns the record of a specification. `texts` has the byte ranges of its texts in the input.
 #[tactic(auto, unfolding(crate::specs::Meant::spec_meant))]
 fn spec_record(spec: &FormatSpec<'_>, texts: &Texts) -> Spec
-    ensures { (input : List ℕ) → SpecAt input texts.now (seen_spec spec.now) → spec_meant input result ≡ seen_spec spec.now }
+    ensures { (input : List ℕ) → SpecAt input texts.now (seen_spec spec.now)
+        → spec_meant input result ≡ seen_spec spec.now }
 {
     Spec {
         fill: fill(spec.fill),
@@ -164,6 +184,7 @@ fn spec_record(spec: &FormatSpec<'_>, texts: &Texts) -> Spec
     }
 }
 
+/// Returns whether a specification has no fill, alignment or flag.
 fn has_no_flags(spec: &FormatSpec<'_>) -> bool
     ensures { result ≡ has_no_flags (seen_spec spec.now) }
 {
@@ -176,6 +197,7 @@ fn has_no_flags(spec: &FormatSpec<'_>) -> bool
         && spec.debug_hex.is_none()
 }
 
+/// Returns whether a specification has no width and no precision.
 fn has_no_counts(spec: &FormatSpec<'_>) -> bool
     ensures { result ≡ has_no_counts (seen_spec spec.now) }
 {
@@ -185,13 +207,14 @@ fn has_no_counts(spec: &FormatSpec<'_>) -> bool
         && spec.precision_span.is_none()
 }
 
+/// Returns whether a text is empty.
 fn is_empty(text: &str) -> bool
     ensures { result ≡ is_nil (chars text.now) }
 {
     text.is_empty()
 }
 
-/// The specification is the default one.
+/// Returns whether a specification is the default one.
 #[inline(always)]
 fn is_default(spec: &FormatSpec<'_>) -> bool
     ensures { result ≡ is_default (seen_spec spec.now) }
@@ -199,26 +222,28 @@ fn is_default(spec: &FormatSpec<'_>) -> bool
     has_no_flags(spec) && has_no_counts(spec) && is_empty(spec.ty) && spec.ty_span.is_none()
 }
 
-/// The number of a specification that is the default one, which no record tells of.
+/// Returns the number of the default specification, which has no record.
 #[inline(always)]
 fn no_spec(spec: &FormatSpec<'_>) -> usize
     requires { is_default (seen_spec spec.now) ≡ true }
-    ensures told { (input : List ℕ) (specs : List SpecRecord) → spec_at input specs result ≡ seen_spec spec.now }
+    ensures told { (input : List ℕ) (specs : List SpecRecord) → spec_at input specs result
+        ≡ seen_spec spec.now }
     ensures number { result ≡ 0 }
 {
     let _spec = spec;
     0
 }
 
-/// Room for specifications: each is written behind the others, as far as there is room.
+/// A buffer for specifications: each is written after those before it, as long as they fit.
 #[derive(Drop)]
 pub struct SpecBuffer<'a> {
     records: &'a mut [Spec],
-    /// How many there are, those without room among them.
+    /// The number of specifications, including those that do not fit.
     used: usize,
 }
 
 impl<'a> SpecBuffer<'a> {
+    /// Creates a buffer without specifications, over these records.
     pub fn new(records: &'a mut [Spec]) -> SpecBuffer<'a>
         ensures same { result.records.ghost_name ≡ records.entry.ghost_name }
         ensures records { result.records.now ≡ records.old }
@@ -227,18 +252,19 @@ impl<'a> SpecBuffer<'a> {
         SpecBuffer { records, used: 0 }
     }
 
-    /// How many specifications there are.
+    /// Returns the number of specifications, including those that do not fit.
     pub fn used(&self) -> usize
         ensures { result ≡ self.now.used }
     {
         self.used
     }
 
-    /// Adds a specification and gives its number.
+    /// Adds a specification, which is written if it fits, and returns its number, from 1.
     #[inline(never)]
     fn add(&mut self, spec: &FormatSpec<'_>, texts: &Texts) -> usize
         requires room { self.old.used < usize.MAX }
-        ensures told { (input : List ℕ) → SpecAt input texts.now (seen_spec spec.now) → self.new.used ≤ length self.old.records.now
+        ensures told { (input : List ℕ) → SpecAt input texts.now (seen_spec spec.now)
+            → self.new.used ≤ length self.old.records.now
             → spec_at input self.new.records.now result ≡ seen_spec spec.now }
         ensures number { result ≡ self.new.used }
         ensures adds { Adds 1 self.old self.new }
@@ -250,11 +276,13 @@ impl<'a> SpecBuffer<'a> {
         self.used
     }
 
-    /// The same, if it is not the default one.
+    /// Adds a specification unless it is the default one. Returns its number, from 1, or 0 for the
+    /// default one.
     #[inline(always)]
     fn put(&mut self, spec: &FormatSpec<'_>, texts: &Texts) -> usize
         requires room { self.old.used < usize.MAX }
-        ensures told { (input : List ℕ) → SpecAt input texts.now (seen_spec spec.now) → self.new.used ≤ length self.old.records.now
+        ensures told { (input : List ℕ) → SpecAt input texts.now (seen_spec spec.now)
+            → self.new.used ≤ length self.old.records.now
             → spec_at input self.new.records.now result ≡ seen_spec spec.now }
         ensures number { result ≤ self.new.used }
         ensures adds { Adds (if is_default (seen_spec spec.now) then 0 else 1) self.old self.new }
@@ -266,10 +294,11 @@ impl<'a> SpecBuffer<'a> {
     }
 }
 
-/// A position: its kind and its number.
+/// Returns the kind of a position, which is one of `POSITION_..`, and its index, or 0 for a name.
 #[inline(always)]
 fn position(position: &Position<'_>) -> (u32, usize)
-    ensures { (input : List ℕ) (r : ExtentRecord) → PositionAt (text_at input r) (seen_position position.now)
+    ensures { (input : List ℕ) (r : ExtentRecord)
+        → PositionAt (text_at input r) (seen_position position.now)
         → position_meant input result.0 result.1 r ≡ seen_position position.now }
 {
     match position {
@@ -279,16 +308,21 @@ fn position(position: &Position<'_>) -> (u32, usize)
     }
 }
 
-/// Writes an argument whose texts stand there into its step, and its specification as above.
+/// Writes an argument into its step, and adds its specification unless that is the default one.
+/// `texts` has the byte ranges of its texts in the input.
 #[tactic(auto, unfolding(crate::specs::Meant::piece_meant))]
 #[inline(never)]
 fn put_argument(argument: &Argument<'_>, texts: &Texts, specs: &mut SpecBuffer<'_>, step: &mut Step)
     requires room { specs.old.used < usize.MAX }
-    ensures told { (input : List ℕ) → PositionAt (text_at input texts.now.text) (seen_position argument.now.position)
-        → SpecAt input texts.now (seen_spec argument.now.format) → specs.new.used ≤ length specs.old.records.now
-        → piece_meant input (spec_at input specs.new.records.now step.new.spec) step.new ≡ Some (NextArgument (seen_argument argument.now)) }
+    ensures told { (input : List ℕ)
+        → PositionAt (text_at input texts.now.text) (seen_position argument.now.position)
+        → SpecAt input texts.now (seen_spec argument.now.format) → specs.new.used
+        ≤ length specs.old.records.now
+        → piece_meant input (spec_at input specs.new.records.now step.new.spec) step.new
+        ≡ Some (NextArgument (seen_argument argument.now)) }
     ensures number { step.new.spec ≤ specs.new.used }
-    ensures adds { Adds (if is_default (seen_spec argument.now.format) then 0 else 1) specs.old specs.new }
+    ensures adds { Adds (if is_default (seen_spec argument.now.format)
+        then 0 else 1) specs.old specs.new }
     ensures others { SameBehind step.old step.new }
 {
     let (position, number) = position(&argument.position);
@@ -300,7 +334,8 @@ fn put_argument(argument: &Argument<'_>, texts: &Texts, specs: &mut SpecBuffer<'
     step.spec = specs.put(&argument.format, texts);
 }
 
-/// A step of no argument.
+/// Writes a piece that is no argument into its step: its kind, and the byte range of its text in
+/// the input.
 #[inline(always)]
 pub fn bare(kind: u32, text: Extent, step: &mut Step)
     ensures kind { step.new.kind ≡ kind }
@@ -316,13 +351,16 @@ pub fn bare(kind: u32, text: Extent, step: &mut Step)
     step.spec = 0;
 }
 
-/// The same of an argument that asks for nothing, whose name stands there.
+/// Writes an argument with the default specification into its step. `text` is the byte range of its
+/// name in the input.
 #[tactic(auto, unfolding(crate::specs::Meant::piece_meant))]
 #[inline(always)]
 fn put_bare_argument(argument: &Argument<'_>, text: Extent, step: &mut Step)
     requires bare { is_default (seen_spec argument.now.format) ≡ true }
-    ensures told { (input : List ℕ) (specs : List SpecRecord) → PositionAt (text_at input text) (seen_position argument.now.position)
-        → piece_meant input (spec_at input specs step.new.spec) step.new ≡ Some (NextArgument (seen_argument argument.now)) }
+    ensures told { (input : List ℕ) (specs : List SpecRecord)
+        → PositionAt (text_at input text) (seen_position argument.now.position)
+        → piece_meant input (spec_at input specs step.new.spec) step.new
+        ≡ Some (NextArgument (seen_argument argument.now)) }
     ensures spec { step.new.spec ≡ 0 }
     ensures others { SameBehind step.old step.new }
 {
@@ -335,8 +373,9 @@ fn put_bare_argument(argument: &Argument<'_>, text: Extent, step: &mut Step)
     step.spec = no_spec(&argument.format);
 }
 
-/// The same, where the texts are those of the argument's spans, less an offset. Those of a specification that asks for nothing
-/// are not looked for.
+/// Writes an argument into its step, and adds its specification unless that is the default one.
+/// The byte ranges of its texts in the input are its spans, less an offset; those of the default
+/// specification are not computed.
 #[inline(always)]
 fn put_plain_argument(
     argument: &Argument<'_>,
@@ -348,9 +387,11 @@ fn put_plain_argument(
     requires stands { ArgumentStands input.now offset (seen_argument argument.now) }
     requires room { specs.old.used < usize.MAX }
     ensures told { specs.new.used ≤ length specs.old.records.now
-        → piece_meant input.now (spec_at input.now specs.new.records.now step.new.spec) step.new ≡ Some (NextArgument (seen_argument argument.now)) }
+        → piece_meant input.now (spec_at input.now specs.new.records.now step.new.spec) step.new
+        ≡ Some (NextArgument (seen_argument argument.now)) }
     ensures number { step.new.spec ≤ specs.new.used }
-    ensures adds { Adds (if is_default (seen_spec argument.now.format) then 0 else 1) specs.old specs.new }
+    ensures adds { Adds (if is_default (seen_spec argument.now.format)
+        then 0 else 1) specs.old specs.new }
     ensures others { SameBehind step.old step.new }
 {
     if is_default(&argument.format) {
@@ -361,8 +402,8 @@ fn put_plain_argument(
     }
 }
 
-/// Writes a piece whose texts stand there, and whose placeholder was read into an argument, into its step, and its
-/// specification behind the others, if it is not the default one.
+/// Writes a piece into its step, and adds its specification unless that is the default one. A
+/// placeholder is in `argument`; `texts` has the byte ranges of the piece's texts in the input.
 #[tactic(auto, unfolding(crate::specs::Meant::piece_meant))]
 pub fn put_piece(
     piece: &Option<Taken<'_>>,
@@ -372,10 +413,14 @@ pub fn put_piece(
     step: &mut Step,
 )
     requires room { specs.old.used < usize.MAX }
-    ensures told { (input : List ℕ) → PieceAt input step.old.read texts.now (option_map (seen_taken argument.now) piece.now) → specs.new.used ≤ length specs.old.records.now
-        → piece_meant input (spec_at input specs.new.records.now step.new.spec) step.new ≡ option_map (seen_taken argument.now) piece.now }
+    ensures told { (input : List ℕ)
+        → PieceAt input step.old.read texts.now (option_map (seen_taken argument.now) piece.now)
+        → specs.new.used ≤ length specs.old.records.now
+        → piece_meant input (spec_at input specs.new.records.now step.new.spec) step.new
+        ≡ option_map (seen_taken argument.now) piece.now }
     ensures number { step.new.spec ≤ specs.new.used }
-    ensures adds { Adds (specs_in (option_map (seen_taken argument.now) piece.now)) specs.old specs.new }
+    ensures adds { Adds (specs_in (option_map (seen_taken argument.now) piece.now)) specs.old
+        specs.new }
     ensures others { SameBehind step.old step.new }
 {
     match piece {
@@ -385,7 +430,9 @@ pub fn put_piece(
     }
 }
 
-/// The same where the texts stand at the spans of the piece, less an offset, and a run of text in front of what was read.
+/// Writes a piece into its step, and adds its specification unless that is the default one. The
+/// byte ranges of its texts in the input are its spans, less an offset; literal text ends where the
+/// input is read up to.
 #[tactic(auto, unfolding(crate::specs::Meant::piece_meant))]
 #[inline(always)]
 pub fn put_plain(
@@ -396,12 +443,15 @@ pub fn put_plain(
     specs: &mut SpecBuffer<'_>,
     step: &mut Step,
 )
-    requires stands { PieceStands input.now offset step.old.read (option_map (seen_taken argument.now) piece.now) }
+    requires stands { PieceStands input.now offset step.old.read
+        (option_map (seen_taken argument.now) piece.now) }
     requires room { specs.old.used < usize.MAX }
     ensures told { specs.new.used ≤ length specs.old.records.now
-        → piece_meant input.now (spec_at input.now specs.new.records.now step.new.spec) step.new ≡ option_map (seen_taken argument.now) piece.now }
+        → piece_meant input.now (spec_at input.now specs.new.records.now step.new.spec) step.new
+        ≡ option_map (seen_taken argument.now) piece.now }
     ensures number { step.new.spec ≤ specs.new.used }
-    ensures adds { Adds (specs_in (option_map (seen_taken argument.now) piece.now)) specs.old specs.new }
+    ensures adds { Adds (specs_in (option_map (seen_taken argument.now) piece.now)) specs.old
+        specs.new }
     ensures others { SameBehind step.old step.new }
 {
     match piece {

@@ -1,4 +1,5 @@
-//! A whole input at once, into records of the caller's.
+//! Reads a whole input into records of integers, in buffers of the caller; the crate `dephungo`
+//! exports it to C. If a buffer is too short, the length needed is still counted.
 #![tactic(auto)]
 
 mod errors;

@@ -1,14 +1,16 @@
-//! A whole input at once.
+//! Reads a whole input at once.
 
 ghost use Rattle.std.specs.Prelude.{◌≡◌, ◌≤◌, ℕ, Bool, IfOk, IsFalse, None, OnErr, OnOk};
-ghost use Rattle.std.specs.Prelude.{Option, Some, chars, drop, length, map, option_map, string_bytes, take};
+ghost use Rattle.std.specs.Prelude.{Option, Some, chars, drop, length, map, option_map};
+ghost use Rattle.std.specs.Prelude.{string_bytes, take};
 ghost use Rattle.rustc_parse_format.specs.Seen.{pair, seen_mode};
 ghost use Rattle.rustc_parse_format.specs.Characters.{Text};
 ghost use Rattle.rustc_parse_format.specs.LiteralReading.{is_longer};
 ghost use Rattle.rustc_parse_format.specs.Types.{Mode};
 ghost use Rattle.rustc_parse_format.specs.State.{first_state};
 ghost use Rattle.rustc_parse_format.specs.World.{hashes, quote_offset};
-ghost use Rattle.flat_reading.specs.Asked.{Fits, IsCounted, IsKept, IsTold, asked_state, buffers, limit};
+ghost use Rattle.flat_reading.specs.Asked.{Fits, IsCounted, IsKept, IsTold, asked_state, buffers};
+ghost use Rattle.flat_reading.specs.Asked.{limit};
 ghost use Rattle.flat_reading.specs.Meant.{place};
 ghost use Rattle.flat_reading.specs.Stand.{IsGuided, IsPlain, guide_of};
 
@@ -21,8 +23,10 @@ use rustc_parse_format::{ParseMode, Parser};
 use std::alloc::{AllocError, Global};
 use std::ops::Range;
 
+/// Returns a copy of a snippet. Returns `Err` if an allocation fails.
 fn owned(alloc: Global, snippet: Option<&str>) -> Result<Option<String>, AllocError>
-    ensures { IfOk result (λ s. option_map (λ t. chars (string_bytes t)) s ≡ option_map (λ t. chars t.now) snippet.entry) }
+    ensures { IfOk result (λ s. option_map (λ t. chars (string_bytes t)) s
+        ≡ option_map (λ t. chars t.now) snippet.entry) }
 {
     match snippet {
         Some(text) => Ok(Some(String::from_str(alloc, text)?)),
@@ -30,7 +34,8 @@ fn owned(alloc: Global, snippet: Option<&str>) -> Result<Option<String>, AllocEr
     }
 }
 
-/// How many bytes stand in front of the text in its literal.
+/// Returns the number of bytes before the text in its literal: its opening quote, and the `r` and
+/// the hashes of a raw literal.
 fn offset_of(style: Option<usize>) -> usize
     requires { hashes style ≤ limit }
     ensures { result ≡ quote_offset style }
@@ -41,17 +46,18 @@ fn offset_of(style: Option<usize>) -> usize
     }
 }
 
-/// An ordinary literal is longer than what it stands for and two quotes, which an appended newline does not belong to: so it may
-/// have escapes.
+/// Returns whether an ordinary literal is not as long as its two quotes and the input, without an
+/// appended newline: it may then have escapes.
 fn is_longer(input: &str, literal: &str, appended_newline: bool) -> bool
     requires { length input.now ≤ limit }
-    ensures { result ≡ is_longer (chars input.now) None (Some (chars literal.now)) appended_newline }
+    ensures { result
+        ≡ is_longer (chars input.now) None (Some (chars literal.now)) appended_newline }
 {
     let quotes = if appended_newline { 1 } else { 2 };
     literal.len() != input.len() + quotes
 }
 
-/// The literal is an ordinary one that may have escapes.
+/// Returns whether the literal is an ordinary one that may have escapes.
 fn may_have_escapes(asked: &Task<'_>) -> bool
     requires { length asked.now.input.now ≤ limit }
     ensures { IsFalse result → IsPlain (asked_state asked.now) (quote_offset asked.now.style) }
@@ -65,7 +71,8 @@ fn may_have_escapes(asked: &Task<'_>) -> bool
     }
 }
 
-/// Another parser over the input, whose places are those in it, one byte later.
+/// Returns another parser over the input, whose spans are one byte after the byte ranges in the
+/// input. Returns `Err` if an allocation fails.
 #[inline(never)]
 fn new_guide<'a>(
     alloc: Global,
@@ -74,20 +81,24 @@ fn new_guide<'a>(
 ) -> Result<Option<Box<Parser<'a>>>, AllocError>
     requires { length input.now ≤ limit }
     ensures { IfOk result (λ g. (style : Option ℕ) (snippet : Option Text) (appended : Bool)
-        → IsGuided (first_state (seen_mode mode) (chars input.now) style snippet appended) (quote_offset style) (guide_of g)) }
+        → IsGuided (first_state (seen_mode mode) (chars input.now) style snippet appended)
+        (quote_offset style) (guide_of g)) }
 {
     let guide = Parser::new(alloc, input, None, None, false, mode)?;
     Ok(Some(Box::new(alloc, guide)?))
 }
 
-/// In an ordinary source literal with escapes places are not as in the input, so another parser goes along.
+/// Returns the guide of a parser, if it may need one: in an ordinary source literal with escapes,
+/// byte offsets in the source and in the input do not differ by a constant, so a second parser
+/// reads the input too. Returns `Err` if an allocation fails.
 fn guide_for<'a>(
     alloc: Global,
     parser: &Parser<'_>,
     asked: &Task<'a>,
 ) -> Result<Option<Box<Parser<'a>>>, AllocError>
     requires { length asked.now.input.now ≤ limit }
-    ensures { IfOk result (λ g. parser.now ≡ asked_state asked.now → IsGuided parser.now (quote_offset asked.now.style) (guide_of g)) }
+    ensures { IfOk result (λ g. parser.now ≡ asked_state asked.now
+        → IsGuided parser.now (quote_offset asked.now.style) (guide_of g)) }
 {
     if parser.is_source_literal() {
         if may_have_escapes(asked) {
@@ -99,9 +110,10 @@ fn guide_for<'a>(
     Ok(None)
 }
 
-/// Writes the lines, as far as there is room.
+/// Writes the byte ranges of the lines, as far as they fit.
 fn put_lines(spans: &[Range<usize>], lines: &mut [Extent])
-    ensures held { length spans.now ≤ length lines.old → map place (take (length spans.now) lines.new) ≡ map pair spans.now }
+    ensures held { length spans.now ≤ length lines.old
+        → map place (take (length spans.now) lines.new) ≡ map pair spans.now }
     ensures kept { drop (length spans.now) lines.new ≡ drop (length spans.now) lines.old }
 {
     for i in 0..spans.len() {
@@ -111,7 +123,8 @@ fn put_lines(spans: &[Range<usize>], lines: &mut [Extent])
     }
 }
 
-/// Reads an input to its end by a parser that is at its start. An error leaves the answer as it was.
+/// Reads an input to its end with a parser that is at its start, and writes the results as `read`
+/// does. Returns `Err` if an allocation fails, and `answer` is then unchanged.
 #[inline(always)]
 fn read_by<'a>(
     alloc: Global,
@@ -128,10 +141,14 @@ fn read_by<'a>(
     requires hashes { hashes asked.style ≤ limit }
     requires start { start ≡ asked_state asked }
     requires short { length start.rest ≤ length asked.input.now }
-    ensures counted { OnOk result (IsCounted asked.entry.peeks (asked_state asked.entry) answer.new) }
-    ensures told { OnOk result (Fits (buffers steps.old specs.old faults.old texts.old lines.old) answer.new
-        → IsTold asked.entry.peeks (asked_state asked.entry) asked.entry.input.now (buffers steps.new specs.new faults.new texts.new lines.new) answer.new) }
-    ensures kept { OnOk result (IsKept answer.new (buffers steps.old specs.old faults.old texts.old lines.old)
+    ensures counted { OnOk result
+        (IsCounted asked.entry.peeks (asked_state asked.entry) answer.new) }
+    ensures told { OnOk result
+        (Fits (buffers steps.old specs.old faults.old texts.old lines.old) answer.new
+        → IsTold asked.entry.peeks (asked_state asked.entry) asked.entry.input.now
+        (buffers steps.new specs.new faults.new texts.new lines.new) answer.new) }
+    ensures kept { OnOk result
+        (IsKept answer.new (buffers steps.old specs.old faults.old texts.old lines.old)
         (buffers steps.new specs.new faults.new texts.new lines.new)) }
     ensures err { OnErr result (answer.new ≡ answer.old) }
 {
@@ -163,11 +180,14 @@ fn read_by<'a>(
     Ok(())
 }
 
-/// Reads an input to its end, up to and with the call there, into records of the caller's.
+/// Reads an input, up to and including the call at its end, and writes the results into buffers of
+/// the caller.
 ///
-/// The input has at most 10^12 bytes, and a raw literal at most so many hashes; what `task_of` gives has no more. Where all
-/// records fit, they tell of the whole. The answer counts them in any case, and so tells how much room they take: the texts in
-/// bytes. An error is refused memory, and leaves the answer as it was; of the records it says nothing.
+/// The input may have at most 10^12 bytes, and a raw literal at most 10^12 hashes, as in each
+/// `Task` that `task_of` returns. `answer` has the lengths of all results, in records and, for
+/// `texts`, in bytes, even if they do not fit; if they all fit, they are all written. Returns `Err`
+/// if an allocation fails: `answer` is then unchanged, and the contents of the buffers are
+/// unspecified.
 pub fn read(
     alloc: Global,
     asked: Task<'_>,
@@ -180,10 +200,14 @@ pub fn read(
 ) -> Result<(), AllocError>
     requires input_length { length asked.input.now ≤ limit }
     requires hashes { hashes asked.style ≤ limit }
-    ensures counted { OnOk result (IsCounted asked.entry.peeks (asked_state asked.entry) answer.new) }
-    ensures told { OnOk result (Fits (buffers steps.old specs.old faults.old texts.old lines.old) answer.new
-        → IsTold asked.entry.peeks (asked_state asked.entry) asked.entry.input.now (buffers steps.new specs.new faults.new texts.new lines.new) answer.new) }
-    ensures kept { OnOk result (IsKept answer.new (buffers steps.old specs.old faults.old texts.old lines.old)
+    ensures counted { OnOk result
+        (IsCounted asked.entry.peeks (asked_state asked.entry) answer.new) }
+    ensures told { OnOk result
+        (Fits (buffers steps.old specs.old faults.old texts.old lines.old) answer.new
+        → IsTold asked.entry.peeks (asked_state asked.entry) asked.entry.input.now
+        (buffers steps.new specs.new faults.new texts.new lines.new) answer.new) }
+    ensures kept { OnOk result
+        (IsKept answer.new (buffers steps.old specs.old faults.old texts.old lines.old)
         (buffers steps.new specs.new faults.new texts.new lines.new)) }
     ensures err { OnErr result (answer.new ≡ answer.old) }
 {

@@ -1,7 +1,8 @@
-//! The records that cross to C: plain numbers, so that any bytes are a record. A place in the input is one in its bytes, and one
-//! in the source is as the spans of `rustc_parse_format` are.
+//! The records that are shared with C: plain integers, so that any bytes are a valid record. A
+//! range of the input is in byte offsets of the input, and one in the source is as the spans of
+//! `rustc_parse_format` are. `bindings/c/dephungo.h` describes each field and constant.
 
-/// From a byte up to another.
+/// A byte range, from the offset of its start to that of its end, which is excluded.
 #[repr(C)]
 #[derive(Clone, Copy)]
 pub struct Extent {
@@ -9,7 +10,7 @@ pub struct Extent {
     pub to: usize,
 }
 
-/// The same where `there` is not 0.
+/// A byte range if `there` is not 0, and none otherwise.
 #[repr(C)]
 #[derive(Clone, Copy)]
 pub struct MaybeExtent {
@@ -26,21 +27,21 @@ pub const MODE_DIAGNOSTIC: u32 = 2;
 
 pub const MODE_DIAGNOSTIC_NAMED: u32 = 3;
 
-/// How the input is to be read.
+/// How to read the input.
 #[repr(C)]
 #[derive(Clone, Copy)]
 pub struct Options {
     /// One of `MODE_..`.
     pub mode: u32,
-    /// Not 0 if the literal is a raw one.
+    /// Not 0 if the input comes from a raw string literal.
     pub is_raw: u32,
-    /// How many hashes a raw one has.
+    /// The number of hashes of a raw literal.
     pub hashes: usize,
     /// Not 0 if there is a snippet.
     pub has_snippet: u32,
-    /// Not 0 if a newline was appended to the input.
+    /// Not 0 if a newline was appended to the input that is not in the snippet.
     pub appended_newline: u32,
-    /// Not 0 if the places of the peeks are wanted.
+    /// Not 0 to fill in `peek` and `peek_ahead`.
     pub peeks: u32,
 }
 
@@ -60,11 +61,11 @@ pub const COUNT_IS_STAR: u32 = 4;
 pub struct CountRecord {
     /// One of `COUNT_..`.
     pub kind: u32,
-    /// The number, or that of the argument.
+    /// The number, or the index of the argument.
     pub number: usize,
-    /// The name of the argument, in the input.
+    /// The name of the argument, as a range of the input.
     pub name: Extent,
-    /// Where the name stands in the source.
+    /// The byte range of the name in the source.
     pub name_span: Extent,
 }
 
@@ -98,14 +99,14 @@ pub const TYPE_UPPER_HEX: u32 = 3;
 
 pub const TYPE_DEBUG: u32 = 4;
 
-/// What `fill` is where there is none: no character has this number.
+/// The value of `fill` if there is no fill character: no character has this code.
 pub const NO_FILL: u32 = 0x11_0000;
 
-/// A specification that is not the default one.
+/// A format specification that is not the default one.
 #[repr(C)]
 #[derive(Clone, Copy)]
 pub struct Spec {
-    /// The character that fills the width, or `NO_FILL`.
+    /// The code of the fill character, or `NO_FILL`.
     pub fill: u32,
     /// One of `ALIGN_..`.
     pub align: u32,
@@ -113,15 +114,15 @@ pub struct Spec {
     pub sign: u32,
     /// One of `HEX_..`.
     pub debug_hex: u32,
-    /// Not 0 if the flag `#` is there.
+    /// Not 0 if the flag `#` is written.
     pub alternate: u32,
-    /// Not 0 if the flag `0` is there.
+    /// Not 0 if the flag `0` is written.
     pub zero_pad: u32,
     /// One of `TYPE_..`.
     pub type_kind: u32,
     pub width: CountRecord,
     pub precision: CountRecord,
-    /// The type, in the input, of the kind `TYPE_TEXT`.
+    /// The type, as a range of the input, if `type_kind` is `TYPE_TEXT`.
     pub ty: Extent,
     pub fill_span: MaybeExtent,
     pub width_span: MaybeExtent,
@@ -141,33 +142,34 @@ pub const POSITION_INDEX: u32 = 1;
 
 pub const POSITION_NAMED: u32 = 2;
 
-/// A call: what it gave, and what stands behind it.
+/// A call of the parser: the piece that it returned, and the state after it.
 #[repr(C)]
 #[derive(Clone, Copy)]
 pub struct Step {
-    /// One of `PIECE_..`. None is given at the end, and over a closing brace that closes nothing.
+    /// One of `PIECE_..`: `PIECE_NONE` at the end of the input, and at a closing brace that closes
+    /// nothing.
     pub kind: u32,
-    /// Of an argument, one of `POSITION_..`.
+    /// For an argument, one of `POSITION_..`.
     pub position: u32,
-    /// The number of the argument.
+    /// The index of the argument, from 0.
     pub number: usize,
-    /// The text, or the name of the argument, in the input.
+    /// The literal text, or the name of the argument, as a range of the input.
     pub text: Extent,
-    /// Where the position stands in the source.
+    /// The byte range of the position in the source.
     pub position_span: Extent,
-    /// Which specification it is, counted from 1, or 0 for the default one.
+    /// The number of the specification, from 1, or 0 for the default one.
     pub spec: usize,
-    /// The placeholder that was closed, in a source literal.
+    /// The byte range of the placeholder that the call closed; none without a source literal.
     pub place: MaybeExtent,
-    /// The byte of the input up to which was read by then.
+    /// The byte offset in the input up to which it is read after the call.
     pub read: usize,
-    /// The number that the next implicit argument takes.
+    /// The index of the next implicit argument after the call.
     pub next: usize,
-    /// How many lines there are by then.
+    /// The number of lines after the call.
     pub lines: usize,
-    /// Where the next character stands in the source.
+    /// The byte range of the next character in the source.
     pub peek: MaybeExtent,
-    /// Where the one after it does.
+    /// The byte range in the source of the character after that.
     pub peek_ahead: MaybeExtent,
 }
 
@@ -183,29 +185,31 @@ pub const MEND_ADD_MISSING_COLON: u32 = 4;
 
 pub const MEND_USE_RUST_DEBUG_PRINTING_MACRO: u32 = 5;
 
-/// An error. Its texts stand in the buffer for texts.
+/// An error in the input. `description`, `note`, the labels and `suggestion_text` are byte ranges
+/// of the buffer for texts.
 #[repr(C)]
 #[derive(Clone, Copy)]
 pub struct Fault {
     pub description: Extent,
     pub note: MaybeExtent,
     pub label: Extent,
-    /// Where it is in the source.
+    /// The byte range of the error in the source.
     pub span: Extent,
     pub second_label: MaybeExtent,
-    /// Of the second label.
+    /// The byte range in the source that the second label is for.
     pub second_span: Extent,
     /// One of `MEND_..`.
     pub suggestion: u32,
-    /// What it speaks of.
+    /// The byte range in the source that the suggestion is about.
     pub suggestion_span: Extent,
-    /// What it puts there.
+    /// The replacement that it suggests.
     pub suggestion_text: Extent,
-    /// The number of the step that found it, counted from 0.
+    /// The index of the step that found it, from 0.
     pub step: usize,
 }
 
-/// How many records and bytes of texts there are, and what is known before the first call.
+/// The lengths of the results, in records and, for `texts`, in bytes, and the state before the
+/// first call.
 #[repr(C)]
 #[derive(Clone, Copy)]
 pub struct Answer {
@@ -214,27 +218,28 @@ pub struct Answer {
     pub faults: usize,
     pub texts: usize,
     pub lines: usize,
-    /// How many of the faults were put in front of the list when they were found. They are the first ones of it.
+    /// The number of faults that were put at the front of the list when they were found. They are
+    /// the first ones of the list.
     pub fronts: usize,
-    /// Not 0 if the snippet is the source literal.
+    /// Not 0 if the snippet is the source literal of the input.
     pub is_source_literal: u32,
-    /// Where the first character stands in the source.
+    /// The byte range of the first character in the source.
     pub peek: MaybeExtent,
-    /// Where the second one does.
+    /// The byte range of the second character in the source.
     pub peek_ahead: MaybeExtent,
 }
 
-/// All is written.
+/// Success: all results are written.
 pub const DONE: u32 = 0;
-/// A buffer is short: `Answer` says how much is needed.
+/// A buffer is too short: `Answer` has the lengths needed.
 pub const SHORT: u32 = 1;
-/// There is no memory.
+/// Allocation failure.
 pub const NO_MEMORY: u32 = 2;
 /// The input is not UTF-8.
 pub const NOT_TEXT: u32 = 3;
 /// The snippet is not UTF-8.
 pub const SNIPPET_NOT_TEXT: u32 = 4;
-/// There is no such mode.
+/// The mode is none of `MODE_..`.
 pub const NO_SUCH_MODE: u32 = 5;
-/// The input, or the number of hashes, is too long.
+/// The input has more than 10^12 bytes, or the raw literal more than 10^12 hashes.
 pub const TOO_LONG: u32 = 6;

@@ -1,6 +1,7 @@
-//! What a caller asks for, and what is refused.
+//! The input and options of a call, and the codes for those that are invalid.
 
-ghost use Rattle.std.specs.Prelude.{◌≡◌, ◌≤◌, IfErr, IfOk, IfSome, Some, None, chars, is_some, length, option_map};
+ghost use Rattle.std.specs.Prelude.{◌≡◌, ◌≤◌, IfErr, IfOk, IfSome, Some, None, chars, is_some};
+ghost use Rattle.std.specs.Prelude.{length, option_map};
 ghost use Rattle.std.specs.Str.{is_utf8};
 ghost use Rattle.rustc_parse_format.specs.Seen.{seen_mode};
 ghost use Rattle.rustc_parse_format.specs.World.{hashes};
@@ -13,26 +14,27 @@ use crate::records::{
 };
 use rustc_parse_format::ParseMode;
 
-/// How an input is to be read.
+/// An input, and how to read it.
 #[derive(Clone, Copy)]
 pub struct Task<'a> {
-    /// What kind of text it is.
+    /// The kind of text that the input is.
     pub mode: ParseMode,
-    /// The text.
+    /// The input.
     pub input: &'a str,
-    /// How many hashes a raw literal has; None for an ordinary one.
+    /// The number of hashes of a raw literal, or `None` for an ordinary literal.
     pub style: Option<usize>,
-    /// What stands in the source where the input should come from.
+    /// The source text that the input should come from, if it is known.
     pub snippet: Option<&'a str>,
-    /// The input ends in a newline that the source has not.
+    /// Whether the input ends in a newline that is not in the source.
     pub appended_newline: bool,
-    /// Whether the places of the peeks are wanted.
+    /// Whether the byte ranges of the next two characters are wanted after each call.
     pub peeks: bool,
 }
 
-/// The most bytes of an input, and the most hashes.
+/// The most bytes of an input, and the most hashes of a raw literal.
 const LIMIT: usize = 1_000_000_000_000;
 
+/// Returns the mode of one of `MODE_..`, or `None` if it is none of them.
 fn mode_of(mode: u32) -> Option<ParseMode>
     ensures { option_map seen_mode result ≡ mode_meant mode }
 {
@@ -45,6 +47,7 @@ fn mode_of(mode: u32) -> Option<ParseMode>
     }
 }
 
+/// Returns the number of hashes of a raw literal, or `None` for an ordinary literal.
 fn style_of(options: &Options) -> Option<usize>
     ensures { result ≡ style_meant options.now }
 {
@@ -55,6 +58,7 @@ fn style_of(options: &Options) -> Option<usize>
     }
 }
 
+/// Returns the text that the bytes are in UTF-8, or `None` if they are not UTF-8.
 fn text_of(bytes: &[u8]) -> Option<&str>
     ensures some { is_some result ≡ is_utf8 bytes.now }
     ensures same { IfSome result (λ t. t.now ≡ bytes.now) }
@@ -65,14 +69,17 @@ fn text_of(bytes: &[u8]) -> Option<&str>
     }
 }
 
-/// What is asked for, or the code of the refusal.
+/// Returns the input and the options as a `Task`. Returns `Err` with a code of `records` if the
+/// input or the snippet is not UTF-8, the mode is none of `MODE_..`, or the input has more than
+/// 10^12 bytes or a raw literal more than 10^12 hashes. Does not allocate.
 pub fn task_of<'a>(input: &'a [u8], snippet: &'a [u8], options: &Options) -> Result<Task<'a>, u32>
     ensures refused { IfErr result (λ e. refusal input.now snippet.now options.now ≡ Some e) }
     ensures accepted { IfOk result (λ _. refusal input.now snippet.now options.now ≡ None) }
     ensures mode { IfOk result (λ a. Some (seen_mode a.mode) ≡ mode_meant options.now.mode) }
     ensures input { IfOk result (λ a. a.input.now ≡ input.now) }
     ensures style { IfOk result (λ a. a.style ≡ style_meant options.now) }
-    ensures snippet { IfOk result (λ a. option_map (λ t. chars t.now) a.snippet ≡ snippet_meant options.now snippet.now) }
+    ensures snippet { IfOk result (λ a. option_map (λ t. chars t.now) a.snippet
+        ≡ snippet_meant options.now snippet.now) }
     ensures newline { IfOk result (λ a. a.appended_newline ≡ is_set options.now.appended_newline) }
     ensures peeks { IfOk result (λ a. a.peeks ≡ is_set options.now.peeks) }
     ensures input_length { IfOk result (λ a. length a.input.now ≤ limit) }

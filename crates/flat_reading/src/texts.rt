@@ -1,20 +1,23 @@
-//! Where the texts of a piece stand in the input.
+//! The byte ranges of a piece's texts in the input.
 
 ghost use Rattle.std.specs.Prelude.{◌≡◌, ℕ, ◌-◌, IsFalse, IsTrue, List, chars, option_map};
-ghost use Rattle.rustc_parse_format.specs.Seen.{pair, seen, seen_argument, seen_count, seen_position, seen_spec};
+ghost use Rattle.rustc_parse_format.specs.Seen.{pair, seen, seen_argument, seen_count};
+ghost use Rattle.rustc_parse_format.specs.Seen.{seen_position, seen_spec};
 ghost use Rattle.flat_reading.specs.declared.records.Extent.{Extent as ExtentRecord};
 ghost use Rattle.flat_reading.specs.Meant.{run_at, text_at, type_meant};
-ghost use Rattle.flat_reading.specs.Stand.{ArgumentStands, CountAt, CountStands, HasBytes, IsLast, IsListed, PieceAt};
-ghost use Rattle.flat_reading.specs.Stand.{PieceStands, PositionAt, PositionStands, SpecAt, StandsAt, StandsBehind, TypeStands};
+ghost use Rattle.flat_reading.specs.Stand.{ArgumentStands, CountAt, CountStands, HasBytes, IsLast};
+ghost use Rattle.flat_reading.specs.Stand.{IsListed, PieceAt};
+ghost use Rattle.flat_reading.specs.Stand.{PieceStands, PositionAt, PositionStands, SpecAt};
+ghost use Rattle.flat_reading.specs.Stand.{StandsAt, StandsBehind, TypeStands};
 
 use crate::flat::NOWHERE;
 use crate::records::{Extent, TYPE_DEBUG, TYPE_LOWER_HEX, TYPE_NONE, TYPE_TEXT, TYPE_UPPER_HEX};
 use rustc_parse_format::{Argument, Count, FormatSpec, Piece, Position};
 
-/// The extents of the texts of a piece, and the kind of its type.
+/// The byte ranges of a piece's texts in the input, and the kind of its type.
 #[derive(Clone, Copy)]
 pub struct Texts {
-    /// The text, or the name of the argument.
+    /// The literal text, or the name of the argument.
     pub text: Extent,
     /// The name of the width.
     pub width: Extent,
@@ -22,10 +25,11 @@ pub struct Texts {
     pub precision: Extent,
     /// One of `TYPE_..`.
     pub type_kind: u32,
-    /// The type, where it is a text.
+    /// The type, if `type_kind` is `TYPE_TEXT`.
     pub ty: Extent,
 }
 
+/// The texts of a piece that has none.
 const NO_TEXTS: Texts = Texts {
     text: NOWHERE,
     width: NOWHERE,
@@ -34,7 +38,8 @@ const NO_TEXTS: Texts = Texts {
     ty: NOWHERE,
 };
 
-/// The text that stands there. An empty one stands at the start of the input, so that no place is inside a character.
+/// Returns the byte range of a text that begins at `from`. For an empty text this is 0..0, so that
+/// no offset is inside a character.
 #[inline(always)]
 fn extent_of(input: &str, from: usize, text: &str) -> Extent
     requires { StandsAt input.now from (chars text.now) }
@@ -49,7 +54,7 @@ fn extent_of(input: &str, from: usize, text: &str) -> Extent
     }
 }
 
-/// These bytes stand there.
+/// Returns whether the input has these bytes at `from`.
 fn stands(input: &str, from: usize, bytes: &[u8]) -> bool
     ensures yes { IsTrue result → HasBytes input.now from bytes.now }
     ensures no { IsFalse result → ¬ (HasBytes input.now from bytes.now) }
@@ -63,7 +68,8 @@ fn stands(input: &str, from: usize, bytes: &[u8]) -> bool
     }
 }
 
-/// The text that stands there, perhaps behind a prefix.
+/// Returns the byte range of a text that begins at `from`, or after `prefix` if the input has that
+/// at `from`.
 #[inline(never)]
 fn extent_behind(input: &str, prefix: &[u8], from: usize, text: &str) -> Extent
     requires { StandsBehind input.now prefix.now from (chars text.now) }
@@ -76,6 +82,7 @@ fn extent_behind(input: &str, prefix: &[u8], from: usize, text: &str) -> Extent
     }
 }
 
+/// Returns the byte range of the name of a count in the input, or 0..0 if it has no name.
 #[inline(always)]
 fn count_extent(input: &str, offset: usize, count: &Count<'_>) -> Extent
     requires { CountStands input.now offset (seen_count count.now) }
@@ -89,9 +96,10 @@ fn count_extent(input: &str, offset: usize, count: &Count<'_>) -> Extent
     }
 }
 
-/// The kind of a type without a span.
+/// Returns the kind of a type that has no span.
 fn listed_type(ty: &str) -> u32
-    ensures { (r : ExtentRecord) → IsListed (chars ty.now) → (input : List ℕ) → type_meant input result r ≡ chars ty.now }
+    ensures { (r : ExtentRecord) → IsListed (chars ty.now) → (input : List ℕ)
+        → type_meant input result r ≡ chars ty.now }
 {
     match ty.chars().next() {
         Some('x') => TYPE_LOWER_HEX,
@@ -101,10 +109,11 @@ fn listed_type(ty: &str) -> u32
     }
 }
 
-/// A type: its kind, and where it stands.
+/// Returns the kind of a type, and the byte range of the type in the input.
 #[inline(always)]
 fn type_extent(input: &str, offset: usize, format: &FormatSpec<'_>) -> (u32, Extent)
-    requires { TypeStands input.now offset (option_map pair format.now.ty_span) (chars format.now.ty.now) }
+    requires { TypeStands input.now offset (option_map pair format.now.ty_span)
+        (chars format.now.ty.now) }
     ensures { type_meant input.now result.0 result.1 ≡ chars format.now.ty.now }
 {
     match &format.ty_span {
@@ -116,10 +125,12 @@ fn type_extent(input: &str, offset: usize, format: &FormatSpec<'_>) -> (u32, Ext
     }
 }
 
-/// The name that an argument has for its position.
+/// Returns the byte range in the input of the name that is an argument's position, or 0..0 if it is
+/// no name.
 #[inline(always)]
 pub fn name_extent(input: &str, offset: usize, argument: &Argument<'_>) -> Extent
-    requires { PositionStands input.now (argument.now.position_span.start - offset) (seen_position argument.now.position) }
+    requires { PositionStands input.now (argument.now.position_span.start - offset)
+        (seen_position argument.now.position) }
     ensures { PositionAt (text_at input.now result) (seen_position argument.now.position) }
 {
     match &argument.position {
@@ -131,10 +142,12 @@ pub fn name_extent(input: &str, offset: usize, argument: &Argument<'_>) -> Exten
     }
 }
 
-/// The name of an argument, and the texts of what it asks for.
+/// Returns the byte ranges in the input of an argument's name and of the texts of its
+/// specification. The spans of the argument are `offset` bytes after these.
 pub fn argument_texts(input: &str, offset: usize, argument: &Argument<'_>) -> Texts
     requires { ArgumentStands input.now offset (seen_argument argument.now) }
-    ensures position { PositionAt (text_at input.now result.text) (seen_position argument.now.position) }
+    ensures position { PositionAt (text_at input.now result.text)
+        (seen_position argument.now.position) }
     ensures format { SpecAt input.now result (seen_spec argument.now.format) }
 {
     let format = &argument.format;
@@ -148,10 +161,11 @@ pub fn argument_texts(input: &str, offset: usize, argument: &Argument<'_>) -> Te
     }
 }
 
-/// The text that was read last.
+/// Returns the byte range of the literal text that ends at `read`, up to which the input is read.
 #[inline(always)]
 pub fn run_extent(read: usize, text: &str) -> Extent
-    ensures { (input : List ℕ) → IsLast input read (chars text.now) → run_at input read result ≡ chars text.now }
+    ensures { (input : List ℕ) → IsLast input read (chars text.now)
+        → run_at input read result ≡ chars text.now }
 {
     Extent {
         from: read.saturating_sub(text.len()),
@@ -159,8 +173,8 @@ pub fn run_extent(read: usize, text: &str) -> Extent
     }
 }
 
-/// Where the texts of a piece stand, whose spans are so many bytes behind the places in the input, and which was read up to
-/// a byte of the input.
+/// Returns the byte ranges in the input of a piece's texts. The spans of the piece are `offset`
+/// bytes after these, and `read` is the byte offset up to which the input is read after the piece.
 pub fn texts_of(input: &str, offset: usize, read: usize, piece: &Option<Piece<'_>>) -> Texts
     requires { PieceStands input.now offset read (option_map seen piece.now) }
     ensures { PieceAt input.now read result (option_map seen piece.now) }

@@ -1,7 +1,8 @@
-//! The calls of a parser, one behind the other, as records.
+//! Writes the calls of a parser, up to the end of the input, as records.
 
 ghost use Rattle.std.specs.Prelude.{◌≡◌, ℕ, ◌<◌, ◌≤◌, ◌^◌, ◌++◌, [], Bool, List, None, Option};
-ghost use Rattle.std.specs.Prelude.{IfNone, IfOk, IfSome, OnOk, chars, drop, length, map, option_map, take};
+ghost use Rattle.std.specs.Prelude.{IfNone, IfOk, IfSome, OnOk, chars, drop, length, map};
+ghost use Rattle.std.specs.Prelude.{option_map, take};
 ghost use Rattle.rustc_parse_format.specs.Characters.{behind_first};
 ghost use Rattle.rustc_parse_format.specs.Lines.{closed_in, listed};
 ghost use Rattle.rustc_parse_format.specs.Marks.{Span};
@@ -11,9 +12,11 @@ ghost use Rattle.rustc_parse_format.specs.World.{Place};
 ghost use Rattle.flat_reading.specs.declared.records.Spec.{Spec as SpecRecord};
 ghost use Rattle.flat_reading.specs.declared.records.Step.{Step as StepRecord};
 ghost use Rattle.flat_reading.specs.Events.{end_of, event, events, found_by, fronts_of};
-ghost use Rattle.flat_reading.specs.Events.{given, looked_for, place_of_first, position, spec_count, specs_in, states, step_meant};
+ghost use Rattle.flat_reading.specs.Events.{given, looked_for, place_of_first, position};
+ghost use Rattle.flat_reading.specs.Events.{spec_count, specs_in, states, step_meant};
 ghost use Rattle.flat_reading.specs.Meant.{maybe_place, piece_meant, spec_at};
-ghost use Rattle.flat_reading.specs.Stand.{Adds, IsAdded, IsAlong, IsGuided, IsOnItsWay, MakesCall, PieceStands, SameBehind, StandsAlike, guide_of};
+ghost use Rattle.flat_reading.specs.Stand.{Adds, IsAdded, IsAlong, IsGuided, IsOnItsWay, MakesCall};
+ghost use Rattle.flat_reading.specs.Stand.{PieceStands, SameBehind, StandsAlike, guide_of};
 
 use crate::finders::Finders;
 use crate::flat::{NO_EXTENT, NOWHERE, SpecBuffer, bare, put_piece, put_plain, there};
@@ -22,7 +25,7 @@ use crate::texts::texts_of;
 use rustc_parse_format::{Argument, FormatSpec, Parser, Position, Taken};
 use std::alloc::{AllocError, Global};
 
-/// A step that tells of nothing.
+/// A step without a piece and without a state.
 const BLANK: Step = Step {
     kind: PIECE_NONE,
     position: POSITION_IMPLICIT,
@@ -38,7 +41,7 @@ const BLANK: Step = Step {
     peek_ahead: NO_EXTENT,
 };
 
-/// Where the character after the next one stands in the source.
+/// Returns the byte range in the source of the character after the next one, or none.
 #[inline(always)]
 fn place_ahead(parser: &Parser<'_>) -> MaybeExtent
     ensures { maybe_place result ≡ place_of_first parser.now (behind_first parser.now.rest) }
@@ -49,12 +52,14 @@ fn place_ahead(parser: &Parser<'_>) -> MaybeExtent
     }
 }
 
-/// Puts where the next character and the one after it stand in the source, over what says that there is none.
+/// Writes the byte ranges in the source of the next two characters over two records of no byte
+/// range.
 #[inline(never)]
 pub fn look_ahead(parser: &Parser<'_>, peek: &mut MaybeExtent, peek_ahead: &mut MaybeExtent)
     requires { (maybe_place peek.old ≡ None) × (maybe_place peek_ahead.old ≡ None) }
     ensures place { maybe_place peek.new ≡ place_of_first parser.now parser.now.rest }
-    ensures ahead { maybe_place peek_ahead.new ≡ place_of_first parser.now (behind_first parser.now.rest) }
+    ensures ahead { maybe_place peek_ahead.new
+        ≡ place_of_first parser.now (behind_first parser.now.rest) }
 {
     if let Some((place, _, _)) = parser.peek() {
         *peek = there(&place);
@@ -62,11 +67,13 @@ pub fn look_ahead(parser: &Parser<'_>, peek: &mut MaybeExtent, peek_ahead: &mut 
     }
 }
 
-/// The same, where it is asked for.
+/// Writes the byte ranges in the source of the next two characters, or none if `peeks` is false.
 #[inline(always)]
 fn put_peeks(parser: &Parser<'_>, peeks: bool, peek: &mut MaybeExtent, peek_ahead: &mut MaybeExtent)
-    ensures place { maybe_place peek.new ≡ looked_for peeks (place_of_first parser.now parser.now.rest) }
-    ensures ahead { maybe_place peek_ahead.new ≡ looked_for peeks (place_of_first parser.now (behind_first parser.now.rest)) }
+    ensures place { maybe_place peek.new
+        ≡ looked_for peeks (place_of_first parser.now parser.now.rest) }
+    ensures ahead { maybe_place peek_ahead.new
+        ≡ looked_for peeks (place_of_first parser.now (behind_first parser.now.rest)) }
 {
     *peek = NO_EXTENT;
     *peek_ahead = NO_EXTENT;
@@ -75,11 +82,13 @@ fn put_peeks(parser: &Parser<'_>, peeks: bool, peek: &mut MaybeExtent, peek_ahea
     }
 }
 
-/// The place of an argument that came behind so many others. Only a source literal has any.
+/// Returns the byte range in the source of the placeholder that a call closed, or none. `before` is
+/// the number of such ranges before the call; only a source literal has any.
 #[inline(always)]
 fn closed(parser: &Parser<'_>, before: usize) -> MaybeExtent
     ensures { (old : List Place) (k : Option Span) → before ≡ length old
-        → parser.now.arg_places ≡ old ++ listed (closed_in parser.now.world k) → maybe_place result ≡ closed_in parser.now.world k }
+        → parser.now.arg_places ≡ old ++ listed (closed_in parser.now.world k)
+        → maybe_place result ≡ closed_in parser.now.world k }
 {
     if !parser.is_source_literal() {
         return NO_EXTENT;
@@ -90,7 +99,8 @@ fn closed(parser: &Parser<'_>, before: usize) -> MaybeExtent
     }
 }
 
-/// Writes how far the input is read, which number is next, and how many lines there are.
+/// Writes the byte offset up to which the input is read, the index of the next implicit argument,
+/// and the number of lines.
 #[inline(always)]
 fn put_state(parser: &Parser<'_>, step: &mut Step)
     ensures read { step.new.read ≡ position parser.now.input parser.now.rest }
@@ -102,7 +112,8 @@ fn put_state(parser: &Parser<'_>, step: &mut Step)
     step.lines = parser.line_spans().len();
 }
 
-/// Writes the piece that a call gave. Its texts stand at the spans of the guide's call.
+/// Writes the piece that a call returned. The byte ranges of its texts come from the spans of the
+/// guide's next call, which this makes. Returns `Err` if an allocation fails.
 #[inline(never)]
 fn put_guided(
     guide: &mut Parser<'_>,
@@ -114,11 +125,15 @@ fn put_guided(
 ) -> Result<(), AllocError>
     requires along { IsAlong guide.old input.now step.old.read }
     requires room { specs.old.used < usize.MAX }
-    ensures told { OnOk result (StandsAlike input.now step.old.read guide.old (option_map (seen_taken argument.now) given.now)
+    ensures told { OnOk result
+        (StandsAlike input.now step.old.read guide.old
+        (option_map (seen_taken argument.now) given.now)
         → specs.new.used ≤ length specs.old.records.now
-        → piece_meant input.now (spec_at input.now specs.new.records.now step.new.spec) step.new ≡ option_map (seen_taken argument.now) given.now) }
+        → piece_meant input.now (spec_at input.now specs.new.records.now step.new.spec) step.new
+        ≡ option_map (seen_taken argument.now) given.now) }
     ensures number { OnOk result (step.new.spec ≤ specs.new.used) }
-    ensures adds { OnOk result (Adds (specs_in (option_map (seen_taken argument.now) given.now)) specs.old specs.new) }
+    ensures adds { OnOk result
+        (Adds (specs_in (option_map (seen_taken argument.now) given.now)) specs.old specs.new) }
     ensures others { OnOk result (SameBehind step.old step.new) }
     ensures state { OnOk result (guide.new ≡ after guide.old (next_call guide.old)) }
 {
@@ -128,7 +143,7 @@ fn put_guided(
     Ok(())
 }
 
-/// An argument before anything is read into it.
+/// Returns an argument to read placeholders into.
 #[inline(always)]
 fn blank_argument<'a>() -> Argument<'a> {
     Argument {
@@ -138,24 +153,26 @@ fn blank_argument<'a>() -> Argument<'a> {
     }
 }
 
-/// A parser, call by call, with what is told of its calls.
+/// A parser whose calls are written as records.
 #[derive(Drop)]
 pub struct Walker<'a> {
     pub parser: Parser<'a>,
     pub input: &'a str,
-    /// The places of texts are those of the parser's spans, so many bytes behind the places in the input,
+    /// The number of bytes by which the parser's spans are after the byte ranges in the input, if
+    /// there is no guide.
     pub offset: usize,
-    /// or those of the spans of this one, which goes along, one byte behind them.
+    /// A parser that makes the same calls, and whose spans are one byte after the byte ranges in
+    /// the input. It is there if those of the parser may differ by more than an offset.
     pub guide: Option<Box<Parser<'a>>>,
-    /// The places of the next two characters are asked for.
+    /// Whether the byte ranges of the next two characters are wanted.
     pub peeks: bool,
-    /// What placeholders are read into.
+    /// The argument into which placeholders are read.
     pub argument: Argument<'a>,
     pub finders: Finders,
 }
 
 impl<'a> Walker<'a> {
-    /// At the start of an input, with its guide.
+    /// Creates a walker at the start of an input, perhaps with a guide. Does not allocate.
     pub fn new(
         alloc: Global,
         parser: Parser<'a>,
@@ -184,7 +201,9 @@ impl<'a> Walker<'a> {
         }
     }
 
-    /// Writes the piece that a call gave. Its texts stand at its own spans, or at those of the guide's call.
+    /// Writes the piece that a call returned. The byte ranges of its texts come from its own spans,
+    /// or from those of the guide's next call, which this makes. Returns `Err` if an allocation
+    /// fails.
     #[inline(always)]
     fn put_given(
         &mut self,
@@ -193,16 +212,26 @@ impl<'a> Walker<'a> {
         step: &mut Step,
     ) -> Result<(), AllocError>
         requires alone { IfNone (guide_of self.old.guide)
-            (PieceStands self.old.input.now self.old.offset step.old.read (option_map (seen_taken self.old.argument) given.now)) }
-        requires along { IfSome (guide_of self.old.guide) (λ g. IsAlong g self.old.input.now step.old.read) }
+            (PieceStands self.old.input.now self.old.offset step.old.read
+            (option_map (seen_taken self.old.argument) given.now)) }
+        requires along { IfSome (guide_of self.old.guide)
+            (λ g. IsAlong g self.old.input.now step.old.read) }
         requires room { specs.old.used < usize.MAX }
-        ensures told { OnOk result (IfSome (guide_of self.old.guide) (λ g. StandsAlike self.old.input.now step.old.read g (option_map (seen_taken self.old.argument) given.now))
+        ensures told { OnOk result
+            (IfSome (guide_of self.old.guide)
+            (λ g. StandsAlike self.old.input.now step.old.read g
+            (option_map (seen_taken self.old.argument) given.now))
             → specs.new.used ≤ length specs.old.records.now
-            → piece_meant self.old.input.now (spec_at self.old.input.now specs.new.records.now step.new.spec) step.new ≡ option_map (seen_taken self.old.argument) given.now) }
+            → piece_meant self.old.input.now
+            (spec_at self.old.input.now specs.new.records.now step.new.spec) step.new
+            ≡ option_map (seen_taken self.old.argument) given.now) }
         ensures number { OnOk result (step.new.spec ≤ specs.new.used) }
-        ensures adds { OnOk result (Adds (specs_in (option_map (seen_taken self.old.argument) given.now)) specs.old specs.new) }
+        ensures adds { OnOk result
+            (Adds (specs_in (option_map (seen_taken self.old.argument) given.now)) specs.old
+            specs.new) }
         ensures others { OnOk result (SameBehind step.old step.new) }
-        ensures guide { OnOk result (guide_of self.new.guide ≡ option_map (λ g. after g (next_call g)) (guide_of self.old.guide)) }
+        ensures guide { OnOk result (guide_of self.new.guide
+            ≡ option_map (λ g. after g (next_call g)) (guide_of self.old.guide)) }
         ensures same { OnOk result (self.new ≡ record self.old { guide = self.new.guide }) }
     {
         match &mut self.guide {
@@ -217,7 +246,8 @@ impl<'a> Walker<'a> {
         }
     }
 
-    /// The call with this number, into its step.
+    /// Makes the call with this number and writes it into its step. Returns `Err` if an allocation
+    /// fails.
     #[inline(always)]
     fn step(
         &mut self,
@@ -228,11 +258,13 @@ impl<'a> Walker<'a> {
         requires ready { IsOnItsWay self.old }
         requires room { specs.old.used < usize.MAX }
         ensures told { OnOk result (specs.new.used ≤ length specs.old.records.now
-            → step_meant self.old.input.now specs.new.records.now step.new ≡ event self.old.peeks self.old.parser) }
+            → step_meant self.old.input.now specs.new.records.now step.new
+            ≡ event self.old.peeks self.old.parser) }
         ensures number { OnOk result (step.new.spec ≤ specs.new.used) }
         ensures adds { OnOk result (Adds (specs_in (given self.old.parser)) specs.old specs.new) }
         ensures call { OnOk result (MakesCall number self.old self.new) }
-        ensures read { OnOk result (step.new.read ≡ position self.new.parser.input self.new.parser.rest) }
+        ensures read { OnOk result (step.new.read
+            ≡ position self.new.parser.input self.new.parser.rest) }
     {
         let faults = self.parser.errors().len();
         let places = self.parser.arg_places().len();
@@ -251,7 +283,8 @@ impl<'a> Walker<'a> {
         Ok(())
     }
 
-    /// The call with this number, where there is no room for its step: how far the input was read.
+    /// Makes the call with this number, whose step does not fit. Returns the byte offset up to
+    /// which the input is then read, or `Err` if an allocation fails.
     #[inline(never)]
     fn step_unwritten(
         &mut self,
@@ -261,7 +294,9 @@ impl<'a> Walker<'a> {
         requires ready { IsOnItsWay self.old }
         requires room { specs.old.used < usize.MAX }
         ensures added { OnOk result ((full : List StepRecord) → length full ≤ number
-            → IsAdded self.old.input.now (event self.old.peeks self.old.parser) number specs.new.used full full specs.new.records.now) }
+            → IsAdded self.old.input.now
+            (event self.old.peeks self.old.parser) number specs.new.used full full
+            specs.new.records.now) }
         ensures adds { OnOk result (Adds (specs_in (given self.old.parser)) specs.old specs.new) }
         ensures call { OnOk result (MakesCall number self.old self.new) }
         ensures read { IfOk result (λ n. n ≡ position self.new.parser.input self.new.parser.rest) }
@@ -271,7 +306,9 @@ impl<'a> Walker<'a> {
         Ok(spare.read)
     }
 
-    /// The call with this number, written behind so many steps, if there is room: how far the input was read.
+    /// Makes the call with this number and writes it into the step with this index, if there is
+    /// one. Returns the byte offset up to which the input is then read, or `Err` if an allocation
+    /// fails.
     #[inline(always)]
     fn add_step(
         &mut self,
@@ -281,7 +318,10 @@ impl<'a> Walker<'a> {
     ) -> Result<usize, AllocError>
         requires ready { IsOnItsWay self.old }
         requires room { specs.old.used < usize.MAX }
-        ensures added { OnOk result (IsAdded self.old.input.now (event self.old.peeks self.old.parser) number specs.new.used steps.old steps.new specs.new.records.now) }
+        ensures added { OnOk result
+            (IsAdded self.old.input.now
+            (event self.old.peeks self.old.parser) number specs.new.used steps.old steps.new
+            specs.new.records.now) }
         ensures adds { OnOk result (Adds (specs_in (given self.old.parser)) specs.old specs.new) }
         ensures call { OnOk result (MakesCall number self.old self.new) }
         ensures read { IfOk result (λ n. n ≡ position self.new.parser.input self.new.parser.rest) }
@@ -294,13 +334,16 @@ impl<'a> Walker<'a> {
         }
     }
 
-    /// The call at the end, into its step. It gives no piece and finds no fault.
+    /// Makes the call at the end of the input and writes it into its step. The call returns no
+    /// piece and finds no error. Returns `Err` if an allocation fails.
     #[inline(always)]
     fn put_end(&mut self, step: &mut Step) -> Result<(), AllocError>
         requires { self.old.parser.rest ≡ [] }
-        ensures told { OnOk result ((peeks : Bool) (input : List ℕ) (specs : List SpecRecord) → step_meant input specs step.new ≡ event peeks self.old.parser) }
+        ensures told { OnOk result ((peeks : Bool) (input : List ℕ) (specs : List SpecRecord)
+            → step_meant input specs step.new ≡ event peeks self.old.parser) }
         ensures number { OnOk result (step.new.spec ≡ 0) }
-        ensures state { OnOk result (self.new.parser ≡ after self.old.parser (next_call self.old.parser)) }
+        ensures state { OnOk result (self.new.parser
+            ≡ after self.old.parser (next_call self.old.parser)) }
         ensures finders { OnOk result (self.new.finders ≡ self.old.finders) }
     {
         let _none = self.parser.next_into(&mut self.argument)?;
@@ -312,13 +355,16 @@ impl<'a> Walker<'a> {
         Ok(())
     }
 
-    /// The call at the end, written behind so many steps, if there is room.
+    /// Makes the call at the end of the input and writes it into the step with this index, if there
+    /// is one. Returns `Err` if an allocation fails.
     #[inline(always)]
     fn add_end(&mut self, number: usize, steps: &mut [Step]) -> Result<(), AllocError>
         requires { self.old.parser.rest ≡ [] }
-        ensures added { OnOk result ((peeks : Bool) (input : List ℕ) (used : ℕ) (specs : List SpecRecord)
+        ensures added { OnOk result
+            ((peeks : Bool) (input : List ℕ) (used : ℕ) (specs : List SpecRecord)
             → IsAdded input (event peeks self.old.parser) number used steps.old steps.new specs) }
-        ensures state { OnOk result (self.new.parser ≡ after self.old.parser (next_call self.old.parser)) }
+        ensures state { OnOk result (self.new.parser
+            ≡ after self.old.parser (next_call self.old.parser)) }
         ensures finders { OnOk result (self.new.finders ≡ self.old.finders) }
     {
         if number >= steps.len() {
@@ -330,7 +376,9 @@ impl<'a> Walker<'a> {
         Ok(())
     }
 
-    /// All calls up to and with the one at the end of the input: how many there are. What fits is written.
+    /// Makes all calls up to and including the one at the end of the input, and returns their
+    /// number. The steps and the specifications that fit are written. Returns `Err` if an
+    /// allocation fails.
     pub fn walk(
         &mut self,
         steps: &mut [Step],
@@ -343,8 +391,10 @@ impl<'a> Walker<'a> {
         requires empty { specs.old.used ≡ 0 }
         ensures count { IfOk result (λ k. k ≡ length (states self.old.parser)) }
         ensures specs { OnOk result (Adds (spec_count self.old.parser) specs.old specs.new) }
-        ensures written { IfOk result (λ k. k ≤ length steps.old → specs.new.used ≤ length specs.old.records.now
-            → map (step_meant self.old.input.now (take specs.new.used specs.new.records.now)) (take k steps.new) ≡ events self.old.peeks self.old.parser) }
+        ensures written { IfOk result (λ k. k ≤ length steps.old → specs.new.used
+            ≤ length specs.old.records.now
+            → map (step_meant self.old.input.now (take specs.new.used specs.new.records.now))
+            (take k steps.new) ≡ events self.old.peeks self.old.parser) }
         ensures state { OnOk result (self.new.parser ≡ end_of self.old.parser) }
         ensures finders { OnOk result (self.new.finders.calls ≡ found_by self.old.parser) }
         ensures fronts { OnOk result (self.new.finders.fronts ≡ fronts_of self.old.parser) }

@@ -1,17 +1,19 @@
--- What an empty input gives.
-use Rattle.std.proofs.Common.{◌≡◌, ◌≤◌, ℕ, ◌++◌, Bool, true, false, List, [], ◌∷◌, Option, None, Some, Result, Ok, Err, String, Global, string_bytes, replicate}
+-- The answer to an empty input.
+use Rattle.std.proofs.Common.{◌≡◌, ◌≤◌, ℕ, ◌++◌, Bool, true, false, List, [], ◌∷◌, Option, None}
+use Rattle.std.proofs.Common.{Some, Result, Ok, Err, String, Global, string_bytes, replicate}
 use Rattle.std.proofs.Common.{refl, sym, ap, ◌∙◌, option_map, map, chars, length, arith}
 use Rattle.std.specs.Prelude.{IfSome, MatchOption}
 use Rattle.std.proofs.lemmas.Option.{same_Some, none-some}
 use Rattle.std.proofs.lemmas.Str.{chars-nil}
 use Rattle.std.proofs.lemmas.List.{nil_from_length}
 use Rattle.rustc_parse_format.specs.Literal.{IsLiteral, ordinary_frame, raw_frame}
-use Rattle.rustc_parse_format.specs.Types.{Mode, Piece}
-use Rattle.rustc_parse_format.specs.Call.{call, pieces_of, walk}
+use Rattle.rustc_parse_format.specs.Types.{Mode}
+use Rattle.rustc_parse_format.specs.Call.{call, walk}
 use Rattle.rustc_parse_format.specs.Faults.{Message}
 use Rattle.rustc_parse_format.specs.State.{after_all, calls, fresh}
-use Rattle.rustc_parse_format.specs.World.{Place, World, pieces_in}
+use Rattle.rustc_parse_format.specs.World.{Place, World}
 use Rattle.rustc_parse_format.specs.Seen.{seen_mode}
+use Rattle.placeholder_check.proofs.Empty.{no_items}
 use Rattle.piece_listing.specs.declared.given.Given.{Given as DeclaredGiven}
 use Rattle.piece_listing.specs.declared.task.Task.{Task as DeclaredTask}
 use Rattle.piece_listing.specs.declared.verdict.RunFault.{RunFault}
@@ -22,12 +24,9 @@ use Rattle.piece_listing.specs.SeenTask.{seen_given, seen_task}
 use Rattle.piece_listing.specs.Source.{IsSourceOf, Source, bare_source}
 use Rattle.piece_listing.proofs.Literals.{raw_frame-parts}
 
--- an empty text has no pieces, no errors and so no fault
-pieces-nil : (mode : Mode) (w : World) (start : ℕ) → pieces_in w (pieces_of (calls (fresh mode w [] start))) ≡ []
-unfolding walk call
-pieces-nil mode w start = refl
-
-errors-nil : (mode : Mode) (w : World) (start : ℕ) → (after_all (fresh mode w [] start) (calls (fresh mode w [] start))).errors ≡ []
+-- an empty text has no errors and so no fault
+errors-nil : (mode : Mode) (w : World) (start : ℕ)
+    → (after_all (fresh mode w [] start) (calls (fresh mode w [] start))).errors ≡ []
 unfolding walk call
 errors-nil mode w start = refl
 
@@ -38,29 +37,27 @@ listed-nil mode = refl
 chars-empty : (bs : List ℕ) → bs ≡ [] → chars bs ≡ []
 chars-empty bs e = ap chars e ∙ chars-nil
 
-no_items : {A B : Type 0} (f : A → B) (xs : List A) → map f xs ≡ [] → xs ≡ []
-no_items f [] e = refl
-no_items f (x ∷ xs) e = absurd cc
-
-pub no_pieces : {A : Type 0} (f : A → Piece Place) (ps : List A) (mode : Mode) (w : World) (start : ℕ) (bs : List ℕ) → bs ≡ []
-    → map f ps ≡ pieces_in w (pieces_of (calls (fresh mode w (chars bs) start))) → ps ≡ []
-no_pieces f ps mode w start bs e h =
-    no_items f ps (h ∙ ap (λ t. pieces_in w (pieces_of (calls (fresh mode w t start)))) (chars-empty bs e) ∙ pieces-nil mode w start)
-
-pub no_errors : {A : Type 0} (f : A → Message Place) (es : List A) (mode : Mode) (w : World) (start : ℕ) (bs : List ℕ) → bs ≡ []
-    → map f es ≡ (after_all (fresh mode w (chars bs) start) (calls (fresh mode w (chars bs) start))).errors → es ≡ []
+pub no_errors : {A : Type 0} (f : A → Message Place) (es : List A) (mode : Mode) (w : World)
+    (start : ℕ) (bs : List ℕ) → bs ≡ []
+    → map f es
+    ≡ (after_all (fresh mode w (chars bs) start) (calls (fresh mode w (chars bs) start))).errors
+    → es ≡ []
 no_errors f es mode w start bs e h =
-    no_items f es (h ∙ ap (λ t. (after_all (fresh mode w t start) (calls (fresh mode w t start))).errors) (chars-empty bs e) ∙ errors-nil mode w start)
+    no_items f es
+    (h ∙ ap (λ t. (after_all (fresh mode w t start) (calls (fresh mode w t start))).errors)
+    (chars-empty bs e) ∙ errors-nil mode w start)
 
 -- nor is it a literal
 pub empty-not_raw : (bs : List ℕ) → bs ≡ [] → (n : ℕ) (t : List ℕ) → chars bs ≡ raw_frame n t → ⊥
 empty-not_raw bs e n t h =
-    let none : [] ≡ 114 ∷ (replicate n 35 ++ 34 ∷ ((t ++ 34 ∷ []) ++ replicate n 35)) = sym (chars-empty bs e) ∙ h ∙ raw_frame-parts n t in cc
+    let none : [] ≡ 114 ∷ (replicate n 35 ++ 34 ∷ ((t ++ 34 ∷ []) ++ replicate n 35)) =
+    sym (chars-empty bs e) ∙ h ∙ raw_frame-parts n t in cc
 
 pub empty-no_frame : (bs : List ℕ) → bs ≡ [] → (t : List ℕ) → chars bs ≡ ordinary_frame t → ⊥
 empty-no_frame bs e t h = let none : [] ≡ 34 ∷ (t ++ 34 ∷ []) = sym (chars-empty bs e) ∙ h in cc
 
-pub empty-no_literal : (bs : List ℕ) → bs ≡ [] → (style : Option ℕ) (t : List ℕ) → IsLiteral style (chars bs) t → ⊥
+pub empty-no_literal : (bs : List ℕ) → bs ≡ [] → (style : Option ℕ) (t : List ℕ)
+    → IsLiteral style (chars bs) t → ⊥
 empty-no_literal bs e None t (content, us, h, is, v) = empty-no_frame bs e content h
 empty-no_literal bs e (Some n) t h = empty-not_raw bs e n t h
 
@@ -69,36 +66,52 @@ nothing-seen : (g : Option DeclaredGiven) → option_map seen_given g ≡ None �
 nothing-seen None e = refl
 nothing-seen (Some g) e = absurd cc
 
-pub asked-literal : (o : Option DeclaredTask) (t : DeclaredTask) (mode : Mode) (literal : Bool) (a : Option Task) → option_map seen_task o ≡ a → o ≡ Some t
-    → a ≡ Some (record { mode = mode; is_literal = literal; given = None }) → (t.is_literal ≡ literal) × (t.given ≡ None)
+pub asked-literal : (o : Option DeclaredTask) (t : DeclaredTask) (mode : Mode) (literal : Bool)
+    (a : Option Task) → option_map seen_task o ≡ a → o ≡ Some t
+    → a ≡ Some (record { mode = mode; is_literal = literal; given = None })
+    → (t.is_literal ≡ literal) × (t.given ≡ None)
 asked-literal o t mode literal a seen is asked =
-    let same = same_Some (seen_task t) (record { mode = mode; is_literal = literal; given = None }) (ap (option_map seen_task) (sym is) ∙ seen ∙ asked) in
+    let same = same_Some (seen_task t) (record { mode = mode; is_literal = literal; given = None })
+    (ap (option_map seen_task) (sym is) ∙ seen ∙ asked) in
     (ap (λ (a : Task). a.is_literal) same, nothing-seen t.given (ap (λ (a : Task). a.given) same))
 
-pub empty-read : (remaining : Option (List ℕ)) (items slice text : List ℕ) → remaining ≡ Some [] → IfSome remaining (λ input. items ≡ input)
+pub empty-read : (remaining : Option (List ℕ)) (items slice text : List ℕ) → remaining ≡ Some []
+    → IfSome remaining (λ input. items ≡ input)
     → slice ≡ items → text ≡ slice → text ≡ []
-empty-read remaining items slice text known held sliced read = let none : items ≡ [] = rw known at held in read ∙ sliced ∙ none
+empty-read remaining items slice text known held sliced read = let none : items
+    ≡ [] = rw known at held in read ∙ sliced ∙ none
 
-pub nothing_found : (o : Option (String Global × Option ℕ)) (x : String Global × Option ℕ) (bs literal : List ℕ) → bs ≡ [] → length literal ≤ length bs
-    → MatchOption o ((style : Option ℕ) (t : List ℕ) → IsLiteral style (chars literal) t → ⊥) (λ y. IsLiteral y.1 (chars literal) (chars (string_bytes y.0)))
+pub nothing_found : (o : Option (String Global × Option ℕ)) (x : String Global × Option ℕ)
+    (bs literal : List ℕ) → bs ≡ [] → length literal ≤ length bs
+    → MatchOption o ((style : Option ℕ) (t : List ℕ) → IsLiteral style (chars literal) t → ⊥)
+    (λ y. IsLiteral y.1 (chars literal) (chars (string_bytes y.0)))
     → o ≡ Some x → ⊥
 nothing_found None x bs literal e short found is = absurd (none-some x is)
 nothing_found (Some y) x bs literal e short found is =
-    empty-no_literal literal (nil_from_length literal (omega (arith, ap length e))) y.1 (chars (string_bytes y.0)) found
+    empty-no_literal literal (nil_from_length literal (omega (arith, ap length e))) y.1
+    (chars (string_bytes y.0)) found
 
 -- what the program does with it
-pub empty-listed : (t : DeclaredTask) (lines : String Global) (told : Bool) (bs : List ℕ) → bs ≡ [] → t.given ≡ None
-    → (bs ≡ [] → t.is_literal ≡ true → ◌≡◌ {A = Result (String Global × Bool) RunFault} (Ok (lines, told)) (Err NotLiteral))
-    → (s : Source) × IsSourceOf t.is_literal (chars bs) s × IsListed (seen_task t) s (string_bytes lines, told)
+pub empty-listed : (t : DeclaredTask) (lines : String Global) (told : Bool) (bs : List ℕ) → bs ≡ []
+    → t.given ≡ None
+    → (bs ≡ [] → t.is_literal ≡ true
+    → ◌≡◌ {A = Result (String Global × Bool) RunFault} (Ok (lines, told)) (Err NotLiteral))
+    → (s : Source) × IsSourceOf t.is_literal (chars bs) s
+    × IsListed (seen_task t) s (string_bytes lines, told)
     → (t.is_literal ≡ false) × (string_bytes lines ≡ []) × (told ≡ false)
 empty-listed t lines told bs e bare refused found = by_literal t.is_literal refused found
   where
-    by_literal : (literal : Bool) → (bs ≡ [] → literal ≡ true → ◌≡◌ {A = Result (String Global × Bool) RunFault} (Ok (lines, told)) (Err NotLiteral))
-        → (s : Source) × IsSourceOf literal (chars bs) s × IsListed (seen_task t) s (string_bytes lines, told)
+    by_literal : (literal : Bool)
+        → (bs ≡ [] → literal ≡ true
+        → ◌≡◌ {A = Result (String Global × Bool) RunFault} (Ok (lines, told)) (Err NotLiteral))
+        → (s : Source) × IsSourceOf literal (chars bs) s
+        × IsListed (seen_task t) s (string_bytes lines, told)
         → (literal ≡ false) × (string_bytes lines ≡ []) × (told ≡ false)
     by_literal true refused found = absurd (let no_listing = refused e refl in cc)
     by_literal false refused (s, is, (r, report, given)) =
         let none : r ≡ no_entries = rw bare at report in
-        let same = given ∙ ap (listed (seen_mode t.mode) s) none ∙ ap (λ s. listed (seen_mode t.mode) s no_entries) (is ∙ ap bare_source (chars-empty bs e))
+        let same = given ∙ ap (listed (seen_mode t.mode) s) none
+        ∙ ap (λ s. listed (seen_mode t.mode) s no_entries) (is
+        ∙ ap bare_source (chars-empty bs e))
         ∙ listed-nil (seen_mode t.mode) in
         (refl, ap (λ (x : List ℕ × Bool). x.0) same, ap (λ (x : List ℕ × Bool). x.1) same)

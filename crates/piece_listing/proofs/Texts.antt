@@ -1,5 +1,6 @@
--- Laws of written texts.
-use Rattle.std.proofs.Common.{◌≡◌, ℕ, ◌++◌, ◌==◌, [], ◌∷◌, List, Option, Some, None, option_map, is_some, true, false, sym, ap, ◌∙◌, append_assoc, append-nil}
+-- Laws of texts that are written to the output.
+use Rattle.std.proofs.Common.{◌≡◌, ℕ, ◌++◌, ◌==◌, [], ◌∷◌, List, Option, Some, None, option_map}
+use Rattle.std.proofs.Common.{is_some, true, false, sym, ap, ◌∙◌, append_assoc, append-nil}
 use Rattle.std.proofs.Common.{encode_utf8_all, flat_map, chars, codes, length, refl, arith}
 use Rattle.std.specs.declared.ops.Range.{Range}
 use Rattle.std.specs.Str.{IsUtf8}
@@ -12,16 +13,19 @@ use Rattle.rustc_parse_format.specs.Seen.{pair}
 use Rattle.piece_listing.specs.Listing.{at_entry, quoted, type_entry}
 
 -- one character more is written
-pub written-push : (out : List ℕ) (t : Text) (c : ℕ) → (out ++ flat_map written t) ++ written c ≡ out ++ flat_map written (t ++ c ∷ [])
+pub written-push : (out : List ℕ) (t : Text) (c : ℕ) → (out ++ flat_map written t) ++ written c
+    ≡ out ++ flat_map written (t ++ c ∷ [])
 written-push out t c =
     append_assoc out _ _
     ∙ ap (λ x. out ++ (flat_map written t ++ x)) (sym (append-nil (written c)))
     ∙ ap (λ x. out ++ x) (sym (flat_map-append written t (c ∷ [])))
 
 -- a type that was not written leaves nothing
-pub type_entry-absent : (out : List ℕ) (s : Option (Range ℕ)) (bs : List ℕ) → is_some s ≡ false → true ≡ (length bs == 0) → out
+pub type_entry-absent : (out : List ℕ) (s : Option (Range ℕ)) (bs : List ℕ) → is_some s ≡ false
+    → true ≡ (length bs == 0) → out
     ≡ out ++ type_entry (option_map pair s) (chars bs)
-type_entry-absent out None [] e h = sym (ap (λ t. out ++ type_entry None t) chars-nil ∙ append-nil out)
+type_entry-absent out None [] e h =
+    sym (ap (λ t. out ++ type_entry None t) chars-nil ∙ append-nil out)
 type_entry-absent out None (b ∷ bs) e h = grind (arith, nat_tests)
 type_entry-absent out (Some r) bs e h = cc
 
@@ -30,18 +34,22 @@ abbrev type_text : Option (Range ℕ) → Text → List ℕ
 type_text s t = codes " ty=" ++ (quoted t ++ at_entry (option_map pair s))
 
 -- one with a span is shown
-pub type_entry-given : (s : Option (Range ℕ)) (t : Text) → is_some s ≡ true → type_entry (option_map pair s) t ≡ type_text s t
+pub type_entry-given : (s : Option (Range ℕ)) (t : Text) → is_some s ≡ true
+    → type_entry (option_map pair s) t ≡ type_text s t
 type_entry-given None t e = cc
 type_entry-given (Some r) t e = refl
 
 -- one that is not empty is shown
-type_entry-cons : (s : Option (Range ℕ)) (bs : List ℕ) (t : Text) → encode_utf8_all t ≡ bs → is_some s ≡ false → false ≡ (length bs == 0) →
+type_entry-cons : (s : Option (Range ℕ)) (bs : List ℕ) (t : Text) → encode_utf8_all t ≡ bs
+    → is_some s ≡ false → false ≡ (length bs == 0) →
     type_entry (option_map pair s) t ≡ type_text s t
 type_entry-cons None bs [] w e h = absurd (elim bs as (λ x. [] ≡ x → false ≡ (length x == 0) →
     ⊥) [ [] ↦ λ p q. grind (arith, nat_tests) | b ∷ bs ↦ λ p q. cc ] w h)
-type_entry-cons None bs (c ∷ t) w e h = ap (λ x. codes " ty=" ++ x) (sym (append-nil (quoted (c ∷ t))))
+type_entry-cons None bs (c ∷ t) w e h =
+    ap (λ x. codes " ty=" ++ x) (sym (append-nil (quoted (c ∷ t))))
 type_entry-cons (Some r) bs t w e h = cc
 
-pub type_entry-chars : (s : Option (Range ℕ)) (bs : List ℕ) → IsUtf8 bs → is_some s ≡ false → false ≡ (length bs == 0) →
+pub type_entry-chars : (s : Option (Range ℕ)) (bs : List ℕ) → IsUtf8 bs → is_some s ≡ false
+    → false ≡ (length bs == 0) →
     type_entry (option_map pair s) (chars bs) ≡ type_text s (chars bs)
 type_entry-chars s bs u e h = type_entry-cons s bs (chars bs) (encodes-chars bs u) e h

@@ -1,8 +1,10 @@
--- Worked rows: what words ask for, which lists of arguments are accepted, and a listing with a report.
-use Rattle.std.proofs.Common.{◌≡◌, ℕ, Bool, true, false, List, [], ◌∷◌, map, Option, None, Some, chars, codes, refl, lit≤}
+-- Worked examples: what the program's arguments ask for, which lists are accepted, and a listing
+-- with a report.
+use Rattle.std.proofs.Common.{◌≡◌, ℕ, Bool, true, false, List, [], ◌∷◌, map, Option, None, Some}
+use Rattle.std.proofs.Common.{chars, codes, refl, lit≤}
 use Rattle.std.specs.Fmt.{digits}
 use Rattle.rustc_parse_format.specs.Types.{Mode, Format, InlineAsm, Diagnostic, DiagnosticNamed}
-use Rattle.rustc_parse_format.proofs.Rows.{computing}
+use Rattle.rustc_parse_format.proofs.Rows.Definitions.{computing}
 use Rattle.placeholder_check.specs.Report.{Report}
 use Rattle.placeholder_check.proofs.Deciding.{report-decided}
 use Rattle.piece_listing.specs.Given.{Given, cut, given_by}
@@ -25,7 +27,8 @@ unfolding cut
 list-names = refl
 
 -- any character but a comma may stand in a name, and a name may come twice
-list-any_names : given_by (codes "00004,a b,+1,a b") ≡ given_are 4 (codes "a b" ∷ codes "+1" ∷ codes "a b" ∷ [])
+list-any_names : given_by (codes "00004,a b,+1,a b")
+    ≡ given_are 4 (codes "a b" ∷ codes "+1" ∷ codes "a b" ∷ [])
 unfolding cut
 list-any_names = refl
 
@@ -73,11 +76,13 @@ words-literal : asked (codes "format" ∷ codes "--literal" ∷ []) ≡ asks For
 unfolding mode_named
 words-literal = refl
 
-words-list : asked (codes "diagnostic" ∷ codes "--args" ∷ codes "2,w" ∷ []) ≡ asks Diagnostic false (given_are 2 (codes "w" ∷ []))
+words-list : asked (codes "diagnostic" ∷ codes "--args" ∷ codes "2,w" ∷ [])
+    ≡ asks Diagnostic false (given_are 2 (codes "w" ∷ []))
 unfolding cut mode_named
 words-list = refl
 
-words-literal_and_list : asked (codes "format" ∷ codes "--literal" ∷ codes "--args" ∷ codes "0" ∷ []) ≡ asks Format true (given_are 0 [])
+words-literal_and_list : asked (codes "format" ∷ codes "--literal" ∷ codes "--args" ∷ codes "0"
+    ∷ []) ≡ asks Format true (given_are 0 [])
 unfolding cut mode_named
 words-literal_and_list = refl
 
@@ -85,11 +90,13 @@ no_words-list_missing : asked (codes "format" ∷ codes "--args" ∷ []) ≡ Non
 unfolding mode_named
 no_words-list_missing = refl
 
-no_words-list_missing_behind_literal : asked (codes "format" ∷ codes "--literal" ∷ codes "--args" ∷ []) ≡ None
+no_words-list_missing_behind_literal : asked (codes "format" ∷ codes "--literal" ∷ codes "--args"
+    ∷ []) ≡ None
 unfolding mode_named
 no_words-list_missing_behind_literal = refl
 
-no_words-literal_last : asked (codes "format" ∷ codes "--args" ∷ codes "1" ∷ codes "--literal" ∷ []) ≡ None
+no_words-literal_last : asked (codes "format" ∷ codes "--args" ∷ codes "1" ∷ codes "--literal" ∷ [])
+    ≡ None
 unfolding mode_named
 no_words-literal_last = refl
 
@@ -99,10 +106,19 @@ no_words-no_list = refl
 
 -- a report stands behind the pieces, and is told of
 abbrev wants_two : Task
-wants_two = record { mode = Format; is_literal = false; given = Some (record { positional = 2; names = codes "w" ∷ codes "z" ∷ [] }) }
+wants_two = record {
+  mode = Format;
+  is_literal = false;
+  given = Some (record { positional = 2; names = codes "w" ∷ codes "z" ∷ [] });
+}
 
 abbrev reported : Report
-reported = record { missing_index = []; missing_name = codes "q" ∷ []; unused_index = []; unused_name = codes "z" ∷ [] }
+reported = record {
+  missing_index = [];
+  missing_name = codes "q" ∷ [];
+  unused_index = [];
+  unused_name = codes "z" ∷ [];
+}
 
 abbrev reported_lines : List ℕ
 reported_lines =
@@ -114,15 +130,26 @@ listing-with_report = (reported, report-decided _ _ _ _ (lit≤ tt) refl refl re
 
 -- it stands behind the faults
 abbrev wants_one : Task
-wants_one = record { mode = Format; is_literal = false; given = Some (record { positional = 1; names = [] }) }
+wants_one = record {
+  mode = Format;
+  is_literal = false;
+  given = Some (record { positional = 1; names = [] });
+}
 
 abbrev faulty_report : Report
-faulty_report = record { missing_index = 1 ∷ []; missing_name = codes "foo" ∷ []; unused_index = 0 ∷ []; unused_name = [] }
+faulty_report = record {
+  missing_index = 1 ∷ [];
+  missing_name = codes "foo" ∷ [];
+  unused_index = 0 ∷ [];
+  unused_name = [];
+}
 
 abbrev faulty_lines : List ℕ
 faulty_lines =
     codes "arg name foo 2..5\narg implicit 1 8..8\nfault 5..5 expected `}`, found `.`\nmissing index 1\nmissing name \"foo\"\nunused index 0\n"
 
-listing-with_faults_and_report : IsListed wants_one (bare_source (codes "{foo.}{}")) (faulty_lines, true)
+listing-with_faults_and_report : IsListed wants_one (bare_source (codes "{foo.}{}"))
+    (faulty_lines, true)
 unfolding computing digits pieces errors report_lines flag_entries value_entries
-listing-with_faults_and_report = (faulty_report, report-decided _ _ _ _ (lit≤ tt) refl refl refl refl refl, refl)
+listing-with_faults_and_report =
+    (faulty_report, report-decided _ _ _ _ (lit≤ tt) refl refl refl refl refl, refl)

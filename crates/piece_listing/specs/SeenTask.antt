@@ -8,13 +8,19 @@ use Rattle.rustc_parse_format.specs.Seen.{seen_mode}
 use Rattle.piece_listing.specs.Given.{Given, parts}
 use Rattle.piece_listing.specs.Program.{Task}
 
--- the names of a list, by what is behind its first comma
+-- The names of a list, by what is after its first comma.
 abbrev pub seen_names : Option (Bor (List ℕ)) → List Text
 seen_names None = []
 seen_names (Some w) = map chars (parts w.now)
 
+-- The arguments that are given, as a contract sees them.
 abbrev pub seen_given : DeclaredGiven → Given
 seen_given g = record { positional = g.positional; names = seen_names g.names }
 
+-- A task as a contract sees it.
 abbrev pub seen_task : DeclaredTask → Task
-seen_task t = record { mode = seen_mode t.mode; is_literal = t.is_literal; given = option_map seen_given t.given }
+seen_task t = record {
+  mode = seen_mode t.mode;
+  is_literal = t.is_literal;
+  given = option_map seen_given t.given;
+}

@@ -1,6 +1,7 @@
-//! The arguments that a word gives: a number, and then names, each behind a comma.
+//! A list of arguments as a word: their number by position, and then names, each after a comma.
 
-ghost use Rattle.std.specs.Prelude.{◌≡◌, ◌<◌, [], ◌∷◌, None, Some, IfOk, IfSome, MatchOption, chars, if◌then◌else◌, length, map, option_map};
+ghost use Rattle.std.specs.Prelude.{◌≡◌, ◌<◌, [], ◌∷◌, None, Some, IfOk, IfSome, MatchOption};
+ghost use Rattle.std.specs.Prelude.{chars, if◌then◌else◌, length, map, option_map};
 ghost use Rattle.std.specs.List.{list_all};
 ghost use Rattle.std.specs.Str.Parse.{digits_value};
 ghost use Rattle.placeholder_check.specs.Seen.{texts};
@@ -9,19 +10,19 @@ ghost use Rattle.piece_listing.specs.SeenTask.{seen_given, seen_names};
 
 use std::alloc::{AllocError, Global};
 
-/// How many digits a number may have.
+/// The most digits that a number may have.
 const MOST_DIGITS: usize = 5;
 
-/// The arguments that are given.
+/// A list of arguments that are given.
 #[derive(Copy, Clone)]
 pub struct Given<'a> {
-    /// How many are given by position.
+    /// The number of arguments that are given by position.
     pub positional: usize,
-    /// The names of the others, with commas between them, if there are any.
+    /// The names of the others, separated by commas, or `None` if there are none.
     pub names: Option<&'a str>,
 }
 
-/// What is in front of the first comma and what is behind it, or `None` where there is none.
+/// Returns what is before the first comma and what is after it, or `None` if there is no comma.
 fn around_comma(text: &str) -> Option<(&str, &str)>
     ensures parts { MatchOption result
         (parts text.now ≡ text.now ∷ [])
@@ -31,7 +32,8 @@ fn around_comma(text: &str) -> Option<(&str, &str)>
     text.split_once(',')
 }
 
-/// The number that a text of a few digits is.
+/// Returns the number that a text of at most `MOST_DIGITS` digits is, or `None` if it is no number
+/// or more than 65535.
 fn number(text: &str) -> Option<usize>
     ensures { result ≡ (if is_number text.now then Some (digits_value 10 text.now) else None) }
 {
@@ -44,7 +46,7 @@ fn number(text: &str) -> Option<usize>
     }
 }
 
-/// Whether all that stands between the commas of a text is a name.
+/// Returns whether a text is a list of names that are separated by commas, none of them empty.
 fn are_names(text: &str) -> bool
     ensures { result ≡ list_all is_name (parts text.now) }
 {
@@ -58,7 +60,7 @@ fn are_names(text: &str) -> bool
     !rest.is_empty()
 }
 
-/// What a word gives, or `None` if it is no list of arguments.
+/// Returns the list of arguments that a word is, or `None` if it is none.
 pub fn given_by(word: &str) -> Option<Given<'_>>
     ensures { option_map seen_given result ≡ given_by word.now }
 {
@@ -79,7 +81,7 @@ pub fn given_by(word: &str) -> Option<Given<'_>>
     })
 }
 
-/// What stands between the commas of a text.
+/// Returns the parts of a text that are separated by commas. Returns `Err` if an allocation fails.
 fn between_commas<'a>(alloc: Global, text: &'a str) -> Result<Vec<&'a str>, AllocError>
     ensures { IfOk result (λ v. texts v.items ≡ map chars (parts text.now)) }
 {
@@ -93,7 +95,7 @@ fn between_commas<'a>(alloc: Global, text: &'a str) -> Result<Vec<&'a str>, Allo
     Ok(found)
 }
 
-/// The names that are given.
+/// Returns the names of a list of arguments. Returns `Err` if an allocation fails.
 pub fn names<'a>(alloc: Global, names: Option<&'a str>) -> Result<Vec<&'a str>, AllocError>
     ensures { IfOk result (λ v. texts v.items ≡ seen_names names.entry) }
 {

@@ -1,4 +1,5 @@
-//! The listing of the pieces and the faults of a format string, as a program reads and writes it.
+//! The program `formatread` as a function over any reader and writer (`run`), and the error message
+//! and exit status for each of its results (`verdict`).
 #![tactic(auto)]
 
 mod given;

@@ -1,10 +1,20 @@
-ghost use Rattle.std.specs.Prelude.{◌≡◌, ◌++◌, [], IfOk, IsOk, OnOk, map, chars, codes, decimal, encode_utf8_all, flat_map, option_map, string_bytes};
+//! The lines of pieces, of errors and of a report. Each function that returns a `Result` returns
+//! `Err` if an allocation fails; `put_` in a name means that it appends to `out`.
+
+ghost use Rattle.std.specs.Prelude.{◌≡◌, ◌++◌, [], IfOk, IsOk, OnOk, map, chars, codes, decimal};
+ghost use Rattle.std.specs.Prelude.{encode_utf8_all, flat_map, option_map, string_bytes};
 ghost use Rattle.rustc_parse_format.specs.Written.{written};
-ghost use Rattle.rustc_parse_format.specs.Seen.{pair, seen, seen_alignment, seen_count, seen_debug_hex, seen_error, seen_position, seen_sign, seen_spec};
+ghost use Rattle.rustc_parse_format.specs.Seen.{pair, seen, seen_alignment, seen_count};
+ghost use Rattle.rustc_parse_format.specs.Seen.{seen_debug_hex, seen_error, seen_position};
+ghost use Rattle.rustc_parse_format.specs.Seen.{seen_sign, seen_spec};
 ghost use Rattle.placeholder_check.specs.Seen.{seen_report};
 ghost use Rattle.piece_listing.specs.Program.{no_entries};
-ghost use Rattle.piece_listing.specs.Listing.{align_entry, at_entry, count_entry, count_text, fault_line, fill_entry, flag_entry, flag_entries, hex_entry};
-ghost use Rattle.piece_listing.specs.Listing.{listing, piece_line, position_text, precision_entry, quoted, sign_entry, span_text, type_entry, value_entries, width_entry};
+ghost use Rattle.piece_listing.specs.Listing.{align_entry, at_entry, count_entry, count_text};
+ghost use Rattle.piece_listing.specs.Listing.{fault_line, fill_entry, flag_entry, flag_entries};
+ghost use Rattle.piece_listing.specs.Listing.{hex_entry};
+ghost use Rattle.piece_listing.specs.Listing.{listing, piece_line, position_text, precision_entry};
+ghost use Rattle.piece_listing.specs.Listing.{quoted, sign_entry, span_text, type_entry};
+ghost use Rattle.piece_listing.specs.Listing.{value_entries, width_entry};
 
 use super::report_lines::put_report;
 use placeholder_check::Report;
@@ -15,7 +25,7 @@ use rustc_parse_format::{
 use std::alloc::{AllocError, Global};
 use std::ops::Range;
 
-/// Adds each character of a text as it is written.
+/// Adds the characters of a text, escaped as in a listing.
 fn put_characters(out: &mut String, text: &str) -> Result<(), AllocError>
     ensures { OnOk result (string_bytes out.new ≡ string_bytes out.old ++
         flat_map written (chars text.now)) }
@@ -26,7 +36,7 @@ fn put_characters(out: &mut String, text: &str) -> Result<(), AllocError>
     Ok(())
 }
 
-/// Adds a text between quotes.
+/// Adds a text, escaped, between quotes.
 pub fn put_quoted(out: &mut String, text: &str) -> Result<(), AllocError>
     ensures { OnOk result (string_bytes out.new ≡ string_bytes out.old ++ quoted (chars text.now)) }
 {
@@ -36,7 +46,7 @@ pub fn put_quoted(out: &mut String, text: &str) -> Result<(), AllocError>
     Ok(())
 }
 
-/// Adds the line of a text.
+/// Adds the line of a piece of literal text.
 fn put_literal(out: &mut String, text: &str) -> Result<(), AllocError>
     ensures { OnOk result (string_bytes out.new ≡ string_bytes out.old ++
         (codes "lit " ++ (quoted (chars text.now) ++ codes "\n"))) }
@@ -47,7 +57,7 @@ fn put_literal(out: &mut String, text: &str) -> Result<(), AllocError>
     Ok(())
 }
 
-/// Adds a text, as it stands, after another.
+/// Adds a label and then a name, neither of them escaped.
 fn put_name(out: &mut String, label: &str, name: &str) -> Result<(), AllocError>
     ensures { OnOk result (string_bytes out.new ≡ string_bytes out.old ++
         (label.now ++ encode_utf8_all (chars name.now))) }
@@ -57,15 +67,16 @@ fn put_name(out: &mut String, label: &str, name: &str) -> Result<(), AllocError>
     Ok(())
 }
 
-/// Adds a number after a label.
+/// Adds a label and then a number.
 fn put_number(out: &mut String, label: &str, number: usize) -> Result<(), AllocError>
-    ensures { OnOk result (string_bytes out.new ≡ string_bytes out.old ++ (label.now ++ decimal number)) }
+    ensures { OnOk result (string_bytes out.new ≡ string_bytes out.old
+        ++ (label.now ++ decimal number)) }
 {
     write!(out, "{label}{number}")?;
     Ok(())
 }
 
-/// Adds a span after a mark.
+/// Adds a mark and then a span.
 fn put_span(out: &mut String, mark: &str, span: &Range<usize>) -> Result<(), AllocError>
     ensures { OnOk result (string_bytes out.new ≡ string_bytes out.old ++
         (mark.now ++ span_text (pair span.now))) }
@@ -74,7 +85,7 @@ fn put_span(out: &mut String, mark: &str, span: &Range<usize>) -> Result<(), All
     Ok(())
 }
 
-/// Adds the span of the part in front, if it has one.
+/// Adds the span of the part before it, if that has one.
 fn put_at(out: &mut String, span: &Option<Range<usize>>) -> Result<(), AllocError>
     ensures { OnOk result (string_bytes out.new ≡ string_bytes out.old ++
         at_entry (option_map pair span.now)) }
@@ -98,7 +109,7 @@ fn put_position(out: &mut String, position: &Position<'_>) -> Result<(), AllocEr
     Ok(())
 }
 
-/// Adds a fill.
+/// Adds a fill character and its span, if there is one.
 fn put_fill(
     out: &mut String,
     fill: Option<char>,
@@ -116,7 +127,7 @@ fn put_fill(
     Ok(())
 }
 
-/// Adds an alignment.
+/// Adds an alignment, if there is one.
 fn put_alignment(out: &mut String, align: Alignment) -> Result<(), AllocError>
     ensures { OnOk result (string_bytes out.new ≡ string_bytes out.old ++
         align_entry (seen_alignment align)) }
@@ -131,7 +142,7 @@ fn put_alignment(out: &mut String, align: Alignment) -> Result<(), AllocError>
     Ok(())
 }
 
-/// Adds a sign.
+/// Adds a sign flag, if there is one.
 fn put_sign(out: &mut String, sign: Option<Sign>) -> Result<(), AllocError>
     ensures { OnOk result (string_bytes out.new ≡ string_bytes out.old ++
         sign_entry (option_map seen_sign sign)) }
@@ -145,9 +156,10 @@ fn put_sign(out: &mut String, sign: Option<Sign>) -> Result<(), AllocError>
     Ok(())
 }
 
-/// Adds the name of a flag that is set.
+/// Adds the name of a flag, if the flag is set.
 fn put_flag(out: &mut String, name: &str, flag: bool) -> Result<(), AllocError>
-    ensures { OnOk result (string_bytes out.new ≡ string_bytes out.old ++ flag_entry flag name.now) }
+    ensures { OnOk result (string_bytes out.new ≡ string_bytes out.old
+        ++ flag_entry flag name.now) }
 {
     if flag {
         out.push_str(name)?;
@@ -155,7 +167,7 @@ fn put_flag(out: &mut String, name: &str, flag: bool) -> Result<(), AllocError>
     Ok(())
 }
 
-/// Adds fill, alignment and flags.
+/// Adds the fill character, the alignment and the flags of a specification.
 #[tactic(auto, unfolding(crate::specs::Listing::flag_entries))]
 fn put_flags(out: &mut String, spec: &FormatSpec<'_>) -> Result<(), AllocError>
     ensures { OnOk result (string_bytes out.new ≡ string_bytes out.old ++
@@ -169,7 +181,7 @@ fn put_flags(out: &mut String, spec: &FormatSpec<'_>) -> Result<(), AllocError>
     Ok(())
 }
 
-/// Adds a count.
+/// Adds a width or a precision.
 fn put_count(out: &mut String, count: &Count<'_>) -> Result<(), AllocError>
     ensures { OnOk result (string_bytes out.new ≡ string_bytes out.old ++
         count_text (seen_count count.now)) }
@@ -187,7 +199,7 @@ fn put_count(out: &mut String, count: &Count<'_>) -> Result<(), AllocError>
     Ok(())
 }
 
-/// Adds a part that is a count: its name, the count and its span.
+/// Adds a part that is a width or a precision: its name, the count and its span.
 fn put_named_count(
     out: &mut String,
     name: &str,
@@ -203,7 +215,7 @@ fn put_named_count(
     Ok(())
 }
 
-/// Adds a width, unless it is implied.
+/// Adds a width, unless there is none.
 fn put_width(
     out: &mut String,
     width: &Count<'_>,
@@ -219,7 +231,7 @@ fn put_width(
     Ok(())
 }
 
-/// Adds a precision that was written.
+/// Adds a precision, if it has a span.
 fn put_precision(
     out: &mut String,
     precision: &Count<'_>,
@@ -234,7 +246,7 @@ fn put_precision(
     Ok(())
 }
 
-/// Adds the case of hexadecimal digits.
+/// Adds the case of the hexadecimal digits of a debug format, if it has one.
 fn put_hex(out: &mut String, hex: Option<DebugHex>) -> Result<(), AllocError>
     ensures { OnOk result (string_bytes out.new ≡ string_bytes out.old ++
         hex_entry (option_map seen_debug_hex hex)) }
@@ -248,7 +260,7 @@ fn put_hex(out: &mut String, hex: Option<DebugHex>) -> Result<(), AllocError>
     Ok(())
 }
 
-/// Adds a type that was written.
+/// Adds a type, unless it is empty and has no span.
 fn put_type(out: &mut String, ty: &str, span: &Option<Range<usize>>) -> Result<(), AllocError>
     ensures { OnOk result (string_bytes out.new ≡ string_bytes out.old ++
         type_entry (option_map pair span.now) (chars ty.now)) }
@@ -262,7 +274,7 @@ fn put_type(out: &mut String, ty: &str, span: &Option<Range<usize>>) -> Result<(
     Ok(())
 }
 
-/// Adds counts and type.
+/// Adds the width, the precision and the type of a specification.
 #[tactic(auto, unfolding(crate::specs::Listing::value_entries))]
 fn put_values(out: &mut String, spec: &FormatSpec<'_>) -> Result<(), AllocError>
     ensures { OnOk result (string_bytes out.new ≡ string_bytes out.old ++
@@ -294,7 +306,8 @@ fn put_argument(out: &mut String, argument: &Argument<'_>) -> Result<(), AllocEr
 
 /// Adds the line of a piece.
 fn put_piece(out: &mut String, piece: &Piece<'_>) -> Result<(), AllocError>
-    ensures { OnOk result (string_bytes out.new ≡ string_bytes out.old ++ piece_line (seen piece.now)) }
+    ensures { OnOk result (string_bytes out.new ≡ string_bytes out.old
+        ++ piece_line (seen piece.now)) }
 {
     match piece {
         Piece::Lit(text) => put_literal(out, text)?,
@@ -339,7 +352,8 @@ fn put_faults(out: &mut String, errors: &[ParseError]) -> Result<(), AllocError>
     Ok(())
 }
 
-/// The listing of pieces, errors and a report: a line for each piece, each error and each entry.
+/// Returns the listing of pieces, errors and a report: a line for each piece, each error and each
+/// entry of the report. Returns `Err` if an allocation fails.
 pub fn listing(
     alloc: Global,
     pieces: &[Piece<'_>],
@@ -348,7 +362,8 @@ pub fn listing(
 ) -> Result<String, AllocError>
     ensures lines { IfOk result (λ text. string_bytes text
         ≡ listing (map seen pieces.now) (map seen_error errors.now) (seen_report report.now)) }
-    ensures empty { pieces.now ≡ [] → errors.now ≡ [] → seen_report report.now ≡ no_entries → IsOk result }
+    ensures empty { pieces.now ≡ [] → errors.now ≡ [] → seen_report report.now ≡ no_entries
+        → IsOk result }
 {
     let mut out = String::new(alloc);
     put_pieces(&mut out, pieces)?;

@@ -1,16 +1,19 @@
-//! A standard input that is a string literal.
+//! An input that is a string literal, and the text that it stands for.
 
-ghost use Rattle.std.specs.Prelude.{◌≡◌, ◌++◌, ◌+◌, ◌<◌, ◌≤◌, ℕ, [], ◌∷◌, Option, IfOk, IfSome, IsOk};
-ghost use Rattle.std.specs.Prelude.{MatchOption, OnOk, chars, length, map, replicate, string_bytes, true, Bool};
+ghost use Rattle.std.specs.Prelude.{◌≡◌, ◌++◌, ◌+◌, ◌<◌, ◌≤◌, ℕ, [], ◌∷◌, Option, IfOk, IfSome};
+ghost use Rattle.std.specs.Prelude.{IsOk};
+ghost use Rattle.std.specs.Prelude.{MatchOption, OnOk, chars, length, map, replicate, string_bytes};
+ghost use Rattle.std.specs.Prelude.{true, Bool};
 ghost use Rattle.rustc_parse_format.specs.Characters.{Text};
-ghost use Rattle.rustc_parse_format.specs.Literal.{IsLiteral, IsOrdinaryLiteral, newline, raw_closing, raw_frame, raw_opening};
+ghost use Rattle.rustc_parse_format.specs.Literal.{IsLiteral, IsOrdinaryLiteral, newline};
+ghost use Rattle.rustc_parse_format.specs.Literal.{raw_closing, raw_frame, raw_opening};
 ghost use Rattle.rustc_parse_format.specs.World.{hashes};
 
 use rustc_parse_format::literal::{between_quotes, read_content};
 use std::alloc::{AllocError, Global};
 use std::ops::Range;
 
-/// What is in front of this character at the end of a text, or `None` where it is not there.
+/// Returns a text without the character `c` at its end, or `None` if it does not end in `c`.
 fn in_front_of(text: &str, c: char) -> Option<&str>
     requires { c < 128 }
     ensures front { MatchOption result
@@ -21,10 +24,11 @@ fn in_front_of(text: &str, c: char) -> Option<&str>
     text.strip_suffix(c)
 }
 
-/// A text without the newline at its end, if it has one there.
+/// Returns a text without the newline at its end, if it ends in one.
 pub fn without_newline(text: &str) -> &str
     ensures cut { (b : Bool) × (chars result.now ++ newline b ≡ chars text.now) }
-    // What is in front of at most one newline, and has none at its own end, is this.
+    // A text that does not end in a newline, and is `text` or `text` without a newline at its end,
+    // is the result.
     ensures only { (l : Text) (b : Bool) → l ++ newline b ≡ chars text.now
         → ((t : Text) → t ++ newline true ≡ l → ⊥) → l ≡ chars result.now }
     ensures short { length result.now ≤ length text.now }
@@ -35,7 +39,7 @@ pub fn without_newline(text: &str) -> &str
     }
 }
 
-/// What is after this character at the front of a text, or `None` where it is not there.
+/// Returns a text without the character `c` at its start, or `None` if it does not begin with `c`.
 fn behind(text: &str, c: char) -> Option<&str>
     requires { c < 128 }
     ensures rest { MatchOption result
@@ -46,7 +50,7 @@ fn behind(text: &str, c: char) -> Option<&str>
     text.strip_prefix(c)
 }
 
-/// How many hashes a text begins with, and what is after them.
+/// Returns the number of hashes at the start of a text, and what is after them.
 fn behind_hashes(text: &str) -> (usize, &str)
     ensures all { chars text.now ≡ replicate result.0 35 ++ chars result.1.now }
     ensures no_more { (t : Text) → chars result.1.now ≡ 35 ∷ t → ⊥ }
@@ -61,7 +65,7 @@ fn behind_hashes(text: &str) -> (usize, &str)
     (count, rest)
 }
 
-/// What is in front of so many hashes at the end of a text, or `None` where they are not there.
+/// Returns a text without `count` hashes at its end, or `None` if it does not end in as many.
 fn in_front_of_hashes(text: &str, count: usize) -> Option<&str>
     ensures { MatchOption result
         ((t : Text) → t ++ replicate count 35 ≡ chars text.now → ⊥)
@@ -77,7 +81,8 @@ fn in_front_of_hashes(text: &str, count: usize) -> Option<&str>
     Some(rest)
 }
 
-/// The hashes of a raw literal and its text, or `None` if it is none.
+/// Returns the number of hashes of a raw string literal and the text between its quotes, or `None`
+/// if it is no raw string literal.
 fn raw_text(literal: &str) -> Option<(usize, &str)>
     ensures text { MatchOption result
         ((n : ℕ) (t : Text) → chars literal.now ≡ raw_frame n t → ⊥)
@@ -90,15 +95,17 @@ fn raw_text(literal: &str) -> Option<(usize, &str)>
     Some((hashes, text))
 }
 
-/// Adds a character.
+/// Appends a character to a text. Returns `Err` if an allocation fails.
 fn put(text: &mut String, c: char) -> Result<(), AllocError>
-    ensures { OnOk result (chars (string_bytes text.new) ≡ chars (string_bytes text.old) ++ c ∷ []) }
+    ensures { OnOk result (chars (string_bytes text.new) ≡ chars (string_bytes text.old)
+        ++ c ∷ []) }
 {
     text.push(c)?;
     Ok(())
 }
 
-/// The text of characters with places.
+/// Returns the text of these characters, whose byte ranges are ignored. Returns `Err` if an
+/// allocation fails.
 fn joined(alloc: Global, characters: &[(Range<usize>, char)]) -> Result<String, AllocError>
     ensures { IfOk result (λ s. chars (string_bytes s) ≡ map (λ x. x.1) characters.now) }
 {
@@ -109,7 +116,8 @@ fn joined(alloc: Global, characters: &[(Range<usize>, char)]) -> Result<String, 
     Ok(text)
 }
 
-/// What an ordinary literal stands for, or `None` if the text is none.
+/// Returns the text that an ordinary string literal stands for, or `None` if it is no ordinary
+/// string literal. Returns `Err` if an allocation fails.
 fn ordinary_text(alloc: Global, literal: &str) -> Result<Option<String>, AllocError>
     ensures found { IfOk result (λ o. MatchOption o
         ((t : Text) → IsOrdinaryLiteral (chars literal.now) t → ⊥)
@@ -125,7 +133,9 @@ fn ordinary_text(alloc: Global, literal: &str) -> Result<Option<String>, AllocEr
     }
 }
 
-/// What a literal stands for, and its style, or `None` if the text is no literal.
+/// Returns the text that a string literal stands for, and its style: the number of hashes of a raw
+/// one, or `None` for an ordinary one. Returns `None` if it is no string literal, and `Err` if an
+/// allocation fails. The rules are those of the Rust Reference.
 pub fn literal_text(
     alloc: Global,
     literal: &str,

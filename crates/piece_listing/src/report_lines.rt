@@ -1,6 +1,7 @@
-//! The report on pieces, and its lines.
+//! The report on missing and unused arguments, and its lines.
 
-ghost use Rattle.std.specs.Prelude.{◌≡◌, ◌++◌, [], None, IfOk, IsOk, OnOk, chars, codes, flat_map, map, option_map, string_bytes};
+ghost use Rattle.std.specs.Prelude.{◌≡◌, ◌++◌, [], None, IfOk, IsOk, OnOk, chars, codes, flat_map};
+ghost use Rattle.std.specs.Prelude.{map, option_map, string_bytes};
 ghost use Rattle.rustc_parse_format.specs.Seen.{seen};
 ghost use Rattle.placeholder_check.specs.Seen.{seen_report, texts};
 ghost use Rattle.piece_listing.specs.Listing.{index_line, name_line, report_lines};
@@ -13,13 +14,16 @@ use placeholder_check::{Report, check};
 use rustc_parse_format::Piece;
 use std::alloc::{AllocError, Global};
 
-/// The report on pieces for which these arguments are given, or one without entries.
+/// Returns the report on pieces for which these arguments are given, or a report without entries
+/// for `None`. Returns `Err` if an allocation fails.
 pub fn report_for<'a>(
     alloc: Global,
     pieces: &[Piece<'a>],
     given: Option<Given<'a>>,
 ) -> Result<Report<'a>, AllocError>
-    ensures report { IfOk result (λ r. IsReportFor (option_map seen_given given.entry) (map seen pieces.now) (seen_report r)) }
+    ensures report { IfOk result
+        (λ r. IsReportFor (option_map seen_given given.entry)
+        (map seen pieces.now) (seen_report r)) }
     ensures none { given.entry ≡ None → IsOk result }
     ensures no_entries { given.entry ≡ None → IfOk result (λ r. seen_report r ≡ no_entries) }
 {
@@ -37,7 +41,7 @@ pub fn report_for<'a>(
     }
 }
 
-/// Whether a report has an entry.
+/// Returns whether a report has an entry.
 pub fn has_entries(report: &Report<'_>) -> bool
     ensures { result ≡ has_entries (seen_report report.now) }
 {
@@ -47,7 +51,7 @@ pub fn has_entries(report: &Report<'_>) -> bool
         || report.unused_name.len() > 0
 }
 
-/// Adds a line for each number, with this in front.
+/// Adds a line for each number, which begins with `label`. Returns `Err` if an allocation fails.
 fn put_numbers(out: &mut String, label: &str, numbers: &[usize]) -> Result<(), AllocError>
     ensures lines { OnOk result (string_bytes out.new ≡ string_bytes out.old ++
         flat_map (index_line label.now) numbers.now) }
@@ -59,7 +63,7 @@ fn put_numbers(out: &mut String, label: &str, numbers: &[usize]) -> Result<(), A
     Ok(())
 }
 
-/// Adds the line of a name, with this in front.
+/// Adds the line of a name, which begins with `label`. Returns `Err` if an allocation fails.
 fn put_name(out: &mut String, label: &str, name: &str) -> Result<(), AllocError>
     ensures { OnOk result (string_bytes out.new ≡ string_bytes out.old ++
         name_line label.now (chars name.now)) }
@@ -70,7 +74,7 @@ fn put_name(out: &mut String, label: &str, name: &str) -> Result<(), AllocError>
     Ok(())
 }
 
-/// Adds a line for each name, with this in front.
+/// Adds a line for each name, which begins with `label`. Returns `Err` if an allocation fails.
 fn put_names(out: &mut String, label: &str, names: &[&str]) -> Result<(), AllocError>
     ensures lines { OnOk result (string_bytes out.new ≡ string_bytes out.old ++
         flat_map (name_line label.now) (texts names.now)) }
@@ -82,7 +86,7 @@ fn put_names(out: &mut String, label: &str, names: &[&str]) -> Result<(), AllocE
     Ok(())
 }
 
-/// Adds the lines of a report.
+/// Adds a line for each entry of a report. Returns `Err` if an allocation fails.
 #[tactic(auto, unfolding(crate::specs::Listing::report_lines))]
 pub fn put_report(out: &mut String, report: &Report<'_>) -> Result<(), AllocError>
     ensures lines { OnOk result (string_bytes out.new ≡ string_bytes out.old ++

@@ -1,8 +1,15 @@
-ghost use Rattle.std.specs.Prelude.{◌≡◌, ◌≢◌, ◌<◌, ◌≤◌, ◌↔◌, ◌⊎◌, ℕ, Bool, List, [], None, Some, Ok, Err};
-ghost use Rattle.std.specs.Prelude.{IfOk, IfErr, IfSome, IsErrOf, IsOk, IsOkUnless, OnOk, length, map, string_bytes};
+//! The program over any reader and writer: its command-line arguments, input, listing and output.
+
+ghost use Rattle.std.specs.Prelude.{◌≡◌, ◌≢◌, ◌<◌, ◌≤◌, ◌↔◌, ◌⊎◌, ℕ, Bool, List, [], None, Some};
+ghost use Rattle.std.specs.Prelude.{Ok, Err};
+ghost use Rattle.std.specs.Prelude.{IfOk, IfErr, IfSome, IsErrOf, IsOk, IsOkUnless, OnOk, length};
+ghost use Rattle.std.specs.Prelude.{map, string_bytes};
 ghost use Rattle.std.specs.Io.KnownBytes.{Appends};
 ghost use Rattle.rustc_parse_format.specs.Types.{Mode};
-ghost use Rattle.piece_listing.specs.declared.verdict.RunFault.TheVariants.{Words, TooLong, NotText, NotLiteral, Read as ReadFault, Write as WriteFault};
+ghost use Rattle.piece_listing.specs.declared.verdict.RunFault.TheVariants.{Words, TooLong};
+ghost use Rattle.piece_listing.specs.declared.verdict.RunFault.TheVariants.{NotText, NotLiteral};
+ghost use Rattle.piece_listing.specs.declared.verdict.RunFault.TheVariants.{Read as ReadFault};
+ghost use Rattle.piece_listing.specs.declared.verdict.RunFault.TheVariants.{Write as WriteFault};
 ghost use Rattle.piece_listing.specs.Program.{Answer, IsOwed, asked, empty_answer, limit};
 
 use super::input::list_input;
@@ -11,15 +18,17 @@ use super::verdict::RunFault;
 use std::alloc::Global;
 use std::io::{Read, Write};
 
-/// How many bytes an input may have.
+/// The most bytes that an input may have.
 const LIMIT: usize = 1_048_576;
 
-/// How many bytes are asked for at once.
+/// The number of bytes that one read asks for.
 const CHUNK: usize = 4096;
 
-/// All bytes that the reader holds up to its end.
+/// Reads all bytes of a reader up to its end. Returns `Err` if a read or an allocation fails, or if
+/// there are more than `LIMIT` bytes.
 fn read_input<R: Read>(alloc: Global, reader: &mut R) -> Result<Vec<u8>, RunFault>
-    ensures bytes { IfOk result (λ bytes. IfSome (R.remaining reader.old) (λ input. bytes.items ≡ input)) }
+    ensures bytes { IfOk result
+        (λ bytes. IfSome (R.remaining reader.old) (λ input. bytes.items ≡ input)) }
     ensures short { IfOk result (λ bytes. length bytes.items ≤ limit) }
     ensures too_long { IsErrOf result TooLong → IfSome (R.remaining reader.old) (λ input.
         limit < length input) }
@@ -46,7 +55,8 @@ fn read_input<R: Read>(alloc: Global, reader: &mut R) -> Result<Vec<u8>, RunFaul
     Err(RunFault::TooLong)
 }
 
-/// Writes all of the bytes. A write that takes none has failed.
+/// Writes all of the bytes. Returns `Err` if a write fails or writes no byte; a part of the bytes
+/// may then be written.
 fn write_whole<W: Write>(writer: &mut W, bytes: &[u8]) -> Result<(), RunFault>
     ensures ok { OnOk result (Appends (W.contents writer.old) (W.contents writer.new) bytes.now) }
     ensures err { IfErr result (λ fault. fault ≡ WriteFault) }
@@ -62,26 +72,31 @@ fn write_whole<W: Write>(writer: &mut W, bytes: &[u8]) -> Result<(), RunFault>
     Ok(())
 }
 
-/// Lists the pieces and the faults of all that the reader holds, as the words ask, and, where they
-/// give arguments, the report on these. Answers whether there is a line that is of no piece.
+/// Reads an input from `reader` up to its end and writes its listing to `writer`: a line for each
+/// piece, each error in the input, and each entry of the report on missing and unused arguments, if
+/// `words` has a list of arguments. Returns whether there is a line that is not of a piece.
 ///
-/// The words are those after the program's name, and are looked at before anything is read. The reader may hold 1,048,576 bytes.
-/// A read or a write that fails is not tried again. After a refusal nothing is written, but for one of a write, after which a
-/// part of the listing may be.
+/// `words` are the command-line arguments after the program's name; they are checked before
+/// anything is read. The input may have at most 1,048,576 bytes. Returns `Err` if the words are
+/// invalid, a read, a write or an allocation fails, or the input is too long, not UTF-8 or, with
+/// `--literal`, not a string literal (`RunFault`). A read or a write that fails is not tried
+/// again. After an error nothing is written, except that after a failed write a part of the listing
+/// may be.
 pub fn run<R: Read, W: Write>(
     alloc: Global,
     reader: &mut R,
     writer: &mut W,
     words: &[String],
 ) -> Result<bool, RunFault>
-    // The listing is what is owed, and so is the answer.
+    // The listing and the result are those that the definition `IsOwed` asks for.
     ensures listing { IfOk result (λ told. IfSome (R.remaining reader.old) (λ input. (text : List ℕ)
         × IsOwed (map string_bytes words.now) input (Ok (text, told))
         × Appends (W.contents writer.old) (W.contents writer.new) text)) }
-    // A call owes one answer.
-    ensures one_answer { (ws : List (List ℕ)) (input : List ℕ) (x y : Answer) → IsOwed ws input x → IsOwed ws input y → x ≡ y }
+    // The definition asks for one result.
+    ensures one_answer { (ws : List (List ℕ)) (input : List ℕ) (x y : Answer) → IsOwed ws input x
+        → IsOwed ws input y → x ≡ y }
     ensures words { IsErrOf result Words ↔ (asked (map string_bytes words.now) ≡ None) }
-    // Bad words are told before anything is read.
+    // Invalid words are found before anything is read.
     ensures unread { IsErrOf result Words → reader.new ≡ reader.old }
     ensures too_long { IsErrOf result TooLong → IfSome (R.remaining reader.old)
         (λ input. IsOwed (map string_bytes words.now) input (Err TooLong)) }
@@ -89,10 +104,13 @@ pub fn run<R: Read, W: Write>(
         (λ input. IsOwed (map string_bytes words.now) input (Err NotText)) }
     ensures not_literal { IsErrOf result NotLiteral → IfSome (R.remaining reader.old)
         (λ input. IsOwed (map string_bytes words.now) input (Err NotLiteral)) }
-    // With nothing to read, and no arguments, nothing is written, and the answer is known but for a read that fails.
-    ensures empty { (mode : Mode) (literal : Bool) → asked (map string_bytes words.now) ≡ Some (record { mode = mode; is_literal = literal; given = None })
-        → R.remaining reader.old ≡ Some [] → (writer.new ≡ writer.old) × ((result ≡ empty_answer literal) ⊎ (result ≡ Err ReadFault)) }
-    // Nothing is written before all is ready.
+    // If the input is empty and no list of arguments is given, nothing is written, and the result
+    // is `empty_answer` unless a read fails.
+    ensures empty { (mode : Mode) (literal : Bool) → asked (map string_bytes words.now)
+        ≡ Some (record { mode = mode; is_literal = literal; given = None })
+        → R.remaining reader.old ≡ Some [] → (writer.new ≡ writer.old)
+        × ((result ≡ empty_answer literal) ⊎ (result ≡ Err ReadFault)) }
+    // After any error other than a failed write, nothing is written.
     ensures unwritten { IfErr result (λ fault. fault ≢ WriteFault → writer.new ≡ writer.old) }
 {
     let task = match asked(words) {

@@ -1,4 +1,4 @@
-//! What the words of the program ask for.
+//! The command-line arguments of the program, parsed.
 
 ghost use Rattle.std.specs.Prelude.{◌≡◌, map, option_map, string_bytes};
 ghost use Rattle.rustc_parse_format.specs.Seen.{seen_mode};
@@ -9,17 +9,17 @@ ghost use Rattle.piece_listing.specs.SeenTask.{seen_given, seen_task};
 use super::given::{Given, given_by};
 use rustc_parse_format::ParseMode;
 
-/// What the words ask for.
+/// What the command-line arguments ask for.
 #[derive(Copy, Clone)]
 pub struct Task<'a> {
     pub mode: ParseMode,
-    /// The input is a string literal.
+    /// Whether the input is a string literal.
     pub is_literal: bool,
-    /// The arguments, where the pieces are to be compared with some.
+    /// The list of arguments to compare the pieces with, if there is one.
     pub given: Option<Given<'a>>,
 }
 
-/// The mode that a word names.
+/// Returns the mode that a word names, or `None` if it names none.
 #[tactic(auto, unfolding(crate::specs::Program::mode_named))]
 fn mode_named(word: &str) -> Option<ParseMode>
     ensures { option_map seen_mode result ≡ mode_named word.now }
@@ -37,9 +37,10 @@ fn mode_named(word: &str) -> Option<ParseMode>
     }
 }
 
-/// The task with the mode that a word names.
+/// Returns the task with the mode that `word` names, or `None` if it names none.
 fn task_in<'a>(word: &str, is_literal: bool, given: Option<Given<'a>>) -> Option<Task<'a>>
-    ensures { option_map seen_task result ≡ task is_literal (option_map seen_given given.entry) (mode_named word.now) }
+    ensures { option_map seen_task result
+        ≡ task is_literal (option_map seen_given given.entry) (mode_named word.now) }
 {
     let mode = mode_named(word)?;
     Some(Task {
@@ -49,15 +50,17 @@ fn task_in<'a>(word: &str, is_literal: bool, given: Option<Given<'a>>) -> Option
     })
 }
 
-/// The same with a list of arguments, where the word for it is one.
+/// Returns the task with the mode that `word` names and the list of arguments in `list`, or `None`
+/// if `word` names no mode or `list` is not a list of arguments.
 fn task_with<'a>(word: &str, is_literal: bool, list: &'a str) -> Option<Task<'a>>
-    ensures { option_map seen_task result ≡ task_with is_literal (given_by list.now) (mode_named word.now) }
+    ensures { option_map seen_task result
+        ≡ task_with is_literal (given_by list.now) (mode_named word.now) }
 {
     let given = given_by(list)?;
     task_in(word, is_literal, Some(given))
 }
 
-/// What the words ask for.
+/// Returns what the command-line arguments ask for, or `None` if they are invalid.
 pub fn asked(words: &[String]) -> Option<Task<'_>>
     ensures { option_map seen_task result ≡ asked (map string_bytes words.now) }
 {

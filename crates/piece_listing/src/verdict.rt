@@ -1,25 +1,27 @@
+//! The errors of the program, and the error message and exit status for each result.
+
 ghost use Rattle.std.specs.Prelude.{◌≡◌};
 ghost use Rattle.piece_listing.specs.Program.{verdict};
 ghost use Rattle.piece_listing.specs.declared.verdict.RunFault.TheVariants.{Memory};
 
 use std::alloc::AllocError;
 
-/// Why nothing was listed.
+/// An error of `run`: the reason why the listing is not written, or not all of it.
 #[derive(Copy, Clone, Debug, Eq, PartialEq)]
 pub enum RunFault {
-    /// The words ask for nothing that the program does.
+    /// The command-line arguments are invalid.
     Words,
     /// A read failed.
     Read,
-    /// The input is longer than the program takes, which is 1,048,576 bytes.
+    /// The input is longer than 1,048,576 bytes.
     TooLong,
     /// The input is not UTF-8.
     NotText,
-    /// The input is no string literal.
+    /// The input is not a string literal, and has to be one.
     NotLiteral,
-    /// A request for memory was refused.
+    /// An allocation failed.
     Memory,
-    /// A write failed, or took no byte.
+    /// A write failed, or wrote no byte.
     Write,
 }
 
@@ -31,7 +33,10 @@ impl From<AllocError> for RunFault {
     }
 }
 
-/// What an answer puts on standard error, and the status that the program ends with.
+/// Returns the message for standard error, which is empty if there is no error, and the exit status
+/// of the program: 0 if each line of the listing is of a piece, 1 if not, 2 if the command-line
+/// arguments are invalid or the input is not a string literal, and 3 after any other error. Does
+/// not allocate.
 pub fn verdict(answer: &Result<bool, RunFault>) -> (&'static str, u8)
     ensures { (result.0.now, result.1) ≡ verdict answer.now }
 {

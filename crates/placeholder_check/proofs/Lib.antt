@@ -6,3 +6,4 @@ pub mod Unique
 pub mod Deciding
 mod ReportRows
 mod NamedArguments
+pub mod Empty

@@ -1,4 +1,4 @@
--- A report is made of its four lists.
+-- A report consists of its four lists.
 use Rattle.std.proofs.Common.{◌≡◌, ℕ, ◌<◌, ◌≤◌, Bool, true, false, nat_le, List, [], ◌∷◌, map, refl}
 use denote.Ref.{Bor}
 use Rattle.std.specs.Bool.{Decides}
@@ -7,7 +7,8 @@ use Rattle.std.specs.List.{Contains, filter}
 use Rattle.std.specs.Ordering.{nat_cmp}
 use Rattle.std.proofs.lemmas.Bool.Decides.{Decides-at, not_from_Decides}
 use Rattle.placeholder_check.specs.declared.uses.Uses.{Uses}
-use Rattle.rustc_parse_format.specs.Types.{Count, Is, Name, Param, Star, Implied, Piece, Lit, NextArgument, bare, bare_count}
+use Rattle.rustc_parse_format.specs.Types.{Count, Is, Name, Param, Star, Implied, Piece, Lit}
+use Rattle.rustc_parse_format.specs.Types.{NextArgument, bare, bare_count}
 use Rattle.placeholder_check.specs.Uses.{Use, ByIndex, count_uses, uses}
 use Rattle.placeholder_check.specs.Entries.{AreFirsts, Lists}
 use Rattle.placeholder_check.specs.Report.{IsReport}
@@ -16,21 +17,33 @@ use Rattle.placeholder_check.specs.Seen.{texts}
 use Rattle.placeholder_check.proofs.Numbers.{Lists-from, Lists-same}
 use Rattle.placeholder_check.proofs.Noting.{has_index-Decides}
 
-pub reported : (us : List Use) (u : Uses) (positional : ℕ) (names missing_name unused_name : List (Bor (List ℕ))) (missing_index unused_index : List ℕ) →
+pub reported : (us : List Use) (u : Uses) (positional : ℕ)
+    (names missing_name unused_name : List (Bor (List ℕ))) (missing_index unused_index : List ℕ) →
     Holds us u → IsOrdered nat_cmp u.indices →
     missing_index ≡ filter (λ n. nat_le positional n) u.indices.keys →
     Lists (λ n. (n < positional) × (contains nat_cmp u.indices n ≡ false)) unused_index →
     AreFirsts (texts u.names.items) (texts names) (texts missing_name) →
     AreFirsts (texts names) (texts u.names.items) (texts unused_name) →
     IsReport us positional (texts names)
-    (record { missing_index = missing_index; missing_name = texts missing_name; unused_index = unused_index; unused_name = texts unused_name })
-reported us u positional names missing_name unused_name missing_index unused_index held ordered kept lacked missing unused =
-    let used : (n : ℕ) → Decides (contains nat_cmp u.indices n) (Contains us (ByIndex n)) = λ n. Decides-at _ _ (held.indices n) (has_index-Decides n us) in
+    (record {
+      missing_index = missing_index;
+      missing_name = texts missing_name;
+      unused_index = unused_index;
+      unused_name = texts unused_name;
+    })
+reported us u positional names missing_name unused_name missing_index unused_index held ordered kept
+    lacked missing unused =
+    let used : (n : ℕ) → Decides (contains nat_cmp u.indices n) (Contains us (ByIndex n)) =
+    λ n. Decides-at _ _ (held.indices n) (has_index-Decides n us) in
     record {
       missing_index = rw kept (Lists-same _ (λ n. (positional ≤ n) × Contains us (ByIndex n)) _
-          (λ n. (λ h. (h.0, (used n).0 h.1), λ h. (h.0, (used n).1 h.1))) (Lists-from u.indices positional ordered));
+          (λ n. (λ h. (h.0, (used n).0 h.1), λ h. (h.0, (used n).1 h.1)))
+          (Lists-from u.indices positional ordered));
       unused_index = Lists-same _ (λ n. (n < positional) × (¬ Contains us (ByIndex n))) _
-          (λ n. (λ h. (h.0, not_from_Decides _ (used n) h.1), λ h. (h.0, false_from _ (used n) h.1))) lacked;
+          (λ n. (
+            λ h. (h.0, not_from_Decides _ (used n) h.1),
+            λ h. (h.0, false_from _ (used n) h.1),
+          )) lacked;
       missing_name = rw (← held.names) missing;
       unused_name = rw (← held.names) unused;
     }
@@ -50,4 +63,5 @@ count_uses-bare Implied = refl
 pub uses-bare : {A : Type 0} (ps : List (Piece A)) → uses (map bare ps) ≡ uses ps
 uses-bare [] = refl
 uses-bare (Lit t ∷ ps) = uses-bare ps
-uses-bare (NextArgument a ∷ ps) = rw (uses-bare ps, count_uses-bare a.format.width, count_uses-bare a.format.precision) refl
+uses-bare (NextArgument a ∷ ps) =
+    rw (uses-bare ps, count_uses-bare a.format.width, count_uses-bare a.format.precision) refl

@@ -1,4 +1,4 @@
--- The report on a text in the grammar.
+-- The report on a text that is in the grammar.
 use Rattle.std.specs.Prelude.{◌≡◌, ℕ, List}
 use Rattle.rustc_parse_format.specs.Characters.{Text}
 use Rattle.rustc_parse_format.specs.Grammar.{Reads}
@@ -6,8 +6,9 @@ use Rattle.rustc_parse_format.specs.Types.{Mode, Piece}
 use Rattle.placeholder_check.specs.Uses.{uses}
 use Rattle.placeholder_check.specs.Report.{IsReport, Report}
 
--- The text is in the grammar of its mode, and this is the report of its one reading.
-pub record IsReportOf (m : Mode) (t : Text) (positional : ℕ) (names : List Text) (r : Report) : Type 0 where
+-- The text is in the grammar of its mode, and r is the report on its only reading.
+pub record IsReportOf (m : Mode) (t : Text) (positional : ℕ) (names : List Text)
+    (r : Report) : Type 0 where
   pub pieces : List (Piece (Unit {0}))
   pub are_read : Reads m 0 t pieces
   pub are_only : (others : List (Piece (Unit {0}))) → Reads m 0 t others → others ≡ pieces

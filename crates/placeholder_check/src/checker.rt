@@ -1,6 +1,6 @@
-//! The report.
+//! The report on missing and unused arguments.
 
-ghost use Rattle.std.specs.Prelude.{◌≡◌, IfOk, map};
+ghost use Rattle.std.specs.Prelude.{◌≡◌, [], IfOk, IsOk, map};
 ghost use Rattle.rustc_parse_format.specs.Seen.{seen};
 ghost use Rattle.placeholder_check.specs.Uses.{uses};
 ghost use Rattle.placeholder_check.specs.Report.{IsReport, Report as ReportOf};
@@ -11,31 +11,39 @@ use crate::uses::uses_of;
 use rustc_parse_format::Piece;
 use std::alloc::{AllocError, Global};
 
-/// What is wrong between placeholders and arguments. Each entry stands once.
+/// The arguments that are missing or unused. No list has an entry twice.
 #[derive(Drop)]
 pub struct Report<'a> {
-    /// The numbers that are used and not given, in rising order.
+    /// The indices that are used and not given, in ascending order.
     pub missing_index: Vec<usize>,
     /// The names that are used and not given, in the order of their first uses.
     pub missing_name: Vec<&'a str>,
-    /// The numbers that are given and not used, in rising order.
+    /// The indices that are given and not used, in ascending order.
     pub unused_index: Vec<usize>,
-    /// The names that are given and not used, in the order in which they are given.
+    /// The names that are given and not used, in the order in which they are first given.
     pub unused_name: Vec<&'a str>,
 }
 
-/// The report on pieces for which so many arguments are given by position, with the numbers from 0 on, and these by name. A
-/// position, a width and a precision use an argument, as `std::fmt` has it; but no number means one that is given by name. Out
-/// of memory, no report is given.
+/// Compares the arguments that the pieces use with those that are given: `positional` many by
+/// position, with the indices from 0, and those in `names` by name.
+///
+/// The position, the width and the precision of a placeholder can each use an argument, as in the
+/// documentation of `std::fmt`; but here an index never refers to an argument that is given by
+/// name. Returns `Err` if an allocation fails; there is then no report.
 pub fn check<'a>(
     alloc: Global,
     pieces: &[Piece<'a>],
     positional: usize,
     names: &[&'a str],
 ) -> Result<Report<'a>, AllocError>
-    ensures report { IfOk result (λ r. IsReport (uses (map seen pieces.now)) positional (texts names.now) (seen_report r)) }
-    // No other report is one.
-    ensures only { IfOk result (λ r. (s : ReportOf) → IsReport (uses (map seen pieces.now)) positional (texts names.now) s → s ≡ seen_report r) }
+    ensures report { IfOk result
+        (λ r. IsReport (uses (map seen pieces.now)) positional (texts names.now) (seen_report r)) }
+    // No other report satisfies this.
+    ensures only { IfOk result (λ r. (s : ReportOf)
+        → IsReport (uses (map seen pieces.now)) positional (texts names.now) s
+        → s ≡ seen_report r) }
+    // If there are no pieces and no arguments, the call succeeds even if every allocation fails.
+    ensures empty { pieces.now ≡ [] → positional ≡ 0 → names.now ≡ [] → IsOk result }
 {
     let used = uses_of(alloc, pieces)?;
     let missing_index = members_from(alloc, &used.indices, positional)?;

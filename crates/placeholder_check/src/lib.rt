@@ -1,4 +1,5 @@
-//! The placeholders of a text against the arguments that are given for it.
+//! Compares the placeholders of a format string with the arguments that are given to it: `check`
+//! takes the pieces, and `read_and_check` reads an input first.
 #![tactic(auto)]
 
 mod checker;

@@ -1,9 +1,10 @@
-//! Reading a text, and the report on it.
+//! Reads an input and reports its missing and unused arguments.
 
-ghost use Rattle.std.specs.Prelude.{◌≡◌, ◌+◌, ◌<◌, ◌^◌, ◌↔◌, [], IfOk, chars, length, map};
+ghost use Rattle.std.specs.Prelude.{◌≡◌, ◌+◌, ◌<◌, ◌^◌, ◌↔◌, [], IfOk, IsOk, chars, length, map};
 ghost use Rattle.rustc_parse_format.specs.Call.{pieces_of};
 ghost use Rattle.rustc_parse_format.specs.Grammar.{IsInGrammar};
 ghost use Rattle.rustc_parse_format.specs.Seen.{seen, seen_mode, seen_snippet};
+ghost use Rattle.rustc_parse_format.specs.Source.{HasSource};
 ghost use Rattle.rustc_parse_format.specs.State.{after_all, calls, first_state};
 ghost use Rattle.rustc_parse_format.specs.Types.{DiagnosticNamed};
 ghost use Rattle.rustc_parse_format.specs.World.{hashes, pieces_in};
@@ -17,8 +18,19 @@ use crate::checker::{Report, check};
 use rustc_parse_format::{ParseMode, Parser, Piece, read_all};
 use std::alloc::{AllocError, Global};
 
-/// The pieces of an input and the parser after them, as `read_all` gives them, and the report on the pieces, as
-/// [`check`] gives it. The hashes, the bytes of the input and 2 together must fit `usize`. Out of memory, nothing is given.
+/// Reads an input up to its end, and returns its pieces, the parser after them, and the report on
+/// the arguments that are missing or unused, as [`check`] makes it.
+///
+/// `style` is `None` for an ordinary string literal, and `Some` of the number of hashes for a raw
+/// one. `snippet` is the source text that the input should come from, if it is known.
+/// `appended_newline` is whether a newline was appended to the input that is not in the source.
+/// `positional` many arguments are given by position, with the indices from 0, and those in
+/// `names` by name. The number of hashes, the length of the input in bytes, and 2 must together fit
+/// into a `usize`.
+///
+/// The grammar is that of the documentation of `std::fmt`, as rustc's parser reads it. Errors in
+/// the input are in the `errors` of the parser. Returns `Err` if an allocation fails; nothing else
+/// is then returned.
 pub fn read_and_check<'a>(
     alloc: Global,
     input: &'a str,
@@ -31,20 +43,35 @@ pub fn read_and_check<'a>(
 ) -> Result<(Vec<Piece<'a>>, Parser<'a>, Report<'a>), AllocError>
     requires { hashes style + length input.now + 2 < 2 ^ 64 }
 
-    // The pieces and the parser are those of the walk of a fresh parser, and the report is theirs.
+    // The pieces and the parser come from the calls of a new parser up to the end of the input, and
+    // the report is on these pieces.
     ensures walk { IfOk result (λ x.
-        let s = first_state (seen_mode mode) (chars input.now) style (seen_snippet snippet) appended_newline in
-        (map seen x.0.items ≡ pieces_in s.world (pieces_of (calls s))) × (x.1 ≡ after_all s (calls s))) }
-    ensures report { IfOk result (λ x. IsReport (uses (map seen x.0.items)) positional (texts names.now) (seen_report x.2)) }
+        let s = first_state (seen_mode mode) (chars input.now) style
+        (seen_snippet snippet) appended_newline in
+        (map seen x.0.items ≡ pieces_in s.world (pieces_of (calls s)))
+        × (x.1 ≡ after_all s (calls s))) }
+    ensures report { IfOk result
+        (λ x. IsReport (uses (map seen x.0.items)) positional (texts names.now) (seen_report x.2)) }
 
-    // No error is left exactly where the input is in the grammar, and then the report is that of its one reading.
-    ensures clean { IfOk result (λ x. (x.1.errors ≡ []) ↔ IsInGrammar (seen_mode mode) (chars input.now)) }
+    // The parser has no error exactly if the input is in the grammar, and then the report is on its
+    // only reading.
+    ensures clean { IfOk result (λ x. (x.1.errors ≡ [])
+        ↔ IsInGrammar (seen_mode mode) (chars input.now)) }
     ensures reading { IfOk result (λ x. x.1.errors ≡ []
-        → IsReportOf (seen_mode mode) (chars input.now) positional (texts names.now) (seen_report x.2)) }
+        → IsReportOf (seen_mode mode) (chars input.now) positional (texts names.now)
+        (seen_report x.2)) }
 
-    // Where the mode wants names, and no error is left, no number is missing and each one that is given is unused.
+    // In the mode `DiagnosticNamed`, if the parser has no error, no index is missing and each index
+    // that is given is unused.
     ensures names_alone { IfOk result (λ x. seen_mode mode ≡ DiagnosticNamed → x.1.errors ≡ []
-        → ((seen_report x.2).missing_index ≡ []) × Lists (λ n. n < positional) (seen_report x.2).unused_index) }
+        → ((seen_report x.2).missing_index ≡ [])
+        × Lists (λ n. n < positional) (seen_report x.2).unused_index) }
+
+    // For an empty input that does not come from a source literal, and no arguments, the call
+    // succeeds even if every allocation fails.
+    ensures empty { input.now ≡ []
+        → (HasSource (chars input.now) style (seen_snippet snippet) appended_newline → ⊥)
+        → positional ≡ 0 → names.now ≡ [] → IsOk result }
 {
     let (pieces, parser) = read_all(alloc, input, style, snippet, appended_newline, mode)?;
     let report = check(alloc, pieces.as_slice(), positional, names)?;

@@ -1,24 +1,25 @@
-//! Which arguments pieces use.
+//! The arguments that pieces use.
 
-ghost use Rattle.std.specs.Prelude.{[], ◌∷◌, IfOk, OnOk, chars, map};
+ghost use Rattle.std.specs.Prelude.{[], ◌≡◌, ◌∷◌, IfOk, IsOk, OnOk, chars, map};
 ghost use Rattle.rustc_parse_format.specs.Seen.{seen, seen_argument, seen_count, seen_position};
-ghost use Rattle.placeholder_check.specs.Uses.{ByIndex, ByName, argument_uses, count_uses, piece_uses, position_use, uses};
+ghost use Rattle.placeholder_check.specs.Uses.{ByIndex, ByName, argument_uses, count_uses};
+ghost use Rattle.placeholder_check.specs.Uses.{piece_uses, position_use, uses};
 ghost use Rattle.placeholder_check.specs.Noted.{Adds, Holds};
 
 use rustc_parse_format::{Argument, Count, Piece, Position};
 use std::alloc::{AllocError, Global};
 use std::collections::BTreeSet;
 
-/// The numbers that are used, and each use of a name, in order.
+/// The arguments that pieces use.
 #[derive(Drop)]
 pub struct Uses<'a> {
-    /// The numbers.
+    /// The indices that are used.
     pub indices: BTreeSet<usize>,
-    /// The names.
+    /// The name of each use by name, in order.
     pub names: Vec<&'a str>,
 }
 
-/// Adds a use of a number.
+/// Adds a use of an index. Returns `Err` if an allocation fails.
 fn add_index(uses: &mut Uses<'_>, index: usize) -> Result<(), AllocError>
     ensures { OnOk result (Adds (ByIndex index ∷ []) uses.old uses.new) }
 {
@@ -26,7 +27,7 @@ fn add_index(uses: &mut Uses<'_>, index: usize) -> Result<(), AllocError>
     Ok(())
 }
 
-/// Adds a use of a name.
+/// Adds a use of a name. Returns `Err` if an allocation fails.
 fn add_name<'a>(uses: &mut Uses<'a>, name: &'a str) -> Result<(), AllocError>
     ensures { OnOk result (Adds (ByName (chars name.now) ∷ []) uses.old uses.new) }
 {
@@ -34,9 +35,10 @@ fn add_name<'a>(uses: &mut Uses<'a>, name: &'a str) -> Result<(), AllocError>
     Ok(())
 }
 
-/// Adds what a position uses.
+/// Adds the argument that a position uses. Returns `Err` if an allocation fails.
 fn add_position<'a>(uses: &mut Uses<'a>, position: &Position<'a>) -> Result<(), AllocError>
-    ensures { OnOk result (Adds (position_use (seen_position position.now) ∷ []) uses.old uses.new) }
+    ensures { OnOk result
+        (Adds (position_use (seen_position position.now) ∷ []) uses.old uses.new) }
 {
     match position {
         Position::ArgumentImplicitlyIs(n) | Position::ArgumentIs(n) => add_index(uses, *n),
@@ -44,7 +46,8 @@ fn add_position<'a>(uses: &mut Uses<'a>, position: &Position<'a>) -> Result<(), 
     }
 }
 
-/// Adds what a width or a precision uses.
+/// Adds the argument that a width or a precision uses, if it uses one. Returns `Err` if an
+/// allocation fails.
 fn add_count<'a>(uses: &mut Uses<'a>, count: &Count<'a>) -> Result<(), AllocError>
     ensures { OnOk result (Adds (count_uses (seen_count count.now)) uses.old uses.new) }
 {
@@ -55,7 +58,8 @@ fn add_count<'a>(uses: &mut Uses<'a>, count: &Count<'a>) -> Result<(), AllocErro
     }
 }
 
-/// Adds what a placeholder uses.
+/// Adds the arguments that a placeholder uses: by its position, its width and its precision, in
+/// this order. Returns `Err` if an allocation fails.
 fn add_argument<'a>(uses: &mut Uses<'a>, argument: &Argument<'a>) -> Result<(), AllocError>
     ensures { OnOk result (Adds (argument_uses (seen_argument argument.now)) uses.old uses.new) }
 {
@@ -65,7 +69,7 @@ fn add_argument<'a>(uses: &mut Uses<'a>, argument: &Argument<'a>) -> Result<(), 
     Ok(())
 }
 
-/// Adds what a piece uses.
+/// Adds the arguments that a piece uses. Returns `Err` if an allocation fails.
 fn add_piece<'a>(uses: &mut Uses<'a>, piece: &Piece<'a>) -> Result<(), AllocError>
     ensures { OnOk result (Adds (piece_uses (seen piece.now)) uses.old uses.new) }
 {
@@ -75,9 +79,11 @@ fn add_piece<'a>(uses: &mut Uses<'a>, piece: &Piece<'a>) -> Result<(), AllocErro
     }
 }
 
-/// What pieces use.
+/// Returns the arguments that pieces use. Returns `Err` if an allocation fails.
 pub fn uses_of<'a>(alloc: Global, pieces: &[Piece<'a>]) -> Result<Uses<'a>, AllocError>
-    ensures { IfOk result (λ u. Holds (uses (map seen pieces.now)) u) }
+    ensures uses { IfOk result (λ u. Holds (uses (map seen pieces.now)) u) }
+    ensures empty { pieces.now ≡ []
+        → IfOk result (λ u. (u.indices.keys ≡ []) × (u.names.items ≡ [])) × IsOk result }
 {
     let mut uses = Uses {
         indices: BTreeSet::new(alloc),

@@ -1,35 +1,36 @@
--- What a cursor has given back. Moving forward changes none of it, so of all readers only those speak of it that may give a word back.
+-- What a cursor has given back, to be read again. Reading forward changes nothing here, so only the
+-- contracts of functions that may give a word back mention it.
 use Rattle.std.specs.Prelude.{ℕ, ◌+◌, ◌-◌, ◌≤◌, ◌||◌, Bool, length}
 use Rattle.rustc_parse_format.specs.Characters.{Text, is_id_start, is_id_continue, behind}
 
 pub record Back : Type 0 where
-  -- over how many characters it went back
+  -- How many characters the cursor went back over.
   pub again : ℕ
-  -- how many characters were left where it last went back; until then, how many there are
+  -- How many characters were left when it last went back. Before that, how many the input has.
   pub left : ℕ
 
--- what a word may be made of
+-- The character may be part of a word.
 abbrev pub is_word_part : ℕ → Bool
 is_word_part c = is_id_start c || is_id_continue c
 
--- how many characters are left after the part of a word at the front of t
+-- How many characters are left after the part of a word at the start of t.
 abbrev pub behind_part : Text → ℕ
 behind_part t = length (behind is_word_part t)
 
--- With the rest t, the cursor stands further on than wherever it went back.
+-- The cursor, with t left, is at least as far as any point where it went back.
 abbrev pub IsFurthest : Text → Back → Type 0
 IsFurthest t b = length t ≤ b.left
 
--- Each character that was given back is one of those in front of where it last went back, and only parts of a word are between there
--- and the rest.
+-- The characters that were given back are at most those before the point where it last went back.
+-- Between the current position and that point are only characters of a word.
 pub record IsPaid (input rest : Text) (b : Back) : Type 0 where
   pub again : b.again + b.left ≤ length input
   pub word : behind_part rest ≤ b.left
 
--- where nothing was given back
+-- Nothing was given back of this input.
 abbrev pub nothing_back : Text → Back
 nothing_back t = record { again = 0; left = length t }
 
--- gone back from the rest u to the rest t
+-- What was given back after also going back from u to t, which are both left of the input.
 abbrev pub given_back : Text → Text → Back → Back
 given_back u t b = record { again = b.again + (length t - length u); left = length u }

@@ -1,33 +1,34 @@
--- How the bytes of a text and of a rest of it go together, and fronts of a text by its bytes.
-use Rattle.std.specs.Prelude.{◌≡◌, ◌-◌, ◌≤◌, ◌==◌, ◌||◌, ℕ, Bool, not, true, false, List, length, take, drop}
+-- The bytes of a text and of a suffix of it, and prefixes of a text found by its bytes.
+use Rattle.std.specs.Prelude.{◌≡◌, ◌-◌, ◌≤◌, ◌==◌, ◌||◌, ℕ, Bool, not, true, false, List, length}
+use Rattle.std.specs.Prelude.{take, drop}
 use Rattle.std.specs.List.{list_all}
 use Rattle.std.specs.Str.{is_utf8}
 use Rattle.rustc_parse_format.specs.Characters.{first_passes}
 
--- the text rest is what is left of the text input
+-- The text `rest` is a suffix of the text `input`, and both are UTF-8.
 pub record IsLeft (input rest : List ℕ) : Type 0 where
   pub valid : is_utf8 input ≡ true
   pub valid_rest : is_utf8 rest ≡ true
   pub within : length rest ≤ length input
   pub tail : drop (length input - length rest) input ≡ rest
 
--- the test is of ASCII: all that is not ASCII passes
+-- The test is about ASCII: each character that is not ASCII passes it.
 abbrev pub IsOfAscii : (ℕ → Bool) → Type 0
 IsOfAscii p = (c : ℕ) → 128 ≤ c → p c ≡ true
 
--- the first n bytes pass the test, and the next one, if there is one, does not
+-- The first n bytes pass the test, and the next byte, if there is one, does not.
 pub record IsFront (p : ℕ → Bool) (bytes : List ℕ) (n : ℕ) : Type 0 where
   pub within : n ≤ length bytes
   pub pass : list_all p (take n bytes) ≡ true
   pub next : first_passes p (drop n bytes) ≡ false
 
--- two texts begin with the same n bytes, which pass the test
+-- The two texts begin with the same n bytes, and these pass the test.
 pub record IsSharedFront (p : ℕ → Bool) (bytes others : List ℕ) (n : ℕ) : Type 0 where
   pub within : n ≤ length bytes
   pub within_others : n ≤ length others
   pub same : take n bytes ≡ take n others
   pub pass : list_all p (take n bytes) ≡ true
 
--- the byte is none of the three
+-- The byte x is none of the three.
 abbrev pub is_none_of : (a b c : ℕ) → ℕ → Bool
 is_none_of a b c x = not ((x == a || x == b) || x == c)

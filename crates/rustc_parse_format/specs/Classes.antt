@@ -1,13 +1,17 @@
--- The classes whose longest fronts the code reads, each as its test.
+-- The classes of characters whose longest prefix the code reads, each as its test.
 use Rattle.std.specs.Prelude.{ℕ, Bool}
 use Rattle.std.specs.Char.{is_whitespace, is_ascii_digit}
 use Rattle.rustc_parse_format.specs.declared.characters.Class.{Class}
-use Rattle.rustc_parse_format.specs.declared.characters.Class.TheVariants.{Continue, Digit, White, Text, Line}
+use Rattle.rustc_parse_format.specs.declared.characters.Class.TheVariants.{Continue, Digit, White}
+use Rattle.rustc_parse_format.specs.declared.characters.Class.TheVariants.{Text, Line, Unescaped}
 use Rattle.rustc_parse_format.specs.Characters.{is_id_continue, is_in_line, is_no_brace}
+use Rattle.rustc_parse_format.specs.SeenSource.{is_unescaped}
 
+-- The test that a class stands for.
 abbrev pub passes : Class → ℕ → Bool
 passes Continue c = is_id_continue c
 passes Digit c = is_ascii_digit c
 passes White c = is_whitespace c
 passes Text c = is_no_brace c
 passes Line c = is_in_line c
+passes Unescaped c = is_unescaped c

@@ -1,48 +1,54 @@
--- By computing: the count, the width and the precision at the front of a text, each with the rest after it.
+-- The count, the width and the precision at the start of a text, computed, each with what is left
+-- after it. They are those that `Syntax` defines by the grammar of `std::fmt`.
 use Prim.Native.Char.{code}
 use Rattle.std.specs.Prelude.{if◌then◌else◌, [], ◌∷◌, ◌==◌}
 use Rattle.std.specs.Char.{is_ascii_digit}
-use Rattle.rustc_parse_format.specs.Characters.{Text, is_id_start, word, behind_word, digits, behind_digits}
-use Rattle.rustc_parse_format.specs.Syntax.{CountText, NumberCount, IndexCount, NameCount, NoCount, WidthText, PaddedWidth, ZeroIndexWidth, PlainWidth}
+use Rattle.rustc_parse_format.specs.Characters.{Text, is_id_start, word, behind_word, digits}
+use Rattle.rustc_parse_format.specs.Characters.{behind_digits}
+use Rattle.rustc_parse_format.specs.Syntax.{CountText, NumberCount, IndexCount, NameCount, NoCount}
+use Rattle.rustc_parse_format.specs.Syntax.{WidthText, PaddedWidth, ZeroIndexWidth, PlainWidth}
 use Rattle.rustc_parse_format.specs.Syntax.{PrecisionText, NoPrecision, StarPrecision, DotPrecision}
 
--- with t after the digits
+-- The count of the digits ds, where t is left after them.
 abbrev pub behind_number : Text → Text → CountText × Text
 behind_number ds [] = (NumberCount ds, [])
 behind_number ds (c ∷ t) = if c == code "$" then (IndexCount ds, t) else (NumberCount ds, c ∷ t)
 
--- The word w at the front of t, with r after it. Without a `$` it is no count.
+-- The count of the word w at the start of t, where r is left after it. Without a `$` after the word
+-- there is no count.
 abbrev pub behind_name : Text → Text → Text → CountText × Text
 behind_name t w [] = (NoCount, t)
 behind_name t w (c ∷ r) = if c == code "$" then (NameCount w, r) else (NoCount, t)
 
--- the count at the front, and the rest after it
+-- The count at the start of a text, and what is left after it.
 abbrev pub count : Text → CountText × Text
 count [] = (NoCount, [])
 count (c ∷ t) =
     if is_ascii_digit c then behind_number (digits (c ∷ t)) (behind_digits (c ∷ t))
-    else (if is_id_start c then behind_name (c ∷ t) (word (c ∷ t)) (behind_word (c ∷ t)) else (NoCount, c ∷ t))
+    else (if is_id_start c then behind_name (c ∷ t) (word (c ∷ t)) (behind_word (c ∷ t))
+    else (NoCount, c ∷ t))
 
--- with a count at t, after the flag or without it
+-- The width with the count at the start of t, with the flag `0` or without it.
 abbrev pub counted : (CountText → WidthText) → Text → WidthText × Text
 counted make t = (make (count t).0, (count t).1)
 
--- with t after a `0`
+-- The width after a `0`, where t is left.
 abbrev pub behind_zero : Text → WidthText × Text
 behind_zero [] = counted PaddedWidth []
 behind_zero (c ∷ t) = if c == code "$" then (ZeroIndexWidth, t) else counted PaddedWidth (c ∷ t)
 
--- the width at the front, and the rest after it
+-- The width at the start of a text, and what is left after it.
 abbrev pub width : Text → WidthText × Text
 width [] = counted PlainWidth []
 width (c ∷ t) = if c == code "0" then behind_zero t else counted PlainWidth (c ∷ t)
 
--- with t after a `.`
+-- The precision after a `.`, where t is left.
 abbrev pub behind_dot : Text → PrecisionText × Text
 behind_dot [] = (DotPrecision NoCount, [])
-behind_dot (c ∷ t) = if c == code "*" then (StarPrecision, t) else (DotPrecision (count (c ∷ t)).0, (count (c ∷ t)).1)
+behind_dot (c ∷ t) = if c == code "*" then (StarPrecision, t)
+    else (DotPrecision (count (c ∷ t)).0, (count (c ∷ t)).1)
 
--- the precision at the front, and the rest after it
+-- The precision at the start of a text, and what is left after it.
 abbrev pub precision : Text → PrecisionText × Text
 precision [] = (NoPrecision, [])
 precision (c ∷ t) = if c == code "." then behind_dot t else (NoPrecision, c ∷ t)

@@ -1,57 +1,64 @@
--- The faults, over any kind of span, and what each says, as the bytes of its texts.
+-- The faults, over any type of span, and the error that each becomes, with its texts as bytes. No
+-- public document has this rule: it is this project's, and follows the code of rustc's parser.
 use Prim.Native.Char.{code}
-use Rattle.std.specs.Prelude.{◌≡◌, ℕ, Bool, true, false, ◌++◌, ◌==◌, if◌then◌else◌, List, [], ◌∷◌, Option, Some, None, option_map, codes, encode_utf8}
+use Rattle.std.specs.Prelude.{◌≡◌, ℕ, Bool, true, false, ◌++◌, ◌==◌, if◌then◌else◌, List, [], ◌∷◌}
+use Rattle.std.specs.Prelude.{Option, Some, None, option_map, codes, encode_utf8}
 use Rattle.std.specs.Prelude.{encode_utf8_all}
 use Rattle.rustc_parse_format.specs.Characters.{Text}
 use Rattle.rustc_parse_format.specs.Written.{written}
 
 pub data Fault (Span : Type 0) : Type 0 where
-  -- a closing brace that closes nothing
+  -- A closing brace that closes nothing.
   UnmatchedBrace : Span → Fault Span
-  -- no closing brace: the character found instead, if any, and the opening brace
+  -- A missing closing brace: the character found instead, or None at the end; where it is; and the
+  -- opening brace.
   MissingBrace : Option ℕ → Span → Span → Fault Span
-  -- the same where the fill is a closing brace: the fill in place of the opening brace
+  -- A missing closing brace where the fill is a closing brace. The last span is that of the fill.
   FillBrace : Option ℕ → Span → Span → Fault Span
-  -- the word `_`
+  -- The word `_`.
   Underscore : Span → Fault Span
-  -- the digits of a number above 65535
+  -- The digits of a number above 65535.
   TooLarge : Text → Span → Fault Span
-  -- a position that is no name, where the mode wants names
+  -- A position that is not a name, in the mode DiagnosticNamed.
   Unnamed : Span → Fault Span
-  -- and there, text after a colon
+  -- Text after a colon, in the mode DiagnosticNamed.
   TextAfterColon : Span → Fault Span
-  -- a raw identifier, and its `r#`
+  -- A raw identifier, and the span of its `r#`.
   RawIdentifier : Span → Span → Fault Span
-  -- a flag after the type `?`, and the `?` with it
+  -- A flag after the type `?`, and the span of the `?` with the flag.
   LateFlag : ℕ → Span → Span → Fault Span
-  -- In place of a closing brace: a `?` in front of it,
+  -- Found in place of a closing brace: a `?` before a closing brace.
   MissingColon : Span → Fault Span
-  -- a `?` with a colon and this word after it,
+  -- Found in place of a closing brace: a `?`, a colon and this word.
   LateDebug : Text → Span → Fault Span
-  -- `<`, `>` or `^`,
+  -- Found in place of a closing brace: `<`, `>` or `^`.
   LateAlign : ℕ → Span → Fault Span
-  -- a `,`, and the opening brace,
+  -- Found in place of a closing brace: a `,`. The second span is that of the opening brace.
   Grouping : Span → Span → Fault Span
-  -- a `=` in front of it, and the opening brace,
+  -- Found in place of a closing brace: a `=` before a closing brace. The second span is that of the
+  -- opening brace.
   DebugPrint : Span → Span → Fault Span
-  -- a `+`,
+  -- Found in place of a closing brace: a `+`.
   LateSign : Span → Fault Span
-  -- or a field that is a name, from the start of the position of its argument on,
+  -- Found in place of a closing brace: a dot and a name. The span is from the start of the
+  -- argument's position to the end of the name.
   FieldAccess : Span → Fault Span
-  -- or a number
+  -- Found in place of a closing brace: a dot and a number. The span is from the start of the
+  -- argument's position to the end of the number.
   TupleIndex : Span → Fault Span
 
--- the span of a fill, where the fill is a closing brace
+-- The span of the fill, if the fill is a closing brace.
 abbrev pub brace_fill : {A : Type 0} → Option ℕ → Option A → Option A
 brace_fill None s = None
 brace_fill (Some c) s = if c == code "}" then s else None
 
--- no closing brace, with the span of such a fill, if there is one
+-- The fault of a missing closing brace, with the span of a fill that is a closing brace, if there
+-- is one.
 abbrev pub no_brace : {A : Type 0} → Option A → Option ℕ → A → A → Fault A
 no_brace None found s opening = MissingBrace found s opening
 no_brace (Some fill) found s opening = FillBrace found s fill
 
--- goes to the front of the list of errors, and not to its back
+-- The error of the fault is added at the start of the list of errors, and not at its end.
 abbrev pub is_front : {A : Type 0} → Fault A → Bool
 is_front (UnmatchedBrace s) = false
 is_front (MissingBrace c s o) = false
@@ -71,6 +78,7 @@ is_front (LateSign s) = true
 is_front (FieldAccess s) = true
 is_front (TupleIndex s) = true
 
+-- Applies a function to each span of a fault.
 abbrev pub map_fault : {A B : Type 0} → (A → B) → Fault A → Fault B
 map_fault f (UnmatchedBrace s) = UnmatchedBrace (f s)
 map_fault f (MissingBrace c s o) = MissingBrace c (f s) (f o)
@@ -90,6 +98,7 @@ map_fault f (LateSign s) = LateSign (f s)
 map_fault f (FieldAccess s) = FieldAccess (f s)
 map_fault f (TupleIndex s) = TupleIndex (f s)
 
+-- What an error suggests, over any type of span.
 pub data Suggestion (Span : Type 0) : Type 0 where
   Nothing : Suggestion Span
   UsePositional : Suggestion Span
@@ -98,7 +107,7 @@ pub data Suggestion (Span : Type 0) : Type 0 where
   AddMissingColon : Span → Suggestion Span
   UseRustDebugPrintingMacro : Suggestion Span
 
--- what an error says, each text as its bytes
+-- An error: its texts, each as bytes, and its spans.
 pub record Message (Span : Type 0) : Type 0 where
   pub description : List ℕ
   pub note : Option (List ℕ)
@@ -107,6 +116,7 @@ pub record Message (Span : Type 0) : Type 0 where
   pub second : Option (List ℕ × Span)
   pub suggestion : Suggestion Span
 
+-- Applies a function to each span of a suggestion.
 abbrev pub map_suggestion : {A B : Type 0} → (A → B) → Suggestion A → Suggestion B
 map_suggestion f Nothing = Nothing
 map_suggestion f UsePositional = UsePositional
@@ -115,6 +125,7 @@ map_suggestion f (ReorderFormatParameter s w) = ReorderFormatParameter (f s) w
 map_suggestion f (AddMissingColon s) = AddMissingColon (f s)
 map_suggestion f UseRustDebugPrintingMacro = UseRustDebugPrintingMacro
 
+-- Applies a function to each span of an error.
 abbrev pub map_message : {A B : Type 0} → (A → B) → Message A → Message B
 map_message f m = record {
   description = m.description;
@@ -125,45 +136,59 @@ map_message f m = record {
   suggestion = map_suggestion f m.suggestion;
 }
 
--- Without its spans.
+-- A fault without its spans.
 abbrev pub bare_fault : {A : Type 0} → Fault A → Fault (Unit {0})
 bare_fault f = map_fault (λ s. tt) f
 
+-- An error without its spans.
 abbrev pub bare_message : {A : Type 0} → Message A → Message (Unit {0})
 bare_message m = map_message (λ s. tt) m
 
+-- The text for a missing closing brace, by the character that is found instead.
 abbrev pub expected : Option ℕ → List ℕ
 expected None = codes "expected `}` but string was terminated"
 expected (Some c) = codes "expected `}`, found `" ++ written c ++ codes "`"
 
+-- The text for digits whose number is above 65535.
 abbrev pub out_of_range : Text → List ℕ
-out_of_range ds = codes "integer `" ++ encode_utf8_all ds ++ codes "` does not fit into the type `u16` whose range is `0..=65535`"
+out_of_range ds = codes "integer `" ++ encode_utf8_all ds
+    ++ codes "` does not fit into the type `u16` whose range is `0..=65535`"
 
--- how to ask for the format `?` of a word
+-- The note for a `?` that comes before a colon and this word, where the word should come first.
 abbrev pub debug_after : Text → List ℕ
 debug_after w = codes "`?` comes after `:`, try `" ++ encode_utf8_all w ++ codes ":?` instead"
 
+-- The text for an alignment in place of a closing brace.
 abbrev pub align_after : ℕ → List ℕ
 align_after c = codes "expected `" ++ encode_utf8 c ++ codes "` to occur after `:`"
 
--- an error with these texts and spans
-abbrev pub error : {A : Type 0} → List ℕ → Option (List ℕ) → List ℕ → A → Option (List ℕ × A) → Message A
+-- An error with these texts and spans, and without a suggestion.
+abbrev pub error : {A : Type 0} → List ℕ → Option (List ℕ) → List ℕ → A → Option (List ℕ × A)
+    → Message A
 error description note label span second =
-    record { description = description; note = note; label = label; span = span; second = second; suggestion = Nothing }
+    record {
+      description = description;
+      note = note;
+      label = label;
+      span = span;
+      second = second;
+      suggestion = Nothing;
+    }
 
--- the same, with a suggestion
+-- The error with this suggestion.
 abbrev pub suggesting : {A : Type 0} → Suggestion A → Message A → Message A
 suggesting g m = record m { suggestion = g }
 
--- the error of a field
+-- The error of a field after a dot.
 abbrev pub local_variable : {A : Type 0} → List ℕ → A → Message A
 local_variable description s = suggesting UsePositional (error
     description
-    (Some (codes "consider moving this expression to a local variable and then using the local here instead"))
+    (Some (codes
+    "consider moving this expression to a local variable and then using the local here instead"))
     (codes "not supported") s
     None)
 
--- the error of each fault
+-- The error of a fault.
 unfoldable pub message : {A : Type 0} → Fault A → Message A
 message (UnmatchedBrace s) = error
     (codes "unmatched `}` found")
@@ -177,7 +202,8 @@ message (MissingBrace c s o) = error
     (Some (codes "because of this opening brace", o))
 message (FillBrace c s o) = error
     (expected c)
-    (Some (codes "the character `}` is interpreted as a fill character because of the `:` that precedes it"))
+    (Some (codes
+    "the character `}` is interpreted as a fill character because of the `:` that precedes it"))
     (codes "expected `}`") s
     (Some (codes "this is not interpreted as a formatting closing brace", o))
 message (Underscore s) = error
@@ -202,10 +228,12 @@ message (TextAfterColon s) = error
     None
 message (RawIdentifier s p) = suggesting (RemoveRawIdent p) (error
     (codes "raw identifiers are not supported")
-    (Some (codes "identifiers in format strings can be keywords and don't need to be prefixed with `r#`"))
+    (Some (codes
+    "identifiers in format strings can be keywords and don't need to be prefixed with `r#`"))
     (codes "raw identifier used here") s
     None)
-message (LateFlag c s b) = suggesting (ReorderFormatParameter b (encode_utf8_all (c ∷ codes "?"))) (error
+message (LateFlag c s b) = suggesting (ReorderFormatParameter b (encode_utf8_all (c ∷ codes "?")))
+    (error
     (expected (Some c))
     None
     (codes "expected `'}'`") s
@@ -243,11 +271,14 @@ message (LateSign s) = error
 message (FieldAccess s) = local_variable (codes "field access isn't supported") s
 message (TupleIndex s) = local_variable (codes "tuple index access isn't supported") s
 
--- the list of errors after these faults, in the order in which they were found
+-- The list of errors after these faults, which are given in the order in which they are found.
 abbrev pub add_errors : {A : Type 0} → List (Message A) → List (Fault A) → List (Message A)
 add_errors old [] = old
-add_errors old (f ∷ fs) = add_errors (if is_front f then message f ∷ old else old ++ message f ∷ []) fs
+add_errors old (f ∷ fs) = add_errors (if is_front f then message f ∷ old
+    else old ++ message f ∷ []) fs
 
--- the errors of before are still there, in order, with new ones in front of them and after them
+-- The new list has the old errors in the same order, with any number of errors before and after
+-- them.
 abbrev pub Keeps : {A : Type 0} → List (Message A) → List (Message A) → Type 0
-Keeps {A = A} old new = (front : List (Message A)) × (back : List (Message A)) × (new ≡ front ++ (old ++ back))
+Keeps {A = A} old new = (front : List (Message A)) × (back : List (Message A))
+    × (new ≡ front ++ (old ++ back))

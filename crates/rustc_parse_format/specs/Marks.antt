@@ -1,31 +1,34 @@
--- A mark stands at a character of the input, by how many characters are left from it on. With none left, it is the end
--- of the text. So a span is written from the two rests of the text where it begins and ends.
+-- A mark is a position in the input, given by how many characters are left from a character on. A
+-- mark with none left is at the end of the text. So a span is made of what is left of the text at
+-- its start and at its end.
 use Rattle.std.specs.Prelude.{ℕ, ◌++◌, List, [], ◌∷◌, length}
 use Rattle.rustc_parse_format.specs.Characters.{Text}
 
 pub data Mark : Type 0 where
-  -- where the character starts
+  -- The start of the character from which on so many are left.
   Start : ℕ → Mark
-  -- where it ends
+  -- The end of the character from which on so many are left.
   End : ℕ → Mark
 
+-- A pair of marks: where a span starts and where it ends.
 pub record Span : Type 0 where
   pub from : Mark
   pub to : Mark
 
--- from the first character of t up to the first one of r
+-- The span from the start of the first character of t to the start of the first character of r.
 abbrev pub up_to : Text → Text → Span
 up_to t r = record { from = Start (length t); to = Start (length r) }
 
--- from the first character of t to the end of the first one of r
+-- The span from the start of the first character of t to the end of the first character of r.
 abbrev pub through : Text → Text → Span
 through t r = record { from = Start (length t); to = End (length r) }
 
--- the first character of t
+-- The span of the first character of t.
 abbrev pub over_first : Text → Span
 over_first t = through t t
 
--- a run of text with r after it, each character by how many are left from it on
+-- The characters of a run of text that is followed by r, each with how many characters are left
+-- from it on.
 abbrev pub marked : Text → Text → List (ℕ × ℕ)
 marked [] r = []
 marked (c ∷ u) r = (c, length (c ∷ u ++ r)) ∷ marked u r

@@ -1,79 +1,88 @@
--- What a cut means where the next number is c: the argument of `Values`, with marks for its spans.
+-- The meaning of a cut, where c is the next number: the same argument as in `Values`, and with
+-- spans that are pairs of marks. Where a part is said to be at t with r after it, t is what is left
+-- of the input at the start of the part, and r is what is left at its end.
 use Rattle.std.specs.Prelude.{ℕ, ◌++◌, List, [], ◌∷◌, Option, Some, None, codes}
 use Rattle.rustc_parse_format.specs.Characters.{Text, behind_first, number}
-use Rattle.rustc_parse_format.specs.Types.{Count, Is, Name, Param, Star, Implied, Spec, Argument, default_spec}
+use Rattle.rustc_parse_format.specs.Types.{Count, Is, Name, Param, Star, Implied, Spec, Argument}
+use Rattle.rustc_parse_format.specs.Types.{default_spec}
 use Rattle.rustc_parse_format.specs.Marks.{Span, up_to, through, over_first, marked}
 use Rattle.rustc_parse_format.specs.Placeholder.{Cut}
-use Rattle.rustc_parse_format.specs.Syntax.{CountText, NumberCount, IndexCount, NameCount, NoCount, WidthText, PaddedWidth, ZeroIndexWidth, PlainWidth}
-use Rattle.rustc_parse_format.specs.Syntax.{width_part, PrecisionText, NoPrecision, StarPrecision, DotPrecision, precision_part, TypeText, DebugHexType}
-use Rattle.rustc_parse_format.specs.Syntax.{CharacterType, WordType, type_part, FormatText, SpecText, Default, Formatting, Modifier, DiagnosticText}
-use Rattle.rustc_parse_format.specs.Values.{is_padded, type_of, debug_hex_of, number_after_spec, position_of}
+use Rattle.rustc_parse_format.specs.Syntax.{CountText, NumberCount, IndexCount, NameCount, NoCount}
+use Rattle.rustc_parse_format.specs.Syntax.{WidthText, PaddedWidth, ZeroIndexWidth, PlainWidth}
+use Rattle.rustc_parse_format.specs.Syntax.{width_part, PrecisionText, NoPrecision, StarPrecision}
+use Rattle.rustc_parse_format.specs.Syntax.{DotPrecision, precision_part, TypeText, DebugHexType}
+use Rattle.rustc_parse_format.specs.Syntax.{CharacterType, WordType, type_part, FormatText}
+use Rattle.rustc_parse_format.specs.Syntax.{SpecText, Default, Formatting, Modifier, DiagnosticText}
+use Rattle.rustc_parse_format.specs.Values.{is_padded, type_of, debug_hex_of, number_after_spec}
+use Rattle.rustc_parse_format.specs.Values.{position_of}
 
--- the count that stands at t, with r after it; the span of a name ends in front of its `$`
+-- The meaning of the count that is at t with r after it. The span of a name ends before its `$`.
 abbrev pub count_of : Text → CountText → Text → Count Span
 count_of t (NumberCount ds) r = Is (number ds)
 count_of t (IndexCount ds) r = Param (number ds)
 count_of t (NameCount w) r = Name w (up_to t (codes "$" ++ r))
 count_of t NoCount r = Implied
 
--- from t to r, where there is a count
+-- The span of a count, from t to r. None if there is no count.
 abbrev pub count_span : Text → CountText → Text → Option Span
 count_span t (NumberCount ds) r = Some (up_to t r)
 count_span t (IndexCount ds) r = Some (up_to t r)
 count_span t (NameCount w) r = Some (up_to t r)
 count_span t NoCount r = None
 
--- the width that stands at t, with r after it
+-- The meaning of the width that is at t with r after it.
 abbrev pub width_of : Text → WidthText → Text → Count Span
 width_of t (PaddedWidth k) r = count_of (behind_first t) k r
 width_of t ZeroIndexWidth r = Param 0
 width_of t (PlainWidth k) r = count_of t k r
 
--- where its count stands, with r after it
+-- The span of the count in a width that is at t with r after it, without the flag `0`.
 abbrev pub width_span : Text → WidthText → Text → Option Span
 width_span t (PaddedWidth k) r = count_span (behind_first t) k r
 width_span t ZeroIndexWidth r = Some (through t (behind_first t))
 width_span t (PlainWidth k) r = count_span t k r
 
--- the precision that stands at t, with r after it; a star takes the number c
+-- The meaning of the precision that is at t with r after it. A star takes the next number, c.
 abbrev pub precision_of : ℕ → Text → PrecisionText → Text → Count Span
 precision_of c t NoPrecision r = Implied
 precision_of c t StarPrecision r = Star c
 precision_of c t (DotPrecision k) r = count_of (behind_first t) k r
 
--- from t to r, where there is a precision
+-- The span of a precision and its dot, from t to r. None if there is no precision.
 abbrev pub precision_span : Text → PrecisionText → Text → Option Span
 precision_span t NoPrecision r = None
 precision_span t StarPrecision r = Some (up_to t r)
 precision_span t (DotPrecision k) r = Some (up_to t r)
 
--- from t to r, where the word is not empty
+-- The span of a word, from t to r. None if the word is empty.
 abbrev pub word_span : Text → Text → Text → Option Span
 word_span t [] r = None
 word_span t (c ∷ w) r = Some (up_to t r)
 
--- of the type `x`, `X`, `?`, `x?` or `X?` there is none
+-- The span of a type, from t to r. The types `x`, `X`, `?`, `x?` and `X?` have none.
 abbrev pub type_span : Text → TypeText → Text → Option Span
 type_span t (DebugHexType h) r = None
 type_span t (CharacterType c) r = None
 type_span t (WordType w) r = word_span t w r
 
--- the fill that stands at t
+-- The span of the fill at t. None if there is no fill.
 abbrev pub fill_span : Text → Option ℕ → Option Span
 fill_span t None = None
 fill_span t (Some c) = Some (over_first t)
 
--- A format specification in front of r, from its type on, from its precision on and from its width on.
+-- What is left of the input at the start of the type, where r is left after the specification.
 abbrev pub from_type : FormatText → Text → Text
 from_type p r = (type_part p.type).spelling ++ r
 
+-- What is left of the input at the start of the precision, where r is left after the specification.
 abbrev pub from_precision : FormatText → Text → Text
 from_precision p r = (precision_part p.precision).spelling ++ from_type p r
 
+-- What is left of the input at the start of the width, where r is left after the specification.
 abbrev pub from_width : FormatText → Text → Text
 from_width p r = (width_part p.width).spelling ++ from_precision p r
 
--- the format specification that stands at t, after its colon, with r after it
+-- The meaning of the format specification that is at t, after its colon, with r after it.
 unfoldable pub format_of : ℕ → Text → FormatText → Text → Spec Span
 format_of c t p r = record {
   fill = p.fill;
@@ -91,14 +100,17 @@ format_of c t p r = record {
   ty_span = type_span (from_type p r) p.type r;
 }
 
--- the specification that stands at t, with r after it
+-- The meaning of what is at t where a specification may be, with r after it.
 abbrev pub spec_of : ℕ → Text → SpecText → Text → Spec Span
 spec_of c t Default r = default_spec
 spec_of c t (Formatting p) r = format_of c (behind_first t) p r
-spec_of c t (Modifier w) r = record default_spec { ty = w; ty_span = word_span (behind_first t) w r }
+spec_of c t (Modifier w) r = record default_spec {
+  ty = w;
+  ty_span = word_span (behind_first t) w r;
+}
 spec_of c t (DiagnosticText u) r = record default_spec { ty = u; ty_span = Some (up_to t r) }
 
--- the argument that a cut means
+-- The argument that a cut means.
 unfoldable pub argument : ℕ → Cut → Argument Span
 argument c a = record {
   position = position_of (number_after_spec c a.field.spec) a.field.position;
@@ -106,7 +118,8 @@ argument c a = record {
   format = spec_of c a.spec_at a.field.spec a.rest;
 }
 
--- the text that is read in a specification with r after it: of a diagnostic one, all after its colon
+-- The characters of a specification that are read as text, where r is left after it. In a
+-- diagnostic they are all that follows the colon; elsewhere there are none.
 abbrev pub spec_texts : SpecText → Text → List (ℕ × ℕ)
 spec_texts Default r = []
 spec_texts (Formatting p) r = []

@@ -1,9 +1,11 @@
--- What contracts of readers see in the middle of a call. Only private contracts use it.
+-- What contracts see in the middle of a call. Only private contracts use it.
 use Prim.Native.Char.{code}
-use Rattle.std.specs.Prelude.{chars, Bool, not, ◌&&◌, if◌then◌else◌, ◌≡◌, ◌<◌, ◌≤◌, ◌+◌, ◌-◌, ℕ, ◌++◌, true, List, [], ◌∷◌, length, Option, Some, None}
+use Rattle.std.specs.Prelude.{chars, Bool, not, ◌&&◌, if◌then◌else◌, ◌≡◌, ◌<◌, ◌≤◌, ◌+◌, ◌-◌, ℕ}
+use Rattle.std.specs.Prelude.{◌++◌, true, List, [], ◌∷◌, length, Option, Some, None}
 use Rattle.std.specs.Char.{is_whitespace}
 use Rattle.rustc_parse_format.specs.declared.source.Source.{Source}
-use Rattle.rustc_parse_format.specs.Characters.{Text, front, behind, behind_first, begins_with, is_no_brace}
+use Rattle.rustc_parse_format.specs.Characters.{Text, front, behind, behind_first, begins_with}
+use Rattle.rustc_parse_format.specs.Characters.{is_no_brace}
 use Rattle.rustc_parse_format.specs.Back.{Back, IsPaid}
 use Rattle.rustc_parse_format.specs.Marks.{Span, marked, through}
 use Rattle.rustc_parse_format.specs.Faults.{Fault}
@@ -15,31 +17,36 @@ use Rattle.rustc_parse_format.specs.SeenSource.{seen_world}
 use Rattle.rustc_parse_format.specs.Tries.{tried}
 use Rattle.rustc_parse_format.specs.Lines.{lines_in, closed_in, read_lines}
 
--- What a cursor counts: how many characters it passed, and how many were left where it last went back.
+-- What a cursor counts: how many characters it has read, also those that it gave back, and how many
+-- were left when it last went back.
 pub record Passed : Type 0 where
   pub made : ℕ
   pub left : ℕ
 
--- what was given back, with the rest t of the input n: what was passed beyond what was read
+-- What was given back, where t is left of the input n. It counts the characters that were read
+-- again.
 abbrev pub back_at : Text → Text → Passed → Back
 back_at n t p = record { again = (p.made + length t) - length n; left = p.left }
 
--- What was read was passed, and what was given back is paid.
+-- The count covers all characters that were read, and those that were given back are bounded as
+-- `IsPaid` says.
 pub record IsCounted (n t : Text) (p : Passed) : Type 0 where
   pub made : length n ≤ p.made + length t
   pub paid : IsPaid n t (back_at n t p)
 
--- What a cursor stands at: the rest of an input, in its world, which its source gives.
+-- What a cursor has left to read: a suffix of an input, in the world of its source.
 pub record Unread : Type 0 where
   pub source : Source
   pub world : World
   pub input : Text
   pub rest : Text
   pub back : Back
-  -- how often it was put back after a refusal, whose steps do not count
+  -- How often the cursor was put back after an allocation failure. The steps of such a call do not
+  -- count.
   pub undone : ℕ
 
--- What a reader stands at: the same, with the number that the next implicit argument takes, and what the call has found so far.
+-- The state of a parser in the middle of a call: what its cursor has left to read, the number that
+-- the next implicit argument takes, and what the call has found so far.
 pub record Midway : Type 0 where
   pub source : Source
   pub world : World
@@ -49,17 +56,18 @@ pub record Midway : Type 0 where
   pub undone : ℕ
   pub next : ℕ
   pub faults : List (Fault Place)
-  -- where the line starts that is read, and the lines in front of it that ended in this call
+  -- The byte offset where the current line starts, and the lines that ended in this call.
   pub line_start : ℕ
   pub lines : List Place
-  -- the placeholder that was closed
+  -- The place of the placeholder that was closed.
   pub closed : Option Place
 
--- a placeholder opens here: an opening brace, and no other one behind it
+-- A placeholder begins here: there is an opening brace, and no second one after it.
 abbrev pub opens_placeholder : Text → Bool
 opens_placeholder t = begins_with (code "{") t && not (begins_with (code "{") (behind_first t))
 
--- at the place of a cursor, with this number and in this line, where nothing was found yet
+-- The state at this cursor, with this next number and this start of the current line, where the
+-- call has found nothing yet.
 abbrev pub midway : Unread → ℕ → ℕ → Midway
 midway u n start = record {
   source = u.source;
@@ -75,76 +83,99 @@ midway u n start = record {
   closed = None;
 }
 
--- nothing was found yet
+-- The call has found nothing yet.
 abbrev pub HasFoundNothing : Midway → Type 0
 HasFoundNothing s = (s.faults ≡ []) × (s.lines ≡ []) × (s.closed ≡ None)
 
--- what a cursor at the front of this rest of the input of a source stands at
+-- What a cursor has left to read that is at the start of the suffix `rest` of a source's input.
 abbrev pub unread_at : Source → List ℕ → Back → ℕ → Unread
-unread_at s rest b n = record { source = s; world = seen_world s; input = chars s.input.now; rest = chars rest; back = b; undone = n }
+unread_at s rest b n = record {
+  source = s;
+  world = seen_world s;
+  input = chars s.input.now;
+  rest = chars rest;
+  back = b;
+  undone = n;
+}
 
--- read up to the rest r and the number n, with these faults found on the way
+-- The state after reading up to r, with n as the next number and these faults found.
 abbrev pub read_to : Midway → Text → ℕ → List (Fault Span) → Midway
 read_to s r n fs = record s { rest = r; next = n; faults = s.faults ++ faults_in s.world fs }
 
--- with the words at these rests tried
+-- The state after trying the words at these suffixes for a count.
 abbrev pub read_tries : Midway → List Text → Midway
 read_tries s ts = record s { back = tried s.back ts }
 
--- with these characters read as text
+-- The state after reading these characters as text.
 abbrev pub read_texts : Midway → List (ℕ × ℕ) → Midway
 read_texts s cs =
-    record s { line_start = (lines_in s.world s.line_start cs).0; lines = s.lines ++ (lines_in s.world s.line_start cs).1 }
+    record s {
+      line_start = (lines_in s.world s.line_start cs).0;
+      lines = s.lines ++ (lines_in s.world s.line_start cs).1;
+    }
 
--- the run of text at the front read
+-- The state after reading the run of text at the start of what is left.
 abbrev pub read_run : Midway → Midway
-read_run s = record (read_texts s (marked (front is_no_brace s.rest) (behind is_no_brace s.rest))) { rest = behind is_no_brace s.rest }
+read_run s =
+    record (read_texts s (marked (front is_no_brace s.rest) (behind is_no_brace s.rest))) {
+      rest =
+          behind is_no_brace s.rest;
+    }
 
--- with the next character c of a source literal noted
+-- The state after the lines have taken the next character, c, of a source literal.
 abbrev pub noted_next : ℕ → Midway → Midway
 noted_next c s =
     let next = read_lines s.line_start ((c, place_at s.world (length s.rest)) ∷ []) in
     record s { line_start = next.0; lines = s.lines ++ next.1 }
 
--- and read
+-- The state after the next character, c, has been read.
 abbrev pub passed_next : ℕ → Midway → Midway
 passed_next c s = record (noted_next c s) { rest = behind_first s.rest }
 
--- The next character c starts behind the start of the line, unless it is no white space, and all after it do: so no white space in
--- the line is at its very start.
+-- The characters from c on are not white space at the start of the line: those after c start later
+-- than the line, and so does c if it is white space.
 abbrev pub IsPastIndent : ℕ → ℕ → World → Text → Type 0
-IsPastIndent c start w t = (is_whitespace c ≡ true → start < (place_at w (length t)).0) × StartBehind start w (length (behind_first t))
+IsPastIndent c start w t = (is_whitespace c ≡ true → start < (place_at w (length t)).0)
+    × StartBehind start w (length (behind_first t))
 
--- these faults are none, and the characters, read as text, end no line
+-- There are no faults among these, and reading these characters as text ends no line.
 abbrev pub FindsNothing : Midway → List (Fault Span) → List (ℕ × ℕ) → Type 0
 FindsNothing s fs cs = (fs ≡ []) × ((read_texts s cs).lines ≡ s.lines)
 
--- the run of text at the front ends no line
+-- Reading the run of text at the start of what is left ends no line.
 abbrev pub IsInOneLine : Midway → Type 0
 IsInOneLine s = (read_run s).lines ≡ s.lines
 
--- what was closed first, or then
+-- The place of the placeholder that was closed last, if any was.
 abbrev pub closed_then : Option Place → Option Place → Option Place
 closed_then old None = old
 closed_then old (Some p) = Some p
 
--- after a call
+-- The state after a call.
 abbrev pub read_call : Midway → Call → Midway
 read_call s k =
-    record (read_texts (read_tries (read_to s k.rest k.next k.faults) k.tries) k.texts) { closed = closed_then s.closed (closed_in s.world k.closes) }
+    record (read_texts (read_tries (read_to s k.rest k.next k.faults) k.tries) k.texts) {
+      closed =
+          closed_then s.closed (closed_in s.world k.closes);
+    }
 
--- behind a sign with this fault, or in front of one that has none
+-- The state after reading the character with this fault. Without a fault it is unchanged.
 abbrev pub behind_sign : Midway → Option (Fault Place) → Midway
 behind_sign s None = s
 behind_sign s (Some f) = record s { rest = behind_first s.rest; faults = s.faults ++ f ∷ [] }
 
--- after a recovery
+-- The state after a recovery.
 abbrev pub recovered : Midway → Recovery → Midway
 recovered s k = read_texts (read_tries (read_to s k.rest k.next k.faults) k.tries) k.texts
 
--- where the closing brace of the placeholder at o, with the argument a, should stand: after the brace, or after the recovery
+-- The state after the place of the closing brace: after the brace if it is there, or after the
+-- fault and the recovery. The placeholder begins at o and has the argument a.
 abbrev pub behind_closing : Mode → Text → Argument Span → Midway → Midway
 behind_closing mode o a s =
     if begins_with (code "}") s.rest
-    then record s { rest = behind_first s.rest; closed = closed_then s.closed (closed_in s.world (Some (through o s.rest))) }
-    else recovered (read_to s s.rest s.next (unclosed_fault o a.format s.rest ∷ [])) (recovery mode s.next o a s.rest)
+    then record s {
+      rest = behind_first s.rest;
+      closed = closed_then s.closed (closed_in s.world (Some (through o s.rest)));
+    }
+    else recovered (read_to s s.rest s.next (unclosed_fault o a.format s.rest ∷ []))
+    (recovery mode s.next o a s.rest)

@@ -1,89 +1,106 @@
--- The faults of the parts of a placeholder, in the order in which they are found.
+-- The faults of the parts of a placeholder, in the order in which they are found. No public
+-- document has this rule: it is this project's, and follows the code of rustc's parser.
 use Prim.Native.Char.{code}
-use Rattle.std.specs.Prelude.{is_some, ℕ, ◌++◌, ◌&&◌, not, ◌||◌, ◌==◌, Bool, if◌then◌else◌, List, [], ◌∷◌, Option, Some, None, codes, bytes_eq}
-use Rattle.rustc_parse_format.specs.Characters.{Text, word, behind_word, digits, behind_digits, first, behind_first, behind_prefix, is_over}
+use Rattle.std.specs.Prelude.{is_some, ℕ, ◌++◌, ◌&&◌, not, ◌||◌, ◌==◌, Bool, if◌then◌else◌, List}
+use Rattle.std.specs.Prelude.{[], ◌∷◌, Option, Some, None, codes, bytes_eq}
+use Rattle.rustc_parse_format.specs.Characters.{Text, word, behind_word, digits, behind_digits}
+use Rattle.rustc_parse_format.specs.Characters.{first, behind_first, behind_prefix, is_over}
 use Rattle.rustc_parse_format.specs.Marks.{Span, up_to, through, over_first}
 use Rattle.rustc_parse_format.specs.Placeholder.{Cut}
 use Rattle.rustc_parse_format.specs.Syntax.{PositionText, Digits, Word, RawWord, NoPosition}
-use Rattle.rustc_parse_format.specs.Syntax.{WidthText, PaddedWidth, ZeroIndexWidth, PlainWidth, PrecisionText, NoPrecision, StarPrecision, DotPrecision}
-use Rattle.rustc_parse_format.specs.Syntax.{TypeText, DebugHexType, CharacterType, WordType, FormatText, SpecText, Default, Formatting, Modifier}
+use Rattle.rustc_parse_format.specs.Syntax.{WidthText, PaddedWidth, ZeroIndexWidth, PlainWidth}
+use Rattle.rustc_parse_format.specs.Syntax.{PrecisionText, NoPrecision, StarPrecision, DotPrecision}
+use Rattle.rustc_parse_format.specs.Syntax.{TypeText, DebugHexType, CharacterType, WordType}
+use Rattle.rustc_parse_format.specs.Syntax.{FormatText, SpecText, Default, Formatting, Modifier}
 use Rattle.rustc_parse_format.specs.Syntax.{DiagnosticText}
 use Rattle.rustc_parse_format.specs.Meaning.{from_width, from_precision, from_type}
-use Rattle.rustc_parse_format.specs.Faults.{Fault, Underscore, TooLarge, Unnamed, TextAfterColon, RawIdentifier, LateFlag}
+use Rattle.rustc_parse_format.specs.Faults.{Fault, Underscore, TooLarge, Unnamed, TextAfterColon}
+use Rattle.rustc_parse_format.specs.Faults.{RawIdentifier, LateFlag}
 use Rattle.rustc_parse_format.specs.Types.{Mode, wants_names, Position}
 use Rattle.rustc_parse_format.specs.Values.{given_position, is_name}
 
--- a word `_` at the front of t
+-- The fault of a word `_` at the start of t.
 abbrev pub word_faults : Text → List (Fault Span)
-word_faults t = if bytes_eq (word t) (codes "_") then Underscore (up_to t (behind_word t)) ∷ [] else []
+word_faults t = if bytes_eq (word t) (codes "_") then Underscore (up_to t (behind_word t)) ∷ []
+    else []
 
--- an integer at the front of t that is too large; the span takes in the character after it
+-- The fault of an integer above 65535 at the start of t. Its span includes the character after the
+-- digits.
 abbrev pub number_faults : Text → List (Fault Span)
-number_faults t = if is_over (digits t) then TooLarge (digits t) (through t (behind_digits t)) ∷ [] else []
+number_faults t = if is_over (digits t) then TooLarge (digits t) (through t (behind_digits t)) ∷ []
+    else []
 
--- a raw identifier at the front of t; its word is looked at first
+-- The faults of a raw identifier at the start of t. The fault of its word comes first.
 abbrev pub raw_faults : Text → List (Fault Span)
-raw_faults t = word_faults (behind_prefix t) ++ RawIdentifier (up_to t (behind_word (behind_prefix t))) (through t (behind_first t)) ∷ []
+raw_faults t = word_faults (behind_prefix t)
+    ++ RawIdentifier (up_to t (behind_word (behind_prefix t))) (through t (behind_first t)) ∷ []
 
--- the position that stands at t
+-- The faults of a position at the start of t.
 abbrev pub position_faults : Text → PositionText → List (Fault Span)
 position_faults t (Digits ds) = number_faults t
 position_faults t (Word w) = word_faults t
 position_faults t (RawWord w) = raw_faults t
 position_faults t NoPosition = []
 
--- a given position that stands at s is no name, and the mode wants one
+-- The fault of a position at the span s that is not a name, in a mode that accepts only names.
 abbrev pub name_faults : {A : Type 0} → Mode → Option Position → A → List (Fault A)
 name_faults mode given s = if wants_names mode && not (is_name given) then Unnamed s ∷ [] else []
 
--- A count at the front of t is an integer or a word, so at most one of these is there. A word is tried for a count, and so
--- looked at, even where no `$` makes it one.
+-- The faults of a count at the start of t. A count is an integer or a word, so at most one of the
+-- two is found. A word is tried for a count, and can be a fault, even where no `$` follows it.
 unfoldable pub argument_faults : Text → List (Fault Span)
 argument_faults t = number_faults t ++ word_faults t
 
+-- The faults of a width at the start of t.
 abbrev pub width_faults : Text → WidthText → List (Fault Span)
 width_faults t (PaddedWidth k) = argument_faults (behind_first t)
 width_faults t ZeroIndexWidth = []
 width_faults t (PlainWidth k) = argument_faults t
 
+-- The faults of a precision at the start of t.
 abbrev pub precision_faults : Text → PrecisionText → List (Fault Span)
 precision_faults t NoPrecision = []
 precision_faults t StarPrecision = []
 precision_faults t (DotPrecision k) = argument_faults (behind_first t)
 
--- what has its place in front of the type `?`
+-- The character is a flag that belongs before the type `?`: `#`, `x` or `X`.
 abbrev pub is_debug_flag : ℕ → Bool
 is_debug_flag c = (c == code "#") || (c == code "x") || (c == code "X")
 
--- the next character, if it is such a flag; with where it stands, and where the `?` and it stand
+-- The fault of such a flag after the type `?`, at the span s. The span b is that of the `?` with
+-- the flag.
 abbrev pub late_flag : {A : Type 0} → Option ℕ → A → A → List (Fault A)
 late_flag None s b = []
 late_flag (Some c) s b = if is_debug_flag c then LateFlag c s b ∷ [] else []
 
--- a flag after the `?` at the front of t
+-- The fault of a flag after the `?` at the start of t.
 abbrev pub flag_faults : Text → List (Fault Span)
-flag_faults t = late_flag (first (behind_first t)) (over_first (behind_first t)) (through t (behind_first t))
+flag_faults t = late_flag (first (behind_first t)) (over_first (behind_first t))
+    (through t (behind_first t))
 
+-- The faults of a type at the start of t.
 abbrev pub type_faults : Text → TypeText → List (Fault Span)
 type_faults t (DebugHexType h) = []
 type_faults t (CharacterType c) = if c == code "?" then flag_faults t else []
 type_faults t (WordType w) = word_faults t
 
--- the format specification in front of r
+-- The faults of a format specification, where r is left after it.
 unfoldable pub format_faults : FormatText → Text → List (Fault Span)
-format_faults p r = width_faults (from_width p r) p.width ++ precision_faults (from_precision p r) p.precision ++ type_faults (from_type p r) p.type
+format_faults p r = width_faults (from_width p r) p.width
+    ++ precision_faults (from_precision p r) p.precision ++ type_faults (from_type p r) p.type
 
--- the text u of a diagnostic with its colon at s, where the mode wants names alone
+-- The fault of text after a colon, at the span s, in a mode that accepts only names.
 abbrev pub text_faults : {A : Type 0} → Mode → Text → A → List (Fault A)
 text_faults mode u s = if wants_names mode && is_some (first u) then TextAfterColon s ∷ [] else []
 
--- the specification that stands at t, with r after it
+-- The faults of a specification that is at t with r after it.
 abbrev pub spec_faults : Mode → Text → SpecText → Text → List (Fault Span)
 spec_faults mode t Default r = []
 spec_faults mode t (Formatting p) r = format_faults p r
 spec_faults mode t (Modifier w) r = word_faults (behind_first t)
 spec_faults mode t (DiagnosticText u) r = text_faults mode u (up_to t r)
 
+-- The faults of a field, in the order in which they are found.
 unfoldable pub cut_faults : Mode → Cut → List (Fault Span)
 cut_faults mode a =
     position_faults a.position_at a.field.position

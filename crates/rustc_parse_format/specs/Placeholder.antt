@@ -1,20 +1,23 @@
--- Where the field after an opening brace stands, and by computing the cut of a text into a field and a rest.
+-- The field after an opening brace and where its parts are. A text is cut, by computation, into the
+-- field at its start and the rest, as `IsCut` in `Syntax` defines it.
 use Rattle.std.specs.Prelude.{if◌then◌else◌, ◌++◌, [], ◌∷◌}
 use Rattle.std.specs.Char.{is_ascii_digit, is_whitespace}
-use Rattle.rustc_parse_format.specs.Characters.{Text, is_id_start, front, word, behind_word, digits, behind_digits, behind_white, begins_raw}
+use Rattle.rustc_parse_format.specs.Characters.{Text, is_id_start, front, word, behind_word, digits}
+use Rattle.rustc_parse_format.specs.Characters.{behind_digits, behind_white, begins_raw}
 use Rattle.rustc_parse_format.specs.Characters.{behind_prefix}
 use Rattle.rustc_parse_format.specs.Types.{Mode}
-use Rattle.rustc_parse_format.specs.Syntax.{PositionText, Digits, Word, RawWord, NoPosition, FieldText, field_part, spec_part}
+use Rattle.rustc_parse_format.specs.Syntax.{PositionText, Digits, Word, RawWord, NoPosition}
+use Rattle.rustc_parse_format.specs.Syntax.{FieldText, field_part, spec_part}
 use Rattle.rustc_parse_format.specs.Specification.{specification}
 
--- A field where it stands: with the text from its position on, from its specification on, and after it.
+-- A field with what is left of the text at its position, at its specification and after it.
 pub record Cut : Type 0 where
   pub field : FieldText
   pub position_at : Text
   pub spec_at : Text
   pub rest : Text
 
--- with r after it
+-- The cut of the field a that is followed by r.
 abbrev pub placed : Mode → FieldText → Text → Cut
 placed mode a r = record {
   field = a;
@@ -23,20 +26,27 @@ placed mode a r = record {
   rest = r;
 }
 
--- By computing: the word of a raw identifier, with t after its `r#`, and the rest after it.
+-- The raw identifier after an `r#`, where t is left, and what is left after it.
 abbrev pub raw_word : Text → PositionText × Text
 raw_word t = (RawWord (word t), behind_word t)
 
--- the position at the front, and the rest after it
+-- The position at the start of a text, and what is left after it.
 abbrev pub position : Text → PositionText × Text
 position [] = (NoPosition, [])
 position (c ∷ t) =
     if is_ascii_digit c then (Digits (digits (c ∷ t)), behind_digits (c ∷ t))
     else (if begins_raw (c ∷ t) then raw_word (behind_prefix (c ∷ t))
-    else (if is_id_start c then (Word (word (c ∷ t)), behind_word (c ∷ t)) else (NoPosition, c ∷ t)))
+    else (if is_id_start c then (Word (word (c ∷ t)), behind_word (c ∷ t))
+    else (NoPosition, c ∷ t)))
 
+-- The cut of a text, computed: the field at its start and the rest.
 unfoldable pub cut : Mode → Text → Cut
 cut mode t =
     let p = position t in
     let s = specification mode (behind_white p.1) in
-    record { field = record { position = p.0; space = front is_whitespace p.1; spec = s.0 }; position_at = t; spec_at = behind_white p.1; rest = s.1 }
+    record {
+      field = record { position = p.0; space = front is_whitespace p.1; spec = s.0 };
+      position_at = t;
+      spec_at = behind_white p.1;
+      rest = s.1;
+    }

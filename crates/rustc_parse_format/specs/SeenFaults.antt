@@ -1,18 +1,33 @@
 -- What a contract sees of a fault that was found.
-use Rattle.std.specs.Prelude.{chars}
+use Rattle.std.specs.Prelude.{chars, List, [], ◌∷◌, Option, Some, None, map}
 use Rattle.rustc_parse_format.specs.declared.faults.Fault.{Fault as DeclaredFault}
-use Rattle.rustc_parse_format.specs.declared.faults.Fault.TheVariants.{UnmatchedBrace as LoneBrace, MissingBrace as NoBrace, FillBrace as BraceAsFill}
-use Rattle.rustc_parse_format.specs.declared.faults.Fault.TheVariants.{Underscore as LoneUnderscore, TooLarge as LargeNumber, RawIdentifier as PrefixedName}
-use Rattle.rustc_parse_format.specs.declared.faults.Fault.TheVariants.{Unnamed as NoName, TextAfterColon as SomeText, LateFlag as FlagAtEnd}
-use Rattle.rustc_parse_format.specs.declared.faults.Fault.TheVariants.{MissingColon as NoColon, LateDebug as DebugAfter, LateAlign as AlignAfter}
-use Rattle.rustc_parse_format.specs.declared.faults.Fault.TheVariants.{Grouping as Comma, DebugPrint as EqualsSign, LateSign as SignAfter}
-use Rattle.rustc_parse_format.specs.declared.faults.Fault.TheVariants.{FieldAccess as NamedField, TupleIndex as NumberedField}
-use Rattle.rustc_parse_format.specs.Faults.{MissingColon, LateDebug, LateAlign, Grouping, DebugPrint, LateSign, FieldAccess, TupleIndex}
-use Rattle.rustc_parse_format.specs.Faults.{Fault, UnmatchedBrace, MissingBrace, FillBrace, Underscore}
-use Rattle.rustc_parse_format.specs.Faults.{TooLarge, Unnamed, TextAfterColon, RawIdentifier, LateFlag}
+use Rattle.rustc_parse_format.specs.declared.faults.Fault.TheVariants.{UnmatchedBrace as LoneBrace}
+use Rattle.rustc_parse_format.specs.declared.faults.Fault.TheVariants.{MissingBrace as NoBrace}
+use Rattle.rustc_parse_format.specs.declared.faults.Fault.TheVariants.{FillBrace as BraceAsFill}
+use Rattle.rustc_parse_format.specs.declared.faults.Fault.TheVariants.{Underscore as LoneUnderscore}
+use Rattle.rustc_parse_format.specs.declared.faults.Fault.TheVariants.{TooLarge as LargeNumber}
+use Rattle.rustc_parse_format.specs.declared.faults.Fault.TheVariants.{RawIdentifier as PrefixedName}
+use Rattle.rustc_parse_format.specs.declared.faults.Fault.TheVariants.{Unnamed as NoName}
+use Rattle.rustc_parse_format.specs.declared.faults.Fault.TheVariants.{TextAfterColon as SomeText}
+use Rattle.rustc_parse_format.specs.declared.faults.Fault.TheVariants.{LateFlag as FlagAtEnd}
+use Rattle.rustc_parse_format.specs.declared.faults.Fault.TheVariants.{MissingColon as NoColon}
+use Rattle.rustc_parse_format.specs.declared.faults.Fault.TheVariants.{LateDebug as DebugAfter}
+use Rattle.rustc_parse_format.specs.declared.faults.Fault.TheVariants.{LateAlign as AlignAfter}
+use Rattle.rustc_parse_format.specs.declared.faults.Fault.TheVariants.{Grouping as Comma}
+use Rattle.rustc_parse_format.specs.declared.faults.Fault.TheVariants.{DebugPrint as EqualsSign}
+use Rattle.rustc_parse_format.specs.declared.faults.Fault.TheVariants.{LateSign as SignAfter}
+use Rattle.rustc_parse_format.specs.declared.faults.Fault.TheVariants.{FieldAccess as NamedField}
+use Rattle.rustc_parse_format.specs.declared.faults.Fault.TheVariants.{TupleIndex as NumberedField}
+use Rattle.rustc_parse_format.specs.Faults.{MissingColon, LateDebug, LateAlign, Grouping}
+use Rattle.rustc_parse_format.specs.Faults.{DebugPrint, LateSign, FieldAccess, TupleIndex}
+use Rattle.rustc_parse_format.specs.Faults.{Fault, UnmatchedBrace, MissingBrace, FillBrace}
+use Rattle.rustc_parse_format.specs.Faults.{Underscore}
+use Rattle.rustc_parse_format.specs.Faults.{TooLarge, Unnamed, TextAfterColon, RawIdentifier}
+use Rattle.rustc_parse_format.specs.Faults.{LateFlag}
 use Rattle.rustc_parse_format.specs.Seen.{pair}
 use Rattle.rustc_parse_format.specs.World.{Place}
 
+-- A fault as a contract sees it.
 abbrev pub seen_fault : DeclaredFault → Fault Place
 seen_fault (LoneBrace s) = UnmatchedBrace (pair s)
 seen_fault (NoBrace c s o) = MissingBrace c (pair s) (pair o)
@@ -31,3 +46,8 @@ seen_fault (EqualsSign s o) = DebugPrint (pair s) (pair o)
 seen_fault (SignAfter s) = LateSign (pair s)
 seen_fault (NamedField s) = FieldAccess (pair s)
 seen_fault (NumberedField s) = TupleIndex (pair s)
+
+-- The faults of a call: the first, if there is one, and those after it.
+abbrev pub seen_faults : Option DeclaredFault → List DeclaredFault → List (Fault Place)
+seen_faults None more = []
+seen_faults (Some f) more = seen_fault f ∷ map seen_fault more

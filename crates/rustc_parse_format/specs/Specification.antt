@@ -1,63 +1,85 @@
--- By computing: what a colon brings, in each mode another thing.
+-- What follows the position of a placeholder, computed. Each mode has its own rule for what follows
+-- the colon. The parts are those that `Syntax` defines by the grammar of `std::fmt`.
 use Prim.Native.Char.{code}
-use Rattle.std.specs.Prelude.{ℕ, Bool, true, false, if◌then◌else◌, ◌==◌, [], ◌∷◌, Option, Some, None}
-use Rattle.rustc_parse_format.specs.Characters.{Text, is_align, is_no_brace, front, behind, word, behind_word}
-use Rattle.rustc_parse_format.specs.Types.{Mode, Format, InlineAsm, Diagnostic, DiagnosticNamed, Alignment, Left, Right, Center, Unknown, Sign, Plus, Minus}
+use Rattle.std.specs.Prelude.{ℕ, Bool, true, false, if◌then◌else◌, ◌==◌, [], ◌∷◌, Option, Some}
+use Rattle.std.specs.Prelude.{None}
+use Rattle.rustc_parse_format.specs.Characters.{Text, is_align, is_no_brace, front, behind, word}
+use Rattle.rustc_parse_format.specs.Characters.{behind_word}
+use Rattle.rustc_parse_format.specs.Types.{Mode, Format, InlineAsm, Diagnostic, DiagnosticNamed}
+use Rattle.rustc_parse_format.specs.Types.{Alignment, Left, Right, Center, Unknown, Sign, Plus}
+use Rattle.rustc_parse_format.specs.Types.{Minus}
 use Rattle.rustc_parse_format.specs.Types.{DebugHex, Lower, Upper}
-use Rattle.rustc_parse_format.specs.Syntax.{TypeText, DebugHexType, CharacterType, WordType, FormatText, SpecText, Default, Formatting, Modifier}
+use Rattle.rustc_parse_format.specs.Syntax.{TypeText, DebugHexType, CharacterType, WordType}
+use Rattle.rustc_parse_format.specs.Syntax.{FormatText, SpecText, Default, Formatting, Modifier}
 use Rattle.rustc_parse_format.specs.Syntax.{DiagnosticText}
 use Rattle.rustc_parse_format.specs.Counts.{width, precision}
 
--- Each part of a format specification at the front of a text, and the rest after it.
+-- Each part of a format specification is read at the start of a text, and returned with what is
+-- left after it.
 
+-- The fill at the start of a text: a character that an alignment follows.
 abbrev pub fill : Text → Option ℕ × Text
 fill (c ∷ d ∷ t) = if is_align d then (Some c, d ∷ t) else (None, c ∷ d ∷ t)
 fill t = (None, t)
 
+-- The alignment at the start of a text.
 abbrev pub align : Text → Alignment × Text
 align [] = (Unknown, [])
-align (c ∷ t) = if c == code "<" then (Left, t) else (if c == code ">" then (Right, t) else (if c == code "^" then (Center, t) else (Unknown, c ∷ t)))
+align (c ∷ t) = if c == code "<" then (Left, t)
+    else (if c == code ">" then (Right, t)
+    else (if c == code "^" then (Center, t) else (Unknown, c ∷ t)))
 
+-- The sign at the start of a text.
 abbrev pub sign : Text → Option Sign × Text
 sign [] = (None, [])
-sign (c ∷ t) = if c == code "+" then (Some Plus, t) else (if c == code "-" then (Some Minus, t) else (None, c ∷ t))
+sign (c ∷ t) = if c == code "+" then (Some Plus, t)
+    else (if c == code "-" then (Some Minus, t) else (None, c ∷ t))
 
+-- The flag `#` at the start of a text.
 abbrev pub alternate : Text → Bool × Text
 alternate [] = (false, [])
 alternate (c ∷ t) = if c == code "#" then (true, t) else (false, c ∷ t)
 
--- with t after the `x` or `X`
+-- The type after an `x` or `X`, where t is left.
 abbrev pub behind_hex : DebugHex → ℕ → Text → TypeText × Text
 behind_hex h x [] = (CharacterType x, [])
 behind_hex h x (c ∷ t) = if c == code "?" then (DebugHexType h, t) else (CharacterType x, c ∷ t)
 
+-- The type at the start of a text.
 abbrev pub type : Text → TypeText × Text
 type [] = (WordType [], [])
 type (c ∷ t) =
     if c == code "x" then behind_hex Lower c t
     else (if c == code "X" then behind_hex Upper c t
-    else (if c == code "?" then (CharacterType c, t) else (WordType (word (c ∷ t)), behind_word (c ∷ t))))
+    else (if c == code "?" then (CharacterType c, t)
+    else (WordType (word (c ∷ t)), behind_word (c ∷ t))))
 
--- A format specification that stands at t has its fill there, and each other part after the one before it.
+-- What is left of t at the alignment of a format specification, which begins at t. The fill is
+-- before it.
 abbrev pub align_at : Text → Text
 align_at t = (fill t).1
 
+-- What is left of t at the sign.
 abbrev pub sign_at : Text → Text
 sign_at t = (align (align_at t)).1
 
+-- What is left of t at the flag `#`.
 abbrev pub alternate_at : Text → Text
 alternate_at t = (sign (sign_at t)).1
 
+-- What is left of t at the width.
 abbrev pub width_at : Text → Text
 width_at t = (alternate (alternate_at t)).1
 
+-- What is left of t at the precision.
 abbrev pub precision_at : Text → Text
 precision_at t = (width (width_at t)).1
 
+-- What is left of t at the type.
 abbrev pub type_at : Text → Text
 type_at t = (precision (precision_at t)).1
 
--- the format specification at the front, and the rest after it
+-- The format specification at the start of a text, and what is left after it.
 unfoldable pub format_text : Text → FormatText × Text
 format_text t = (
   record {
@@ -72,14 +94,14 @@ format_text t = (
   (type (type_at t)).1,
 )
 
--- with t after the colon
+-- What follows the colon, where t is left after it.
 abbrev pub behind_colon : Mode → Text → SpecText × Text
 behind_colon Format t = (Formatting (format_text t).0, (format_text t).1)
 behind_colon InlineAsm t = (Modifier (word t), behind_word t)
 behind_colon Diagnostic t = (DiagnosticText (front is_no_brace t), behind is_no_brace t)
 behind_colon DiagnosticNamed t = (DiagnosticText (front is_no_brace t), behind is_no_brace t)
 
--- the specification at the front, and the rest after it
+-- The specification at the start of a text, and what is left after it.
 abbrev pub specification : Mode → Text → SpecText × Text
 specification mode [] = (Default, [])
 specification mode (c ∷ t) = if c == code ":" then behind_colon mode t else (Default, c ∷ t)

@@ -1,86 +1,99 @@
--- How a text is written, part by part. A part that may be left out is written as nothing, and only where it does not begin;
--- a run, an integer or a word ends where nothing goes on with it.
-use Rattle.std.specs.Prelude.{◌≡◌, ℕ, Bool, true, false, not, ◌&&◌, ◌||◌, ◌++◌, IsTrue, List, [], ◌∷◌}
+-- The parts of a written text: how a part is spelled, whether it is well formed, and what may
+-- follow it. A part that may be left out is spelled as the empty text, and only where it does not
+-- begin. A run, an integer or a word ends where no further character belongs to it.
+use Rattle.std.specs.Prelude.{◌≡◌, ℕ, Bool, true, false, not, ◌&&◌, ◌||◌, ◌++◌, IsTrue, List, []}
+use Rattle.std.specs.Prelude.{◌∷◌}
 use Rattle.std.specs.List.{list_all}
 use Rattle.std.specs.Char.{is_ascii_digit}
 use Rattle.rustc_parse_format.specs.Characters.{Text, is_id_start, is_id_continue, first_passes}
 
 pub record Part : Type 0 where
-  -- as it is written
+  -- The text of the part as it is written.
   pub spelling : Text
-  -- it is well formed
+  -- The part is well formed.
   pub is_formed : Bool
-  -- it may stand in front of that text
+  -- The part may be followed by this text.
   pub may_precede : Text → Bool
 
--- t is the part and then r
+-- The text t is the part p followed by r: p is well formed, and r may follow it.
 pub record IsPart (t : Text) (p : Part) (r : Text) : Type 0 where
   pub whole : t ≡ p.spelling ++ r
   pub formed : IsTrue p.is_formed
   pub ends : IsTrue (p.may_precede r)
 
--- the text u, in front of what passes
+-- The text u, followed by a text that passes the test p.
 abbrev pub before : Text → (Text → Bool) → Part
 before u p = record { spelling = u; is_formed = true; may_precede = p }
 
--- the text u, in front of what does not pass
+-- The text u, followed by a text that does not pass the test p.
 abbrev pub unless : Text → (Text → Bool) → Part
 unless u p = before u (λ r. not (p r))
 
--- the text u, whatever follows
+-- The text u, followed by anything.
 abbrev pub fixed : Text → Part
 fixed u = before u (λ r. true)
 
--- nothing, where what passes does not begin
+-- A part that is left out, where the text that follows does not pass the test p.
 abbrev pub absent : (Text → Bool) → Part
 absent p = unless [] p
 
--- what is never written
+-- A part that is never well formed.
 abbrev pub never : Part
 never = record { spelling = []; is_formed = false; may_precede = λ r. true }
 
--- characters that pass, as many as stand there
+-- Characters that pass the test p, and all of them: the next character does not pass.
 abbrev pub run : (ℕ → Bool) → Text → Part
-run p u = record { spelling = u; is_formed = list_all p u; may_precede = λ r. not (first_passes p r) }
+run p u = record {
+  spelling = u;
+  is_formed = list_all p u;
+  may_precede = λ r. not (first_passes p r);
+}
 
--- the same, at least one
+-- A run of at least one character.
 abbrev pub some_run : (ℕ → Bool) → Text → Part
 some_run p u = record (run p u) { is_formed = first_passes p u && list_all p u }
 
--- a character that passes, twice
+-- A character that passes the test p, written twice.
 abbrev pub doubled : (ℕ → Bool) → ℕ → Part
 doubled p c = record { spelling = c ∷ c ∷ []; is_formed = p c; may_precede = λ r. true }
 
--- digits
+-- One or more decimal digits, and all of them.
 abbrev pub integer : Text → Part
 integer ds = some_run is_ascii_digit ds
 
+-- The text is a word: a character that may begin a word, and then characters that may continue it.
 abbrev pub is_word : Text → Bool
 is_word [] = false
 is_word (c ∷ w) = is_id_start c && list_all is_id_continue w
 
+-- A word, and all of it: the next character does not continue it.
 abbrev pub identifier : Text → Part
-identifier w = record { spelling = w; is_formed = is_word w; may_precede = λ r. not (first_passes is_id_continue r) }
+identifier w = record {
+  spelling = w;
+  is_formed = is_word w;
+  may_precede = λ r. not (first_passes is_id_continue r);
+}
 
--- a word in front of what passes
+-- A word that is followed by a text that passes the test p.
 abbrev pub identifier_before : (Text → Bool) → Text → Part
 identifier_before p w = record { spelling = w; is_formed = is_word w; may_precede = p }
 
--- a word, or nothing where none begins
+-- A word, or nothing where no word begins.
 abbrev pub optional_identifier : Text → Part
 optional_identifier [] = absent (first_passes is_id_start)
 optional_identifier (c ∷ w) = identifier (c ∷ w)
 
--- some front of the text passes, with what is after it
+-- Some prefix of the text, with what is left after it, passes the test p.
 abbrev pub some_front : Text → (Text → Text → Bool) → Bool
 some_front [] p = p [] []
 some_front (c ∷ t) p = p [] (c ∷ t) || some_front t (λ u r. p (c ∷ u) r)
 
--- the text begins with such a part, each spelled as the text that it is made of
+-- The text begins with a well-formed part of this kind, followed by what may follow it. The kind
+-- makes a part of each text, which has to be spelled as that text.
 abbrev pub begins_with_part : (Text → Part) → Text → Bool
 begins_with_part part t = some_front t (λ u r. (part u).is_formed && (part u).may_precede r)
 
--- parts one after the other, each in front of the next
+-- Parts one after the other. Each may be followed by the parts after it and the text after them.
 abbrev pub row : List Part → Part
 row [] = fixed []
 row (p ∷ ps) = record {

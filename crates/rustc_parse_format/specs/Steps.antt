@@ -1,21 +1,25 @@
--- How many steps a cursor has taken. Moving forward over one character is one step; looking is none, and going back is none. So there
--- are as many as the characters that were read, and those that were given back.
+-- How many steps a cursor takes. Reading one character is one step. Looking ahead is none, and
+-- going back is none. So the steps are the characters that were read and those that were given back
+-- to be read again.
 use Rattle.std.specs.Prelude.{ℕ, ◌+◌, ◌-◌, ◌*◌, ◌≤◌, length, max}
 use Rattle.rustc_parse_format.specs.Characters.{Text}
 use Rattle.rustc_parse_format.specs.Back.{Back}
 
--- how many characters were read
+-- How many characters have been read.
 abbrev pub position : Text → Text → ℕ
 position input rest = length input - length rest
 
+-- How many steps were taken: the characters that were read, and those that were given back.
 abbrev pub steps : Text → Text → Back → ℕ
 steps input rest b = position input rest + b.again
 
--- the greatest position at which it has stood: the place where it last went back, or, further on, where it stands
+-- The furthest position that the cursor has reached: where it last went back, or where it is now if
+-- that is further.
 abbrev pub reach : Text → Text → Back → ℕ
 reach input rest b = max (position input rest) (length input - b.left)
 
--- at least the position, at most the position and the reach, and so at most two for each character
+-- The steps are at least the position, and at most the position and the furthest position together.
+-- So they are at most two for each character of the input.
 pub record AreFew (input rest : Text) (b : Back) : Type 0 where
   pub least : position input rest ≤ steps input rest b
   pub bound : steps input rest b ≤ position input rest + reach input rest b

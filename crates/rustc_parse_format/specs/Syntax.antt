@@ -1,31 +1,39 @@
--- A format string as it is written: its pieces and their parts, how each is spelled and what may follow it.
--- The public rule is the grammar of format strings in the documentation of `std::fmt`; what is quoted from it stands in front of
--- its row, with what this language adds after it in words. Parts take what they can from the front on: one that may be left out is absent only where it does
--- not begin.
+-- A format string as it is written: its pieces and their parts, how each is spelled, and what may
+-- follow it. The public rule is the grammar of format strings in the documentation of `std::fmt`.
+-- Each rule is quoted before its definition, and what this language adds is said after the
+-- quotation. A part is as long as it can be, from left to right, and an optional part is left out
+-- only where it does not begin.
 use Prim.Native.Char.{code}
-use Rattle.std.specs.Prelude.{◌≡◌, ℕ, Bool, true, false, not, ◌||◌, ◌==◌, [], ◌∷◌, Option, Some, None, codes}
+use Rattle.std.specs.Prelude.{◌≡◌, ℕ, Bool, true, false, not, ◌||◌, ◌==◌, [], ◌∷◌, Option, Some}
+use Rattle.std.specs.Prelude.{None, codes}
 use Rattle.std.specs.Char.{is_ascii_digit, is_whitespace}
-use Rattle.rustc_parse_format.specs.Characters.{Text, is_align, is_brace, is_id_start, is_no_brace, behind_first, begins_raw, begins_with, first_passes}
-use Rattle.rustc_parse_format.specs.Types.{Mode, Format, InlineAsm, Diagnostic, DiagnosticNamed, Alignment, Left, Right, Center, Unknown, Sign, Plus, Minus}
+use Rattle.rustc_parse_format.specs.Characters.{Text, is_align, is_brace, is_id_start, is_no_brace}
+use Rattle.rustc_parse_format.specs.Characters.{behind_first, begins_raw, begins_with, first_passes}
+use Rattle.rustc_parse_format.specs.Types.{Mode, Format, InlineAsm, Diagnostic, DiagnosticNamed}
+use Rattle.rustc_parse_format.specs.Types.{Alignment, Left, Right, Center, Unknown, Sign, Plus}
+use Rattle.rustc_parse_format.specs.Types.{Minus}
 use Rattle.rustc_parse_format.specs.Types.{DebugHex, Lower, Upper}
-use Rattle.rustc_parse_format.specs.Spelling.{Part, IsPart, before, fixed, unless, absent, never, run, some_run, doubled, integer, identifier}
-use Rattle.rustc_parse_format.specs.Spelling.{identifier_before, optional_identifier, begins_with_part, row}
+use Rattle.rustc_parse_format.specs.Spelling.{Part, IsPart, before, fixed, unless, absent, never}
+use Rattle.rustc_parse_format.specs.Spelling.{run, some_run, doubled, integer, identifier}
+use Rattle.rustc_parse_format.specs.Spelling.{identifier_before, optional_identifier}
+use Rattle.rustc_parse_format.specs.Spelling.{begins_with_part, row}
 
 pub data PositionText : Type 0 where
   Digits : Text → PositionText
   Word : Text → PositionText
-  -- `r#a`
+  -- `r#a`, a raw identifier.
   RawWord : Text → PositionText
   NoPosition : PositionText
 
--- argument := integer | identifier. A raw identifier is read too, and refused; where one begins, no word does.
+-- argument := integer | identifier. A raw identifier is also read, and is a fault. Where one
+-- begins, no word begins.
 abbrev pub position_part : PositionText → Part
 position_part (Digits ds) = integer ds
 position_part (Word w) = row (absent begins_raw ∷ identifier w ∷ [])
 position_part (RawWord w) = row (fixed (codes "r#") ∷ identifier w ∷ [])
 position_part NoPosition = absent (λ t. first_passes is_ascii_digit t || first_passes is_id_start t)
 
--- fill := character, which an align follows
+-- fill := character, and only where an alignment follows it.
 abbrev pub fill_part : Option ℕ → Part
 fill_part (Some c) = before (c ∷ []) (first_passes is_align)
 fill_part None = absent (λ t. first_passes is_align (behind_first t))
@@ -37,6 +45,7 @@ align_part Right = fixed (codes ">")
 align_part Center = fixed (codes "^")
 align_part Unknown = absent (first_passes is_align)
 
+-- The character is a sign: `+` or `-`.
 abbrev pub is_sign : ℕ → Bool
 is_sign c = (c == code "+") || (c == code "-")
 
@@ -52,19 +61,20 @@ alternate_part true = fixed (codes "#")
 alternate_part false = absent (begins_with (code "#"))
 
 pub data CountText : Type 0 where
-  -- `10`
+  -- A number: `10`.
   NumberCount : Text → CountText
-  -- `10$`
+  -- The number of an argument: `10$`.
   IndexCount : Text → CountText
-  -- `a$`
+  -- The name of an argument: `a$`.
   NameCount : Text → CountText
   NoCount : CountText
 
--- a name in front of its `$`
+-- A name that is followed by its `$`.
 abbrev pub name_part : Text → Part
 name_part w = identifier_before (begins_with (code "$")) w
 
--- count := integer | parameter, parameter := argument '$': absent where neither digits nor such a name begin
+-- count := integer | parameter, parameter := argument '$'. A count is left out only where neither
+-- digits begin nor a name that is followed by `$`.
 abbrev pub count_part : CountText → Part
 count_part (NumberCount ds) = row (integer ds ∷ absent (begins_with (code "$")) ∷ [])
 count_part (IndexCount ds) = row (integer ds ∷ fixed (codes "$") ∷ [])
@@ -72,14 +82,14 @@ count_part (NameCount w) = row (name_part w ∷ fixed (codes "$") ∷ [])
 count_part NoCount = absent (λ t. first_passes is_ascii_digit t || begins_with_part name_part t)
 
 pub data WidthText : Type 0 where
-  -- the flag `0` and a count
+  -- The flag `0` and a count.
   PaddedWidth : CountText → WidthText
-  -- `0$`, which is no flag
+  -- `0$`, the argument with the number 0. Its `0` is not the flag.
   ZeroIndexWidth : WidthText
-  -- a count
+  -- A count without the flag.
   PlainWidth : CountText → WidthText
 
--- ['0'] [width], width := count: a `0` in front is the flag, unless a `$` follows
+-- ['0'] [width], width := count. A `0` at the start is the flag, unless a `$` follows it.
 abbrev pub width_part : WidthText → Part
 width_part (PaddedWidth k) = row (unless (codes "0") (begins_with (code "$")) ∷ count_part k ∷ [])
 width_part ZeroIndexWidth = fixed (codes "0$")
@@ -89,27 +99,30 @@ pub data PrecisionText : Type 0 where
   NoPrecision : PrecisionText
   -- `.*`
   StarPrecision : PrecisionText
-  -- `.` and a count
+  -- `.` and a count.
   DotPrecision : CountText → PrecisionText
 
 -- ['.' precision], precision := count | '*'
 abbrev pub precision_part : PrecisionText → Part
 precision_part NoPrecision = absent (begins_with (code "."))
 precision_part StarPrecision = fixed (codes ".*")
-precision_part (DotPrecision k) = row (unless (codes ".") (begins_with (code "*")) ∷ count_part k ∷ [])
+precision_part (DotPrecision k) =
+    row (unless (codes ".") (begins_with (code "*")) ∷ count_part k ∷ [])
 
 pub data TypeText : Type 0 where
   -- `x?` or `X?`
   DebugHexType : DebugHex → TypeText
   -- `x`, `X` or `?`
   CharacterType : ℕ → TypeText
-  -- a word, which may be empty
+  -- A word. It may be empty.
   WordType : Text → TypeText
 
+-- The character is a type by itself: `x`, `X` or `?`.
 abbrev pub is_type_character : ℕ → Bool
 is_type_character c = (c == code "x") || (c == code "X") || (c == code "?")
 
--- type := '' | '?' | 'x?' | 'X?' | identifier: `x` and `X` begin no longer word, and are alone only where no `?` follows
+-- type := '' | '?' | 'x?' | 'X?' | identifier. No longer word begins with `x` or `X`: each is a
+-- type by itself, or with the `?` that follows it.
 abbrev pub type_part : TypeText → Part
 type_part (DebugHexType Lower) = fixed (codes "x?")
 type_part (DebugHexType Upper) = fixed (codes "X?")
@@ -120,6 +133,7 @@ type_part (CharacterType c) = record {
 }
 type_part (WordType w) = row (absent (first_passes is_type_character) ∷ optional_identifier w ∷ [])
 
+-- The parts of a format specification as they are written.
 pub record FormatText : Type 0 where
   pub fill : Option ℕ
   pub align : Alignment
@@ -131,20 +145,22 @@ pub record FormatText : Type 0 where
 
 -- format_spec := [[fill]align][sign]['#']['0'][width]['.' precision]type
 abbrev pub format_part : FormatText → Part
-format_part p = row (fill_part p.fill ∷ align_part p.align ∷ sign_part p.sign ∷ alternate_part p.alternate
+format_part p = row (fill_part p.fill ∷ align_part p.align ∷ sign_part p.sign
+    ∷ alternate_part p.alternate
     ∷ width_part p.width ∷ precision_part p.precision ∷ type_part p.type ∷ [])
 
--- what stands in the place of a specification
+-- What is written where a specification may be.
 pub data SpecText : Type 0 where
-  -- no colon
+  -- Nothing: there is no colon.
   Default : SpecText
   Formatting : FormatText → SpecText
-  -- the modifier of inline assembly
+  -- The modifier of a placeholder in an assembly template.
   Modifier : Text → SpecText
-  -- the text in a diagnostic
+  -- The text after the colon of a placeholder in a diagnostic.
   DiagnosticText : Text → SpecText
 
--- [ ':' format_spec ], and in the other modes another thing after the colon
+-- [ ':' format_spec ] in the mode Format. In the mode InlineAsm a word or nothing follows the
+-- colon, in the two modes of diagnostics any text without braces.
 abbrev pub spec_part : Mode → SpecText → Part
 spec_part mode Default = absent (begins_with (code ":"))
 spec_part Format (Formatting p) = row (fixed (codes ":") ∷ format_part p ∷ [])
@@ -160,27 +176,31 @@ spec_part DiagnosticNamed (Formatting p) = never
 spec_part DiagnosticNamed (Modifier w) = never
 spec_part DiagnosticNamed (DiagnosticText u) = row (fixed (codes ":") ∷ run is_no_brace u ∷ [])
 
--- what stands between the braces, but for white space in front of the closing one
+-- What is between the braces of a placeholder, without the white space before the closing brace.
 pub record FieldText : Type 0 where
   pub position : PositionText
-  -- white space
+  -- The white space after the position.
   pub space : Text
   pub spec : SpecText
 
+-- A field: a position, white space and a specification.
 abbrev pub field_part : Mode → FieldText → Part
-field_part mode a = row (position_part a.position ∷ run is_whitespace a.space ∷ spec_part mode a.spec ∷ [])
+field_part mode a = row (position_part a.position ∷ run is_whitespace a.space
+    ∷ spec_part mode a.spec ∷ [])
 
--- format := '{' [ argument ] [ ':' format_spec ] [ ws ] * '}', with white space in front of the colon too
+-- format := '{' [ argument ] [ ':' format_spec ] [ ws ] * '}'. White space may also be before the
+-- colon.
 abbrev pub placeholder_part : Mode → FieldText → Text → Part
-placeholder_part mode a space = row (fixed (codes "{") ∷ field_part mode a ∷ run is_whitespace space ∷ fixed (codes "}") ∷ [])
+placeholder_part mode a space =
+    row (fixed (codes "{") ∷ field_part mode a ∷ run is_whitespace space ∷ fixed (codes "}") ∷ [])
 
--- a piece of a format string
+-- A piece of a format string, as it is written.
 pub data PieceText : Type 0 where
-  -- characters without braces
+  -- Characters without braces.
   RunText : Text → PieceText
-  -- a brace twice, and characters without braces
+  -- A brace twice, and then characters without braces.
   DoubledText : ℕ → Text → PieceText
-  -- a placeholder, with the white space in front of its closing brace
+  -- A placeholder, with the white space before its closing brace.
   PlaceholderText : FieldText → Text → PieceText
 
 -- format_string := text [ maybe_format text ] *, maybe_format := '{' '{' | '}' '}' | format
@@ -189,15 +209,15 @@ piece_part mode (RunText u) = some_run is_no_brace u
 piece_part mode (DoubledText b u) = row (doubled is_brace b ∷ run is_no_brace u ∷ [])
 piece_part mode (PlaceholderText a space) = placeholder_part mode a space
 
--- a single brace and the field after it, whether a brace closes it or not
+-- An opening brace that is not doubled and the field after it, with a closing brace or without.
 abbrev pub opened_part : Mode → FieldText → Part
 opened_part mode a = row (unless (codes "{") (begins_with (code "{")) ∷ field_part mode a ∷ [])
 
--- t is cut into the field a and the rest r
+-- The text t is the field a followed by r.
 abbrev pub IsCut : Mode → Text → FieldText → Text → Type 0
 IsCut mode t a r = IsPart t (field_part mode a) r
 
--- and in no other way
+-- The text t is the field a followed by r, and no other field followed by any other rest.
 pub record IsOnlyCut (mode : Mode) (t : Text) (a : FieldText) (r : Text) : Type 0 where
   pub is_cut : IsCut mode t a r
   pub is_only : (b : FieldText) (s : Text) → IsCut mode t b s → (b ≡ a) × (s ≡ r)

@@ -1,37 +1,43 @@
--- The words that are tried for a count: where no `$` follows, such a word is given back, and read again as what it is. Each is told by
--- the rest at whose front it stands.
+-- The words that are tried for a count. If no `$` follows such a word, it is given back and read
+-- again as what it is. Each is given by what is left of the input at its start.
 use Rattle.std.specs.Prelude.{◌++◌, if◌then◌else◌, List, [], ◌∷◌}
-use Rattle.rustc_parse_format.specs.Characters.{Text, behind_first, behind_word, first_passes, is_id_start}
+use Rattle.rustc_parse_format.specs.Characters.{Text, behind_first, behind_word, first_passes}
+use Rattle.rustc_parse_format.specs.Characters.{is_id_start}
 use Rattle.rustc_parse_format.specs.Back.{Back, given_back}
-use Rattle.rustc_parse_format.specs.Syntax.{CountText, NoCount, WidthText, PaddedWidth, ZeroIndexWidth, PlainWidth, PrecisionText, NoPrecision}
-use Rattle.rustc_parse_format.specs.Syntax.{StarPrecision, DotPrecision, FormatText, SpecText, Formatting}
+use Rattle.rustc_parse_format.specs.Syntax.{CountText, NoCount, WidthText, PaddedWidth}
+use Rattle.rustc_parse_format.specs.Syntax.{ZeroIndexWidth, PlainWidth, PrecisionText, NoPrecision}
+use Rattle.rustc_parse_format.specs.Syntax.{StarPrecision, DotPrecision, FormatText, SpecText}
+use Rattle.rustc_parse_format.specs.Syntax.{Formatting}
 use Rattle.rustc_parse_format.specs.Meaning.{from_width, from_precision}
 
--- after these words were given back, one after the other
+-- What has been given back after these words, one after the other.
 abbrev pub tried : Back → List Text → Back
 tried b [] = b
 tried b (t ∷ ts) = tried (given_back (behind_word t) t b) ts
 
--- a count that stands at t
+-- The word that is tried for a count at t, if it is not one.
 abbrev pub count_tries : Text → CountText → List Text
 count_tries t NoCount = if first_passes is_id_start t then t ∷ [] else []
 count_tries t k = []
 
+-- The words that are tried in a width at t.
 abbrev pub width_tries : Text → WidthText → List Text
 width_tries t (PaddedWidth k) = count_tries (behind_first t) k
 width_tries t ZeroIndexWidth = []
 width_tries t (PlainWidth k) = count_tries t k
 
+-- The words that are tried in a precision at t.
 abbrev pub precision_tries : Text → PrecisionText → List Text
 precision_tries t NoPrecision = []
 precision_tries t StarPrecision = []
 precision_tries t (DotPrecision k) = count_tries (behind_first t) k
 
--- the format specification in front of r
+-- The words that are tried in a format specification that is followed by r.
 unfoldable pub format_tries : FormatText → Text → List Text
-format_tries p r = width_tries (from_width p r) p.width ++ precision_tries (from_precision p r) p.precision
+format_tries p r = width_tries (from_width p r) p.width
+    ++ precision_tries (from_precision p r) p.precision
 
--- the specification in front of r
+-- The words that are tried in a specification that is followed by r.
 abbrev pub spec_tries : SpecText → Text → List Text
 spec_tries (Formatting p) r = format_tries p r
 spec_tries s r = []

@@ -1,4 +1,5 @@
--- The pieces of a format string, over any kind of span: a pair of marks, a range of bytes, or nothing.
+-- The pieces of a format string, over any type of span: a pair of marks, a byte range, or nothing.
+-- The types are those of the Rust crate `rustc_parse_format`.
 use Rattle.std.specs.Prelude.{ℕ, Bool, true, false, [], Option, None, option_map}
 use Rattle.rustc_parse_format.specs.Characters.{Text}
 
@@ -6,40 +7,47 @@ pub data Mode : Type 0 where
   Format : Mode
   InlineAsm : Mode
   Diagnostic : Mode
-  -- a diagnostic whose arguments are names and nothing else
+  -- A diagnostic in which each argument is a name and has nothing after its colon.
   DiagnosticNamed : Mode
 
--- every argument has to be a name, with nothing asked of how it is written
+-- The mode accepts only arguments that are names. It asks nothing of how a name is spelled.
 abbrev pub wants_names : Mode → Bool
 wants_names Format = false
 wants_names InlineAsm = false
 wants_names Diagnostic = false
 wants_names DiagnosticNamed = true
 
+-- The alignment that a specification asks for. `Unknown` means that it asks for none.
 pub data Alignment : Type 0 where
   Left : Alignment
   Right : Alignment
   Center : Alignment
   Unknown : Alignment
 
+-- The sign flag, `+` or `-`.
 pub data Sign : Type 0 where
   Plus : Sign
   Minus : Sign
 
+-- The case of the hexadecimal digits in `x?` and `X?`.
 pub data DebugHex : Type 0 where
   Lower : DebugHex
   Upper : DebugHex
 
+-- The argument that is meant: the next one, with the number that it takes; the one with a given
+-- number; or the one with a name.
 pub data Position : Type 0 where
   Implicit : ℕ → Position
   Index : ℕ → Position
   Named : Text → Position
 
+-- The position is a name.
 abbrev pub is_named : Position → Bool
 is_named (Implicit n) = false
 is_named (Index n) = false
 is_named (Named w) = true
 
+-- A width or a precision: a number, an argument by its name, by its number or by `*`, or none.
 pub data Count (Span : Type 0) : Type 0 where
   Is : ℕ → Count Span
   Name : Text → Span → Count Span
@@ -47,6 +55,7 @@ pub data Count (Span : Type 0) : Type 0 where
   Star : ℕ → Count Span
   Implied : Count Span
 
+-- A format specification.
 pub record Spec (Span : Type 0) : Type 0 where
   pub fill : Option ℕ
   pub fill_span : Option Span
@@ -62,21 +71,23 @@ pub record Spec (Span : Type 0) : Type 0 where
   pub ty : Text
   pub ty_span : Option Span
 
+-- A placeholder: which argument it means, where that is written, and how to format it.
 pub record Argument (Span : Type 0) : Type 0 where
   pub position : Position
   pub position_span : Span
   pub format : Spec Span
 
+-- What a call returns: text, or an argument to be formatted.
 pub data Piece (Span : Type 0) : Type 0 where
   Lit : Text → Piece Span
   NextArgument : Argument Span → Piece Span
 
--- text, and no placeholder
+-- The piece is text, and not a placeholder.
 abbrev pub IsText : {A : Type 0} → Piece A → Type 0
 IsText (Lit t) = Unit {0}
 IsText (NextArgument a) = ⊥
 
--- the specification where nothing is asked for
+-- The specification that asks for nothing, as `{}` has it.
 abbrev pub default_spec : {A : Type 0} → Spec A
 default_spec = record {
   fill = None;
@@ -94,7 +105,7 @@ default_spec = record {
   ty_span = None;
 }
 
--- Each span changed by a function.
+-- Applies a function to each span of a count.
 abbrev pub map_count : {A B : Type 0} → (A → B) → Count A → Count B
 map_count f (Is n) = Is n
 map_count f (Name w s) = Name w (f s)
@@ -102,6 +113,7 @@ map_count f (Param n) = Param n
 map_count f (Star n) = Star n
 map_count f Implied = Implied
 
+-- Applies a function to each span of a specification.
 abbrev pub map_spec : {A B : Type 0} → (A → B) → Spec A → Spec B
 map_spec f s = record {
   fill = s.fill;
@@ -119,17 +131,24 @@ map_spec f s = record {
   ty_span = option_map f s.ty_span;
 }
 
+-- Applies a function to each span of an argument.
 abbrev pub map_argument : {A B : Type 0} → (A → B) → Argument A → Argument B
-map_argument f a = record { position = a.position; position_span = f a.position_span; format = map_spec f a.format }
+map_argument f a = record {
+  position = a.position;
+  position_span = f a.position_span;
+  format = map_spec f a.format;
+}
 
+-- Applies a function to each span of a piece.
 abbrev pub map_piece : {A B : Type 0} → (A → B) → Piece A → Piece B
 map_piece f (Lit t) = Lit t
 map_piece f (NextArgument a) = NextArgument (map_argument f a)
 
--- Without its spans: each is left out, and each optional one is not there.
+-- A count without its spans: each span becomes the unit value.
 abbrev pub bare_count : {A : Type 0} → Count A → Count (Unit {0})
 bare_count k = map_count (λ s. tt) k
 
+-- A specification without its spans: each optional span becomes None.
 abbrev pub bare_spec : {A : Type 0} → Spec A → Spec (Unit {0})
 bare_spec s = record {
   fill = s.fill;
@@ -147,9 +166,11 @@ bare_spec s = record {
   ty_span = None;
 }
 
+-- An argument without its spans.
 abbrev pub bare_argument : {A : Type 0} → Argument A → Argument (Unit {0})
 bare_argument a = record { position = a.position; position_span = tt; format = bare_spec a.format }
 
+-- A piece without its spans.
 abbrev pub bare : {A : Type 0} → Piece A → Piece (Unit {0})
 bare (Lit t) = Lit t
 bare (NextArgument a) = NextArgument (bare_argument a)

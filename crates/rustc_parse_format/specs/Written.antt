@@ -1,18 +1,26 @@
--- How a character is written in a message and in a quoted text, as bytes. ASCII characters are escaped as Rust escapes them.
+-- How a character is written in a message and in a quoted text, as bytes. ASCII characters are
+-- escaped as by `char::escape_debug`.
 use Prim.Native.Char.{code}
-use Rattle.std.specs.Prelude.{ℕ, false, ◌++◌, ◌||◌, ◌==◌, if◌then◌else◌, nat_lt, List, Option, Some, None, codes, encode_utf8}
+use Rattle.std.specs.Prelude.{ℕ, false, ◌++◌, ◌||◌, ◌==◌, if◌then◌else◌, nat_lt, List, Option, Some}
+use Rattle.std.specs.Prelude.{None, codes, encode_utf8}
 use Rattle.std.specs.Fmt.{digits}
 
--- a character with an escape of its own
+-- The character's own escape, such as `\n`. None if it has none.
 abbrev pub short_escape : ℕ → Option (List ℕ)
 short_escape c =
-    if c == code "\0" then Some (codes "\\0") else (if c == code "\t" then Some (codes "\\t") else (if c == code "\r" then Some (codes "\\r")
-    else (if c == code "\n" then Some (codes "\\n") else (if c == code "'" then Some (codes "\\'") else (if c == code "\"" then Some (codes "\\\"")
+    if c == code "\0" then Some (codes "\\0")
+    else (if c == code "\t" then Some (codes "\\t")
+    else (if c == code "\r" then Some (codes "\\r")
+    else (if c == code "\n" then Some (codes "\\n")
+    else (if c == code "'" then Some (codes "\\'") else (if c == code "\"" then Some (codes "\\\"")
     else (if c == code "\\" then Some (codes "\\\\") else None))))))
 
--- another ASCII control is written by its code, and any other character as itself
+-- A character without its own escape. An ASCII control character is written by its code, as
+-- `\u{7f}`, and any other character as itself.
 abbrev pub plainly_written : ℕ → List ℕ
-plainly_written c = if nat_lt c (code " ") || c == code "\u{7f}" then codes "\\u{" ++ digits 16 false c ++ codes "}" else encode_utf8 c
+plainly_written c = if nat_lt c (code " ") || c == code "\u{7f}"
+    then codes "\\u{" ++ digits 16 false c ++ codes "}" else encode_utf8 c
 
+-- How a character is written in a message and in a quoted text.
 unfoldable pub written : ℕ → List ℕ
 written c = elim (short_escape c) [ Some s ↦ s | None ↦ plainly_written c ]

@@ -1,151 +1,149 @@
-//! One call of the parser, on a reader: a placeholder or what is none, and the faults as they are found.
-
-ghost use Rattle.std.specs.Prelude.{[], ◌++◌, ◌+◌, ◌<◌, ◌^◌, ◌∷◌, ◌≡◌, ◌≢◌, IfOk, chars, if◌then◌else◌};
-ghost use Rattle.std.specs.Prelude.{IsOk, length, OnErr, OnOk, option_map, Some, false, true};
-ghost use Rattle.rustc_parse_format.specs.Call.{call};
-ghost use Rattle.rustc_parse_format.specs.Characters.{Text, begins_with, behind_first, first};
-ghost use Rattle.rustc_parse_format.specs.Faults.{brace_fill, no_brace};
-ghost use Rattle.rustc_parse_format.specs.Marks.{End, Span, over_first, up_to};
-ghost use Rattle.rustc_parse_format.specs.Reads.{Reaches};
-ghost use Rattle.rustc_parse_format.specs.Seen.{pair, seen_argument, seen_mode, seen_spec};
-ghost use Rattle.rustc_parse_format.specs.SeenFaults.{seen_fault};
-ghost use Rattle.rustc_parse_format.specs.Midway.{FindsNothing, behind_closing, opens_placeholder, read_call};
-ghost use Rattle.rustc_parse_format.specs.Types.{Argument as ArgumentValue, Mode, Lit, NextArgument, default_spec, map_argument};
-ghost use Rattle.rustc_parse_format.specs.World.{number_of, piece_in, place_of};
+//! One call of the parser: it reads a placeholder, or what is not one, and adds faults as they are
+//! found.
 
 use crate::faults::Fault;
-use crate::placeholder::read_argument;
 use crate::reader::Reader;
-use crate::recover::recover;
-use crate::types::{Argument, FormatSpec, ParseMode};
+use crate::types::{Argument, ParseMode};
 use std::alloc::AllocError;
 use std::ops::Range;
 
-/// The span of the fill, where the fill is a closing brace.
-fn brace_fill(format: &FormatSpec<'_>) -> Option<Range<usize>>
-    ensures { option_map pair result ≡ brace_fill format.now.fill (option_map pair format.now.fill_span) }
-{
-    match (&format.fill, &format.fill_span) {
-        (Some('}'), Some(span)) => Some(span.start..span.end),
-        _ => None,
-    }
-}
+impl<'input> Reader<'input> {
+    ghost use Rattle.std.specs.Prelude.{[], ◌++◌, ◌+◌, ◌<◌, ◌^◌, ◌∷◌, ◌≡◌, IfOk, chars};
+    ghost use Rattle.std.specs.Prelude.{if◌then◌else◌, IsOk, length, OnErr, OnOk, option_map, Some};
+    ghost use Rattle.std.specs.Prelude.{false, true};
+    ghost use Rattle.rustc_parse_format.specs.Call.{call};
+    ghost use Rattle.rustc_parse_format.specs.Characters.{Text, begins_with, behind_first, first};
+    ghost use Rattle.rustc_parse_format.specs.Faults.{brace_fill, no_brace};
+    ghost use Rattle.rustc_parse_format.specs.Marks.{End, Span, over_first, up_to};
+    ghost use Rattle.rustc_parse_format.specs.Reads.{Reaches};
+    ghost use Rattle.rustc_parse_format.specs.Seen.{pair, seen_argument, seen_mode, seen_spec};
+    ghost use Rattle.rustc_parse_format.specs.Midway.{FindsNothing, behind_closing};
+    ghost use Rattle.rustc_parse_format.specs.Midway.{opens_placeholder, read_call};
+    ghost use Rattle.rustc_parse_format.specs.Types.{Argument as ArgumentValue, Mode, Lit};
+    ghost use Rattle.rustc_parse_format.specs.Types.{NextArgument, default_spec, map_argument};
+    ghost use Rattle.rustc_parse_format.specs.World.{number_of, piece_in, place_of};
 
-/// The fault where no brace closes.
-fn no_brace<'input>(
-    fill: Option<Range<usize>>,
-    next: Option<char>,
-    at: usize,
-    opening: Range<usize>,
-) -> Fault<'input>
-    ensures { seen_fault result ≡ no_brace (option_map pair fill) next (at, at) (pair opening) }
-{
-    match fill {
-        Some(fill) => Fault::FillBrace(next, at..at, fill),
-        None => Fault::MissingBrace(next, at..at, opening),
+    /// Adds the fault that no brace closes `argument`, whose opening brace has the byte range
+    /// `opening`. Returns `Err` if an allocation fails.
+    fn missing_closing_brace(
+        &mut self,
+        argument: &Argument<'input>,
+        opening: Range<usize>,
+    ) -> Result<(), AllocError>
+        ensures state { (let f = seen_spec argument.now.format in
+            OnOk result (self.new ≡ record self.old {
+              faults = self.old.faults ++ no_brace (brace_fill f.fill f.fill_span)
+                  (first self.old.rest)
+                  (place_of self.old.world (up_to self.old.rest self.old.rest)) (pair opening)
+                  ∷ [];
+            })) }
+        ensures err { OnErr result (self.new.source ≡ self.old.source) }
+    {
+        let (next, at) = (self.cursor.peek(), self.cursor.start());
+        match (&argument.format.fill, &argument.format.fill_span) {
+            (Some('}'), Some(fill)) => {
+                self.note(Fault::FillBrace(next, at..at, fill.start..fill.end))
+            }
+            _ => self.note(Fault::MissingBrace(next, at..at, opening)),
+        }
     }
-}
 
-/// Notes that no brace closes this argument. The placeholder opens at `opening`.
-fn note_missing<'input>(
-    argument: &Argument<'input>,
-    opening: Range<usize>,
-    reader: &mut Reader<'input>,
-) -> Result<(), AllocError>
-    ensures state { OnOk result (reader.new ≡ record reader.old {
-      faults = reader.old.faults ++ no_brace (brace_fill (seen_spec argument.now.format).fill (seen_spec argument.now.format).fill_span)
-          (first reader.old.rest) (place_of reader.old.world (up_to reader.old.rest reader.old.rest)) (pair opening) ∷ [];
-    }) }
-    ensures err { OnErr result (reader.new.source ≡ reader.old.source) }
-{
-    let fill = brace_fill(&argument.format);
-    let fault = no_brace(fill, reader.cursor.peek(), reader.cursor.start(), opening);
-    reader.note(fault)
-}
-
-/// Moves over the closing brace of the placeholder that starts at a byte. In a source literal it has its place.
-fn take_brace<'input>(start: usize, reader: &mut Reader<'input>)
-    ensures state { reader.new ≡ record reader.old {
-      rest = behind_first reader.old.rest;
-      closed = if reader.old.world.has_source then Some (start, number_of reader.old.world (End (length reader.old.rest))) else reader.old.closed;
-    } }
-{
-    if reader.cursor.is_source_literal() {
-        let brace = reader.cursor.take_place();
-        reader.closed = Some(start..brace.end);
-    } else {
-        reader.cursor.advance();
+    /// Moves past the closing brace of the placeholder that starts at the byte offset `start`. In a
+    /// source literal, records the byte range of the placeholder.
+    fn consume_closing_brace(&mut self, start: usize)
+        ensures state { self.new ≡ record self.old {
+          rest = behind_first self.old.rest;
+          closed = if self.old.world.has_source
+              then Some (start, number_of self.old.world (End (length self.old.rest)))
+              else self.old.closed;
+        } }
+    {
+        if self.cursor.is_source_literal() {
+            let brace = self.cursor.consume_place();
+            self.closed = Some(start..brace.end);
+        } else {
+            self.cursor.skip_char();
+        }
     }
-}
 
-/// Moves over the closing brace, or finds that it is missing and goes on from there. The placeholder opens at `opening`.
-#[tactic(auto, using(crate::proofs::Steps::part_le))]
-fn close<'input>(
-    mode: ParseMode,
-    argument: &Argument<'input>,
-    opening: Range<usize>,
-    reader: &mut Reader<'input>,
-) -> Result<(), AllocError>
-    requires numbers { reader.old.next + length reader.old.rest < 2 ^ 64 }
-    ensures state { OnOk result ((o : Text) (a : ArgumentValue Span) → pair opening ≡ place_of reader.old.world (over_first o)
-        → seen_argument argument.now ≡ map_argument (place_of reader.old.world) a
-        → reader.new ≡ behind_closing (seen_mode mode) o a reader.old) }
-    ensures source { reader.new.source ≡ reader.old.source }
-    ensures spare { begins_with 125 reader.old.rest ≡ true → IsOk result }
-{
-    if reader.cursor.is_next('}') {
-        take_brace(opening.start, reader);
-        return Ok(());
+    /// Moves past the closing brace. If it is missing, adds that fault and recovers. The opening
+    /// brace has the byte range `opening`. Returns `Err` if an allocation fails.
+    #[tactic(auto, using(crate::proofs::Readers::Steps::part_le))]
+    fn closing_brace(
+        &mut self,
+        mode: ParseMode,
+        argument: &Argument<'input>,
+        opening: Range<usize>,
+    ) -> Result<(), AllocError>
+        requires numbers { self.old.next + length self.old.rest < 2 ^ 64 }
+        ensures state { OnOk result ((o : Text) (a : ArgumentValue Span)
+            → pair opening ≡ place_of self.old.world (over_first o)
+            → seen_argument argument.now ≡ map_argument (place_of self.old.world) a
+            → self.new ≡ behind_closing (seen_mode mode) o a self.old) }
+        ensures source { self.new.source ≡ self.old.source }
+        ensures spare { begins_with 125 self.old.rest ≡ true → IsOk result }
+    {
+        if self.cursor.is_next('}') {
+            self.consume_closing_brace(opening.start);
+            return Ok(());
+        }
+        self.missing_closing_brace(argument, opening.start..opening.end)?;
+        self.recover(mode, argument, opening)
     }
-    note_missing(argument, opening.start..opening.end, reader)?;
-    recover(mode, argument, opening, reader)
-}
 
-/// Reads the placeholder at the front into a blank argument.
-#[tactic(auto, using(crate::proofs::Steps::part_le, crate::proofs::Placeholders::placeholder_given))]
-pub fn read_placeholder<'input>(
-    mode: ParseMode,
-    into: &mut Argument<'input>,
-    reader: &mut Reader<'input>,
-) -> Result<(), AllocError>
-    requires blank { seen_spec into.old.format ≡ default_spec }
-    requires opens { opens_placeholder reader.old.rest ≡ true }
-    requires numbers { reader.old.next + length reader.old.rest < 2 ^ 64 }
-    ensures value { OnOk result (Some (NextArgument (seen_argument into.new)) ≡ option_map (piece_in reader.old.world)
-        (call (seen_mode mode) reader.old.next reader.old.rest).piece) }
-    ensures reads { let k = call (seen_mode mode) reader.old.next reader.old.rest in
-        Reaches reader.old result reader.new (read_call reader.old k) (FindsNothing reader.old k.faults k.texts) }
-{
-    let opening = reader.cursor.take_place();
-    read_argument(mode, into, reader)?;
-    reader.cursor.skip_white();
-    close(mode, into, opening, reader)?;
-    Ok(())
-}
+    /// Reads a placeholder, with its opening brace, into `into`, whose format is still the default.
+    /// Returns `Err` if an allocation fails.
+    #[tactic(auto, using(crate::proofs::Readers::Steps::part_le, crate::proofs::Readers::Placeholders::placeholder_given))]
+    pub fn placeholder(
+        &mut self,
+        mode: ParseMode,
+        into: &mut Argument<'input>,
+    ) -> Result<(), AllocError>
+        requires blank { seen_spec into.old.format ≡ default_spec }
+        requires opens { opens_placeholder self.old.rest ≡ true }
+        requires numbers { self.old.next + length self.old.rest < 2 ^ 64 }
+        ensures value { (let k = call (seen_mode mode) self.old.next self.old.rest in
+            OnOk result (Some (NextArgument (seen_argument into.new))
+            ≡ option_map (piece_in self.old.world) k.piece)) }
+        ensures reads { let k = call (seen_mode mode) self.old.next self.old.rest in
+            Reaches self.old result self.new (read_call self.old k)
+            (FindsNothing self.old k.faults k.texts) }
+    {
+        let opening = self.cursor.consume_place();
+        self.argument(mode, into)?;
+        self.cursor.ws();
+        self.closing_brace(mode, into, opening)?;
+        Ok(())
+    }
 
-/// Reads what is no placeholder: text, or nothing at the end and over a closing brace that closes nothing.
-#[tactic(auto, using(crate::proofs::Steps::part_le), unfolding(crate::specs::Call::call))]
-pub fn read_bare<'input>(reader: &mut Reader<'input>) -> Result<Option<&'input str>, AllocError>
-    requires bare { opens_placeholder reader.old.rest ≡ false }
-    ensures piece { IfOk result (λ p. (m : Mode) → option_map (λ t. Lit (chars t.now)) p ≡ option_map (piece_in reader.old.world)
-        (call m reader.old.next reader.old.rest).piece) }
-    ensures state { OnOk result ((m : Mode) → reader.new ≡ read_call reader.old (call m reader.old.next reader.old.rest)) }
-    ensures spare { (m : Mode) → (let k = call m reader.old.next reader.old.rest in FindsNothing reader.old k.faults k.texts → IsOk result) }
-    ensures source { reader.new.source ≡ reader.old.source }
-{
-    let Some(c) = reader.cursor.peek() else {
-        return Ok(None);
-    };
-    if c != '{' && c != '}' {
-        let text = reader.take_text()?;
-        return Ok(Some(text));
+    /// Reads what is not a placeholder. Returns the text, or `None` at the end of the input and
+    /// after a closing brace that closes nothing, which is a fault. Returns `Err` if an allocation
+    /// fails.
+    #[tactic(auto, using(crate::proofs::Readers::Steps::part_le), unfolding(crate::specs::Call::call))]
+    pub fn text(&mut self) -> Result<Option<&'input str>, AllocError>
+        requires bare { opens_placeholder self.old.rest ≡ false }
+        ensures piece { IfOk result (λ p. (m : Mode) → option_map (λ t. Lit (chars t.now)) p
+            ≡ option_map (piece_in self.old.world) (call m self.old.next self.old.rest).piece) }
+        ensures state { OnOk result ((m : Mode)
+            → self.new ≡ read_call self.old (call m self.old.next self.old.rest)) }
+        ensures spare { (m : Mode) → (let k = call m self.old.next self.old.rest in
+            FindsNothing self.old k.faults k.texts → IsOk result) }
+        ensures source { self.new.source ≡ self.old.source }
+    {
+        let Some(c) = self.cursor.peek() else {
+            return Ok(None);
+        };
+        if c != '{' && c != '}' {
+            let text = self.string()?;
+            return Ok(Some(text));
+        }
+        if c == '{' || self.cursor.is_ahead(c) {
+            self.cursor.skip_char();
+            let text = self.string_past_brace()?;
+            return Ok(Some(text));
+        }
+        let span = self.cursor.consume_place();
+        self.note(Fault::UnmatchedBrace(span))?;
+        Ok(None)
     }
-    if c == '{' || reader.cursor.goes_on_with(c) {
-        reader.cursor.advance();
-        let text = reader.take_text_behind_first()?;
-        return Ok(Some(text));
-    }
-    let span = reader.cursor.take_place();
-    reader.note(Fault::UnmatchedBrace(span))?;
-    Ok(None)
 }

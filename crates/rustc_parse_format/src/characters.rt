@@ -1,33 +1,37 @@
-//! Characters: their classes, and what stands at the front of a text. Of all that reads pieces, bytes and UTF-8 occur here, in
-//! `source` and in `cursor` alone.
+//! Classes of characters, and prefixes and suffixes of texts. Of all code that reads pieces, only
+//! this module, `source` and `cursor` work with bytes and UTF-8.
 
-ghost use Rattle.std.specs.Char.{digit_value, is_ascii_digit};
-ghost use Rattle.std.specs.Prelude.{◌%◌, ◌*◌, ◌++◌, ◌+◌, ◌<◌, ◌≡◌, bytes_eq, chars, codes, IsTrue, List, nat_lt, ℕ};
+ghost use Rattle.std.specs.Char.{digit_value, is_ascii_digit, is_whitespace};
+ghost use Rattle.std.specs.Prelude.{◌%◌, ◌*◌, ◌++◌, ◌+◌, ◌<◌, ◌≡◌, bytes_eq, chars, codes, IsTrue};
+ghost use Rattle.std.specs.Prelude.{List, nat_lt, ℕ};
 ghost use Rattle.rustc_parse_format.specs.Bytes.{IsFront, IsLeft, IsOfAscii};
-ghost use Rattle.rustc_parse_format.specs.Characters.{behind, behind_first, first, is_id_start, Text};
+ghost use Rattle.rustc_parse_format.specs.Characters.{behind, behind_first, first, first_passes};
+ghost use Rattle.rustc_parse_format.specs.Characters.{is_id_start, Text};
 ghost use Rattle.rustc_parse_format.specs.Classes.{passes};
 
 use crate::blocks::calm_front;
 
-/// A class of characters whose longest front is read.
+/// A class of characters. The longest prefix of a text that is made of them can be read at once.
 #[derive(Clone, Copy)]
 pub enum Class {
-    /// What may go on with a word.
+    /// Characters that can continue a word: `XID_Continue`.
     Continue,
-    /// `0` to `9`.
+    /// ASCII digits, `0` to `9`.
     Digit,
-    /// White space.
+    /// White space, as in `char::is_whitespace`.
     White,
-    /// All but braces.
+    /// All characters but braces.
     Text,
-    /// All but braces and newlines.
+    /// All characters but braces and newlines.
     Line,
+    /// All characters but backslashes.
+    Unescaped,
 }
 
 impl Class {
     ghost use Rattle.rustc_parse_format.specs.Classes.{passes};
 
-    /// The character is of the class.
+    /// Returns whether `c` is in the class.
     pub fn passes(self, c: char) -> bool
         ensures { result ≡ passes self c }
     {
@@ -37,11 +41,12 @@ impl Class {
             Class::White => c.is_whitespace(),
             Class::Text => c != '{' && c != '}',
             Class::Line => c != '{' && c != '}' && c != '\n',
+            Class::Unescaped => c != '\\',
         }
     }
 }
 
-/// The first character.
+/// Returns the first character, or `None` if the text is empty.
 #[inline(always)]
 pub fn first(text: &str) -> Option<char>
     ensures { result ≡ first (chars text.now) }
@@ -49,7 +54,7 @@ pub fn first(text: &str) -> Option<char>
     text.chars().next()
 }
 
-/// What is after the first character.
+/// Returns what is left after the first character, or an empty text if there is none.
 #[inline(always)]
 pub fn behind_first(text: &str) -> &str
     ensures rest { chars result.now ≡ behind_first (chars text.now) }
@@ -60,9 +65,24 @@ pub fn behind_first(text: &str) -> &str
     rest.as_str()
 }
 
-/// How many bytes stand in front of the first one that, taken for a character, is not of the class.
+/// Returns whether the first character is white space. Most often its first byte already shows that
+/// it is not.
+#[tactic(auto, using(crate::proofs::Bytes::ByteFronts::no_white))]
 #[inline(always)]
-fn run_width(bytes: &[u8], class: Class) -> usize
+pub fn begins_white(text: &str) -> bool
+    ensures { result ≡ first_passes is_whitespace (chars text.now) }
+{
+    let bytes = text.as_bytes();
+    if !bytes.is_empty() && bytes[0] > b' ' && bytes[0] < 127 {
+        return false;
+    }
+    first(text).is_some_and(|c| c.is_whitespace())
+}
+
+/// Returns the number of bytes before the first one that, taken as a character, is not in the
+/// class.
+#[inline(always)]
+pub fn run_width(bytes: &[u8], class: Class) -> usize
     ensures { IsFront (passes class) bytes.now result }
 {
     if bytes.is_empty() || !class.passes(bytes[0] as char) {
@@ -71,6 +91,7 @@ fn run_width(bytes: &[u8], class: Class) -> usize
     let seen = match class {
         Class::Text => calm_front(bytes, 1, b'{', b'}', b'}'),
         Class::Line => calm_front(bytes, 1, b'{', b'}', b'\n'),
+        Class::Unescaped => calm_front(bytes, 1, b'\\', b'\\', b'\\'),
         _ => 0,
     };
     for i in seen..bytes.len() {
@@ -81,7 +102,8 @@ fn run_width(bytes: &[u8], class: Class) -> usize
     bytes.len()
 }
 
-/// What is after the longest front of a class that has all but some of ASCII: so the bytes tell where it ends.
+/// Returns what is left after the longest prefix of characters in the class. The class has all
+/// characters outside ASCII, so the bytes alone show where the prefix ends.
 #[inline(always)]
 pub fn behind_run(text: &str, class: Class) -> &str
     requires { IsOfAscii (passes class) }
@@ -92,7 +114,7 @@ pub fn behind_run(text: &str, class: Class) -> &str
     &text[width..]
 }
 
-/// The text in front of `behind`, with which the text ends.
+/// Returns the part of `text` before its suffix `behind`.
 #[inline(always)]
 pub fn before<'a>(text: &'a str, behind: &str) -> &'a str
     requires { (u : Text) × (chars text.now ≡ u ++ chars behind.now) }
@@ -101,21 +123,22 @@ pub fn before<'a>(text: &'a str, behind: &str) -> &'a str
     &text[..text.len() - behind.len()]
 }
 
-/// The character may begin a word.
+/// Returns whether `c` can begin a word: `_` or `XID_Start`.
 pub fn is_id_start(c: char) -> bool
     ensures { result ≡ is_id_start c }
 {
     c == '_' || unicode_ident::is_xid_start(c)
 }
 
-/// The text is the word `_`.
+/// Returns whether the text is the word `_`.
 pub fn is_underscore(text: &str) -> bool
     ensures { result ≡ bytes_eq (chars text.now) (codes "_") }
 {
     first(text) == Some('_') && first(behind_first(text)).is_none()
 }
 
-/// The number with one more digit, modulo 65536, and whether that is above 65535.
+/// Returns the value of `number` with one more decimal digit, modulo 65536, and whether that value
+/// exceeds 65535.
 pub fn with_digit(number: u16, digit: char) -> (u16, bool)
     requires { IsTrue (is_ascii_digit digit) }
     ensures value { result.0 ≡ (number * 10 + digit_value digit) % 65536 }

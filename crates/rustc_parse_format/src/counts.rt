@@ -1,219 +1,238 @@
-//! Integers, words and counts, and the sizes of a format specification that are made of them: its width and its precision.
-
-ghost use Rattle.std.specs.Prelude.{[], ◌+◌, ◌++◌, ◌<◌, ◌^◌, ◌∷◌, ◌≡◌, bytes_eq, chars, codes};
-ghost use Rattle.std.specs.Prelude.{false, IfOk, if◌then◌else◌, length, option_map, true};
-ghost use Rattle.rustc_parse_format.specs.Characters.{behind_digits, behind_word, digits, first_passes, is_id_start, number, word};
-ghost use Rattle.rustc_parse_format.specs.Counts.{behind_name, count, precision, width};
-ghost use Rattle.rustc_parse_format.specs.Faults.{TooLarge, Underscore};
-ghost use Rattle.rustc_parse_format.specs.Marks.{End};
-ghost use Rattle.rustc_parse_format.specs.Meaning.{count_of, count_span, precision_of, precision_span, width_of, width_span};
-ghost use Rattle.rustc_parse_format.specs.PartFaults.{argument_faults, number_faults, precision_faults, width_faults, word_faults};
-ghost use Rattle.rustc_parse_format.specs.Seen.{pair, seen_count};
-ghost use Rattle.rustc_parse_format.specs.Reads.{Reaches, Reads};
-ghost use Rattle.rustc_parse_format.specs.Tries.{count_tries, precision_tries, width_tries};
-ghost use Rattle.rustc_parse_format.specs.Types.{map_count};
-ghost use Rattle.rustc_parse_format.specs.Values.{is_padded, number_after_precision};
-ghost use Rattle.rustc_parse_format.specs.Back.{IsFurthest};
-ghost use Rattle.rustc_parse_format.specs.World.{number_of, place_of};
+//! Reads integers, words and counts, and what is made of them: the width and the precision of a
+//! format specification.
 
 use crate::characters::is_underscore;
 use crate::faults::Fault;
 use crate::reader::Reader;
-use crate::types::Count;
+use crate::types::{Count, FormatSpec};
 use std::alloc::AllocError;
 use std::ops::Range;
 
-/// Notes digits that start at a byte, and whose number is above 65535. Their span takes in the next character.
-fn note_number<'input>(
-    reader: &mut Reader<'input>,
-    digits: &'input str,
-    over: bool,
-    start: usize,
-) -> Result<(), AllocError>
-    ensures notes { Reaches reader.old result reader.new (record reader.old {
-      faults = reader.old.faults ++ (if over
-          then TooLarge (chars digits.entry.now) (start, number_of reader.old.world (End (length reader.old.rest))) ∷ [] else []);
-    }) (over ≡ false) }
-{
-    if !over {
-        return Ok(());
-    }
-    let fault = Fault::TooLarge(digits, start..reader.cursor.stop());
-    reader.note(fault)
-}
+impl<'input> Reader<'input> {
+    ghost use Rattle.std.specs.Prelude.{[], ◌+◌, ◌<◌, ◌^◌, ◌≡◌, chars, false, IfOk, None, OnOk};
+    ghost use Rattle.std.specs.Prelude.{option_map, true};
+    ghost use Rattle.rustc_parse_format.specs.Characters.{behind_digits, behind_word, digits};
+    ghost use Rattle.rustc_parse_format.specs.Characters.{first_passes, is_id_start, number, word};
+    ghost use Rattle.rustc_parse_format.specs.Counts.{behind_name, count, precision, width};
+    ghost use Rattle.rustc_parse_format.specs.Meaning.{count_of, count_span, precision_of};
+    ghost use Rattle.rustc_parse_format.specs.Meaning.{precision_span, width_of, width_span};
+    ghost use Rattle.rustc_parse_format.specs.PartFaults.{argument_faults, number_faults};
+    ghost use Rattle.rustc_parse_format.specs.PartFaults.{precision_faults, width_faults};
+    ghost use Rattle.rustc_parse_format.specs.PartFaults.{word_faults};
+    ghost use Rattle.rustc_parse_format.specs.Seen.{pair, seen_count, seen_spec};
+    ghost use Rattle.rustc_parse_format.specs.Reads.{ReadsTo};
+    ghost use Rattle.rustc_parse_format.specs.Tries.{count_tries, precision_tries, width_tries};
+    ghost use Rattle.rustc_parse_format.specs.Types.{Implied, map_count};
+    ghost use Rattle.rustc_parse_format.specs.Values.{is_padded, number_after_precision};
+    ghost use Rattle.rustc_parse_format.specs.Back.{IsFurthest};
+    ghost use Rattle.rustc_parse_format.specs.World.{place_of};
 
-/// Notes a word that is `_`.
-fn note_word(reader: &mut Reader<'_>, word: &str, span: Range<usize>) -> Result<(), AllocError>
-    ensures notes { Reaches reader.old result reader.new (record reader.old {
-      faults = reader.old.faults ++ (if bytes_eq (chars word.now) (codes "_") then Underscore (pair span) ∷ [] else []);
-    }) (bytes_eq (chars word.now) (codes "_") ≡ false) }
-{
-    if is_underscore(word) {
-        return reader.note(Fault::Underscore(span));
-    }
-    Ok(())
-}
-
-/// Reads the integer at the front, where there is one: its number modulo 65536. One above 65535 is a fault.
-pub fn integer<'input>(reader: &mut Reader<'input>) -> Result<u16, AllocError>
-    ensures value { IfOk result (λ n. n ≡ number (digits reader.old.rest)) }
-    ensures reads { Reads reader.old result reader.new (behind_digits reader.old.rest) reader.old.next (number_faults reader.old.rest) [] }
-{
-    let start = reader.cursor.start();
-    let (digits, number, over) = reader.cursor.number();
-    note_number(reader, digits, over, start)?;
-    Ok(number)
-}
-
-/// Reads the word at the front, which may be empty. The word `_` is a fault.
-pub fn word<'input>(reader: &mut Reader<'input>) -> Result<&'input str, AllocError>
-    ensures value { IfOk result (λ w. chars w.now ≡ word reader.old.rest) }
-    ensures reads { Reads reader.old result reader.new (behind_word reader.old.rest) reader.old.next (word_faults reader.old.rest) [] }
-{
-    let start = reader.cursor.start();
-    let word = reader.cursor.word();
-    reader.cursor.settle();
-    let end = reader.cursor.start();
-    note_word(reader, word, start..end)?;
-    Ok(word)
-}
-
-/// Reads the name at the front, with its `$`. Without a `$` the word is left, and looked at all the same.
-#[tactic(auto, using(crate::proofs::Steps::part_le))]
-fn name_count<'input>(reader: &mut Reader<'input>) -> Result<Count<'input>, AllocError>
-    requires furthest { IsFurthest reader.old.rest reader.old.back }
-    requires word { first_passes is_id_start reader.old.rest ≡ true }
-    ensures value { IfOk result (λ k. seen_count k ≡ map_count (place_of reader.old.world)
-        (let k = behind_name reader.old.rest (word reader.old.rest) (behind_word reader.old.rest) in count_of reader.old.rest k.0 k.1)) }
-    ensures reads { Reads reader.old result reader.new (behind_name reader.old.rest (word reader.old.rest) (behind_word reader.old.rest)).1
-        reader.old.next (word_faults reader.old.rest) (count_tries reader.old.rest (behind_name reader.old.rest (word reader.old.rest) (behind_word reader.old.rest)).0) }
-{
-    let front = reader.cursor.checkpoint();
-    let start = reader.cursor.start();
-    let name = word(reader)?;
-    let span = start..reader.cursor.start();
-    if reader.cursor.take_char('$') {
-        return Ok(Count::CountIsName(name, span));
-    }
-    reader.cursor.go_back(front);
-    Ok(Count::CountImplied)
-}
-
-/// Reads the count at the front: a number, a number of an argument, a name of one, or none.
-#[tactic(auto, using(crate::proofs::Steps::part_le, crate::proofs::TriedParts::tried_parts, crate::proofs::Readers::read_nothing))]
-pub fn count<'input>(reader: &mut Reader<'input>) -> Result<Count<'input>, AllocError>
-    requires { IsFurthest reader.old.rest reader.old.back }
-    ensures value { IfOk result (λ k. seen_count k
-        ≡ map_count (place_of reader.old.world) (count_of reader.old.rest (count reader.old.rest).0 (count reader.old.rest).1)) }
-    ensures reads { Reads reader.old result reader.new (count reader.old.rest).1 reader.old.next (argument_faults reader.old.rest)
-        (count_tries reader.old.rest (count reader.old.rest).0) }
-{
-    if reader.cursor.starts_digit() {
-        let number = integer(reader)?;
-        if reader.cursor.take_char('$') {
-            return Ok(Count::CountIsParam(usize::from(number)));
+    /// Reads the ASCII digits at the cursor, if any, and returns their value modulo 65536. A value
+    /// above 65535 is a fault, whose span includes the character after the digits. Returns `Err` if
+    /// an allocation fails.
+    pub fn integer(&mut self) -> Result<u16, AllocError>
+        ensures value { IfOk result (λ n. n ≡ number (digits self.old.rest)) }
+        ensures reads { ReadsTo self.old result self.new (behind_digits self.old.rest) self.old.next
+            (number_faults self.old.rest) [] }
+    {
+        let start = self.cursor.start();
+        let (digits, number, over) = self.cursor.consume_digits();
+        if !over {
+            return Ok(number);
         }
-        return Ok(Count::CountIs(number));
+        let fault = Fault::TooLarge(digits, start..self.cursor.stop());
+        self.note(fault)?;
+        Ok(number)
     }
-    if reader.cursor.starts_word() {
-        return name_count(reader);
-    }
-    Ok(Count::CountImplied)
-}
 
-/// A width: whether the flag `0` stands in front of its count, and where the count stands.
-#[derive(Drop)]
-pub struct WidthPart<'input> {
-    pub zero_pad: bool,
-    pub count: Count<'input>,
-    pub span: Option<Range<usize>>,
-}
+    /// Reads the word at the cursor, which may be empty. The word `_` is a fault, so the byte
+    /// offset of its start is computed first. Returns `Err` if an allocation fails.
+    #[inline(never)]
+    pub fn any_word(&mut self) -> Result<&'input str, AllocError>
+        ensures value { IfOk result (λ w. chars w.now ≡ word self.old.rest) }
+        ensures reads { ReadsTo self.old result self.new (behind_word self.old.rest) self.old.next
+            (word_faults self.old.rest) [] }
+    {
+        let start = self.cursor.start();
+        let word = self.cursor.word();
+        if !is_underscore(word) {
+            return Ok(word);
+        }
+        let span = start..self.cursor.start();
+        self.note(Fault::Underscore(span))?;
+        Ok(word)
+    }
 
-/// Reads the count of a width, and where it stands; the width has the flag `0` or not.
-#[tactic(auto, using(crate::proofs::Steps::part_le))]
-fn counted<'input>(
-    zero_pad: bool,
-    reader: &mut Reader<'input>,
-) -> Result<WidthPart<'input>, AllocError>
-    requires { IsFurthest reader.old.rest reader.old.back }
-    ensures zero_pad { IfOk result (λ w. w.zero_pad ≡ zero_pad) }
-    ensures count { IfOk result (λ w. seen_count w.count
-        ≡ map_count (place_of reader.old.world) (count_of reader.old.rest (count reader.old.rest).0 (count reader.old.rest).1)) }
-    ensures span { IfOk result (λ w. option_map pair w.span ≡ option_map (place_of reader.old.world)
-        (count_span reader.old.rest (count reader.old.rest).0 (count reader.old.rest).1)) }
-    ensures reads { Reads reader.old result reader.new (count reader.old.rest).1 reader.old.next (argument_faults reader.old.rest)
-        (count_tries reader.old.rest (count reader.old.rest).0) }
-{
-    let start = reader.cursor.start();
-    let count = count(reader)?;
-    let span = match count {
-        Count::CountImplied => None,
-        _ => Some(start..reader.cursor.start()),
-    };
-    Ok(WidthPart {
-        zero_pad,
-        count,
-        span,
-    })
-}
+    /// Reads the word at the cursor, which is not empty. The word `_` is a fault. Returns `Err` if
+    /// an allocation fails.
+    #[tactic(auto, using(crate::proofs::Readers::WordFronts::words_at_front, crate::proofs::Readers::Parts::read_nothing))]
+    pub fn word(&mut self) -> Result<&'input str, AllocError>
+        requires { first_passes is_id_start self.old.rest ≡ true }
+        ensures value { IfOk result (λ w. chars w.now ≡ word self.old.rest) }
+        ensures reads { ReadsTo self.old result self.new (behind_word self.old.rest) self.old.next
+            (word_faults self.old.rest) [] }
+    {
+        if self.cursor.is_next('_') {
+            return self.any_word();
+        }
+        let word = self.cursor.word();
+        Ok(word)
+    }
 
-/// Reads the width at the front. A `0` in front of it is a flag, unless a `$` makes it an index.
-#[tactic(auto, using(crate::proofs::Steps::part_le, crate::proofs::SpecParts::widths_at_front))]
-pub fn width<'input>(reader: &mut Reader<'input>) -> Result<WidthPart<'input>, AllocError>
-    requires { IsFurthest reader.old.rest reader.old.back }
-    ensures zero_pad { IfOk result (λ w. w.zero_pad ≡ is_padded (width reader.old.rest).0) }
-    ensures count { IfOk result (λ w. seen_count w.count ≡ map_count (place_of reader.old.world)
-        (width_of reader.old.rest (width reader.old.rest).0 (width reader.old.rest).1)) }
-    ensures span { IfOk result (λ w. option_map pair w.span ≡ option_map (place_of reader.old.world)
-        (width_span reader.old.rest (width reader.old.rest).0 (width reader.old.rest).1)) }
-    ensures reads { Reads reader.old result reader.new (width reader.old.rest).1 reader.old.next (width_faults reader.old.rest (width reader.old.rest).0)
-        (width_tries reader.old.rest (width reader.old.rest).0) }
-{
-    if !reader.cursor.is_next('0') {
-        return counted(false, reader);
+    /// Reads a name and the `$` after it into `into`, which is still `CountImplied`. If there is no
+    /// `$`, goes back to the start of the word, but keeps its fault. Returns `Err` if an allocation
+    /// fails.
+    #[tactic(auto, using(crate::proofs::Readers::Steps::part_le))]
+    fn named_count(&mut self, into: &mut Count<'input>) -> Result<(), AllocError>
+        requires blank { seen_count into.old ≡ Implied }
+        requires furthest { IsFurthest self.old.rest self.old.back }
+        requires word { first_passes is_id_start self.old.rest ≡ true }
+        ensures value { (let t = self.old.rest in let k = behind_name t (word t) (behind_word t) in
+            OnOk result (seen_count into.new
+            ≡ map_count (place_of self.old.world) (count_of t k.0 k.1))) }
+        ensures reads { (let t = self.old.rest in let k = behind_name t (word t) (behind_word t) in
+            ReadsTo self.old result self.new k.1 self.old.next (word_faults t)
+            (count_tries t k.0)) }
+    {
+        let front = self.cursor.checkpoint();
+        let start = self.cursor.start();
+        let name = self.word()?;
+        let span = start..self.cursor.start();
+        if self.cursor.consume('$') {
+            *into = Count::CountIsName(name, span);
+            return Ok(());
+        }
+        self.cursor.rewind(front);
+        Ok(())
     }
-    let start = reader.cursor.start();
-    reader.cursor.advance();
-    if !reader.cursor.is_next('$') {
-        return counted(true, reader);
-    }
-    let span = start..reader.cursor.stop();
-    reader.cursor.advance();
-    Ok(WidthPart {
-        zero_pad: false,
-        count: Count::CountIsParam(0),
-        span: Some(span),
-    })
-}
 
-/// Reads the precision at the front, and where it stands. A star takes the next number.
-#[tactic(auto, using(crate::proofs::Steps::part_le, crate::proofs::Steps::at_dot, crate::proofs::SpecParts::precisions_at_front))]
-pub fn precision<'input>(
-    reader: &mut Reader<'input>,
-) -> Result<(Count<'input>, Option<Range<usize>>), AllocError>
-    requires numbers { reader.old.next + 1 < 2 ^ 64 }
-    ensures value { IfOk result (λ k. seen_count k.0 ≡ map_count (place_of reader.old.world)
-        (precision_of reader.old.next reader.old.rest (precision reader.old.rest).0 (precision reader.old.rest).1)) }
-    ensures span { IfOk result (λ k. option_map pair k.1 ≡ option_map (place_of reader.old.world)
-        (precision_span reader.old.rest (precision reader.old.rest).0 (precision reader.old.rest).1)) }
-    ensures reads { Reads reader.old result reader.new (precision reader.old.rest).1
-        (number_after_precision reader.old.next (precision reader.old.rest).0) (precision_faults reader.old.rest (precision reader.old.rest).0)
-        (precision_tries reader.old.rest (precision reader.old.rest).0) }
-{
-    reader.cursor.steps_are_few();
-    if !reader.cursor.is_next('.') {
-        return Ok((Count::CountImplied, None));
+    /// Reads a count, as in the grammar of `std::fmt`, into `into`, which is still `CountImplied`:
+    /// a number, the index or the name of an argument and a `$`, or nothing. Returns `Err` if an
+    /// allocation fails.
+    #[tactic(auto, using(crate::proofs::Readers::Steps::part_le, crate::proofs::Readers::TriedParts::tried_parts, crate::proofs::Readers::Parts::read_nothing))]
+    #[inline(always)]
+    pub fn count(&mut self, into: &mut Count<'input>) -> Result<(), AllocError>
+        requires blank { seen_count into.old ≡ Implied }
+        requires furthest { IsFurthest self.old.rest self.old.back }
+        ensures value { (let k = count self.old.rest in OnOk result (seen_count into.new
+            ≡ map_count (place_of self.old.world) (count_of self.old.rest k.0 k.1))) }
+        ensures reads { (let k = count self.old.rest in
+            ReadsTo self.old result self.new k.1 self.old.next (argument_faults self.old.rest)
+            (count_tries self.old.rest k.0)) }
+    {
+        if self.cursor.is_digit_next() {
+            let number = self.integer()?;
+            if self.cursor.consume('$') {
+                *into = Count::CountIsParam(usize::from(number));
+                return Ok(());
+            }
+            *into = Count::CountIs(number);
+            return Ok(());
+        }
+        if self.cursor.is_word_next() {
+            return self.named_count(into);
+        }
+        Ok(())
     }
-    let start = reader.cursor.start();
-    reader.cursor.advance();
-    if reader.cursor.is_next('*') {
-        let number = reader.take_number();
-        reader.cursor.advance();
-        return Ok((
-            Count::CountIsStar(number),
-            Some(start..reader.cursor.start()),
-        ));
+
+    /// Reads the count of a width and its span into `format`, which has no width yet. Returns `Err`
+    /// if an allocation fails.
+    #[tactic(auto, using(crate::proofs::Readers::Steps::part_le))]
+    #[inline(always)]
+    fn counted(&mut self, format: &mut FormatSpec<'input>) -> Result<(), AllocError>
+        requires width { seen_count format.old.width ≡ Implied }
+        requires span { option_map pair format.old.width_span ≡ None }
+        requires furthest { IsFurthest self.old.rest self.old.back }
+        ensures value { (let t = self.old.rest in let k = count t in
+            OnOk result (seen_spec format.new ≡ record (seen_spec format.old) {
+              width = map_count (place_of self.old.world) (count_of t k.0 k.1);
+              width_span = option_map (place_of self.old.world) (count_span t k.0 k.1);
+            })) }
+        ensures reads { (let k = count self.old.rest in
+            ReadsTo self.old result self.new k.1 self.old.next (argument_faults self.old.rest)
+            (count_tries self.old.rest k.0)) }
+    {
+        let start = self.cursor.start();
+        self.count(&mut format.width)?;
+        match format.width {
+            Count::CountImplied => Ok(()),
+            _ => {
+                format.width_span = Some(start..self.cursor.start());
+                Ok(())
+            }
+        }
     }
-    let count = count(reader)?;
-    Ok((count, Some(start..reader.cursor.start())))
+
+    /// Reads the width, as in the grammar of `std::fmt`, into `format`, which has none yet. A
+    /// leading `0` is a flag, unless a `$` follows it: then it is the index of an argument. Returns
+    /// `Err` if an allocation fails.
+    #[tactic(auto, using(crate::proofs::Readers::Steps::part_le, crate::proofs::Readers::Specifications::widths_at_front))]
+    #[inline(always)]
+    pub fn width(&mut self, format: &mut FormatSpec<'input>) -> Result<(), AllocError>
+        requires zero_pad { format.old.zero_pad ≡ false }
+        requires width { seen_count format.old.width ≡ Implied }
+        requires span { option_map pair format.old.width_span ≡ None }
+        requires furthest { IsFurthest self.old.rest self.old.back }
+        ensures value { (let t = self.old.rest in let w = width t in
+            OnOk result (seen_spec format.new ≡ record (seen_spec format.old) {
+              zero_pad = is_padded w.0;
+              width = map_count (place_of self.old.world) (width_of t w.0 w.1);
+              width_span = option_map (place_of self.old.world) (width_span t w.0 w.1);
+            })) }
+        ensures reads { (let w = width self.old.rest in
+            ReadsTo self.old result self.new w.1 self.old.next (width_faults self.old.rest w.0)
+            (width_tries self.old.rest w.0)) }
+    {
+        if !self.cursor.is_next('0') {
+            return self.counted(format);
+        }
+        if !self.cursor.is_ahead('$') {
+            self.cursor.skip_char();
+            format.zero_pad = true;
+            return self.counted(format);
+        }
+        let start = self.cursor.start();
+        self.cursor.skip_char();
+        format.width = Count::CountIsParam(0);
+        format.width_span = Some(start..self.cursor.stop());
+        self.cursor.skip_char();
+        Ok(())
+    }
+
+    /// Reads a dot and the precision after it, which may be missing, into `format`, which has none
+    /// yet. Reads nothing if the next character is not a dot. A `*` takes the index of the next
+    /// implicit argument. Returns `Err` if an allocation fails.
+    #[tactic(auto, using(crate::proofs::Readers::Steps::part_le, crate::proofs::Readers::Steps::at_dot, crate::proofs::Readers::Specifications::precisions_at_front))]
+    #[inline(always)]
+    pub fn precision(&mut self, format: &mut FormatSpec<'input>) -> Result<(), AllocError>
+        requires precision { seen_count format.old.precision ≡ Implied }
+        requires span { option_map pair format.old.precision_span ≡ None }
+        requires numbers { self.old.next + 1 < 2 ^ 64 }
+        ensures value { (let t = self.old.rest in let p = precision t in
+            OnOk result (seen_spec format.new ≡ record (seen_spec format.old) {
+              precision = map_count (place_of self.old.world)
+                  (precision_of self.old.next t p.0 p.1);
+              precision_span = option_map (place_of self.old.world) (precision_span t p.0 p.1);
+            })) }
+        ensures reads { (let p = precision self.old.rest in
+            ReadsTo self.old result self.new p.1 (number_after_precision self.old.next p.0)
+            (precision_faults self.old.rest p.0) (precision_tries self.old.rest p.0)) }
+    {
+        self.cursor.steps_are_few();
+        if !self.cursor.is_next('.') {
+            return Ok(());
+        }
+        let start = self.cursor.start();
+        self.cursor.skip_char();
+        if self.cursor.is_next('*') {
+            let number = self.take_curarg();
+            self.cursor.skip_char();
+            format.precision = Count::CountIsStar(number);
+            format.precision_span = Some(start..self.cursor.start());
+            return Ok(());
+        }
+        self.count(&mut format.precision)?;
+        format.precision_span = Some(start..self.cursor.start());
+        Ok(())
+    }
 }

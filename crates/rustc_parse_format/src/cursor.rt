@@ -1,269 +1,280 @@
-//! A cursor over the input.
+//! A cursor over the input, with the byte offset of its position in the source.
 
 mod steps;
+mod words;
 
-use crate::characters::{Class, before, behind_first, behind_run, first, is_id_start, with_digit};
-use crate::source::{Source, Spot, look_again};
-use crate::world::first_look;
+use crate::characters::{before, behind_first, first, is_id_start};
+use crate::source::{Anchor, Source, first_anchor};
 use std::marker::Model;
 use std::ops::Range;
-use steps::{Steps, Tally, count_before, count_next};
+use steps::{Steps, Tally, count_next};
 
-/// A place in the input: what is left of it, and where that stands in the source.
+/// A position in the input: the text that is left, and where that starts in the source.
 #[derive(Drop)]
 pub struct Cursor<'input> {
     source: Source<'input>,
-    spot: Spot<'input>,
+    rest: &'input str,
+    anchor: Anchor<'input>,
     tally: Tally,
     undone: Steps,
 }
 
-/// Where a cursor stood, and what it had given back there.
+/// An earlier position of a cursor, with the count of its steps there.
 #[derive(Drop)]
 pub struct Checkpoint<'input> {
-    spot: Spot<'input>,
+    rest: &'input str,
+    anchor: Anchor<'input>,
     tally: Tally,
 }
 
 impl<'input> Model for Cursor<'input> {
     ghost use Rattle.rustc_parse_format.specs.Midway.{IsCounted, Unread, back_at, unread_at};
-    ghost use Rattle.rustc_parse_format.specs.SeenSource.{IsSpot};
+    ghost use Rattle.rustc_parse_format.specs.SeenSource.{IsAnchored};
     ghost use Rattle.std.specs.Prelude.{chars};
 
     ghost Value = { Unread };
 
-    // What was passed is shown with what is left, less the input: so a move that counts nothing changes what is shown.
-    ghost view = { λ c. unread_at c.source c.spot.rest.now (back_at (chars c.source.input.now) (chars c.spot.rest.now) c.tally) c.undone.made };
+    // The view shows the number of characters passed plus that of those left, less the length of
+    // the input. So a move that is not counted changes the view.
+    ghost view = { λ c. unread_at c.source c.rest.now
+        (back_at (chars c.source.input.now) (chars c.rest.now) c.tally) c.undone.made };
 
-    ghost invariant = { λ c. IsSpot c.source c.spot.rest.now c.spot.mark.now c.spot.at × IsCounted (chars c.source.input.now) (chars c.spot.rest.now) c.tally };
+    ghost invariant = { λ c. IsAnchored c.source c.rest.now c.anchor
+        × IsCounted (chars c.source.input.now) (chars c.rest.now) c.tally };
 }
 
 impl<'input> Cursor<'input> {
-    ghost use Rattle.std.specs.Prelude.{◌≡◌, ◌+◌, ◌-◌, ◌≤◌, ◌<◌, ◌^◌, ◌++◌, chars, if◌then◌else◌, IsTrue, length, option_map, Some};
-    ghost use Rattle.rustc_parse_format.specs.Characters.{Text, byte_length, begins_prefix, begins_with, first, behind_first, behind};
-    ghost use Rattle.rustc_parse_format.specs.Characters.{behind_white, word, behind_word, digits, behind_digits, number, is_id_start, is_over, first_passes};
-    ghost use Rattle.std.specs.Char.{is_ascii_digit, is_whitespace};
-    ghost use Rattle.rustc_parse_format.specs.Bytes.{IsOfAscii};
-    ghost use Rattle.rustc_parse_format.specs.Classes.{passes};
+    ghost use Rattle.std.specs.Prelude.{◌≡◌, ◌+◌, ◌-◌, ◌≤◌, ◌<◌, ◌^◌, ◌++◌, chars, if◌then◌else◌};
+    ghost use Rattle.std.specs.Prelude.{IsTrue, length, option_map, Some};
+    ghost use Rattle.rustc_parse_format.specs.Characters.{Text, byte_length, begins_prefix};
+    ghost use Rattle.rustc_parse_format.specs.Characters.{begins_with, first, behind_first};
+    ghost use Rattle.rustc_parse_format.specs.Characters.{is_id_start, first_passes};
+    ghost use Rattle.std.specs.Char.{is_ascii_digit};
     ghost use Rattle.rustc_parse_format.specs.Marks.{Start, End};
     ghost use Rattle.rustc_parse_format.specs.Seen.{pair};
-    ghost use Rattle.rustc_parse_format.specs.Midway.{IsCounted, IsPastIndent, back_at, opens_placeholder, unread_at};
-    ghost use Rattle.rustc_parse_format.specs.SeenSource.{IsKept, IsSpot};
+    ghost use Rattle.rustc_parse_format.specs.Midway.{IsCounted, IsPastIndent, back_at};
+    ghost use Rattle.rustc_parse_format.specs.Midway.{opens_placeholder, unread_at};
+    ghost use Rattle.rustc_parse_format.specs.SeenSource.{IsKept, IsAnchored};
     ghost use Rattle.rustc_parse_format.specs.State.{first_of};
-    ghost use Rattle.rustc_parse_format.specs.Back.{IsFurthest, behind_part, given_back, nothing_back};
+    ghost use Rattle.rustc_parse_format.specs.Back.{IsFurthest, behind_part, given_back};
+    ghost use Rattle.rustc_parse_format.specs.Back.{nothing_back};
     ghost use Rattle.rustc_parse_format.specs.Steps.{AreFew};
     ghost use Rattle.rustc_parse_format.specs.World.{number_of, place_at};
 
-    /// At the front of the input of a source.
+    /// Returns a cursor at the start of `input`, the input of `source`. Does not allocate.
     pub fn new(source: Source<'input>, input: &'input str) -> Cursor<'input>
         requires input { source.input.now ≡ input.now }
         requires kept { IsKept source }
         requires fits { source.offset + length input.now < 2 ^ 64 }
         ensures { result ≡ unread_at source.entry input.now (nothing_back (chars input.now)) 0 }
     {
-        let spot = Spot {
-            rest: input,
-            mark: input,
-            at: first_look(&source),
-        };
+        let anchor = first_anchor(&source);
         Cursor {
             source,
-            spot,
+            rest: input,
+            anchor,
             tally: Tally::new(input),
             undone: Steps::start(),
         }
     }
 
-    /// Where it stands.
+    /// Returns the current position, for `since`, `rewind` and `undo`.
     #[inline(always)]
     pub fn checkpoint(&self) -> Checkpoint<'input>
-        ensures at { self.now ≡ unread_at self.now.source result.spot.rest.now
-            (back_at (chars self.now.source.input.now) (chars result.spot.rest.now) result.tally) self.now.undone }
-        ensures spot { IsSpot self.now.source result.spot.rest.now result.spot.mark.now result.spot.at }
-        ensures counted { IsCounted (chars self.now.source.input.now) (chars result.spot.rest.now) result.tally }
+        ensures at { self.now ≡ unread_at self.now.source result.rest.now
+            (back_at (chars self.now.source.input.now) (chars result.rest.now) result.tally)
+            self.now.undone }
+        ensures anchored { IsAnchored self.now.source result.rest.now result.anchor }
+        ensures counted { IsCounted (chars self.now.source.input.now)
+            (chars result.rest.now) result.tally }
     {
-        let spot = Spot {
-            rest: self.spot.rest,
-            mark: self.spot.mark,
-            at: self.spot.at,
-        };
         Checkpoint {
-            spot,
+            rest: self.rest,
+            anchor: self.anchor,
             tally: self.tally.same(),
         }
     }
 
-    /// It has taken few steps. Nothing is done.
+    /// Proves that the cursor has made few steps, at most two for each character of the input. Does
+    /// nothing when the program runs.
     pub fn steps_are_few(&self)
         ensures few { AreFew self.now.input self.now.rest self.now.back }
         ensures word { behind_part self.now.rest ≤ self.now.back.left }
     {
-        let _at = self.spot.at;
+        let _rest = self.rest;
     }
 
-    /// What was read since then.
+    /// Returns the text between `from` and the current position.
     #[inline(always)]
     pub fn since(&self, from: &Checkpoint<'input>) -> &'input str
-        requires { (read : Text) × (chars from.now.spot.rest.now ≡ read ++ self.now.rest) }
-        ensures { (read : Text) → chars from.now.spot.rest.now ≡ read ++ self.now.rest → chars result.now ≡ read }
+        requires { (read : Text) × (chars from.now.rest.now ≡ read ++ self.now.rest) }
+        ensures { (read : Text) → chars from.now.rest.now ≡ read ++ self.now.rest
+            → chars result.now ≡ read }
     {
-        before(from.spot.rest, self.spot.rest)
+        before(from.rest, self.rest)
     }
 
-    /// The next character, or None at the end.
+    /// Returns the next character, or `None` at the end of the input.
     #[inline(always)]
     pub fn peek(&self) -> Option<char>
         ensures { result ≡ first self.now.rest }
     {
-        first(self.spot.rest)
+        first(self.rest)
     }
 
-    /// The character after the next one.
+    /// Returns the character after the next one, or `None` if there is none.
     pub fn peek_ahead(&self) -> Option<char>
         ensures { result ≡ first (behind_first self.now.rest) }
     {
-        first(behind_first(self.spot.rest))
+        first(behind_first(self.rest))
     }
 
-    /// Moves over the next character, if there is one. Only this, `take_place` and `pass_run` move forward.
-    pub fn advance(&mut self)
+    /// Moves past the next character, if there is one. Only this function, `consume_place` and
+    /// `skip_run` move forward.
+    pub fn skip_char(&mut self)
         ensures rest { self.new ≡ record self.old { rest = behind_first self.old.rest } }
     {
-        self.tally.pass(count_next(self.spot.rest));
-        self.spot.rest = behind_first(self.spot.rest);
+        self.tally.pass(count_next(self.rest));
+        self.rest = behind_first(self.rest);
     }
 
-    /// Moves over the next character, if there is one, and gives its place, or that of the end of the text.
+    /// Moves past the next character, if there is one, and returns its byte range in the source. At
+    /// the end of the input, returns the empty range where the text ends.
     #[inline(always)]
-    pub fn take_place(&mut self) -> Range<usize>
+    pub fn consume_place(&mut self) -> Range<usize>
         ensures place { pair result ≡ place_at self.old.world (length self.old.rest) }
         ensures rest { self.new ≡ record self.old { rest = behind_first self.old.rest } }
     {
-        self.tally.pass(count_next(self.spot.rest));
-        self.source.pass(&mut self.spot)
+        self.tally.pass(count_next(self.rest));
+        let (place, rest) = self.source.pass(self.rest, &mut self.anchor);
+        self.rest = rest;
+        place
     }
 
-    /// Goes back to where it stood.
-    pub fn go_back(&mut self, to: Checkpoint<'input>)
-        requires spot { IsSpot self.old.source to.spot.rest.now to.spot.mark.now to.spot.at }
-        requires furthest { IsFurthest (chars to.spot.rest.now) self.old.back }
-        requires earlier { length self.old.rest ≤ length (chars to.spot.rest.now) }
-        requires word { behind_part (chars to.spot.rest.now) ≤ length self.old.rest }
-        ensures { self.new ≡ unread_at self.old.source to.entry.spot.rest.now (given_back self.old.rest (chars to.entry.spot.rest.now) self.old.back) self.old.undone }
+    /// Goes back to the position `to`. The characters from there on can then be read again, which
+    /// counts as new steps.
+    pub fn rewind(&mut self, to: Checkpoint<'input>)
+        requires anchored { IsAnchored self.old.source to.rest.now to.anchor }
+        requires furthest { IsFurthest (chars to.rest.now) self.old.back }
+        requires earlier { length self.old.rest ≤ length (chars to.rest.now) }
+        requires word { behind_part (chars to.rest.now) ≤ length self.old.rest }
+        ensures { self.new ≡ unread_at self.old.source to.entry.rest.now (given_back self.old.rest
+            (chars to.entry.rest.now) self.old.back) self.old.undone }
     {
-        self.tally.go_back(self.spot.rest);
-        self.spot = to.spot;
+        self.tally.rewind(self.rest);
+        self.rest = to.rest;
+        self.anchor = to.anchor;
     }
 
-    /// Puts it back where it stood before a call that was refused.
+    /// Goes back to the position `to`, before a call in which an allocation failed. The steps of
+    /// that call then do not count.
     pub fn undo(&mut self, to: Checkpoint<'input>)
-        requires spot { IsSpot self.old.source to.spot.rest.now to.spot.mark.now to.spot.at }
-        requires counted { IsCounted (chars self.old.source.input.now) (chars to.spot.rest.now) to.tally }
-        ensures { self.new ≡ unread_at self.old.source to.entry.spot.rest.now
-            (back_at (chars self.old.source.input.now) (chars to.entry.spot.rest.now) to.entry.tally) (self.old.undone + 1) }
+        requires anchored { IsAnchored self.old.source to.rest.now to.anchor }
+        requires counted { IsCounted (chars self.old.source.input.now)
+            (chars to.rest.now) to.tally }
+        ensures { self.new ≡ unread_at self.old.source to.entry.rest.now
+            (back_at (chars self.old.source.input.now) (chars to.entry.rest.now) to.entry.tally)
+            (self.old.undone + 1) }
     {
-        self.spot = to.spot;
+        self.rest = to.rest;
+        self.anchor = to.anchor;
         self.tally = to.tally;
         self.undone = Steps::more(&self.undone, &1);
     }
 
-    /// What is left is a rest of the input. Nothing is done.
+    /// Proves that what is left is a suffix of the input. Does nothing when the program runs.
     pub fn reads_its_input(&self)
         ensures { (front : Text) × (self.now.input ≡ front ++ self.now.rest) }
     {
-        let _at = self.spot.at;
+        let _rest = self.rest;
     }
 
-    /// Where the next character starts in the source, or where the text ends.
+    /// Returns the byte offset in the source at which the next character starts, or at the end of
+    /// the input the one at which the text ends.
     #[inline(always)]
     pub fn start(&self) -> usize
         ensures { result ≡ number_of self.now.world (Start (length self.now.rest)) }
     {
-        self.source.start(&self.spot)
+        self.source.start(self.rest, &self.anchor)
     }
 
-    /// The next character c is past the indent of a line that starts at a byte: it starts behind that, or there and is no white space.
+    /// Returns whether the next character `c` is past the indentation of a line that starts at the
+    /// byte offset `byte`: it starts after that, or it starts there and is not white space.
     #[inline(always)]
     pub fn is_past_indent(&self, c: char, byte: usize) -> bool
-        ensures { IsTrue result → first self.now.rest ≡ Some c → IsPastIndent c byte self.now.world self.now.rest }
+        ensures { IsTrue result → first self.now.rest ≡ Some c
+            → IsPastIndent c byte self.now.world self.now.rest }
     {
-        let start = self.source.start(&self.spot);
+        let start = self.source.start(self.rest, &self.anchor);
         start > byte || start == byte && !c.is_whitespace()
     }
 
-    /// Looks at the snippet, so that places from here on are counted from here. Nothing else changes.
+    /// Examines the snippet at the current position, from which byte offsets are then computed.
+    /// Nothing that contracts show changes.
     #[inline(always)]
-    pub fn settle(&mut self)
+    pub fn move_anchor(&mut self)
         ensures { self.new ≡ self.old }
     {
         if let Some(snippet) = &self.source.kept {
-            let moved = self.spot.mark.len() - self.spot.rest.len();
-            if moved > 0 && moved >= self.spot.at.bare {
-                let at = look_again(snippet.as_str(), &self.spot);
-                self.spot = Spot {
-                    rest: self.spot.rest,
-                    mark: self.spot.rest,
-                    at,
-                };
-            }
+            self.anchor.move_anchor(snippet.as_str(), self.rest);
         }
     }
 
-    /// Where the next character ends in the source, or where the text ends.
+    /// Returns the byte offset in the source at which the next character ends, or at the end of the
+    /// input the one at which the text ends.
     #[inline(always)]
     pub fn stop(&self) -> usize
         ensures { result ≡ number_of self.now.world (End (length self.now.rest)) }
     {
-        self.source.stop(&self.spot)
+        self.source.stop(self.rest, &self.anchor)
     }
 
-    /// The snippet is the source literal of the input.
+    /// Returns whether the snippet is the source literal of the input.
     pub fn is_source_literal(&self) -> bool
         ensures { result ≡ self.now.world.has_source }
     {
         self.source.is_literal
     }
 
-    /// The place of the next character, its byte position in the input, and itself, or None at the end.
+    /// Returns the byte range of the next character in the source, its byte offset in the input,
+    /// and the character itself, or `None` at the end of the input.
     #[inline(always)]
-    pub fn next_place(&self) -> Option<(Range<usize>, usize, char)>
+    pub fn peek_place(&self) -> Option<(Range<usize>, usize, char)>
         ensures { option_map (λ x. (pair x.0, x.1, x.2)) result
             ≡ first_of self.now.world self.now.input self.now.rest }
     {
-        self.source.next_place(&self.spot)
+        self.source.peek_place(self.rest, &self.anchor)
     }
 
-    /// The same of the character after the next one.
+    /// Returns, for the character after the next one, its byte range in the source, its byte offset
+    /// in the input, and the character itself, or `None` if there is none.
     #[inline(always)]
-    pub fn place_ahead(&self) -> Option<(Range<usize>, usize, char)>
+    pub fn peek_place_ahead(&self) -> Option<(Range<usize>, usize, char)>
         ensures { option_map (λ x. (pair x.0, x.1, x.2)) result
             ≡ first_of self.now.world self.now.input (behind_first self.now.rest) }
     {
-        let ahead = Spot {
-            rest: behind_first(self.spot.rest),
-            mark: self.spot.mark,
-            at: self.spot.at,
-        };
-        self.source.next_place(&ahead)
+        self.source
+            .peek_place(behind_first(self.rest), &self.anchor)
     }
 
-    /// The byte position of the next character in the input, or of its end.
+    /// Returns the byte offset of the next character in the input, or at the end the length of the
+    /// input.
     #[inline(always)]
     pub fn position(&self) -> usize
         ensures { result ≡ byte_length self.now.input - byte_length self.now.rest }
     {
-        self.source.input.len() - self.spot.rest.len()
+        self.source.input.len() - self.rest.len()
     }
 
-    /// The next character is this one.
+    /// Returns whether the next character is `c`.
     pub fn is_next(&self, c: char) -> bool
         ensures { result ≡ begins_with c self.now.rest }
     {
         self.peek() == Some(c)
     }
 
-    /// Moves over the character, and answers whether it is there.
-    pub fn take_char(&mut self, c: char) -> bool
+    /// Moves past the next character if it is `c`. Returns whether it is.
+    pub fn consume(&mut self, c: char) -> bool
         ensures value { result ≡ begins_with c self.old.rest }
         ensures rest { self.new ≡ record self.old {
           rest = if begins_with c self.old.rest then behind_first self.old.rest else self.old.rest;
@@ -271,154 +282,52 @@ impl<'input> Cursor<'input> {
     {
         let is_there = self.is_next(c);
         if is_there {
-            self.advance();
+            self.skip_char();
         }
         is_there
     }
 
-    /// The character after the next one is c.
-    pub fn goes_on_with(&self, c: char) -> bool
+    /// Returns whether the character after the next one is `c`.
+    pub fn is_ahead(&self, c: char) -> bool
         ensures { result ≡ begins_with c (behind_first self.now.rest) }
     {
         self.peek_ahead() == Some(c)
     }
 
-    /// A placeholder opens here: an opening brace, and no other one behind it.
+    /// Returns whether a placeholder opens here: the next character is an opening brace, and the
+    /// one after it is not.
     #[inline(always)]
     pub fn opens_placeholder(&self) -> bool
         ensures { result ≡ opens_placeholder self.now.rest }
     {
-        self.is_next('{') && !self.goes_on_with('{')
+        self.is_next('{') && !self.is_ahead('{')
     }
 
-    /// The next character is a digit.
-    pub fn starts_digit(&self) -> bool
+    /// Returns whether the next character is an ASCII digit.
+    pub fn is_digit_next(&self) -> bool
         ensures { result ≡ first_passes is_ascii_digit self.now.rest }
     {
         self.peek().is_some_and(|c| c.is_ascii_digit())
     }
 
-    /// The next character may begin a word.
-    pub fn starts_word(&self) -> bool
+    /// Returns whether the next character can begin a word.
+    pub fn is_word_next(&self) -> bool
         ensures { result ≡ first_passes is_id_start self.now.rest }
     {
         self.peek().is_some_and(is_id_start)
     }
 
-    /// The next characters are `r#`.
-    pub fn starts_prefix(&self) -> bool
+    /// Returns whether the next two characters are `r#`.
+    pub fn is_raw_prefix_next(&self) -> bool
         ensures { result ≡ begins_prefix self.now.rest }
     {
-        self.is_next('r') && self.goes_on_with('#')
+        self.is_next('r') && self.is_ahead('#')
     }
 
-    /// A word may begin with the character after the next one.
-    pub fn goes_on_with_word(&self) -> bool
+    /// Returns whether the character after the next one can begin a word.
+    pub fn is_word_ahead(&self) -> bool
         ensures { result ≡ first_passes is_id_start (behind_first self.now.rest) }
     {
         self.peek_ahead().is_some_and(is_id_start)
-    }
-
-    /// Moves over the longest front of the class.
-    #[inline(always)]
-    pub fn skip(&mut self, class: Class)
-        ensures rest { self.new ≡ record self.old { rest = behind (passes class) self.old.rest } }
-    {
-        match class {
-            Class::Text => return self.pass_run(Class::Text),
-            Class::Line => return self.pass_run(Class::Line),
-            _ => {}
-        }
-        while let Some(c) = self.peek() {
-            if !class.passes(c) {
-                break;
-            }
-            self.advance();
-        }
-    }
-
-    /// Moves over the longest front of the class at once.
-    fn pass_run(&mut self, class: Class)
-        requires { IsOfAscii (passes class) }
-        ensures rest { self.new ≡ record self.old { rest = behind (passes class) self.old.rest } }
-    {
-        let rest = behind_run(self.spot.rest, class);
-        self.tally.pass(count_before(self.spot.rest, rest));
-        self.spot.rest = rest;
-    }
-
-    /// The next character is white space.
-    #[inline(always)]
-    fn starts_white(&self) -> bool
-        ensures { result ≡ first_passes is_whitespace self.now.rest }
-    {
-        self.peek().is_some_and(|c| c.is_whitespace())
-    }
-
-    /// Moves over the white space at the front, of which there is mostly none.
-    #[inline(always)]
-    pub fn skip_white(&mut self)
-        ensures rest { self.new ≡ record self.old { rest = behind_white self.old.rest } }
-    {
-        if self.starts_white() {
-            self.skip_spaces();
-        }
-    }
-
-    /// Moves over the white space at the front.
-    #[tactic(auto, unfolding(crate::specs::Characters::behind_white))]
-    #[inline(never)]
-    fn skip_spaces(&mut self)
-        ensures rest { self.new ≡ record self.old { rest = behind_white self.old.rest } }
-    {
-        self.skip(Class::White);
-    }
-
-    /// Reads the word at the front, which may be empty.
-    #[tactic(auto, unfolding(crate::specs::Characters::word, crate::specs::Characters::behind_word))]
-    pub fn word(&mut self) -> &'input str
-        ensures value { chars result.now ≡ word self.old.rest }
-        ensures rest { self.new ≡ record self.old { rest = behind_word self.old.rest } }
-    {
-        if !self.starts_word() {
-            return "";
-        }
-        let from = self.checkpoint();
-        self.advance();
-        self.skip(Class::Continue);
-        self.since(&from)
-    }
-
-    /// Moves over the digits at the front: their number modulo 65536, and whether it is above 65535.
-    #[tactic(auto, unfolding(crate::specs::Characters::digits, crate::specs::Characters::behind_digits))]
-    fn skip_number(&mut self) -> (u16, bool)
-        ensures value { result.0 ≡ number (digits self.old.rest) }
-        ensures over { result.1 ≡ is_over (digits self.old.rest) }
-        ensures rest { self.new ≡ record self.old { rest = behind_digits self.old.rest } }
-    {
-        let mut value = 0;
-        let mut over = false;
-        while let Some(c) = self.peek() {
-            if !c.is_ascii_digit() {
-                break;
-            }
-            let more = with_digit(value, c);
-            value = more.0;
-            over |= more.1;
-            self.advance();
-        }
-        (value, over)
-    }
-
-    /// Reads the digits at the front: their number modulo 65536, and whether it is above 65535.
-    pub fn number(&mut self) -> (&'input str, u16, bool)
-        ensures text { chars result.0.now ≡ digits self.old.rest }
-        ensures value { result.1 ≡ number (digits self.old.rest) }
-        ensures over { result.2 ≡ is_over (digits self.old.rest) }
-        ensures rest { self.new ≡ record self.old { rest = behind_digits self.old.rest } }
-    {
-        let from = self.checkpoint();
-        let (value, over) = self.skip_number();
-        (self.since(&from), value, over)
     }
 }

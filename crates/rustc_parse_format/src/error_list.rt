@@ -1,6 +1,7 @@
-//! The errors of a parser: one list that grows at both ends.
+//! The list of a parser's errors, which grows at both ends.
 
-ghost use Rattle.std.specs.Prelude.{◌≡◌, ◌+◌, ◌≤◌, ◌++◌, ◌∷◌, [], IfOk, IsOk, None, OnErr, OnOk, drop, length, map, reverse};
+ghost use Rattle.std.specs.Prelude.{◌≡◌, ◌+◌, ◌≤◌, ◌++◌, ◌∷◌, [], None, OnErr, OnOk};
+ghost use Rattle.std.specs.Prelude.{drop, length, map, take};
 ghost use Rattle.rustc_parse_format.specs.Faults.{error};
 ghost use Rattle.rustc_parse_format.specs.Seen.{seen_error};
 
@@ -9,8 +10,8 @@ use std::alloc::{AllocError, Global};
 use std::marker::Model;
 use std::mem;
 
-/// Errors in order. The first `room` entries are free: empty errors, whose places the next errors at the front take. The
-/// list is what comes after them.
+/// A list of errors that grows at both ends. The first `room` entries are free, for errors that are
+/// added at the front. The list is the entries after them.
 #[derive(Drop)]
 pub struct ErrorList {
     entries: Vec<ParseError>,
@@ -30,7 +31,7 @@ impl Model for ErrorList {
     ghost invariant = { λ l. l.room ≤ length l.entries.items };
 }
 
-/// An error that says nothing, and takes no memory of its own.
+/// Returns an error whose texts are empty. Does not allocate.
 pub fn empty_error(alloc: Global) -> ParseError
     ensures { seen_error result ≡ error [] None [] (0, 0) None }
 {
@@ -44,7 +45,8 @@ pub fn empty_error(alloc: Global) -> ParseError
     }
 }
 
-/// Puts so many empty errors in front of the entries: all of them, or none where memory is refused.
+/// Inserts `count` empty errors before the entries. Returns `Err` if an allocation fails, and the
+/// entries are then unchanged.
 fn widen(alloc: Global, entries: &mut Vec<ParseError>, count: usize) -> Result<(), AllocError>
     ensures rest { OnOk result (drop count entries.new.items ≡ entries.old.items) }
     ensures len { OnOk result (length entries.new.items ≡ count + length entries.old.items) }
@@ -58,49 +60,8 @@ fn widen(alloc: Global, entries: &mut Vec<ParseError>, count: usize) -> Result<(
     Ok(())
 }
 
-/// Sees to it that the first `count` entries are free, where the first `room` are, and returns how many are. Where those
-/// are too few, it makes `count` more, and one more for each error of the list. So over all calls the errors that are moved
-/// stay in proportion to those that are added.
-fn make_room(
-    alloc: Global,
-    entries: &mut Vec<ParseError>,
-    room: usize,
-    count: usize,
-) -> Result<usize, AllocError>
-    requires { room ≤ length entries.old.items }
-    ensures enough { IfOk result (λ free. (count ≤ free) × (free ≤ length entries.new.items)) }
-    ensures rest { IfOk result (λ free. drop free entries.new.items ≡ drop room entries.old.items) }
-    ensures err { OnErr result (entries.new.items ≡ entries.old.items) }
-    ensures spare { count ≤ room → IsOk result }
-{
-    if count <= room {
-        return Ok(room);
-    }
-    let held = entries.len() - room;
-    let more = held.saturating_add(count);
-    widen(alloc, entries, more)?;
-    Ok(room + more)
-}
-
-/// Puts errors in front of the list, one at a time, each into the last free entry, and returns how many entries are then
-/// free.
-fn fill(entries: &mut Vec<ParseError>, room: usize, front: Vec<ParseError>) -> usize
-    requires few { length front.items ≤ room }
-    requires inside { room ≤ length entries.old.items }
-    ensures room { result + length front.items ≡ room }
-    ensures len { length entries.new.items ≡ length entries.old.items }
-    ensures rest { drop result entries.new.items ≡ reverse front.items ++ drop room entries.old.items }
-{
-    let mut free = room;
-    for error in front {
-        free -= 1;
-        entries[free] = error;
-    }
-    free
-}
-
 impl ErrorList {
-    /// No errors. Takes no memory.
+    /// Returns an empty list. Does not allocate.
     pub fn new(alloc: Global) -> ErrorList
         ensures { result ≡ [] }
     {
@@ -110,14 +71,14 @@ impl ErrorList {
         }
     }
 
-    /// The errors, in order.
+    /// Returns the errors, in order.
     pub fn as_slice(&self) -> &[ParseError]
         ensures { map seen_error result.now ≡ self.now }
     {
         &self.entries[self.room..]
     }
 
-    /// Takes the errors out, in order, and leaves none. Takes no memory.
+    /// Takes all errors out of the list, and returns them in order. Does not allocate.
     pub fn take(&mut self, alloc: Global) -> Vec<ParseError>
         ensures value { map seen_error result.items ≡ self.old }
         ensures state { self.new ≡ [] }
@@ -128,20 +89,27 @@ impl ErrorList {
         errors
     }
 
-    /// Adds an error in front, or nothing where memory is refused.
-    pub fn add_front(&mut self, alloc: Global, error: ParseError) -> Result<(), AllocError>
+    /// Adds an error at the front. Returns `Err` if an allocation fails, and the list is then
+    /// unchanged. If no entry is free, makes one more free entry than there are errors, so the
+    /// number of errors moved in all calls is proportional to the number added.
+    pub fn push_front(&mut self, alloc: Global, error: ParseError) -> Result<(), AllocError>
         ensures ok { OnOk result (self.new ≡ seen_error error ∷ self.old) }
         ensures err { OnErr result (self.new ≡ self.old) }
     {
-        self.room = make_room(alloc, &mut self.entries, self.room, 1)?;
+        if self.room == 0 {
+            let count = self.entries.len() + 1;
+            widen(alloc, &mut self.entries, count)?;
+            self.room = count;
+        }
         self.room -= 1;
         self.entries[self.room] = error;
         Ok(())
     }
 
-    /// Adds an error at the back, or nothing where memory is refused.
-    #[tactic(auto, using(crate::proofs::Errors::list_ends))]
-    pub fn add_back(&mut self, error: ParseError) -> Result<(), AllocError>
+    /// Adds an error at the back. Returns `Err` if an allocation fails, and the list is then
+    /// unchanged.
+    #[tactic(auto, using(crate::proofs::Readers::Errors::list_ends))]
+    pub fn push_back(&mut self, error: ParseError) -> Result<(), AllocError>
         ensures ok { OnOk result (self.new ≡ self.old ++ seen_error error ∷ []) }
         ensures err { OnErr result (self.new ≡ self.old) }
     {
@@ -149,23 +117,13 @@ impl ErrorList {
         Ok(())
     }
 
-    /// Adds errors at both ends: those of the front one at a time, so that the last of them is the first of the list, and
-    /// those of the back in their order. All of them are added, or none where memory is refused. To add none takes no memory.
-    #[tactic(auto, using(crate::proofs::Errors::list_ends))]
-    pub fn add(
-        &mut self,
-        alloc: Global,
-        front: Vec<ParseError>,
-        mut back: Vec<ParseError>,
-    ) -> Result<(), AllocError>
-        ensures ok { OnOk result (self.new
-            ≡ reverse (map seen_error front.items) ++ self.old ++ map seen_error back.items) }
-        ensures err { OnErr result (self.new ≡ self.old) }
-        ensures none { front.items ≡ [] → back.items ≡ [] → IsOk result }
+    /// Keeps `count` errors after the first `skipped` ones, and drops all others.
+    #[tactic(auto, using(crate::proofs::Readers::Errors::list_parts))]
+    pub fn keep(&mut self, skipped: usize, count: usize)
+        requires { skipped + count ≤ length self.old }
+        ensures { self.new ≡ take count (drop skipped self.old) }
     {
-        self.room = make_room(alloc, &mut self.entries, self.room, front.len())?;
-        self.entries.append(&mut back)?;
-        self.room = fill(&mut self.entries, self.room, front);
-        Ok(())
+        self.room += skipped;
+        self.entries.truncate(self.room + count);
     }
 }

@@ -1,89 +1,93 @@
-//! What the derives of the public types promise, each as the contract of a small function that
-//! calls the derive.
+//! The contracts of the derives of the public types. A derive has no contract, so for each derive
+//! there is a small function that calls it and states what it does.
 //!
-//! A clone is always made, and is its source. `==` is true exactly where two values are seen the
-//! same: field by field, texts by their characters, and with every span. So it is reflexive,
-//! symmetric and transitive. The defaults ask for nothing.
+//! A clone always succeeds, and equals its source. `==` is true exactly if all fields are equal:
+//! texts by their characters, and spans included. So it is reflexive, symmetric and transitive. The
+//! defaults have every part absent.
 
-// Two texts of the same characters have the same bytes because each is UTF-8. A contract knows that
-// of a `&str` that is passed, so the functions named `know_` pass each text of a value on.
+// Two texts with the same characters have the same bytes because each is UTF-8. A contract knows
+// this of a `&str` that is an argument, so the functions named `know_` pass on each text of a
+// value.
 
 ghost use Rattle.std.specs.Prelude.{◌≡◌, ◌↔◌, IsOkAnd, IsTrue, IsUtf8};
 ghost use Rattle.rustc_parse_format.specs.Equivalence.{AreSame, IsEquivalence};
-ghost use Rattle.rustc_parse_format.specs.KnownTexts.{IsTextInArgument, IsTextInCount, IsTextInPiece, IsTextInPosition, IsTextInSpec};
+ghost use Rattle.rustc_parse_format.specs.KnownTexts.{IsTextInArgument, IsTextInCount};
+ghost use Rattle.rustc_parse_format.specs.KnownTexts.{IsTextInPiece, IsTextInPosition};
+ghost use Rattle.rustc_parse_format.specs.KnownTexts.{IsTextInSpec};
 ghost use Rattle.rustc_parse_format.specs.Types.{Implied, Unknown, default_spec};
 ghost use Rattle.rustc_parse_format.specs.Seen.{seen, seen_alignment, seen_argument, seen_count};
-ghost use Rattle.rustc_parse_format.specs.Seen.{seen_debug_hex, seen_mode, seen_position, seen_sign, seen_spec};
+ghost use Rattle.rustc_parse_format.specs.Seen.{seen_debug_hex, seen_mode, seen_position};
+ghost use Rattle.rustc_parse_format.specs.Seen.{seen_sign, seen_spec};
 
 use crate::types::{
     Alignment, Argument, Count, DebugHex, FormatSpec, ParseMode, Piece, Position, Sign, Taken,
 };
 use std::alloc::AllocError;
 
-/// A clone of a mode is made, and is its source.
+/// Clones a mode. Always succeeds, and the clone equals its source.
 pub fn clone_of_mode(mode: &ParseMode) -> Result<ParseMode, AllocError>
     ensures { IsOkAnd result (λ m. m ≡ mode.now) }
 {
     mode.clone()
 }
 
-/// `==` of two modes says whether they are seen the same.
+/// Returns whether two modes are equal, by `==`.
 pub fn modes_are_equal(a: &ParseMode, b: &ParseMode) -> bool
     ensures { IsTrue result ↔ AreSame seen_mode a.now b.now }
 {
     a == b
 }
 
-/// A clone of an alignment is made, and is its source.
+/// Clones an alignment. Always succeeds, and the clone equals its source.
 pub fn clone_of_alignment(alignment: &Alignment) -> Result<Alignment, AllocError>
     ensures { IsOkAnd result (λ a. a ≡ alignment.now) }
 {
     alignment.clone()
 }
 
-/// `==` of two alignments says whether they are seen the same.
+/// Returns whether two alignments are equal, by `==`.
 pub fn alignments_are_equal(a: &Alignment, b: &Alignment) -> bool
     ensures { IsTrue result ↔ AreSame seen_alignment a.now b.now }
 {
     a == b
 }
 
-/// By default no alignment is given.
+/// Returns the default alignment: none is given.
 pub fn default_of_alignment() -> Alignment
     ensures { seen_alignment result ≡ Unknown }
 {
     Alignment::default()
 }
 
-/// A clone of a sign is made, and is its source.
+/// Clones a sign. Always succeeds, and the clone equals its source.
 pub fn clone_of_sign(sign: &Sign) -> Result<Sign, AllocError>
     ensures { IsOkAnd result (λ s. s ≡ sign.now) }
 {
     sign.clone()
 }
 
-/// `==` of two signs says whether they are seen the same.
+/// Returns whether two signs are equal, by `==`.
 pub fn signs_are_equal(a: &Sign, b: &Sign) -> bool
     ensures { IsTrue result ↔ AreSame seen_sign a.now b.now }
 {
     a == b
 }
 
-/// A clone of a case of hexadecimal digits is made, and is its source.
+/// Clones a case of hexadecimal digits. Always succeeds, and the clone equals its source.
 pub fn clone_of_debug_hex(hex: &DebugHex) -> Result<DebugHex, AllocError>
     ensures { IsOkAnd result (λ h. h ≡ hex.now) }
 {
     hex.clone()
 }
 
-/// `==` of two cases of hexadecimal digits says whether they are seen the same.
+/// Returns whether two cases of hexadecimal digits are equal, by `==`.
 pub fn debug_hexes_are_equal(a: &DebugHex, b: &DebugHex) -> bool
     ensures { IsTrue result ↔ AreSame seen_debug_hex a.now b.now }
 {
     a == b
 }
 
-/// A clone of a position is made, and is its source.
+/// Clones a position. Always succeeds, and the clone equals its source.
 pub fn clone_of_position<'input>(
     position: &Position<'input>,
 ) -> Result<Position<'input>, AllocError>
@@ -92,12 +96,12 @@ pub fn clone_of_position<'input>(
     position.clone()
 }
 
-/// A text is UTF-8.
+/// Proves that a text is UTF-8.
 fn know_text(_text: &str)
     ensures { IsUtf8 _text.now }
 {}
 
-/// The name in a position is UTF-8.
+/// Proves that the name in a position is UTF-8.
 fn know_position(position: &Position<'_>)
     ensures { IsTextInPosition position.now }
 {
@@ -106,7 +110,7 @@ fn know_position(position: &Position<'_>)
     }
 }
 
-/// `==` of two positions says whether they are seen the same.
+/// Returns whether two positions are equal, by `==`: texts are compared by their characters.
 pub fn positions_are_equal(a: &Position<'_>, b: &Position<'_>) -> bool
     ensures { IsTrue result ↔ AreSame seen_position a.now b.now }
 {
@@ -115,14 +119,14 @@ pub fn positions_are_equal(a: &Position<'_>, b: &Position<'_>) -> bool
     a == b
 }
 
-/// A clone of a count is made, and is its source.
+/// Clones a count. Always succeeds, and the clone equals its source.
 pub fn clone_of_count<'input>(count: &Count<'input>) -> Result<Count<'input>, AllocError>
     ensures { IsOkAnd result (λ n. n ≡ count.now) }
 {
     count.clone()
 }
 
-/// The name in a count is UTF-8.
+/// Proves that the name in a count is UTF-8.
 fn know_count(count: &Count<'_>)
     ensures { IsTextInCount count.now }
 {
@@ -131,7 +135,8 @@ fn know_count(count: &Count<'_>)
     }
 }
 
-/// `==` of two counts says whether they are seen the same.
+/// Returns whether two counts are equal, by `==`: texts are compared by their characters, and spans
+/// too.
 pub fn counts_are_equal(a: &Count<'_>, b: &Count<'_>) -> bool
     ensures { IsTrue result ↔ AreSame seen_count a.now b.now }
 {
@@ -140,21 +145,21 @@ pub fn counts_are_equal(a: &Count<'_>, b: &Count<'_>) -> bool
     a == b
 }
 
-/// By default no count is given.
+/// Returns the default count: none is given.
 pub fn default_of_count<'input>() -> Count<'input>
     ensures { seen_count result ≡ Implied }
 {
     Count::default()
 }
 
-/// A clone of a specification is made, and is its source.
+/// Clones a format specification. Always succeeds, and the clone equals its source.
 pub fn clone_of_spec<'input>(spec: &FormatSpec<'input>) -> Result<FormatSpec<'input>, AllocError>
     ensures { IsOkAnd result (λ s. s ≡ spec.now) }
 {
     spec.clone()
 }
 
-/// The texts of a specification are UTF-8.
+/// Proves that the texts of a format specification are UTF-8.
 fn know_spec(spec: &FormatSpec<'_>)
     ensures { IsTextInSpec spec.now }
 {
@@ -163,7 +168,8 @@ fn know_spec(spec: &FormatSpec<'_>)
     know_text(spec.ty);
 }
 
-/// `==` of two specifications says whether they are seen the same.
+/// Returns whether two format specifications are equal, by `==`: texts are compared by their
+/// characters, and spans too.
 pub fn specs_are_equal(a: &FormatSpec<'_>, b: &FormatSpec<'_>) -> bool
     ensures { IsTrue result ↔ AreSame seen_spec a.now b.now }
 {
@@ -172,14 +178,14 @@ pub fn specs_are_equal(a: &FormatSpec<'_>, b: &FormatSpec<'_>) -> bool
     a == b
 }
 
-/// By default each part of a specification is absent.
+/// Returns the default format specification: each part is absent.
 pub fn default_of_spec<'input>() -> FormatSpec<'input>
     ensures { seen_spec result ≡ default_spec }
 {
     FormatSpec::default()
 }
 
-/// A clone of a placeholder is made, and is its source.
+/// Clones a placeholder. Always succeeds, and the clone equals its source.
 pub fn clone_of_argument<'input>(
     argument: &Argument<'input>,
 ) -> Result<Argument<'input>, AllocError>
@@ -188,14 +194,14 @@ pub fn clone_of_argument<'input>(
     argument.clone()
 }
 
-/// A clone of a piece whose placeholder is elsewhere is made, and is its source.
+/// Clones a piece whose placeholder is elsewhere. Always succeeds, and the clone equals its source.
 pub fn clone_of_taken<'input>(taken: &Taken<'input>) -> Result<Taken<'input>, AllocError>
     ensures { IsOkAnd result (λ t. t ≡ taken.now) }
 {
     taken.clone()
 }
 
-/// The texts of a placeholder are UTF-8.
+/// Proves that the texts of a placeholder are UTF-8.
 fn know_argument(argument: &Argument<'_>)
     ensures { IsTextInArgument argument.now }
 {
@@ -203,7 +209,8 @@ fn know_argument(argument: &Argument<'_>)
     know_spec(&argument.format);
 }
 
-/// `==` of two placeholders says whether they are seen the same.
+/// Returns whether two placeholders are equal, by `==`: texts are compared by their characters, and
+/// spans too.
 pub fn arguments_are_equal(a: &Argument<'_>, b: &Argument<'_>) -> bool
     ensures { IsTrue result ↔ AreSame seen_argument a.now b.now }
 {
@@ -212,7 +219,7 @@ pub fn arguments_are_equal(a: &Argument<'_>, b: &Argument<'_>) -> bool
     a == b
 }
 
-/// The texts of a piece are UTF-8.
+/// Proves that the texts of a piece are UTF-8.
 fn know_piece(piece: &Piece<'_>)
     ensures { IsTextInPiece piece.now }
 {
@@ -222,7 +229,8 @@ fn know_piece(piece: &Piece<'_>)
     }
 }
 
-/// `==` of two pieces says whether they are seen the same.
+/// Returns whether two pieces are equal, by `==`: texts are compared by their characters, and spans
+/// too.
 pub fn pieces_are_equal<'input>(a: &Piece<'input>, b: &Piece<'input>) -> bool
     ensures { IsTrue result ↔ AreSame seen a.now b.now }
 {
@@ -231,9 +239,8 @@ pub fn pieces_are_equal<'input>(a: &Piece<'input>, b: &Piece<'input>) -> bool
     a == b
 }
 
-/// What `==` tells of the values of each type is reflexive, symmetric and transitive. Nothing is
-/// done.
-#[tactic(auto, using(crate::proofs::Equality::seen_equivalence))]
+/// Proves that `==` of each of these types is reflexive, symmetric and transitive. Does nothing.
+#[tactic(auto, using(crate::proofs::Derives::Equality::seen_equivalence))]
 pub fn equality_is_an_equivalence()
     ensures modes { IsEquivalence (AreSame seen_mode) }
     ensures alignments { IsEquivalence (AreSame seen_alignment) }

@@ -1,12 +1,20 @@
-//! A port of the parser by which the Rust compiler reads format strings, inline assembly templates and diagnostic texts.
+//! A port of rustc's `rustc_parse_format`: a parser for format strings, inline assembly templates
+//! and the texts of diagnostic attributes.
 //!
-//! Spans and places are ranges of bytes in the source. Where the snippet is the source literal of the input, that is the
-//! snippet. Otherwise it is a literal that has the input behind its opening quote as it stands, so a place is 1 more than in
-//! the input, or for a raw literal its hashes and 2 more. But there the end of the text is the length of the snippet, or
-//! without one that of the input less an appended newline, and no quote is counted: a span up to the end may be empty or end
-//! before it starts.
+//! [`Parser`] reads an input piece by piece, [`read_all`] reads a whole input, and [`literal`] is
+//! about the string literals that an input may come from. A fault of the input is recorded as a
+//! [`ParseError`], and parsing goes on.
 //!
-//! What takes memory is passed the allocator or keeps it, and answers an error where it is refused; a parser is then as it was.
+//! All offsets and lengths are in bytes, and spans and places are byte ranges of the source. If the
+//! snippet is the source literal of the input, the source is the snippet. Otherwise a span is what
+//! it would be in a literal that has the input unescaped after its opening quote: 1 more than in
+//! the input, or for a raw literal its number of hashes plus 2 more. But then the end of the text
+//! is at the length of the snippet, or without a snippet at that of the input less an appended
+//! newline, and no quote is counted: a span up to the end may be empty or end before it starts.
+//!
+//! A call that may allocate takes the allocator, `alloc`, or uses the one that its parser was
+//! created with. On an allocation failure it returns `AllocError`, and the parser is then
+//! unchanged. docs/RATTLE.md lists the calls, docs/PROMISES.md what is proved of each.
 #![tactic(auto)]
 
 mod blocks;
@@ -31,7 +39,6 @@ mod recover;
 mod source;
 mod specification;
 mod types;
-mod world;
 mod written;
 
 pub use parser::Parser;

@@ -1,8 +1,9 @@
-//! What each fault says: the texts of its error, one row for each.
+//! The errors that faults become, with their texts: one match arm for each fault.
 
-ghost use Rattle.std.specs.Prelude.{◌≡◌, ◌∷◌, [], IfOk, None, OnOk, Some, chars, codes, encode_utf8_all, option_map, string_bytes};
-ghost use Rattle.rustc_parse_format.specs.Faults.{LateFlag, align_after, debug_after, error, expected, local_variable, message, out_of_range};
-ghost use Rattle.rustc_parse_format.specs.Written.{written};
+ghost use Rattle.std.specs.Prelude.{◌≡◌, ◌∷◌, [], IfOk, None, OnOk, Some};
+ghost use Rattle.std.specs.Prelude.{chars, codes, encode_utf8_all, string_bytes};
+ghost use Rattle.rustc_parse_format.specs.Faults.{align_after, debug_after, error, expected};
+ghost use Rattle.rustc_parse_format.specs.Faults.{local_variable, message, out_of_range};
 ghost use Rattle.rustc_parse_format.specs.Seen.{pair, seen_error};
 ghost use Rattle.rustc_parse_format.specs.SeenFaults.{seen_fault};
 
@@ -12,27 +13,22 @@ use crate::written::put_written;
 use std::alloc::{AllocError, Global};
 use std::ops::Range;
 
-/// How a character is written in a message.
-fn written(alloc: Global, c: char) -> Result<String, AllocError>
-    ensures { IfOk result (λ s. string_bytes s ≡ written c) }
-{
-    let mut text = String::new(alloc);
-    put_written(&mut text, c)?;
-    Ok(text)
-}
-
-/// What a missing brace is described by.
+/// Returns the description of a missing closing brace, from the character found in its place, or
+/// `None` at the end of the input. Returns `Err` if an allocation fails.
 fn expected_brace(alloc: Global, found: Option<char>) -> Result<String, AllocError>
     ensures { IfOk result (λ s. string_bytes s ≡ expected found) }
 {
     let Some(c) = found else {
         return String::from_str(alloc, "expected `}` but string was terminated");
     };
-    let shown = written(alloc, c)?;
-    format!(in alloc; "expected `}}`, found `{shown}`")
+    let mut text = String::from_str(alloc, "expected `}`, found `")?;
+    put_written(&mut text, c)?;
+    text.push('`')?;
+    Ok(text)
 }
 
-/// What a number above 65535 is described by.
+/// Returns the description of a number above 65535, from its digits. Returns `Err` if an allocation
+/// fails.
 fn out_of_range(alloc: Global, digits: &str) -> Result<String, AllocError>
     ensures { IfOk result (λ s. string_bytes s ≡ out_of_range (chars digits.now)) }
 {
@@ -41,151 +37,95 @@ fn out_of_range(alloc: Global, digits: &str) -> Result<String, AllocError>
     )
 }
 
-/// The type `?` after its flag.
+/// Returns the flag with the type `?` after it. Returns `Err` if an allocation fails.
 fn flagged_type(alloc: Global, flag: char) -> Result<String, AllocError>
     ensures { IfOk result (λ s. string_bytes s ≡ encode_utf8_all (flag ∷ codes "?")) }
 {
     format!(in alloc; "{flag}?")
 }
 
-/// How to ask for the format `?` of a word.
+/// Returns the note on how to write the type `?` for the argument `word`. Returns `Err` if an
+/// allocation fails.
 fn debug_after(alloc: Global, word: &str) -> Result<String, AllocError>
     ensures { IfOk result (λ s. string_bytes s ≡ debug_after (chars word.now)) }
 {
     format!(in alloc; "`?` comes after `:`, try `{word}:?` instead")
 }
 
-/// Where the sign of an alignment belongs.
+/// Returns the label on where an alignment belongs. Returns `Err` if an allocation fails.
 fn align_after(alloc: Global, sign: char) -> Result<String, AllocError>
     ensures { IfOk result (λ s. string_bytes s ≡ align_after sign) }
 {
     format!(in alloc; "expected `{sign}` to occur after `:`")
 }
 
-/// The note of an error, if it has one.
-fn remark(alloc: Global, note: Option<&str>) -> Result<Option<String>, AllocError>
-    ensures { IfOk result (λ s. option_map (λ t. string_bytes t) s ≡ option_map (λ t. t.now) note.entry) }
-{
-    match note {
-        Some(text) => Ok(Some(String::from_str(alloc, text)?)),
-        None => Ok(None),
-    }
-}
-
-/// Writes where an error is, and what is there.
+/// Sets the description, the label and the span of an error. Returns `Err` if an allocation fails.
 fn show(
     alloc: Global,
     into: &mut ParseError,
-    text: &str,
-    span: Range<usize>,
-) -> Result<(), AllocError>
-    ensures { OnOk result (seen_error into.new ≡ record (seen_error into.old) { label = text.now; span = pair span }) }
-{
-    into.label = String::from_str(alloc, text)?;
-    into.span = span;
-    Ok(())
-}
-
-/// Writes what an error says: its description, its note, if it has one, and what its span shows.
-fn say(
-    alloc: Global,
-    into: &mut ParseError,
-    description: &str,
-    note: Option<&str>,
+    description: String,
     label: &str,
     span: Range<usize>,
 ) -> Result<(), AllocError>
-    requires { (seen_error into.old).note ≡ None }
     ensures { OnOk result (seen_error into.new ≡ record (seen_error into.old) {
-      description = description.now;
-      note = option_map (λ t. t.now) note.entry;
+      description = string_bytes description;
       label = label.now;
       span = pair span;
     }) }
 {
-    into.description = String::from_str(alloc, description)?;
-    into.note = remark(alloc, note)?;
-    show(alloc, into, label, span)
-}
-
-/// Writes what another span of an error shows.
-fn show_second(
-    alloc: Global,
-    into: &mut ParseError,
-    text: &str,
-    span: Range<usize>,
-) -> Result<(), AllocError>
-    ensures { OnOk result (seen_error into.new ≡ record (seen_error into.old) { second = Some (text.now, pair span) }) }
-{
-    into.secondary_label = Some((String::from_str(alloc, text)?, span));
+    into.description = description;
+    into.label = String::from_str(alloc, label)?;
+    into.span = span;
     Ok(())
 }
 
-/// Writes the error of a missing brace, which has a second span.
+/// Sets the description, the note, the label and the span of an error. Returns `Err` if an
+/// allocation fails.
+fn say(
+    alloc: Global,
+    into: &mut ParseError,
+    description: &str,
+    note: &str,
+    label: &str,
+    span: Range<usize>,
+) -> Result<(), AllocError>
+    ensures { OnOk result (seen_error into.new ≡ record (seen_error into.old) {
+      description = description.now;
+      note = Some note.now;
+      label = label.now;
+      span = pair span;
+    }) }
+{
+    let description = String::from_str(alloc, description)?;
+    into.note = Some(String::from_str(alloc, note)?);
+    show(alloc, into, description, label, span)
+}
+
+/// Sets the description, the note, the span and the secondary label of an error whose label is that
+/// of a missing closing brace. Returns `Err` if an allocation fails.
 fn tell_brace(
     alloc: Global,
     into: &mut ParseError,
-    found: Option<char>,
+    description: String,
     note: &str,
     span: Range<usize>,
     second: (&str, Range<usize>),
 ) -> Result<(), AllocError>
-    requires { seen_error into.old ≡ error [] None [] (0, 0) None }
-    ensures { OnOk result (seen_error into.new
-        ≡ error (expected found) (Some note.now) (codes "expected `}`") (pair span) (Some (second.entry.0.now, pair second.entry.1))) }
-{
-    into.description = expected_brace(alloc, found)?;
-    into.note = remark(alloc, Some(note))?;
-    show(alloc, into, "expected `}`", span)?;
-    show_second(alloc, into, second.0, second.1)
-}
-
-/// Writes the error of what another language puts in place of a brace.
-fn tell_python(
-    alloc: Global,
-    into: &mut ParseError,
-    description: &str,
-    span: Range<usize>,
-    opening: Range<usize>,
-) -> Result<(), AllocError>
-    requires { (seen_error into.old).note ≡ None }
     ensures { OnOk result (seen_error into.new ≡ record (seen_error into.old) {
-      description = description.now;
-      note = Some (codes "to print `{`, you can escape it using `{{`");
+      description = string_bytes description;
+      note = Some note.now;
       label = codes "expected `}`";
       span = pair span;
-      second = Some (codes "because of this opening brace", pair opening);
+      second = Some (second.entry.0.now, pair second.entry.1);
     }) }
 {
-    say(
-        alloc,
-        into,
-        description,
-        Some("to print `{`, you can escape it using `{{`"),
-        "expected `}`",
-        span,
-    )?;
-    show_second(alloc, into, "because of this opening brace", opening)
+    into.note = Some(String::from_str(alloc, note)?);
+    into.secondary_label = Some((String::from_str(alloc, second.0)?, second.1));
+    show(alloc, into, description, "expected `}`", span)
 }
 
-/// Writes the error of a flag after the type `?`.
-#[tactic(auto, unfolding(crate::specs::Faults::message))]
-fn tell_flag(
-    alloc: Global,
-    into: &mut ParseError,
-    flag: char,
-    span: Range<usize>,
-    both: Range<usize>,
-) -> Result<(), AllocError>
-    requires { seen_error into.old ≡ error [] None [] (0, 0) None }
-    ensures { OnOk result (seen_error into.new ≡ message (LateFlag flag (pair span) (pair both))) }
-{
-    into.suggestion = Suggestion::ReorderFormatParameter(both, flagged_type(alloc, flag)?);
-    into.description = expected_brace(alloc, Some(flag))?;
-    show(alloc, into, "expected `'}'`", span)
-}
-
-/// Writes the error of a field.
+/// Sets an error, which is still empty, to that of a field access. Returns `Err` if an allocation
+/// fails.
 fn tell_field(
     alloc: Global,
     into: &mut ParseError,
@@ -200,15 +140,13 @@ fn tell_field(
         alloc,
         into,
         description,
-        Some(
-            "consider moving this expression to a local variable and then using the local here instead",
-        ),
+        "consider moving this expression to a local variable and then using the local here instead",
         "not supported",
         span,
     )
 }
 
-/// Writes the error that a fault becomes into an empty one: a row for each.
+/// Sets an error, which is still empty, to that of a fault. Returns `Err` if an allocation fails.
 #[tactic(auto, unfolding(crate::specs::Faults::message))]
 pub fn tell(alloc: Global, into: &mut ParseError, fault: Fault<'_>) -> Result<(), AllocError>
     requires { seen_error into.old ≡ error [] None [] (0, 0) None }
@@ -219,14 +157,14 @@ pub fn tell(alloc: Global, into: &mut ParseError, fault: Fault<'_>) -> Result<()
             alloc,
             into,
             "unmatched `}` found",
-            Some("if you intended to print `}`, you can escape it using `}}`"),
+            "if you intended to print `}`, you can escape it using `}}`",
             "unmatched `}`",
             span,
         ),
         Fault::MissingBrace(found, span, opening) => tell_brace(
             alloc,
             into,
-            found,
+            expected_brace(alloc, found)?,
             "if you intended to print `{`, you can escape it using `{{`",
             span,
             ("because of this opening brace", opening),
@@ -234,7 +172,7 @@ pub fn tell(alloc: Global, into: &mut ParseError, fault: Fault<'_>) -> Result<()
         Fault::FillBrace(found, span, fill) => tell_brace(
             alloc,
             into,
-            found,
+            expected_brace(alloc, found)?,
             "the character `}` is interpreted as a fill character because of the `:` that precedes it",
             span,
             (
@@ -246,27 +184,29 @@ pub fn tell(alloc: Global, into: &mut ParseError, fault: Fault<'_>) -> Result<()
             alloc,
             into,
             "invalid argument name `_`",
-            Some("argument name cannot be a single underscore"),
+            "argument name cannot be a single underscore",
             "invalid argument name",
             span,
         ),
-        Fault::TooLarge(digits, span) => {
-            into.description = out_of_range(alloc, digits)?;
-            show(alloc, into, "integer out of range for `u16`", span)
-        }
+        Fault::TooLarge(digits, span) => show(
+            alloc,
+            into,
+            out_of_range(alloc, digits)?,
+            "integer out of range for `u16`",
+            span,
+        ),
         Fault::Unnamed(span) => say(
             alloc,
             into,
             "expected a named argument",
-            Some("only named arguments are allowed here"),
+            "only named arguments are allowed here",
             "expected a name",
             span,
         ),
-        Fault::TextAfterColon(span) => say(
+        Fault::TextAfterColon(span) => show(
             alloc,
             into,
-            "format specifiers are not allowed",
-            None,
+            String::from_str(alloc, "format specifiers are not allowed")?,
             "remove this text",
             span,
         ),
@@ -276,32 +216,36 @@ pub fn tell(alloc: Global, into: &mut ParseError, fault: Fault<'_>) -> Result<()
                 alloc,
                 into,
                 "raw identifiers are not supported",
-                Some(
-                    "identifiers in format strings can be keywords and don't need to be prefixed with `r#`",
-                ),
+                "identifiers in format strings can be keywords and don't need to be prefixed with `r#`",
                 "raw identifier used here",
                 span,
             )
         }
-        Fault::LateFlag(flag, span, both) => tell_flag(alloc, into, flag, span, both),
+        Fault::LateFlag(flag, span, both) => {
+            into.suggestion = Suggestion::ReorderFormatParameter(both, flagged_type(alloc, flag)?);
+            let description = expected_brace(alloc, Some(flag))?;
+            show(alloc, into, description, "expected `'}'`", span)
+        }
         Fault::MissingColon(span) => {
             into.suggestion = Suggestion::AddMissingColon(span.start..span.end);
             say(
                 alloc,
                 into,
                 "expected `}`, found `?`",
-                Some("to print `{`, you can escape it using `{{`"),
+                "to print `{`, you can escape it using `{{`",
                 "expected `:` before `?` to format with `Debug`",
                 span,
             )
         }
         Fault::LateDebug(word, span) => {
             into.note = Some(debug_after(alloc, word)?);
-            into.description = String::from_str(
+            show(
                 alloc,
-                "expected format parameter to occur after `:`",
-            )?;
-            show(alloc, into, "expected `?` to occur after `:`", span)
+                into,
+                String::from_str(alloc, "expected format parameter to occur after `:`")?,
+                "expected `?` to occur after `:`",
+                span,
+            )
         }
         Fault::LateAlign(sign, span) => {
             into.label = align_after(alloc, sign)?;
@@ -312,28 +256,36 @@ pub fn tell(alloc: Global, into: &mut ParseError, fault: Fault<'_>) -> Result<()
             )?;
             Ok(())
         }
-        Fault::Grouping(span, opening) => tell_python(
+        Fault::Grouping(span, opening) => tell_brace(
             alloc,
             into,
-            "python's numeric grouping `,` is not supported in rust format strings",
+            String::from_str(
+                alloc,
+                "python's numeric grouping `,` is not supported in rust format strings",
+            )?,
+            "to print `{`, you can escape it using `{{`",
             span,
-            opening,
+            ("because of this opening brace", opening),
         ),
         Fault::DebugPrint(span, opening) => {
             into.suggestion = Suggestion::UseRustDebugPrintingMacro;
-            tell_python(
+            tell_brace(
                 alloc,
                 into,
-                "python's f-string debug `=` is not supported in rust, use `dbg(x)` instead",
+                String::from_str(
+                    alloc,
+                    "python's f-string debug `=` is not supported in rust, use `dbg(x)` instead",
+                )?,
+                "to print `{`, you can escape it using `{{`",
                 span,
-                opening,
+                ("because of this opening brace", opening),
             )
         }
         Fault::LateSign(span) => say(
             alloc,
             into,
             "the `+` sign flag must appear after `:` in a format string",
-            Some("`+` comes after `:`, try `{:+}` instead of `{+}`"),
+            "`+` comes after `:`, try `{:+}` instead of `{+}`",
             "expected `:` before `+` sign flag",
             span,
         ),

@@ -1,4 +1,5 @@
-//! What is asked of values of the public types, and the clone of a piece.
+//! Methods of the public types: the clone of a piece, the index of a position, and whether an
+//! argument is an identifier.
 
 ghost use Rattle.std.specs.Prelude.{◌≡◌};
 ghost use Rattle.rustc_parse_format.specs.Seen.{index_of};
@@ -12,7 +13,8 @@ impl<'input> Piece<'input> {
     ghost use Rattle.rustc_parse_format.specs.Seen.{seen};
     ghost use Rattle.rustc_parse_format.specs.Types.{IsText};
 
-    /// The same piece again. Only a placeholder needs memory, and an error is a refusal of that.
+    /// Returns a clone of the piece, with all its spans. Only a placeholder allocates, with
+    /// `alloc`: returns `Err` if that allocation fails.
     pub fn clone(&self, alloc: Global) -> Result<Piece<'input>, AllocError>
         ensures clone { IfOk result (λ p. seen p ≡ seen self.now) }
         ensures spare { IsText (seen self.now) → IsOk result }
@@ -28,7 +30,7 @@ impl<'input> Piece<'input> {
 }
 
 impl Position<'_> {
-    /// The number of the argument, or None where it is named.
+    /// Returns the index of the argument, or `None` if it is given by name.
     pub fn index(&self) -> Option<usize>
         ensures { result ≡ index_of self.now }
     {
@@ -44,7 +46,8 @@ impl Argument<'_> {
     ghost use Rattle.rustc_parse_format.specs.Identifiers.{IsIdentifier};
     ghost use Rattle.rustc_parse_format.specs.Seen.{seen_argument};
 
-    /// It is a name and nothing else: its specification is the default, in which no span is there either.
+    /// Returns whether the argument is a name and nothing else: its format is the default, without
+    /// any span.
     pub fn is_identifier(&self) -> bool
         ensures { IsTrue result ↔ IsIdentifier (seen_argument self.now) }
     {

@@ -1,12 +1,14 @@
-//! The pieces of a parser, one after the other, as an iterator.
+//! An iterator over the pieces of a parser.
 
 use crate::parser::Parser;
 use crate::types::Piece;
 use std::alloc::AllocError;
 use std::iter::FusedIterator;
 
-/// The pieces of a parser from where it stands, each as [`Parser::next`] gives it. It ends for good at the first call that
-/// gives none, and after the first that is refused memory; [`Parser::pieces`] then makes another one, which goes on.
+/// An iterator over the pieces of a parser, from its position on. Each item is what one call of
+/// [`Parser::next`] returns: a piece, or `AllocError` if an allocation fails, and the parser is
+/// then unchanged. The iterator ends for good at the first call that returns `None`, and after the
+/// first error; [`Parser::pieces`] then returns a new one, which goes on.
 #[derive(Drop)]
 pub struct Pieces<'a, 'input> {
     parser: &'a mut Parser<'input>,
@@ -24,15 +26,19 @@ impl<'input> Parser<'input> {
     ghost use Rattle.rustc_parse_format.specs.State.{after_all, calls};
     ghost use Rattle.rustc_parse_format.specs.World.{pieces_in};
 
-    /// The pieces from here on. Takes no memory.
+    /// Returns an iterator over the pieces that follow. Does not allocate, but its items may: each
+    /// is one call of [`Parser::next`].
     pub fn pieces(&mut self) -> Pieces<'_, 'input>
         ensures same_parser { lender_of result ≡ self.entry.ghost_name }
         ensures at { parser_of result ≡ self.old }
         ensures begins { has_ended result ≡ false }
 
-        // Up to its end, where no item is a refusal, it gives what the walk of the parser does, and leaves the parser after it.
-        ensures walk { (ps : List DeclaredPiece) (last : Pieces) → YieldsThen GivesItem result (map Ok ps) None last
-            → (map seen ps ≡ pieces_in self.old.world (pieces_of (calls self.old))) × (parser_of last ≡ after_all self.old (calls self.old)) }
+        // Up to its end, if no item is an error, its items are the pieces of the calls up to the
+        // first `None`, and the parser is then the one after them.
+        ensures walk { (ps : List DeclaredPiece) (last : Pieces)
+            → YieldsThen GivesItem result (map Ok ps) None last
+            → (map seen ps ≡ pieces_in self.old.world (pieces_of (calls self.old)))
+            × (parser_of last ≡ after_all self.old (calls self.old)) }
     {
         Pieces {
             parser: self,

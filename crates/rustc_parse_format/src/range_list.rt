@@ -1,6 +1,7 @@
-//! Ranges in order, of which the first few take no memory.
+//! A list of byte ranges, of which the first two need no allocation.
 
-ghost use Rattle.std.specs.Prelude.{◌≡◌, ◌↔◌, ◌++◌, ◌∷◌, [], IfOk, IsTrue, OnErr, OnOk, length, map, take};
+ghost use Rattle.std.specs.Prelude.{◌≡◌, ◌↔◌, ◌++◌, ◌∷◌, [], IfOk, IsTrue, OnErr, OnOk};
+ghost use Rattle.std.specs.Prelude.{length, map, take};
 ghost use Rattle.rustc_parse_format.specs.Seen.{pair};
 
 use std::alloc::{AllocError, Global};
@@ -8,7 +9,8 @@ use std::marker::Model;
 use std::mem;
 use std::ops::Range;
 
-/// Ranges in order. Few of them are the first `held` of `few`, and then `many` is empty; more are in `many`.
+/// A list of byte ranges. It is either the first `held` entries of `few`, and then `many` is empty,
+/// or `held` is 0 and it is `many`.
 #[derive(Drop)]
 pub struct RangeList {
     few: [Range<usize>; 2],
@@ -28,7 +30,7 @@ impl Model for RangeList {
     ghost invariant = { λ l. (length l.few ≡ 2) × (l.held ≤ 2) × (l.held ≢ 0 → l.many.items ≡ []) };
 }
 
-/// A list of two ranges, which has room for one more.
+/// Returns a list of the two ranges, with room for one more. Returns `Err` if an allocation fails.
 #[inline(never)]
 fn list_of_two(alloc: Global, few: &[Range<usize>; 2]) -> Result<Vec<Range<usize>>, AllocError>
     ensures { IfOk result (λ many. map pair many.items ≡ map pair few.now) }
@@ -42,7 +44,7 @@ fn list_of_two(alloc: Global, few: &[Range<usize>; 2]) -> Result<Vec<Range<usize
 }
 
 impl RangeList {
-    /// No ranges. Takes no memory.
+    /// Returns an empty list. Does not allocate.
     pub fn new(alloc: Global) -> RangeList
         ensures { result ≡ [] }
     {
@@ -53,21 +55,21 @@ impl RangeList {
         }
     }
 
-    /// How many there are.
+    /// Returns the number of ranges.
     pub fn len(&self) -> usize
         ensures { result ≡ length self.now }
     {
         self.held + self.many.len()
     }
 
-    /// Whether there are none.
+    /// Returns whether there are no ranges.
     pub fn is_empty(&self) -> bool
         ensures { IsTrue result ↔ (self.now ≡ []) }
     {
         self.len() == 0
     }
 
-    /// The ranges, in order.
+    /// Returns the ranges, in order.
     pub fn as_slice(&self) -> &[Range<usize>]
         ensures { map pair result.now ≡ self.now }
     {
@@ -77,7 +79,8 @@ impl RangeList {
         &self.few[..self.held]
     }
 
-    /// Adds a range at the end, or nothing where memory is refused.
+    /// Adds a range at the end. Returns `Err` if an allocation fails, and the list is then
+    /// unchanged. The first two ranges need no allocation.
     #[inline(always)]
     pub fn push(&mut self, range: Range<usize>) -> Result<(), AllocError>
         ensures ok { OnOk result (self.new ≡ self.old ++ pair range ∷ []) }
@@ -96,7 +99,7 @@ impl RangeList {
         Ok(())
     }
 
-    /// Keeps the first so many, and forgets the others.
+    /// Keeps the first `count` ranges, and drops all others.
     pub fn truncate(&mut self, count: usize)
         ensures { self.new ≡ take count self.old }
     {
@@ -107,28 +110,27 @@ impl RangeList {
         self.many.truncate(count);
     }
 
-    /// Takes ranges in the place of its own, and leaves none.
-    pub fn take_from(&mut self, ranges: &mut Vec<Range<usize>>)
-        ensures value { self.new ≡ map pair ranges.old.items }
-        ensures taken { ranges.new.items ≡ [] }
-    {
-        self.held = 0;
-        mem::swap(&mut self.many, ranges);
-        ranges.clear();
-    }
-
-    /// Adds copies of ranges at the end, or none where memory is refused.
-    pub fn extend(&mut self, ranges: &[Range<usize>]) -> Result<(), AllocError>
-        ensures ok { OnOk result (self.new ≡ self.old ++ map pair ranges.now) }
+    /// Moves all of `ranges` to the end. Returns `Err` if an allocation fails, and the list is then
+    /// unchanged. If the list is empty and there are several ranges, takes over their vector and
+    /// does not allocate.
+    pub fn append(&mut self, ranges: &mut Vec<Range<usize>>) -> Result<(), AllocError>
+        ensures ok { OnOk result (self.new ≡ self.old ++ map pair ranges.old.items) }
+        ensures moved { OnOk result (ranges.new.items ≡ []) }
         ensures err { OnErr result (self.new ≡ self.old) }
     {
+        if self.is_empty() && ranges.len() > 1 {
+            self.held = 0;
+            self.many = mem::replace(ranges, Vec::new(*ranges.allocator()));
+            return Ok(());
+        }
         let count = self.len();
-        for range in ranges {
+        for range in ranges.as_slice() {
             if self.push(range.start..range.end).is_err() {
                 self.truncate(count);
                 return Err(AllocError);
             }
         }
+        ranges.clear();
         Ok(())
     }
 }

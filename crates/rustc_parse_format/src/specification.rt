@@ -1,334 +1,273 @@
-//! What a colon brings: a format specification, the modifier of inline assembly, or the text of a diagnostic.
-
-ghost use Rattle.std.specs.Prelude.{[], ◌+◌, ◌++◌, ◌<◌, ◌^◌, ◌≡◌, chars, codes, IfOk, if◌then◌else◌, IsOk, length, None, OnErr, OnOk, option_map, Some};
-ghost use Rattle.rustc_parse_format.specs.Meaning.{spec_texts};
-ghost use Rattle.rustc_parse_format.specs.Characters.{begins_with, behind, behind_first, behind_word, first, front, is_no_brace, word};
-ghost use Rattle.rustc_parse_format.specs.Marks.{End, Span, over_first, up_to};
-ghost use Rattle.rustc_parse_format.specs.Meaning.{fill_span, format_of, spec_of, type_span, word_span};
-ghost use Rattle.rustc_parse_format.specs.PartFaults.{flag_faults, format_faults, late_flag, spec_faults, text_faults, type_faults, word_faults};
-ghost use Rattle.rustc_parse_format.specs.Seen.{pair, seen_alignment, seen_debug_hex, seen_mode, seen_sign, seen_spec};
-ghost use Rattle.rustc_parse_format.specs.Specification.{align, alternate, fill, format_text, sign, specification, type};
-ghost use Rattle.rustc_parse_format.specs.Midway.{FindsNothing, IsInOneLine, read_run, read_texts, read_to, read_tries};
-ghost use Rattle.rustc_parse_format.specs.Reads.{Reaches, Reads};
-ghost use Rattle.rustc_parse_format.specs.Tries.{format_tries, spec_tries};
-ghost use Rattle.rustc_parse_format.specs.Types.{default_spec, map_spec};
-ghost use Rattle.rustc_parse_format.specs.Values.{debug_hex_of, number_after_precision, number_after_spec, type_of};
-ghost use Rattle.rustc_parse_format.specs.Back.{IsFurthest};
-ghost use Rattle.rustc_parse_format.specs.World.{number_of, place_of};
+//! Reads what comes after the colon of a placeholder: a format specification, the modifier of
+//! inline assembly, or the text of a diagnostic.
 
 use crate::characters::first;
-use crate::counts::{precision, width, word};
-use crate::cursor::Cursor;
 use crate::faults::Fault;
 use crate::reader::Reader;
 use crate::types::{Alignment, DebugHex, FormatSpec, ParseMode, Sign, wants_names};
 use std::alloc::AllocError;
 use std::ops::Range;
 
-/// Reads the fill at the front: a character with an alignment after it.
-fn fill<'input>(cursor: &mut Cursor<'input>) -> (Option<char>, Option<Range<usize>>)
-    ensures value { result.0 ≡ (fill cursor.old.rest).0 }
-    ensures span { option_map pair result.1
-        ≡ option_map (place_of cursor.old.world) (fill_span cursor.old.rest (fill cursor.old.rest).0) }
-    ensures rest { cursor.new ≡ record cursor.old { rest = (fill cursor.old.rest).1 } }
-{
-    match (cursor.peek(), cursor.peek_ahead()) {
-        (Some(c), Some('<' | '>' | '^')) => {
-            let span = cursor.start()..cursor.stop();
-            cursor.advance();
-            (Some(c), Some(span))
+impl<'input> Reader<'input> {
+    ghost use Rattle.std.specs.Prelude.{[], ◌+◌, ◌++◌, ◌<◌, ◌^◌, ◌≡◌, chars, codes, if◌then◌else◌};
+    ghost use Rattle.std.specs.Prelude.{IsOk, length, None, OnErr, OnOk, option_map, Some};
+    ghost use Rattle.rustc_parse_format.specs.Meaning.{spec_texts, fill_span, format_of, spec_of};
+    ghost use Rattle.rustc_parse_format.specs.Meaning.{type_span, word_span};
+    ghost use Rattle.rustc_parse_format.specs.Characters.{begins_with, behind, behind_first};
+    ghost use Rattle.rustc_parse_format.specs.Characters.{behind_word, front, is_no_brace, word};
+    ghost use Rattle.rustc_parse_format.specs.Marks.{up_to};
+    ghost use Rattle.rustc_parse_format.specs.PartFaults.{flag_faults, format_faults, spec_faults};
+    ghost use Rattle.rustc_parse_format.specs.PartFaults.{text_faults, type_faults, word_faults};
+    ghost use Rattle.rustc_parse_format.specs.Seen.{pair, seen_alignment, seen_debug_hex};
+    ghost use Rattle.rustc_parse_format.specs.Seen.{seen_mode, seen_sign, seen_spec};
+    ghost use Rattle.rustc_parse_format.specs.Specification.{align, alternate, fill, format_text};
+    ghost use Rattle.rustc_parse_format.specs.Specification.{sign, specification, type};
+    ghost use Rattle.rustc_parse_format.specs.Midway.{FindsNothing, IsInOneLine, read_run};
+    ghost use Rattle.rustc_parse_format.specs.Midway.{read_texts, read_to, read_tries};
+    ghost use Rattle.rustc_parse_format.specs.Reads.{Reaches, ReadsTo};
+    ghost use Rattle.rustc_parse_format.specs.Tries.{format_tries, spec_tries};
+    ghost use Rattle.rustc_parse_format.specs.Types.{Unknown, default_spec, map_spec};
+    ghost use Rattle.rustc_parse_format.specs.Values.{debug_hex_of, number_after_precision};
+    ghost use Rattle.rustc_parse_format.specs.Values.{number_after_spec, type_of};
+    ghost use Rattle.rustc_parse_format.specs.Back.{IsFurthest};
+    ghost use Rattle.rustc_parse_format.specs.World.{place_of};
+
+    /// Reads the fill, a character with an alignment after it, into `format`, which has none yet.
+    /// Reads nothing if there is no fill.
+    #[inline(always)]
+    fn fill(&mut self, format: &mut FormatSpec<'input>)
+        requires fill { format.old.fill ≡ None }
+        requires span { option_map pair format.old.fill_span ≡ None }
+        ensures value { seen_spec format.new ≡ record (seen_spec format.old) {
+          fill = (fill self.old.rest).0;
+          fill_span = option_map (place_of self.old.world)
+              (fill_span self.old.rest (fill self.old.rest).0);
+        } }
+        ensures state { self.new ≡ record self.old { rest = (fill self.old.rest).1 } }
+    {
+        if let (Some(c), Some('<' | '>' | '^')) = (self.cursor.peek(), self.cursor.peek_ahead()) {
+            format.fill = Some(c);
+            format.fill_span = Some(self.cursor.start()..self.cursor.stop());
+            self.cursor.skip_char();
         }
-        _ => (None, None),
     }
-}
 
-/// Reads the alignment at the front.
-fn alignment<'input>(cursor: &mut Cursor<'input>) -> Alignment
-    ensures value { seen_alignment result ≡ (align cursor.old.rest).0 }
-    ensures rest { cursor.new ≡ record cursor.old { rest = (align cursor.old.rest).1 } }
-{
-    let alignment = match cursor.peek() {
-        Some('<') => Alignment::AlignLeft,
-        Some('>') => Alignment::AlignRight,
-        Some('^') => Alignment::AlignCenter,
-        _ => return Alignment::AlignUnknown,
-    };
-    cursor.advance();
-    alignment
-}
-
-/// Reads the sign flag at the front.
-fn sign<'input>(cursor: &mut Cursor<'input>) -> Option<Sign>
-    ensures value { option_map seen_sign result ≡ (sign cursor.old.rest).0 }
-    ensures rest { cursor.new ≡ record cursor.old { rest = (sign cursor.old.rest).1 } }
-{
-    let sign = match cursor.peek() {
-        Some('+') => Sign::Plus,
-        Some('-') => Sign::Minus,
-        _ => return None,
-    };
-    cursor.advance();
-    Some(sign)
-}
-
-/// Reads the flag `#` at the front.
-fn alternate<'input>(cursor: &mut Cursor<'input>) -> bool
-    ensures value { result ≡ (alternate cursor.old.rest).0 }
-    ensures rest { cursor.new ≡ record cursor.old { rest = (alternate cursor.old.rest).1 } }
-{
-    cursor.take_char('#')
-}
-
-/// Reads the word at the front, and where it stands if it is not empty.
-#[tactic(auto, using(crate::proofs::WordFronts::words_at_front, crate::proofs::Readers::read_nothing))]
-fn spanned_word<'input>(
-    reader: &mut Reader<'input>,
-) -> Result<(&'input str, Option<Range<usize>>), AllocError>
-    ensures value { IfOk result (λ w. chars w.0.now ≡ word reader.old.rest) }
-    ensures span { IfOk result (λ w. option_map pair w.1 ≡ option_map (place_of reader.old.world)
-        (word_span reader.old.rest (word reader.old.rest) (behind_word reader.old.rest))) }
-    ensures reads { Reads reader.old result reader.new (behind_word reader.old.rest) reader.old.next (word_faults reader.old.rest) [] }
-{
-    if !reader.cursor.starts_word() {
-        return Ok(("", None));
-    }
-    let start = reader.cursor.start();
-    let word = word(reader)?;
-    Ok((word, Some(start..reader.cursor.start())))
-}
-
-/// A type, the case of its hexadecimal digits, and where it stands if it is a word.
-#[derive(Drop)]
-struct TypePart<'input> {
-    ty: &'input str,
-    debug_hex: Option<DebugHex>,
-    span: Option<Range<usize>>,
-}
-
-/// A type that is a sign.
-fn character_type<'input>(ty: &'input str) -> TypePart<'input>
-    ensures ty { result.ty.now ≡ ty.entry.now }
-    ensures debug_hex { result.debug_hex ≡ None }
-    ensures span { result.span ≡ None }
-{
-    TypePart {
-        ty,
-        debug_hex: None,
-        span: None,
-    }
-}
-
-/// Reads the letter `x` or `X`. With a `?` after it the letter is a case of the type `?`, else it is the type.
-fn hex_type<'input>(
-    cursor: &mut Cursor<'input>,
-    case: DebugHex,
-    letter: &'input str,
-) -> TypePart<'input>
-    ensures ty { result.ty.now ≡ (if begins_with 63 (behind_first cursor.old.rest) then codes "?" else letter.entry.now) }
-    ensures debug_hex { result.debug_hex ≡ (if begins_with 63 (behind_first cursor.old.rest) then Some case else None) }
-    ensures span { result.span ≡ None }
-    ensures rest { cursor.new ≡ record cursor.old {
-      rest = if begins_with 63 (behind_first cursor.old.rest) then behind_first (behind_first cursor.old.rest) else behind_first cursor.old.rest;
-    } }
-{
-    cursor.advance();
-    if cursor.take_char('?') {
-        return TypePart {
-            ty: "?",
-            debug_hex: Some(case),
-            span: None,
+    /// Reads the alignment, if there is one, into `format`, which has none yet.
+    #[inline(always)]
+    fn alignment(&mut self, format: &mut FormatSpec<'input>)
+        requires { seen_alignment format.old.align ≡ Unknown }
+        ensures value { seen_spec format.new
+            ≡ record (seen_spec format.old) { align = (align self.old.rest).0 } }
+        ensures state { self.new ≡ record self.old { rest = (align self.old.rest).1 } }
+    {
+        format.align = match self.cursor.peek() {
+            Some('<') => Alignment::AlignLeft,
+            Some('>') => Alignment::AlignRight,
+            Some('^') => Alignment::AlignCenter,
+            _ => return,
         };
+        self.cursor.skip_char();
     }
-    character_type(letter)
-}
 
-/// Notes the next character, if it is a flag, after a type `?` that starts at a byte.
-fn note_flag(reader: &mut Reader<'_>, start: usize) -> Result<(), AllocError>
-    ensures state { OnOk result (reader.new ≡ record reader.old {
-      faults = reader.old.faults ++ late_flag (first reader.old.rest)
-          (place_of reader.old.world (over_first reader.old.rest)) (start, number_of reader.old.world (End (length reader.old.rest)));
-    }) }
-    ensures err { OnErr result (reader.new.source ≡ reader.old.source) }
-    ensures spare { (s b : Span) → late_flag (first reader.old.rest) s b ≡ [] → IsOk result }
-{
-    let Some(flag) = reader.cursor.peek() else {
-        return Ok(());
-    };
-    if !matches!(flag, '#' | 'x' | 'X') {
-        return Ok(());
+    /// Reads the sign flag, if there is one, into `format`, which has none yet.
+    #[inline(always)]
+    fn sign(&mut self, format: &mut FormatSpec<'input>)
+        requires { option_map seen_sign format.old.sign ≡ None }
+        ensures value { seen_spec format.new
+            ≡ record (seen_spec format.old) { sign = (sign self.old.rest).0 } }
+        ensures state { self.new ≡ record self.old { rest = (sign self.old.rest).1 } }
+    {
+        let sign = match self.cursor.peek() {
+            Some('+') => Sign::Plus,
+            Some('-') => Sign::Minus,
+            _ => return,
+        };
+        format.sign = Some(sign);
+        self.cursor.skip_char();
     }
-    let (from, to) = (reader.cursor.start(), reader.cursor.stop());
-    let fault = Fault::LateFlag(flag, from..to, start..to);
-    reader.note(fault)
-}
 
-/// Reads the type `?` at the front, and notes a flag after it, which is left.
-fn debug_type<'input>(reader: &mut Reader<'input>) -> Result<(), AllocError>
-    ensures reads { Reads reader.old result reader.new (behind_first reader.old.rest) reader.old.next (flag_faults reader.old.rest) [] }
-{
-    let start = reader.cursor.start();
-    reader.cursor.advance();
-    note_flag(reader, start)
-}
-
-/// Reads the type at the front.
-#[tactic(auto, using(crate::proofs::SpecParts::types_at_front))]
-fn type_part<'input>(reader: &mut Reader<'input>) -> Result<TypePart<'input>, AllocError>
-    ensures ty { IfOk result (λ y. chars y.ty.now ≡ type_of (type reader.old.rest).0) }
-    ensures debug_hex { IfOk result (λ y. option_map seen_debug_hex y.debug_hex ≡ debug_hex_of (type reader.old.rest).0) }
-    ensures span { IfOk result (λ y. option_map pair y.span ≡ option_map (place_of reader.old.world)
-        (type_span reader.old.rest (type reader.old.rest).0 (type reader.old.rest).1)) }
-    ensures reads { Reads reader.old result reader.new (type reader.old.rest).1 reader.old.next (type_faults reader.old.rest (type reader.old.rest).0) [] }
-{
-    if reader.cursor.is_next('x') {
-        return Ok(hex_type(&mut reader.cursor, DebugHex::Lower, "x"));
+    /// Reads the flag `#`, if it is there, and sets in `format` whether it is.
+    fn alternate(&mut self, format: &mut FormatSpec<'input>)
+        ensures value { seen_spec format.new
+            ≡ record (seen_spec format.old) { alternate = (alternate self.old.rest).0 } }
+        ensures state { self.new ≡ record self.old { rest = (alternate self.old.rest).1 } }
+    {
+        format.alternate = self.cursor.consume('#');
     }
-    if reader.cursor.is_next('X') {
-        return Ok(hex_type(&mut reader.cursor, DebugHex::Upper, "X"));
-    }
-    if reader.cursor.is_next('?') {
-        debug_type(reader)?;
-        return Ok(character_type("?"));
-    }
-    let (ty, span) = spanned_word(reader)?;
-    Ok(TypePart {
-        ty,
-        debug_hex: None,
-        span,
-    })
-}
 
-/// Reads the format specification at the front into its place.
-#[tactic(auto, using(crate::proofs::Steps::part_le), unfolding(crate::specs::Specification::format_text, crate::specs::Meaning::format_of))]
-fn format_text<'input>(
-    format: &mut FormatSpec<'input>,
-    reader: &mut Reader<'input>,
-) -> Result<(), AllocError>
-    requires numbers { reader.old.next + 1 < 2 ^ 64 }
-    requires furthest { IsFurthest reader.old.rest reader.old.back }
-    ensures value { OnOk result (seen_spec format.new ≡ map_spec (place_of reader.old.world)
-        (format_of reader.old.next reader.old.rest (format_text reader.old.rest).0 (format_text reader.old.rest).1)) }
-    ensures reads { let f = format_text reader.old.rest in
-        Reads reader.old result reader.new f.1 (number_after_precision reader.old.next f.0.precision) (format_faults f.0 f.1) (format_tries f.0 f.1) }
-{
-    let (fill, fill_span) = fill(&mut reader.cursor);
-    format.fill = fill;
-    format.fill_span = fill_span;
-    let align = alignment(&mut reader.cursor);
-    format.align = align;
-    let sign = sign(&mut reader.cursor);
-    format.sign = sign;
-    let alternate = alternate(&mut reader.cursor);
-    format.alternate = alternate;
-    let width = width(reader)?;
-    format.zero_pad = width.zero_pad;
-    format.width = width.count;
-    format.width_span = width.span;
-    let (precision, precision_span) = precision(reader)?;
-    format.precision = precision;
-    format.precision_span = precision_span;
-    let type_part = type_part(reader)?;
-    format.debug_hex = type_part.debug_hex;
-    format.ty = type_part.ty;
-    format.ty_span = type_part.span;
-    Ok(())
-}
-
-/// Reads the modifier of inline assembly at the front into the place of a default specification.
-fn modifier<'input>(
-    format: &mut FormatSpec<'input>,
-    reader: &mut Reader<'input>,
-) -> Result<(), AllocError>
-    ensures value { OnOk result (seen_spec format.new ≡ record (seen_spec format.old) {
-      ty = word reader.old.rest;
-      ty_span = option_map (place_of reader.old.world) (word_span reader.old.rest (word reader.old.rest) (behind_word reader.old.rest));
-    }) }
-    ensures reads { Reads reader.old result reader.new (behind_word reader.old.rest) reader.old.next (word_faults reader.old.rest) [] }
-{
-    let (ty, ty_span) = spanned_word(reader)?;
-    format.ty = ty;
-    format.ty_span = ty_span;
-    Ok(())
-}
-
-/// Notes the text of a diagnostic, where the mode wants names and nothing else.
-fn note_text<'input>(
-    mode: ParseMode,
-    text: &str,
-    span: Range<usize>,
-    reader: &mut Reader<'input>,
-) -> Result<(), AllocError>
-    ensures state { OnOk result (reader.new ≡ record reader.old {
-      faults = reader.old.faults ++ text_faults (seen_mode mode) (chars text.now) (pair span);
-    }) }
-    ensures err { OnErr result (reader.new.source ≡ reader.old.source) }
-    ensures spare { (s : Span) → text_faults (seen_mode mode) (chars text.now) s ≡ [] → IsOk result }
-{
-    if wants_names(mode) && first(text).is_some() {
-        return reader.note(Fault::TextAfterColon(span));
-    }
-    Ok(())
-}
-
-/// Reads a colon and the text of a diagnostic, whose span takes in the colon, into the place of a default specification.
-fn diagnostic_text<'input>(
-    mode: ParseMode,
-    format: &mut FormatSpec<'input>,
-    reader: &mut Reader<'input>,
-) -> Result<(), AllocError>
-    ensures value { OnOk result (seen_spec format.new ≡ record (seen_spec format.old) {
-      ty = front is_no_brace (behind_first reader.old.rest);
-      ty_span = Some (place_of reader.old.world (up_to reader.old.rest (behind is_no_brace (behind_first reader.old.rest))));
-    }) }
-    ensures state { OnOk result (reader.new ≡ (let t = behind_first reader.old.rest in
-        record (read_run (record reader.old { rest = t })) {
-          faults = reader.old.faults ++ text_faults (seen_mode mode) (front is_no_brace t)
-              (place_of reader.old.world (up_to reader.old.rest (behind is_no_brace t)));
-        })) }
-    ensures err { OnErr result (reader.new.source ≡ reader.old.source) }
-    ensures spare { (let t = behind_first reader.old.rest in
-        text_faults (seen_mode mode) (front is_no_brace t) (up_to reader.old.rest (behind is_no_brace t)) ≡ []
-        → IsInOneLine (record reader.old { rest = t }) → IsOk result) }
-{
-    let start = reader.cursor.start();
-    reader.cursor.advance();
-    let ty = reader.take_text()?;
-    let end = reader.cursor.start();
-    format.ty = ty;
-    format.ty_span = Some(start..end);
-    note_text(mode, ty, start..end, reader)
-}
-
-/// Reads the specification at the front into the place of a default one: a colon and what the mode has after it, or nothing.
-#[tactic(auto, using(crate::proofs::Steps::part_le, crate::proofs::Steps::at_colon))]
-pub fn specification<'input>(
-    mode: ParseMode,
-    format: &mut FormatSpec<'input>,
-    reader: &mut Reader<'input>,
-) -> Result<(), AllocError>
-    requires blank { seen_spec format.old ≡ default_spec }
-    requires numbers { reader.old.next + length reader.old.rest < 2 ^ 64 }
-    ensures value { OnOk result (seen_spec format.new ≡ map_spec (place_of reader.old.world) (spec_of reader.old.next reader.old.rest
-        (specification (seen_mode mode) reader.old.rest).0 (specification (seen_mode mode) reader.old.rest).1)) }
-    ensures reads { let s = specification (seen_mode mode) reader.old.rest in let fs = spec_faults (seen_mode mode) reader.old.rest s.0 s.1 in
-        Reaches reader.old result reader.new (read_texts (read_tries (read_to reader.old s.1 (number_after_spec reader.old.next s.0) fs)
-        (spec_tries s.0 s.1)) (spec_texts s.0 s.1)) (FindsNothing reader.old fs (spec_texts s.0 s.1)) }
-{
-    reader.cursor.steps_are_few();
-    if !reader.cursor.is_next(':') {
-        return Ok(());
-    }
-    match mode {
-        ParseMode::Format => {
-            reader.cursor.advance();
-            format_text(format, reader)
+    /// Reads a word into `format` as its type, which is still empty, and sets its span if the word
+    /// is not empty. Returns `Err` if an allocation fails.
+    #[tactic(auto, using(crate::proofs::Readers::WordFronts::words_at_front, crate::proofs::Readers::Parts::read_nothing))]
+    #[inline(always)]
+    fn word_type(&mut self, format: &mut FormatSpec<'input>) -> Result<(), AllocError>
+        requires ty { chars format.old.ty.now ≡ [] }
+        requires span { option_map pair format.old.ty_span ≡ None }
+        ensures value { (let t = self.old.rest in
+            OnOk result (seen_spec format.new ≡ record (seen_spec format.old) {
+              ty = word t;
+              ty_span = option_map (place_of self.old.world)
+                  (word_span t (word t) (behind_word t));
+            })) }
+        ensures reads { ReadsTo self.old result self.new (behind_word self.old.rest) self.old.next
+            (word_faults self.old.rest) [] }
+    {
+        if !self.cursor.is_word_next() {
+            return Ok(());
         }
-        ParseMode::InlineAsm => {
-            reader.cursor.advance();
-            modifier(format, reader)
+        let start = self.cursor.start();
+        let word = self.word()?;
+        format.ty = word;
+        format.ty_span = Some(start..self.cursor.start());
+        Ok(())
+    }
+
+    /// Reads the type `?`. A flag after it is a fault, and is not read. Returns `Err` if an
+    /// allocation fails.
+    fn debug_type(&mut self) -> Result<(), AllocError>
+        ensures reads { ReadsTo self.old result self.new (behind_first self.old.rest) self.old.next
+            (flag_faults self.old.rest) [] }
+    {
+        let Some(flag @ ('#' | 'x' | 'X')) = self.cursor.peek_ahead() else {
+            self.cursor.skip_char();
+            return Ok(());
+        };
+        let start = self.cursor.start();
+        self.cursor.skip_char();
+        let (from, to) = (self.cursor.start(), self.cursor.stop());
+        self.note(Fault::LateFlag(flag, from..to, start..to))
+    }
+
+    /// Reads the type, as in the grammar of `std::fmt`, into `format`, whose type is still empty.
+    /// Returns `Err` if an allocation fails.
+    #[tactic(auto, using(crate::proofs::Readers::Specifications::types_at_front, crate::proofs::Readers::Parts::read_nothing))]
+    #[inline(always)]
+    fn type_part(&mut self, format: &mut FormatSpec<'input>) -> Result<(), AllocError>
+        requires debug_hex { option_map seen_debug_hex format.old.debug_hex ≡ None }
+        requires ty { chars format.old.ty.now ≡ [] }
+        requires span { option_map pair format.old.ty_span ≡ None }
+        ensures value { (let t = self.old.rest in
+            OnOk result (seen_spec format.new ≡ record (seen_spec format.old) {
+              debug_hex = debug_hex_of (type t).0;
+              ty = type_of (type t).0;
+              ty_span = option_map (place_of self.old.world)
+                  (type_span t (type t).0 (type t).1);
+            })) }
+        ensures reads { (let y = type self.old.rest in ReadsTo self.old result self.new y.1
+            self.old.next (type_faults self.old.rest y.0) []) }
+    {
+        let (case, letter) = match self.cursor.peek() {
+            Some('x') => (DebugHex::Lower, "x"),
+            Some('X') => (DebugHex::Upper, "X"),
+            Some('?') => {
+                format.ty = "?";
+                return self.debug_type();
+            }
+            _ => return self.word_type(format),
+        };
+        self.cursor.skip_char();
+        if !self.cursor.consume('?') {
+            format.ty = letter;
+            return Ok(());
         }
-        ParseMode::Diagnostic | ParseMode::DiagnosticNamed => {
-            diagnostic_text(mode, format, reader)
+        format.debug_hex = Some(case);
+        format.ty = "?";
+        Ok(())
+    }
+
+    /// Reads a format specification, as in the grammar of `std::fmt`, into `format`, which is still
+    /// the default. Returns `Err` if an allocation fails.
+    #[tactic(auto, using(crate::proofs::Readers::Steps::part_le), unfolding(crate::specs::Specification::format_text, crate::specs::Meaning::format_of))]
+    #[inline(never)]
+    fn format(&mut self, format: &mut FormatSpec<'input>) -> Result<(), AllocError>
+        requires blank { seen_spec format.old ≡ default_spec }
+        requires numbers { self.old.next + 1 < 2 ^ 64 }
+        requires furthest { IsFurthest self.old.rest self.old.back }
+        ensures value { (let t = self.old.rest in let f = format_text t in
+            OnOk result (seen_spec format.new
+            ≡ map_spec (place_of self.old.world) (format_of self.old.next t f.0 f.1))) }
+        ensures reads { (let f = format_text self.old.rest in ReadsTo self.old result self.new f.1
+            (number_after_precision self.old.next f.0.precision) (format_faults f.0 f.1)
+            (format_tries f.0 f.1)) }
+    {
+        self.fill(format);
+        self.alignment(format);
+        self.sign(format);
+        self.alternate(format);
+        self.width(format)?;
+        self.precision(format)?;
+        self.type_part(format)
+    }
+
+    /// Reads a colon and the text of a diagnostic into `format`, which is still the default. The
+    /// span of the text includes the colon. Text is a fault in a mode that allows only names.
+    /// Returns `Err` if an allocation fails.
+    fn diagnostic(
+        &mut self,
+        mode: ParseMode,
+        format: &mut FormatSpec<'input>,
+    ) -> Result<(), AllocError>
+        ensures value { OnOk result (seen_spec format.new ≡ record (seen_spec format.old) {
+          ty = front is_no_brace (behind_first self.old.rest);
+          ty_span = Some (place_of self.old.world
+              (up_to self.old.rest (behind is_no_brace (behind_first self.old.rest))));
+        }) }
+        ensures state { OnOk result (self.new ≡ (let t = behind_first self.old.rest in
+            record (read_run (record self.old { rest = t })) {
+              faults = self.old.faults ++ text_faults (seen_mode mode) (front is_no_brace t)
+                  (place_of self.old.world (up_to self.old.rest (behind is_no_brace t)));
+            })) }
+        ensures err { OnErr result (self.new.source ≡ self.old.source) }
+        ensures spare { (let t = behind_first self.old.rest in
+            let span = up_to self.old.rest (behind is_no_brace t) in
+            text_faults (seen_mode mode) (front is_no_brace t) span ≡ []
+            → IsInOneLine (record self.old { rest = t }) → IsOk result) }
+    {
+        let start = self.cursor.start();
+        self.cursor.skip_char();
+        let ty = self.string()?;
+        let end = self.cursor.start();
+        format.ty = ty;
+        format.ty_span = Some(start..end);
+        if wants_names(mode) && first(ty).is_some() {
+            return self.note(Fault::TextAfterColon(start..end));
+        }
+        Ok(())
+    }
+
+    /// Reads a colon and what `mode` has after it into `format`, which is still the default. Reads
+    /// nothing if the next character is not a colon. Returns `Err` if an allocation fails.
+    #[tactic(auto, using(crate::proofs::Readers::Steps::part_le, crate::proofs::Readers::Steps::at_colon))]
+    pub fn specification(
+        &mut self,
+        mode: ParseMode,
+        format: &mut FormatSpec<'input>,
+    ) -> Result<(), AllocError>
+        requires blank { seen_spec format.old ≡ default_spec }
+        requires numbers { self.old.next + length self.old.rest < 2 ^ 64 }
+        ensures value { (let s = specification (seen_mode mode) self.old.rest in
+            OnOk result (seen_spec format.new ≡ map_spec (place_of self.old.world)
+            (spec_of self.old.next self.old.rest s.0 s.1))) }
+        ensures reads { let s = specification (seen_mode mode) self.old.rest in
+            let fs = spec_faults (seen_mode mode) self.old.rest s.0 s.1 in
+            let read = read_to self.old s.1 (number_after_spec self.old.next s.0) fs in
+            Reaches self.old result self.new
+            (read_texts (read_tries read (spec_tries s.0 s.1)) (spec_texts s.0 s.1))
+            (FindsNothing self.old fs (spec_texts s.0 s.1)) }
+    {
+        self.cursor.steps_are_few();
+        if !self.cursor.is_next(':') {
+            return Ok(());
+        }
+        match mode {
+            ParseMode::Format => {
+                self.cursor.skip_char();
+                self.format(format)
+            }
+            ParseMode::InlineAsm => {
+                self.cursor.skip_char();
+                self.word_type(format)
+            }
+            ParseMode::Diagnostic | ParseMode::DiagnosticNamed => { self.diagnostic(mode, format) }
         }
     }
 }

@@ -1,11 +1,11 @@
-//! How a character is written in a message and in a quoted text.
+//! How a character is written in an error message and in a quoted text.
 
 ghost use Rattle.std.specs.Prelude.{◌≡◌, ◌++◌, OnErr, OnOk, option_map, string_bytes};
 ghost use Rattle.rustc_parse_format.specs.Written.{plainly_written, short_escape, written};
 
 use std::alloc::AllocError;
 
-/// The escape of a character that has one of its own.
+/// Returns the short escape of a character, or `None` if it has none.
 fn short_escape(c: char) -> Option<&'static str>
     ensures { option_map (λ s. s.now) result ≡ short_escape c }
 {
@@ -21,14 +21,15 @@ fn short_escape(c: char) -> Option<&'static str>
     }
 }
 
-/// Adds a character without an escape of its own. Out of memory, nothing is added.
+/// Appends a character that has no short escape: an ASCII control character as `\u{..}`, any other
+/// as it is. Returns `Err` if an allocation fails, and `out` is then unchanged.
 fn put_plain(out: &mut String, c: char) -> Result<(), AllocError>
     ensures ok { OnOk result (string_bytes out.new ≡ string_bytes out.old ++ plainly_written c) }
     ensures err { OnErr result (string_bytes out.new ≡ string_bytes out.old) }
 {
     let code = u32::from(c);
     if code < 32 || code == 127 {
-        // by itself first: `write!` does not say what stays where it is refused
+        // formatted on its own first: `write!` does not promise what it leaves in `out` if it fails
         let escape = format!(in *out.allocator(); "\\u{{{code:x}}}")?;
         out.push_str(&escape)?;
     } else {
@@ -37,7 +38,8 @@ fn put_plain(out: &mut String, c: char) -> Result<(), AllocError>
     Ok(())
 }
 
-/// Adds a character as it is written. Out of memory, nothing is added.
+/// Appends a character, escaped if it has an escape or is an ASCII control character. Returns `Err`
+/// if an allocation fails, and `out` is then unchanged.
 #[tactic(auto, unfolding(crate::specs::Written::written))]
 pub fn put_written(out: &mut String, c: char) -> Result<(), AllocError>
     ensures ok { OnOk result (string_bytes out.new ≡ string_bytes out.old ++ written c) }

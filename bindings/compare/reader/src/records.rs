@@ -1,83 +1,83 @@
-//! The records of the static library. Made by bindings/make from bindings/records.txt.
+//! The records of the static library. Made by tools/records from bindings/records.txt.
 
-/// from a byte up to another
+/// a byte range, of the input, the source or the texts
 #[repr(C)]
 #[derive(Clone, Copy, Debug, Default, PartialEq, Eq)]
 pub struct Extent {
-    /// the first byte
+    /// the byte offset of its start
     pub from: usize,
-    /// the one behind the last byte
+    /// the byte offset of its end, which is excluded
     pub to: usize,
 }
 
-/// the same, if there is one
+/// a byte range, or none
 #[repr(C)]
 #[derive(Clone, Copy, Debug, Default, PartialEq, Eq)]
 pub struct MaybeExtent {
-    /// 0 if there is none
+    /// 0 if there is no range
     pub there: usize,
-    /// the first byte
+    /// the byte offset of its start
     pub from: usize,
-    /// the one behind the last byte
+    /// the byte offset of its end, which is excluded
     pub to: usize,
 }
 
-// what kind of text the input is
-/// a format string
+// the kind of text that the input is, as ParseMode of rustc_parse_format
+/// a format string, as std::fmt describes it
 pub const MODE_FORMAT: u32 = 0;
 /// a template of inline assembly
 pub const MODE_INLINE_ASM: u32 = 1;
 /// the text of a diagnostic
 pub const MODE_DIAGNOSTIC: u32 = 2;
-/// the same, where each argument has to be a name with nothing after its colon
+/// the text of a diagnostic in which each argument must be a name, with nothing after its colon
 pub const MODE_DIAGNOSTIC_NAMED: u32 = 3;
 
-/// how the input is to be read
+/// how to read the input
 #[repr(C)]
 #[derive(Clone, Copy, Debug, Default, PartialEq, Eq)]
 pub struct Options {
-    /// one of MODE
+    /// one of the MODE constants
     pub mode: u32,
-    /// not 0 if the literal is a raw one
+    /// not 0 if the input comes from a raw string literal
     pub is_raw: u32,
-    /// how many hashes a raw literal has
+    /// the number of hashes of a raw literal
     pub hashes: usize,
-    /// not 0 if there is a snippet: what stands in the source where the input should come from
+    /// not 0 if there is a snippet: the source text that the input should come from
     pub has_snippet: u32,
-    /// not 0 if a newline was appended to the input, which the snippet has not
+    /// not 0 if a newline was appended to the input that is not in the snippet
     pub appended_newline: u32,
-    /// not 0 if the places of the peeks are wanted; else each says that there is none
+    /// not 0 to fill in peek and peek_ahead; otherwise each of them is none
     pub peeks: u32,
 }
 
 // the kind of a width or a precision
-/// there is none
+/// it is not written
 pub const COUNT_IMPLIED: u32 = 0;
-/// the number
+/// a number
 pub const COUNT_IS: u32 = 1;
-/// the value of the argument with the name
+/// the value of the argument with this name
 pub const COUNT_IS_NAME: u32 = 2;
-/// the value of the argument with the number
+/// the value of the argument with this index
 pub const COUNT_IS_PARAM: u32 = 3;
-/// the same, where the number is the next implicit one
+/// `*`: the value of the next implicit argument, which has this index
 pub const COUNT_IS_STAR: u32 = 4;
 
 /// a width or a precision
 #[repr(C)]
 #[derive(Clone, Copy, Debug, Default, PartialEq, Eq)]
 pub struct CountRecord {
-    /// one of COUNT
+    /// one of the COUNT constants
     pub kind: u32,
-    /// of IS, IS_PARAM and IS_STAR
+    /// IS: the number; IS_PARAM and IS_STAR: the index of the argument, from 0
     pub number: usize,
-    /// of IS_NAME, in the input
+    /// IS_NAME: the name, as a range of the input
     pub name: Extent,
-    /// of IS_NAME: where the name stands in the source
+    /// IS_NAME: the byte range of the name in the source
     pub name_span: Extent,
 }
 
-// on which side of its width a value stands
-/// nothing is said
+// the alignment of a value in its width
+/// none is written
 pub const ALIGN_UNKNOWN: u32 = 0;
 /// `<`
 pub const ALIGN_LEFT: u32 = 1;
@@ -86,16 +86,16 @@ pub const ALIGN_RIGHT: u32 = 2;
 /// `^`
 pub const ALIGN_CENTER: u32 = 3;
 
-// a sign flag
-/// none
+// the sign flag
+/// none is written
 pub const SIGN_NONE: u32 = 0;
 /// `+`
 pub const SIGN_PLUS: u32 = 1;
 /// `-`
 pub const SIGN_MINUS: u32 = 2;
 
-// in which case the type `?` writes hexadecimal digits
-/// nothing is said
+// the case of the hexadecimal digits of a debug format
+/// none is written
 pub const HEX_NONE: u32 = 0;
 /// `x?`
 pub const HEX_LOWER: u32 = 1;
@@ -103,9 +103,9 @@ pub const HEX_LOWER: u32 = 1;
 pub const HEX_UPPER: u32 = 2;
 
 // the kind of a type
-/// there is none, or it is empty
+/// none is written, or it is empty
 pub const TYPE_NONE: u32 = 0;
-/// a text of the input
+/// a text of the input, which is in the field type
 pub const TYPE_TEXT: u32 = 1;
 /// `x`
 pub const TYPE_LOWER_HEX: u32 = 2;
@@ -114,168 +114,168 @@ pub const TYPE_UPPER_HEX: u32 = 3;
 /// `?`
 pub const TYPE_DEBUG: u32 = 4;
 
-// what stands for none where any other number means something
-/// there is no character that fills
+// a value that means none where each other one means something
+/// there is no fill character: no character has this code
 pub const NO_FILL: u32 = 0x110000;
 
-/// what a placeholder asks for behind its colon
+/// a format specification: what a placeholder has after its colon
 #[repr(C)]
 #[derive(Clone, Copy, Debug, Default, PartialEq, Eq)]
 pub struct Spec {
-    /// the character that fills the width, or NO_FILL
+    /// the code of the fill character, or NO_FILL
     pub fill: u32,
-    /// one of ALIGN
+    /// one of the ALIGN constants
     pub align: u32,
-    /// one of SIGN
+    /// one of the SIGN constants
     pub sign: u32,
-    /// one of HEX
+    /// one of the HEX constants
     pub debug_hex: u32,
-    /// not 0 if the flag `#` is there
+    /// not 0 if the flag `#` is written
     pub alternate: u32,
-    /// not 0 if the flag `0` is there
+    /// not 0 if the flag `0` is written
     pub zero_pad: u32,
-    /// one of TYPE
+    /// one of the TYPE constants
     pub type_kind: u32,
     /// the width
     pub width: CountRecord,
     /// the precision
     pub precision: CountRecord,
-    /// of a type of the kind TEXT, in the input
+    /// TYPE_TEXT: the type, as a range of the input
     pub ty: Extent,
-    /// where the character that fills stands in the source
+    /// the byte range of the fill character in the source
     pub fill_span: MaybeExtent,
-    /// where the width stands in the source
+    /// the byte range of the width in the source
     pub width_span: MaybeExtent,
-    /// where the precision stands in the source
+    /// the byte range of the precision in the source
     pub precision_span: MaybeExtent,
-    /// where the type stands in the source
+    /// the byte range of the type in the source
     pub ty_span: MaybeExtent,
 }
 
-// what a call gave
-/// nothing: over a closing brace that closes nothing, or at the end of the input
+// the kind of piece that a call returned
+/// none: at a closing brace that closes nothing, or at the end of the input
 pub const PIECE_NONE: u32 = 0;
-/// text
+/// literal text
 pub const PIECE_TEXT: u32 = 1;
 /// a placeholder
 pub const PIECE_ARGUMENT: u32 = 2;
 
-// which argument a placeholder means
-/// the next one, by its number
+// the argument that a placeholder formats
+/// the next implicit argument, as in `{}`
 pub const POSITION_IMPLICIT: u32 = 0;
-/// the one with the number
+/// the argument with this index, as in `{0}`
 pub const POSITION_INDEX: u32 = 1;
-/// the one with the name
+/// the argument with this name, as in `{name}`
 pub const POSITION_NAMED: u32 = 2;
 
-/// a call of the parser, and what stands behind it
+/// a call of the parser: the piece that it returned, and the state after it
 #[repr(C)]
 #[derive(Clone, Copy, Debug, Default, PartialEq, Eq)]
 pub struct Step {
-    /// one of PIECE
+    /// one of the PIECE constants
     pub kind: u32,
-    /// of an ARGUMENT: one of POSITION
+    /// ARGUMENT: one of the POSITION constants
     pub position: u32,
-    /// of a position IMPLICIT or INDEX
+    /// IMPLICIT and INDEX: the index of the argument, from 0
     pub number: usize,
-    /// the TEXT, or the name of a position NAMED, in the input
+    /// TEXT: the text; NAMED: the name; as a range of the input
     pub text: Extent,
-    /// of an ARGUMENT: where its position stands in the source
+    /// ARGUMENT: the byte range of its position in the source
     pub position_span: Extent,
-    /// of an ARGUMENT: 0 for the default one, which has no place, or n for record n of the buffer, from 1
+    /// ARGUMENT: n for record n of specs, from 1, or 0 for the default one, which has none
     pub spec: usize,
-    /// where the placeholder that it closed stands in the source; only in a source literal
+    /// the byte range of the placeholder that the call closed; none without a source literal
     pub place: MaybeExtent,
-    /// up to which byte of the input was read by then
+    /// the byte offset in the input up to which it is read after the call
     pub read: usize,
-    /// the number of the next implicit argument after it
+    /// the index of the next implicit argument after the call
     pub next: usize,
-    /// how many lines there are by then
+    /// the number of lines after the call
     pub lines: usize,
-    /// where the next character stands in the source, where peeks are wanted
+    /// the byte range of the next character in the source, if peeks is set
     pub peek: MaybeExtent,
-    /// where the one after it stands in the source, likewise
+    /// the byte range in the source of the character after that, if peeks is set
     pub peek_ahead: MaybeExtent,
 }
 
-// how a fault may be mended
-/// nothing is suggested
+// the suggestion of a fault, as Suggestion of rustc_parse_format
+/// no suggestion
 pub const MEND_NONE: u32 = 0;
-/// by an argument by position in place of the field
+/// use a positional argument in place of the field
 pub const MEND_USE_POSITIONAL: u32 = 1;
-/// by removing `r#`, at the suggestion's span
+/// remove `r#`, which is at suggestion_span
 pub const MEND_REMOVE_RAW_IDENT: u32 = 2;
-/// by the suggestion's text at its span
+/// replace suggestion_span by suggestion_text
 pub const MEND_REORDER_FORMAT_PARAMETER: u32 = 3;
-/// by a colon in front of the suggestion's span
+/// put a colon before suggestion_span
 pub const MEND_ADD_MISSING_COLON: u32 = 4;
-/// by the macro `dbg!`
+/// use the macro `dbg!`
 pub const MEND_USE_RUST_DEBUG_PRINTING_MACRO: u32 = 5;
 
-/// a fault of the input
+/// an error in the input, with ranges of texts for what it says
 #[repr(C)]
 #[derive(Clone, Copy, Debug, Default, PartialEq, Eq)]
 pub struct Fault {
-    /// what is wrong, in the texts, as are note, label, second_label and suggestion_text
+    /// what is wrong, as a range of texts
     pub description: Extent,
-    /// more on it
+    /// an additional note, as a range of texts
     pub note: MaybeExtent,
-    /// what to write at its span
+    /// the label of span, as a range of texts
     pub label: Extent,
-    /// where it is in the source
+    /// the byte range of the error in the source
     pub span: Extent,
-    /// what to write at the second span
+    /// the label of second_span, as a range of texts
     pub second_label: MaybeExtent,
-    /// of a second label: where it belongs in the source
+    /// a second byte range in the source, if there is a second label
     pub second_span: Extent,
-    /// one of MEND
+    /// one of the MEND constants
     pub suggestion: u32,
-    /// what the suggestion speaks of, in the source
+    /// the byte range in the source that the suggestion is about
     pub suggestion_span: Extent,
-    /// of REORDER_FORMAT_PARAMETER: what to put there
+    /// REORDER_FORMAT_PARAMETER: the replacement, as a range of texts
     pub suggestion_text: Extent,
-    /// the number, from 0, of the step that found it
+    /// the index, from 0, of the step that found it
     pub step: usize,
 }
 
-/// how much there is, more than fits where a buffer is short, and the state before the first call
+/// the lengths of the results, even if they do not fit, and the state before the first call
 #[repr(C)]
 #[derive(Clone, Copy, Debug, Default, PartialEq, Eq)]
 pub struct Answer {
-    /// how many steps there are; the last one is the call at the end of the input
+    /// the number of steps; the last one is the call at the end of the input
     pub steps: usize,
-    /// how many specifications, in the order of the steps that have them
+    /// the number of specifications, in the order of the steps that have them
     pub specs: usize,
-    /// how many faults, in the order of the parser's list of errors
+    /// the number of faults, in the order of the parser's list of errors
     pub faults: usize,
-    /// how many bytes the texts of the faults take
+    /// the number of bytes of the texts of the faults
     pub texts: usize,
-    /// how many lines a source literal has, each without its newline and its indent
+    /// the number of lines of a source literal, each without its newline and its indent
     pub lines: usize,
-    /// how many faults, the first ones, were put in front of the list when they were found
+    /// the number of faults that were put at the front of the list when found: they come first
     pub fronts: usize,
     /// not 0 if the snippet is the source literal of the input
     pub is_source_literal: u32,
-    /// where the first character stands in the source, where peeks are wanted
+    /// the byte range of the first character in the source, if peeks is set
     pub peek: MaybeExtent,
-    /// where the second one stands in the source, likewise
+    /// the byte range of the second character in the source, if peeks is set
     pub peek_ahead: MaybeExtent,
 }
 
-// what a call answers
-/// all is written
+// the return values of dephungo_read
+/// success: all results are written
 pub const DONE: u32 = 0;
-/// a buffer is short: the answer says what is needed, and nothing is said of the buffers
+/// a buffer is too short: answer has the lengths needed, the buffers are unspecified
 pub const SHORT: u32 = 1;
-/// there is no memory: the answer is as it was, and nothing is said of the buffers
+/// allocation failure: answer is unchanged, the buffers are unspecified
 pub const NO_MEMORY: u32 = 2;
-/// the input is not UTF-8; nothing is written, as with the codes behind this one
+/// the input is not UTF-8; with this code and those below nothing is written
 pub const NOT_TEXT: u32 = 3;
 /// the snippet is not UTF-8
 pub const SNIPPET_NOT_TEXT: u32 = 4;
-/// there is no such mode
+/// mode is none of the MODE constants
 pub const NO_SUCH_MODE: u32 = 5;
-/// the input has more than 10^12 bytes, or the raw literal more hashes
+/// the input has more than 10^12 bytes, or the raw literal more than 10^12 hashes
 pub const TOO_LONG: u32 = 6;
 
 #[cfg(all(test, target_pointer_width = "64"))]

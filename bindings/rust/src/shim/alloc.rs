@@ -1,16 +1,17 @@
-//! Memory. In Rust a refusal aborts, so none comes back as an error: `AllocError` has no value, a
-//! `Result` with it is its `Ok`, and each `?` on one compiles to nothing.
+//! Allocation. In Rust an allocation failure aborts, so it is never returned as an error:
+//! `AllocError` has no value, a `Result` with it is always `Ok`, and each `?` on one compiles to
+//! nothing.
 use std::collections::BTreeSet;
 
-/// The allocator that calls are passed.
+/// The allocator that is passed to calls.
 #[derive(Clone, Copy)]
 pub struct Global;
 
-/// A refusal of memory, of which there is none.
+/// An allocation failure, which is never returned: the type has no value.
 #[derive(Debug)]
 pub enum AllocError {}
 
-/// What a call answers that asked for memory.
+/// Returns the value of a call that allocates.
 #[inline(always)]
 pub fn answer<T>(result: Result<T, AllocError>) -> T {
     match result {
@@ -19,6 +20,7 @@ pub fn answer<T>(result: Result<T, AllocError>) -> T {
     }
 }
 
+/// The methods of `Vec` that take or keep an allocator, or return an allocation failure.
 pub trait VecIn<T>: Sized {
     fn made_in(alloc: Global) -> Self;
     fn made_for(alloc: Global, room: usize) -> Result<Self, AllocError>;
@@ -43,6 +45,7 @@ impl<T> VecIn<T> for Vec<T> {
     }
 }
 
+/// The methods of `BTreeSet` that take an allocator or return an allocation failure.
 pub trait SetIn<T>: Sized {
     fn made_in(alloc: Global) -> Self;
     fn try_insert(&mut self, item: T) -> Result<bool, AllocError>;
@@ -60,6 +63,7 @@ impl<T: Ord> SetIn<T> for BTreeSet<T> {
     }
 }
 
+/// The methods of `String` that take or keep an allocator, or return an allocation failure.
 pub trait StringIn: Sized {
     fn made_in(alloc: Global) -> Self;
     fn made_from(alloc: Global, text: &str) -> Result<Self, AllocError>;
@@ -97,9 +101,10 @@ impl StringIn for String {
     }
 }
 
+/// A method of `str` that older versions of the standard library do not have.
 pub trait StrIn {
-    /// The last place up to this one between two characters. The standard library has it only of
-    /// late.
+    /// Returns the last byte offset that is at most `at` and a character boundary. In the standard
+    /// library this is `floor_char_boundary`, which is recent.
     fn boundary_at_most(&self, at: usize) -> usize;
 }
 
@@ -121,7 +126,7 @@ impl StrIn for str {
 mod tests {
     use super::*;
 
-    /// Each place in texts of characters of each width, and behind their ends.
+    /// Each byte offset in texts with characters of each width in bytes, and past their ends.
     #[test]
     fn boundaries() {
         let parts = [

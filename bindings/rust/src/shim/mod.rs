@@ -1,16 +1,17 @@
-//! What the extracted modules stand on in place of the library of the language that they are proved
-//! in.
+//! What the extracted modules use in place of the standard library of the language that they are
+//! proved in.
 pub mod alloc;
 pub mod simd;
 pub mod unicode_ident;
 mod xid;
 
-/// The traits that give the types of Rust's library the calls that the extracted modules make.
+/// The traits that give the types of Rust's standard library the methods that the extracted modules
+/// call.
 pub mod prelude {
     pub use super::alloc::{SetIn, StrIn, StringIn, VecIn};
 }
 
-/// `format!(in alloc; ..)`: a text, or an error where memory is refused.
+/// `format!(in alloc; ..)`: returns the text, or `Err` if an allocation fails.
 macro_rules! format_in {
     ($alloc:expr; $($words:tt)*) => {{
         let _: $crate::shim::alloc::Global = $alloc;
@@ -21,8 +22,8 @@ pub(crate) use format_in;
 
 #[cfg(test)]
 mod tests {
-    /// The classes that the extracted modules ask the standard library for are those that the
-    /// proofs speak of: each character.
+    /// For each character, the standard library's classes that the extracted modules use are those
+    /// that the proofs are about.
     #[test]
     fn white_space_and_digits() {
         let white = |c| {

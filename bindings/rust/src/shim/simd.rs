@@ -1,13 +1,16 @@
-//! Sixteen lanes of bytes, as two words: safe code, and the same on every processor.
-/// Lanes of bytes, the first of which is the lowest of the first word.
+//! Vectors of sixteen bytes, as two 64-bit words: safe code that is the same on every processor.
+use std::ops::BitOr;
+
+/// A vector of sixteen bytes. The first lane is the lowest byte of the first word.
 #[allow(non_camel_case_types)]
 #[derive(Clone, Copy)]
 pub struct u8x16([u64; 2]);
 
-/// Which lanes are chosen: the highest bit of each.
+/// A mask of lanes: the highest bit of each byte is set if the lane is.
 #[derive(Clone, Copy)]
 pub struct Mask([u64; 2]);
 
+/// Comparisons lane by lane.
 pub trait SimdPartialEq {
     fn simd_eq(self, other: Self) -> Mask;
     fn simd_ne(self, other: Self) -> Mask;
@@ -16,14 +19,15 @@ pub trait SimdPartialEq {
 const LOW: u64 = 0x7f7f_7f7f_7f7f_7f7f;
 const ONES: u64 = 0x0101_0101_0101_0101;
 
-/// The highest bit of each byte that is not 0, and no other. No byte carries into the next one.
+/// Returns a word with the highest bit of each byte set if that byte is not 0, and no other bit. No
+/// byte carries into the next one.
 #[inline(always)]
 fn marked(word: u64) -> u64 {
     (((word & LOW) + LOW) | word) & !LOW
 }
 
-/// The highest bits of the bytes, the lowest byte's first: each is moved to a place of its own in
-/// the highest byte.
+/// Returns the highest bits of the bytes, that of the lowest byte as the lowest bit. The
+/// multiplication moves each to its own bit of the highest byte.
 #[inline(always)]
 fn gathered(word: u64) -> u64 {
     (word >> 7).wrapping_mul(0x0102_0408_1020_4080) >> 56
@@ -35,7 +39,11 @@ impl u8x16 {
         u8x16([u64::from(byte) * ONES; 2])
     }
 
-    /// The first sixteen bytes of a slice, which has to have as many.
+    /// Returns the first sixteen bytes of a slice.
+    ///
+    /// # Panics
+    ///
+    /// Panics if the slice is shorter.
     #[inline(always)]
     pub fn from_slice(bytes: &[u8]) -> u8x16 {
         let (low, high) = bytes[..16].split_at(8);
@@ -59,8 +67,17 @@ impl SimdPartialEq for u8x16 {
     }
 }
 
+impl BitOr for Mask {
+    type Output = Mask;
+
+    #[inline(always)]
+    fn bitor(self, other: Mask) -> Mask {
+        Mask([self.0[0] | other.0[0], self.0[1] | other.0[1]])
+    }
+}
+
 impl Mask {
-    /// A bit for each lane, the first of which is the lowest.
+    /// Returns one bit for each lane, that of the first lane as the lowest.
     #[inline(always)]
     pub fn to_bitmask(self) -> u64 {
         gathered(self.0[0]) | gathered(self.0[1]) << 8
@@ -71,7 +88,7 @@ impl Mask {
 mod tests {
     use super::*;
 
-    /// Each pair of bytes in each lane, among others that are the same or not.
+    /// Each pair of bytes in each lane, among other lanes that are equal to it or not.
     #[test]
     fn a_bit_for_each_lane() {
         for (a, b, lane) in (0..=255)
@@ -84,6 +101,9 @@ mod tests {
                 let (lanes, splat) = (u8x16::from_slice(&bytes), u8x16::splat(b));
                 assert_eq!(lanes.simd_eq(splat).to_bitmask(), wanted);
                 assert_eq!(lanes.simd_ne(splat).to_bitmask(), wanted ^ 0xffff);
+                let either = lanes.simd_eq(splat) | lanes.simd_eq(u8x16::splat(others));
+                let other = (0..16).filter(|&i| bytes[i] == others).map(|i| 1 << i);
+                assert_eq!(either.to_bitmask(), wanted | other.sum::<u64>());
             }
         }
     }

@@ -1,13 +1,15 @@
-//! What may begin an identifier and what may go on with one: `XID_Start` and `XID_Continue`.
+//! The characters that may begin an identifier (`XID_Start`) and those that may follow in one
+//! (`XID_Continue`), of Unicode Standard Annex 31.
 use super::xid::{CONTINUE, START};
 
-/// Whether a character lies in one of the ranges of a table: from an even bound up to the odd one
-/// after it.
+/// Returns whether a character is in one of the ranges of a table. Each range is from a bound with
+/// an even index to the bound after it, which is excluded.
 #[cold]
 fn is_within(bounds: &[u32], c: char) -> bool {
     bounds.partition_point(|&bound| bound <= u32::from(c)) % 2 == 1
 }
 
+/// Returns whether a character is in `XID_Start`.
 #[inline]
 pub fn is_xid_start(c: char) -> bool {
     if c.is_ascii() {
@@ -16,6 +18,7 @@ pub fn is_xid_start(c: char) -> bool {
     is_within(&START, c)
 }
 
+/// Returns whether a character is in `XID_Continue`.
 #[inline]
 pub fn is_xid_continue(c: char) -> bool {
     if c.is_ascii() {
@@ -28,8 +31,8 @@ pub fn is_xid_continue(c: char) -> bool {
 mod tests {
     use super::*;
 
-    /// The class of each character by the ranges of a table, one after the other, and by what it is
-    /// in ASCII.
+    /// Returns for each character whether it is in the class: from the ranges of a table, one after
+    /// the other, and from `in_ascii` for ASCII.
     fn class(bounds: &[u32], in_ascii: fn(char) -> bool) -> Vec<bool> {
         let mut is: Vec<bool> = ('\0'..='\u{7f}').map(in_ascii).collect();
         for (at, &bound) in bounds.iter().enumerate() {

@@ -1,4 +1,5 @@
-//! How many steps a cursor has made, in contracts alone: nothing is done when the program runs.
+//! The number of steps that a cursor has made, for contracts alone: nothing is done when the
+//! program runs.
 
 ghost use Rattle.std.specs.Prelude.{◌≡◌, ℕ, ◌+◌, ◌++◌, chars, length};
 ghost use Rattle.rustc_parse_format.specs.Characters.{Text, behind_first};
@@ -7,7 +8,8 @@ ghost use Rattle.std.specs.Borrow.{ftrue};
 use crate::characters::{before, first};
 use std::marker::Model;
 
-/// A number that only contracts see. It takes no bytes, and only these two functions make one.
+/// A number that only contracts see. It has no size at run time, and only the two functions below
+/// create one.
 #[derive(Drop)]
 pub struct Steps {
     pub ghost made: { ℕ },
@@ -18,14 +20,14 @@ impl Model for Steps {
 }
 
 impl Steps {
-    /// None.
+    /// Returns the number 0.
     pub(super) fn start() -> Steps
         ensures { result.made ≡ 0 }
     {
         Steps {}
     }
 
-    /// Some more.
+    /// Returns the sum of the two numbers.
     pub(super) fn more(_before: &Steps, _count: &u64) -> Steps
         ensures { result.made ≡ _before.now.made + _count.now }
     {
@@ -33,7 +35,7 @@ impl Steps {
     }
 }
 
-/// How many characters a cursor passed, and how many were left where it last went back.
+/// How many characters a cursor has passed, and how many were left when it last went back.
 #[derive(Drop)]
 pub struct Tally {
     made: Steps,
@@ -49,7 +51,7 @@ impl Model for Tally {
 }
 
 impl Tally {
-    /// None yet, in front of a text.
+    /// Returns the tally of a cursor at the start of `text` that has passed no characters.
     #[inline(always)]
     pub(super) fn new(text: &str) -> Tally
         ensures { result ≡ record { made = 0; left = length (chars text.now) } }
@@ -60,7 +62,7 @@ impl Tally {
         }
     }
 
-    /// Some more are passed.
+    /// Counts `count` more characters as passed.
     #[inline(always)]
     pub(super) fn pass(&mut self, count: u64)
         ensures { self.new ≡ record self.old { made = self.old.made + count } }
@@ -68,15 +70,15 @@ impl Tally {
         self.made = Steps::more(&self.made, &count);
     }
 
-    /// The cursor goes back from in front of a text.
+    /// Records that the cursor goes back from the position at which `from` is left.
     #[inline(always)]
-    pub(super) fn go_back(&mut self, from: &str)
+    pub(super) fn rewind(&mut self, from: &str)
         ensures { self.new ≡ record self.old { left = length (chars from.now) } }
     {
         self.left = Steps::more(&Steps::start(), &character_count(from));
     }
 
-    /// The same.
+    /// Returns a copy of the tally.
     #[inline(always)]
     pub(super) fn same(&self) -> Tally
         ensures { result ≡ self.now }
@@ -88,7 +90,8 @@ impl Tally {
     }
 }
 
-/// How many characters a text has: as many as bytes that begin one. Only the count of steps asks for it, and so the compiler leaves it out.
+/// Returns the number of characters of a text, which is the number of bytes that begin one. Only
+/// the count of steps needs it, so the compiler leaves it out.
 #[inline(always)]
 fn character_count(text: &str) -> u64
     ensures { result ≡ length (chars text.now) }
@@ -103,7 +106,7 @@ fn character_count(text: &str) -> u64
     count
 }
 
-/// How many characters of a text stand in front of a rest of it.
+/// Returns the number of characters of `text` before its suffix `rest`.
 #[inline(always)]
 pub(super) fn count_before(text: &str, rest: &str) -> u64
     requires { (u : Text) × (chars text.now ≡ u ++ chars rest.now) }
@@ -112,7 +115,7 @@ pub(super) fn count_before(text: &str, rest: &str) -> u64
     character_count(before(text, rest))
 }
 
-/// How many characters a move over the next one passes.
+/// Returns the number of characters that a move past the next one passes: 1, or 0 if there is none.
 #[inline(always)]
 pub(super) fn count_next(text: &str) -> u64
     ensures { result + length (behind_first (chars text.now)) ≡ length (chars text.now) }

@@ -1,12 +1,15 @@
-//! What is left of a text, from which characters are taken one at a time.
+//! What is left of a text, which is consumed one character at a time.
 
-ghost use Rattle.std.specs.Prelude.{◌≡◌, ◌↔◌, ◌∷◌, ◌<◌, ◌≤◌, List, ℕ, [], chars, IfSome, IsFalse, IsTrue};
+ghost use Rattle.std.specs.Prelude.{◌≡◌, ◌↔◌, ◌∷◌, ◌<◌, ◌≤◌, List, ℕ, [], chars, IfSome, IsFalse};
+ghost use Rattle.std.specs.Prelude.{IsTrue};
 ghost use Rattle.rustc_parse_format.specs.Bytes.{IsSharedFront};
-ghost use Rattle.rustc_parse_format.specs.Characters.{Text, begins_with, behind, behind_first, first, byte_length};
+ghost use Rattle.rustc_parse_format.specs.Characters.{Text, begins_with, behind, behind_first};
+ghost use Rattle.rustc_parse_format.specs.Characters.{first, byte_length};
 ghost use Rattle.rustc_parse_format.specs.Literal.{IsContent};
 ghost use Rattle.rustc_parse_format.specs.LiteralReading.{SharePlain};
 ghost use Rattle.rustc_parse_format.specs.LiteralUnits.{LiteralUnit, is_plain, is_skipped};
-ghost use Rattle.rustc_parse_format.specs.SeenSource.{after_continuations, begins_continuation, closed_by_quote, spelled_units};
+ghost use Rattle.rustc_parse_format.specs.SeenSource.{after_continuations, begins_continuation};
+ghost use Rattle.rustc_parse_format.specs.SeenSource.{closed_by_quote, spelled_units};
 
 use crate::blocks::plain_front;
 use crate::characters::{behind_first, first};
@@ -25,7 +28,7 @@ impl<'a> Model for Rest<'a> {
 }
 
 impl<'a> Rest<'a> {
-    /// The whole of a text.
+    /// Returns a `Rest` that is the whole text.
     #[inline(always)]
     pub fn new(text: &'a str) -> Rest<'a>
         ensures { result ≡ chars text.now }
@@ -33,7 +36,7 @@ impl<'a> Rest<'a> {
         Rest { text }
     }
 
-    /// What is left.
+    /// Returns what is left.
     #[inline(always)]
     pub fn text(&self) -> &'a str
         ensures { chars result.now ≡ self.now }
@@ -41,7 +44,7 @@ impl<'a> Rest<'a> {
         self.text
     }
 
-    /// How many bytes are left.
+    /// Returns how many bytes are left.
     #[inline(always)]
     pub fn len(&self) -> usize
         ensures { result ≡ byte_length self.now }
@@ -49,7 +52,7 @@ impl<'a> Rest<'a> {
         byte_count(self.text)
     }
 
-    /// Whether nothing is left.
+    /// Returns whether nothing is left.
     #[inline(always)]
     pub fn is_empty(&self) -> bool
         ensures { IsTrue result ↔ (self.now ≡ []) }
@@ -57,7 +60,7 @@ impl<'a> Rest<'a> {
         self.peek().is_none()
     }
 
-    /// The next character, which stays.
+    /// Returns the next character, or `None` if nothing is left. Consumes nothing.
     #[inline(always)]
     pub fn peek(&self) -> Option<char>
         ensures { result ≡ first self.now }
@@ -65,7 +68,7 @@ impl<'a> Rest<'a> {
         first(self.text)
     }
 
-    /// Takes the next character.
+    /// Consumes and returns the next character, or returns `None` if nothing is left.
     #[inline(always)]
     pub fn next(&mut self) -> Option<char>
         ensures value { result ≡ first self.old }
@@ -76,16 +79,16 @@ impl<'a> Rest<'a> {
         first
     }
 
-    /// Takes the next character, whatever it is, and says whether it was this one.
+    /// Consumes the next character, whatever it is, and returns whether it was this one.
     #[inline(always)]
-    pub fn next_is(&mut self, c: char) -> bool
+    pub fn next_eq(&mut self, c: char) -> bool
         ensures value { result ≡ begins_with c self.old }
         ensures rest { self.new ≡ behind_first self.old }
     {
         self.next() == Some(c)
     }
 
-    /// Whether the next character is this one.
+    /// Returns whether the next character is this one. Consumes nothing.
     #[inline(always)]
     pub fn begins_with(&self, c: char) -> bool
         ensures { result ≡ begins_with c self.now }
@@ -93,9 +96,10 @@ impl<'a> Rest<'a> {
         self.peek() == Some(c)
     }
 
-    /// Takes the next character if it is this one of ASCII, by its byte, and says whether it was.
+    /// Consumes the next character if it is this ASCII character, given by its byte, and returns
+    /// whether it was.
     #[inline(always)]
-    pub fn take_ascii(&mut self, byte: u8) -> bool
+    pub fn consume_ascii(&mut self, byte: u8) -> bool
         requires { byte < 128 }
         ensures yes { IsTrue result → self.old ≡ byte ∷ self.new }
         ensures no { IsFalse result → self.new ≡ self.old }
@@ -109,9 +113,9 @@ impl<'a> Rest<'a> {
         }
     }
 
-    /// Takes the plain characters with which both go on.
+    /// Skips in both texts the plain characters with which they go on alike.
     #[inline(always)]
-    pub fn take_plain(&mut self, other: &mut Rest<'_>)
+    pub fn skip_plain(&mut self, other: &mut Rest<'_>)
         ensures { SharePlain self.old other.old self.new other.new }
     {
         let (rest, left) = behind_plain(self.text, other.text);
@@ -119,7 +123,7 @@ impl<'a> Rest<'a> {
         other.text = left;
     }
 
-    /// Whether a continuation is at the front.
+    /// Returns whether what is left begins with a string continuation: a backslash and an LF.
     #[inline(always)]
     pub fn begins_continuation(&self) -> bool
         ensures { result ≡ begins_continuation self.now }
@@ -127,21 +131,23 @@ impl<'a> Rest<'a> {
         self.begins_with('\\') && first(behind_first(self.text)) == Some('\n')
     }
 
-    /// Takes all continuations at the front of a content that a quote closes.
+    /// Skips all string continuations at the start of what is left of a content with its closing
+    /// quote.
     pub fn skip_continuations(&mut self)
-        ensures after { (q : Text) (us : List LiteralUnit) → IsContent q us → self.old ≡ closed_by_quote q
+        ensures after { (q : Text) (us : List LiteralUnit) → IsContent q us
+            → self.old ≡ closed_by_quote q
             → self.new ≡ closed_by_quote (spelled_units (after_continuations us)) }
         ensures narrower { byte_length self.new ≤ byte_length self.old }
     {
         while self.begins_continuation() {
             self.text = behind_first(behind_first(self.text));
-            self.skip_white();
+            self.skip_ws();
         }
     }
 
-    /// Takes the white space that belongs to a continuation.
+    /// Skips the white space that belongs to a string continuation: all HT, LF, CR and space.
     #[inline(always)]
-    pub fn skip_white(&mut self)
+    pub fn skip_ws(&mut self)
         ensures { self.new ≡ behind is_skipped self.old }
     {
         while let Some('\t' | '\n' | '\r' | ' ') = self.peek() {
@@ -150,7 +156,7 @@ impl<'a> Rest<'a> {
     }
 }
 
-/// How many bytes a text takes.
+/// Returns the length of a text in bytes.
 #[inline(always)]
 fn byte_count(text: &str) -> usize
     ensures { result ≡ byte_length (chars text.now) }
@@ -158,7 +164,7 @@ fn byte_count(text: &str) -> usize
     text.len()
 }
 
-/// What is after this character of ASCII, if the text begins with it.
+/// Returns what is after this ASCII character, or `None` if the text does not begin with it.
 #[inline(always)]
 fn behind_ascii(text: &str, byte: u8) -> Option<&str>
     requires { byte < 128 }
@@ -171,7 +177,8 @@ fn behind_ascii(text: &str, byte: u8) -> Option<&str>
     Some(&text[1..])
 }
 
-/// The byte is no quote, no backslash and no CR, which a literal writes in another way.
+/// Returns whether the byte is plain: no quote, no backslash and no CR, which a literal has to
+/// escape.
 #[inline(always)]
 fn is_plain(byte: u8) -> bool
     ensures { result ≡ is_plain byte }
@@ -179,7 +186,7 @@ fn is_plain(byte: u8) -> bool
     byte != b'"' && byte != b'\\' && byte != b'\r'
 }
 
-/// How many bytes at the front are the same in both, and plain.
+/// Returns the length in bytes of the longest prefix that is the same in both and plain.
 #[inline(always)]
 pub fn plain_width(bytes: &[u8], others: &[u8]) -> usize
     ensures { IsSharedFront is_plain bytes.now others.now result }
@@ -193,16 +200,19 @@ pub fn plain_width(bytes: &[u8], others: &[u8]) -> usize
     most
 }
 
-/// Whether both begin with the same byte, which is no backslash: often one escape comes after another.
+/// Returns whether both begin with the same byte, which is no backslash: one escape often comes
+/// after another.
 #[inline(always)]
 fn begin_alike(bytes: &[u8], others: &[u8]) -> bool {
     !bytes.is_empty() && bytes[0] != b'\\' && !others.is_empty() && bytes[0] == others[0]
 }
 
-/// What is after the plain characters with which both begin. Where they differ, they may do so inside of a character.
+/// Returns what is left of both texts after the plain characters with which they begin alike. If
+/// they first differ inside a character, that is left in both.
 #[inline(always)]
 fn behind_plain<'a, 'b>(text: &'a str, other: &'b str) -> (&'a str, &'b str)
-    ensures { SharePlain (chars text.now) (chars other.now) (chars result.0.now) (chars result.1.now) }
+    ensures { SharePlain (chars text.now) (chars other.now) (chars result.0.now)
+        (chars result.1.now) }
 {
     let bytes = text.as_bytes();
     let others = other.as_bytes();

@@ -1,24 +1,30 @@
-//! The unit at the front of the content of an ordinary string literal.
+//! Reading the unit at the start of the content of an ordinary string literal.
 
-ghost use Rattle.std.specs.Prelude.{◌≡◌, ◌∷◌, ◌<◌, [], IfSome, IsTrue, None, Some, chars, if◌then◌else◌, option_map};
+ghost use Rattle.std.specs.Prelude.{◌≡◌, ◌∷◌, ◌<◌, [], IfSome, IsTrue, None, Some, chars};
+ghost use Rattle.std.specs.Prelude.{if◌then◌else◌, option_map};
 ghost use Rattle.std.specs.Char.{digit_value};
 ghost use Rattle.rustc_parse_format.specs.Characters.{Text, behind_first};
-ghost use Rattle.rustc_parse_format.specs.LiteralUnits.{at_most_one, byte_at, escape_at, escaped, is_hex, is_octal, meaning, unicode_at, unit_at};
+ghost use Rattle.rustc_parse_format.specs.LiteralUnits.{at_most_one, byte_at, escape_at, escaped};
+ghost use Rattle.rustc_parse_format.specs.LiteralUnits.{is_hex, is_octal, meaning, unicode_at};
+ghost use Rattle.rustc_parse_format.specs.LiteralUnits.{unit_at};
 
 use super::rest::Rest;
 
-/// What two digits after `\x` stand for.
+/// Returns the character that two digits after `\x` stand for, or `None` if they are not an octal
+/// and a hexadecimal digit.
 #[tactic(auto, unfolding(crate::specs::LiteralUnits::byte_at))]
 #[inline(always)]
 fn byte_of(high: char, low: char) -> Option<char>
-    ensures { (r : Text) → meaning (byte_at (high ∷ low ∷ r)) ≡ option_map (λ c. (c ∷ [], r)) result }
+    ensures { (r : Text) → meaning (byte_at (high ∷ low ∷ r))
+        ≡ option_map (λ c. (c ∷ [], r)) result }
 {
     let high = high.to_digit(8)?;
     let low = low.to_digit(16)?;
     Some((high * 16 + low) as u8 as char)
 }
 
-/// Takes what is after `\x`.
+/// Reads the two digits after `\x`, and returns the character that they stand for, or `None` if
+/// they stand for none.
 #[tactic(auto, unfolding(crate::specs::LiteralUnits::byte_at))]
 #[inline(always)]
 fn read_byte(rest: &mut Rest<'_>) -> Option<char>
@@ -29,10 +35,11 @@ fn read_byte(rest: &mut Rest<'_>) -> Option<char>
     byte_of(high, low)
 }
 
-/// The most common escape is at the front.
+/// Returns whether the text begins with `\n`, the most common escape.
 #[inline(always)]
 pub fn is_newline_escape(text: &str) -> bool
-    ensures { IsTrue result → chars text.now ≡ 92 ∷ 110 ∷ behind_first (behind_first (chars text.now)) }
+    ensures { IsTrue result → chars text.now ≡ 92 ∷ 110
+        ∷ behind_first (behind_first (chars text.now)) }
 {
     let bytes = text.as_bytes();
     if bytes.len() < 2 {
@@ -41,7 +48,7 @@ pub fn is_newline_escape(text: &str) -> bool
     bytes[0] == b'\\' && bytes[1] == b'n'
 }
 
-/// The value of an octal digit.
+/// Returns the value of an octal digit, or `None` if the byte is not one.
 #[inline(always)]
 fn octal_digit(byte: u8) -> Option<u8>
     ensures { result ≡ (if is_octal byte then Some (digit_value byte) else None) }
@@ -52,7 +59,7 @@ fn octal_digit(byte: u8) -> Option<u8>
     }
 }
 
-/// The value of a hexadecimal digit.
+/// Returns the value of a hexadecimal digit, or `None` if the byte is not one.
 #[inline(always)]
 fn hex_digit(byte: u8) -> Option<u8>
     ensures { result ≡ (if is_hex byte then Some (digit_value byte) else None) }
@@ -65,12 +72,14 @@ fn hex_digit(byte: u8) -> Option<u8>
     }
 }
 
-/// What an escape with `\x` at the front stands for, and what is after it: by its bytes, since a literal may be made of such
-/// escapes.
+/// Returns the byte that a `\x` escape at the start of the text stands for, and what is after it,
+/// or `None` if there is no such escape. It looks at bytes, for speed, since a literal may be made
+/// of such escapes.
 #[tactic(auto, unfolding(crate::specs::LiteralUnits::byte_at))]
 #[inline(always)]
 pub fn byte_escape(text: &str) -> Option<(u8, &str)>
-    ensures meaning { IfSome result (λ x. meaning (unit_at (chars text.now)) ≡ Some (x.0 ∷ [], chars x.1.now)) }
+    ensures meaning { IfSome result (λ x. meaning (unit_at (chars text.now))
+        ≡ Some (x.0 ∷ [], chars x.1.now)) }
     ensures ascii { IfSome result (λ x. x.0 < 128) }
 {
     let bytes = text.as_bytes();
@@ -82,13 +91,14 @@ pub fn byte_escape(text: &str) -> Option<(u8, &str)>
     Some((high * 16 + low, &text[4..]))
 }
 
-/// Takes what is after `\u`.
-#[tactic(auto, using(crate::proofs::LiteralUnicode::unicode_steps))]
+/// Reads what is after `\u`, the braces with their digits, and returns the character that they
+/// stand for, or `None` if they stand for none.
+#[tactic(auto, using(crate::proofs::Literals::Unicode::unicode_steps))]
 #[inline(always)]
 fn read_unicode(rest: &mut Rest<'_>) -> Option<char>
     ensures { meaning (unicode_at rest.old) ≡ option_map (λ c. (c ∷ [], rest.new)) result }
 {
-    if !rest.next_is('{') {
+    if !rest.next_eq('{') {
         return None;
     }
     let mut digits: u32 = 0;
@@ -107,7 +117,8 @@ fn read_unicode(rest: &mut Rest<'_>) -> Option<char>
     None
 }
 
-/// What a backslash and this letter stand for.
+/// Returns the character that a backslash and this letter stand for, or `None` if they stand for
+/// none.
 #[inline(always)]
 fn escaped(letter: char) -> Option<char>
     ensures { result ≡ escaped letter }
@@ -122,7 +133,8 @@ fn escaped(letter: char) -> Option<char>
     }
 }
 
-/// Takes what is after a backslash.
+/// Reads what is after a backslash, and returns the character that the escape stands for:
+/// `Some(None)` for a string continuation, which stands for none, and `None` if there is no escape.
 #[tactic(auto, unfolding(crate::specs::LiteralUnits::escape_at))]
 #[inline(always)]
 fn read_escape(rest: &mut Rest<'_>) -> Option<Option<char>>
@@ -130,7 +142,7 @@ fn read_escape(rest: &mut Rest<'_>) -> Option<Option<char>>
 {
     match rest.next()? {
         '\n' => {
-            rest.skip_white();
+            rest.skip_ws();
             Some(None)
         }
         'x' => Some(Some(read_byte(rest)?)),
@@ -139,8 +151,9 @@ fn read_escape(rest: &mut Rest<'_>) -> Option<Option<char>>
     }
 }
 
-/// Takes the unit at the front, and gives what it stands for, which may be nothing. It gives `None` if no unit stands
-/// there.
+/// Reads the unit at the start, a character or an escape, and returns the character that it stands
+/// for: `Some(None)` for a string continuation, which stands for none, and `None` if there is no
+/// unit.
 #[tactic(auto, unfolding(crate::specs::LiteralUnits::unit_at))]
 #[inline(always)]
 pub fn read_unit(rest: &mut Rest<'_>) -> Option<Option<char>>

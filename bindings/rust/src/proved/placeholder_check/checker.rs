@@ -1,33 +1,41 @@
-//! The report.
+//! The report on missing and unused arguments.
 
 // Extracted from crates/placeholder_check/src/checker.rt by tools/extract: not to be edited.
 // That source is proved, and each contract here is its. That this text means the same is tested:
 // rows of answers from outside, the proved static library (.ci/bindings) and the original
-// (bindings/agree) give the same over it.
+// (tools/agree) give the same over it.
 
 use crate::proved::placeholder_check::entries::{lacked_below, lacked_by, members_from};
 use crate::proved::placeholder_check::uses::uses_of;
 use crate::proved::rustc_parse_format::Piece;
 use crate::shim::alloc::{AllocError, Global};
 
-/// What is wrong between placeholders and arguments. Each entry stands once.
+/// The arguments that are missing or unused. No list has an entry twice.
 pub struct Report<'a> {
-    /// The numbers that are used and not given, in rising order.
+    /// The indices that are used and not given, in ascending order.
     pub missing_index: Vec<usize>,
     /// The names that are used and not given, in the order of their first uses.
     pub missing_name: Vec<&'a str>,
-    /// The numbers that are given and not used, in rising order.
+    /// The indices that are given and not used, in ascending order.
     pub unused_index: Vec<usize>,
-    /// The names that are given and not used, in the order in which they are given.
+    /// The names that are given and not used, in the order in which they are first given.
     pub unused_name: Vec<&'a str>,
 }
 
-/// The report on pieces for which so many arguments are given by position, with the numbers from 0 on, and these by name. A
-/// position, a width and a precision use an argument, as `std::fmt` has it; but no number means one that is given by name. Out
-/// of memory, no report is given.
-// ensures report { IfOk result (λ r. IsReport (uses (map seen pieces.now)) positional (texts names.now) (seen_report r)) }
-// No other report is one.
-// ensures only { IfOk result (λ r. (s : ReportOf) → IsReport (uses (map seen pieces.now)) positional (texts names.now) s → s ≡ seen_report r) }
+/// Compares the arguments that the pieces use with those that are given: `positional` many by
+/// position, with the indices from 0, and those in `names` by name.
+///
+/// The position, the width and the precision of a placeholder can each use an argument, as in the
+/// documentation of `std::fmt`; but here an index never refers to an argument that is given by
+/// name. Returns `Err` if an allocation fails; there is then no report.
+// ensures report { IfOk result
+//     (λ r. IsReport (uses (map seen pieces.now)) positional (texts names.now) (seen_report r)) }
+// No other report satisfies this.
+// ensures only { IfOk result (λ r. (s : ReportOf)
+//     → IsReport (uses (map seen pieces.now)) positional (texts names.now) s
+//     → s ≡ seen_report r) }
+// If there are no pieces and no arguments, the call succeeds even if every allocation fails.
+// ensures empty { pieces.now ≡ [] → positional ≡ 0 → names.now ≡ [] → IsOk result }
 #[inline]
 pub fn check<'a>(
     alloc: Global,

@@ -1,17 +1,19 @@
-//! The entries of a list that another lacks.
+//! The entries of one list that are not in another.
 
 // Extracted from crates/placeholder_check/src/entries.rt by tools/extract: not to be edited.
 // That source is proved, and each contract here is its. That this text means the same is tested:
 // rows of answers from outside, the proved static library (.ci/bindings) and the original
-// (bindings/agree) give the same over it.
+// (tools/agree) give the same over it.
 
 use crate::shim::alloc::{AllocError, Global};
 use crate::shim::prelude::*;
 use std::collections::BTreeSet;
 
-/// The numbers of a set from one on, in rising order.
+/// Returns the numbers of a set that are at least `first`, in ascending order. Returns `Err` if an
+/// allocation fails.
 // ensures kept { IfOk result (λ v. v.items ≡ filter (λ n. nat_le first n) set.now.keys) }
 // ensures ordered { IsOrdered nat_cmp set.now }
+// ensures empty { set.now.keys ≡ [] → IsOk result }
 #[inline]
 pub fn members_from(
     alloc: Global,
@@ -27,8 +29,11 @@ pub fn members_from(
     Ok(members)
 }
 
-/// The numbers below another that a set lacks, in rising order. There is to be room for so many at once.
-// ensures { IfOk result (λ v. Lists (λ n. (n < end) × (contains nat_cmp set.now n ≡ false)) v.items) }
+/// Returns the numbers below `end` that are not in a set, in ascending order. Allocates room for
+/// `room` numbers first; returns `Err` if an allocation fails.
+// ensures lacked { IfOk result
+//     (λ v. Lists (λ n. (n < end) × (contains nat_cmp set.now n ≡ false)) v.items) }
+// ensures empty { end ≡ 0 → room ≡ 0 → IsOk result }
 #[inline]
 pub fn lacked_below(
     alloc: Global,
@@ -45,16 +50,21 @@ pub fn lacked_below(
     Ok(lacked)
 }
 
-/// Adds a name to a set, and says whether it was not there.
+/// Inserts a name into a set, and returns whether it was not yet there. Returns `Err` if an
+/// allocation fails.
 // ensures is_new { IfOk result (λ added. added ≡ not (has_text set.old (chars name.now))) }
-// ensures has { OnOk result ((t : Text) → has_text set.new t ≡ (bytes_eq t (chars name.now) || has_text set.old t)) }
+// ensures has { OnOk result ((t : Text) → has_text set.new t
+//     ≡ (bytes_eq t (chars name.now) || has_text set.old t)) }
 #[inline]
 fn add<'a>(set: &mut BTreeSet<&'a str>, name: &'a str) -> Result<bool, AllocError> {
     Ok(set.try_insert(name)?)
 }
 
-/// The first entry of each of the names that the others lack, in order.
-// ensures { IfOk result (λ v. AreFirsts (texts names.now) (texts others.now) (texts v.items)) }
+/// Returns the names that are not in `others`, each once, in the order of their first entries.
+/// Returns `Err` if an allocation fails.
+// ensures firsts { IfOk result
+//     (λ v. AreFirsts (texts names.now) (texts others.now) (texts v.items)) }
+// ensures empty { names.now ≡ [] → others.now ≡ [] → IsOk result }
 #[inline]
 pub fn lacked_by<'a>(
     alloc: Global,

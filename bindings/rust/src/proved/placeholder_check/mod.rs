@@ -1,9 +1,10 @@
-//! The placeholders of a text against the arguments that are given for it.
+//! Compares the placeholders of a format string with the arguments that are given to it: `check`
+//! takes the pieces, and `read_and_check` reads an input first.
 
 // Extracted from crates/placeholder_check/src/lib.rt by tools/extract: not to be edited.
 // That source is proved, and each contract here is its. That this text means the same is tested:
 // rows of answers from outside, the proved static library (.ci/bindings) and the original
-// (bindings/agree) give the same over it.
+// (tools/agree) give the same over it.
 
 pub(crate) mod checker;
 pub(crate) mod entries;

@@ -1,24 +1,24 @@
-//! Which arguments pieces use.
+//! The arguments that pieces use.
 
 // Extracted from crates/placeholder_check/src/uses.rt by tools/extract: not to be edited.
 // That source is proved, and each contract here is its. That this text means the same is tested:
 // rows of answers from outside, the proved static library (.ci/bindings) and the original
-// (bindings/agree) give the same over it.
+// (tools/agree) give the same over it.
 
 use crate::proved::rustc_parse_format::{Argument, Count, Piece, Position};
 use crate::shim::alloc::{AllocError, Global};
 use crate::shim::prelude::*;
 use std::collections::BTreeSet;
 
-/// The numbers that are used, and each use of a name, in order.
+/// The arguments that pieces use.
 pub struct Uses<'a> {
-    /// The numbers.
+    /// The indices that are used.
     pub indices: BTreeSet<usize>,
-    /// The names.
+    /// The name of each use by name, in order.
     pub names: Vec<&'a str>,
 }
 
-/// Adds a use of a number.
+/// Adds a use of an index. Returns `Err` if an allocation fails.
 // ensures { OnOk result (Adds (ByIndex index ∷ []) uses.old uses.new) }
 #[inline]
 fn add_index(uses: &mut Uses<'_>, index: usize) -> Result<(), AllocError> {
@@ -26,7 +26,7 @@ fn add_index(uses: &mut Uses<'_>, index: usize) -> Result<(), AllocError> {
     Ok(())
 }
 
-/// Adds a use of a name.
+/// Adds a use of a name. Returns `Err` if an allocation fails.
 // ensures { OnOk result (Adds (ByName (chars name.now) ∷ []) uses.old uses.new) }
 #[inline]
 fn add_name<'a>(uses: &mut Uses<'a>, name: &'a str) -> Result<(), AllocError> {
@@ -34,8 +34,9 @@ fn add_name<'a>(uses: &mut Uses<'a>, name: &'a str) -> Result<(), AllocError> {
     Ok(())
 }
 
-/// Adds what a position uses.
-// ensures { OnOk result (Adds (position_use (seen_position position.now) ∷ []) uses.old uses.new) }
+/// Adds the argument that a position uses. Returns `Err` if an allocation fails.
+// ensures { OnOk result
+//     (Adds (position_use (seen_position position.now) ∷ []) uses.old uses.new) }
 #[inline]
 fn add_position<'a>(uses: &mut Uses<'a>, position: &Position<'a>) -> Result<(), AllocError> {
     match position {
@@ -44,7 +45,8 @@ fn add_position<'a>(uses: &mut Uses<'a>, position: &Position<'a>) -> Result<(), 
     }
 }
 
-/// Adds what a width or a precision uses.
+/// Adds the argument that a width or a precision uses, if it uses one. Returns `Err` if an
+/// allocation fails.
 // ensures { OnOk result (Adds (count_uses (seen_count count.now)) uses.old uses.new) }
 #[inline]
 fn add_count<'a>(uses: &mut Uses<'a>, count: &Count<'a>) -> Result<(), AllocError> {
@@ -55,7 +57,8 @@ fn add_count<'a>(uses: &mut Uses<'a>, count: &Count<'a>) -> Result<(), AllocErro
     }
 }
 
-/// Adds what a placeholder uses.
+/// Adds the arguments that a placeholder uses: by its position, its width and its precision, in
+/// this order. Returns `Err` if an allocation fails.
 // ensures { OnOk result (Adds (argument_uses (seen_argument argument.now)) uses.old uses.new) }
 #[inline]
 fn add_argument<'a>(uses: &mut Uses<'a>, argument: &Argument<'a>) -> Result<(), AllocError> {
@@ -65,7 +68,7 @@ fn add_argument<'a>(uses: &mut Uses<'a>, argument: &Argument<'a>) -> Result<(), 
     Ok(())
 }
 
-/// Adds what a piece uses.
+/// Adds the arguments that a piece uses. Returns `Err` if an allocation fails.
 // ensures { OnOk result (Adds (piece_uses (seen piece.now)) uses.old uses.new) }
 #[inline]
 fn add_piece<'a>(uses: &mut Uses<'a>, piece: &Piece<'a>) -> Result<(), AllocError> {
@@ -75,8 +78,10 @@ fn add_piece<'a>(uses: &mut Uses<'a>, piece: &Piece<'a>) -> Result<(), AllocErro
     }
 }
 
-/// What pieces use.
-// ensures { IfOk result (λ u. Holds (uses (map seen pieces.now)) u) }
+/// Returns the arguments that pieces use. Returns `Err` if an allocation fails.
+// ensures uses { IfOk result (λ u. Holds (uses (map seen pieces.now)) u) }
+// ensures empty { pieces.now ≡ []
+//     → IfOk result (λ u. (u.indices.keys ≡ []) × (u.names.items ≡ [])) × IsOk result }
 #[inline]
 pub fn uses_of<'a>(alloc: Global, pieces: &[Piece<'a>]) -> Result<Uses<'a>, AllocError> {
     let mut uses = Uses {

@@ -1,42 +1,22 @@
-//! Fronts of bytes, found sixteen bytes at a time. The last block ends where the bytes end, and so it may lie over the one before it.
-//! What is shorter than a block, the callers look at byte by byte.
+//! Prefixes of bytes, found sixteen bytes at a time. The last block ends where the bytes end, so it
+//! may overlap the one before it. If there are fewer bytes than a block has, the callers examine
+//! each byte.
 
 // Extracted from crates/rustc_parse_format/src/blocks.rt by tools/extract: not to be edited.
 // That source is proved, and each contract here is its. That this text means the same is tested:
 // rows of answers from outside, the proved static library (.ci/bindings) and the original
-// (bindings/agree) give the same over it.
+// (tools/agree) give the same over it.
 
 use crate::shim::simd::*;
 
-/// A bit for each lane that is this byte.
-// ensures { (k : ℕ) → k < 16 → bit_at result k ≡ 0 → (slice_index lanes k == byte) ≡ false }
-#[inline(always)]
-fn marks(lanes: u8x16, byte: u8) -> u64 {
-    lanes.simd_eq(u8x16::splat(byte)).to_bitmask()
-}
-
-/// A bit for each lane that is one of three bytes.
-// ensures { (k : ℕ) → k < 16 → bit_at result k ≡ 0 → is_none_of a b c (slice_index lanes k) ≡ true }
-#[inline(always)]
-fn marks_of_three(lanes: u8x16, a: u8, b: u8, c: u8) -> u64 {
-    marks(lanes, a) | marks(lanes, b) | marks(lanes, c)
-}
-
-/// A bit for each lane in which two blocks differ.
-// ensures { (k : ℕ) → k < 16 → bit_at result k ≡ 0 → slice_index lanes k ≡ slice_index others k }
-#[inline(always)]
-fn differences(lanes: u8x16, others: u8x16) -> u64 {
-    lanes.simd_ne(others).to_bitmask()
-}
-
-/// How many bits are in front of the first that is set.
+/// Returns the number of bits below the lowest one that is set, or 64 if there is none.
 // ensures { (k : ℕ) → k < result → bit_at bits k ≡ 0 }
 #[inline(always)]
 fn clear_bits(bits: u64) -> usize {
     bits.trailing_zeros() as usize
 }
 
-/// How many lanes are in front of the first that has a bit.
+/// Returns the number of lanes before the first one whose bit is set, or 16 if there is none.
 // ensures within { result ≤ 16 }
 // ensures clear { (k : ℕ) → k < result → bit_at bits k ≡ 0 }
 #[inline(always)]
@@ -44,31 +24,41 @@ fn clear_lanes(bits: u64) -> usize {
     clear_bits(bits | 65536)
 }
 
-/// How many lanes are in front of the first that is one of three bytes.
+/// Returns the number of lanes before the first one that is `a`, `b` or `c`, or 16 if there is
+/// none.
 // ensures within { result ≤ 16 }
 // ensures pass { (k : ℕ) → k < result → is_none_of a b c (slice_index lanes k) ≡ true }
 #[inline(always)]
 fn calm_lanes(lanes: u8x16, a: u8, b: u8, c: u8) -> usize {
-    clear_lanes(marks_of_three(lanes, a, b, c))
+    let found = lanes.simd_eq(u8x16::splat(a))
+        | lanes.simd_eq(u8x16::splat(b))
+        | lanes.simd_eq(u8x16::splat(c));
+    clear_lanes(found.to_bitmask())
 }
 
-/// How many lanes are in front of the first that differs from the other's, or is not plain.
+/// Returns the number of lanes before the first one that differs from the lane of `others` or is a
+/// quote, a backslash or a CR, or 16 if there is none.
 // ensures within { result ≤ 16 }
 // ensures same { (k : ℕ) → k < result → slice_index lanes k ≡ slice_index others k }
 // ensures pass { (k : ℕ) → k < result → is_plain (slice_index lanes k) ≡ true }
 #[inline(always)]
 fn plain_lanes(lanes: u8x16, others: u8x16) -> usize {
-    clear_lanes(differences(lanes, others) | marks_of_three(lanes, b'"', b'\\', b'\r'))
+    let found = lanes.simd_ne(others)
+        | lanes.simd_eq(u8x16::splat(b'"'))
+        | lanes.simd_eq(u8x16::splat(b'\\'))
+        | lanes.simd_eq(u8x16::splat(b'\r'));
+    clear_lanes(found.to_bitmask())
 }
 
-/// The byte is one of three.
+/// Returns whether the byte is `a`, `b` or `c`.
 #[inline(always)]
 fn is_one_of(byte: u8, a: u8, b: u8, c: u8) -> bool {
     byte == a || byte == b || byte == c
 }
 
-/// How many bytes at the front are none of three, as far as blocks tell. No block is looked at where the byte at `probe` is one of
-/// them, since the front is then shorter than a block is worth.
+/// Returns the length of the longest prefix without the bytes `a`, `b` and `c`. Returns 0 without
+/// examining a block if there are fewer than 16 bytes, or if the byte at the index `probe` is one
+/// of the three, because the prefix is then too short to be worth a block.
 // requires { probe < 16 }
 // ensures within { result ≤ length bytes.now }
 // ensures pass { list_all (is_none_of a b c) (take result bytes.now) ≡ true }
@@ -89,8 +79,9 @@ pub fn calm_front(bytes: &[u8], probe: usize, a: u8, b: u8, c: u8) -> usize {
     last + calm_lanes(u8x16::from_slice(&bytes[last..]), a, b, c)
 }
 
-/// How many bytes at the front are the same in both, and plain, as far as blocks tell. No block is looked at where the first bytes
-/// differ.
+/// Returns the length of the longest prefix that both have and that is without quotes, backslashes
+/// and CRs. Returns 0 without examining a block if one has fewer than 16 bytes, or if their first
+/// bytes differ.
 // ensures { IsSharedFront is_plain bytes.now others.now result }
 #[inline(always)]
 pub fn plain_front(bytes: &[u8], others: &[u8]) -> usize {

@@ -1,30 +1,32 @@
-//! Characters: their classes, and what stands at the front of a text. Of all that reads pieces, bytes and UTF-8 occur here, in
-//! `source` and in `cursor` alone.
+//! Classes of characters, and prefixes and suffixes of texts. Of all code that reads pieces, only
+//! this module, `source` and `cursor` work with bytes and UTF-8.
 
 // Extracted from crates/rustc_parse_format/src/characters.rt by tools/extract: not to be edited.
 // That source is proved, and each contract here is its. That this text means the same is tested:
 // rows of answers from outside, the proved static library (.ci/bindings) and the original
-// (bindings/agree) give the same over it.
+// (tools/agree) give the same over it.
 
 use crate::proved::rustc_parse_format::blocks::calm_front;
 
-/// A class of characters whose longest front is read.
+/// A class of characters. The longest prefix of a text that is made of them can be read at once.
 #[derive(Clone, Copy)]
 pub enum Class {
-    /// What may go on with a word.
+    /// Characters that can continue a word: `XID_Continue`.
     Continue,
-    /// `0` to `9`.
+    /// ASCII digits, `0` to `9`.
     Digit,
-    /// White space.
+    /// White space, as in `char::is_whitespace`.
     White,
-    /// All but braces.
+    /// All characters but braces.
     Text,
-    /// All but braces and newlines.
+    /// All characters but braces and newlines.
     Line,
+    /// All characters but backslashes.
+    Unescaped,
 }
 
 impl Class {
-    /// The character is of the class.
+    /// Returns whether `c` is in the class.
     // ensures { result ≡ passes self c }
     #[inline]
     pub fn passes(self, c: char) -> bool {
@@ -34,18 +36,19 @@ impl Class {
             Class::White => c.is_whitespace(),
             Class::Text => c != '{' && c != '}',
             Class::Line => c != '{' && c != '}' && c != '\n',
+            Class::Unescaped => c != '\\',
         }
     }
 }
 
-/// The first character.
+/// Returns the first character, or `None` if the text is empty.
 // ensures { result ≡ first (chars text.now) }
 #[inline(always)]
 pub fn first(text: &str) -> Option<char> {
     text.chars().next()
 }
 
-/// What is after the first character.
+/// Returns what is left after the first character, or an empty text if there is none.
 // ensures rest { chars result.now ≡ behind_first (chars text.now) }
 // ensures left { (input : List ℕ) → IsLeft input text.now → IsLeft input result.now }
 #[inline(always)]
@@ -55,16 +58,30 @@ pub fn behind_first(text: &str) -> &str {
     rest.as_str()
 }
 
-/// How many bytes stand in front of the first one that, taken for a character, is not of the class.
+/// Returns whether the first character is white space. Most often its first byte already shows that
+/// it is not.
+// ensures { result ≡ first_passes is_whitespace (chars text.now) }
+#[inline(always)]
+pub fn begins_white(text: &str) -> bool {
+    let bytes = text.as_bytes();
+    if !bytes.is_empty() && bytes[0] > b' ' && bytes[0] < 127 {
+        return false;
+    }
+    first(text).map_or(false, |c| c.is_whitespace())
+}
+
+/// Returns the number of bytes before the first one that, taken as a character, is not in the
+/// class.
 // ensures { IsFront (passes class) bytes.now result }
 #[inline(always)]
-fn run_width(bytes: &[u8], class: Class) -> usize {
+pub fn run_width(bytes: &[u8], class: Class) -> usize {
     if bytes.is_empty() || !class.passes(bytes[0] as char) {
         return 0;
     }
     let seen = match class {
         Class::Text => calm_front(bytes, 1, b'{', b'}', b'}'),
         Class::Line => calm_front(bytes, 1, b'{', b'}', b'\n'),
+        Class::Unescaped => calm_front(bytes, 1, b'\\', b'\\', b'\\'),
         _ => 0,
     };
     for i in seen..bytes.len() {
@@ -75,7 +92,8 @@ fn run_width(bytes: &[u8], class: Class) -> usize {
     bytes.len()
 }
 
-/// What is after the longest front of a class that has all but some of ASCII: so the bytes tell where it ends.
+/// Returns what is left after the longest prefix of characters in the class. The class has all
+/// characters outside ASCII, so the bytes alone show where the prefix ends.
 // requires { IsOfAscii (passes class) }
 // ensures rest { chars result.now ≡ behind (passes class) (chars text.now) }
 // ensures left { (input : List ℕ) → IsLeft input text.now → IsLeft input result.now }
@@ -85,7 +103,7 @@ pub fn behind_run(text: &str, class: Class) -> &str {
     &text[width..]
 }
 
-/// The text in front of `behind`, with which the text ends.
+/// Returns the part of `text` before its suffix `behind`.
 // requires { (u : Text) × (chars text.now ≡ u ++ chars behind.now) }
 // ensures { (u : Text) → chars text.now ≡ u ++ chars behind.now → chars result.now ≡ u }
 #[inline(always)]
@@ -93,21 +111,22 @@ pub fn before<'a>(text: &'a str, behind: &str) -> &'a str {
     &text[..text.len() - behind.len()]
 }
 
-/// The character may begin a word.
+/// Returns whether `c` can begin a word: `_` or `XID_Start`.
 // ensures { result ≡ is_id_start c }
 #[inline]
 pub fn is_id_start(c: char) -> bool {
     c == '_' || crate::shim::unicode_ident::is_xid_start(c)
 }
 
-/// The text is the word `_`.
+/// Returns whether the text is the word `_`.
 // ensures { result ≡ bytes_eq (chars text.now) (codes "_") }
 #[inline]
 pub fn is_underscore(text: &str) -> bool {
     first(text) == Some('_') && first(behind_first(text)).is_none()
 }
 
-/// The number with one more digit, modulo 65536, and whether that is above 65535.
+/// Returns the value of `number` with one more decimal digit, modulo 65536, and whether that value
+/// exceeds 65535.
 // requires { IsTrue (is_ascii_digit digit) }
 // ensures value { result.0 ≡ (number * 10 + digit_value digit) % 65536 }
 // ensures over { result.1 ≡ nat_lt 65535 (number * 10 + digit_value digit) }

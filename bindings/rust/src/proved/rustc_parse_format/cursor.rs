@@ -1,338 +1,256 @@
-//! A cursor over the input.
+//! A cursor over the input, with the byte offset of its position in the source.
 
 // Extracted from crates/rustc_parse_format/src/cursor.rt by tools/extract: not to be edited.
 // That source is proved, and each contract here is its. That this text means the same is tested:
 // rows of answers from outside, the proved static library (.ci/bindings) and the original
-// (bindings/agree) give the same over it.
+// (tools/agree) give the same over it.
 
-use crate::proved::rustc_parse_format::characters::{
-    before, behind_first, behind_run, first, is_id_start, with_digit, Class,
-};
-use crate::proved::rustc_parse_format::source::{look_again, Source, Spot};
-use crate::proved::rustc_parse_format::world::first_look;
+pub(crate) mod words;
+
+use crate::proved::rustc_parse_format::characters::{before, behind_first, first, is_id_start};
+use crate::proved::rustc_parse_format::source::{first_anchor, Anchor, Source};
 use std::ops::Range;
 
-/// A place in the input: what is left of it, and where that stands in the source.
+/// A position in the input: the text that is left, and where that starts in the source.
 pub struct Cursor<'input> {
     pub(crate) source: Source<'input>,
-    spot: Spot<'input>,
+    rest: &'input str,
+    anchor: Anchor<'input>,
 }
 
-/// Where a cursor stood, and what it had given back there.
+/// An earlier position of a cursor, with the count of its steps there.
 pub struct Checkpoint<'input> {
-    spot: Spot<'input>,
+    rest: &'input str,
+    anchor: Anchor<'input>,
 }
 
 impl<'input> Cursor<'input> {
-    /// At the front of the input of a source.
+    /// Returns a cursor at the start of `input`, the input of `source`. Does not allocate.
     // requires input { source.input.now ≡ input.now }
     // requires kept { IsKept source }
     // requires fits { source.offset + length input.now < 2 ^ 64 }
     // ensures { result ≡ unread_at source.entry input.now (nothing_back (chars input.now)) 0 }
     #[inline]
     pub fn new(source: Source<'input>, input: &'input str) -> Cursor<'input> {
-        let spot = Spot {
+        let anchor = first_anchor(&source);
+        Cursor {
+            source,
             rest: input,
-            mark: input,
-            at: first_look(&source),
-        };
-        Cursor { source, spot }
+            anchor,
+        }
     }
 
-    /// Where it stands.
-    // ensures at { self.now ≡ unread_at self.now.source result.spot.rest.now
-    //     (back_at (chars self.now.source.input.now) (chars result.spot.rest.now) result.tally) self.now.undone }
-    // ensures spot { IsSpot self.now.source result.spot.rest.now result.spot.mark.now result.spot.at }
-    // ensures counted { IsCounted (chars self.now.source.input.now) (chars result.spot.rest.now) result.tally }
+    /// Returns the current position, for `since`, `rewind` and `undo`.
+    // ensures at { self.now ≡ unread_at self.now.source result.rest.now
+    //     (back_at (chars self.now.source.input.now) (chars result.rest.now) result.tally)
+    //     self.now.undone }
+    // ensures anchored { IsAnchored self.now.source result.rest.now result.anchor }
+    // ensures counted { IsCounted (chars self.now.source.input.now)
+    //     (chars result.rest.now) result.tally }
     #[inline(always)]
     pub fn checkpoint(&self) -> Checkpoint<'input> {
-        let spot = Spot {
-            rest: self.spot.rest,
-            mark: self.spot.mark,
-            at: self.spot.at,
-        };
-        Checkpoint { spot }
+        Checkpoint {
+            rest: self.rest,
+            anchor: self.anchor,
+        }
     }
 
-    /// It has taken few steps. Nothing is done.
+    /// Proves that the cursor has made few steps, at most two for each character of the input. Does
+    /// nothing when the program runs.
     // ensures few { AreFew self.now.input self.now.rest self.now.back }
     // ensures word { behind_part self.now.rest ≤ self.now.back.left }
     #[inline]
     pub fn steps_are_few(&self) {
-        let _at = self.spot.at;
+        let _rest = self.rest;
     }
 
-    /// What was read since then.
-    // requires { (read : Text) × (chars from.now.spot.rest.now ≡ read ++ self.now.rest) }
-    // ensures { (read : Text) → chars from.now.spot.rest.now ≡ read ++ self.now.rest → chars result.now ≡ read }
+    /// Returns the text between `from` and the current position.
+    // requires { (read : Text) × (chars from.now.rest.now ≡ read ++ self.now.rest) }
+    // ensures { (read : Text) → chars from.now.rest.now ≡ read ++ self.now.rest
+    //     → chars result.now ≡ read }
     #[inline(always)]
     pub fn since(&self, from: &Checkpoint<'input>) -> &'input str {
-        before(from.spot.rest, self.spot.rest)
+        before(from.rest, self.rest)
     }
 
-    /// The next character, or None at the end.
+    /// Returns the next character, or `None` at the end of the input.
     // ensures { result ≡ first self.now.rest }
     #[inline(always)]
     pub fn peek(&self) -> Option<char> {
-        first(self.spot.rest)
+        first(self.rest)
     }
 
-    /// The character after the next one.
+    /// Returns the character after the next one, or `None` if there is none.
     // ensures { result ≡ first (behind_first self.now.rest) }
     #[inline]
     pub fn peek_ahead(&self) -> Option<char> {
-        first(behind_first(self.spot.rest))
+        first(behind_first(self.rest))
     }
 
-    /// Moves over the next character, if there is one. Only this, `take_place` and `pass_run` move forward.
+    /// Moves past the next character, if there is one. Only this function, `consume_place` and
+    /// `skip_run` move forward.
     // ensures rest { self.new ≡ record self.old { rest = behind_first self.old.rest } }
     #[inline]
-    pub fn advance(&mut self) {
-        self.spot.rest = behind_first(self.spot.rest);
+    pub fn skip_char(&mut self) {
+        self.rest = behind_first(self.rest);
     }
 
-    /// Moves over the next character, if there is one, and gives its place, or that of the end of the text.
+    /// Moves past the next character, if there is one, and returns its byte range in the source. At
+    /// the end of the input, returns the empty range where the text ends.
     // ensures place { pair result ≡ place_at self.old.world (length self.old.rest) }
     // ensures rest { self.new ≡ record self.old { rest = behind_first self.old.rest } }
     #[inline(always)]
-    pub fn take_place(&mut self) -> Range<usize> {
-        self.source.pass(&mut self.spot)
+    pub fn consume_place(&mut self) -> Range<usize> {
+        let (place, rest) = self.source.pass(self.rest, &mut self.anchor);
+        self.rest = rest;
+        place
     }
 
-    /// Goes back to where it stood.
-    // requires spot { IsSpot self.old.source to.spot.rest.now to.spot.mark.now to.spot.at }
-    // requires furthest { IsFurthest (chars to.spot.rest.now) self.old.back }
-    // requires earlier { length self.old.rest ≤ length (chars to.spot.rest.now) }
-    // requires word { behind_part (chars to.spot.rest.now) ≤ length self.old.rest }
-    // ensures { self.new ≡ unread_at self.old.source to.entry.spot.rest.now (given_back self.old.rest (chars to.entry.spot.rest.now) self.old.back) self.old.undone }
+    /// Goes back to the position `to`. The characters from there on can then be read again, which
+    /// counts as new steps.
+    // requires anchored { IsAnchored self.old.source to.rest.now to.anchor }
+    // requires furthest { IsFurthest (chars to.rest.now) self.old.back }
+    // requires earlier { length self.old.rest ≤ length (chars to.rest.now) }
+    // requires word { behind_part (chars to.rest.now) ≤ length self.old.rest }
+    // ensures { self.new ≡ unread_at self.old.source to.entry.rest.now (given_back self.old.rest
+    //     (chars to.entry.rest.now) self.old.back) self.old.undone }
     #[inline]
-    pub fn go_back(&mut self, to: Checkpoint<'input>) {
-        self.spot = to.spot;
+    pub fn rewind(&mut self, to: Checkpoint<'input>) {
+        self.rest = to.rest;
+        self.anchor = to.anchor;
     }
 
-    /// Where the next character starts in the source, or where the text ends.
+    /// Returns the byte offset in the source at which the next character starts, or at the end of
+    /// the input the one at which the text ends.
     // ensures { result ≡ number_of self.now.world (Start (length self.now.rest)) }
     #[inline(always)]
     pub fn start(&self) -> usize {
-        self.source.start(&self.spot)
+        self.source.start(self.rest, &self.anchor)
     }
 
-    /// The next character c is past the indent of a line that starts at a byte: it starts behind that, or there and is no white space.
-    // ensures { IsTrue result → first self.now.rest ≡ Some c → IsPastIndent c byte self.now.world self.now.rest }
+    /// Returns whether the next character `c` is past the indentation of a line that starts at the
+    /// byte offset `byte`: it starts after that, or it starts there and is not white space.
+    // ensures { IsTrue result → first self.now.rest ≡ Some c
+    //     → IsPastIndent c byte self.now.world self.now.rest }
     #[inline(always)]
     pub fn is_past_indent(&self, c: char, byte: usize) -> bool {
-        let start = self.source.start(&self.spot);
+        let start = self.source.start(self.rest, &self.anchor);
         start > byte || start == byte && !c.is_whitespace()
     }
 
-    /// Looks at the snippet, so that places from here on are counted from here. Nothing else changes.
+    /// Examines the snippet at the current position, from which byte offsets are then computed.
+    /// Nothing that contracts show changes.
     // ensures { self.new ≡ self.old }
     #[inline(always)]
-    pub fn settle(&mut self) {
+    pub fn move_anchor(&mut self) {
         if let Some(snippet) = &self.source.kept {
-            let moved = self.spot.mark.len() - self.spot.rest.len();
-            if moved > 0 && moved >= self.spot.at.bare {
-                let at = look_again(snippet.as_str(), &self.spot);
-                self.spot = Spot {
-                    rest: self.spot.rest,
-                    mark: self.spot.rest,
-                    at,
-                };
-            }
+            self.anchor.move_anchor(snippet.as_str(), self.rest);
         }
     }
 
-    /// Where the next character ends in the source, or where the text ends.
+    /// Returns the byte offset in the source at which the next character ends, or at the end of the
+    /// input the one at which the text ends.
     // ensures { result ≡ number_of self.now.world (End (length self.now.rest)) }
     #[inline(always)]
     pub fn stop(&self) -> usize {
-        self.source.stop(&self.spot)
+        self.source.stop(self.rest, &self.anchor)
     }
 
-    /// The snippet is the source literal of the input.
+    /// Returns whether the snippet is the source literal of the input.
     // ensures { result ≡ self.now.world.has_source }
     #[inline]
     pub fn is_source_literal(&self) -> bool {
         self.source.is_literal
     }
 
-    /// The place of the next character, its byte position in the input, and itself, or None at the end.
+    /// Returns the byte range of the next character in the source, its byte offset in the input,
+    /// and the character itself, or `None` at the end of the input.
     // ensures { option_map (λ x. (pair x.0, x.1, x.2)) result
     //     ≡ first_of self.now.world self.now.input self.now.rest }
     #[inline(always)]
-    pub fn next_place(&self) -> Option<(Range<usize>, usize, char)> {
-        self.source.next_place(&self.spot)
+    pub fn peek_place(&self) -> Option<(Range<usize>, usize, char)> {
+        self.source.peek_place(self.rest, &self.anchor)
     }
 
-    /// The same of the character after the next one.
+    /// Returns, for the character after the next one, its byte range in the source, its byte offset
+    /// in the input, and the character itself, or `None` if there is none.
     // ensures { option_map (λ x. (pair x.0, x.1, x.2)) result
     //     ≡ first_of self.now.world self.now.input (behind_first self.now.rest) }
     #[inline(always)]
-    pub fn place_ahead(&self) -> Option<(Range<usize>, usize, char)> {
-        let ahead = Spot {
-            rest: behind_first(self.spot.rest),
-            mark: self.spot.mark,
-            at: self.spot.at,
-        };
-        self.source.next_place(&ahead)
+    pub fn peek_place_ahead(&self) -> Option<(Range<usize>, usize, char)> {
+        self.source
+            .peek_place(behind_first(self.rest), &self.anchor)
     }
 
-    /// The next character is this one.
+    /// Returns the byte offset of the next character in the input, or at the end the length of the
+    /// input.
+    // ensures { result ≡ byte_length self.now.input - byte_length self.now.rest }
+    #[inline(always)]
+    pub fn position(&self) -> usize {
+        self.source.input.len() - self.rest.len()
+    }
+
+    /// Returns whether the next character is `c`.
     // ensures { result ≡ begins_with c self.now.rest }
     #[inline]
     pub fn is_next(&self, c: char) -> bool {
         self.peek() == Some(c)
     }
 
-    /// Moves over the character, and answers whether it is there.
+    /// Moves past the next character if it is `c`. Returns whether it is.
     // ensures value { result ≡ begins_with c self.old.rest }
     // ensures rest { self.new ≡ record self.old {
     //   rest = if begins_with c self.old.rest then behind_first self.old.rest else self.old.rest;
     // } }
     #[inline]
-    pub fn take_char(&mut self, c: char) -> bool {
+    pub fn consume(&mut self, c: char) -> bool {
         let is_there = self.is_next(c);
         if is_there {
-            self.advance();
+            self.skip_char();
         }
         is_there
     }
 
-    /// The character after the next one is c.
+    /// Returns whether the character after the next one is `c`.
     // ensures { result ≡ begins_with c (behind_first self.now.rest) }
     #[inline]
-    pub fn goes_on_with(&self, c: char) -> bool {
+    pub fn is_ahead(&self, c: char) -> bool {
         self.peek_ahead() == Some(c)
     }
 
-    /// A placeholder opens here: an opening brace, and no other one behind it.
+    /// Returns whether a placeholder opens here: the next character is an opening brace, and the
+    /// one after it is not.
     // ensures { result ≡ opens_placeholder self.now.rest }
     #[inline(always)]
     pub fn opens_placeholder(&self) -> bool {
-        self.is_next('{') && !self.goes_on_with('{')
+        self.is_next('{') && !self.is_ahead('{')
     }
 
-    /// The next character is a digit.
+    /// Returns whether the next character is an ASCII digit.
     // ensures { result ≡ first_passes is_ascii_digit self.now.rest }
     #[inline]
-    pub fn starts_digit(&self) -> bool {
+    pub fn is_digit_next(&self) -> bool {
         self.peek().map_or(false, |c| c.is_ascii_digit())
     }
 
-    /// The next character may begin a word.
+    /// Returns whether the next character can begin a word.
     // ensures { result ≡ first_passes is_id_start self.now.rest }
     #[inline]
-    pub fn starts_word(&self) -> bool {
+    pub fn is_word_next(&self) -> bool {
         self.peek().map_or(false, is_id_start)
     }
 
-    /// The next characters are `r#`.
+    /// Returns whether the next two characters are `r#`.
     // ensures { result ≡ begins_prefix self.now.rest }
     #[inline]
-    pub fn starts_prefix(&self) -> bool {
-        self.is_next('r') && self.goes_on_with('#')
+    pub fn is_raw_prefix_next(&self) -> bool {
+        self.is_next('r') && self.is_ahead('#')
     }
 
-    /// A word may begin with the character after the next one.
+    /// Returns whether the character after the next one can begin a word.
     // ensures { result ≡ first_passes is_id_start (behind_first self.now.rest) }
     #[inline]
-    pub fn goes_on_with_word(&self) -> bool {
+    pub fn is_word_ahead(&self) -> bool {
         self.peek_ahead().map_or(false, is_id_start)
-    }
-
-    /// Moves over the longest front of the class.
-    // ensures rest { self.new ≡ record self.old { rest = behind (passes class) self.old.rest } }
-    #[inline(always)]
-    pub fn skip(&mut self, class: Class) {
-        match class {
-            Class::Text => return self.pass_run(Class::Text),
-            Class::Line => return self.pass_run(Class::Line),
-            _ => {}
-        }
-        while let Some(c) = self.peek() {
-            if !class.passes(c) {
-                break;
-            }
-            self.advance();
-        }
-    }
-
-    /// Moves over the longest front of the class at once.
-    // requires { IsOfAscii (passes class) }
-    // ensures rest { self.new ≡ record self.old { rest = behind (passes class) self.old.rest } }
-    #[inline]
-    fn pass_run(&mut self, class: Class) {
-        let rest = behind_run(self.spot.rest, class);
-
-        self.spot.rest = rest;
-    }
-
-    /// The next character is white space.
-    // ensures { result ≡ first_passes is_whitespace self.now.rest }
-    #[inline(always)]
-    fn starts_white(&self) -> bool {
-        self.peek().map_or(false, |c| c.is_whitespace())
-    }
-
-    /// Moves over the white space at the front, of which there is mostly none.
-    // ensures rest { self.new ≡ record self.old { rest = behind_white self.old.rest } }
-    #[inline(always)]
-    pub fn skip_white(&mut self) {
-        if self.starts_white() {
-            self.skip_spaces();
-        }
-    }
-
-    /// Moves over the white space at the front.
-    // ensures rest { self.new ≡ record self.old { rest = behind_white self.old.rest } }
-    #[inline(never)]
-    fn skip_spaces(&mut self) {
-        self.skip(Class::White);
-    }
-
-    /// Reads the word at the front, which may be empty.
-    // ensures value { chars result.now ≡ word self.old.rest }
-    // ensures rest { self.new ≡ record self.old { rest = behind_word self.old.rest } }
-    #[inline]
-    pub fn word(&mut self) -> &'input str {
-        if !self.starts_word() {
-            return "";
-        }
-        let from = self.checkpoint();
-        self.advance();
-        self.skip(Class::Continue);
-        self.since(&from)
-    }
-
-    /// Moves over the digits at the front: their number modulo 65536, and whether it is above 65535.
-    // ensures value { result.0 ≡ number (digits self.old.rest) }
-    // ensures over { result.1 ≡ is_over (digits self.old.rest) }
-    // ensures rest { self.new ≡ record self.old { rest = behind_digits self.old.rest } }
-    #[inline]
-    fn skip_number(&mut self) -> (u16, bool) {
-        let mut value = 0;
-        let mut over = false;
-        while let Some(c) = self.peek() {
-            if !c.is_ascii_digit() {
-                break;
-            }
-            let more = with_digit(value, c);
-            value = more.0;
-            over |= more.1;
-            self.advance();
-        }
-        (value, over)
-    }
-
-    /// Reads the digits at the front: their number modulo 65536, and whether it is above 65535.
-    // ensures text { chars result.0.now ≡ digits self.old.rest }
-    // ensures value { result.1 ≡ number (digits self.old.rest) }
-    // ensures over { result.2 ≡ is_over (digits self.old.rest) }
-    // ensures rest { self.new ≡ record self.old { rest = behind_digits self.old.rest } }
-    #[inline]
-    pub fn number(&mut self) -> (&'input str, u16, bool) {
-        let from = self.checkpoint();
-        let (value, over) = self.skip_number();
-        (self.since(&from), value, over)
     }
 }

@@ -1,15 +1,15 @@
-//! The errors of a parser: one list that grows at both ends.
+//! The list of a parser's errors, which grows at both ends.
 
 // Extracted from crates/rustc_parse_format/src/error_list.rt by tools/extract: not to be edited.
 // That source is proved, and each contract here is its. That this text means the same is tested:
 // rows of answers from outside, the proved static library (.ci/bindings) and the original
-// (bindings/agree) give the same over it.
+// (tools/agree) give the same over it.
 
 use crate::proved::rustc_parse_format::types::{ParseError, Suggestion};
 use crate::shim::alloc::Global;
 use crate::shim::prelude::*;
 
-/// An error that says nothing, and takes no memory of its own.
+/// Returns an error whose texts are empty. Does not allocate.
 // ensures { seen_error result ≡ error [] None [] (0, 0) None }
 #[inline]
 pub fn empty_error(alloc: Global) -> ParseError {

@@ -1,52 +1,58 @@
-//! Faults as they are found.
+//! The faults of an input, as they are found.
 
 // Extracted from crates/rustc_parse_format/src/faults.rt by tools/extract: not to be edited.
 // That source is proved, and each contract here is its. That this text means the same is tested:
 // rows of answers from outside, the proved static library (.ci/bindings) and the original
-// (bindings/agree) give the same over it.
+// (tools/agree) give the same over it.
 
+use crate::shim::alloc::{AllocError, Global};
+use crate::shim::prelude::*;
+use std::mem;
 use std::ops::Range;
 
-/// A fault, as plain data.
+/// A fault of an input. The ranges are byte ranges in the source.
 pub enum Fault<'input> {
     /// A closing brace that closes nothing.
     UnmatchedBrace(Range<usize>),
-    /// The character found in place of a closing brace, if any, where that is, and the opening brace.
+    /// A missing closing brace: the character found in its place, if any, where that is, and the
+    /// opening brace.
     MissingBrace(Option<char>, Range<usize>, Range<usize>),
-    /// The same where the fill is a closing brace, with the fill in place of the opening brace.
+    /// A missing closing brace after the fill `}`: the character found in its place, if any, where
+    /// that is, and the fill.
     FillBrace(Option<char>, Range<usize>, Range<usize>),
-    /// The word `_`.
+    /// The word `_` in place of a name.
     Underscore(Range<usize>),
-    /// The digits of a number above 65535.
+    /// A number above 65535: its digits, and a range that includes the character after them.
     TooLarge(&'input str, Range<usize>),
-    /// A position that is no name, where the mode wants names.
+    /// A position that is not a name, in a mode that allows only names.
     Unnamed(Range<usize>),
-    /// Text after a colon, where the mode wants names and nothing else.
+    /// Text after a colon, in a mode that allows only names.
     TextAfterColon(Range<usize>),
-    /// A raw identifier, and its `r#`.
+    /// A raw identifier, and its prefix `r#`.
     RawIdentifier(Range<usize>, Range<usize>),
-    /// A flag after the type `?`, and the `?` with it.
+    /// A flag after the type `?`: the flag, where that is, and both together.
     LateFlag(char, Range<usize>, Range<usize>),
-    /// A `?` in place of a closing brace, and in front of it.
+    /// A `?` in place of a closing brace and directly before one.
     MissingColon(Range<usize>),
-    /// The word after `?:` in place of a closing brace, and the `?`.
+    /// A `?:` in place of a closing brace: the word after it, and the `?`.
     LateDebug(&'input str, Range<usize>),
-    /// The sign of an alignment in place of a closing brace.
+    /// An alignment in place of a closing brace: `<`, `>` or `^`.
     LateAlign(char, Range<usize>),
     /// A `,` in place of a closing brace, and the opening brace.
     Grouping(Range<usize>, Range<usize>),
-    /// A `=` in place of a closing brace, and in front of it, and the opening brace.
+    /// A `=` in place of a closing brace and directly before one, and the opening brace.
     DebugPrint(Range<usize>, Range<usize>),
     /// A `+` in place of a closing brace.
     LateSign(Range<usize>),
-    /// A field that is a name, with its argument.
+    /// An argument and a field of it that is a name, as in `a.b`.
     FieldAccess(Range<usize>),
-    /// A field that is a number, with its argument.
+    /// An argument and a field of it that is a number, as in `a.0`.
     TupleIndex(Range<usize>),
 }
 
 impl Fault<'_> {
-    /// Its error goes to the front of the list, and not to its back.
+    /// Returns whether the error of the fault is added at the front of the list of errors, not at
+    /// the back.
     // ensures { result ≡ is_front (seen_fault self.now) }
     #[inline]
     pub fn is_front(&self) -> bool {
@@ -68,5 +74,57 @@ impl Fault<'_> {
             | Fault::FieldAccess(_)
             | Fault::TupleIndex(_) => true,
         }
+    }
+}
+
+/// The faults of a call, in the order in which they were found. The first one needs no allocation.
+pub struct Faults<'input> {
+    first: Option<Fault<'input>>,
+    more: Vec<Fault<'input>>,
+}
+
+impl<'input> Faults<'input> {
+    /// Returns an empty list. Does not allocate.
+    // ensures { result ≡ [] }
+    #[inline]
+    pub fn new(alloc: Global) -> Faults<'input> {
+        Faults {
+            first: None,
+            more: Vec::made_in(alloc),
+        }
+    }
+
+    /// Returns whether there are no faults.
+    // ensures { IsTrue result ↔ (self.now ≡ []) }
+    #[inline]
+    pub fn is_empty(&self) -> bool {
+        self.first.is_none()
+    }
+
+    /// Adds a fault at the end. Returns `Err` if an allocation fails, and the list is then
+    /// unchanged. The first fault needs no allocation.
+    // ensures ok { OnOk result (self.new ≡ self.old ++ seen_fault fault.entry ∷ []) }
+    // ensures err { OnErr result (self.new ≡ self.old) }
+    // ensures spare { self.old ≡ [] → IsOk result }
+    #[inline]
+    pub fn try_push(&mut self, fault: Fault<'input>) -> Result<(), AllocError> {
+        if self.first.is_none() {
+            self.first = Some(fault);
+        } else {
+            self.more.try_push(fault)?;
+        }
+        Ok(())
+    }
+
+    /// Takes all faults out of the list, and returns the first one and those after it. Does not
+    /// allocate.
+    // ensures value { seen_faults result.0 result.1.items ≡ self.old }
+    // ensures state { self.new ≡ [] }
+    #[inline]
+    pub fn take(&mut self, alloc: Global) -> (Option<Fault<'input>>, Vec<Fault<'input>>) {
+        (
+            self.first.take(),
+            mem::replace(&mut self.more, Vec::made_in(alloc)),
+        )
     }
 }

@@ -1,23 +1,23 @@
-//! What the derives of the public types promise, each as the contract of a small function that
-//! calls the derive.
+//! The contracts of the derives of the public types. A derive has no contract, so for each derive
+//! there is a small function that calls it and states what it does.
 //!
-//! A clone is always made, and is its source. `==` is true exactly where two values are seen the
-//! same: field by field, texts by their characters, and with every span. So it is reflexive,
-//! symmetric and transitive. The defaults ask for nothing.
+//! A clone always succeeds, and equals its source. `==` is true exactly if all fields are equal:
+//! texts by their characters, and spans included. So it is reflexive, symmetric and transitive. The
+//! defaults have every part absent.
 
 // Extracted from crates/rustc_parse_format/src/laws.rt by tools/extract: not to be edited.
 // That source is proved, and each contract here is its. That this text means the same is tested:
 // rows of answers from outside, the proved static library (.ci/bindings) and the original
-// (bindings/agree) give the same over it.
+// (tools/agree) give the same over it.
 
 use crate::proved::rustc_parse_format::types::{Count, FormatSpec};
 
-/// A text is UTF-8.
+/// Proves that a text is UTF-8.
 // ensures { IsUtf8 _text.now }
 #[inline]
 fn know_text(_text: &str) {}
 
-/// The name in a count is UTF-8.
+/// Proves that the name in a count is UTF-8.
 // ensures { IsTextInCount count.now }
 #[inline]
 fn know_count(count: &Count<'_>) {
@@ -26,7 +26,7 @@ fn know_count(count: &Count<'_>) {
     }
 }
 
-/// The texts of a specification are UTF-8.
+/// Proves that the texts of a format specification are UTF-8.
 // ensures { IsTextInSpec spec.now }
 #[inline]
 fn know_spec(spec: &FormatSpec<'_>) {
@@ -35,7 +35,8 @@ fn know_spec(spec: &FormatSpec<'_>) {
     know_text(spec.ty);
 }
 
-/// `==` of two specifications says whether they are seen the same.
+/// Returns whether two format specifications are equal, by `==`: texts are compared by their
+/// characters, and spans too.
 // ensures { IsTrue result ↔ AreSame seen_spec a.now b.now }
 #[inline]
 pub fn specs_are_equal(a: &FormatSpec<'_>, b: &FormatSpec<'_>) -> bool {
@@ -44,7 +45,7 @@ pub fn specs_are_equal(a: &FormatSpec<'_>, b: &FormatSpec<'_>) -> bool {
     a == b
 }
 
-/// By default each part of a specification is absent.
+/// Returns the default format specification: each part is absent.
 // ensures { seen_spec result ≡ default_spec }
 #[inline]
 pub fn default_of_spec<'input>() -> FormatSpec<'input> {

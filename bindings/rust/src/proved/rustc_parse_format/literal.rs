@@ -1,10 +1,11 @@
-//! String literals as they are written in a program: the characters of a content with their places, and which snippet
-//! is the source literal of an input.
+//! String literals as they are written in a program: the characters that a content stands for with
+//! their byte ranges, and whether a snippet is the source literal of an input. The content of a
+//! literal is what is between its quotes.
 
 // Extracted from crates/rustc_parse_format/src/literal.rt by tools/extract: not to be edited.
 // That source is proved, and each contract here is its. That this text means the same is tested:
 // rows of answers from outside, the proved static library (.ci/bindings) and the original
-// (bindings/agree) give the same over it.
+// (tools/agree) give the same over it.
 
 use crate::shim::prelude::*;
 pub(crate) mod rest;
@@ -16,8 +17,11 @@ use std::ops::Range;
 use unit::byte_escape;
 pub(crate) use unit::{is_newline_escape, read_unit};
 
-/// The characters that a content stands for, each with its bytes, by computing.
-// ensures computed { IfOk result (λ o. option_map (λ v. seen_characters v.items) o ≡ placed 0 (chars content.now)) }
+/// Returns the characters that a content stands for, each with its byte range in the content, or
+/// `None` if the text is no content, as `placed` computes them. Returns `Err` if an allocation
+/// fails.
+// ensures computed { IfOk result (λ o. option_map (λ v. seen_characters v.items) o
+//     ≡ placed 0 (chars content.now)) }
 // ensures empty { chars content.now ≡ [] → IsOk result }
 #[inline]
 fn read_characters(
@@ -41,16 +45,23 @@ fn read_characters(
     Ok(Some(found))
 }
 
-/// The characters that the content of an ordinary string literal stands for, each with the bytes of the content that it
-/// comes from, or `None` if the text is no content. The rule is the Rust Reference's, of string literals; a backslash in front of
-/// an LF, with all HT, LF, CR and space after that, stands for nothing. An error is refused memory.
-// ensures found { IfOk result (λ o. IfSome o (λ v. IsReadAs (chars content.now) (seen_characters v.items))) }
+/// Returns the characters that the content of an ordinary string literal stands for, each with the
+/// byte range of the content that it comes from, or `None` if the text is not the content of such a
+/// literal.
+///
+/// The rule is that of string literals in the Rust Reference. A string continuation, a backslash
+/// before an LF with all HT, LF, CR and space after it, stands for nothing. The list is allocated
+/// with `alloc`: returns `Err` if an allocation fails. For an empty content it always returns `Ok`.
+// ensures found { IfOk result
+//     (λ o. IfSome o (λ v. IsReadAs (chars content.now) (seen_characters v.items))) }
 // ensures none { IfOk result (λ o. IfNone o (IsNoContent (chars content.now))) }
-// In a source literal with this content each character has the place that is given, after the opening quote.
+// In a source literal with this content each character has the place returned here, one byte
+// later for the opening quote, and an appended newline comes at the end.
 // ensures places { IfOk result (λ o. IfSome o (λ v. (input : Text) (appended : Bool)
 //     → IsSource input None (ordinary_frame (chars content.now)) appended
 //     → (let w = world input None (Some (ordinary_frame (chars content.now))) appended in
-//     w.places ≡ map (λ x. later 1 x.0) (seen_characters v.items) ++ newline_places w.end appended))) }
+//     w.places ≡ map (λ x. later 1 x.0) (seen_characters v.items)
+//     ++ newline_places w.end appended))) }
 // ensures empty { content.now ≡ [] → IsOk result }
 #[inline]
 pub fn read_content(
@@ -60,7 +71,7 @@ pub fn read_content(
     read_characters(alloc, content)
 }
 
-/// What stands in front of the newline at the end, or `None` if the text does not end with one.
+/// Returns the text before the newline at its end, or `None` if the text does not end with one.
 // ensures { MatchOption result
 //     ((t : List ℕ) → t ++ newline true ≡ chars text.now → ⊥)
 //     (λ t. chars t.now ++ newline true ≡ chars text.now) }
@@ -69,7 +80,8 @@ fn before_newline(text: &str) -> Option<&str> {
     text.strip_suffix('\n')
 }
 
-/// The input without the newline that a macro has appended to it, or `None` if there is no such newline.
+/// Returns the input without the newline that a macro appended to it, or `None` if one was appended
+/// and the input does not end with it.
 // ensures { MatchOption result
 //     ((t : List ℕ) → t ++ newline appended ≡ chars input.now → ⊥)
 //     (λ t. chars t.now ++ newline appended ≡ chars input.now) }
@@ -82,7 +94,9 @@ fn without_newline(input: &str, appended: bool) -> Option<&str> {
     }
 }
 
-/// What stands between the first and the last character, or `None` if these are not two quotes.
+/// Returns the text between the first and the last character, or `None` if these are not two
+/// quotes. Does not check that the text is the content of a literal (`read_content` does). Does
+/// not allocate.
 // ensures { MatchOption result
 //     ((t : List ℕ) → chars snippet.now ≡ ordinary_frame t → ⊥)
 //     (λ t. chars snippet.now ≡ ordinary_frame (chars t.now)) }
@@ -94,45 +108,47 @@ pub fn between_quotes(snippet: &str) -> Option<&str> {
     }
 }
 
-/// Takes the escapes with `\x` at the front of a content, as far as a text goes on with what they stand for.
+/// Skips the `\x` escapes at the start of a content and, in a text, the characters that they stand
+/// for, up to the first escape with which the text does not go on.
 // ensures { SameEnds rest.old wanted.old rest.new wanted.new }
 #[inline(always)]
-fn take_bytes(rest: &mut Rest<'_>, wanted: &mut Rest<'_>) {
+fn skip_byte_escapes(rest: &mut Rest<'_>, wanted: &mut Rest<'_>) {
     while let Some((byte, behind)) = byte_escape(rest.text()) {
-        if !wanted.take_ascii(byte) {
+        if !wanted.consume_ascii(byte) {
             return;
         }
         *rest = Rest::new(behind);
     }
 }
 
-/// Takes the plain characters with which a content and a text go on, and the escapes with `\x` after them.
+/// Skips the plain characters with which a content and a text both begin, and the `\x` escapes
+/// after them.
 // ensures { SameEnds rest.old wanted.old rest.new wanted.new }
 #[inline(always)]
-fn take_alike(rest: &mut Rest<'_>, wanted: &mut Rest<'_>) {
-    rest.take_plain(wanted);
-    take_bytes(rest, wanted);
+fn skip_alike(rest: &mut Rest<'_>, wanted: &mut Rest<'_>) {
+    rest.skip_plain(wanted);
+    skip_byte_escapes(rest, wanted);
 }
 
-/// Where the text ends for which the content stands, one byte more for the quote in front of it, or `None` if the
-/// content does not stand for the text.
+/// Returns where the text ends that the content stands for, as a byte offset that counts the quote
+/// before the content, or `None` if the content does not stand for the text.
 // ensures { result ≡ spelled_end 1 1 (chars content.now) (chars text.now) }
 #[inline]
 fn spelled_end(content: &str, text: &str) -> Option<usize> {
     let total = content.len() + 1;
     let mut rest = Rest::new(content);
     let mut wanted = Rest::new(text);
-    take_alike(&mut rest, &mut wanted);
+    skip_alike(&mut rest, &mut wanted);
     let mut end = total - rest.len();
     while !rest.is_empty() {
         let Some(value) = read_unit(&mut rest) else {
             return None;
         };
         if let Some(c) = value {
-            if !wanted.next_is(c) {
+            if !wanted.next_eq(c) {
                 return None;
             }
-            take_alike(&mut rest, &mut wanted);
+            skip_alike(&mut rest, &mut wanted);
             end = total - rest.len();
         }
     }
@@ -143,7 +159,8 @@ fn spelled_end(content: &str, text: &str) -> Option<usize> {
     }
 }
 
-/// Where the text ends for which an ordinary literal stands, or `None` if the snippet is no such literal.
+/// Returns the byte offset in an ordinary literal at which the text ends that it stands for, or
+/// `None` if the snippet is no such literal.
 // ensures { MatchOption result
 //     (IsOrdinaryLiteral (chars snippet.now) (chars text.now) → ⊥)
 //     (λ e. IsOrdinaryLiteral (chars snippet.now) (chars text.now)
@@ -156,13 +173,13 @@ fn ordinary_end(snippet: &str, text: &str) -> Option<usize> {
     }
 }
 
-/// Takes so many hashes, and says whether they were there.
+/// Consumes this many hashes, and returns whether they were there.
 // ensures { IsTaken (replicate hashes 35) rest.old result rest.new }
 #[inline]
-fn takes_hashes(rest: &mut Rest<'_>, hashes: usize) -> bool {
+fn consume_hashes(rest: &mut Rest<'_>, hashes: usize) -> bool {
     let mut left = hashes;
     while left > 0 {
-        if !rest.next_is('#') {
+        if !rest.next_eq('#') {
             return false;
         }
         left -= 1;
@@ -170,54 +187,57 @@ fn takes_hashes(rest: &mut Rest<'_>, hashes: usize) -> bool {
     true
 }
 
-/// Takes what stands in front of the text of a raw literal, and says whether it was there.
+/// Consumes what is before the text of a raw literal, `r`, the hashes and a quote, and returns
+/// whether it was there.
 // ensures { IsTaken (raw_opening hashes) rest.old result rest.new }
 #[inline]
-fn takes_opening(rest: &mut Rest<'_>, hashes: usize) -> bool {
-    if !rest.next_is('r') {
+fn consume_opening(rest: &mut Rest<'_>, hashes: usize) -> bool {
+    if !rest.next_eq('r') {
         return false;
     }
-    if !takes_hashes(rest, hashes) {
+    if !consume_hashes(rest, hashes) {
         return false;
     }
-    rest.next_is('"')
+    rest.next_eq('"')
 }
 
-/// Takes a text, and says whether it was there.
+/// Consumes this text, and returns whether it was there.
 // ensures { IsTaken (chars text.now) rest.old result rest.new }
 #[inline]
-fn takes_text(rest: &mut Rest<'_>, text: &str) -> bool {
+fn consume_text(rest: &mut Rest<'_>, text: &str) -> bool {
     let mut wanted = Rest::new(text);
     while let Some(c) = wanted.next() {
-        if !rest.next_is(c) {
+        if !rest.next_eq(c) {
             return false;
         }
     }
     true
 }
 
-/// Takes what comes after the text of a raw literal, and says whether it was there.
+/// Consumes what is after the text of a raw literal, a quote and the hashes, and returns whether it
+/// was there.
 // ensures { IsTaken (raw_closing hashes) rest.old result rest.new }
 #[inline]
-fn takes_closing(rest: &mut Rest<'_>, hashes: usize) -> bool {
-    rest.next_is('"') && takes_hashes(rest, hashes)
+fn consume_closing(rest: &mut Rest<'_>, hashes: usize) -> bool {
+    rest.next_eq('"') && consume_hashes(rest, hashes)
 }
 
-/// Whether the snippet is a raw literal with so many hashes that stands for the text.
+/// Returns whether the snippet is a raw literal with this many hashes that stands for the text.
 // ensures { IsTrue result ↔ (chars snippet.now ≡ raw_frame hashes (chars text.now)) }
 #[inline]
 fn is_raw_literal(snippet: &str, hashes: usize, text: &str) -> bool {
     let mut rest = Rest::new(snippet);
-    if !takes_opening(&mut rest, hashes) {
+    if !consume_opening(&mut rest, hashes) {
         return false;
     }
-    if !takes_text(&mut rest, text) {
+    if !consume_text(&mut rest, text) {
         return false;
     }
-    takes_closing(&mut rest, hashes) && rest.is_empty()
+    consume_closing(&mut rest, hashes) && rest.is_empty()
 }
 
-/// Where the text ends for which a raw literal with so many hashes stands, or `None` if the snippet is no such literal.
+/// Returns the byte offset in a raw literal at which the text ends that it stands for, or `None` if
+/// the snippet is no such literal with this many hashes.
 // ensures { MatchOption result
 //     (chars snippet.now ≡ raw_frame hashes (chars text.now) → ⊥)
 //     (λ e. (chars snippet.now ≡ raw_frame hashes (chars text.now))
@@ -231,7 +251,8 @@ fn raw_end(snippet: &str, hashes: usize, text: &str) -> Option<usize> {
     }
 }
 
-/// Where the text of the source literal of the input ends, or `None` if the snippet is not its source literal.
+/// Returns the byte offset at which the text of the source literal of the input ends, or `None` if
+/// the snippet is not its source literal.
 // ensures { MatchOption result
 //     (IsSource (chars input.now) style (chars snippet.now) appended_newline → ⊥)
 //     (λ e. IsSourceTo (chars input.now) style (chars snippet.now) appended_newline e) }
@@ -249,10 +270,15 @@ pub(crate) fn source_end(
     }
 }
 
-/// Whether the snippet is the source literal of the input: a literal of this style, ordinary (None) or raw with so many hashes,
-/// that stands for the input, which with an appended newline ends in one that the literal has not. The rule is the Rust
-/// Reference's, but that a raw literal may hold any character. Takes no memory.
-// ensures { IsTrue result ↔ IsSource (chars input.now) style (chars snippet.now) appended_newline }
+/// Returns whether the snippet is the source literal of the input: a string literal of this style
+/// that stands for the input. The style is `None` for an ordinary literal, `Some(n)` for a raw one
+/// with n hashes. With an appended newline, the input ends in a newline that the literal does not
+/// have.
+///
+/// The rule is that of string literals in the Rust Reference, except that a raw literal may hold
+/// any character. Does not allocate.
+// ensures { IsTrue result
+//     ↔ IsSource (chars input.now) style (chars snippet.now) appended_newline }
 #[inline]
 pub fn is_source_literal(
     input: &str,

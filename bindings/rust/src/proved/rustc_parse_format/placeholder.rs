@@ -1,128 +1,18 @@
-//! A placeholder after its opening brace: its position and its specification.
+//! Reads a placeholder after its opening brace: its position and its specification.
 
 // Extracted from crates/rustc_parse_format/src/placeholder.rt by tools/extract: not to be edited.
 // That source is proved, and each contract here is its. That this text means the same is tested:
 // rows of answers from outside, the proved static library (.ci/bindings) and the original
-// (bindings/agree) give the same over it.
+// (tools/agree) give the same over it.
 
-use crate::proved::rustc_parse_format::counts::{integer, word};
 use crate::proved::rustc_parse_format::faults::Fault;
 use crate::proved::rustc_parse_format::laws::default_of_spec;
 use crate::proved::rustc_parse_format::reader::Reader;
-use crate::proved::rustc_parse_format::specification::specification;
 use crate::proved::rustc_parse_format::types::{wants_names, Argument, ParseMode, Position};
 use crate::shim::alloc::AllocError;
 use std::ops::Range;
 
-/// Reads the word that begins with `r#`: a raw identifier, which is a fault, as the word without its `r#`; and where no word comes
-/// after that, the `r` alone.
-// requires { begins_prefix reader.old.rest ≡ true }
-// ensures value { IfOk result (λ w. Some (Named (chars w.now)) ≡ given_position (position reader.old.rest).0) }
-// ensures reads { let p = position reader.old.rest in
-//     Reads reader.old result reader.new p.1 reader.old.next (position_faults reader.old.rest p.0) [] }
-#[inline]
-fn prefixed_word<'input>(reader: &mut Reader<'input>) -> Result<&'input str, AllocError> {
-    let from = reader.cursor.start();
-    let front = reader.cursor.checkpoint();
-    reader.cursor.advance();
-    if !reader.cursor.goes_on_with_word() {
-        return Ok(reader.cursor.since(&front));
-    }
-    let prefix = from..reader.cursor.stop();
-    reader.cursor.advance();
-    let word = word(reader)?;
-    let span = from..reader.cursor.start();
-    reader.note(Fault::RawIdentifier(span, prefix))?;
-    Ok(word)
-}
-
-/// Reads the position at the front: an integer, else a word, raw or not, else none.
-// ensures value { IfOk result (λ p. option_map seen_position p ≡ given_position (position reader.old.rest).0) }
-// ensures reads { let p = position reader.old.rest in
-//     Reads reader.old result reader.new p.1 reader.old.next (position_faults reader.old.rest p.0) [] }
-#[inline]
-fn position<'input>(reader: &mut Reader<'input>) -> Result<Option<Position<'input>>, AllocError> {
-    if reader.cursor.starts_digit() {
-        let number = integer(reader)?;
-        return Ok(Some(Position::ArgumentIs(usize::from(number))));
-    }
-    if reader.cursor.starts_prefix() {
-        let name = prefixed_word(reader)?;
-        return Ok(Some(Position::ArgumentNamed(name)));
-    }
-    if reader.cursor.starts_word() {
-        let name = word(reader)?;
-        return Ok(Some(Position::ArgumentNamed(name)));
-    }
-    Ok(None)
-}
-
-/// Notes a position that is no name, where the mode wants names.
-// ensures state { OnOk result (reader.new ≡ record reader.old {
-//   faults = reader.old.faults ++ name_faults (seen_mode mode) (option_map seen_position given.now) (pair span);
-// }) }
-// ensures err { OnErr result (reader.new.source ≡ reader.old.source) }
-// ensures spare { (s : Span) → name_faults (seen_mode mode) (option_map seen_position given.now) s ≡ [] → IsOk result }
-#[inline]
-fn note_unnamed<'input>(
-    mode: ParseMode,
-    given: &Option<Position<'input>>,
-    span: Range<usize>,
-    reader: &mut Reader<'input>,
-) -> Result<(), AllocError> {
-    if wants_names(mode) && !matches!(given, Some(Position::ArgumentNamed(_))) {
-        return reader.note(Fault::Unnamed(span));
-    }
-    Ok(())
-}
-
-/// Reads the position at the front and the white space after it, and says where they stand. Where the mode wants names, any
-/// other position is a fault.
-// ensures value { IfOk result (λ p. option_map seen_position p ≡ given_position (position reader.old.rest).0) }
-// ensures span { OnOk result (pair span.new
-//     ≡ place_of reader.old.world (up_to reader.old.rest (behind_white (position reader.old.rest).1))) }
-// ensures state { OnOk result (reader.new ≡ (let p = position reader.old.rest in
-//     record (read_to reader.old (behind_white p.1) reader.old.next (position_faults reader.old.rest p.0)) {
-//       faults = (reader.old.faults ++ faults_in reader.old.world (position_faults reader.old.rest p.0))
-//           ++ name_faults (seen_mode mode) (given_position p.0) (pair span.new);
-//     })) }
-// ensures err { OnErr result (reader.new.source ≡ reader.old.source) }
-// ensures spare { (let p = position reader.old.rest in
-//     position_faults reader.old.rest p.0 ≡ []
-//     → name_faults (seen_mode mode) (given_position p.0) (up_to reader.old.rest (behind_white p.1)) ≡ [] → IsOk result) }
-#[inline]
-fn spaced_position<'input>(
-    mode: ParseMode,
-    span: &mut Range<usize>,
-    reader: &mut Reader<'input>,
-) -> Result<Option<Position<'input>>, AllocError> {
-    let start = reader.cursor.start();
-    let given = position(reader)?;
-    reader.cursor.skip_white();
-    let end = reader.cursor.start();
-    *span = start..end;
-    note_unnamed(mode, &given, start..end, reader)?;
-    Ok(given)
-}
-
-/// The position: the given one, or else the next argument.
-// requires { reader.old.next + 1 < 2 ^ 64 }
-// ensures value { seen_position result ≡ unwrap_or (option_map seen_position given.entry) (Implicit reader.old.next) }
-// ensures state { reader.new ≡ record reader.old {
-//   next = if is_some (option_map seen_position given.entry) then reader.old.next else suc reader.old.next;
-// } }
-#[inline]
-fn position_of<'input>(
-    given: Option<Position<'input>>,
-    reader: &mut Reader<'input>,
-) -> Position<'input> {
-    match given {
-        Some(position) => position,
-        None => Position::ArgumentImplicitlyIs(reader.take_number()),
-    }
-}
-
-/// An argument before it is read.
+/// Returns an argument with the default format, into which one is then read.
 // ensures { seen_spec result.format ≡ default_spec }
 #[inline]
 pub fn blank_argument<'input>() -> Argument<'input> {
@@ -133,22 +23,145 @@ pub fn blank_argument<'input>() -> Argument<'input> {
     }
 }
 
-/// Reads a position, white space and a specification into a blank argument.
-// requires blank { seen_spec into.old.format ≡ default_spec }
-// requires numbers { reader.old.next + 1 + length reader.old.rest < 2 ^ 64 }
-// ensures value { OnOk result (seen_argument into.new
-//     ≡ map_argument (place_of reader.old.world) (argument reader.old.next (cut (seen_mode mode) reader.old.rest))) }
-// ensures reads { let a = cut (seen_mode mode) reader.old.rest in let fs = cut_faults (seen_mode mode) a in
-//     Reaches reader.old result reader.new (read_texts (read_tries (read_to reader.old a.rest (number_after_field reader.old.next a.field) fs)
-//     (spec_tries a.field.spec a.rest)) (spec_texts a.field.spec a.rest)) (FindsNothing reader.old fs (spec_texts a.field.spec a.rest)) }
-#[inline]
-pub fn read_argument<'input>(
-    mode: ParseMode,
-    into: &mut Argument<'input>,
-    reader: &mut Reader<'input>,
-) -> Result<(), AllocError> {
-    let given = spaced_position(mode, &mut into.position_span, reader)?;
-    specification(mode, &mut into.format, reader)?;
-    into.position = position_of(given, reader);
-    Ok(())
+impl<'input> Reader<'input> {
+    /// Reads a word that begins with `r#`, and returns it without that prefix; such a raw
+    /// identifier is a fault. If no word comes after the `r#`, reads and returns the `r` alone.
+    /// Returns `Err` if an allocation fails.
+    // requires { begins_prefix self.old.rest ≡ true }
+    // ensures value { IfOk result (λ w. Some (Named (chars w.now))
+    //     ≡ given_position (position self.old.rest).0) }
+    // ensures reads { let p = position self.old.rest in ReadsTo self.old result self.new p.1
+    //     self.old.next (position_faults self.old.rest p.0) [] }
+    #[inline]
+    fn prefixed_word(&mut self) -> Result<&'input str, AllocError> {
+        let from = self.cursor.start();
+        let front = self.cursor.checkpoint();
+        self.cursor.skip_char();
+        if !self.cursor.is_word_ahead() {
+            return Ok(self.cursor.since(&front));
+        }
+        let prefix = from..self.cursor.stop();
+        self.cursor.skip_char();
+        let word = self.word()?;
+        let span = from..self.cursor.start();
+        self.note(Fault::RawIdentifier(span, prefix))?;
+        Ok(word)
+    }
+
+    /// Reads the position: an integer, or else a word, which may be raw. Returns `None` if there is
+    /// neither, and `Err` if an allocation fails.
+    // ensures value { IfOk result (λ p. option_map seen_position p
+    //     ≡ given_position (position self.old.rest).0) }
+    // ensures reads { let p = position self.old.rest in ReadsTo self.old result self.new p.1
+    //     self.old.next (position_faults self.old.rest p.0) [] }
+    #[inline]
+    fn position(&mut self) -> Result<Option<Position<'input>>, AllocError> {
+        if self.cursor.is_digit_next() {
+            let number = self.integer()?;
+            return Ok(Some(Position::ArgumentIs(usize::from(number))));
+        }
+        if self.cursor.is_raw_prefix_next() {
+            let name = self.prefixed_word()?;
+            return Ok(Some(Position::ArgumentNamed(name)));
+        }
+        if self.cursor.is_word_next() {
+            let name = self.word()?;
+            return Ok(Some(Position::ArgumentNamed(name)));
+        }
+        Ok(None)
+    }
+
+    /// Returns whether the next character is a `}` or a `:`, so that there is no position.
+    // ensures position { IsTrue result → position self.now.rest ≡ (NoPosition, self.now.rest) }
+    // ensures white { IsTrue result → behind_white self.now.rest ≡ self.now.rest }
+    #[inline]
+    fn has_no_position(&self) -> bool {
+        matches!(self.cursor.peek(), Some('}' | ':'))
+    }
+
+    /// Reads the position and the white space after it, and sets `span` to their byte range.
+    /// Returns `None` if there is no position, and `Err` if an allocation fails. In a mode that
+    /// allows only names, anything but a name is a fault.
+    // ensures value { IfOk result (λ p. option_map seen_position p
+    //     ≡ given_position (position self.old.rest).0) }
+    // ensures span { (let p = position self.old.rest in OnOk result (pair span.new
+    //     ≡ place_of self.old.world (up_to self.old.rest (behind_white p.1)))) }
+    // ensures state { OnOk result (self.new ≡ (let p = position self.old.rest in
+    //     let fs = position_faults self.old.rest p.0 in
+    //     record (read_to self.old (behind_white p.1) self.old.next fs) {
+    //       faults = (self.old.faults ++ faults_in self.old.world fs)
+    //           ++ name_faults (seen_mode mode) (given_position p.0) (pair span.new);
+    //     })) }
+    // ensures err { OnErr result (self.new.source ≡ self.old.source) }
+    // ensures spare { (let p = position self.old.rest in
+    //     let span = up_to self.old.rest (behind_white p.1) in
+    //     position_faults self.old.rest p.0 ≡ []
+    //     → name_faults (seen_mode mode) (given_position p.0) span ≡ [] → IsOk result) }
+    #[inline]
+    fn spaced_position(
+        &mut self,
+        mode: ParseMode,
+        span: &mut Range<usize>,
+    ) -> Result<Option<Position<'input>>, AllocError> {
+        let start = self.cursor.start();
+        if self.has_no_position() {
+            *span = start..start;
+            if !wants_names(mode) {
+                return Ok(None);
+            }
+            self.note(Fault::Unnamed(start..start))?;
+            return Ok(None);
+        }
+        let given = self.position()?;
+        self.cursor.ws();
+        let end = self.cursor.start();
+        *span = start..end;
+        if !wants_names(mode) || matches!(given, Some(Position::ArgumentNamed(_))) {
+            return Ok(given);
+        }
+        self.note(Fault::Unnamed(start..end))?;
+        Ok(given)
+    }
+
+    /// Returns the given position, or the next implicit argument if there is none.
+    // requires { self.old.next + 1 < 2 ^ 64 }
+    // ensures value { seen_position result
+    //     ≡ unwrap_or (option_map seen_position given.entry) (Implicit self.old.next) }
+    // ensures state { self.new ≡ record self.old {
+    //   next = if is_some (option_map seen_position given.entry)
+    //       then self.old.next else suc self.old.next;
+    // } }
+    #[inline]
+    fn position_of(&mut self, given: Option<Position<'input>>) -> Position<'input> {
+        match given {
+            Some(position) => position,
+            None => Position::ArgumentImplicitlyIs(self.take_curarg()),
+        }
+    }
+
+    /// Reads a position, white space and a specification into `into`, whose format is still the
+    /// default. Returns `Err` if an allocation fails.
+    // requires blank { seen_spec into.old.format ≡ default_spec }
+    // requires numbers { self.old.next + 1 + length self.old.rest < 2 ^ 64 }
+    // ensures value { (let a = cut (seen_mode mode) self.old.rest in
+    //     OnOk result (seen_argument into.new
+    //     ≡ map_argument (place_of self.old.world) (argument self.old.next a))) }
+    // ensures reads { let a = cut (seen_mode mode) self.old.rest in
+    //     let fs = cut_faults (seen_mode mode) a in
+    //     let read = read_to self.old a.rest (number_after_field self.old.next a.field) fs in
+    //     let texts = spec_texts a.field.spec a.rest in
+    //     Reaches self.old result self.new
+    //     (read_texts (read_tries read (spec_tries a.field.spec a.rest)) texts)
+    //     (FindsNothing self.old fs texts) }
+    #[inline(always)]
+    pub fn argument(
+        &mut self,
+        mode: ParseMode,
+        into: &mut Argument<'input>,
+    ) -> Result<(), AllocError> {
+        let given = self.spaced_position(mode, &mut into.position_span)?;
+        self.specification(mode, &mut into.format)?;
+        into.position = self.position_of(given);
+        Ok(())
+    }
 }

@@ -1,116 +1,133 @@
-//! What a call reads on: a cursor, the number that the next implicit argument takes, and what it has found so far.
+//! The state of a parser during one call: its cursor, the index of the next implicit argument, and
+//! what the call has found so far.
 
 // Extracted from crates/rustc_parse_format/src/reader.rt by tools/extract: not to be edited.
 // That source is proved, and each contract here is its. That this text means the same is tested:
 // rows of answers from outside, the proved static library (.ci/bindings) and the original
-// (bindings/agree) give the same over it.
+// (tools/agree) give the same over it.
 
 use crate::proved::rustc_parse_format::characters::Class;
 use crate::proved::rustc_parse_format::cursor::Cursor;
-use crate::proved::rustc_parse_format::faults::Fault;
+use crate::proved::rustc_parse_format::faults::{Fault, Faults};
 use crate::shim::alloc::{AllocError, Global};
 use crate::shim::prelude::*;
 use std::ops::Range;
 
-/// A parser in the middle of a call.
+/// The state of a parser during one call. If one of its functions returns `Err`, an allocation
+/// failed, and the state is to be restored with `rewind`.
 pub struct Reader<'input> {
+    /// The position in the input.
     pub cursor: Cursor<'input>,
-    /// The number that the next implicit argument takes.
+    /// The index that the next implicit argument gets.
     pub curarg: usize,
-    /// The faults of this call, as they are found.
-    pub found: Vec<Fault<'input>>,
-    /// Where the line starts that is read.
+    /// The faults found in this call.
+    pub found: Faults<'input>,
+    /// The byte offset in the source at which the current line starts.
     pub line_start: usize,
-    /// The lines that ended in this call.
+    /// The byte ranges of the lines that ended in this call.
     pub lines: Vec<Range<usize>>,
-    /// The placeholder that was closed.
+    /// The byte range of the placeholder that this call closed, if any.
     pub closed: Option<Range<usize>>,
 }
 
 impl<'input> Reader<'input> {
-    /// At the place of a cursor, with the number 0 and in the line that starts at a byte.
+    /// Returns a reader at `cursor`, whose next implicit argument has the index 0 and whose current
+    /// line starts at the byte offset `line_start`. Does not allocate.
     // ensures { result ≡ midway cursor.entry 0 line_start }
     #[inline]
     pub fn new(alloc: Global, cursor: Cursor<'input>, line_start: usize) -> Reader<'input> {
         Reader {
             cursor,
             curarg: 0,
-            found: Vec::made_in(alloc),
+            found: Faults::new(alloc),
             line_start,
             lines: Vec::made_in(alloc),
             closed: None,
         }
     }
 
-    /// Notes a fault.
-    // ensures state { OnOk result (self.new ≡ record self.old { faults = self.old.faults ++ seen_fault fault.entry ∷ [] }) }
+    /// Adds a fault. Returns `Err` if an allocation fails; the first fault of a call needs none.
+    // ensures state { OnOk result (self.new
+    //     ≡ record self.old { faults = self.old.faults ++ seen_fault fault.entry ∷ [] }) }
     // ensures source { self.new.source ≡ self.old.source }
+    // ensures spare { self.old.faults ≡ [] → IsOk result }
     #[inline]
     pub fn note(&mut self, fault: Fault<'input>) -> Result<(), AllocError> {
         self.found.try_push(fault)?;
         Ok(())
     }
 
-    /// Whether nothing is left.
+    /// Returns whether no input is left.
     // ensures { IsTrue result ↔ (self.now.rest ≡ []) }
     #[inline]
     pub fn is_at_end(&self) -> bool {
         self.cursor.peek().is_none()
     }
 
-    /// The number of the next implicit argument, which is then one more.
+    /// Returns the index of the next implicit argument, and increments it.
     // requires { self.old.next + 1 < 2 ^ 64 }
     // ensures value { result ≡ self.old.next }
     // ensures state { self.new ≡ record self.old { next = self.old.next + 1 } }
     #[inline]
-    pub fn take_number(&mut self) -> usize {
+    pub fn take_curarg(&mut self) -> usize {
         let number = self.curarg;
         self.curarg = number + 1;
         number
     }
 
-    /// The line that is read, up to the place of the next character.
-    // ensures { pair result ≡ (self.now.line_start, number_of self.now.world (Start (length self.now.rest))) }
+    /// Returns the byte range of the current line, up to the next character.
+    // ensures { pair result
+    //     ≡ (self.now.line_start, number_of self.now.world (Start (length self.now.rest))) }
     #[inline]
     pub fn line(&self) -> Range<usize> {
         self.line_start..self.cursor.start()
     }
 
-    /// Reads the run of text at the front.
+    /// Reads the longest prefix without braces, which may be empty. Returns `Err` if an allocation
+    /// fails; allocates only for lines that end in the prefix.
     // ensures value { IfOk result (λ t. chars t.now ≡ front is_no_brace self.old.rest) }
-    // ensures reads { Reaches self.old result self.new (read_run self.old) (IsInOneLine self.old) }
+    // ensures reads { Reaches self.old result self.new (read_run self.old)
+    //     (IsInOneLine self.old) }
     #[inline]
-    pub fn take_text(&mut self) -> Result<&'input str, AllocError> {
+    pub fn string(&mut self) -> Result<&'input str, AllocError> {
         let from = self.cursor.checkpoint();
-        self.skip_text()?;
+        self.skip_string()?;
         Ok(self.cursor.since(&from))
     }
 
-    /// Reads the next character, and the run of text after it, which alone counts as text for the lines.
-    // ensures value { IfOk result (λ t. chars t.now ≡ with_first self.old.rest (front is_no_brace (behind_first self.old.rest))) }
-    // ensures reads { let s = record self.old { rest = behind_first self.old.rest } in Reaches self.old result self.new (read_run s) (IsInOneLine s) }
+    /// Reads the next character, and the longest prefix without braces after it, which alone counts
+    /// as text for the lines. Returns `Err` if an allocation fails; allocates only for lines that
+    /// end in the prefix.
+    // ensures value { IfOk result (λ t. chars t.now
+    //     ≡ with_first self.old.rest (front is_no_brace (behind_first self.old.rest))) }
+    // ensures reads { let s = record self.old { rest = behind_first self.old.rest } in
+    //     Reaches self.old result self.new (read_run s) (IsInOneLine s) }
     #[inline]
-    pub fn take_text_behind_first(&mut self) -> Result<&'input str, AllocError> {
+    pub fn string_past_brace(&mut self) -> Result<&'input str, AllocError> {
         let from = self.cursor.checkpoint();
-        self.cursor.advance();
-        self.skip_text()?;
+        self.cursor.skip_char();
+        self.skip_string()?;
         Ok(self.cursor.since(&from))
     }
 
-    /// Moves over the run of text at the front, in a source literal line by line.
-    // ensures reads { Reaches self.old result self.new (read_run self.old) (IsInOneLine self.old) }
+    /// Moves past the longest prefix without braces. In a source literal it does so line by line,
+    /// and records the lines that end. Returns `Err` if an allocation fails.
+    // ensures reads { Reaches self.old result self.new (read_run self.old)
+    //     (IsInOneLine self.old) }
     #[inline]
-    fn skip_text(&mut self) -> Result<(), AllocError> {
+    fn skip_string(&mut self) -> Result<(), AllocError> {
         if self.cursor.is_source_literal() {
             return self.skip_lines();
         }
-        self.cursor.skip(Class::Text);
+        self.cursor.skip_while(Class::Text);
         Ok(())
     }
 
-    /// Moves over the run of text at the front of a source literal, line by line.
+    /// Moves past the longest prefix without braces of a source literal, line by line, and records
+    /// the lines that end. Returns `Err` if an allocation fails.
     // requires { IsTrue self.old.world.has_source }
-    // ensures reads { Reaches self.old result self.new (read_run self.old) (IsInOneLine self.old) }
+    // ensures reads { Reaches self.old result self.new (read_run self.old)
+    //     (IsInOneLine self.old) }
     #[inline]
     fn skip_lines(&mut self) -> Result<(), AllocError> {
         while let Some(c) = self.cursor.peek() {
@@ -118,42 +135,46 @@ impl<'input> Reader<'input> {
                 break;
             }
             if c == '\n' {
-                self.take_newline()?;
+                self.consume_newline()?;
             } else if self.is_past_indent(c) {
-                self.cursor.skip(Class::Line);
+                self.cursor.skip_while(Class::Line);
             } else {
-                self.pass_in_line(c);
+                self.skip_in_line(c);
             }
         }
         Ok(())
     }
 
-    /// The next character c is past the indent of the line that is read. It looks at the snippet.
+    /// Returns whether the next character `c` is past the indentation of the current line. Moves
+    /// only the anchor, which no contract shows.
     // ensures state { self.new ≡ self.old }
-    // ensures past { IsTrue result → first self.old.rest ≡ Some c → IsPastIndent c self.old.line_start self.old.world self.old.rest }
+    // ensures past { IsTrue result → first self.old.rest ≡ Some c
+    //     → IsPastIndent c self.old.line_start self.old.world self.old.rest }
     #[inline(always)]
     fn is_past_indent(&mut self, c: char) -> bool {
-        self.cursor.settle();
+        self.cursor.move_anchor();
         self.cursor.is_past_indent(c, self.line_start)
     }
 
-    /// Moves over the newline at the front of what is left of a source literal: it ends the line that is read.
+    /// Moves past the newline that comes next in a source literal, and records the line that it
+    /// ends. Returns `Err` if an allocation fails.
     // ensures state { OnOk result (self.new ≡ passed_next 10 self.old) }
     // ensures err { OnErr result (self.new.source ≡ self.old.source) }
     #[inline]
-    fn take_newline(&mut self) -> Result<(), AllocError> {
-        let newline = self.cursor.take_place();
+    fn consume_newline(&mut self) -> Result<(), AllocError> {
+        let newline = self.cursor.consume_place();
         self.lines.try_push(self.line_start..newline.start)?;
         self.line_start = newline.end;
         Ok(())
     }
 
-    /// Moves over the next character of a source literal, which is no newline: white space where the line starts is left out of it.
+    /// Moves past the next character of a source literal, which is not a newline. White space at
+    /// the start of the line is left out of the line.
     // requires { c ≢ 10 }
     // ensures state { self.new ≡ passed_next c self.old }
     #[inline]
-    fn pass_in_line(&mut self, c: char) {
-        let place = self.cursor.take_place();
+    fn skip_in_line(&mut self, c: char) {
+        let place = self.cursor.consume_place();
         if place.start == self.line_start && c.is_whitespace() {
             self.line_start = place.end;
         }

@@ -3,102 +3,111 @@
 // Extracted from crates/rustc_parse_format/src/types.rt by tools/extract: not to be edited.
 // That source is proved, and each contract here is its. That this text means the same is tested:
 // rows of answers from outside, the proved static library (.ci/bindings) and the original
-// (bindings/agree) give the same over it.
+// (tools/agree) give the same over it.
 
 use std::ops::Range;
 
-/// What kind of text is parsed. In each, `{{` and `}}` are braces of the text, and a placeholder may have a position, and after
-/// a colon what the mode says.
+/// The kind of text that is parsed. In each mode `{{` and `}}` are escaped braces, and a
+/// placeholder may have a position and, after a colon, what the mode allows.
 #[derive(Copy, Clone, Debug, Eq, PartialEq)]
 pub enum ParseMode {
-    /// A format string, as `format_args!` takes it: a specification, by the grammar in the documentation of `std::fmt`.
+    /// A format string, as for `format_args!`. After the colon: a format specification, by the
+    /// grammar in the documentation of `std::fmt`.
     Format,
-    /// An inline assembly template, as `asm!` takes it: a modifier, which is one word or nothing.
+    /// An inline assembly template, as for `asm!`. After the colon: a modifier, which is one word
+    /// or nothing.
     InlineAsm,
-    /// The text of a diagnostic attribute: any text without braces.
+    /// The text of a diagnostic attribute. After the colon: any text without braces.
     Diagnostic,
-    /// The same, where each argument has to be a name and nothing else: `{name}`, or `{name:}`.
+    /// The text of a diagnostic attribute in which each argument has to be a name and nothing else:
+    /// `{name}` or `{name:}`.
     DiagnosticNamed,
 }
 
-/// A piece of the input: text as it stands, or a placeholder.
+/// A piece of the input: literal text, or a placeholder.
 #[derive(Clone, Debug, PartialEq)]
 pub enum Piece<'input> {
-    /// Text, with `{{` and `}}` as one brace each.
+    /// Literal text, borrowed from the input. An escaped brace, `{{` or `}}`, is one brace.
     Lit(&'input str),
     /// A placeholder.
     NextArgument(Box<Argument<'input>>),
 }
 
-/// What a placeholder asks for. Spans are places in the source, in bytes.
+/// The contents of a placeholder: which argument it refers to, and how that is formatted. Spans are
+/// byte ranges of the source.
 #[derive(Clone, Debug, PartialEq)]
 pub struct Argument<'input> {
-    /// Which argument is meant.
+    /// Which argument the placeholder refers to.
     pub position: Position<'input>,
-    /// Where the position stands, with the white space after it.
+    /// The span of the position, with the `r#` of a raw identifier and the white space after it.
     pub position_span: Range<usize>,
-    /// How the argument is to be formatted.
+    /// How the argument is formatted.
     pub format: FormatSpec<'input>,
 }
 
-/// A specification. By default each part is absent. Spans are places in the source, in bytes, and None where the part is absent.
+/// A format specification: what comes after the colon, in a format string by the rule `format_spec`
+/// in the documentation of `std::fmt`. Each part is optional, and absent by default. Spans are byte
+/// ranges of the source, and `None` if the part is absent.
 #[derive(Clone, Debug, PartialEq, Default)]
 pub struct FormatSpec<'input> {
-    /// The character that fills the width.
+    /// The fill character.
     pub fill: Option<char>,
-    /// Where the fill stands.
+    /// The span of the fill character.
     pub fill_span: Option<Range<usize>>,
-    /// On which side the value stands.
+    /// The alignment.
     pub align: Alignment,
     /// The sign flag.
     pub sign: Option<Sign>,
-    /// The flag `#`.
+    /// Whether the flag `#` is present.
     pub alternate: bool,
-    /// The flag `0`.
+    /// Whether the flag `0` is present.
     pub zero_pad: bool,
-    /// The flag `x` or `X` in front of the type `?`.
+    /// The flag `x` or `X` before the type `?`.
     pub debug_hex: Option<DebugHex>,
-    /// The precision. One that is a dot alone is `CountImplied`, and has a span.
+    /// The precision. A dot with nothing after it is `CountImplied`, and has a span.
     pub precision: Count<'input>,
-    /// Where the precision stands, with its dot.
+    /// The span of the precision, with its dot.
     pub precision_span: Option<Range<usize>>,
     /// The width.
     pub width: Count<'input>,
-    /// Where the width stands, without the flag `0`.
+    /// The span of the width, without the flag `0`.
     pub width_span: Option<Range<usize>>,
-    /// The type, the modifier, or the text after the colon in a diagnostic. It may be empty.
+    /// The type of a format string, the modifier of an assembly template, or the text after the
+    /// colon in a diagnostic. It is empty if there is none.
     pub ty: &'input str,
-    /// Where that stands: of a word that is not empty, and of the text in a diagnostic, with its colon, even where it is empty.
-    /// The types `x`, `X`, `?`, `x?` and `X?` have none.
+    /// The span of `ty`. A word has one unless it is empty. That of the text in a diagnostic
+    /// includes the colon, so it is there even if the text is empty. The types `x`, `X`, `?`, `x?`
+    /// and `X?` have none.
     pub ty_span: Option<Range<usize>>,
 }
 
-/// Which argument a placeholder means.
+/// Which argument a placeholder refers to.
 #[derive(Clone, Debug, PartialEq)]
 pub enum Position<'input> {
-    /// The next argument, whose number this is.
+    /// The next argument, which has this index.
     ArgumentImplicitlyIs(usize),
-    /// The argument of this number: the one that is written, modulo 65536. One above 65535 is a fault.
+    /// The argument with this index: the number that is written, modulo 65536. A number above 65535
+    /// is a fault.
     ArgumentIs(usize),
-    /// The argument of this name.
+    /// The argument with this name.
     ArgumentNamed(&'input str),
 }
 
-/// On which side of its width a value stands.
+/// How a value is aligned in its width.
 #[derive(Copy, Clone, Debug, PartialEq, Default)]
 pub enum Alignment {
-    /// `<`
+    /// `<`: left-aligned.
     AlignLeft,
-    /// `>`
+    /// `>`: right-aligned.
     AlignRight,
-    /// `^`
+    /// `^`: center-aligned.
     AlignCenter,
-    /// None was given.
+    /// No alignment is given.
     #[default]
     AlignUnknown,
 }
 
-/// A sign flag.
+/// A sign flag of a format specification.
 #[derive(Copy, Clone, Debug, PartialEq)]
 pub enum Sign {
     /// `+`
@@ -107,65 +116,66 @@ pub enum Sign {
     Minus,
 }
 
-/// In which case the type `?` writes hexadecimal digits.
+/// Whether the type `?` writes hexadecimal digits in lower or upper case.
 #[derive(Copy, Clone, Debug, PartialEq)]
 pub enum DebugHex {
-    /// `x?`
+    /// `x?`: lower case.
     Lower,
-    /// `X?`
+    /// `X?`: upper case.
     Upper,
 }
 
 /// A width or a precision.
 #[derive(Clone, Debug, PartialEq, Default)]
 pub enum Count<'input> {
-    /// This number: the one that is written, modulo 65536. One above 65535 is a fault.
+    /// This number: the one that is written, modulo 65536. A number above 65535 is a fault.
     CountIs(u16),
-    /// The value of the argument of this name, and where the name stands.
+    /// The value of the argument with this name, and the span of the name.
     CountIsName(&'input str, Range<usize>),
-    /// The value of the argument of this number, which is as for [`Position::ArgumentIs`].
+    /// The value of the argument with this index, as in [`Position::ArgumentIs`].
     CountIsParam(usize),
-    /// The value of the next argument, whose number this is.
+    /// The value of the next argument, which has this index.
     CountIsStar(usize),
-    /// None was given.
+    /// No count is given.
     #[default]
     CountImplied,
 }
 
-/// A fault of the input. Spans are places in the source, in bytes. Which fault comes, its words and its span are those of the
-/// original, or this project's own where `docs/DIFFERENCES.md` says so.
+/// A fault of the input, as a diagnostic reports it. Spans are byte ranges of the source. Which
+/// fault is found, its texts and its span are those of rustc's parser, except for the differences
+/// that `docs/DIFFERENCES.md` lists.
 pub struct ParseError {
-    /// What is wrong.
+    /// The message.
     pub description: String,
-    /// A remark.
+    /// A note to the message.
     pub note: Option<String>,
-    /// What the span shows.
+    /// The label of the span.
     pub label: String,
-    /// Where it is.
+    /// The span of the fault.
     pub span: Range<usize>,
-    /// What another span shows.
+    /// The label of a second span, and that span.
     pub secondary_label: Option<(String, Range<usize>)>,
-    /// How it may be mended.
+    /// The suggested fix.
     pub suggestion: Suggestion,
 }
 
-/// How a fault may be mended.
+/// A suggested fix for a fault. Ranges are byte ranges of the source.
 pub enum Suggestion {
-    /// No way is known.
+    /// No fix is suggested.
     None,
     /// Pass the value as a positional argument.
     UsePositional,
-    /// Take this `r#` away.
+    /// Remove the `r#` in this range.
     RemoveRawIdent(Range<usize>),
-    /// Put this text in the place of the range.
+    /// Replace this range with this text.
     ReorderFormatParameter(Range<usize>, String),
-    /// Put a colon in front of the range.
+    /// Insert a colon before this range.
     AddMissingColon(Range<usize>),
     /// Use the macro `dbg!`.
     UseRustDebugPrintingMacro,
 }
 
-/// Every argument has to be a name and nothing else.
+/// Returns whether each argument has to be a name and nothing else.
 // ensures { result ≡ wants_names (seen_mode mode) }
 #[inline]
 pub fn wants_names(mode: ParseMode) -> bool {

@@ -1,14 +1,14 @@
-//! How a character is written in a message and in a quoted text.
+//! How a character is written in an error message and in a quoted text.
 
 // Extracted from crates/rustc_parse_format/src/written.rt by tools/extract: not to be edited.
 // That source is proved, and each contract here is its. That this text means the same is tested:
 // rows of answers from outside, the proved static library (.ci/bindings) and the original
-// (bindings/agree) give the same over it.
+// (tools/agree) give the same over it.
 
 use crate::shim::alloc::AllocError;
 use crate::shim::prelude::*;
 
-/// The escape of a character that has one of its own.
+/// Returns the short escape of a character, or `None` if it has none.
 // ensures { option_map (λ s. s.now) result ≡ short_escape c }
 #[inline]
 fn short_escape(c: char) -> Option<&'static str> {
@@ -24,14 +24,15 @@ fn short_escape(c: char) -> Option<&'static str> {
     }
 }
 
-/// Adds a character without an escape of its own. Out of memory, nothing is added.
+/// Appends a character that has no short escape: an ASCII control character as `\u{..}`, any other
+/// as it is. Returns `Err` if an allocation fails, and `out` is then unchanged.
 // ensures ok { OnOk result (string_bytes out.new ≡ string_bytes out.old ++ plainly_written c) }
 // ensures err { OnErr result (string_bytes out.new ≡ string_bytes out.old) }
 #[inline]
 fn put_plain(out: &mut String, c: char) -> Result<(), AllocError> {
     let code = u32::from(c);
     if code < 32 || code == 127 {
-        // by itself first: `write!` does not say what stays where it is refused
+        // formatted on its own first: `write!` does not promise what it leaves in `out` if it fails
         let escape = crate::shim::format_in!( *out.allocator(); "\\u{{{code:x}}}")?;
         out.try_push_str(&escape)?;
     } else {
@@ -40,7 +41,8 @@ fn put_plain(out: &mut String, c: char) -> Result<(), AllocError> {
     Ok(())
 }
 
-/// Adds a character as it is written. Out of memory, nothing is added.
+/// Appends a character, escaped if it has an escape or is an ASCII control character. Returns `Err`
+/// if an allocation fails, and `out` is then unchanged.
 // ensures ok { OnOk result (string_bytes out.new ≡ string_bytes out.old ++ written c) }
 // ensures err { OnErr result (string_bytes out.new ≡ string_bytes out.old) }
 #[inline]

@@ -8,8 +8,10 @@ returns-then-to-texts-clause-grows c =
     let sum = c.saturating_add-to.ensures in
     let forward : c.args.used.now ≤ c.saturating_add-to.result = omega (arith, sum) in
     let size : length c.copy_from_slice.new.self ≡ c.saturating_add-to.result - c.args.used.now =
-    c.copy_from_slice.ensures.len ∙ length-take-le _ _ (omega (arith, length-drop c.args.used.now c.args.texts.now)) in
-    put_grows c.args.texts.now c.copy_from_slice.new.self c.args.used.now c.saturating_add-to.result forward fit size
+    c.copy_from_slice.ensures.len
+    ∙ length-take-le _ _ (omega (arith, length-drop c.args.used.now c.args.texts.now)) in
+    put_grows c.args.texts.now c.copy_from_slice.new.self c.args.used.now c.saturating_add-to.result
+    forward fit size
 
 pub returns-then-to-texts-clause-holds : goal.returns-then-to-texts-clause-holds
 returns-then-to-texts-clause-holds c = λ _.
@@ -17,6 +19,8 @@ returns-then-to-texts-clause-holds c = λ _.
     let sum = c.saturating_add-to.ensures in
     let forward : c.args.used.now ≤ c.saturating_add-to.result = omega (arith, sum) in
     let size : length c.copy_from_slice.new.self ≡ c.saturating_add-to.result - c.args.used.now =
-    c.copy_from_slice.ensures.len ∙ length-take-le _ _ (omega (arith, length-drop c.args.used.now c.args.texts.now)) in
-    put_holds c.args.texts.now c.copy_from_slice.new.self c.args.text.now c.args.used.now c.saturating_add-to.result forward fit size
+    c.copy_from_slice.ensures.len
+    ∙ length-take-le _ _ (omega (arith, length-drop c.args.used.now c.args.texts.now)) in
+    put_holds c.args.texts.now c.copy_from_slice.new.self c.args.text.now c.args.used.now
+    c.saturating_add-to.result forward fit size
     (c.copy_from_slice.ensures.after ∙ c.as_bytes.ensures.value)

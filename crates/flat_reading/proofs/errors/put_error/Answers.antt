@@ -1,6 +1,7 @@
 use Rattle.std.proofs.Common.{ap, length, refl}
 use Rattle.std.proofs.Common.{arith}
-use Rattle.flat_reading.proofs.Buffers.{Grows-trans, Holds-grow, Holds-is, HoldsMaybe-grow, HoldsSecond-grow}
+use Rattle.flat_reading.proofs.Buffers.{Grows-trans, Holds-grow, Holds-is, HoldsMaybe-grow}
+use Rattle.flat_reading.proofs.Buffers.{HoldsSecond-grow}
 use Rattle.flat_reading.proofs.errors.put_error.Goals as goal
 
 pub returns : goal.returns
@@ -10,8 +11,10 @@ returns c =
     let three = c.put-label.ensures.grows in
     let four = c.put_second.ensures.grows in
     let five = c.put_suggestion-suggestion.ensures.grows in
-    let f2 = two.forward in let f3 = three.forward in let f4 = four.forward in let f5 = five.forward in
-    let a1 = c.put-description.auto.texts in let a2 = c.put_note-note.auto.texts in let a3 = c.put-label.auto.texts in let a4 = c.put_second.auto.texts in
+    let f2 = two.forward in let f3 = three.forward in let f4 = four.forward in
+    let f5 = five.forward in
+    let a1 = c.put-description.auto.texts in let a2 = c.put_note-note.auto.texts in
+    let a3 = c.put-label.auto.texts in let a4 = c.put_second.auto.texts in
     let behind_four = five in
     let behind_three = Grows-trans _ _ _ _ _ _ a4 four behind_four in
     let behind_two = Grows-trans _ _ _ _ _ _ a3 three behind_three in
@@ -30,25 +33,30 @@ returns c =
         ap length c.as_str-2.ensures.value,
       );
       holds = λ fit. record {
-        description = Holds-is _ _ _ _ _ c.as_str.ensures.value (Holds-grow _ _ _ _ _ (behind_one.front (omega (
-          arith,
-          a1,
-        ))) (c.put-description.ensures.holds (omega arith)));
-        note = HoldsMaybe-grow _ _ c.put_note-note.result _ (behind_two.front (omega (arith, a1, a2))) (c.put_note-note.ensures.holds (omega (arith, a1)));
-        label = Holds-is _ _ _ _ _ c.as_str-2.ensures.value (Holds-grow _ _ _ _ _ (behind_three.front (omega (
-          arith,
-          a1,
-          a2,
-          a3,
-        ))) (c.put-label.ensures.holds (omega (arith, a1, a2))));
+        description = Holds-is _ _ _ _ _ c.as_str.ensures.value
+            (Holds-grow _ _ _ _ _ (behind_one.front (omega (
+              arith,
+              a1,
+            ))) (c.put-description.ensures.holds (omega arith)));
+        note = HoldsMaybe-grow _ _ c.put_note-note.result _
+            (behind_two.front (omega (arith, a1, a2)))
+            (c.put_note-note.ensures.holds (omega (arith, a1)));
+        label = Holds-is _ _ _ _ _ c.as_str-2.ensures.value
+            (Holds-grow _ _ _ _ _ (behind_three.front (omega (
+              arith,
+              a1,
+              a2,
+              a3,
+            ))) (c.put-label.ensures.holds (omega (arith, a1, a2))));
         span = c.extent.ensures;
-        second = HoldsSecond-grow _ _ c.put_second.result.0 c.put_second.result.1 _ (behind_four.front (omega (
-          arith,
-          a1,
-          a2,
-          a3,
-          a4,
-        ))) (c.put_second.ensures.holds (omega (arith, a1, a2, a3)));
+        second = HoldsSecond-grow _ _ c.put_second.result.0 c.put_second.result.1 _
+            (behind_four.front (omega (
+              arith,
+              a1,
+              a2,
+              a3,
+              a4,
+            ))) (c.put_second.ensures.holds (omega (arith, a1, a2, a3)));
         suggestion = c.put_suggestion-suggestion.ensures.holds (omega (arith, a1, a2, a3, a4));
       };
       step = refl;

@@ -3,7 +3,8 @@ use Rattle.flat_reading.specs.Held.{message_len}
 use Rattle.std.proofs.Common.{◌≡◌, ◌++◌, [], ◌∷◌, get_or, length, map, take, sym, ap, ◌∙◌, arith}
 use Rattle.std.proofs.lemmas.List.{map-append, take_more, take_more_set, take_all}
 use Rattle.rustc_parse_format.specs.Seen.{seen_error}
-use Rattle.flat_reading.proofs.Buffers.{Grows-trans, HoldsErrors-grow, HoldsErrors-more, Extends-all}
+use Rattle.flat_reading.proofs.Buffers.{Grows-trans, HoldsErrors-grow, HoldsErrors-more}
+use Rattle.flat_reading.proofs.Buffers.{Extends-all}
 use Rattle.flat_reading.proofs.Lists.{keep_more, keep_put}
 use Rattle.flat_reading.specs.declared.records.Fault.{Fault}
 use Rattle.flat_reading.proofs.errors.put_errors.Goals as goal
@@ -27,7 +28,8 @@ loop-i-preserved c =
         )
             (HoldsErrors-more _ _ _ c.put_error-fault.result _
             (HoldsErrors-grow _ _ _ _ (grows.front (omega (arith, length_texts)))
-            (c.loop-i.invariant.holds (omega (arith, length_texts)) (omega (arith, w.if-i-faults.true))))
+            (c.loop-i.invariant.holds (omega (arith, length_texts))
+            (omega (arith, w.if-i-faults.true))))
             (c.put_error-fault.ensures.holds (omega (arith, length_texts))))
         | else-i-faults w ↦ absurd (omega (arith, w.if-i-faults.false, few, ap length w.faults-is))
       ];
@@ -35,41 +37,61 @@ loop-i-preserved c =
         | then-i-faults w ↦ rw (
           w.faults-is,
           take_more_set c.loop-i.faults c.loop-i.i c.put_error-fault.result w.if-i-faults.true,
-          map-append (λ (f : Fault). f.step) (take c.loop-i.i c.loop-i.faults) (c.put_error-fault.result ∷ []),
+          map-append (λ (f : Fault). f.step) (take c.loop-i.i c.loop-i.faults)
+              (c.put_error-fault.result ∷ []),
           c.put_error-fault.ensures.step,
           c.get.ensures,
         )
-            (ap (λ l. l ++ get_or c.args.finders.now.calls c.loop-i.i 0 ∷ []) (c.loop-i.invariant.found (omega (arith, w.if-i-faults.true)))
-            ∙ sym (take_more c.args.finders.now.calls c.loop-i.i 0 (omega (arith, c.requires, c.loop-i-test.true))))
+            (ap (λ l. l ++ get_or c.args.finders.now.calls c.loop-i.i 0 ∷ [])
+            (c.loop-i.invariant.found (omega (arith, w.if-i-faults.true)))
+            ∙ sym (take_more c.args.finders.now.calls c.loop-i.i 0
+            (omega (arith, c.requires, c.loop-i-test.true))))
         | else-i-faults w ↦ absurd (omega (arith, w.if-i-faults.false, few, ap length w.faults-is))
       ];
       counted =
           let now = c.put_error-fault.ensures.counted in
           let before = c.loop-i.invariant.counted in
-          let sum = sum_by-append message_len (map seen_error (take c.loop-i.i c.args.errors.now)) (seen_error c.index-errors-i.result ∷ []) in
-          rw (more, map-append seen_error (take c.loop-i.i c.args.errors.now) (c.index-errors-i.result ∷ [])) (omega (arith, now, before, sum));
+          let sum = sum_by-append message_len (map seen_error (take c.loop-i.i c.args.errors.now))
+          (seen_error c.index-errors-i.result ∷ []) in
+          rw (
+            more,
+            map-append seen_error (take c.loop-i.i c.args.errors.now)
+                (c.index-errors-i.result ∷ []),
+          ) (omega (arith, now, before, sum));
       kept = elim c.if-i-faults.branch [
-        | then-i-faults w ↦ rw w.faults-is (keep_put c.loop-i.faults c.args.faults.now c.loop-i.i c.put_error-fault.result c.loop-i.invariant.kept)
-        | else-i-faults w ↦ rw w.faults-is (keep_more c.loop-i.faults c.args.faults.now c.loop-i.i c.loop-i.invariant.kept)
+        | then-i-faults w ↦ rw w.faults-is
+            (keep_put c.loop-i.faults c.args.faults.now c.loop-i.i c.put_error-fault.result
+            c.loop-i.invariant.kept)
+        | else-i-faults w ↦ rw w.faults-is
+            (keep_more c.loop-i.faults c.args.faults.now c.loop-i.i c.loop-i.invariant.kept)
       ];
     }
 
 pub returns-clause-holds : goal.returns-clause-holds
 returns-clause-holds c = λ fit few.
-    let all : c.loop-i.i ≡ length c.args.errors.now = omega (arith, c.loop-i-test.false, c.loop-i.auto.i-end) in
+    let all : c.loop-i.i ≡ length c.args.errors.now =
+    omega (arith, c.loop-i-test.false, c.loop-i.auto.i-end) in
     let held = HoldsErrors-grow _ _ _ _ (Extends-all c.loop-i.used c.loop-i.texts)
-    (c.loop-i.invariant.holds (omega (arith, c.loop-i.auto.texts)) (omega (arith, c.loop-i.auto.faults))) in
+    (c.loop-i.invariant.holds (omega (arith, c.loop-i.auto.texts))
+    (omega (arith, c.loop-i.auto.faults))) in
     rw (all, take_all (length c.args.errors.now) c.args.errors.now (omega arith)) at held
 
 pub returns-clause-found : goal.returns-clause-found
 returns-clause-found c = λ few.
-    let all : c.loop-i.i ≡ length c.args.errors.now = omega (arith, c.loop-i-test.false, c.loop-i.auto.i-end) in
-    rw (all, take_all (length c.args.errors.now) c.args.finders.now.calls (omega (arith, c.requires))) at c.loop-i.invariant.found (omega (
+    let all : c.loop-i.i ≡ length c.args.errors.now =
+    omega (arith, c.loop-i-test.false, c.loop-i.auto.i-end) in
+    rw (
+      all,
+      take_all (length c.args.errors.now) c.args.finders.now.calls
+          (omega (arith, c.requires)),
+    ) at c.loop-i.invariant.found (omega (
       arith,
       c.loop-i.auto.faults,
     ))
 
 pub returns-clause-counted : goal.returns-clause-counted
 returns-clause-counted c =
-    let all : c.loop-i.i ≡ length c.args.errors.now = omega (arith, c.loop-i-test.false, c.loop-i.auto.i-end) in
-    rw (all, take_all (length c.args.errors.now) c.args.errors.now (omega arith)) at c.loop-i.invariant.counted
+    let all : c.loop-i.i ≡ length c.args.errors.now =
+    omega (arith, c.loop-i-test.false, c.loop-i.auto.i-end) in
+    rw (all, take_all (length c.args.errors.now) c.args.errors.now (omega arith))
+    at c.loop-i.invariant.counted

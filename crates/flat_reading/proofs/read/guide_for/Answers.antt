@@ -5,13 +5,18 @@ use Rattle.flat_reading.proofs.Worlds.{sourceless_plain}
 use Rattle.flat_reading.proofs.read.guide_for.Goals as goal
 
 pub returns-then-may_have_escapes : goal.returns-then-may_have_escapes
-returns-then-may_have_escapes c = λ start. rw start (c.in_ok-guide.ensures c.args.asked.now.style _ c.args.asked.now.appended_newline)
+returns-then-may_have_escapes c =
+    λ start. rw start
+    (c.in_ok-guide.ensures c.args.asked.now.style _ c.args.asked.now.appended_newline)
 
 pub returns-then-is_source_literal : goal.returns-then-is_source_literal
-returns-then-is_source_literal c = λ start. rw start (c.may_have_escapes.ensures c.if-may_have_escapes.false)
+returns-then-is_source_literal c =
+    λ start. rw start (c.may_have_escapes.ensures c.if-may_have_escapes.false)
 
 pub returns : goal.returns
 returns c = λ start.
     let a = c.args.asked.now in
-    rw start (sourceless_plain (seen_mode a.mode) (chars a.input.now) a.style _ a.appended_newline _ refl
-    (ap (λ (s : State). s.world.has_source) (sym start) ∙ sym c.is_source_literal.ensures ∙ c.if-is_source_literal.false))
+    rw start
+    (sourceless_plain (seen_mode a.mode) (chars a.input.now) a.style _ a.appended_newline _ refl
+    (ap (λ (s : State). s.world.has_source) (sym start) ∙ sym c.is_source_literal.ensures
+    ∙ c.if-is_source_literal.false))

@@ -8,7 +8,8 @@ returns-then-is_some c = λ no.
     let a = c.is_some.ensures in
     let b = c.if-is_some.true in
     let asked = c.args.asked.now in
-    raw_plain (seen_mode asked.mode) (chars asked.input.now) asked.style _ asked.appended_newline _ refl cc
+    raw_plain (seen_mode asked.mode)
+    (chars asked.input.now) asked.style _ asked.appended_newline _ refl cc
 
 pub returns-in-Some : goal.returns-in-Some
 returns-in-Some c = λ no.
@@ -17,7 +18,9 @@ returns-in-Some c = λ no.
     let asked = c.args.asked.now in
     let s : asked.style ≡ None = no_style asked.style cc in
     let e = c.is_longer.ensures in
-    rw (s, c.in-Some.is) (literal_plain (seen_mode asked.mode) (chars asked.input.now) (chars c.in-Some.literal.now) asked.appended_newline cc)
+    rw (s, c.in-Some.is)
+    (literal_plain (seen_mode asked.mode) (chars asked.input.now)
+    (chars c.in-Some.literal.now) asked.appended_newline cc)
 
 pub returns-in-None : goal.returns-in-None
 returns-in-None c = λ no.
@@ -25,4 +28,5 @@ returns-in-None c = λ no.
     let b = c.if-is_some.false in
     let asked = c.args.asked.now in
     let s : asked.style ≡ None = no_style asked.style cc in
-    rw (s, c.in-None.is) (bare_plain (seen_mode asked.mode) (chars asked.input.now) asked.appended_newline)
+    rw (s, c.in-None.is)
+    (bare_plain (seen_mode asked.mode) (chars asked.input.now) asked.appended_newline)

@@ -7,12 +7,20 @@ use Rattle.flat_reading.proofs.Walking.{length-finders}
 use Rattle.flat_reading.proofs.read.read_by.Goals as goal
 
 pub walk-requires-clause-small : goal.walk-requires-clause-small
-walk-requires-clause-small c = omega (arith, ap (λ (s : State). length s.rest) c.new-walker.ensures.parser, c.requires.short, c.requires.input_length)
+walk-requires-clause-small c =
+    omega (
+      arith,
+      ap (λ (s : State). length s.rest) c.new-walker.ensures.parser,
+      c.requires.short,
+      c.requires.input_length,
+    )
 
 pub put_errors-requires : goal.put_errors-requires
 put_errors-requires c =
     let s = c.new-walker.result.parser in
     let start = c.new-walker.ensures.parser ∙ c.requires.start in
-    ap length c.in_ok-count.ensures.finders ∙ length-finders 0 [] s (calls s) (sym (ap (λ (t : State). length t.errors) start))
-    ∙ sym (ap (λ (t : State). length t.errors) c.in_ok-count.ensures.state) ∙ sym (ap length c.errors-errors.ensures)
+    ap length c.in_ok-count.ensures.finders
+    ∙ length-finders 0 [] s (calls s) (sym (ap (λ (t : State). length t.errors) start))
+    ∙ sym (ap (λ (t : State). length t.errors) c.in_ok-count.ensures.state)
+    ∙ sym (ap length c.errors-errors.ensures)
     ∙ length-map c.errors-errors.result.now seen_error

@@ -4,7 +4,8 @@ use Rattle.flat_reading.proofs.texts.extent_of.Goals as goal
 
 pub returns-then-is_empty : goal.returns-then-is_empty
 returns-then-is_empty c =
-    no_text c.args.input.now c.args.text.now c.utf8.input (is_none_of (length c.args.text.now) (sym c.is_empty.ensures ∙ c.if-is_empty.true))
+    no_text c.args.input.now c.args.text.now c.utf8.input
+    (is_none_of (length c.args.text.now) (sym c.is_empty.ensures ∙ c.if-is_empty.true))
 
 pub overflow_add-result : goal.overflow_add-result
 overflow_add-result c =
@@ -16,5 +17,6 @@ overflow_add-result c =
 pub returns : goal.returns
 returns c =
     let some = is_some_of (length c.args.text.now) (sym c.is_empty.ensures ∙ c.if-is_empty.false) in
-    cut_text c.args.input.now c.args.text.now c.args.from c.utf8.input c.utf8.text some (has_bytes c.args.input.now c.args.text.now c.args.from c.utf8.text
+    cut_text c.args.input.now c.args.text.now c.args.from c.utf8.input c.utf8.text some
+    (has_bytes c.args.input.now c.args.text.now c.args.from c.utf8.text
     some c.requires)

@@ -5,7 +5,7 @@ use denote.Text.{Utf8}
 use Rattle.piece_listing.specs.Given.{is_name, parts}
 use Rattle.piece_listing.proofs.given.are_names.Given as goal
 
--- all parts so far are names
+-- All parts so far are names.
 abbrev pub invariant-loop-name : goal.invariant-loop-name
 invariant-loop-name l = record {
   is_text : shadow (Utf8 l.rest);

@@ -14,6 +14,9 @@ loop-c-preserved c =
 
 pub returns : goal.returns
 returns c =
-    let t = YieldsList-end (YieldsList-from_chars c.args.text.now c.utf8.text cc) c.loop-c.yielded _ c.loop-c.yielded_by _ _ c.in-None.is c.next.ensures.steps
+    let t = YieldsList-end
+    (YieldsList-from_chars c.args.text.now c.utf8.text cc) c.loop-c.yielded _
+    c.loop-c.yielded_by _ _ c.in-None.is c.next.ensures.steps
     in
-    c.loop-c.invariant ∙ ap (λ x. string_bytes c.args.out.now ++ flat_map written x) (sym (map-id c.loop-c.yielded) ∙ t.0)
+    c.loop-c.invariant ∙ ap (λ x. string_bytes c.args.out.now ++ flat_map written x)
+    (sym (map-id c.loop-c.yielded) ∙ t.0)

@@ -3,7 +3,7 @@ use denote.Shadow.{shadow}
 use denote.Text.{Utf8}
 use Rattle.piece_listing.proofs.literal.in_front_of_hashes.Given as goal
 
--- the hashes so far come after the rest
+-- The hashes so far come after what is left.
 abbrev pub invariant-loop : goal.invariant-loop
 invariant-loop l = record {
   is_text : shadow (Utf8 l.rest);

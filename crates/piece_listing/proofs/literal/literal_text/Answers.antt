@@ -9,4 +9,5 @@ returns-in-None-clause-found c =
     no_literal (chars c.args.literal.now) c.in_default.ensures.text ordinary
 
 pub returns-in_err-from_str-clause-empty : goal.returns-in_err-from_str-clause-empty
-returns-in_err-from_str-clause-empty c e = absurd (empty-not_raw c.args.literal.now e _ _ c.in-Some.ensures.text)
+returns-in_err-from_str-clause-empty c e =
+    absurd (empty-not_raw c.args.literal.now e _ _ c.in-Some.ensures.text)

@@ -15,7 +15,9 @@ returns-in_ok-joined-in-Some-2-clause-found c =
     )
 
 pub returns-in_err-characters-clause-empty : goal.returns-in_err-characters-clause-empty
-returns-in_err-characters-clause-empty c e = absurd (empty-no_frame c.args.literal.now e (chars c.in-Some.content.now) c.in-Some.ensures)
+returns-in_err-characters-clause-empty c e =
+    absurd (empty-no_frame c.args.literal.now e (chars c.in-Some.content.now) c.in-Some.ensures)
 
 pub returns-in_err-joined-in-Some-2-clause-empty : goal.returns-in_err-joined-in-Some-2-clause-empty
-returns-in_err-joined-in-Some-2-clause-empty c e = absurd (empty-no_frame c.args.literal.now e (chars c.in-Some.content.now) c.in-Some.ensures)
+returns-in_err-joined-in-Some-2-clause-empty c e =
+    absurd (empty-no_frame c.args.literal.now e (chars c.in-Some.content.now) c.in-Some.ensures)

@@ -3,7 +3,7 @@ use Rattle.std.specs.Io.KnownBytes.{Consumes}
 use Rattle.piece_listing.specs.Program.{limit}
 use Rattle.piece_listing.proofs.run.read_input.Given as goal
 
--- what was taken from the reader is held; each read took a byte, and the limit is not passed
+-- All bytes that were read are kept. Each read returned a byte, and the limit is not exceeded.
 abbrev pub invariant-loop : goal.invariant-loop
 invariant-loop g l =
     let remaining = g.R.Read.remaining in

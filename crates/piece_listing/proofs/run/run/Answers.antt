@@ -11,10 +11,14 @@ use Rattle.piece_listing.proofs.run.run.Goals as goal
 
 pub returns-in_default-clause-not_text : goal.returns-in_default-clause-not_text
 returns-in_default-clause-not_text g c _ =
-    IfSome_then _ {Q = λ input. IsOwed (map string_bytes c.args.words.now) input (Err NotText)} c.in_ok-input.ensures.bytes (λ input e. (
+    IfSome_then _ {Q = λ input. IsOwed (map string_bytes c.args.words.now) input (Err NotText)}
+    c.in_ok-input.ensures.bytes (λ input e. (
       seen_task c.in-Some.task,
       sym c.asked.ensures ∙ ap (option_map seen_task) c.in-Some.is,
-      (subst IsShort e c.in_ok-input.ensures.short, λ u. c.in_default.ensures.cases.0 (subst IsUtf8 (sym (c.as_slice.ensures.value ∙ e)) u)),
+      (
+        subst IsShort e c.in_ok-input.ensures.short,
+        λ u. c.in_default.ensures.cases.0 (subst IsUtf8 (sym (c.as_slice.ensures.value ∙ e)) u),
+      ),
     ))
 
 pub returns-in-None-clause-one_answer : goal.returns-in-None-clause-one_answer
@@ -38,19 +42,27 @@ returns-clause-one_answer g c = owed-only
 pub returns-in_err-write_whole-clause-empty : goal.returns-in_err-write_whole-clause-empty
 returns-in_err-write_whole-clause-empty g c mode literal a e =
     let task = c.in-Some.task in
-    let none = empty-read _ c.in_ok-input.input.items c.as_slice.result.now c.in-Ok.text.now e c.in_ok-input.ensures.bytes
+    let none =
+    empty-read _ c.in_ok-input.input.items c.as_slice.result.now c.in-Ok.text.now e
+    c.in_ok-input.ensures.bytes
     c.as_slice.ensures.value c.in-Ok.ensures.cases.0 in
     let asks = asked-literal c.asked.result task mode literal _ c.asked.ensures c.in-Some.is a in
-    let listed = empty-listed task c.in_ok-lines.lines c.in_ok-lines.told c.in-Ok.text.now none asks.1
+    let listed =
+    empty-listed task c.in_ok-lines.lines c.in_ok-lines.told c.in-Ok.text.now none asks.1
     c.in_ok-lines.ensures.empty_literal c.in_ok-lines.ensures.lines in
     absurd (false≢true (c.in_err-write_whole.ensures.empty (c.as_bytes.ensures.value ∙ listed.1)).0)
 
 pub returns-clause-empty : goal.returns-clause-empty
 returns-clause-empty g c mode literal a e =
     let task = c.in-Some.task in
-    let none = empty-read _ c.in_ok-input.input.items c.as_slice.result.now c.in-Ok.text.now e c.in_ok-input.ensures.bytes
+    let none =
+    empty-read _ c.in_ok-input.input.items c.as_slice.result.now c.in-Ok.text.now e
+    c.in_ok-input.ensures.bytes
     c.as_slice.ensures.value c.in-Ok.ensures.cases.0 in
     let asks = asked-literal c.asked.result task mode literal _ c.asked.ensures c.in-Some.is a in
-    let listed = empty-listed task c.in_ok-lines.lines c.in_ok-lines.told c.in-Ok.text.now none asks.1
-    c.in_ok-lines.ensures.empty_literal c.in_ok-lines.ensures.lines in
-    ((c.in_ok-write_whole.ensures.empty (c.as_bytes.ensures.value ∙ listed.1)).1, inl (ap Ok listed.2 ∙ ap empty_answer (sym listed.0 ∙ asks.0)))
+    let listed =
+    empty-listed task c.in_ok-lines.lines c.in_ok-lines.told c.in-Ok.text.now none asks.1
+    c.in_ok-lines.ensures.empty_literal c.in_ok-lines.ensures.lines in (
+      (c.in_ok-write_whole.ensures.empty (c.as_bytes.ensures.value ∙ listed.1)).1,
+      inl (ap Ok listed.2 ∙ ap empty_answer (sym listed.0 ∙ asks.0)),
+    )

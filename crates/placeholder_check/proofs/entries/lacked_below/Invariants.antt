@@ -4,6 +4,7 @@ use Rattle.std.specs.Ordering.{nat_cmp}
 use Rattle.placeholder_check.specs.Entries.{Lists}
 use Rattle.placeholder_check.proofs.entries.lacked_below.Given as goal
 
--- those below the counter
+-- The list has the missing numbers below the counter.
 abbrev pub invariant-loop-n : goal.invariant-loop-n
-invariant-loop-n l = Lists (λ k. (k < l.n-counter) × (contains nat_cmp l.set k ≡ false)) l.lacked.items
+invariant-loop-n l = Lists (λ k. (k < l.n-counter)
+    × (contains nat_cmp l.set k ≡ false)) l.lacked.items

@@ -7,13 +7,16 @@ use Rattle.placeholder_check.specs.Noted.{has_text}
 use Rattle.placeholder_check.specs.Seen.{texts}
 use Rattle.placeholder_check.proofs.entries.lacked_by.Given as goal
 
--- the set has the other names so far
+-- The set has the other names so far.
 abbrev pub invariant-loop-other : goal.invariant-loop-other
-invariant-loop-other l = (t : Text) → has_text l.seen t ≡ list_any (bytes_eq t) (texts (take l.other-index l.others))
+invariant-loop-other l = (t : Text) → has_text l.seen t
+    ≡ list_any (bytes_eq t) (texts (take l.other-index l.others))
 
 -- the set has the other names and the names so far, and of these the first entries are found
 abbrev pub invariant-loop-name : goal.invariant-loop-name
 invariant-loop-name l = record {
-  has : (t : Text) → has_text l.seen t ≡ (list_any (bytes_eq t) (texts (take l.name-index l.names)) || list_any (bytes_eq t) (texts l.others));
+  has : (t : Text) → has_text l.seen t
+      ≡ (list_any (bytes_eq t) (texts (take l.name-index l.names))
+      || list_any (bytes_eq t) (texts l.others));
   firsts : AreFirsts (texts (take l.name-index l.names)) (texts l.others) (texts l.lacked.items);
 }

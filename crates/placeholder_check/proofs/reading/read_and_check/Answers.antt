@@ -1,9 +1,11 @@
-use Rattle.std.proofs.Common.{chars, map}
-use Rattle.rustc_parse_format.specs.Seen.{seen}
+use Rattle.std.proofs.Common.{◌∙◌, chars, map}
+use Rattle.rustc_parse_format.specs.Seen.{seen, seen_mode, seen_snippet}
 use Rattle.rustc_parse_format.specs.Types.{bare}
+use Rattle.rustc_parse_format.specs.World.{quote_offset, world}
 use Rattle.placeholder_check.specs.Report.{IsReport}
 use Rattle.placeholder_check.specs.Seen.{seen_report, texts}
 use Rattle.placeholder_check.specs.Uses.{uses}
+use Rattle.placeholder_check.proofs.Empty.{no_pieces}
 use Rattle.placeholder_check.proofs.NamedArguments.{named-alone}
 use Rattle.placeholder_check.proofs.Reports.{uses-bare}
 use Rattle.placeholder_check.proofs.reading.read_and_check.Goals as goal
@@ -12,15 +14,31 @@ pub returns-clause-reading : goal.returns-clause-reading
 returns-clause-reading c = λ clean. record {
   pieces = map bare (map seen c.in_ok-pieces.pieces.items);
   are_read = c.in_ok-pieces.ensures.reading clean;
-  are_only = λ others r. c.read_all.ensures.one_reading _ _ _ _ _ r (c.in_ok-pieces.ensures.reading clean);
-  is_report = rw (uses-bare (map seen c.in_ok-pieces.pieces.items), ← c.as_slice.ensures.value) c.in_ok-report.ensures.report;
+  are_only = λ others r. c.read_all.ensures.one_reading _ _ _ _ _ r
+      (c.in_ok-pieces.ensures.reading clean);
+  is_report = rw (
+    uses-bare (map seen c.in_ok-pieces.pieces.items),
+    ← c.as_slice.ensures.value,
+  ) c.in_ok-report.ensures.report;
 }
 
 pub returns-clause-names_alone : goal.returns-clause-names_alone
 returns-clause-names_alone c = λ named. λ clean.
     let ps = map seen c.in_ok-pieces.pieces.items in
     let read = rw named at c.in_ok-pieces.ensures.reading clean in
-    let report : IsReport (uses (map bare ps)) c.args.positional (texts c.args.names.now) (seen_report c.in_ok-report.report) =
+    let report : IsReport (uses (map bare ps)) c.args.positional (texts c.args.names.now)
+    (seen_report c.in_ok-report.report) =
     rw (uses-bare ps, ← c.as_slice.ensures.value) c.in_ok-report.ensures.report in
-    named-alone.no_number_is_used 0 (chars c.args.input.now) (map bare ps) read c.args.positional (texts c.args.names.now)
+    named-alone.no_number_is_used 0 (chars c.args.input.now) (map bare ps) read c.args.positional
+    (texts c.args.names.now)
     (seen_report c.in_ok-report.report) report
+
+pub returns-in_err-report-clause-empty : goal.returns-in_err-report-clause-empty
+returns-in_err-report-clause-empty c = λ e without zero unnamed.
+    let w = world (chars c.args.input.now) c.args.style
+    (seen_snippet c.args.snippet) c.args.appended_newline in
+    let none = no_pieces seen c.in_ok-pieces.pieces.items (seen_mode c.args.mode) w
+    (quote_offset c.args.style) c.args.input.now e
+    c.in_ok-pieces.ensures.walk.0 in
+    absurd (let made = c.in_err-report.ensures.empty (c.as_slice.ensures.value
+    ∙ none) zero unnamed in cc)

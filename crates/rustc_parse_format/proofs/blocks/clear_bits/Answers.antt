@@ -8,5 +8,6 @@ pub returns : goal.returns
 returns c k l =
     elim (cases_lt 0 c.args.bits) [
       | inl some ↦ (bit_at-trailing_zeros w64 c.args.bits some c.ranges.bits.fits).2 k l
-      | inr none ↦ let zero : c.args.bits ≡ 0 = omega arith in ap (λ m. bit_at m k) zero ∙ bit_at-zero k
+      | inr none ↦ let zero : c.args.bits ≡ 0 = omega arith in
+          ap (λ m. bit_at m k) zero ∙ bit_at-zero k
     ]

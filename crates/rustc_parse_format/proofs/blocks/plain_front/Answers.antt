@@ -1,14 +1,15 @@
 use Rattle.std.proofs.Common.{◌-◌, arith}
 use Rattle.rustc_parse_format.specs.LiteralUnits.{is_plain}
-use Rattle.rustc_parse_format.proofs.BlockFronts.{block-shared}
-use Rattle.rustc_parse_format.proofs.ByteFronts.{shared-part}
+use Rattle.rustc_parse_format.proofs.Bytes.BlockFronts.{block-shared}
+use Rattle.rustc_parse_format.proofs.Bytes.ByteFronts.{shared-part}
 use Rattle.rustc_parse_format.proofs.blocks.plain_front.Goals as goal
 
 pub returns-then-plain-lt16 : goal.returns-then-plain-lt16
 returns-then-plain-lt16 c =
     let plain = c.plain_lanes-plain.ensures in
     block-shared is_plain c.args.bytes.now c.args.others.now c.loop-at.at c.plain_lanes-plain.result
-    (omega (arith, c.loop-at-test.true, c.min-most.ensures)) (omega (arith, c.loop-at-test.true, c.min-most.ensures)) plain.within
+    (omega (arith, c.loop-at-test.true, c.min-most.ensures))
+    (omega (arith, c.loop-at-test.true, c.min-most.ensures)) plain.within
     c.loop-at.invariant.front plain.same plain.pass
 
 pub loop-at-preserved : goal.loop-at-preserved
@@ -17,8 +18,10 @@ loop-at-preserved c =
     record {
       within = omega (arith, c.loop-at-test.true);
       front = block-shared is_plain c.args.bytes.now c.args.others.now c.loop-at.at 16
-          (omega (arith, c.loop-at-test.true, c.min-most.ensures)) (omega (arith, c.loop-at-test.true, c.min-most.ensures)) (omega arith)
-          c.loop-at.invariant.front (λ k l. plain.same k (omega (arith, c.if-plain-lt16.false))) (λ k l. plain.pass k (omega (arith, c.if-plain-lt16.false)));
+          (omega (arith, c.loop-at-test.true, c.min-most.ensures))
+          (omega (arith, c.loop-at-test.true, c.min-most.ensures)) (omega arith)
+          c.loop-at.invariant.front (λ k l. plain.same k (omega (arith, c.if-plain-lt16.false)))
+          (λ k l. plain.pass k (omega (arith, c.if-plain-lt16.false)));
     }
 
 pub returns : goal.returns
@@ -27,5 +30,6 @@ returns c =
     let last = c.min-most.result - 16 in
     block-shared is_plain c.args.bytes.now c.args.others.now last c.plain_lanes.result
     (omega (arith, c.min-most.ensures)) (omega (arith, c.min-most.ensures)) plain.within
-    (shared-part is_plain c.args.bytes.now c.args.others.now last c.loop-at.at (omega (arith, c.loop-at-test.false)) c.loop-at.invariant.front)
+    (shared-part is_plain c.args.bytes.now c.args.others.now last c.loop-at.at
+    (omega (arith, c.loop-at-test.false)) c.loop-at.invariant.front)
     plain.same plain.pass

@@ -1,5 +1,8 @@
-use Rattle.rustc_parse_format.proofs.Clones.{clone_told, argument_clone_is, argument_clone_made}
+use Rattle.rustc_parse_format.proofs.Derives.Clones.{clone_told, argument_clone_is}
+use Rattle.rustc_parse_format.proofs.Derives.Clones.{argument_clone_made}
 use Rattle.rustc_parse_format.proofs.laws.clone_of_argument.Goals as goal
 
 pub returns : goal.returns
-returns c = clone_told _ _ (argument_clone_is c.args.argument.now) c.clone.result c.clone.ensures.cases (argument_clone_made c.args.argument.now)
+returns c =
+    clone_told _ _ (argument_clone_is c.args.argument.now) c.clone.result c.clone.ensures.cases
+    (argument_clone_made c.args.argument.now)

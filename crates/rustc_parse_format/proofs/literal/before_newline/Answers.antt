@@ -1,6 +1,6 @@
 use Rattle.std.proofs.Common.{arith, ◌<◌}
 use Rattle.std.proofs.lemmas.Str.Pattern.{strip_suffix_char}
-use Rattle.rustc_parse_format.proofs.LiteralEdges.{chars-last}
+use Rattle.rustc_parse_format.proofs.Literals.Edges.{chars-last}
 use Rattle.rustc_parse_format.proofs.literal.before_newline.Goals as goal
 
 pub returns : goal.returns

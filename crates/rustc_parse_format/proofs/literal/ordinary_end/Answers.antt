@@ -1,4 +1,4 @@
-use Rattle.rustc_parse_format.proofs.SourceEnds.{ordinary-ends}
+use Rattle.rustc_parse_format.proofs.Sources.Ends.{ordinary-ends}
 use Rattle.rustc_parse_format.proofs.literal.ordinary_end.Goals as goal
 
 pub returns-in-Some : goal.returns-in-Some

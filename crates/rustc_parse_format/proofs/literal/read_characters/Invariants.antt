@@ -1,6 +1,6 @@
 use Rattle.std.proofs.Common.{◌≡◌, ◌+◌, [], length, chars}
 use Rattle.rustc_parse_format.specs.Characters.{byte_length}
-use Rattle.rustc_parse_format.proofs.LiteralPlaces.{IsSoFar}
+use Rattle.rustc_parse_format.proofs.Literals.Places.{IsSoFar}
 use Rattle.rustc_parse_format.proofs.literal.read_characters.Given as goal
 
 abbrev pub invariant-loop-rest : goal.invariant-loop-rest

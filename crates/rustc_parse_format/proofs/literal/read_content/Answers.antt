@@ -2,8 +2,8 @@ use Rattle.std.proofs.Common.{chars, ap, ◌∙◌, Vec, Global, ℕ}
 use Rattle.std.specs.declared.ops.Range.{Range}
 use Rattle.std.proofs.lemmas.Str.{chars-nil}
 use Rattle.rustc_parse_format.specs.LiteralReading.{seen_characters}
-use Rattle.rustc_parse_format.proofs.LiteralPlaces.{read-found, read-none}
-use Rattle.rustc_parse_format.proofs.ContentPlaces.{in_literal}
+use Rattle.rustc_parse_format.proofs.Literals.Places.{read-found, read-none}
+use Rattle.rustc_parse_format.proofs.Literals.ContentPlaces.{in_literal}
 use Rattle.rustc_parse_format.proofs.literal.read_content.Goals as goal
 
 pub returns-clause-found : goal.returns-clause-found
@@ -13,11 +13,13 @@ returns-clause-found c =
 
 pub returns-clause-none : goal.returns-clause-none
 returns-clause-none c =
-    read-none c.read_characters.result (λ (v : Vec (Range ℕ × ℕ) Global). seen_characters v.items) (chars c.args.content.now) c.read_characters.ensures.computed
+    read-none c.read_characters.result (λ (v : Vec (Range ℕ × ℕ) Global). seen_characters v.items)
+    (chars c.args.content.now) c.read_characters.ensures.computed
 
 pub returns-clause-empty : goal.returns-clause-empty
 returns-clause-empty c e = c.read_characters.ensures.empty (ap chars e ∙ chars-nil)
 
 pub returns-clause-places : goal.returns-clause-places
-returns-clause-places c = in_literal c.read_characters.result (λ (v : Vec (Range ℕ × ℕ) Global). seen_characters v.items)
+returns-clause-places c = in_literal c.read_characters.result
+    (λ (v : Vec (Range ℕ × ℕ) Global). seen_characters v.items)
     (chars c.args.content.now) (returns-clause-found c)

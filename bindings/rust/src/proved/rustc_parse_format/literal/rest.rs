@@ -1,9 +1,9 @@
-//! What is left of a text, from which characters are taken one at a time.
+//! What is left of a text, which is consumed one character at a time.
 
 // Extracted from crates/rustc_parse_format/src/literal/rest.rt by tools/extract: not to be edited.
 // That source is proved, and each contract here is its. That this text means the same is tested:
 // rows of answers from outside, the proved static library (.ci/bindings) and the original
-// (bindings/agree) give the same over it.
+// (tools/agree) give the same over it.
 
 use crate::proved::rustc_parse_format::blocks::plain_front;
 use crate::proved::rustc_parse_format::characters::{behind_first, first};
@@ -15,42 +15,42 @@ pub struct Rest<'a> {
 }
 
 impl<'a> Rest<'a> {
-    /// The whole of a text.
+    /// Returns a `Rest` that is the whole text.
     // ensures { result ≡ chars text.now }
     #[inline(always)]
     pub fn new(text: &'a str) -> Rest<'a> {
         Rest { text }
     }
 
-    /// What is left.
+    /// Returns what is left.
     // ensures { chars result.now ≡ self.now }
     #[inline(always)]
     pub fn text(&self) -> &'a str {
         self.text
     }
 
-    /// How many bytes are left.
+    /// Returns how many bytes are left.
     // ensures { result ≡ byte_length self.now }
     #[inline(always)]
     pub fn len(&self) -> usize {
         byte_count(self.text)
     }
 
-    /// Whether nothing is left.
+    /// Returns whether nothing is left.
     // ensures { IsTrue result ↔ (self.now ≡ []) }
     #[inline(always)]
     pub fn is_empty(&self) -> bool {
         self.peek().is_none()
     }
 
-    /// The next character, which stays.
+    /// Returns the next character, or `None` if nothing is left. Consumes nothing.
     // ensures { result ≡ first self.now }
     #[inline(always)]
     pub fn peek(&self) -> Option<char> {
         first(self.text)
     }
 
-    /// Takes the next character.
+    /// Consumes and returns the next character, or returns `None` if nothing is left.
     // ensures value { result ≡ first self.old }
     // ensures rest { self.new ≡ behind_first self.old }
     #[inline(always)]
@@ -60,27 +60,28 @@ impl<'a> Rest<'a> {
         first
     }
 
-    /// Takes the next character, whatever it is, and says whether it was this one.
+    /// Consumes the next character, whatever it is, and returns whether it was this one.
     // ensures value { result ≡ begins_with c self.old }
     // ensures rest { self.new ≡ behind_first self.old }
     #[inline(always)]
-    pub fn next_is(&mut self, c: char) -> bool {
+    pub fn next_eq(&mut self, c: char) -> bool {
         self.next() == Some(c)
     }
 
-    /// Whether the next character is this one.
+    /// Returns whether the next character is this one. Consumes nothing.
     // ensures { result ≡ begins_with c self.now }
     #[inline(always)]
     pub fn begins_with(&self, c: char) -> bool {
         self.peek() == Some(c)
     }
 
-    /// Takes the next character if it is this one of ASCII, by its byte, and says whether it was.
+    /// Consumes the next character if it is this ASCII character, given by its byte, and returns
+    /// whether it was.
     // requires { byte < 128 }
     // ensures yes { IsTrue result → self.old ≡ byte ∷ self.new }
     // ensures no { IsFalse result → self.new ≡ self.old }
     #[inline(always)]
-    pub fn take_ascii(&mut self, byte: u8) -> bool {
+    pub fn consume_ascii(&mut self, byte: u8) -> bool {
         match behind_ascii(self.text, byte) {
             Some(rest) => {
                 self.text = rest;
@@ -90,52 +91,54 @@ impl<'a> Rest<'a> {
         }
     }
 
-    /// Takes the plain characters with which both go on.
+    /// Skips in both texts the plain characters with which they go on alike.
     // ensures { SharePlain self.old other.old self.new other.new }
     #[inline(always)]
-    pub fn take_plain(&mut self, other: &mut Rest<'_>) {
+    pub fn skip_plain(&mut self, other: &mut Rest<'_>) {
         let (rest, left) = behind_plain(self.text, other.text);
         self.text = rest;
         other.text = left;
     }
 
-    /// Whether a continuation is at the front.
+    /// Returns whether what is left begins with a string continuation: a backslash and an LF.
     // ensures { result ≡ begins_continuation self.now }
     #[inline(always)]
     pub fn begins_continuation(&self) -> bool {
         self.begins_with('\\') && first(behind_first(self.text)) == Some('\n')
     }
 
-    /// Takes all continuations at the front of a content that a quote closes.
-    // ensures after { (q : Text) (us : List LiteralUnit) → IsContent q us → self.old ≡ closed_by_quote q
+    /// Skips all string continuations at the start of what is left of a content with its closing
+    /// quote.
+    // ensures after { (q : Text) (us : List LiteralUnit) → IsContent q us
+    //     → self.old ≡ closed_by_quote q
     //     → self.new ≡ closed_by_quote (spelled_units (after_continuations us)) }
     // ensures narrower { byte_length self.new ≤ byte_length self.old }
     #[inline]
     pub fn skip_continuations(&mut self) {
         while self.begins_continuation() {
             self.text = behind_first(behind_first(self.text));
-            self.skip_white();
+            self.skip_ws();
         }
     }
 
-    /// Takes the white space that belongs to a continuation.
+    /// Skips the white space that belongs to a string continuation: all HT, LF, CR and space.
     // ensures { self.new ≡ behind is_skipped self.old }
     #[inline(always)]
-    pub fn skip_white(&mut self) {
+    pub fn skip_ws(&mut self) {
         while let Some('\t' | '\n' | '\r' | ' ') = self.peek() {
             self.text = behind_first(self.text);
         }
     }
 }
 
-/// How many bytes a text takes.
+/// Returns the length of a text in bytes.
 // ensures { result ≡ byte_length (chars text.now) }
 #[inline(always)]
 fn byte_count(text: &str) -> usize {
     text.len()
 }
 
-/// What is after this character of ASCII, if the text begins with it.
+/// Returns what is after this ASCII character, or `None` if the text does not begin with it.
 // requires { byte < 128 }
 // ensures { IfSome result (λ r. chars text.now ≡ byte ∷ chars r.now) }
 #[inline(always)]
@@ -147,14 +150,15 @@ fn behind_ascii(text: &str, byte: u8) -> Option<&str> {
     Some(&text[1..])
 }
 
-/// The byte is no quote, no backslash and no CR, which a literal writes in another way.
+/// Returns whether the byte is plain: no quote, no backslash and no CR, which a literal has to
+/// escape.
 // ensures { result ≡ is_plain byte }
 #[inline(always)]
 fn is_plain(byte: u8) -> bool {
     byte != b'"' && byte != b'\\' && byte != b'\r'
 }
 
-/// How many bytes at the front are the same in both, and plain.
+/// Returns the length in bytes of the longest prefix that is the same in both and plain.
 // ensures { IsSharedFront is_plain bytes.now others.now result }
 #[inline(always)]
 pub fn plain_width(bytes: &[u8], others: &[u8]) -> usize {
@@ -167,14 +171,17 @@ pub fn plain_width(bytes: &[u8], others: &[u8]) -> usize {
     most
 }
 
-/// Whether both begin with the same byte, which is no backslash: often one escape comes after another.
+/// Returns whether both begin with the same byte, which is no backslash: one escape often comes
+/// after another.
 #[inline(always)]
 fn begin_alike(bytes: &[u8], others: &[u8]) -> bool {
     !bytes.is_empty() && bytes[0] != b'\\' && !others.is_empty() && bytes[0] == others[0]
 }
 
-/// What is after the plain characters with which both begin. Where they differ, they may do so inside of a character.
-// ensures { SharePlain (chars text.now) (chars other.now) (chars result.0.now) (chars result.1.now) }
+/// Returns what is left of both texts after the plain characters with which they begin alike. If
+/// they first differ inside a character, that is left in both.
+// ensures { SharePlain (chars text.now) (chars other.now) (chars result.0.now)
+//     (chars result.1.now) }
 #[inline(always)]
 fn behind_plain<'a, 'b>(text: &'a str, other: &'b str) -> (&'a str, &'b str) {
     let bytes = text.as_bytes();

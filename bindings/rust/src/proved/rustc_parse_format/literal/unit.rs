@@ -1,14 +1,16 @@
-//! The unit at the front of the content of an ordinary string literal.
+//! Reading the unit at the start of the content of an ordinary string literal.
 
 // Extracted from crates/rustc_parse_format/src/literal/unit.rt by tools/extract: not to be edited.
 // That source is proved, and each contract here is its. That this text means the same is tested:
 // rows of answers from outside, the proved static library (.ci/bindings) and the original
-// (bindings/agree) give the same over it.
+// (tools/agree) give the same over it.
 
 use super::rest::Rest;
 
-/// What two digits after `\x` stand for.
-// ensures { (r : Text) → meaning (byte_at (high ∷ low ∷ r)) ≡ option_map (λ c. (c ∷ [], r)) result }
+/// Returns the character that two digits after `\x` stand for, or `None` if they are not an octal
+/// and a hexadecimal digit.
+// ensures { (r : Text) → meaning (byte_at (high ∷ low ∷ r))
+//     ≡ option_map (λ c. (c ∷ [], r)) result }
 #[inline(always)]
 fn byte_of(high: char, low: char) -> Option<char> {
     let high = high.to_digit(8)?;
@@ -16,7 +18,8 @@ fn byte_of(high: char, low: char) -> Option<char> {
     Some((high * 16 + low) as u8 as char)
 }
 
-/// Takes what is after `\x`.
+/// Reads the two digits after `\x`, and returns the character that they stand for, or `None` if
+/// they stand for none.
 // ensures { meaning (byte_at rest.old) ≡ option_map (λ c. (c ∷ [], rest.new)) result }
 #[inline(always)]
 fn read_byte(rest: &mut Rest<'_>) -> Option<char> {
@@ -25,8 +28,9 @@ fn read_byte(rest: &mut Rest<'_>) -> Option<char> {
     byte_of(high, low)
 }
 
-/// The most common escape is at the front.
-// ensures { IsTrue result → chars text.now ≡ 92 ∷ 110 ∷ behind_first (behind_first (chars text.now)) }
+/// Returns whether the text begins with `\n`, the most common escape.
+// ensures { IsTrue result → chars text.now ≡ 92 ∷ 110
+//     ∷ behind_first (behind_first (chars text.now)) }
 #[inline(always)]
 pub fn is_newline_escape(text: &str) -> bool {
     let bytes = text.as_bytes();
@@ -36,7 +40,7 @@ pub fn is_newline_escape(text: &str) -> bool {
     bytes[0] == b'\\' && bytes[1] == b'n'
 }
 
-/// The value of an octal digit.
+/// Returns the value of an octal digit, or `None` if the byte is not one.
 // ensures { result ≡ (if is_octal byte then Some (digit_value byte) else None) }
 #[inline(always)]
 fn octal_digit(byte: u8) -> Option<u8> {
@@ -46,7 +50,7 @@ fn octal_digit(byte: u8) -> Option<u8> {
     }
 }
 
-/// The value of a hexadecimal digit.
+/// Returns the value of a hexadecimal digit, or `None` if the byte is not one.
 // ensures { result ≡ (if is_hex byte then Some (digit_value byte) else None) }
 #[inline(always)]
 fn hex_digit(byte: u8) -> Option<u8> {
@@ -58,9 +62,11 @@ fn hex_digit(byte: u8) -> Option<u8> {
     }
 }
 
-/// What an escape with `\x` at the front stands for, and what is after it: by its bytes, since a literal may be made of such
-/// escapes.
-// ensures meaning { IfSome result (λ x. meaning (unit_at (chars text.now)) ≡ Some (x.0 ∷ [], chars x.1.now)) }
+/// Returns the byte that a `\x` escape at the start of the text stands for, and what is after it,
+/// or `None` if there is no such escape. It looks at bytes, for speed, since a literal may be made
+/// of such escapes.
+// ensures meaning { IfSome result (λ x. meaning (unit_at (chars text.now))
+//     ≡ Some (x.0 ∷ [], chars x.1.now)) }
 // ensures ascii { IfSome result (λ x. x.0 < 128) }
 #[inline(always)]
 pub fn byte_escape(text: &str) -> Option<(u8, &str)> {
@@ -73,11 +79,12 @@ pub fn byte_escape(text: &str) -> Option<(u8, &str)> {
     Some((high * 16 + low, &text[4..]))
 }
 
-/// Takes what is after `\u`.
+/// Reads what is after `\u`, the braces with their digits, and returns the character that they
+/// stand for, or `None` if they stand for none.
 // ensures { meaning (unicode_at rest.old) ≡ option_map (λ c. (c ∷ [], rest.new)) result }
 #[inline(always)]
 fn read_unicode(rest: &mut Rest<'_>) -> Option<char> {
-    if !rest.next_is('{') {
+    if !rest.next_eq('{') {
         return None;
     }
     let mut digits: u32 = 0;
@@ -96,7 +103,8 @@ fn read_unicode(rest: &mut Rest<'_>) -> Option<char> {
     None
 }
 
-/// What a backslash and this letter stand for.
+/// Returns the character that a backslash and this letter stand for, or `None` if they stand for
+/// none.
 // ensures { result ≡ escaped letter }
 #[inline(always)]
 fn escaped(letter: char) -> Option<char> {
@@ -110,13 +118,14 @@ fn escaped(letter: char) -> Option<char> {
     }
 }
 
-/// Takes what is after a backslash.
+/// Reads what is after a backslash, and returns the character that the escape stands for:
+/// `Some(None)` for a string continuation, which stands for none, and `None` if there is no escape.
 // ensures { meaning (escape_at rest.old) ≡ option_map (λ v. (at_most_one v, rest.new)) result }
 #[inline(always)]
 fn read_escape(rest: &mut Rest<'_>) -> Option<Option<char>> {
     match rest.next()? {
         '\n' => {
-            rest.skip_white();
+            rest.skip_ws();
             Some(None)
         }
         'x' => Some(Some(read_byte(rest)?)),
@@ -125,8 +134,9 @@ fn read_escape(rest: &mut Rest<'_>) -> Option<Option<char>> {
     }
 }
 
-/// Takes the unit at the front, and gives what it stands for, which may be nothing. It gives `None` if no unit stands
-/// there.
+/// Reads the unit at the start, a character or an escape, and returns the character that it stands
+/// for: `Some(None)` for a string continuation, which stands for none, and `None` if there is no
+/// unit.
 // ensures { meaning (unit_at rest.old) ≡ option_map (λ v. (at_most_one v, rest.new)) result }
 #[inline(always)]
 pub fn read_unit(rest: &mut Rest<'_>) -> Option<Option<char>> {

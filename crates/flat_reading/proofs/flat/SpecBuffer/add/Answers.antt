@@ -5,7 +5,9 @@ use Rattle.flat_reading.proofs.flat.SpecBuffer.add.Goals.{then-self, else-self}
 
 pub returns-clause-told : goal.returns-clause-told
 returns-clause-told c = λ input at room. elim c.if-self.branch [
-  | then-self w ↦ rw w.self-is (spec_at-put input c.args.self.now.records.now c.args.self.now.used w.spec_record.result w.if-self.true
+  | then-self w ↦ rw w.self-is
+      (spec_at-put input c.args.self.now.records.now c.args.self.now.used w.spec_record.result
+      w.if-self.true
       ∙ w.spec_record.ensures input at)
   | else-self w ↦ absurd (omega (arith, w.if-self.false, ap (λ s. s.used) w.self-is, room))
 ]

@@ -7,7 +7,8 @@ pub returns-clause-told : goal.returns-clause-told
 returns-clause-told c = λ peeks input specs.
     let step = c.bare.new.step in
     let kept = c.bare.ensures.others in
-    told_end peeks input specs step c.args.self.now.parser c.next_into.new.self c.in_ok-_none.ensures.state c.requires
+    told_end peeks input specs step c.args.self.now.parser c.next_into.new.self
+    c.in_ok-_none.ensures.state c.requires
     (no_piece input (spec_at input specs step.spec) step c.bare.ensures.kind)
     (ap maybe_place kept.0)
     (kept.1 ∙ c.put_state.ensures.read)

@@ -13,25 +13,33 @@ use Rattle.flat_reading.proofs.walk.Walker.step.Goals as goal
 
 pub put_given-requires-clause-alone : goal.put_given-requires-clause-alone
 put_given-requires-clause-alone c =
-    let read = c.put_state.ensures.read ∙ ap (λ (s : State). position s.input s.rest) c.in_ok-given.ensures.state in
+    let read = c.put_state.ensures.read
+    ∙ ap (λ (s : State). position s.input s.rest) c.in_ok-given.ensures.state in
     let w = c.args.self.now in
     let ready = c.requires.ready in
-    alone w.input.now w.parser w.offset _ (guide_of w.guide) _ ready.utf8 ready.input ready.left ready.guided read c.in_ok-given.ensures.piece
+    alone w.input.now w.parser w.offset _
+    (guide_of w.guide) _ ready.utf8 ready.input ready.left ready.guided read
+    c.in_ok-given.ensures.piece
 
 pub overflow_sub-errors : goal.overflow_sub-errors
 overflow_sub-errors c =
-    let before = sym (length-map c.errors-faults.result.now seen_error) ∙ ap length c.errors-faults.ensures in
+    let before = sym (length-map c.errors-faults.result.now seen_error)
+    ∙ ap length c.errors-faults.ensures in
     let behind = sym (length-map c.errors.result.now seen_error) ∙ ap length c.errors.ensures in
-    let grown = ap (λ (s : State). length s.errors) c.in_ok-given.ensures.state ∙ length-after c.args.self.now.parser (next_call c.args.self.now.parser) in
+    let grown = ap (λ (s : State). length s.errors) c.in_ok-given.ensures.state
+    ∙ length-after c.args.self.now.parser (next_call c.args.self.now.parser) in
     omega (arith, before, behind, grown)
 
 pub add-requires : goal.add-requires
 add-requires c =
-    let before = sym (length-map c.errors-faults.result.now seen_error) ∙ ap length c.errors-faults.ensures in
+    let before = sym (length-map c.errors-faults.result.now seen_error)
+    ∙ ap length c.errors-faults.ensures in
     let behind = sym (length-map c.errors.result.now seen_error) ∙ ap length c.errors.ensures in
-    let grown = ap (λ (s : State). length s.errors) c.in_ok-given.ensures.state ∙ length-after c.args.self.now.parser (next_call c.args.self.now.parser) in
+    let grown = ap (λ (s : State). length s.errors) c.in_ok-given.ensures.state
+    ∙ length-after c.args.self.now.parser (next_call c.args.self.now.parser) in
     let few = few_fronts (next_call c.args.self.now.parser).faults in
-    let fronts : c.in_ok-given.fronts ≡ fronts_in (next_call c.args.self.now.parser) = c.in_ok-given.ensures.fronts in
+    let fronts : c.in_ok-given.fronts ≡ fronts_in (next_call c.args.self.now.parser) =
+    c.in_ok-given.ensures.fronts in
     omega (arith, before, behind, grown, few, fronts)
 
 pub returns-clause-told : goal.returns-clause-told
@@ -39,7 +47,8 @@ returns-clause-told c = λ room.
     let w = c.args.self.now in
     let s = w.parser in
     let state = c.in_ok-given.ensures.state in
-    let same = alike w.input.now _ s w.offset (guide_of w.guide) (option_map (seen_taken c.next_into.new.argument) c.in_ok-given.given)
+    let same = alike w.input.now _ s w.offset (guide_of w.guide)
+    (option_map (seen_taken c.next_into.new.argument) c.in_ok-given.given)
     c.requires.ready.guided c.in_ok-given.ensures.piece in
     let kept = c.in_ok-put_given.ensures.others in
     let place = rw state at c.closed-step.ensures in
@@ -47,7 +56,8 @@ returns-clause-told c = λ room.
     told w.peeks w.input.now c.put_given.new.specs.records.now c.put_given.new.step s t state
     (c.in_ok-put_given.ensures.told same room ∙ c.in_ok-given.ensures.piece)
     (ap maybe_place kept.0
-    ∙ place s.arg_places (next_call s).closes (sym (length-map c.arg_places-places.result.now pair) ∙ ap length c.arg_places-places.ensures) refl)
+    ∙ place s.arg_places (next_call s).closes (sym (length-map c.arg_places-places.result.now pair)
+    ∙ ap length c.arg_places-places.ensures) refl)
     (kept.1 ∙ c.put_state.ensures.read)
     (kept.2 ∙ c.put_state.ensures.next)
     (kept.3 ∙ c.put_state.ensures.lines)
@@ -58,12 +68,16 @@ pub returns-clause-call : goal.returns-clause-call
 returns-clause-call c =
     let old = c.args.self.now in
     let ready = c.requires.ready in
-    let before = sym (length-map c.errors-faults.result.now seen_error) ∙ ap length c.errors-faults.ensures in
+    let before = sym (length-map c.errors-faults.result.now seen_error)
+    ∙ ap length c.errors-faults.ensures in
     let behind = sym (length-map c.errors.result.now seen_error) ∙ ap length c.errors.ensures in
-    let grown = ap (λ (s : State). length s.errors) c.in_ok-given.ensures.state ∙ length-after old.parser (next_call old.parser) in
+    let grown = ap (λ (s : State). length s.errors) c.in_ok-given.ensures.state
+    ∙ length-after old.parser (next_call old.parser) in
     let fs = (next_call old.parser).faults in
-    let fronts : c.in_ok-given.fronts ≡ fronts_in (next_call old.parser) = c.in_ok-given.ensures.fronts in
-    let found : length c.errors.result.now - length c.errors-faults.result.now ≡ length fs = omega (arith, before, behind, grown) in
+    let fronts : c.in_ok-given.fronts ≡ fronts_in (next_call old.parser) =
+    c.in_ok-given.ensures.fronts in
+    let found : length c.errors.result.now - length c.errors-faults.result.now
+    ≡ length fs = omega (arith, before, behind, grown) in
     let t = c.next_into.new.self in
     let state = c.in_ok-given.ensures.state in
     let same = c.in_ok-put_given.ensures.same in
@@ -73,9 +87,11 @@ returns-clause-call c =
         utf8 = ready.utf8;
         input = ready.input ∙ sym (ap (λ (s : State). s.input) state);
         left = still_ends old.parser t ready.left state;
-        guided = rw (state, c.in_ok-put_given.ensures.guide) (still_guided old.parser old.offset (guide_of old.guide) ready.guided);
+        guided = rw (state, c.in_ok-put_given.ensures.guide)
+            (still_guided old.parser old.offset (guide_of old.guide) ready.guided);
       };
-      finders = rw (found, fronts) at c.in_ok-add.ensures.calls ∙ sym (add_finders-is c.args.number old.finders.calls fs);
+      finders = rw (found, fronts) at c.in_ok-add.ensures.calls
+          ∙ sym (add_finders-is c.args.number old.finders.calls fs);
       fronts = c.in_ok-add.ensures.fronts ∙ ap (λ n. old.finders.fronts + n) fronts;
       input = refl;
       peeks = refl;

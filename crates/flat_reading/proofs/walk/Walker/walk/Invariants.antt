@@ -13,7 +13,9 @@ invariant-loop-read l = record {
   room : l.count + length l.self.parser.rest ≤ length l.fn.self.parser.rest;
   up_to : (
       let old = l.fn.self in
-      IsUpTo old.peeks old.input.now old.parser (states l.self.parser) l.self.parser l.count l.specs.used l.self.finders l.steps l.specs.records.now
+      IsUpTo old.peeks old.input.now old.parser
+      (states l.self.parser) l.self.parser l.count l.specs.used l.self.finders l.steps
+      l.specs.records.now
       );
   kept_steps : drop l.count l.steps ≡ drop l.count l.fn.steps;
   specs : Adds l.specs.used l.fn.specs l.specs;

@@ -1,4 +1,4 @@
-use Rattle.rustc_parse_format.proofs.SourcePlaces.{source_literal}
+use Rattle.rustc_parse_format.proofs.Sources.Places.{source_literal}
 use Rattle.rustc_parse_format.proofs.cursor.Cursor.is_source_literal.Goals as goal
 
 pub returns : goal.returns

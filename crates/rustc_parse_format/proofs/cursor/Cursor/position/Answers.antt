@@ -1,4 +1,4 @@
-use Rattle.rustc_parse_format.proofs.Places.{position_left}
+use Rattle.rustc_parse_format.proofs.Sources.PlainPlaces.{position_left}
 use Rattle.rustc_parse_format.proofs.cursor.Cursor.position.Goals as goal
 
 pub returns : goal.returns

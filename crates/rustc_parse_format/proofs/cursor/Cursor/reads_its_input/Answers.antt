@@ -1,4 +1,4 @@
-use Rattle.rustc_parse_format.proofs.Places.{left}
+use Rattle.rustc_parse_format.proofs.Sources.PlainPlaces.{left}
 use Rattle.rustc_parse_format.proofs.cursor.Cursor.reads_its_input.Goals as goal
 
 pub returns : goal.returns

@@ -1,5 +1,5 @@
 use Rattle.std.proofs.Common.{sym}
-use Rattle.rustc_parse_format.proofs.LiteralWidths.{width-chars}
+use Rattle.rustc_parse_format.proofs.Literals.Widths.{width-chars}
 use Rattle.rustc_parse_format.proofs.literal.rest.byte_count.Goals as goal
 
 pub returns : goal.returns

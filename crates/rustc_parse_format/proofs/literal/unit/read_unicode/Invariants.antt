@@ -1,6 +1,6 @@
 use Rattle.std.proofs.Common.{◌≡◌, ◌^◌, ◌<◌, ◌≤◌, length}
 use Rattle.rustc_parse_format.specs.LiteralUnits.{meaning, unicode_at}
-use Rattle.rustc_parse_format.proofs.LiteralUnicode.{behind_digits}
+use Rattle.rustc_parse_format.proofs.Literals.Unicode.{behind_digits}
 use Rattle.rustc_parse_format.proofs.literal.unit.read_unicode.Given as goal
 
 abbrev pub invariant-loop-c : goal.invariant-loop-c

@@ -12,4 +12,5 @@ returns-then-is_newline_escape c =
     let text = c.text-2.ensures in
     let front = c.is_newline_escape.ensures c.if-is_newline_escape.true in
     let at = rw text at front in
-    rw (c.next-then-is_newline_escape.ensures.rest, c.next.ensures.rest) (newline_unit c.args.rest.now _ at)
+    rw (c.next-then-is_newline_escape.ensures.rest, c.next.ensures.rest)
+    (newline_unit c.args.rest.now _ at)

@@ -1,5 +1,5 @@
 use Rattle.std.proofs.Common.{refl}
-use Rattle.rustc_parse_format.proofs.Iteration.{gives_walk}
+use Rattle.rustc_parse_format.proofs.Walking.Iteration.{gives_walk}
 use Rattle.rustc_parse_format.proofs.parser.Parser.pieces.Goals as goal
 
 pub returns-clause-walk : goal.returns-clause-walk

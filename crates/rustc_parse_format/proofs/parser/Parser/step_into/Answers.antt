@@ -6,45 +6,56 @@ use Rattle.rustc_parse_format.specs.Midway.{Midway, FindsNothing, HasFoundNothin
 use Rattle.rustc_parse_format.specs.Seen.{seen_mode}
 use Rattle.rustc_parse_format.specs.State.{State, next_call}
 use Rattle.rustc_parse_format.specs.World.{Place, faults_in}
-use Rattle.rustc_parse_format.proofs.Placeholders.{opens-some}
-use Rattle.rustc_parse_format.proofs.StateLines.{finds_nothing, nothing_found}
-use Rattle.rustc_parse_format.proofs.Progress.{call_next-le}
-use Rattle.rustc_parse_format.proofs.ParserLaws.{count_of_fronts}
+use Rattle.rustc_parse_format.proofs.Readers.Placeholders.{opens-some}
+use Rattle.rustc_parse_format.proofs.Lines.StateLines.{finds_nothing, nothing_found}
+use Rattle.rustc_parse_format.proofs.Walking.Progress.{call_next-le}
+use Rattle.rustc_parse_format.proofs.Walking.ParserLaws.{count_of_fronts}
 use Rattle.rustc_parse_format.proofs.parser.Parser.step_into.Goals as goal
+use Rattle.rustc_parse_format.proofs.parser.Parser.step_into.Goals.{in-Ok+in_default-take_over}
+use Rattle.rustc_parse_format.proofs.parser.Parser.step_into.Goals.{in_default}
 
-pub returns-clause-fronts : goal.returns-clause-fronts
-returns-clause-fronts c =
+pub returns-in-Ok-take_over-clause-fronts : goal.returns-in-Ok-take_over-clause-fronts
+returns-in-Ok-take_over-clause-fronts c =
     let r = c.self.inside.reader in
     let s = c.args.self.now in
-    let read : ◌≡◌ {A = Midway} c.read_placeholder.new.reader (read_call r (next_call s)) =
+    let read : ◌≡◌ {A = Midway} c.placeholder.new.self (read_call r (next_call s)) =
     c.in-Ok.ensures.reads.state ∙ ap (λ (x : State). read_call r (next_call x)) c.self.view_is in
-    let found : c.read_placeholder.new.reader.faults ≡ faults_in s.world (next_call s).faults =
+    let found : c.placeholder.new.self.faults ≡ faults_in s.world (next_call s).faults =
     ap (λ (m : Midway). m.faults) read
-    ∙ ap (λ (fs : List (Fault Place)). fs ++ faults_in r.world (next_call s).faults) c.self.invariant.1.0
+    ∙ ap (λ (fs : List (Fault Place)). fs
+    ++ faults_in r.world (next_call s).faults) c.self.invariant.1.0
     ∙ ap (λ (x : State). faults_in x.world (next_call s).faults) c.self.view_is in
-    c.in-Ok-take_over.ensures.fronts ∙ ap (λ fs. length (filter is_front fs)) found ∙ count_of_fronts s.world (next_call s).faults
+    c.in-Ok-take_over.ensures.fronts ∙ ap (λ fs. length (filter is_front fs)) found
+    ∙ count_of_fronts s.world (next_call s).faults
 
-pub returns-in_default-clause-spare : goal.returns-in_default-clause-spare
-returns-in_default-clause-spare c n =
+pub returns-clause-spare : goal.returns-clause-spare
+returns-clause-spare c n =
     let r = c.self.inside.reader in
     let s = c.args.self.now in
-    let none = finds_nothing s r (next_call s) (opens-some s.rest c.requires.opens) (ap (λ (x : State). x.world) c.self.view_is)
-    (ap (λ (x : State). x.line_start) c.self.view_is) n in
-    c.in_default.ensures.reads.spare (subst (λ (x : State). FindsNothing r (next_call x).faults (next_call x).texts) (sym c.self.view_is) none)
+    let some = opens-some s.rest c.requires.opens in
+    let same = ap (λ (x : State). x.world) c.self.view_is in
+    let start = ap (λ (x : State). x.line_start) c.self.view_is in
+    elim c.match-placeholder.branch [
+      | in-Ok+in_default-take_over w ↦
+          let read : ◌≡◌ {A = Midway} c.placeholder.new.self (read_call r (next_call s)) =
+          w.in-Ok.ensures.reads.state
+          ∙ ap (λ (x : State). read_call r (next_call x)) c.self.view_is in
+          w.in_default-take_over.ensures.none
+          (subst HasFoundNothing (sym read)
+          (nothing_found s r (next_call s) some c.self.invariant.1 same start n))
+      | in_default w ↦
+          w.in_default.ensures.reads.spare
+          (subst (λ (x : State). FindsNothing r (next_call x).faults (next_call x).texts)
+          (sym c.self.view_is)
+          (finds_nothing s r (next_call s) some same start n))
+    ]
 
-pub returns-in_default-take_over-clause-spare : goal.returns-in_default-take_over-clause-spare
-returns-in_default-take_over-clause-spare c n =
-    let r = c.self.inside.reader in
-    let s = c.args.self.now in
-    let none = nothing_found s r (next_call s) (opens-some s.rest c.requires.opens) c.self.invariant.1 (ap (λ (x : State). x.world) c.self.view_is)
-    (ap (λ (x : State). x.line_start) c.self.view_is) n in
-    let read : ◌≡◌ {A = Midway} c.read_placeholder.new.reader (read_call r (next_call s)) =
-    c.in-Ok.ensures.reads.state ∙ ap (λ (x : State). read_call r (next_call x)) c.self.view_is in
-    c.in_default-take_over.ensures.none (subst HasFoundNothing (sym read) none)
-
-pub invariant_of-self-in-Ok-take_over : goal.invariant_of-self-in-Ok-take_over
-invariant_of-self-in-Ok-take_over c =
-    let most = call_next-le (seen_mode c.self.inside.mode) c.self.inside.reader.next c.self.inside.reader.rest in
+pub invariant_of-self : goal.invariant_of-self
+invariant_of-self c =
+    let most =
+    call_next-le (seen_mode c.self.inside.mode) c.self.inside.reader.next
+    c.self.inside.reader.rest in
     let fits = c.self.invariant.0 in
-    let taken : ◌≡◌ {A = Midway} c.take_over.new.reader (record c.read_placeholder.new.reader { faults = []; lines = []; closed = None }) = search rules in
+    let taken : ◌≡◌ {A = Midway} c.take_over.new.reader
+    (record c.placeholder.new.self { faults = []; lines = []; closed = None }) = search rules in
     rw (taken, c.in-Ok.ensures.reads.state) (omega arith, (refl, refl, refl))

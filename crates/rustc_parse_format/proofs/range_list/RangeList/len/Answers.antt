@@ -1,5 +1,5 @@
 use Rattle.std.proofs.Common.{arith, ◌≤◌, length, rules}
-use Rattle.rustc_parse_format.proofs.RangeLists.{range_count}
+use Rattle.rustc_parse_format.proofs.Lines.RangeLists.{range_count}
 use Rattle.rustc_parse_format.proofs.range_list.RangeList.len.Goals as goal
 
 pub returns : goal.returns

@@ -1,30 +1,35 @@
 use Rattle.std.proofs.Common.{length, ◌≡◌, ap, sym, rules}
 use Rattle.rustc_parse_format.specs.SeenSource.{seen_world}
 use Rattle.rustc_parse_format.specs.World.{Place}
-use Rattle.rustc_parse_format.proofs.SourceSteps.{here_start}
-use Rattle.rustc_parse_format.proofs.SourcePlaces.{placed_in, place_gone, plain_start}
+use Rattle.rustc_parse_format.proofs.Sources.Steps.{here_start}
+use Rattle.rustc_parse_format.proofs.Sources.Places.{anchor_in, place_gone, plain_start}
 use Rattle.rustc_parse_format.proofs.source.Source.start.Goals as goal
 
 pub returns-then-is_empty : goal.returns-then-is_empty
 returns-then-is_empty c =
-    let p = c.args.spot.now in
-    let z : length p.rest.now ≡ 0 = search rules in
-    sym (ap (λ (x : Place). x.0) (place_gone c.args.self.now p.rest.now p.mark.now p.at c.requires z))
+    let z : length c.args.rest.now ≡ 0 = search rules in
+    sym (ap (λ (x : Place). x.0)
+    (place_gone c.args.self.now c.args.rest.now c.args.anchor.now c.requires z))
 
-pub byte_here-requires : goal.byte_here-requires
-byte_here-requires c =
-    let p = c.args.spot.now in
-    let placed = placed_in c.args.self.now p.rest.now p.mark.now p.at c.in-Some.snippet c.requires c.in-Some.is in
-    record { after = c.requires.is_after; here = (seen_world c.args.self.now, rw c.as_str.ensures.value placed) }
+pub offset_of-requires : goal.offset_of-requires
+offset_of-requires c =
+    let placed =
+    anchor_in c.args.self.now c.args.rest.now c.args.anchor.now c.in-Some.snippet c.requires
+    c.in-Some.is in
+    record {
+      after = c.requires.is_after;
+      here = (seen_world c.args.self.now, rw c.as_str.ensures.value placed);
+    }
 
 pub returns-in-Some : goal.returns-in-Some
 returns-in-Some c =
-    let p = c.args.spot.now in
-    let placed = placed_in c.args.self.now p.rest.now p.mark.now p.at c.in-Some.snippet c.requires c.in-Some.is in
-    sym (here_start _ (seen_world c.args.self.now) _ _ (c.byte_here.ensures (seen_world c.args.self.now) (rw c.as_str.ensures.value placed)))
+    let placed =
+    anchor_in c.args.self.now c.args.rest.now c.args.anchor.now c.in-Some.snippet c.requires
+    c.in-Some.is in
+    sym (here_start _ (seen_world c.args.self.now) _ _
+    (c.offset_of.ensures (seen_world c.args.self.now) (rw c.as_str.ensures.value placed)))
 
 pub returns-in-None : goal.returns-in-None
 returns-in-None c =
-    let p = c.args.spot.now in
-    let z : length p.rest.now ≡ 0 → ⊥ = search rules in
-    plain_start c.args.self.now p.rest.now p.mark.now p.at c.requires c.in-None.is z
+    let z : length c.args.rest.now ≡ 0 → ⊥ = search rules in
+    plain_start c.args.self.now c.args.rest.now c.args.anchor.now c.requires c.in-None.is z

@@ -1,24 +1,34 @@
 use Rattle.std.proofs.Common.{◌≡◌, ap, sym, ◌∙◌, arith}
 use Rattle.rustc_parse_format.specs.Characters.{behind, behind_first, byte_length}
 use Rattle.rustc_parse_format.specs.LiteralUnits.{is_skipped}
-use Rattle.rustc_parse_format.proofs.SourceContents.{behind_continuation, continuation-narrower, continuation-shorter, left-none, left-taken}
+use Rattle.rustc_parse_format.proofs.Sources.Contents.{behind_continuation, continuation-narrower}
+use Rattle.rustc_parse_format.proofs.Sources.Contents.{continuation-shorter, left-none, left-taken}
 use Rattle.rustc_parse_format.proofs.literal.rest.Rest.skip_continuations.Goals as goal
 
--- a backslash, an LF and the white space after them are taken
-taken : (c : goal.After-skip_white) → c.skip_white.new.self ≡ behind_continuation c.loop-self.self
-taken c = c.skip_white.ensures ∙ ap (behind is_skipped) (c.behind_first-self-inside.ensures.rest
+-- A backslash, an LF and the white space after them are skipped.
+taken : (c : goal.After-skip_ws) → c.skip_ws.new.self ≡ behind_continuation c.loop-self.self
+taken c = c.skip_ws.ensures ∙ ap (behind is_skipped) (c.behind_first-self-inside.ensures.rest
     ∙ ap behind_first (c.behind_first.ensures.rest ∙ ap behind_first c.self.view_is))
 
 pub loop-self-smaller : goal.loop-self-smaller
-loop-self-smaller c = rw (taken c) (continuation-shorter c.loop-self.self (sym c.begins_continuation.ensures ∙ c.loop-self-test.true))
+loop-self-smaller c =
+    rw (taken c) (continuation-shorter c.loop-self.self (sym c.begins_continuation.ensures
+    ∙ c.loop-self-test.true))
 
 pub loop-self-preserved : goal.loop-self-preserved
 loop-self-preserved c = record {
-  left = λ q us h k. rw (taken c) (left-taken c.loop-self.self us (c.loop-self.invariant.left q us h k)
+  left = λ q us h k. rw (taken c)
+      (left-taken c.loop-self.self us (c.loop-self.invariant.left q us h k)
       (sym c.begins_continuation.ensures ∙ c.loop-self-test.true));
-  narrower = omega (arith, ap byte_length (taken c), continuation-narrower c.loop-self.self, c.loop-self.invariant.narrower);
+  narrower = omega (
+    arith,
+    ap byte_length (taken c),
+    continuation-narrower c.loop-self.self,
+    c.loop-self.invariant.narrower,
+  );
 }
 
 pub returns-clause-after : goal.returns-clause-after
 returns-clause-after c q us h k =
-    left-none c.loop-self.self us (c.loop-self.invariant.left q us h k) (sym c.begins_continuation.ensures ∙ c.loop-self-test.false)
+    left-none c.loop-self.self us (c.loop-self.invariant.left q us h k)
+    (sym c.begins_continuation.ensures ∙ c.loop-self-test.false)

@@ -3,12 +3,13 @@ use Rattle.rustc_parse_format.specs.Characters.{Text, byte_length}
 use Rattle.rustc_parse_format.specs.Literal.{IsContent}
 use Rattle.rustc_parse_format.specs.LiteralUnits.{LiteralUnit}
 use Rattle.rustc_parse_format.specs.SeenSource.{closed_by_quote}
-use Rattle.rustc_parse_format.proofs.SourceContents.{IsRestOf}
+use Rattle.rustc_parse_format.proofs.Sources.Contents.{IsRestOf}
 use Rattle.rustc_parse_format.proofs.literal.rest.Rest.skip_continuations.Given as goal
 
 abbrev pub invariant-loop-self : goal.invariant-loop-self
 invariant-loop-self l = record {
-  left : (q : Text) (us : List LiteralUnit) → IsContent q us → l.fn.self ≡ closed_by_quote q → IsRestOf l.self us;
+  left : (q : Text) (us : List LiteralUnit) → IsContent q us → l.fn.self ≡ closed_by_quote q
+      → IsRestOf l.self us;
   narrower : byte_length l.self ≤ byte_length l.fn.self;
 }
 

@@ -1,0 +1,21 @@
+-- The grammar: the computed parts are those that are written, and no text has two readings.
+pub mod BarePieces
+pub mod BareValues
+pub mod CleanCounts
+pub mod CleanCuts
+pub mod CleanWords
+pub mod FaultlessCounts
+pub mod Fronts
+pub mod Identifiers
+pub mod Locality
+pub mod Numbers
+pub mod PartCounts
+pub mod PartCuts
+pub mod PartFronts
+pub mod PartLaws
+pub mod PartNames
+pub mod PartPlaces
+pub mod PartSpecs
+pub mod PlaceholderCuts
+pub mod Readings
+pub mod Rests

@@ -1,0 +1,49 @@
+-- The word at the start of a text, by whether one begins there.
+use Rattle.std.proofs.Common.{◌≡◌, true, false, [], ◌∷◌, chars, refl, ap, sym, ◌∙◌, Some}
+use Rattle.std.proofs.lemmas.Bool.{false≢true}
+use Rattle.std.proofs.lemmas.Str.{chars-nil}
+use Rattle.rustc_parse_format.specs.Characters.{Text, begins_with, is_id_start, first_passes, word}
+use Rattle.rustc_parse_format.specs.Characters.{behind_word}
+use Rattle.rustc_parse_format.specs.Marks.{up_to}
+use Rattle.rustc_parse_format.specs.Meaning.{word_span}
+use Rattle.rustc_parse_format.specs.PartFaults.{word_faults}
+use Rattle.rustc_parse_format.proofs.Grammar.CleanWords.{no_word, no_word_at_end, unnamed}
+use Rattle.rustc_parse_format.proofs.Grammar.CleanWords.{word_first}
+
+pub word_nowhere : (t : Text) → first_passes is_id_start t ≡ false → word t ≡ []
+unfolding word
+word_nowhere [] h = refl
+word_nowhere (c ∷ t) h = rw h refl
+
+pub text_nowhere : (t : Text) → first_passes is_id_start t ≡ false → chars [] ≡ word t
+text_nowhere t h = chars-nil ∙ sym (word_nowhere t h)
+
+pub behind_nowhere : (t : Text) → first_passes is_id_start t ≡ false → behind_word t ≡ t
+unfolding behind_word
+behind_nowhere [] h = refl
+behind_nowhere (c ∷ t) h = rw h refl
+
+pub unfaulty_nowhere : (t : Text) → first_passes is_id_start t ≡ false → word_faults t ≡ []
+unfaulty_nowhere [] h = no_word_at_end
+unfaulty_nowhere (c ∷ t) h = no_word c t h
+
+pub word_placed : (t : Text) → first_passes is_id_start t ≡ true
+    → word_span t (word t) (behind_word t) ≡ Some (up_to t (behind_word t))
+unfolding word
+word_placed [] h = cc h
+word_placed (c ∷ t) h = rw h refl
+
+-- a word that does not begin with `_`
+pub unfaulty_word : (t : Text) → begins_with 95 t ≡ false → word_faults t ≡ []
+unfaulty_word [] h = no_word_at_end
+unfaulty_word (c ∷ t) h =
+    unnamed (c ∷ t) (λ e. false≢true (sym h ∙ ap (λ x. begins_with 95 (x ∷ t)) (word_first c t e)))
+
+pub ruleset words_at_front = (
+  word_nowhere,
+  text_nowhere,
+  behind_nowhere,
+  unfaulty_nowhere,
+  word_placed,
+  unfaulty_word,
+)

@@ -1,0 +1,62 @@
+-- The count of steps: what a word that is given back adds to it, and worked examples, each
+-- computed.
+use Rattle.std.proofs.Common.{◌≡◌, ◌+◌, ◌-◌, ℕ, List, [], ◌∷◌, length, length-append, arith, ap}
+use Rattle.std.proofs.Common.{refl, codes, ◌∙◌}
+use Rattle.rustc_parse_format.specs.Characters.{Text, word, behind_word}
+use Rattle.rustc_parse_format.specs.Back.{Back, given_back, nothing_back}
+use Rattle.rustc_parse_format.specs.Steps.{position, reach, steps}
+use Rattle.rustc_parse_format.specs.State.{State, after, after_all, calls, next_call}
+use Rattle.rustc_parse_format.specs.Tries.{tried}
+use Rattle.rustc_parse_format.proofs.Grammar.Fronts.{word-behind}
+use Rattle.rustc_parse_format.proofs.Rows.Definitions.{computing, start}
+
+-- how many characters the words at these rests have
+abbrev pub tried_length : List Text → ℕ
+tried_length [] = 0
+tried_length (t ∷ ts) = length (word t) + tried_length ts
+
+-- Each word that is given back is read once more.
+pub tried-again : (b : Back) (ts : List Text) → (tried b ts).again ≡ b.again + tried_length ts
+tried-again b [] = omega arith
+tried-again b (t ∷ ts) =
+    let once : (b.again + (length t - length (behind_word t))) + tried_length ts
+    ≡ b.again + (length (word t) + tried_length ts) =
+    omega (arith, ap length (word-behind t), length-append (word t) (behind_word t)) in
+    tried-again (given_back (behind_word t) t b) ts ∙ once
+
+-- So a call takes a step for each character that it passes, and one for each of a word that it
+-- gives back.
+pub call-steps : (s : State) → (after s (next_call s)).back.again
+    ≡ s.back.again + tried_length (next_call s).tries
+call-steps s = tried-again s.back (next_call s).tries
+
+-- the steps of all calls over an input
+abbrev walked : Text → ℕ
+walked t = let s = after_all (start t) (calls (start t)) in steps s.input s.rest s.back
+
+underscore-takes_5 : walked (codes "{:_}") ≡ 5
+unfolding computing
+underscore-takes_5 = refl
+
+word-takes_9 : walked (codes "{:abc}") ≡ 9
+unfolding computing
+word-takes_9 = refl
+
+width-takes_no_more : walked (codes "{a:b$}") ≡ 6
+unfolding computing
+width-takes_no_more = refl
+
+-- after the word was given back
+abbrev there : Back
+there = tried (nothing_back (codes "{:abc}")) (codes "abc}" ∷ [])
+
+word-given_back : steps (codes "{:abc}") (codes "abc}") there ≡ 5
+unfolding computing
+word-given_back = refl
+
+word-position : position (codes "{:abc}") (codes "abc}") ≡ 2
+word-position = refl
+
+word-reach : reach (codes "{:abc}") (codes "abc}") there ≡ 5
+unfolding computing
+word-reach = refl

@@ -1,9 +1,0 @@
-use Rattle.std.proofs.Common.{rules, chars}
-use Rattle.rustc_parse_format.specs.Midway.{Unread}
-use Rattle.rustc_parse_format.proofs.Steps.{counted_back}
-use Rattle.rustc_parse_format.proofs.cursor.Cursor.go_back.Goals as goal
-
-pub invariant_of-self : goal.invariant_of-self
-invariant_of-self c =
-    let r = rw (← c.self.view_is) at c.requires in
-    (r.spot, rw c.go_back.ensures (counted_back _ _ _ _ r.furthest r.earlier r.word c.self.invariant.1))

@@ -1,9 +1,0 @@
-use Rattle.std.proofs.Common.{length}
-use Rattle.rustc_parse_format.specs.LiteralReading.{SameEnds}
-use Rattle.rustc_parse_format.proofs.literal.take_bytes.Given as goal
-
-abbrev pub invariant-loop-byte : goal.invariant-loop-byte
-invariant-loop-byte l = SameEnds l.initial.rest l.initial.wanted l.rest l.wanted
-
-abbrev pub decreases-loop-byte : goal.decreases-loop-byte
-decreases-loop-byte l = length l.rest

@@ -1,9 +1,0 @@
-use Rattle.std.proofs.Common.{◌≡◌, replicate}
-use Rattle.rustc_parse_format.specs.LiteralReading.{after_prefix}
-use Rattle.rustc_parse_format.proofs.literal.takes_hashes.Given as goal
-
-abbrev pub invariant-loop-left : goal.invariant-loop-left
-invariant-loop-left l = after_prefix (replicate l.left 35) l.rest ≡ after_prefix (replicate l.fn.hashes 35) l.fn.rest
-
-abbrev pub decreases-loop-left : goal.decreases-loop-left
-decreases-loop-left l = l.left

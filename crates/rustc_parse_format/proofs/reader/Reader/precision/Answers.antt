@@ -1,0 +1,21 @@
+use Rattle.std.proofs.Common.{◌≡◌, true, ap, arith, length, rules}
+use Rattle.rustc_parse_format.specs.Characters.{begins_with, behind_first}
+use Rattle.rustc_parse_format.specs.Midway.{Midway, Unread}
+use Rattle.rustc_parse_format.proofs.Grammar.Rests.{IsRest-le, behind_first_rest}
+use Rattle.rustc_parse_format.proofs.Readers.Steps.{at_dot}
+use Rattle.rustc_parse_format.proofs.reader.Reader.precision.Goals as goal
+
+pub count-requires-clause-furthest : goal.count-requires-clause-furthest
+count-requires-clause-furthest c =
+    let t = c.self.inside.cursor.rest in
+    let dot : begins_with 46 t ≡ true = search rules in
+    omega (
+      arith,
+      at_dot t dot,
+      c.steps_are_few.ensures.word,
+      IsRest-le (behind_first_rest t),
+      ap (λ (s : Midway). length (behind_first s.rest)) c.self.view_is,
+      ap (λ (s : Midway). s.back.left) c.self.view_is,
+      ap (λ (u : Unread). length u.rest) c.skip_char.ensures.rest,
+      ap (λ (u : Unread). u.back.left) c.skip_char.ensures.rest,
+    )

@@ -1,0 +1,77 @@
+use Rattle.std.proofs.Common.{ap, arith, chars, length, sym}
+use Rattle.std.proofs.lemmas.Str.{IsUtf8-from_is_utf8, is_utf8-from_IsUtf8}
+use Rattle.rustc_parse_format.proofs.Sources.PlainPlaces.{left}
+use Rattle.rustc_parse_format.proofs.Sources.Moves.{front_gone, front_left, left_from, shorter}
+use Rattle.rustc_parse_format.proofs.source.anchor.Anchor.offset_by_look.Goals as goal
+
+pub character_at-next-requires-clause-within : goal.character_at-next-requires-clause-within
+character_at-next-requires-clause-within c =
+    (c.loop-at.invariant.here c.requires.here.0 c.requires.here.1).within
+
+pub character_at-next-requires-clause-valid : goal.character_at-next-requires-clause-valid
+character_at-next-requires-clause-valid c =
+    (c.loop-at.invariant.here c.requires.here.0 c.requires.here.1).valid
+
+pub new-requires : goal.new-requires
+new-requires c =
+    let w = c.requires.here.0 in
+    let here = c.loop-at.invariant.here w c.requires.here.1 in (
+      w,
+      rw c.behind_first.ensures.rest
+          (c.character_at-next.ensures.after w (chars c.loop-at.at.0.now) here),
+    )
+
+pub behind_unescaped-at-requires-in-loop-at : goal.behind_unescaped-at-requires-in-loop-at
+behind_unescaped-at-requires-in-loop-at c =
+    let text = c.loop-at.at.0.now in
+    let behind = c.behind_first.result.now in
+    let rest = c.args.rest.now in
+    let after = c.loop-at.invariant.after in
+    let l = left text rest after in
+    let front = front_left text behind rest (IsUtf8-from_is_utf8 text after.valid)
+    (IsUtf8-from_is_utf8 rest after.valid_rest)
+    c.behind_first.ensures.rest c.loop-at-test.true l.pre l.whole in
+    let w = c.requires.here.0 in
+    let here = c.loop-at.invariant.here w c.requires.here.1 in
+    record {
+      after = rw c.new.ensures.rest
+          (left_from behind rest front.0
+          (is_utf8-from_IsUtf8 behind c.behind_first.utf8) after.valid_rest front.1);
+      here = (
+        w,
+        c.new.ensures.anchor w
+            (rw c.behind_first.ensures.rest
+            (c.character_at-next.ensures.after w (chars text) here)),
+      );
+    }
+
+pub loop-at-smaller : goal.loop-at-smaller
+loop-at-smaller c =
+    let text = c.loop-at.at.0.now in
+    omega (
+      arith,
+      ap length c.new.ensures.rest,
+      c.behind_unescaped-at-in-loop-at.ensures.shorter,
+      shorter text c.behind_first.result.now c.args.rest.now
+          (IsUtf8-from_is_utf8 text c.loop-at.invariant.after.valid) c.behind_first.utf8
+          c.behind_first.ensures.rest c.loop-at-test.true,
+    )
+
+pub loop-at-preserved : goal.loop-at-preserved
+loop-at-preserved c = record {
+  after = c.behind_unescaped-at-in-loop-at.ensures.after;
+  here = λ w h. c.behind_unescaped-at-in-loop-at.ensures.here w (c.new.ensures.anchor w
+      (rw c.behind_first.ensures.rest
+      (c.character_at-next.ensures.after w (chars c.loop-at.at.0.now)
+      (c.loop-at.invariant.here w h))));
+}
+
+pub returns : goal.returns
+returns c w h =
+    let text = c.loop-at.at.0.now in
+    let rest = c.args.rest.now in
+    let after = c.loop-at.invariant.after in
+    let l = left text rest after in
+    rw (sym (front_gone text rest (IsUtf8-from_is_utf8 text after.valid)
+    (IsUtf8-from_is_utf8 rest after.valid_rest) c.loop-at-test.false
+    l.pre l.whole)) (c.loop-at.invariant.here w h)
