@@ -24,7 +24,7 @@ HERE = os.path.dirname(os.path.abspath(__file__))
 SECONDS = 60
 # How many inputs there are: one that is lost is a failure.
 CASES = 555
-# After a brace that closes nothing, reading goes on. No input of library.tsv is such a one.
+# After a brace that closes nothing, reading goes on. library.tsv does not have these two inputs.
 LONE = [("lone-brace", "format", b"}a"), ("lone-braces", "format", b"}}}a}")]
 
 # What is listed, the span that each such line has, and what follows.

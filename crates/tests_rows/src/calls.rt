@@ -18,7 +18,7 @@ fn check_names(rt: &impl Abort, alloc: Global, text: &str, wanted: &[&str]) -> R
 }
 
 #[test]
-fn the_example_of_the_readme_gives_names(rt: HostRuntime) -> Result<(), Fail> {
+fn the_example_for_callers_gives_names(rt: HostRuntime) -> Result<(), Fail> {
     check_names(&rt, rt.alloc(), "{a}{}{b:c$}{a:?} text", &["a", "b", "a"])?;
     assert!(rt; names(rt.alloc(), "{a")?.is_none(), "a fault");
     Ok(())

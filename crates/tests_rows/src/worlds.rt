@@ -167,7 +167,7 @@ fn mixed_inputs_are_read_the_same_from_each_literal(rt: HostRuntime) -> Result<(
     check_table(&rt, rt.alloc(), random_table(), mixed_rows::ROWS_COUNT)
 }
 
-/// After a brace that closes nothing, reading goes on. The tables have no such input.
+/// After a brace that closes nothing, reading goes on. The tables do not have these two inputs.
 #[test]
 fn lone_braces_are_read_the_same_from_each_literal(rt: HostRuntime) -> Result<(), Fail> {
     for text in ["}a", "}}}a}"] {
