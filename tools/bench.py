@@ -5,16 +5,17 @@
 A row is a kind of input, and a column a size. A number is the nanoseconds of processor time for
 each byte of the input, of the fastest of N runs, each of which walks over about 1 MiB, from a new
 parser to its first None. A walk over a literal copies its snippet, since a parser takes one.
-`growth` is the last column against the first. It is about 1 where the time grows as the input does,
-and some more where what a walk keeps leaves the caches; a time that grew as the square of the input
-would have 1024 here. From 4 on it is marked. A bar has one mark for each doubling of the time for a
-byte. Below come the report on placeholders and arguments, for each placeholder, and single walks
-over short strings.
+`growth` is the last column divided by the first. It is about 1 if the time grows as the input does,
+and more if what a walk keeps leaves the caches; a time that grew as the square of the input would
+have 1024 here. From 4 on it is marked. A bar has one mark for each doubling of the time for a byte.
+Below come the report on placeholders and arguments, for each placeholder, and single walks over
+short strings.
 
-With --short there are only the two smaller sizes. Words are the kinds to be timed. `walks.txt` is
-the program that is timed, in Rattle. It is proved and built by the first call, with the library
-below it, and kept in out/. The status is 0 if all was timed, and each input had the errors that its
-kind has, 2 for other words, and else 1; where it is interrupted, 128 and the signal's number."""
+With --short there are only the two smaller sizes. KIND is a kind to be timed; without one, all are.
+`walks.txt` is the program that is timed, in Rattle. It is proved and built by the first call, with
+the library below it, and kept in out/. The status is 0 if all was timed, and each input had the
+errors that its kind has, 2 for other arguments, and else 1; if interrupted, 128 and the signal's
+number."""
 
 import argparse
 import hashlib

@@ -5,11 +5,11 @@ that was done.
     build library    leaves it in out/, with what it needs of the kit and its C header, and prints
                      that folder
 
-The crates that it takes are proved by the kit's gate, in a copy of them alone. What the gate has
-proved on this machine is not proved again, here or by ./check. Standard error tells of each crate
-and of the time. Of two that are called at once the second waits, and finds it done. The status is 0
-if it was built, 1 if not, and 2 for other words; where it is interrupted, 128 and the signal's
-number, and what was built before stays as it was."""
+The gate of the kit (`rt ci`) proves the crates that are needed, in a copy of them alone. What was
+proved on this machine is not proved again, here or by ./check. Each crate that is done, and the
+time, are written to standard error. If there are two calls at once, the second waits for the first.
+The status is 0 if it was built, 1 if not, and 2 for other arguments; if interrupted, 128 and the
+signal's number. Until all is proved, what was built before stays as it was."""
 
 import fcntl
 import os

@@ -1,5 +1,5 @@
-"""What is there for the check alone, and is left out: clauses, ghost items and members, attributes
-for the prover, and values that take no bytes with what is done to them."""
+"""Leaves out what is there for the prover alone: clauses, ghost items and members, attributes for
+the prover, and values of no size with what is done to them."""
 import textwrap
 
 from extraction.rules import ATTRIBUTES, OPENED

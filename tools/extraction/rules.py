@@ -1,9 +1,8 @@
-"""The rules by which a source in Rattle becomes one in Rust: each leaves out what only the check
-reads, or writes a form anew that Rust has not. What no rule knows is refused by its name."""
+"""The rules by which a source in Rattle becomes one in Rust: each leaves out what only the prover
+reads, or rewrites a form that Rust does not have. What no rule knows is refused by its name."""
 from extraction.source import Import
 
-# What of the library may be named, and in whose place it stands. A path that is not here is
-# refused.
+# What of the library may be named, and what replaces it. A path that is not here is refused.
 LIBRARY = {
     "std::alloc": "crate::shim::alloc",
     "std::collections::BTreeSet": None,
@@ -14,8 +13,8 @@ LIBRARY = {
     "std::simd::prelude": "crate::shim::simd",
     "unicode_ident": "crate::shim::unicode_ident",
 }
-# Calls that are passed the allocator, or answer a refusal of memory. In Rust they are methods of
-# the shim's traits.
+# Calls that take the allocator, or return an allocation failure. In Rust they are methods of the
+# shim's traits.
 CONSTRUCTORS = {"new": "made_in", "with_capacity": "made_for", "from_str": "made_from"}
 METHODS = {
     "push": "try_push",

@@ -1,4 +1,4 @@
-"""A source as items: what stands in it, what each defines, and what each names."""
+"""A source as items: what it contains, what each item defines, and what each names."""
 from extraction.tokens import TRIVIA, Refused, closing, tokens_of
 
 KINDS = ("fn", "struct", "enum", "impl", "mod", "use", "const", "type", "ghost")

@@ -1,5 +1,5 @@
-"""The tokens of a source in Rattle. What only the check reads, a clause or what a ghost item says,
-is one token."""
+"""The tokens of a source in Rattle. What only the prover reads, a clause or the text of a ghost
+item, is one token."""
 import re
 
 TOKEN = re.compile(
