@@ -2,9 +2,7 @@
 //! reader and adds what that found to the fields.
 use crate::proved::rustc_parse_format::cursor::Cursor;
 use crate::proved::rustc_parse_format::error_list::empty_error;
-use crate::proved::rustc_parse_format::faults::Fault;
 use crate::proved::rustc_parse_format::messages::tell;
-use crate::proved::rustc_parse_format::placeholder::blank_argument;
 use crate::proved::rustc_parse_format::reader::Reader;
 use crate::proved::rustc_parse_format::source::{quote_offset, source_of};
 use crate::shim::alloc::{answer, Global};
@@ -112,7 +110,14 @@ impl<'input> Parser<'input> {
     fn add_errors(&mut self) {
         let (first, more) = self.reader.found.take(Global);
         for fault in first.into_iter().chain(more) {
-            add_error(&mut self.errors, fault);
+            let is_front = fault.is_front();
+            let mut error = empty_error(Global);
+            answer(tell(Global, &mut error, fault));
+            if is_front {
+                self.errors.insert(0, error);
+            } else {
+                self.errors.push(error);
+            }
         }
     }
 
@@ -134,26 +139,13 @@ impl<'input> Iterator for Parser<'input> {
         let reader = &mut self.reader;
         reader.curarg = self.curarg;
         reader.cursor.source.is_literal = self.is_source_literal;
-        if reader.cursor.opens_placeholder() {
-            let mut argument = Box::new(blank_argument());
-            answer(reader.placeholder(self.mode, &mut argument));
-            self.curarg = reader.curarg;
-            self.take_over();
-            return Some(Piece::NextArgument(argument));
-        }
         if reader.is_at_end() {
             self.end_line();
             return None;
         }
-        let text = answer(reader.text());
+        let piece = answer(reader.piece(Global, self.mode));
+        self.curarg = reader.curarg;
         self.take_over();
-        text.map(Piece::Lit)
+        piece
     }
-}
-
-/// Adds the error of a fault, which is written in place in the list.
-fn add_error(errors: &mut Vec<ParseError>, fault: Fault<'_>) {
-    let at = if fault.is_front() { 0 } else { errors.len() };
-    errors.insert(at, empty_error(Global));
-    answer(tell(Global, &mut errors[at], fault));
 }

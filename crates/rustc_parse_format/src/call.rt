@@ -2,9 +2,11 @@
 //! found.
 
 use crate::faults::Fault;
+use crate::laws::default_of_spec;
+use crate::placeholder::blank_argument;
 use crate::reader::Reader;
-use crate::types::{Argument, ParseMode};
-use std::alloc::AllocError;
+use crate::types::{Argument, ParseMode, Piece, Taken};
+use std::alloc::{AllocError, Global};
 use std::ops::Range;
 
 impl<'input> Reader<'input> {
@@ -16,7 +18,8 @@ impl<'input> Reader<'input> {
     ghost use Rattle.rustc_parse_format.specs.Faults.{brace_fill, no_brace};
     ghost use Rattle.rustc_parse_format.specs.Marks.{End, Span, over_first, up_to};
     ghost use Rattle.rustc_parse_format.specs.Reads.{Reaches};
-    ghost use Rattle.rustc_parse_format.specs.Seen.{pair, seen_argument, seen_mode, seen_spec};
+    ghost use Rattle.rustc_parse_format.specs.Seen.{pair, seen, seen_argument, seen_mode};
+    ghost use Rattle.rustc_parse_format.specs.Seen.{seen_spec, seen_taken};
     ghost use Rattle.rustc_parse_format.specs.Midway.{FindsNothing, behind_closing};
     ghost use Rattle.rustc_parse_format.specs.Midway.{opens_placeholder, read_call};
     ghost use Rattle.rustc_parse_format.specs.Types.{Argument as ArgumentValue, Mode, Lit};
@@ -137,7 +140,7 @@ impl<'input> Reader<'input> {
             let text = self.string()?;
             return Ok(Some(text));
         }
-        if c == '{' || self.cursor.is_ahead(c) {
+        if c == '{' || self.cursor.is_ahead('}') {
             self.cursor.skip_char();
             let text = self.string_past_brace()?;
             return Ok(Some(text));
@@ -145,5 +148,62 @@ impl<'input> Reader<'input> {
         let span = self.cursor.consume_place();
         self.note(Fault::UnmatchedBrace(span))?;
         Ok(None)
+    }
+
+    /// Reads the next piece: a placeholder, whose argument is allocated first, or text. Returns
+    /// `None` at the end of the input and after a closing brace that closes nothing. Returns `Err`
+    /// if an allocation fails.
+    #[inline(always)]
+    pub fn piece(
+        &mut self,
+        alloc: Global,
+        mode: ParseMode,
+    ) -> Result<Option<Piece<'input>>, AllocError>
+        requires numbers { self.old.next + length self.old.rest < 2 ^ 64 }
+        ensures piece { IfOk result (λ p. option_map seen p
+            ≡ option_map (piece_in self.old.world)
+            (call (seen_mode mode) self.old.next self.old.rest).piece) }
+        ensures reads { let k = call (seen_mode mode) self.old.next self.old.rest in
+            Reaches self.old result self.new (read_call self.old k)
+            (FindsNothing self.old k.faults k.texts × (opens_placeholder self.old.rest ≡ false)) }
+    {
+        if self.cursor.opens_placeholder() {
+            let mut argument = Box::new(alloc, blank_argument())?;
+            self.placeholder(mode, &mut argument)?;
+            return Ok(Some(Piece::NextArgument(argument)));
+        }
+        let text = self.text()?;
+        match text {
+            Some(text) => Ok(Some(Piece::Lit(text))),
+            None => Ok(None),
+        }
+    }
+
+    /// Reads the next piece, a placeholder into `into`. Returns `None` at the end of the input and
+    /// after a closing brace that closes nothing. Returns `Err` if an allocation fails.
+    #[inline(always)]
+    pub fn taken(
+        &mut self,
+        mode: ParseMode,
+        into: &mut Argument<'input>,
+    ) -> Result<Option<Taken<'input>>, AllocError>
+        requires numbers { self.old.next + length self.old.rest < 2 ^ 64 }
+        ensures piece { IfOk result (λ p. option_map (seen_taken into.new) p
+            ≡ option_map (piece_in self.old.world)
+            (call (seen_mode mode) self.old.next self.old.rest).piece) }
+        ensures reads { let k = call (seen_mode mode) self.old.next self.old.rest in
+            Reaches self.old result self.new (read_call self.old k)
+            (FindsNothing self.old k.faults k.texts) }
+    {
+        if self.cursor.opens_placeholder() {
+            into.format = default_of_spec();
+            self.placeholder(mode, into)?;
+            return Ok(Some(Taken::NextArgument));
+        }
+        let text = self.text()?;
+        match text {
+            Some(text) => Ok(Some(Taken::Lit(text))),
+            None => Ok(None),
+        }
     }
 }

@@ -5,8 +5,8 @@ ghost use Rattle.std.specs.Char.{digit_value, is_ascii_digit, is_whitespace};
 ghost use Rattle.std.specs.Prelude.{◌%◌, ◌*◌, ◌++◌, ◌+◌, ◌<◌, ◌≡◌, bytes_eq, chars, codes, IsTrue};
 ghost use Rattle.std.specs.Prelude.{List, nat_lt, ℕ};
 ghost use Rattle.rustc_parse_format.specs.Bytes.{IsFront, IsLeft, IsOfAscii};
-ghost use Rattle.rustc_parse_format.specs.Characters.{behind, behind_first, first, first_passes};
-ghost use Rattle.rustc_parse_format.specs.Characters.{is_id_start, Text};
+ghost use Rattle.rustc_parse_format.specs.Characters.{begins_with, behind, behind_first, first};
+ghost use Rattle.rustc_parse_format.specs.Characters.{first_passes, is_id_start, Text};
 ghost use Rattle.rustc_parse_format.specs.Classes.{passes};
 
 use crate::blocks::calm_front;
@@ -52,6 +52,27 @@ pub fn first(text: &str) -> Option<char>
     ensures { result ≡ first (chars text.now) }
 {
     text.chars().next()
+}
+
+/// Returns whether the first character is `c`, which is ASCII, so that the first byte shows it.
+#[tactic(auto, using(crate::proofs::Bytes::ByteFronts::begins_byte))]
+#[inline(always)]
+pub fn begins(text: &str, c: char) -> bool
+    requires { c < 128 }
+    ensures { result ≡ begins_with c (chars text.now) }
+{
+    let bytes = text.as_bytes();
+    !bytes.is_empty() && bytes[0] == c as u8
+}
+
+/// Returns whether the first character is an ASCII digit.
+#[tactic(auto, using(crate::proofs::Bytes::ByteFronts::first_byte))]
+#[inline(always)]
+pub fn begins_digit(text: &str) -> bool
+    ensures { result ≡ first_passes is_ascii_digit (chars text.now) }
+{
+    let bytes = text.as_bytes();
+    !bytes.is_empty() && bytes[0].is_ascii_digit()
 }
 
 /// Returns what is left after the first character, or an empty text if there is none.

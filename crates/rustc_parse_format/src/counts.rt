@@ -35,47 +35,28 @@ impl<'input> Reader<'input> {
         ensures reads { ReadsTo self.old result self.new (behind_digits self.old.rest) self.old.next
             (number_faults self.old.rest) [] }
     {
-        let start = self.cursor.start();
+        let from = self.cursor.checkpoint();
         let (digits, number, over) = self.cursor.consume_digits();
-        if !over {
-            return Ok(number);
+        if over {
+            let span = self.cursor.start_of(&from)..self.cursor.stop();
+            self.note(Fault::TooLarge(digits, span))?;
         }
-        let fault = Fault::TooLarge(digits, start..self.cursor.stop());
-        self.note(fault)?;
         Ok(number)
     }
 
-    /// Reads the word at the cursor, which may be empty. The word `_` is a fault, so the byte
-    /// offset of its start is computed first. Returns `Err` if an allocation fails.
-    #[inline(never)]
-    pub fn any_word(&mut self) -> Result<&'input str, AllocError>
-        ensures value { IfOk result (λ w. chars w.now ≡ word self.old.rest) }
-        ensures reads { ReadsTo self.old result self.new (behind_word self.old.rest) self.old.next
-            (word_faults self.old.rest) [] }
-    {
-        let start = self.cursor.start();
-        let word = self.cursor.word();
-        if !is_underscore(word) {
-            return Ok(word);
-        }
-        let span = start..self.cursor.start();
-        self.note(Fault::Underscore(span))?;
-        Ok(word)
-    }
-
-    /// Reads the word at the cursor, which is not empty. The word `_` is a fault. Returns `Err` if
+    /// Reads the word at the cursor, which may be empty. The word `_` is a fault. Returns `Err` if
     /// an allocation fails.
-    #[tactic(auto, using(crate::proofs::Readers::WordFronts::words_at_front, crate::proofs::Readers::Parts::read_nothing))]
     pub fn word(&mut self) -> Result<&'input str, AllocError>
-        requires { first_passes is_id_start self.old.rest ≡ true }
         ensures value { IfOk result (λ w. chars w.now ≡ word self.old.rest) }
         ensures reads { ReadsTo self.old result self.new (behind_word self.old.rest) self.old.next
             (word_faults self.old.rest) [] }
     {
-        if self.cursor.is_next('_') {
-            return self.any_word();
-        }
+        let from = self.cursor.checkpoint();
         let word = self.cursor.word();
+        if is_underscore(word) {
+            let span = self.cursor.start_of(&from)..self.cursor.start();
+            self.note(Fault::Underscore(span))?;
+        }
         Ok(word)
     }
 

@@ -3,7 +3,7 @@
 mod steps;
 mod words;
 
-use crate::characters::{before, behind_first, first, is_id_start};
+use crate::characters::{before, begins, begins_digit, behind_first, first, is_id_start};
 use crate::source::{Anchor, Source, first_anchor};
 use std::marker::Model;
 use std::ops::Range;
@@ -198,6 +198,15 @@ impl<'input> Cursor<'input> {
         self.source.start(self.rest, &self.anchor)
     }
 
+    /// Returns the byte offset in the source at which the character after `from` starts.
+    #[inline(always)]
+    pub fn start_of(&self, from: &Checkpoint<'input>) -> usize
+        requires { IsAnchored self.now.source from.now.rest.now from.now.anchor }
+        ensures { result ≡ number_of self.now.world (Start (length (chars from.now.rest.now))) }
+    {
+        self.source.start(from.rest, &from.anchor)
+    }
+
     /// Returns whether the next character `c` is past the indentation of a line that starts at the
     /// byte offset `byte`: it starts after that, or it starts there and is not white space.
     #[inline(always)]
@@ -266,15 +275,17 @@ impl<'input> Cursor<'input> {
         self.source.input.len() - self.rest.len()
     }
 
-    /// Returns whether the next character is `c`.
+    /// Returns whether the next character is `c`, which is ASCII.
     pub fn is_next(&self, c: char) -> bool
+        requires { c < 128 }
         ensures { result ≡ begins_with c self.now.rest }
     {
-        self.peek() == Some(c)
+        begins(self.rest, c)
     }
 
-    /// Moves past the next character if it is `c`. Returns whether it is.
+    /// Moves past the next character if it is `c`, which is ASCII. Returns whether it is.
     pub fn consume(&mut self, c: char) -> bool
+        requires { c < 128 }
         ensures value { result ≡ begins_with c self.old.rest }
         ensures rest { self.new ≡ record self.old {
           rest = if begins_with c self.old.rest then behind_first self.old.rest else self.old.rest;
@@ -287,11 +298,12 @@ impl<'input> Cursor<'input> {
         is_there
     }
 
-    /// Returns whether the character after the next one is `c`.
+    /// Returns whether the character after the next one is `c`, which is ASCII.
     pub fn is_ahead(&self, c: char) -> bool
+        requires { c < 128 }
         ensures { result ≡ begins_with c (behind_first self.now.rest) }
     {
-        self.peek_ahead() == Some(c)
+        begins(behind_first(self.rest), c)
     }
 
     /// Returns whether a placeholder opens here: the next character is an opening brace, and the
@@ -307,7 +319,7 @@ impl<'input> Cursor<'input> {
     pub fn is_digit_next(&self) -> bool
         ensures { result ≡ first_passes is_ascii_digit self.now.rest }
     {
-        self.peek().is_some_and(|c| c.is_ascii_digit())
+        begins_digit(self.rest)
     }
 
     /// Returns whether the next character can begin a word.

@@ -21,7 +21,9 @@ fn expected_brace(alloc: Global, found: Option<char>) -> Result<String, AllocErr
     let Some(c) = found else {
         return String::from_str(alloc, "expected `}` but string was terminated");
     };
-    let mut text = String::from_str(alloc, "expected `}`, found `")?;
+    // 21 bytes, at most 6 for the character, and the closing quote
+    let mut text = String::with_capacity(alloc, 28)?;
+    text.push_str("expected `}`, found `")?;
     put_written(&mut text, c)?;
     text.push('`')?;
     Ok(text)

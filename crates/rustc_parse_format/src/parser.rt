@@ -3,7 +3,6 @@
 mod step;
 
 use crate::cursor::Cursor;
-use crate::laws::default_of_spec;
 use crate::lists::Lists;
 use crate::reader::Reader;
 use crate::source::{quote_offset, source_of};
@@ -256,16 +255,20 @@ impl<'input> Parser<'input> {
         ensures spare { AddsNothing self.old (next_call self.old) → IsOk result }
         ensures few { AreFew self.new.input self.new.rest self.new.back }
     {
-        if self.reader.cursor.opens_placeholder() {
-            argument.format = default_of_spec();
-            let fronts = self.step_into(argument)?;
-            return Ok((Some(Taken::NextArgument), fronts));
+        self.steps_are_few();
+        if self.reader.is_at_end() {
+            self.end_line()?;
+            return Ok((None, 0));
         }
-        let (text, fronts) = self.step_text()?;
-        match text {
-            Some(text) => Ok((Some(Taken::Lit(text)), fronts)),
-            None => Ok((None, fronts)),
+        let start = self.reader.call_start();
+        if let Ok(taken) = self.reader.taken(self.mode, argument) {
+            if let Ok(fronts) = self.lists.take_over(self.alloc, &mut self.reader) {
+                self.steps_are_few();
+                return Ok((taken, fronts));
+            }
         }
+        self.reader.rewind(self.alloc, start);
+        Err(AllocError)
     }
 
     /// Returns the next character with its place in the source (a byte range) and its byte offset

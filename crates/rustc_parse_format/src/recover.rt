@@ -93,7 +93,7 @@ impl<'input> Reader<'input> {
         if !self.cursor.consume(':') {
             return Ok(());
         }
-        let word = self.any_word()?;
+        let word = self.word()?;
         self.note(Fault::LateDebug(word, span))
     }
 

@@ -20,6 +20,18 @@ pub fn answer<T>(result: Result<T, AllocError>) -> T {
     }
 }
 
+/// The method of `Box` that takes an allocator and may return an allocation failure.
+pub trait BoxIn<T>: Sized {
+    fn made_in(alloc: Global, value: T) -> Result<Self, AllocError>;
+}
+
+impl<T> BoxIn<T> for Box<T> {
+    #[inline(always)]
+    fn made_in(_: Global, value: T) -> Result<Box<T>, AllocError> {
+        Ok(Box::new(value))
+    }
+}
+
 /// The methods of `Vec` that take or keep an allocator, or return an allocation failure.
 pub trait VecIn<T>: Sized {
     fn made_in(alloc: Global) -> Self;
@@ -66,6 +78,7 @@ impl<T: Ord> SetIn<T> for BTreeSet<T> {
 /// The methods of `String` that take or keep an allocator, or return an allocation failure.
 pub trait StringIn: Sized {
     fn made_in(alloc: Global) -> Self;
+    fn made_for(alloc: Global, room: usize) -> Result<Self, AllocError>;
     fn made_from(alloc: Global, text: &str) -> Result<Self, AllocError>;
     fn try_push(&mut self, c: char) -> Result<(), AllocError>;
     fn try_push_str(&mut self, text: &str) -> Result<(), AllocError>;
@@ -76,6 +89,11 @@ impl StringIn for String {
     #[inline(always)]
     fn made_in(_: Global) -> String {
         String::new()
+    }
+
+    #[inline(always)]
+    fn made_for(_: Global, room: usize) -> Result<String, AllocError> {
+        Ok(String::with_capacity(room))
     }
 
     #[inline(always)]

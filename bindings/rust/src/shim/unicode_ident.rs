@@ -9,11 +9,18 @@ fn is_within(bounds: &[u32], c: char) -> bool {
     bounds.partition_point(|&bound| bound <= u32::from(c)) % 2 == 1
 }
 
+/// Returns whether a byte is an ASCII letter. Most characters of identifiers are, so it is the first
+/// test for them.
+#[inline(always)]
+fn is_letter(byte: u8) -> bool {
+    (byte | 0x20).is_ascii_lowercase()
+}
+
 /// Returns whether a character is in `XID_Start`.
 #[inline]
 pub fn is_xid_start(c: char) -> bool {
     if c.is_ascii() {
-        return c.is_ascii_alphabetic();
+        return is_letter(c as u8);
     }
     is_within(&START, c)
 }
@@ -22,7 +29,7 @@ pub fn is_xid_start(c: char) -> bool {
 #[inline]
 pub fn is_xid_continue(c: char) -> bool {
     if c.is_ascii() {
-        return c.is_ascii_alphanumeric() || c == '_';
+        return is_letter(c as u8) || c.is_ascii_digit() || c == '_';
     }
     is_within(&CONTINUE, c)
 }

@@ -4,7 +4,7 @@ use Rattle.std.proofs.Common.{◌≡◌, ◌++◌, ◌+◌, ◌-◌, ◌<◌, �
 use Rattle.std.proofs.Common.{inl, inr, length, chars, IsUtf8, IsCharBoundary}
 use Rattle.std.proofs.Common.{take, drop, get_or}
 use Rattle.std.proofs.Common.{refl, ap, sym, subst, ◌∙◌, arith}
-use Rattle.std.specs.Prelude.{encode_utf8, ◌⊎◌, ◌&&◌, not, nat_lt}
+use Rattle.std.specs.Prelude.{encode_utf8, ◌⊎◌, ◌&&◌, ◌==◌, not, nat_lt}
 use Rattle.std.specs.Char.{is_whitespace}
 use Rattle.std.proofs.lemmas.Bool.Decides.{nat_tests}
 use Rattle.std.specs.List.{list_all}
@@ -17,7 +17,7 @@ use Rattle.std.proofs.lemmas.Str.{IsUtf8-from_is_utf8, is_utf8-from_IsUtf8}
 use Rattle.std.proofs.lemmas.Str.{IsCharBoundary-end, IsCharBoundary-before_ascii}
 use Rattle.std.proofs.lemmas.Str.{IsCharBoundary-from_take}
 use Rattle.std.proofs.Math.Utf8.{encodes}
-use Rattle.rustc_parse_format.specs.Characters.{Text, behind, first_passes}
+use Rattle.rustc_parse_format.specs.Characters.{Text, begins_with, behind, first_passes}
 use Rattle.rustc_parse_format.specs.Bytes.{IsFront, IsLeft, IsOfAscii, IsSharedFront}
 use Rattle.rustc_parse_format.proofs.Grammar.Fronts.{behind-append}
 
@@ -162,3 +162,37 @@ no_white (b ∷ s) u low high =
     by_chars : (t : Text) → first_passes is_bright t ≡ false → first_passes is_whitespace t ≡ false
     by_chars [] e = refl
     by_chars (c ∷ t) e = bright_white c e
+
+-- If a test passes ASCII alone, the first byte of a text shows whether its first character passes.
+pub first_byte : (p : ℕ → Bool) → ((c : ℕ) → 128 ≤ c → p c ≡ false) → (s : List ℕ) → IsUtf8 s
+    → first_passes p (chars s) ≡ first_passes p s
+first_byte p a [] u = ap (first_passes p) chars-nil
+first_byte p a (b ∷ s) u = at (cases_lt b 128)
+  where
+    past : (x : ℕ) (t : Text) → encodes (x ∷ t) ≡ b ∷ s → 128 ≤ b
+        → (x < 128) ⊎ (128 ≤ x) → p x ≡ false
+    past x t e big (inl small) =
+        let h : x ≡ b =
+        ap (λ l. get_or l 0 0) (ap (λ f. f ++ encodes t) (sym (encode_ascii x small)) ∙ e) in
+        absurd (omega arith)
+    past x t e big (inr wide) = a x wide
+
+    first_of : (t : Text) → encodes t ≡ b ∷ s → 128 ≤ b → first_passes p t ≡ false
+    first_of [] e big = refl
+    first_of (x ∷ t) e big = past x t e big (cases_lt x 128)
+
+    at : (b < 128) ⊎ (128 ≤ b) → first_passes p (chars (b ∷ s)) ≡ p b
+    at (inl small) = ap (first_passes p)
+        (chars_past_char (b ∷ s) s b u (ap (λ t. t ++ s) (sym (encode_ascii b small))))
+    at (inr big) = first_of (chars (b ∷ s)) (encodes-chars (b ∷ s) u) big ∙ sym (a b big)
+
+pub begins_byte : (c : ℕ) (s : List ℕ) → c < 128 → IsUtf8 s
+    → begins_with c (chars s) ≡ begins_with c s
+begins_byte c [] small u = ap (begins_with c) chars-nil
+begins_byte c (b ∷ s) small u =
+    by_first (chars (b ∷ s))
+    (first_byte (λ d. d == c) (λ d big. grind (arith, nat_tests)) (b ∷ s) u)
+  where
+    by_first : (t : Text) → first_passes (λ d. d == c) t ≡ (b == c) → begins_with c t ≡ (b == c)
+    by_first [] e = e
+    by_first (d ∷ t) e = e

@@ -260,6 +260,13 @@ pub opens-takes : (mode : Mode) (c : ℕ) (t : Text) → opens_placeholder t ≡
 opens-takes mode c t e k = placeholder_boxed mode c t (behind_first t)
     (rw (call_opens mode c t e) at k.0)
 
+pub needs_text : (s : State) → NeedsNoMemory s (next_call s) → opens_placeholder s.rest ≡ false
+needs_text s n = by_test (opens_placeholder s.rest) refl
+  where
+    by_test : (b : Bool) → opens_placeholder s.rest ≡ b → b ≡ false
+    by_test true e = absurd (opens-takes s.mode s.next s.rest e n.0)
+    by_test false e = refl
+
 pub opens-some : (t : Text) → opens_placeholder t ≡ true → t ≢ []
 opens-some [] e n = absurd (false≢true e)
 opens-some (b ∷ t) e n = cc n

@@ -58,8 +58,7 @@ impl<'input> Cursor<'input> {
         self.skip_while(Class::White);
     }
 
-    /// Reads the word at the cursor, which may be empty. Moves the anchor to its end, because the
-    /// byte offset of that is asked for next.
+    /// Reads the word at the cursor, which may be empty.
     #[tactic(auto, unfolding(crate::specs::Characters::word, crate::specs::Characters::behind_word))]
     pub fn word(&mut self) -> &'input str
         ensures value { chars result.now ≡ word self.old.rest }
@@ -71,7 +70,6 @@ impl<'input> Cursor<'input> {
         let from = self.checkpoint();
         self.skip_char();
         self.skip_while(Class::Continue);
-        self.move_anchor();
         self.since(&from)
     }
 

@@ -7,9 +7,11 @@
 // (tools/agree) give the same over it.
 
 use crate::proved::rustc_parse_format::faults::Fault;
+use crate::proved::rustc_parse_format::placeholder::blank_argument;
 use crate::proved::rustc_parse_format::reader::Reader;
-use crate::proved::rustc_parse_format::types::{Argument, ParseMode};
-use crate::shim::alloc::AllocError;
+use crate::proved::rustc_parse_format::types::{Argument, ParseMode, Piece};
+use crate::shim::alloc::{AllocError, Global};
+use crate::shim::prelude::*;
 use std::ops::Range;
 
 impl<'input> Reader<'input> {
@@ -124,7 +126,7 @@ impl<'input> Reader<'input> {
             let text = self.string()?;
             return Ok(Some(text));
         }
-        if c == '{' || self.cursor.is_ahead(c) {
+        if c == '{' || self.cursor.is_ahead('}') {
             self.cursor.skip_char();
             let text = self.string_past_brace()?;
             return Ok(Some(text));
@@ -132,5 +134,33 @@ impl<'input> Reader<'input> {
         let span = self.cursor.consume_place();
         self.note(Fault::UnmatchedBrace(span))?;
         Ok(None)
+    }
+
+    /// Reads the next piece: a placeholder, whose argument is allocated first, or text. Returns
+    /// `None` at the end of the input and after a closing brace that closes nothing. Returns `Err`
+    /// if an allocation fails.
+    // requires numbers { self.old.next + length self.old.rest < 2 ^ 64 }
+    // ensures piece { IfOk result (λ p. option_map seen p
+    //     ≡ option_map (piece_in self.old.world)
+    //     (call (seen_mode mode) self.old.next self.old.rest).piece) }
+    // ensures reads { let k = call (seen_mode mode) self.old.next self.old.rest in
+    //     Reaches self.old result self.new (read_call self.old k)
+    //     (FindsNothing self.old k.faults k.texts × (opens_placeholder self.old.rest ≡ false)) }
+    #[inline(always)]
+    pub fn piece(
+        &mut self,
+        alloc: Global,
+        mode: ParseMode,
+    ) -> Result<Option<Piece<'input>>, AllocError> {
+        if self.cursor.opens_placeholder() {
+            let mut argument = Box::made_in(alloc, blank_argument())?;
+            self.placeholder(mode, &mut argument)?;
+            return Ok(Some(Piece::NextArgument(argument)));
+        }
+        let text = self.text()?;
+        match text {
+            Some(text) => Ok(Some(Piece::Lit(text))),
+            None => Ok(None),
+        }
     }
 }

@@ -48,6 +48,23 @@ pub fn first(text: &str) -> Option<char> {
     text.chars().next()
 }
 
+/// Returns whether the first character is `c`, which is ASCII, so that the first byte shows it.
+// requires { c < 128 }
+// ensures { result ≡ begins_with c (chars text.now) }
+#[inline(always)]
+pub fn begins(text: &str, c: char) -> bool {
+    let bytes = text.as_bytes();
+    !bytes.is_empty() && bytes[0] == c as u8
+}
+
+/// Returns whether the first character is an ASCII digit.
+// ensures { result ≡ first_passes is_ascii_digit (chars text.now) }
+#[inline(always)]
+pub fn begins_digit(text: &str) -> bool {
+    let bytes = text.as_bytes();
+    !bytes.is_empty() && bytes[0].is_ascii_digit()
+}
+
 /// Returns what is left after the first character, or an empty text if there is none.
 // ensures rest { chars result.now ≡ behind_first (chars text.now) }
 // ensures left { (input : List ℕ) → IsLeft input text.now → IsLeft input result.now }

@@ -20,7 +20,9 @@ fn expected_brace(alloc: Global, found: Option<char>) -> Result<String, AllocErr
     let Some(c) = found else {
         return String::made_from(alloc, "expected `}` but string was terminated");
     };
-    let mut text = String::made_from(alloc, "expected `}`, found `")?;
+    // 21 bytes, at most 6 for the character, and the closing quote
+    let mut text = String::made_for(alloc, 28)?;
+    text.try_push_str("expected `}`, found `")?;
     put_written(&mut text, c)?;
     text.try_push('`')?;
     Ok(text)

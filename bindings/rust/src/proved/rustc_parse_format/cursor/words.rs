@@ -52,8 +52,7 @@ impl<'input> Cursor<'input> {
         self.skip_while(Class::White);
     }
 
-    /// Reads the word at the cursor, which may be empty. Moves the anchor to its end, because the
-    /// byte offset of that is asked for next.
+    /// Reads the word at the cursor, which may be empty.
     // ensures value { chars result.now ≡ word self.old.rest }
     // ensures rest { self.new ≡ record self.old { rest = behind_word self.old.rest } }
     #[inline]
@@ -64,7 +63,6 @@ impl<'input> Cursor<'input> {
         let from = self.checkpoint();
         self.skip_char();
         self.skip_while(Class::Continue);
-        self.move_anchor();
         self.since(&from)
     }
 

@@ -10,12 +10,12 @@ use Rattle.rustc_parse_format.proofs.cursor.Cursor.word.Goals.{After-from-1}
 -- The word, and what is left after it.
 whole : (c : After-from-1)
     → ◌≡◌ {A = Text} (chars c.checkpoint-from.result.rest.now)
-    (word c.args.self.now.rest ++ c.move_anchor.new.self.rest)
+    (word c.args.self.now.rest ++ c.skip_while.new.self.rest)
 whole c =
     let t = c.args.self.now.rest in
     let starts : first_passes is_id_start t ≡ true = search rules in
-    let left : ◌≡◌ {A = Text} c.move_anchor.new.self.rest (behind_word t) =
-    ap (λ (u : Unread). u.rest) (c.move_anchor.ensures ∙ c.skip_while.ensures.rest)
+    let left : ◌≡◌ {A = Text} c.skip_while.new.self.rest (behind_word t) =
+    ap (λ (u : Unread). u.rest) c.skip_while.ensures.rest
     ∙ (ap (λ (u : Unread). behind is_id_continue u.rest) c.skip_char.ensures.rest
     ∙ sym (behind_word-some t starts)) in
     sym (ap (λ (u : Unread). u.rest) c.checkpoint-from.ensures.at)

@@ -11,9 +11,9 @@ use Rattle.rustc_parse_format.proofs.Walking.Progress.{call_next-le}
 use Rattle.rustc_parse_format.proofs.Walking.ParserLaws.{count_of_fronts}
 use Rattle.rustc_parse_format.proofs.Lines.StateLines.{at_end, end_faults, finds_nothing}
 use Rattle.rustc_parse_format.proofs.Lines.StateLines.{nothing_found}
-use Rattle.rustc_parse_format.proofs.parser.Parser.step_text.Goals as goal
-use Rattle.rustc_parse_format.proofs.parser.Parser.step_text.Goals.{in-Ok+in_default-take_over}
-use Rattle.rustc_parse_format.proofs.parser.Parser.step_text.Goals.{in_default}
+use Rattle.rustc_parse_format.proofs.parser.Parser.next_into.Goals as goal
+use Rattle.rustc_parse_format.proofs.parser.Parser.next_into.Goals.{in-Ok+in_default-take_over}
+use Rattle.rustc_parse_format.proofs.parser.Parser.next_into.Goals.{in_default}
 
 pub returns-then-is_at_end-clause-piece : goal.returns-then-is_at_end-clause-piece
 returns-then-is_at_end-clause-piece c =
@@ -37,10 +37,10 @@ pub returns-in-Ok-take_over-clause-fronts : goal.returns-in-Ok-take_over-clause-
 returns-in-Ok-take_over-clause-fronts c =
     let r = c.self.inside.reader in
     let s = c.args.self.now in
-    let read : ◌≡◌ {A = Midway} c.text.new.self (read_call r (next_call s)) =
-    c.in-Ok.ensures.state (seen_mode c.self.inside.mode)
+    let read : ◌≡◌ {A = Midway} c.taken.new.self (read_call r (next_call s)) =
+    c.in-Ok.ensures.reads.state
     ∙ ap (λ (x : State). read_call r (next_call x)) c.self.view_is in
-    let found : c.text.new.self.faults ≡ faults_in s.world (next_call s).faults =
+    let found : c.taken.new.self.faults ≡ faults_in s.world (next_call s).faults =
     ap (λ (m : Midway). m.faults) read
     ∙ ap (λ (fs : List (Fault Place)). fs
     ++ faults_in r.world (next_call s).faults) c.self.invariant.1.0
@@ -56,16 +56,16 @@ returns-clause-spare c n =
     let some : s.rest ≢ [] = subst (λ (x : State). x.rest ≢ []) c.self.view_is left in
     let same = ap (λ (x : State). x.world) c.self.view_is in
     let start = ap (λ (x : State). x.line_start) c.self.view_is in
-    elim c.match-text.branch [
+    elim c.match-taken.branch [
       | in-Ok+in_default-take_over w ↦
-          let read : ◌≡◌ {A = Midway} c.text.new.self (read_call r (next_call s)) =
-          w.in-Ok.ensures.state (seen_mode c.self.inside.mode)
+          let read : ◌≡◌ {A = Midway} c.taken.new.self (read_call r (next_call s)) =
+          w.in-Ok.ensures.reads.state
           ∙ ap (λ (x : State). read_call r (next_call x)) c.self.view_is in
           w.in_default-take_over.ensures.none
           (subst HasFoundNothing (sym read)
           (nothing_found s r (next_call s) some c.self.invariant.1 same start n))
       | in_default w ↦
-          w.in_default.ensures.spare (seen_mode c.self.inside.mode)
+          w.in_default.ensures.reads.spare
           (subst (λ (x : State). FindsNothing r (next_call x).faults (next_call x).texts)
           (sym c.self.view_is)
           (finds_nothing s r (next_call s) some same start n))
@@ -78,6 +78,6 @@ invariant_of-self c =
     c.self.inside.reader.rest in
     let fits = c.self.invariant.0 in
     let taken : ◌≡◌ {A = Midway} c.take_over.new.reader
-    (record c.text.new.self { faults = []; lines = []; closed = None }) = search rules in
-    rw (taken, c.in-Ok.ensures.state (seen_mode c.self.inside.mode))
+    (record c.taken.new.self { faults = []; lines = []; closed = None }) = search rules in
+    rw (taken, c.in-Ok.ensures.reads.state)
     (omega arith, (refl, refl, refl))
