@@ -49,10 +49,14 @@ TEXTS = [
     ("{:?}", "", "{:?}", "", 0),
     ("{name} ", "", "{name} ", "", 0),
     ("{name:>8.3} ", "", "{name:>8.3} ", "", 0),
+    ("{a:w$.p$}", "", "{a:w$.p$}", "", 0),
+    ("{größe} ", "", "{größe} ", "", 0),
     ("{:*^+#08.prec$x?}", "", "{:*^+#08.prec$x?}", "", 0),
     ("one long name", "{", "n", "}", 0),
     ("a fault each", "", "{_} ", "", 1),
     ("a fault in front each", "", "{r#name} ", "", 1),
+    ("a field each", "", "{a.b} ", "", 2),
+    ("a large number each", "", "{99999} ", "", 1),
 ]
 LITERALS = [
     ("literal, bare", '"', "no escape at all ", '"', 0),
@@ -66,6 +70,16 @@ LITERALS = [
 REPORTS = [("numbers, all given", "{}"), ("one name", "{name}"), ("names, all missing", "{n%06d}")]
 STRINGS = [
     "",
+    "}",
+    "{",
+    "{a,}",
+    "{a?}",
+    "{a+}",
+    "{a<}",
+    "{a=}",
+    "{:?#}",
+    "{x}\n",
+    "{a:w$.p$}",
     "hi {name}{}",
     "{}: {}",
     "could not open {path:?}: {error}",
@@ -218,7 +232,8 @@ def show_reports(runs):
 def show_strings(runs):
     print("\nns for each walk over a short string, alone and as an ordinary literal")
     for text in STRINGS:
-        literal = '"' + text.replace("\\", "\\\\").replace('"', '\\"') + '"'
+        written = text.replace("\\", "\\\\").replace('"', '\\"').replace("\n", "\\n")
+        literal = f'"{written}"'
         alone = timed("text", text, 20000, runs)[3]
         inside = timed("literal", literal, 20000, runs)[3]
         print(f"{alone:9.0f}{inside:9.0f}  {text}")
