@@ -3,10 +3,12 @@
 
 ghost use Rattle.std.specs.Char.{digit_value, is_ascii_digit, is_whitespace};
 ghost use Rattle.std.specs.Prelude.{◌%◌, ◌*◌, ◌++◌, ◌+◌, ◌<◌, ◌≡◌, bytes_eq, chars, codes, IsTrue};
-ghost use Rattle.std.specs.Prelude.{List, nat_lt, ℕ};
+ghost use Rattle.std.specs.Prelude.{List, nat_lt, true, ℕ};
 ghost use Rattle.rustc_parse_format.specs.Bytes.{IsFront, IsLeft, IsOfAscii};
-ghost use Rattle.rustc_parse_format.specs.Characters.{begins_with, behind, behind_first, first};
-ghost use Rattle.rustc_parse_format.specs.Characters.{first_passes, is_id_start, Text};
+ghost use Rattle.rustc_parse_format.specs.Characters.{Text, begins_with, behind, behind_digits};
+ghost use Rattle.rustc_parse_format.specs.Characters.{behind_first, behind_word, digits, first};
+ghost use Rattle.rustc_parse_format.specs.Characters.{first_passes};
+ghost use Rattle.rustc_parse_format.specs.Characters.{is_id_start, is_over, number};
 ghost use Rattle.rustc_parse_format.specs.Classes.{passes};
 
 use crate::blocks::calm_front;
@@ -133,6 +135,63 @@ pub fn behind_run(text: &str, class: Class) -> &str
 {
     let width = run_width(text.as_bytes(), class);
     &text[width..]
+}
+
+/// Returns what is left after the longest prefix of characters in the class.
+#[inline(always)]
+pub fn behind_while(text: &str, class: Class) -> &str
+    ensures rest { chars result.now ≡ behind (passes class) (chars text.now) }
+    ensures left { (input : List ℕ) → IsLeft input text.now → IsLeft input result.now }
+{
+    match class {
+        Class::Text => return behind_run(text, Class::Text),
+        Class::Line => return behind_run(text, Class::Line),
+        _ => {}
+    }
+    let mut rest = text;
+    while let Some(c) = first(rest) {
+        if !class.passes(c) {
+            break;
+        }
+        rest = behind_first(rest);
+    }
+    rest
+}
+
+/// Returns what is left after the word that begins the text.
+#[tactic(auto, using(crate::proofs::Grammar::Fronts::behind_word_some))]
+#[inline(always)]
+pub fn behind_word(text: &str) -> &str
+    requires { first_passes is_id_start (chars text.now) ≡ true }
+    ensures rest { chars result.now ≡ behind_word (chars text.now) }
+    ensures left { (input : List ℕ) → IsLeft input text.now → IsLeft input result.now }
+{
+    behind_while(behind_first(text), Class::Continue)
+}
+
+/// Returns the value of the ASCII digits at the start of the text modulo 65536, whether that value
+/// exceeds 65535, and what is left after them.
+#[tactic(auto, unfolding(crate::specs::Characters::digits, crate::specs::Characters::behind_digits))]
+#[inline(always)]
+pub fn behind_number(text: &str) -> (u16, bool, &str)
+    ensures value { result.0 ≡ number (digits (chars text.now)) }
+    ensures over { result.1 ≡ is_over (digits (chars text.now)) }
+    ensures rest { chars result.2.now ≡ behind_digits (chars text.now) }
+    ensures left { (input : List ℕ) → IsLeft input text.now → IsLeft input result.2.now }
+{
+    let mut value = 0;
+    let mut over = false;
+    let mut rest = text;
+    while let Some(c) = first(rest) {
+        if !c.is_ascii_digit() {
+            break;
+        }
+        let more = with_digit(value, c);
+        value = more.0;
+        over |= more.1;
+        rest = behind_first(rest);
+    }
+    (value, over, rest)
 }
 
 /// Returns the part of `text` before its suffix `behind`.

@@ -1,7 +1,6 @@
 //! Reads integers, words and counts, and what is made of them: the width and the precision of a
 //! format specification.
 
-use crate::characters::is_underscore;
 use crate::faults::Fault;
 use crate::reader::Reader;
 use crate::types::{Count, FormatSpec};
@@ -35,26 +34,23 @@ impl<'input> Reader<'input> {
         ensures reads { ReadsTo self.old result self.new (behind_digits self.old.rest) self.old.next
             (number_faults self.old.rest) [] }
     {
-        let from = self.cursor.checkpoint();
-        let (digits, number, over) = self.cursor.consume_digits();
-        if over {
-            let span = self.cursor.start_of(&from)..self.cursor.stop();
+        let (number, over) = self.cursor.number();
+        if let Some((digits, span)) = over {
             self.note(Fault::TooLarge(digits, span))?;
         }
         Ok(number)
     }
 
-    /// Reads the word at the cursor, which may be empty. The word `_` is a fault. Returns `Err` if
-    /// an allocation fails.
+    /// Reads the word that begins at the cursor. The word `_` is a fault. Returns `Err` if an
+    /// allocation fails.
     pub fn word(&mut self) -> Result<&'input str, AllocError>
+        requires { first_passes is_id_start self.old.rest ≡ true }
         ensures value { IfOk result (λ w. chars w.now ≡ word self.old.rest) }
         ensures reads { ReadsTo self.old result self.new (behind_word self.old.rest) self.old.next
             (word_faults self.old.rest) [] }
     {
-        let from = self.cursor.checkpoint();
-        let word = self.cursor.word();
-        if is_underscore(word) {
-            let span = self.cursor.start_of(&from)..self.cursor.start();
+        let (word, underscore) = self.cursor.word();
+        if let Some(span) = underscore {
             self.note(Fault::Underscore(span))?;
         }
         Ok(word)

@@ -82,7 +82,7 @@ impl<'input> Reader<'input> {
 
     /// Moves past a `?`. If a colon follows, also moves past that and the word after it, which may
     /// be empty, and adds a fault. Returns `Err` if an allocation fails.
-    #[tactic(auto, unfolding(crate::specs::Recovery::late_debug))]
+    #[tactic(auto, using(crate::proofs::Readers::WordFronts::words_at_front), unfolding(crate::specs::Recovery::late_debug))]
     fn suggest_format_debug(&mut self) -> Result<(), AllocError>
         ensures state { OnOk result (self.new
             ≡ recovered self.old (late_debug self.old.next self.old.rest)) }
@@ -92,6 +92,9 @@ impl<'input> Reader<'input> {
         self.cursor.skip_char();
         if !self.cursor.consume(':') {
             return Ok(());
+        }
+        if !self.cursor.is_word_next() {
+            return self.note(Fault::LateDebug("", span));
         }
         let word = self.word()?;
         self.note(Fault::LateDebug(word, span))

@@ -2,11 +2,12 @@
 -- left after them.
 use Rattle.std.proofs.Common.{◌≡◌, ℕ, ◌++◌, Bool, true, false, cond, [], ◌∷◌, refl, ap, ◌∙◌}
 use Rattle.std.specs.List.{list_all}
+use Rattle.std.specs.Char.{is_ascii_digit}
 use Rattle.std.proofs.lemmas.Bool.{cond_both, cond-true, cond-false, and_parts, and_from}
 use Rattle.std.proofs.lemmas.Bool.{false≢true}
 use Rattle.rustc_parse_format.specs.Characters.{Text, is_id_start, is_id_continue, front, behind}
 use Rattle.rustc_parse_format.specs.Characters.{first_passes, word, behind_word, behind_first}
-use Rattle.rustc_parse_format.specs.Characters.{with_first}
+use Rattle.rustc_parse_format.specs.Characters.{with_first, digits, behind_digits}
 
 -- A text is such a front, and what is after it,
 pub front-behind : (p : ℕ → Bool) (t : Text) → t ≡ front p t ++ behind p t
@@ -25,11 +26,11 @@ first-behind p [] = refl
 first-behind p (c ∷ t) = ap (λ u. c ∷ u) (front-behind p t)
 
 -- what is after a word that is there
-pub behind_word-some : (t : Text) → first_passes is_id_start t ≡ true
+pub behind_word_some : (t : Text) → first_passes is_id_start t ≡ true
     → behind_word t ≡ behind is_id_continue (behind_first t)
 unfolding behind_word
-behind_word-some [] e = absurd (false≢true e)
-behind_word-some (c ∷ t) e = cond-true (is_id_start c) _ _ e
+behind_word_some [] e = absurd (false≢true e)
+behind_word_some (c ∷ t) e = cond-true (is_id_start c) _ _ e
 
 -- or the word at its front and what is after that.
 pub word-behind : (t : Text) → t ≡ word t ++ behind_word t
@@ -41,6 +42,10 @@ word-behind (c ∷ t) =
       | true ↦ ap (λ u. c ∷ u) (front-behind is_id_continue t)
       | false ↦ refl
     ]
+
+pub digits-behind : (t : Text) → t ≡ digits t ++ behind_digits t
+unfolding digits behind_digits
+digits-behind t = front-behind is_ascii_digit t
 
 pub list_all-front : (p : ℕ → Bool) (t : Text) → list_all p (front p t) ≡ true
 list_all-front p [] = refl

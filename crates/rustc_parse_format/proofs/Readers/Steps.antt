@@ -3,12 +3,14 @@
 use Rattle.std.proofs.Common.{◌≡◌, ℕ, ◌+◌, ◌≤◌, Bool, true, false, cond, [], ◌∷◌, length, refl, ap}
 use Rattle.std.proofs.Common.{◌∙◌, arith}
 use Rattle.std.specs.Prelude.{◌||◌}
+use Rattle.std.specs.Char.{is_ascii_digit}
 use Rattle.unicode_ident.proofs.Computing.{unicode_ident}
 use Rattle.std.proofs.lemmas.Bool.{eqb-true}
 use Rattle.rustc_parse_format.specs.Characters.{Text, is_id_start, is_id_continue, behind}
-use Rattle.rustc_parse_format.specs.Characters.{behind_first, behind_word, begins_with}
-use Rattle.rustc_parse_format.specs.Back.{Back, IsPaid, given_back, is_word_part, behind_part}
-use Rattle.rustc_parse_format.specs.Midway.{IsCounted, Passed, back_at}
+use Rattle.rustc_parse_format.specs.Characters.{behind_digits, behind_first, behind_word}
+use Rattle.rustc_parse_format.specs.Characters.{begins_with}
+use Rattle.rustc_parse_format.specs.Back.{is_word_part, behind_part}
+use Rattle.rustc_parse_format.specs.Midway.{IsCounted, Passed}
 
 pub behind-le : (p : ℕ → Bool) (t : Text) → length (behind p t) ≤ length t
 behind-le p [] = omega arith
@@ -82,6 +84,20 @@ behind-part p (c ∷ t) =
       | true ↦ omega (arith, behind-part p t, part_behind_first c t)
       | false ↦ omega arith
     ]
+
+pub behind_word-part : (t : Text) → behind_part (behind_word t) ≤ behind_part t
+unfolding behind_word
+behind_word-part [] = omega arith
+behind_word-part (c ∷ t) =
+    elim (is_id_start c) as (λ b. behind_part (cond b (behind is_id_continue t) (c ∷ t))
+    ≤ behind_part (c ∷ t)) [
+      | true ↦ omega (arith, behind-part is_id_continue t, part_behind_first c t)
+      | false ↦ omega arith
+    ]
+
+pub behind_digits-part : (t : Text) → behind_part (behind_digits t) ≤ behind_part t
+unfolding behind_digits
+behind_digits-part t = behind-part is_ascii_digit t
 
 -- forward over k characters
 pub counted_on : (n t u : Text) (k : ℕ) (p : Passed) → k + length u ≡ length t

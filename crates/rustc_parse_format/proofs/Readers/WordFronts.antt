@@ -1,11 +1,13 @@
 -- The word at the start of a text, by whether one begins there.
-use Rattle.std.proofs.Common.{◌≡◌, true, false, [], ◌∷◌, chars, refl, ap, sym, ◌∙◌, Some}
+use Rattle.std.proofs.Common.{◌≡◌, ℕ, true, false, [], ◌∷◌, chars, refl, ap, sym, ◌∙◌, Some}
 use Rattle.std.proofs.lemmas.Bool.{false≢true}
 use Rattle.std.proofs.lemmas.Str.{chars-nil}
 use Rattle.rustc_parse_format.specs.Characters.{Text, begins_with, is_id_start, first_passes, word}
-use Rattle.rustc_parse_format.specs.Characters.{behind_word}
-use Rattle.rustc_parse_format.specs.Marks.{up_to}
+use Rattle.rustc_parse_format.specs.Characters.{behind_first, behind_word}
+use Rattle.rustc_parse_format.specs.Marks.{over_first, up_to}
 use Rattle.rustc_parse_format.specs.Meaning.{word_span}
+use Rattle.rustc_parse_format.specs.Faults.{LateDebug}
+use Rattle.rustc_parse_format.specs.Recovery.{finds, late_debug}
 use Rattle.rustc_parse_format.specs.PartFaults.{word_faults}
 use Rattle.rustc_parse_format.proofs.Grammar.CleanWords.{no_word, no_word_at_end, unnamed}
 use Rattle.rustc_parse_format.proofs.Grammar.CleanWords.{word_first}
@@ -38,6 +40,16 @@ pub unfaulty_word : (t : Text) → begins_with 95 t ≡ false → word_faults t 
 unfaulty_word [] h = no_word_at_end
 unfaulty_word (c ∷ t) h =
     unnamed (c ∷ t) (λ e. false≢true (sym h ∙ ap (λ x. begins_with 95 (x ∷ t)) (word_first c t e)))
+
+-- a colon after a `?` with no word behind it
+pub late_nowhere : (n : ℕ) (t : Text) → begins_with 58 (behind_first t) ≡ true
+    → first_passes is_id_start (behind_first (behind_first t)) ≡ false
+    → late_debug n t
+    ≡ finds n (LateDebug (chars []) (over_first t) ∷ []) (behind_first (behind_first t))
+unfolding late_debug
+late_nowhere n t colon none =
+    let w = behind_first (behind_first t) in
+    rw (colon, unfaulty_nowhere w none, text_nowhere w none, behind_nowhere w none) refl
 
 pub ruleset words_at_front = (
   word_nowhere,

@@ -120,6 +120,58 @@ pub fn behind_run(text: &str, class: Class) -> &str {
     &text[width..]
 }
 
+/// Returns what is left after the longest prefix of characters in the class.
+// ensures rest { chars result.now ≡ behind (passes class) (chars text.now) }
+// ensures left { (input : List ℕ) → IsLeft input text.now → IsLeft input result.now }
+#[inline(always)]
+pub fn behind_while(text: &str, class: Class) -> &str {
+    match class {
+        Class::Text => return behind_run(text, Class::Text),
+        Class::Line => return behind_run(text, Class::Line),
+        _ => {}
+    }
+    let mut rest = text;
+    while let Some(c) = first(rest) {
+        if !class.passes(c) {
+            break;
+        }
+        rest = behind_first(rest);
+    }
+    rest
+}
+
+/// Returns what is left after the word that begins the text.
+// requires { first_passes is_id_start (chars text.now) ≡ true }
+// ensures rest { chars result.now ≡ behind_word (chars text.now) }
+// ensures left { (input : List ℕ) → IsLeft input text.now → IsLeft input result.now }
+#[inline(always)]
+pub fn behind_word(text: &str) -> &str {
+    behind_while(behind_first(text), Class::Continue)
+}
+
+/// Returns the value of the ASCII digits at the start of the text modulo 65536, whether that value
+/// exceeds 65535, and what is left after them.
+// ensures value { result.0 ≡ number (digits (chars text.now)) }
+// ensures over { result.1 ≡ is_over (digits (chars text.now)) }
+// ensures rest { chars result.2.now ≡ behind_digits (chars text.now) }
+// ensures left { (input : List ℕ) → IsLeft input text.now → IsLeft input result.2.now }
+#[inline(always)]
+pub fn behind_number(text: &str) -> (u16, bool, &str) {
+    let mut value = 0;
+    let mut over = false;
+    let mut rest = text;
+    while let Some(c) = first(rest) {
+        if !c.is_ascii_digit() {
+            break;
+        }
+        let more = with_digit(value, c);
+        value = more.0;
+        over |= more.1;
+        rest = behind_first(rest);
+    }
+    (value, over, rest)
+}
+
 /// Returns the part of `text` before its suffix `behind`.
 // requires { (u : Text) × (chars text.now ≡ u ++ chars behind.now) }
 // ensures { (u : Text) → chars text.now ≡ u ++ chars behind.now → chars result.now ≡ u }

@@ -6,7 +6,6 @@
 // rows of answers from outside, the proved static library (.ci/bindings) and the original
 // (tools/agree) give the same over it.
 
-use crate::proved::rustc_parse_format::characters::is_underscore;
 use crate::proved::rustc_parse_format::faults::Fault;
 use crate::proved::rustc_parse_format::reader::Reader;
 use crate::proved::rustc_parse_format::types::{Count, FormatSpec};
@@ -21,26 +20,23 @@ impl<'input> Reader<'input> {
     //     (number_faults self.old.rest) [] }
     #[inline]
     pub fn integer(&mut self) -> Result<u16, AllocError> {
-        let from = self.cursor.checkpoint();
-        let (digits, number, over) = self.cursor.consume_digits();
-        if over {
-            let span = self.cursor.start_of(&from)..self.cursor.stop();
+        let (number, over) = self.cursor.number();
+        if let Some((digits, span)) = over {
             self.note(Fault::TooLarge(digits, span))?;
         }
         Ok(number)
     }
 
-    /// Reads the word at the cursor, which may be empty. The word `_` is a fault. Returns `Err` if
-    /// an allocation fails.
+    /// Reads the word that begins at the cursor. The word `_` is a fault. Returns `Err` if an
+    /// allocation fails.
+    // requires { first_passes is_id_start self.old.rest ≡ true }
     // ensures value { IfOk result (λ w. chars w.now ≡ word self.old.rest) }
     // ensures reads { ReadsTo self.old result self.new (behind_word self.old.rest) self.old.next
     //     (word_faults self.old.rest) [] }
     #[inline]
     pub fn word(&mut self) -> Result<&'input str, AllocError> {
-        let from = self.cursor.checkpoint();
-        let word = self.cursor.word();
-        if is_underscore(word) {
-            let span = self.cursor.start_of(&from)..self.cursor.start();
+        let (word, underscore) = self.cursor.word();
+        if let Some(span) = underscore {
             self.note(Fault::Underscore(span))?;
         }
         Ok(word)

@@ -89,8 +89,8 @@ impl<'input> Cursor<'input> {
         first(behind_first(self.rest))
     }
 
-    /// Moves past the next character, if there is one. Only this function, `consume_place` and
-    /// `skip_run` move forward.
+    /// Moves past the next character, if there is one. Only this function, `consume_place` and the
+    /// functions of `words` move forward.
     // ensures rest { self.new ≡ record self.old { rest = behind_first self.old.rest } }
     #[inline]
     pub fn skip_char(&mut self) {
@@ -128,14 +128,6 @@ impl<'input> Cursor<'input> {
     #[inline(always)]
     pub fn start(&self) -> usize {
         self.source.start(self.rest, &self.anchor)
-    }
-
-    /// Returns the byte offset in the source at which the character after `from` starts.
-    // requires { IsAnchored self.now.source from.now.rest.now from.now.anchor }
-    // ensures { result ≡ number_of self.now.world (Start (length (chars from.now.rest.now))) }
-    #[inline(always)]
-    pub fn start_of(&self, from: &Checkpoint<'input>) -> usize {
-        self.source.start(from.rest, &from.anchor)
     }
 
     /// Returns whether the next character `c` is past the indentation of a line that starts at the

@@ -82,6 +82,9 @@ impl<'input> Reader<'input> {
         if !self.cursor.consume(':') {
             return Ok(());
         }
+        if !self.cursor.is_word_next() {
+            return self.note(Fault::LateDebug("", span));
+        }
         let word = self.word()?;
         self.note(Fault::LateDebug(word, span))
     }

@@ -6,32 +6,17 @@
 // (tools/agree) give the same over it.
 
 use super::Cursor;
-use crate::proved::rustc_parse_format::characters::{begins_white, behind_run, with_digit, Class};
+use crate::proved::rustc_parse_format::characters::{
+    before, begins_white, behind_number, behind_while, behind_word, is_underscore, Class,
+};
+use std::ops::Range;
 
 impl<'input> Cursor<'input> {
     /// Moves past the longest prefix of characters in the class.
     // ensures rest { self.new ≡ record self.old { rest = behind (passes class) self.old.rest } }
     #[inline(always)]
     pub fn skip_while(&mut self, class: Class) {
-        match class {
-            Class::Text => return self.skip_run(Class::Text),
-            Class::Line => return self.skip_run(Class::Line),
-            _ => {}
-        }
-        while let Some(c) = self.peek() {
-            if !class.passes(c) {
-                break;
-            }
-            self.skip_char();
-        }
-    }
-
-    /// Moves past the longest prefix of characters in the class, in one move.
-    // requires { IsOfAscii (passes class) }
-    // ensures rest { self.new ≡ record self.old { rest = behind (passes class) self.old.rest } }
-    #[inline]
-    fn skip_run(&mut self, class: Class) {
-        let rest = behind_run(self.rest, class);
+        let rest = behind_while(self.rest, class);
 
         self.rest = rest;
     }
@@ -52,51 +37,52 @@ impl<'input> Cursor<'input> {
         self.skip_while(Class::White);
     }
 
-    /// Reads the word at the cursor, which may be empty.
-    // ensures value { chars result.now ≡ word self.old.rest }
+    /// Reads the word that begins at the cursor. If it is `_`, also returns its byte range in the
+    /// source.
+    // requires { first_passes is_id_start self.old.rest ≡ true }
+    // ensures value { chars result.0.now ≡ word self.old.rest }
     // ensures rest { self.new ≡ record self.old { rest = behind_word self.old.rest } }
-    #[inline]
-    pub fn word(&mut self) -> &'input str {
-        if !self.is_word_next() {
-            return "";
-        }
-        let from = self.checkpoint();
-        self.skip_char();
-        self.skip_while(Class::Continue);
-        self.since(&from)
+    // ensures underscore { option_map pair result.1
+    //     ≡ if bytes_eq (word self.old.rest) (codes "_")
+    //     then Some (place_of self.old.world (up_to self.old.rest (behind_word self.old.rest)))
+    //     else None }
+    #[inline(always)]
+    pub fn word(&mut self) -> (&'input str, Option<Range<usize>>) {
+        let rest = behind_word(self.rest);
+        let word = before(self.rest, rest);
+        let underscore = if is_underscore(word) {
+            Some(self.start()..self.source.start(rest, &self.anchor))
+        } else {
+            None
+        };
+
+        self.rest = rest;
+        (word, underscore)
     }
 
-    /// Moves past the ASCII digits at the cursor. Returns their value modulo 65536, and whether
-    /// that value exceeds 65535.
+    /// Reads the ASCII digits at the cursor, and returns their value modulo 65536. If that value
+    /// exceeds 65535, also returns the digits, and their byte range in the source with that of the
+    /// character after them.
     // ensures value { result.0 ≡ number (digits self.old.rest) }
-    // ensures over { result.1 ≡ is_over (digits self.old.rest) }
     // ensures rest { self.new ≡ record self.old { rest = behind_digits self.old.rest } }
-    #[inline]
-    fn skip_digits(&mut self) -> (u16, bool) {
-        let mut value = 0;
-        let mut over = false;
-        while let Some(c) = self.peek() {
-            if !c.is_ascii_digit() {
-                break;
-            }
-            let more = with_digit(value, c);
-            value = more.0;
-            over |= more.1;
-            self.skip_char();
-        }
-        (value, over)
-    }
+    // ensures over { option_map {U = Text × Place} (λ x. (chars x.0.now, pair x.1)) result.1
+    //     ≡ if is_over (digits self.old.rest)
+    //     then Some (
+    //       digits self.old.rest,
+    //       place_of self.old.world (through self.old.rest (behind_digits self.old.rest)),
+    //     )
+    //     else None }
+    #[inline(always)]
+    pub fn number(&mut self) -> (u16, Option<(&'input str, Range<usize>)>) {
+        let (number, is_over, rest) = behind_number(self.rest);
+        let over = if is_over {
+            let span = self.start()..self.source.stop(rest, &self.anchor);
+            Some((before(self.rest, rest), span))
+        } else {
+            None
+        };
 
-    /// Reads the ASCII digits at the cursor. Returns them, their value modulo 65536, and whether
-    /// that value exceeds 65535.
-    // ensures text { chars result.0.now ≡ digits self.old.rest }
-    // ensures value { result.1 ≡ number (digits self.old.rest) }
-    // ensures over { result.2 ≡ is_over (digits self.old.rest) }
-    // ensures rest { self.new ≡ record self.old { rest = behind_digits self.old.rest } }
-    #[inline]
-    pub fn consume_digits(&mut self) -> (&'input str, u16, bool) {
-        let from = self.checkpoint();
-        let (value, over) = self.skip_digits();
-        (self.since(&from), value, over)
+        self.rest = rest;
+        (number, over)
     }
 }

@@ -1,16 +1,14 @@
-use Rattle.std.proofs.Common.{◌≡◌, ◌≢◌, ◌++◌, ◌∙◌, List, [], ap, arith, length, refl, rules, subst}
+use Rattle.std.proofs.Common.{◌≡◌, ◌≢◌, ◌∙◌, [], ap, arith, refl, rules, subst}
 use Rattle.std.proofs.Common.{false, sym}
-use Rattle.std.specs.List.{filter}
 use Rattle.std.specs.Prelude.{None, option_map}
 use Rattle.rustc_parse_format.specs.Call.{call}
 use Rattle.rustc_parse_format.specs.Midway.{Midway, FindsNothing, HasFoundNothing}
 use Rattle.rustc_parse_format.specs.Midway.{opens_placeholder, read_call}
 use Rattle.rustc_parse_format.specs.Seen.{seen_mode}
 use Rattle.rustc_parse_format.specs.State.{State, next_call}
-use Rattle.rustc_parse_format.specs.World.{Place, faults_in, piece_in}
+use Rattle.rustc_parse_format.specs.World.{piece_in}
 use Rattle.rustc_parse_format.proofs.Walking.Progress.{call_next-le}
-use Rattle.rustc_parse_format.proofs.Walking.ParserLaws.{count_of_fronts}
-use Rattle.rustc_parse_format.proofs.Lines.StateLines.{at_end, end_faults, finds_nothing}
+use Rattle.rustc_parse_format.proofs.Lines.StateLines.{at_end, finds_nothing}
 use Rattle.rustc_parse_format.proofs.Lines.StateLines.{nothing_found}
 use Rattle.rustc_parse_format.proofs.Readers.Placeholders.{needs_adds, needs_text}
 use Rattle.rustc_parse_format.proofs.parser.Parser.step.Goals as goal

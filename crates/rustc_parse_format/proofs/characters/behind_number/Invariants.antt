@@ -1,0 +1,20 @@
+use Rattle.std.proofs.Common.{◌≡◌, chars, length, List, ℕ}
+use Rattle.std.specs.Char.{is_ascii_digit}
+use denote.Text.{Utf8}
+use denote.Shadow.{shadow}
+use Rattle.rustc_parse_format.specs.Bytes.{IsLeft}
+use Rattle.rustc_parse_format.specs.Characters.{front, behind}
+use Rattle.rustc_parse_format.proofs.Bytes.Counting.{Counted}
+use Rattle.rustc_parse_format.proofs.characters.behind_number.Given as goal
+
+abbrev pub invariant-loop-c : goal.invariant-loop-c
+invariant-loop-c l = record {
+  text : shadow (Utf8 l.rest);
+  counted : Counted l.value l.over (front is_ascii_digit (chars l.rest))
+      (front is_ascii_digit (chars l.text));
+  rest : behind is_ascii_digit (chars l.rest) ≡ behind is_ascii_digit (chars l.text);
+  left : (input : List ℕ) → IsLeft input l.text → IsLeft input l.rest;
+}
+
+abbrev pub decreases-loop-c : goal.decreases-loop-c
+decreases-loop-c l = length (chars l.rest)
