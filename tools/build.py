@@ -1,7 +1,8 @@
-"""Proves and builds the program formatread, or with the word `library` the static library, unless
-that was done.
+"""Proves and builds the program formatread, or with the word `formatlint` that program, or with
+`library` the static library, unless that was done.
 
     build            leaves it in out/formatread, which ./formatread runs, and prints that path
+    build formatlint the same for formatlint
     build library    leaves it in out/, with what it needs of the kit and its C header, and prints
                      that folder
 
@@ -298,10 +299,10 @@ def status_of(name, work):
     return 0
 
 
-def program():
-    files = lambda room: [room / "crates/formatread/out/formatread"]
-    build("formatread", crates_of("formatread"), [], files)
-    print(OUT / "formatread")
+def program(name="formatread"):
+    files = lambda room: [room / "crates" / name / "out" / name]
+    build(name, crates_of(name), [], files)
+    print(OUT / name)
 
 
 def library():
@@ -310,10 +311,12 @@ def library():
 
 
 def main():
-    if sys.argv[1:] not in ([], ["library"]):
-        print("usage: build [library]", file=sys.stderr)
+    if sys.argv[1:] not in ([], ["formatlint"], ["library"]):
+        print("usage: build [formatlint | library]", file=sys.stderr)
         return 2
-    return status_of("library", library) if sys.argv[1:] else status_of("build", program)
+    if sys.argv[1:] == ["library"]:
+        return status_of("library", library)
+    return status_of("build", lambda: program(*sys.argv[1:]))
 
 
 if __name__ == "__main__":

@@ -5,7 +5,7 @@
 mod given;
 mod input;
 mod listing;
-mod literal;
+pub mod literal;
 mod report_lines;
 pub mod run;
 mod task;

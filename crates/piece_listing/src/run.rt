@@ -26,7 +26,7 @@ const CHUNK: usize = 4096;
 
 /// Reads all bytes of a reader up to its end. Returns `Err` if a read or an allocation fails, or if
 /// there are more than `LIMIT` bytes.
-fn read_input<R: Read>(alloc: Global, reader: &mut R) -> Result<Vec<u8>, RunFault>
+pub fn read_input<R: Read>(alloc: Global, reader: &mut R) -> Result<Vec<u8>, RunFault>
     ensures bytes { IfOk result
         (λ bytes. IfSome (R.remaining reader.old) (λ input. bytes.items ≡ input)) }
     ensures short { IfOk result (λ bytes. length bytes.items ≤ limit) }
@@ -57,7 +57,7 @@ fn read_input<R: Read>(alloc: Global, reader: &mut R) -> Result<Vec<u8>, RunFaul
 
 /// Writes all of the bytes. Returns `Err` if a write fails or writes no byte; a part of the bytes
 /// may then be written.
-fn write_whole<W: Write>(writer: &mut W, bytes: &[u8]) -> Result<(), RunFault>
+pub fn write_whole<W: Write>(writer: &mut W, bytes: &[u8]) -> Result<(), RunFault>
     ensures ok { OnOk result (Appends (W.contents writer.old) (W.contents writer.new) bytes.now) }
     ensures err { IfErr result (λ fault. fault ≡ WriteFault) }
     ensures empty { bytes.now ≡ [] → IsOk result × (writer.new ≡ writer.old) }

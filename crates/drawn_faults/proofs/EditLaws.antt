@@ -1,0 +1,35 @@
+-- Edits that are made are in order, and applying them is a loop.
+use Rattle.std.proofs.Common.{◌≡◌, ℕ, suc, ◌+◌, ◌-◌, ◌<◌, ◌++◌, List, [], ◌∷◌, length, map, take}
+use Rattle.std.proofs.Common.{drop, get_or, ◌∙◌, ap, subst, add-one, append_assoc}
+use Rattle.std.proofs.Math.Seq.{drop-cons}
+use Rattle.std.proofs.lemmas.List.{get_or-map, length-map}
+use Rattle.std.proofs.lemmas.Bool.{cond_both, and_parts}
+use borrow.Author.Tests.{ltb-true, leb-true}
+use Rattle.drawn_faults.specs.Edits.{Edit, is_behind, made, AreInOrder, applied}
+
+-- The edits that are made are in order.
+pub made-order : (at : ℕ) (es : List Edit) → AreInOrder at (made at es)
+made-order at [] = tt
+made-order at (e ∷ es) =
+    cond_both (is_behind at e) (e ∷ made e.span.1 es) (made at es) (AreInOrder at)
+    (λ yes. let h = and_parts _ _ yes in
+    (ltb-true _ _ h.0, leb-true _ _ h.1, made-order e.span.1 es))
+    (λ no. made-order at es)
+
+-- The elements from the k-th on, seen by a function: that of the k-th, and those after it.
+pub drop-seen : {X Y : Type 0} (f : X → Y) (xs : List X) (k : ℕ) (d : X) → k < length xs
+    → drop k (map f xs) ≡ f (get_or xs k d) ∷ drop (k + 1) (map f xs)
+drop-seen f xs k d h =
+    let inside : k < length (map f xs) = rw length-map h in
+    rw (add-one) (drop-cons (map f xs) k (f d) inside
+    ∙ ap (λ y. y ∷ drop (suc k) (map f xs)) (get_or-map f xs k d (f d) h))
+
+-- One turn of the loop: an edit is made, and the others are left.
+pub applied-turn : (start : ℕ) (left behind : List Edit) (e : Edit) (out rest whole : List ℕ)
+    → left ≡ e ∷ behind → out ++ applied start left rest ≡ whole
+    → ((out ++ take (e.span.0 - start) rest) ++ e.text)
+    ++ applied e.span.1 behind (drop (e.span.1 - start) rest) ≡ whole
+applied-turn start left behind e out rest whole l h =
+    let g : out ++ applied start (e ∷ behind) rest
+    ≡ whole = subst (λ es. out ++ applied start es rest ≡ whole) l h in
+    simp append_assoc g

@@ -1,0 +1,52 @@
+-- Lemmas on texts that are written character by character.
+use Rattle.std.proofs.Common.{◌≡◌, ℕ, ◌+◌, ◌-◌, ◌<◌, zero, suc, [], ◌∷◌, ◌++◌, drop, take}
+use Rattle.std.proofs.Common.{replicate, refl, ap, sym, ◌∙◌, append_assoc, add-one, arith}
+use Rattle.std.proofs.Common.{encode_utf8_all}
+use Rattle.std.specs.Prelude.{encode_utf8}
+use Rattle.std.proofs.Math.Nat.{suc-sub-suc}
+use Rattle.std.proofs.lemmas.Str.{encodes-append}
+use Rattle.std.proofs.lemmas.List.{append-nil}
+use Rattle.rustc_parse_format.specs.Characters.{Text}
+use Rattle.drawn_faults.specs.Glyphs.{run, glyphs, glyph, glyph_count}
+use Rattle.drawn_faults.specs.Rows.{columns}
+
+run-suc : (n c : ℕ) → run (suc n) c ≡ run n c ++ encode_utf8 c
+run-suc zero c = append-nil (encode_utf8 c)
+run-suc (suc n) c =
+    ap (λ x. encode_utf8 c ++ x) (run-suc n c)
+    ∙ sym (append_assoc (encode_utf8 c) (run n c) (encode_utf8 c))
+
+-- One more character at the end.
+pub run-more : (n c : ℕ) → run (n + 1) c ≡ run n c ++ encode_utf8 c
+run-more n c = ap (λ k. run k c) (add-one n) ∙ run-suc n c
+
+-- One more column at the end.
+pub columns-more : (f : ℕ → ℕ) (n : ℕ)
+    → encode_utf8_all (columns f (n + 1)) ≡ encode_utf8_all (columns f n) ++ encode_utf8 (f n)
+columns-more f n =
+    ap (λ k. encode_utf8_all (columns f k)) (add-one n)
+    ∙ (encodes-append (columns f n) (f n ∷ [])
+    ∙ ap (λ x. encode_utf8_all (columns f n) ++ x) (append-nil (encode_utf8 (f n))))
+
+-- A run without its first characters, and what comes after it.
+pub drop-run : (n s g : ℕ) (t : Text)
+    → encode_utf8_all (drop s (replicate n g ++ t))
+    ≡ run (n - s) g ++ encode_utf8_all (drop (s - n) t)
+drop-run zero s g t =
+    let a : zero - s ≡ zero = omega arith in
+    let b : s - zero ≡ s = omega arith in
+    rw (a, b) refl
+drop-run (suc n) zero g t =
+    let a : suc n - zero ≡ suc n = omega arith in
+    let b : zero - suc n ≡ zero = omega arith in
+    rw (a, b) (encodes-append (replicate (suc n) g) t)
+drop-run (suc n) (suc s) g t = rw (suc-sub-suc n s, suc-sub-suc s n) (drop-run n s g t)
+
+-- The first character of a prefix, and the rest of it.
+pub take-step : (n c : ℕ) (t : Text) → 0 < n
+    → encode_utf8_all (glyphs (take n (c ∷ t)))
+    ≡ run (glyph_count c) (glyph c) ++ encode_utf8_all (glyphs (take (n - 1) t))
+take-step zero c t h = absurd (omega (arith, h))
+take-step (suc n) c t h =
+    let a : suc n - 1 ≡ n = omega arith in
+    rw a (encodes-append (replicate (glyph_count c) (glyph c)) (glyphs (take n t)))

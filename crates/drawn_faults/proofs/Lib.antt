@@ -1,0 +1,13 @@
+mod GlyphLemmas
+pub mod EditLaws
+pub mod CallFaults
+pub mod FixLaws
+pub mod Merging
+pub mod Moving
+pub mod CallMoves
+pub mod RecoveryMoves
+pub mod RawLaw
+pub mod Stopping
+pub mod PositionMoves
+pub mod ColonLaw
+pub mod FlagLaw

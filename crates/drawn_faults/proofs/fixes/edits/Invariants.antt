@@ -1,0 +1,13 @@
+use Rattle.std.proofs.Common.{◌≡◌, ◌++◌, map, reverse}
+use Rattle.std.specs.List.{filter_map}
+use Rattle.rustc_parse_format.specs.Seen.{seen_error}
+use Rattle.drawn_faults.specs.Edits.{made, edits, edit_of}
+use Rattle.drawn_faults.specs.SeenEdits.{seen_edit}
+use Rattle.drawn_faults.proofs.fixes.edits.Given as goal
+
+-- The edits that were found, and then those of the errors that are left, are all.
+abbrev pub invariant-loop-error : goal.invariant-loop-error
+invariant-loop-error l =
+    map seen_edit l.found.items
+    ++ made l.end (filter_map edit_of (reverse (map seen_error l.error-iterator.iter.rest.now)))
+    ≡ edits (map seen_error l.errors)

@@ -1,0 +1,10 @@
+use Rattle.std.proofs.Common.{◌≡◌, length}
+use Rattle.drawn_faults.specs.Fixing.{all_errors}
+use Rattle.drawn_faults.proofs.fixes.errors_of.Given as goal
+
+-- The errors of all calls are those that they were at the start.
+abbrev pub invariant-loop-parser : goal.invariant-loop-parser
+invariant-loop-parser l = all_errors l.parser ≡ all_errors l.initial.parser
+
+abbrev pub decreases-loop-parser : goal.decreases-loop-parser
+decreases-loop-parser l = length l.parser.rest

@@ -1,0 +1,12 @@
+use Rattle.drawn_faults.proofs.FlagLaw.{number_sign-reorders, lower_hex-reorders}
+use Rattle.drawn_faults.proofs.FlagLaw.{upper_hex-reorders}
+use Rattle.drawn_faults.proofs.laws.reorder_format_parameter.Goals as goal
+
+pub returns-clause-number_sign : goal.returns-clause-number_sign
+returns-clause-number_sign c = number_sign-reorders
+
+pub returns-clause-lower_hex : goal.returns-clause-lower_hex
+returns-clause-lower_hex c = lower_hex-reorders
+
+pub returns-clause-upper_hex : goal.returns-clause-upper_hex
+returns-clause-upper_hex c = upper_hex-reorders

@@ -1,0 +1,16 @@
+use Rattle.std.proofs.Common.{◌≡◌, ◌≤◌, length}
+use denote.Text.{Utf8}
+use denote.Shadow.{shadow}
+use Rattle.drawn_faults.specs.Places.{behind_lines}
+use Rattle.drawn_faults.proofs.places.behind_lines.Given as goal
+
+-- What is left behind the lines that are still to pass is what is meant.
+abbrev pub invariant-loop-left : goal.invariant-loop-left
+invariant-loop-left l = record {
+  is_text : shadow (Utf8 l.rest);
+  same : behind_lines l.left l.rest ≡ behind_lines l.fn.count l.fn.text;
+  short : length l.rest ≤ length l.fn.text;
+}
+
+abbrev pub decreases-loop-left : goal.decreases-loop-left
+decreases-loop-left l = l.left

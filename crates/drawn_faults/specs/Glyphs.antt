@@ -1,0 +1,50 @@
+-- How characters are drawn in a terminal, and how many columns they take. The rules are those of
+-- rustc 1.95, but for the widths, which are those of the crate `unicode_width`.
+use Rattle.std.specs.Prelude.{ℕ, ◌+◌, Bool, false, ◌||◌, ◌==◌, if◌then◌else◌}
+use Rattle.std.specs.Prelude.{nat_lt, List, [], ◌∷◌, Option, Some, None, unwrap_or}
+use Rattle.std.specs.Prelude.{replicate, flat_map}
+use Rattle.std.specs.Int.{is_in_range}
+use Rattle.std.specs.Char.{is_whitespace}
+use Rattle.std.specs.Str.{encode_utf8_all}
+use Rattle.unicode_width.specs.Width.{char_width}
+use Rattle.rustc_parse_format.specs.Characters.{Text}
+
+-- The character changes the direction of the text after it.
+abbrev pub is_text_flow_control : ℕ → Bool
+is_text_flow_control c = is_in_range 0x202A 0x202E c || is_in_range 0x2066 0x2069 c
+
+-- The character that is drawn for a character: a space for a tab, a picture for another control
+-- character, and the replacement character for one that changes the direction.
+unfoldable pub glyph : ℕ → ℕ
+glyph c =
+    if c == 9 then 32
+    else if nat_lt c 32 then 0x2400 + c
+    else if c == 127 then 0x2421
+    else if is_text_flow_control c then 0xFFFD
+    else c
+
+-- How often that is drawn: a tab is four spaces, and a zero-width joiner is left out.
+unfoldable pub glyph_count : ℕ → ℕ
+glyph_count c = if c == 9 then 4 else if c == 0x200D then 0 else 1
+
+-- A text as it is drawn.
+abbrev pub glyphs : Text → Text
+glyphs t = flat_map (λ c. replicate (glyph_count c) (glyph c)) t
+
+-- How many columns a character takes.
+unfoldable pub width : ℕ → ℕ
+width c =
+    if c == 9 then 4
+    else if is_text_flow_control c then 1
+    else unwrap_or (char_width false c) 1
+
+-- How many columns of a line are its indent, with n columns that are before it: a tab counts as
+-- four. None if the line is blank.
+abbrev pub indent : ℕ → Text → Option ℕ
+indent n [] = None
+indent n (c ∷ t) =
+    if is_whitespace c then indent (n + (if c == 9 then 4 else 1)) t else Some n
+
+-- A character again and again, as bytes.
+abbrev pub run : ℕ → ℕ → List ℕ
+run n c = encode_utf8_all (replicate n c)

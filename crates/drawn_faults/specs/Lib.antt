@@ -1,0 +1,12 @@
+pub mod Glyphs
+pub mod Places
+pub mod Rows
+pub mod Labels
+pub mod Lines
+pub mod Long
+pub mod Suggestions
+pub mod Drawing
+pub mod Edits
+pub mod Fixing
+pub mod Losing
+pub mod SeenEdits

@@ -1,0 +1,56 @@
+-- Lines of the source with labels in one line, as bytes.
+use Rattle.std.specs.Prelude.{ℕ, ◌+◌, ◌-◌, ◌==◌, ◌++◌, if◌then◌else◌, nat_lt}
+use Rattle.std.specs.Prelude.{List, [], length, drop}
+use Rattle.std.specs.Prelude.{chars, codes, decimal}
+use Rattle.std.specs.Str.{encode_utf8_all}
+use Rattle.rustc_parse_format.specs.Characters.{Text}
+use Rattle.drawn_faults.specs.Glyphs.{glyphs, run}
+use Rattle.drawn_faults.specs.Places.{line}
+use Rattle.drawn_faults.specs.Rows.{Mark, alone, both, under}
+use Rattle.drawn_faults.specs.Labels.{Frame}
+
+-- The number of a line of the source in the gutter, at its right.
+unfoldable pub numbered : Frame → ℕ → List ℕ
+numbered f n =
+    run (f.gutter - length (decimal (f.picture.line_start + n))) 32
+    ++ decimal (f.picture.line_start + n)
+
+-- A line as it is drawn. Where it is cut, three dots stand at its start.
+unfoldable pub shown : ℕ → Text → List ℕ
+shown cut t =
+    if cut == 0 then encode_utf8_all (glyphs t)
+    else codes "..." ++ encode_utf8_all (drop (cut + 3) (glyphs t))
+
+-- What is behind a bar: a line and what is in front of it, or nothing for an empty line.
+abbrev pub behind_bar : List ℕ → List ℕ → List ℕ
+behind_bar front code = if length code == 0 then [] else front ++ code
+
+-- A line of the source, with its number, a bar, and what is in front of it.
+unfoldable pub source_row : Frame → List ℕ → List ℕ → ℕ → List ℕ
+source_row f bar front n =
+    numbered f n ++ (bar
+    ++ (behind_bar front (shown f.cut (chars (line n f.picture.source))) ++ codes "\n"))
+
+-- A line of the source.
+abbrev pub code_row : Frame → ℕ → List ℕ
+code_row f n = source_row f (codes " |") (codes " ") n
+
+-- A line of the source with a label.
+unfoldable pub labelled : Frame → Mark → List ℕ
+labelled f m = code_row f m.line ++ under f.gutter (alone m)
+
+-- What is between two lines with labels: nothing, the line between them, or dots for several.
+unfoldable pub gap : Frame → ℕ → ℕ → List ℕ
+gap f first last =
+    if last == first + 2 then code_row f (first + 1)
+    else if nat_lt (first + 2) last then codes "...\n" else []
+
+-- Two lines with labels, from top to bottom.
+unfoldable pub apart : Frame → Mark → Mark → List ℕ
+apart f m n = labelled f m ++ (gap f m.line n.line ++ labelled f n)
+
+-- The lines with two labels.
+unfoldable pub two_labels : Frame → Mark → Mark → List ℕ
+two_labels f m n =
+    if m.line == n.line then code_row f m.line ++ both f.gutter m n
+    else if nat_lt m.line n.line then apart f m n else apart f n m

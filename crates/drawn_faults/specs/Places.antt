@@ -1,0 +1,81 @@
+-- The source around a literal, its lines, and the places in it that a byte offset means.
+use Rattle.std.specs.Prelude.{ℕ, ◌+◌, ◌-◌, Bool, true, ◌&&◌, ◌==◌, if◌then◌else◌, nat_lt, min, max}
+use Rattle.std.specs.Prelude.{zero, suc, List, [], ◌∷◌, length, chars}
+use Rattle.std.specs.List.{before_first, after_first, fold}
+use Rattle.std.specs.Char.{is_whitespace, len_utf8}
+use Rattle.rustc_parse_format.specs.Characters.{Text}
+use Rattle.rustc_parse_format.specs.World.{Place}
+use Rattle.drawn_faults.specs.Glyphs.{width}
+use Rattle.drawn_faults.specs.declared.places.Picture.{Picture as DeclaredPicture}
+use Rattle.drawn_faults.specs.declared.places.Spot.{Spot}
+use Rattle.drawn_faults.specs.declared.places.Extent.{Extent}
+
+-- What a fault is drawn in: the path of the source, its text, the number of its first line, and the
+-- byte offset at which the literal begins.
+pub record Picture : Type 0 where
+  pub path : List ℕ
+  pub source : List ℕ
+  pub line_start : ℕ
+  pub literal_start : ℕ
+
+-- A picture as a contract sees it.
+abbrev pub seen_picture : DeclaredPicture → Picture
+seen_picture p = record {
+  path = p.path.now;
+  source = p.source.now;
+  line_start = p.line_start;
+  literal_start = p.literal_start;
+}
+
+-- The byte is a line feed.
+abbrev pub is_line_feed : ℕ → Bool
+is_line_feed b = b == 10
+
+-- What is left of a text behind its first n lines.
+abbrev pub behind_lines : ℕ → List ℕ → List ℕ
+behind_lines zero bs = bs
+behind_lines (suc n) bs = behind_lines n (after_first is_line_feed bs)
+
+-- The first line of a text.
+abbrev pub first_line : List ℕ → List ℕ
+first_line bs = before_first is_line_feed bs
+
+-- The line with the number n, counted from 0. It is empty behind the last one.
+unfoldable pub line : ℕ → List ℕ → List ℕ
+line n bs = first_line (behind_lines n bs)
+
+-- The first characters of a text, as many as end within n bytes.
+abbrev pub within : ℕ → Text → Text
+within n [] = []
+within n (c ∷ t) = if nat_lt n (len_utf8 c) then [] else c ∷ within (n - len_utf8 c) t
+
+-- The place at the start of a text: its line, counted from 0, how many characters and columns of
+-- that line are before it, and whether these are all white space.
+abbrev pub origin : Spot
+origin = record { line = 0; chars = 0; column = 0; is_indent = true }
+
+-- The place behind a character.
+unfoldable pub past : Spot → ℕ → Spot
+past p c =
+    if c == 10 then record { line = p.line + 1; chars = 0; column = 0; is_indent = true }
+    else record {
+      line = p.line;
+      chars = p.chars + 1;
+      column = p.column + width c;
+      is_indent = p.is_indent && is_whitespace c;
+    }
+
+-- The place at a byte offset, or at the start of the character that has this byte.
+abbrev pub spot : ℕ → Text → Spot
+spot n t = fold past origin (within n t)
+
+-- The byte offset in the source of an offset in the literal, or the end of the source.
+abbrev pub offset : Picture → ℕ → ℕ
+offset p n = min (p.literal_start + n) (length p.source)
+
+-- Where a range of the literal begins and ends. If it ends before it begins, it is empty.
+unfoldable pub extent : Picture → Place → Extent
+extent p s = record {
+  start = spot (offset p s.0) (chars p.source);
+  end = spot (max (offset p s.0) (offset p s.1)) (chars p.source);
+}

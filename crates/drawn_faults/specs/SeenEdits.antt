@@ -1,0 +1,15 @@
+-- What a contract sees of edits and of a fixed literal: texts as their bytes.
+use Rattle.std.specs.Prelude.{string_bytes}
+use Rattle.rustc_parse_format.specs.Seen.{pair}
+use Rattle.drawn_faults.specs.declared.fixes.Edit.{Edit as DeclaredEdit}
+use Rattle.drawn_faults.specs.declared.fixes.Fixed.{Fixed as DeclaredFixed}
+use Rattle.drawn_faults.specs.Edits.{Edit}
+use Rattle.drawn_faults.specs.Fixing.{Fixed}
+
+-- An edit as a contract sees it.
+abbrev pub seen_edit : DeclaredEdit → Edit
+seen_edit e = record { span = pair e.span; text = e.text.now }
+
+-- A fixed literal as a contract sees it.
+abbrev pub seen_fixed : DeclaredFixed → Fixed
+seen_fixed f = record { snippet = string_bytes f.snippet; text = string_bytes f.text }

@@ -1,0 +1,207 @@
+//! The text that shows a fault under its source. What begins with `put_` appends to `out`, and
+//! returns `Err` if an allocation fails.
+
+ghost use Rattle.std.specs.Prelude.{◌≡◌, ◌++◌, ◌<◌, ◌^◌, IfOk, IfSome, OnOk, option_map};
+ghost use Rattle.std.specs.Prelude.{string_bytes};
+ghost use Rattle.rustc_parse_format.specs.Seen.{seen_error};
+ghost use Rattle.drawn_faults.specs.Places.{seen_picture};
+ghost use Rattle.drawn_faults.specs.Labels.{seen_edit, seen_frame, seen_label};
+ghost use Rattle.drawn_faults.specs.Drawing.{arrow, below, drawing, head, labelled_rows, laid_out};
+ghost use Rattle.drawn_faults.specs.Drawing.{note_row, title};
+
+use crate::glyphs::{put_run, put_texts};
+use crate::labels::{Edit, Frame, Label, edit_of, frame_for, mark, second};
+use crate::lines::{put_labelled, put_two_labels};
+use crate::long::put_long;
+use crate::places::{Picture, Spot};
+use crate::suggestions::{put_edit, put_parting};
+use rustc_parse_format::ParseError;
+use std::alloc::{AllocError, Global};
+
+/// Adds what the error is.
+fn put_title(out: &mut String, description: &str) -> Result<(), AllocError>
+    ensures { OnOk result (string_bytes out.new ≡ string_bytes out.old ++ title description.now) }
+{
+    put_texts(out, "error: invalid format string: ", description, "\n")?;
+    Ok(())
+}
+
+/// Adds where the text is that the error is about.
+#[tactic(auto, unfolding(crate::specs::Drawing::arrow))]
+fn put_arrow(out: &mut String, frame: &Frame<'_>, at: Spot) -> Result<(), AllocError>
+    requires line { at.line < 2 ^ 59 }
+    requires chars { at.chars < 2 ^ 59 }
+    ensures { OnOk result (string_bytes out.new ≡ string_bytes out.old
+        ++ arrow (seen_frame frame.now) at) }
+{
+    let line = frame.picture.line_start as usize + at.line;
+    let column = at.chars + 1;
+    put_run(out, ' ', frame.gutter)?;
+    out.push_str("--> ")?;
+    out.push_str(frame.picture.path)?;
+    write!(out, ":{line}:{column}\n")?;
+    Ok(())
+}
+
+/// Adds the lines above the source.
+#[tactic(auto, unfolding(crate::specs::Drawing::head))]
+fn put_head(
+    out: &mut String,
+    frame: &Frame<'_>,
+    description: &str,
+    at: Spot,
+) -> Result<(), AllocError>
+    requires line { at.line < 2 ^ 59 }
+    requires chars { at.chars < 2 ^ 59 }
+    ensures { OnOk result (string_bytes out.new ≡ string_bytes out.old
+        ++ head (seen_frame frame.now) description.now at) }
+{
+    put_title(out, description)?;
+    put_arrow(out, frame, at)?;
+    put_parting(out, frame)?;
+    Ok(())
+}
+
+/// Adds the lines with labels.
+#[tactic(auto, unfolding(crate::specs::Drawing::labelled_rows))]
+fn put_labels(
+    alloc: Global,
+    out: &mut String,
+    frame: &Frame<'_>,
+    label: &Label<'_>,
+    second: &Option<Label<'_>>,
+) -> Result<(), AllocError>
+    requires number { label.now.extent.start.line < 2 ^ 59 }
+    requires last { label.now.extent.end.line < 2 ^ 59 }
+    requires column { label.now.extent.start.column < 2 ^ 61 }
+    requires second_number { IfSome second.now (λ l. l.extent.start.line < 2 ^ 59) }
+    requires second_column { IfSome second.now (λ l. l.extent.start.column < 2 ^ 61) }
+    requires cut { frame.now.cut < 2 ^ 62 }
+    ensures { OnOk result (string_bytes out.new ≡ string_bytes out.old
+        ++ labelled_rows (seen_frame frame.now) (seen_label label.now)
+        (option_map seen_label second.now)) }
+{
+    let mark_of_fault = mark(label, frame.cut);
+    if let Some(second) = second {
+        let other = mark(second, frame.cut);
+        put_two_labels(alloc, out, frame, &mark_of_fault, &other)?;
+        return Ok(());
+    }
+    if label.extent.start.line == label.extent.end.line {
+        put_labelled(alloc, out, frame, &mark_of_fault)?;
+    } else {
+        put_long(alloc, out, frame, label)?;
+    }
+    Ok(())
+}
+
+/// Adds the row of a note, if there is one.
+fn put_note(out: &mut String, gutter: usize, note: &Option<String>) -> Result<(), AllocError>
+    ensures { OnOk result (string_bytes out.new ≡ string_bytes out.old
+        ++ note_row gutter (option_map string_bytes note.now)) }
+{
+    if let Some(note) = note {
+        put_run(out, ' ', gutter)?;
+        put_texts(out, " = note: ", note.as_str(), "\n")?;
+    }
+    Ok(())
+}
+
+/// Adds what is below the labels.
+#[tactic(auto, unfolding(crate::specs::Drawing::below))]
+fn put_below(
+    alloc: Global,
+    out: &mut String,
+    frame: &Frame<'_>,
+    note: &Option<String>,
+    edit: &Option<Edit<'_>>,
+) -> Result<(), AllocError>
+    requires first { IfSome edit.now (λ e. e.extent.start.line < 2 ^ 59) }
+    requires last { IfSome edit.now (λ e. e.extent.end.line < 2 ^ 59) }
+    ensures { OnOk result (string_bytes out.new ≡ string_bytes out.old
+        ++ below (seen_frame frame.now) (option_map string_bytes note.now)
+        (option_map seen_edit edit.now)) }
+{
+    if note.is_some() || edit.is_some() {
+        put_parting(out, frame)?;
+    }
+    put_note(out, frame.gutter, note)?;
+    if let Some(edit) = edit {
+        put_edit(alloc, out, frame, edit)?;
+    }
+    Ok(())
+}
+
+/// Returns the drawing of an error, from its labels and its edit.
+#[tactic(auto, unfolding(crate::specs::Drawing::laid_out))]
+fn lay_out(
+    alloc: Global,
+    frame: &Frame<'_>,
+    error: &ParseError,
+    label: &Label<'_>,
+    second: &Option<Label<'_>>,
+    edit: &Option<Edit<'_>>,
+) -> Result<String, AllocError>
+    requires number { label.now.extent.start.line < 2 ^ 59 }
+    requires last { label.now.extent.end.line < 2 ^ 59 }
+    requires chars { label.now.extent.start.chars < 2 ^ 59 }
+    requires column { label.now.extent.start.column < 2 ^ 61 }
+    requires second_number { IfSome second.now (λ l. l.extent.start.line < 2 ^ 59) }
+    requires second_column { IfSome second.now (λ l. l.extent.start.column < 2 ^ 61) }
+    requires edit_first { IfSome edit.now (λ e. e.extent.start.line < 2 ^ 59) }
+    requires edit_last { IfSome edit.now (λ e. e.extent.end.line < 2 ^ 59) }
+    requires cut { frame.now.cut < 2 ^ 62 }
+    ensures { IfOk result (λ s. string_bytes s ≡ laid_out (seen_frame frame.now)
+        (seen_error error.now) (seen_label label.now) (option_map seen_label second.now)
+        (option_map seen_edit edit.now)) }
+{
+    let mut out = String::new(alloc);
+    put_head(
+        &mut out,
+        frame,
+        error.description.as_str(),
+        label.extent.start,
+    )?;
+    put_labels(alloc, &mut out, frame, label, second)?;
+    put_below(alloc, &mut out, frame, &error.note, edit)?;
+    out.push_str("\n")?;
+    Ok(out)
+}
+
+/// Returns the text that shows an error of a literal under its source, as rustc 1.95 draws it
+/// without colours. The spans of the error are byte ranges of the literal: its parser had this
+/// literal as its snippet, and that was the source literal.
+///
+/// From top to bottom: what the error is, and its path, line and column, which counts characters;
+/// the lines with labels, each with its number and the signs of the labels under it; the note; the
+/// suggestion; an empty line. A suggestion to remove or to insert something is a second label, one
+/// to replace a text shows the old and the new lines. Those for which the arguments of the call are
+/// needed, `UsePositional` and `UseRustDebugPrintingMacro`, are left out. Long lines are not cut at
+/// their right. Of two labels each is drawn in the line in which it begins.
+///
+/// The width of a character is that of the crate `unicode_width`. Of all characters up to U+323FF,
+/// it differs from that of rustc 1.95 for U+FF9E and U+FF9F, and for 1,027 that are new in Unicode
+/// 18.
+///
+/// A span that does not fit is drawn too: an offset inside a character means the start of that
+/// character, one behind the source its end, and a range that ends before it begins is empty.
+/// Returns `Err` if an allocation fails, or if the source has 2^59 bytes or more.
+#[tactic(auto, unfolding(crate::specs::Drawing::drawing))]
+pub fn draw(alloc: Global, picture: &Picture<'_>, error: &ParseError) -> Result<String, AllocError>
+    ensures drawn { IfOk result (λ s. string_bytes s
+        ≡ drawing (seen_picture picture.now) (seen_error error.now)) }
+{
+    if picture.source.len() >= 1 << 59 {
+        return Err(AllocError);
+    }
+    let text = format!(in alloc; "{} in format string", error.label)?;
+    let label = Label {
+        sign: '^',
+        text: text.as_str(),
+        extent: picture.extent(&error.span),
+    };
+    let second = second(picture, error);
+    let edit = edit_of(picture, &error.suggestion);
+    let frame = frame_for(alloc, picture, &label, &second, &edit)?;
+    lay_out(alloc, &frame, error, &label, &second, &edit)
+}

@@ -1,0 +1,150 @@
+//! Characters as they are drawn, and the columns that they take. What begins with `put_` appends
+//! to `out`, and returns `Err` if an allocation fails.
+
+ghost use Rattle.std.specs.Prelude.{◌≡◌, ◌∷◌, ◌++◌, ◌<◌, ◌≤◌, ◌^◌, [], chars, drop};
+ghost use Rattle.std.specs.Prelude.{◌*◌, length, take};
+ghost use Rattle.std.specs.Prelude.{IfSome, MatchOption, OnOk, encode_utf8_all, string_bytes};
+ghost use Rattle.drawn_faults.specs.Glyphs.{glyph, glyph_count, glyphs, indent, run, width};
+
+use std::alloc::AllocError;
+use unicode_width::UnicodeWidthChar;
+
+/// Returns the first character and what is after it, or `None` if the text is empty.
+pub fn split_first(text: &str) -> Option<(char, &str)>
+    ensures parts { MatchOption result (chars text.now ≡ [])
+        (λ x. chars text.now ≡ x.0 ∷ chars x.1.now) }
+    ensures shorter { IfSome result (λ x. length x.1.now < length text.now) }
+{
+    let mut rest = text.chars();
+    let c = rest.next()?;
+    Some((c, rest.as_str()))
+}
+
+/// Returns the character that is drawn for a character.
+#[tactic(auto, unfolding(crate::specs::Glyphs::glyph))]
+fn glyph(c: char) -> char
+    ensures { result ≡ glyph c }
+{
+    match c {
+        '\t' => ' ',
+        '\0'..='\u{1f}' => char::from_u32(0x2400 + c as u32).unwrap_or(c),
+        '\u{7f}' => '\u{2421}',
+        '\u{202a}'..='\u{202e}' | '\u{2066}'..='\u{2069}' => '\u{fffd}',
+        _ => c,
+    }
+}
+
+/// Returns how often the glyph of a character is drawn.
+#[tactic(auto, unfolding(crate::specs::Glyphs::glyph_count))]
+fn glyph_count(c: char) -> usize
+    ensures value { result ≡ glyph_count c }
+    ensures few { result ≤ 4 }
+{
+    match c {
+        '\t' => 4,
+        '\u{200d}' => 0,
+        _ => 1,
+    }
+}
+
+/// Returns how many columns a character takes.
+#[tactic(auto, unfolding(crate::specs::Glyphs::width))]
+pub fn width(c: char) -> usize
+    ensures value { result ≡ width c }
+    ensures few { result ≤ 4 }
+{
+    match c {
+        '\t' => 4,
+        '\u{202a}'..='\u{202e}' | '\u{2066}'..='\u{2069}' => 1,
+        _ => c.width().unwrap_or(1),
+    }
+}
+
+/// Returns how many columns of a line are its indent, or `None` if the line is blank.
+pub fn indent(line: &str) -> Option<usize>
+    requires { length line.now < 2 ^ 60 }
+    ensures value { result ≡ indent 0 (chars line.now) }
+    ensures few { IfSome result (λ n. n ≤ 4 * length line.now) }
+{
+    let mut rest = line;
+    let mut columns = 0;
+    while let Some((c, tail)) = split_first(rest) {
+        if !c.is_whitespace() {
+            return Some(columns);
+        }
+        columns += if c == '\t' { 4 } else { 1 };
+        rest = tail;
+    }
+    None
+}
+
+/// Adds a character again and again.
+pub fn put_run(out: &mut String, c: char, count: usize) -> Result<(), AllocError>
+    ensures { OnOk result (string_bytes out.new ≡ string_bytes out.old ++ run count c) }
+{
+    for _ in 0..count {
+        out.push(c)?;
+    }
+    Ok(())
+}
+
+/// Adds three texts.
+pub fn put_texts(out: &mut String, a: &str, b: &str, c: &str) -> Result<(), AllocError>
+    ensures { OnOk result (string_bytes out.new
+        ≡ string_bytes out.old ++ (a.now ++ (b.now ++ c.now))) }
+{
+    out.push_str(a)?;
+    out.push_str(b)?;
+    out.push_str(c)?;
+    Ok(())
+}
+
+/// Adds a text as it is drawn, without the first `skipped` characters of that.
+pub fn put_glyphs(out: &mut String, text: &str, skipped: usize) -> Result<(), AllocError>
+    ensures { OnOk result (string_bytes out.new ≡ string_bytes out.old ++
+        encode_utf8_all (drop skipped (glyphs (chars text.now)))) }
+{
+    let mut rest = text;
+    let mut skip = skipped;
+    while let Some((c, tail)) = split_first(rest) {
+        let count = glyph_count(c);
+        put_run(out, glyph(c), count.saturating_sub(skip))?;
+        skip = skip.saturating_sub(count);
+        rest = tail;
+    }
+    Ok(())
+}
+
+/// Adds the first characters of a text, as they are drawn.
+pub fn put_front(out: &mut String, text: &str, count: usize) -> Result<(), AllocError>
+    ensures { OnOk result (string_bytes out.new ≡ string_bytes out.old
+        ++ encode_utf8_all (glyphs (take count (chars text.now)))) }
+{
+    let mut rest = text;
+    let mut left = count;
+    while left > 0 {
+        let Some((c, tail)) = split_first(rest) else {
+            break;
+        };
+        put_run(out, glyph(c), glyph_count(c))?;
+        rest = tail;
+        left -= 1;
+    }
+    Ok(())
+}
+
+/// Returns what is left of a text behind its first characters.
+pub fn behind_chars(text: &str, count: usize) -> &str
+    ensures { chars result.now ≡ drop count (chars text.now) }
+{
+    let mut rest = text;
+    let mut left = count;
+    while left > 0 {
+        let Some((_, tail)) = split_first(rest) else {
+            break;
+        };
+        rest = tail;
+        left -= 1;
+    }
+    rest
+}

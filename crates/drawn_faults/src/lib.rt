@@ -1,0 +1,18 @@
+//! The faults of a string literal for the one who wrote it: [`draw`] draws a fault under its
+//! source, as rustc does, and [`fix`] applies the edits that the suggestions of faults have.
+#![tactic(auto)]
+
+mod drawing;
+mod fixes;
+mod glyphs;
+mod labels;
+pub mod laws;
+mod lines;
+mod long;
+mod places;
+mod rows;
+mod suggestions;
+
+pub use drawing::draw;
+pub use fixes::{Edit, Fixed, edits, errors_of, fix};
+pub use places::Picture;

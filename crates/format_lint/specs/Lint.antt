@@ -1,0 +1,143 @@
+-- What `formatlint` writes, by its task and for any bytes as its input.
+use Rattle.std.specs.Prelude.{◌≡◌, ℕ, ◌-◌, ◌<◌, ◌++◌, ◌==◌, Bool, true, false, ◌⊎◌, if◌then◌else◌}
+use Rattle.std.specs.Prelude.{nat_lt, List, [], length, take, Option, Some, None, option_map}
+use Rattle.std.specs.Prelude.{unwrap_or, Result, Ok, Err, chars, codes, decimal, flat_map, IsUtf8}
+use Rattle.rustc_parse_format.specs.Types.{Mode}
+use Rattle.rustc_parse_format.specs.Faults.{Message}
+use Rattle.rustc_parse_format.specs.World.{Place}
+use Rattle.rustc_parse_format.specs.State.{first_state}
+use Rattle.piece_listing.specs.declared.verdict.RunFault.{RunFault}
+use Rattle.piece_listing.specs.declared.verdict.RunFault.TheVariants.{Words, Read, TooLong, NotText}
+use Rattle.piece_listing.specs.declared.verdict.RunFault.TheVariants.{NotLiteral, Memory, Write}
+use Rattle.piece_listing.specs.Program.{IsShort, limit}
+use Rattle.rustc_parse_format.specs.Literal.{IsLiteral, newline}
+use Rattle.drawn_faults.specs.Places.{Picture}
+use Rattle.drawn_faults.specs.Drawing.{drawing}
+use Rattle.drawn_faults.specs.Fixing.{Fixed, IsFixed, all_errors}
+use Rattle.format_lint.specs.declared.task.Show.{Show}
+use Rattle.format_lint.specs.declared.task.Show.TheVariants.{Faults as ShowFaults, Fix as ShowFix}
+
+-- What the arguments of the program ask for.
+pub record Task : Type 0 where
+  pub mode : Mode
+  -- The input is a string literal, as written in a program.
+  pub is_literal : Bool
+  -- The path that is shown for the input.
+  pub path : List ℕ
+  pub show : Show
+
+-- A text, with the style of the literal that it is in and the literal as it is written.
+pub record Source : Type 0 where
+  pub text : List ℕ
+  pub style : Option ℕ
+  pub literal : Option (List ℕ)
+
+-- The input is a literal, with at most one newline after it.
+pub record IsLiteralIn (input : List ℕ) (s : Source) : Type 0 where
+  pub literal : List ℕ
+  pub appended : Bool
+  pub is_whole : chars literal ++ newline appended ≡ chars input
+  pub is_literal : IsLiteral s.style (chars literal) (chars s.text)
+  pub is_written : s.literal ≡ Some literal
+  pub literal_utf8 : IsUtf8 literal
+  pub text_utf8 : IsUtf8 s.text
+
+-- What the input is. The flag says whether it is read as a literal.
+abbrev pub IsSourceIn : Bool → List ℕ → Source → Type 0
+IsSourceIn true input s = IsLiteralIn input s
+IsSourceIn false input s = s ≡ record { text = input; style = None; literal = None }
+
+-- The errors of all calls of a parser over the source, up to its end.
+abbrev pub errors : Mode → Source → List (Message Place)
+errors mode s = all_errors (first_state mode (chars s.text) s.style
+    (option_map (λ l. chars l) s.literal) false)
+
+-- What faults are drawn in: the literal, or the text. Without a literal a byte offset is one more
+-- than in the text, so that is shown behind a line end, and its lines count from 1.
+abbrev pub picture : List ℕ → Source → Picture
+picture path s = elim s.literal [
+  | None ↦ record {
+    path = path;
+    source = codes "\n" ++ s.text;
+    line_start = 0;
+    literal_start = 0;
+  }
+  | Some l ↦ record { path = path; source = l; line_start = 1; literal_start = 0 }
+]
+
+-- The most faults that are drawn.
+abbrev pub most_drawn : ℕ
+most_drawn = 10
+
+-- The line that says how many faults are not drawn, if there are any.
+abbrev pub more : ℕ → List ℕ
+more n = if n == 0 then [] else codes "and " ++ (decimal n ++ codes " more\n")
+
+-- The drawings of errors, one after the other, and how many are left out.
+abbrev pub drawings : Picture → List (Message Place) → List ℕ
+drawings p ms = flat_map (drawing p) (take most_drawn ms) ++ more (length ms - most_drawn)
+
+-- What is written, and whether a fault is left.
+abbrev pub Shown : Type 0
+Shown = List ℕ × Bool
+
+-- The drawings of a source's faults.
+abbrev pub drawn : Mode → List ℕ → Source → Shown
+drawn mode path s =
+    (drawings (picture path s) (errors mode s), nat_lt 0 (length (errors mode s)))
+
+-- A source as it is written, and a line end.
+abbrev pub written : Source → List ℕ
+written s = unwrap_or s.literal s.text ++ codes "\n"
+
+-- A source is written, and then its faults are drawn.
+abbrev pub kept : Mode → List ℕ → Source → Shown
+kept mode path s = (written s ++ (drawn mode path s).0, (drawn mode path s).1)
+
+-- Where l is the literal of a source: the literal with the edits that its faults suggest is
+-- written,
+-- and then the faults that it still has. If there is no such literal, the source stays as it is.
+abbrev pub IsMendedIn : Mode → List ℕ → Source → List ℕ → Shown → Type 0
+IsMendedIn mode path s l x =
+    ((f : Fixed) × IsFixed mode s.text s.style l false f × (x ≡ kept mode path
+    (record { text = f.text; style = s.style; literal = Some f.snippet })))
+    ⊎ (((f : Fixed) → IsFixed mode s.text s.style l false f → ⊥) × (x ≡ kept mode path s))
+
+-- The same of any source. A text has no fix.
+abbrev pub IsMended : Mode → List ℕ → Source → Shown → Type 0
+IsMended mode path s x = elim s.literal [
+  | None ↦ x ≡ kept mode path s
+  | Some l ↦ IsMendedIn mode path s l x
+]
+
+-- What a task shows of a source.
+abbrev pub IsShown : Task → Source → Shown → Type 0
+IsShown a s x = elim a.show [
+  | ShowFaults ↦ x ≡ drawn a.mode a.path s
+  | ShowFix ↦ IsMended a.mode a.path s x
+]
+
+-- The answer to a task with this input: what is written, or why nothing is.
+abbrev pub IsOwed : Task → List ℕ → Result Shown RunFault → Type 0
+IsOwed a input (Ok x) = IsShort input × IsUtf8 input
+    × ((s : Source) × IsSourceIn a.is_literal input s × IsShown a s x)
+IsOwed a input (Err TooLong) = limit < length input
+IsOwed a input (Err NotText) = IsShort input × (IsUtf8 input → ⊥)
+IsOwed a input (Err NotLiteral) = IsShort input × IsUtf8 input
+    × ((s : Source) → IsSourceIn a.is_literal input s → ⊥)
+IsOwed a input (Err Words) = ⊥
+IsOwed a input (Err Read) = ⊥
+IsOwed a input (Err Memory) = ⊥
+IsOwed a input (Err Write) = ⊥
+
+-- The message that is written to the error output, and the exit status.
+abbrev pub verdict : Result Bool RunFault → List ℕ × ℕ
+verdict (Ok false) = ([], 0)
+verdict (Ok true) = ([], 1)
+verdict (Err Words) = (codes "formatlint: invalid arguments", 2)
+verdict (Err NotLiteral) = (codes "formatlint: input is not a string literal", 2)
+verdict (Err Read) = (codes "formatlint: reading failed", 3)
+verdict (Err TooLong) = (codes "formatlint: input is longer than 1048576 bytes", 3)
+verdict (Err NotText) = (codes "formatlint: input is not UTF-8", 3)
+verdict (Err Memory) = (codes "formatlint: out of memory", 3)
+verdict (Err Write) = (codes "formatlint: writing failed", 3)

@@ -1,0 +1,23 @@
+-- What a contract sees of a task and of a source.
+use Rattle.std.specs.Prelude.{option_map}
+use Rattle.rustc_parse_format.specs.Seen.{seen_mode}
+use Rattle.format_lint.specs.declared.task.Task.{Task as DeclaredTask}
+use Rattle.format_lint.specs.declared.shown.Source.{Source as DeclaredSource}
+use Rattle.format_lint.specs.Lint.{Source, Task}
+
+-- A task as a contract sees it.
+abbrev pub seen_task : DeclaredTask → Task
+seen_task t = record {
+  mode = seen_mode t.mode;
+  is_literal = t.is_literal;
+  path = t.path.now;
+  show = t.show;
+}
+
+-- A source as a contract sees it.
+abbrev pub seen_source : DeclaredSource → Source
+seen_source s = record {
+  text = s.text.now;
+  style = s.style;
+  literal = option_map (λ l. l.now) s.literal;
+}

@@ -1,0 +1,8 @@
+//! The program `formatlint` as a function over any reader and writer (`run`), and the error message
+//! and exit status for each of its results (`verdict`).
+#![tactic(auto)]
+
+pub mod run;
+mod shown;
+pub mod task;
+pub mod verdict;

@@ -1,0 +1,52 @@
+//! The program over any reader and writer: its input, what it shows, and its output.
+
+ghost use Rattle.std.specs.Prelude.{◌≡◌, ◌≢◌, List, Bool, ℕ, IfErr, IfOk, IfSome, IsErrOf, Err, Ok};
+ghost use Rattle.std.specs.Io.KnownBytes.{Appends};
+ghost use Rattle.piece_listing.specs.declared.verdict.RunFault.TheVariants.{Words, TooLong};
+ghost use Rattle.piece_listing.specs.declared.verdict.RunFault.TheVariants.{NotText, NotLiteral};
+ghost use Rattle.piece_listing.specs.declared.verdict.RunFault.TheVariants.{Write as WriteFault};
+ghost use Rattle.format_lint.specs.Lint.{IsOwed};
+ghost use Rattle.format_lint.specs.SeenLint.{seen_task};
+
+use super::shown::shown_of_input;
+use super::task::Task;
+use piece_listing::run::{read_input, write_whole};
+use piece_listing::verdict::RunFault;
+use std::alloc::Global;
+use std::io::{Read, Write};
+
+/// Reads an input from `reader` up to its end, and writes what `task` shows of it to `writer`.
+/// Returns whether a fault is left: one of the input, or of the literal with its fixes.
+///
+/// The input may have at most 1,048,576 bytes. Returns `Err` if a read, a write or an allocation
+/// fails, or if the input is too long, not UTF-8, or not a string literal although the task asks
+/// for one (`RunFault`, but never `Words`). A read or a write that fails is not tried again. After
+/// an error nothing is written, except that after a failed write a part may be.
+pub fn run<R: Read, W: Write>(
+    alloc: Global,
+    reader: &mut R,
+    writer: &mut W,
+    task: Task<'_>,
+) -> Result<bool, RunFault>
+    // What is written and the result are those that the definition `IsOwed` asks for.
+    ensures shown { IfOk result (λ told. IfSome (R.remaining reader.old) (λ input. (text : List ℕ)
+        × IsOwed (seen_task task.entry) input (Ok (text, told))
+        × Appends (W.contents writer.old) (W.contents writer.new) text)) }
+    ensures not_words { IfErr result (λ fault. fault ≢ Words) }
+    ensures too_long { IsErrOf result TooLong → IfSome (R.remaining reader.old)
+        (λ input. IsOwed (seen_task task.entry) input (Err TooLong)) }
+    ensures not_text { IsErrOf result NotText → IfSome (R.remaining reader.old)
+        (λ input. IsOwed (seen_task task.entry) input (Err NotText)) }
+    ensures not_literal { IsErrOf result NotLiteral → IfSome (R.remaining reader.old)
+        (λ input. IsOwed (seen_task task.entry) input (Err NotLiteral)) }
+    // After any error other than a failed write, nothing is written.
+    ensures unwritten { IfErr result (λ fault. fault ≢ WriteFault → writer.new ≡ writer.old) }
+{
+    let input = read_input(alloc, reader)?;
+    let Ok(text) = str::from_utf8(input.as_slice()) else {
+        return Err(RunFault::NotText);
+    };
+    let (shown, told) = shown_of_input(alloc, text, task)?;
+    write_whole(writer, shown.as_bytes())?;
+    Ok(told)
+}

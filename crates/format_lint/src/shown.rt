@@ -1,0 +1,269 @@
+//! What is shown of an input in UTF-8.
+
+ghost use Rattle.std.specs.Prelude.{◌≡◌, ◌≢◌, ◌≤◌, ◌++◌, List, [], IfErr, IfOk, IsErrOf, OnOk};
+ghost use Rattle.std.specs.Prelude.{flat_map, length, map, nat_lt, string_bytes};
+ghost use Rattle.rustc_parse_format.specs.Seen.{seen_error, seen_mode};
+ghost use Rattle.rustc_parse_format.specs.World.{hashes};
+ghost use Rattle.piece_listing.specs.declared.verdict.RunFault.TheVariants.{Words, TooLong};
+ghost use Rattle.piece_listing.specs.declared.verdict.RunFault.TheVariants.{NotText, NotLiteral};
+ghost use Rattle.piece_listing.specs.Program.{IsShort, limit};
+ghost use Rattle.drawn_faults.specs.Drawing.{drawing};
+ghost use Rattle.drawn_faults.specs.Places.{seen_picture};
+ghost use Rattle.format_lint.specs.Lint.{IsLiteralIn, IsMended, IsShown, IsSourceIn};
+ghost use Rattle.format_lint.specs.Lint.{Source as SourceValue};
+ghost use Rattle.format_lint.specs.Lint.{drawings, drawn, errors, kept, more, picture};
+ghost use Rattle.format_lint.specs.SeenLint.{seen_source, seen_task};
+
+use super::task::{Show, Task};
+use drawn_faults::{Picture, draw, errors_of, fix};
+use piece_listing::literal::{literal_text, without_newline};
+use piece_listing::verdict::RunFault;
+use rustc_parse_format::{ParseError, ParseMode};
+use std::alloc::{AllocError, Global};
+
+/// The most faults that are drawn.
+const MOST_DRAWN: usize = 10;
+
+/// Appends the drawings of errors to a text. Returns `Err` if an allocation fails.
+fn put_each(
+    alloc: Global,
+    out: &mut String,
+    picture: &Picture<'_>,
+    errors: &[ParseError],
+) -> Result<(), AllocError>
+    ensures { OnOk result (string_bytes out.new ≡ string_bytes out.old
+        ++ flat_map (drawing (seen_picture picture.now)) (map seen_error errors.now)) }
+{
+    for error in errors {
+        let text = draw(alloc, picture, error)?;
+        out.push_str(text.as_str())?;
+    }
+    Ok(())
+}
+
+/// Appends a line that says how many faults are not drawn, if there are any. Returns `Err` if an
+/// allocation fails.
+fn put_more(alloc: Global, out: &mut String, count: usize) -> Result<(), AllocError>
+    ensures { OnOk result (string_bytes out.new ≡ string_bytes out.old ++ more count) }
+{
+    if count == 0 {
+        return Ok(());
+    }
+    let line = format!(in alloc; "and {count} more\n")?;
+    out.push_str(line.as_str())?;
+    Ok(())
+}
+
+/// Appends the drawings of the first errors to a text, and says how many others there are. Returns
+/// whether there are any, and `Err` if an allocation fails.
+fn put_drawings(
+    alloc: Global,
+    out: &mut String,
+    picture: &Picture<'_>,
+    errors: &[ParseError],
+) -> Result<bool, AllocError>
+    ensures drawn { OnOk result (string_bytes out.new ≡ string_bytes out.old
+        ++ drawings (seen_picture picture.now) (map seen_error errors.now)) }
+    ensures told { IfOk result (λ told. told ≡ nat_lt 0 (length (map seen_error errors.now))) }
+{
+    let drawn = errors.len().min(MOST_DRAWN);
+    put_each(alloc, out, picture, &errors[..drawn])?;
+    put_more(alloc, out, errors.len() - drawn)?;
+    Ok(errors.len() > 0)
+}
+
+/// A text, with the style of the literal that it is in and the literal as it is written.
+#[derive(Copy, Clone)]
+pub struct Source<'a> {
+    pub text: &'a str,
+    pub style: Option<usize>,
+    pub literal: Option<&'a str>,
+}
+
+/// Returns the errors of all calls of a parser over a source. Returns `Err` if an allocation fails.
+fn errors_in(
+    alloc: Global,
+    mode: ParseMode,
+    source: Source<'_>,
+) -> Result<Vec<ParseError>, AllocError>
+    requires { hashes source.style ≤ limit }
+    ensures { IfOk result (λ v. map seen_error v.items
+        ≡ errors (seen_mode mode) (seen_source source.entry)) }
+{
+    let snippet = match source.literal {
+        Some(literal) => Some(String::from_str(alloc, literal)?),
+        None => None,
+    };
+    errors_of(alloc, source.text, source.style, snippet, false, mode)
+}
+
+/// Appends the drawings of errors in a source to a text. Returns whether there are any, and `Err`
+/// if an allocation fails.
+fn put_errors(
+    alloc: Global,
+    out: &mut String,
+    path: &str,
+    source: Source<'_>,
+    errors: &[ParseError],
+) -> Result<bool, AllocError>
+    ensures drawn { OnOk result (string_bytes out.new ≡ string_bytes out.old
+        ++ drawings (picture path.now (seen_source source.entry)) (map seen_error errors.now)) }
+    ensures told { IfOk result (λ told. told ≡ nat_lt 0 (length (map seen_error errors.now))) }
+{
+    if let Some(literal) = source.literal {
+        let picture = Picture {
+            path,
+            source: literal,
+            line_start: 1,
+            literal_start: 0,
+        };
+        return put_drawings(alloc, out, &picture, errors);
+    }
+    let text = source.text;
+    let shown = format!(in alloc; "\n{text}")?;
+    let picture = Picture {
+        path,
+        source: shown.as_str(),
+        line_start: 0,
+        literal_start: 0,
+    };
+    put_drawings(alloc, out, &picture, errors)
+}
+
+/// Appends the drawings of the faults of a source to a text. Returns whether it has faults, and
+/// `Err` if an allocation fails.
+fn put_drawn(
+    alloc: Global,
+    out: &mut String,
+    mode: ParseMode,
+    path: &str,
+    source: Source<'_>,
+) -> Result<bool, AllocError>
+    requires { hashes source.style ≤ limit }
+    ensures drawn { OnOk result (string_bytes out.new ≡ string_bytes out.old
+        ++ (drawn (seen_mode mode) path.now (seen_source source.entry)).0) }
+    ensures told { IfOk result (λ told. told
+        ≡ (drawn (seen_mode mode) path.now (seen_source source.entry)).1) }
+{
+    let errors = errors_in(alloc, mode, source)?;
+    Ok(put_errors(alloc, out, path, source, errors.as_slice())?)
+}
+
+/// Appends a source as it is written, a line end, and the drawings of its faults to a text. Returns
+/// whether it has faults, and `Err` if an allocation fails.
+fn put_kept(
+    alloc: Global,
+    out: &mut String,
+    mode: ParseMode,
+    path: &str,
+    source: Source<'_>,
+) -> Result<bool, AllocError>
+    requires { hashes source.style ≤ limit }
+    ensures kept { OnOk result (string_bytes out.new ≡ string_bytes out.old
+        ++ (kept (seen_mode mode) path.now (seen_source source.entry)).0) }
+    ensures told { IfOk result (λ told. told
+        ≡ (kept (seen_mode mode) path.now (seen_source source.entry)).1) }
+{
+    out.push_str(source.literal.unwrap_or(source.text))?;
+    out.push_str("\n")?;
+    put_drawn(alloc, out, mode, path, source)
+}
+
+/// Appends the literal of a source with the edits that its faults suggest, and the drawings of the
+/// faults that it then has, to a text. Returns whether it has faults, and `Err` if an allocation
+/// fails.
+fn put_fixed(
+    alloc: Global,
+    out: &mut String,
+    mode: ParseMode,
+    path: &str,
+    source: Source<'_>,
+) -> Result<bool, AllocError>
+    requires style { hashes source.style ≤ limit }
+    requires empty { string_bytes out.old ≡ [] }
+    ensures { IfOk result (λ told. IsMended (seen_mode mode) path.now (seen_source source.entry)
+        (string_bytes out.new, told)) }
+{
+    let Some(literal) = source.literal else {
+        return Ok(put_kept(alloc, out, mode, path, source)?);
+    };
+    match fix(alloc, source.text, source.style, literal, false, mode)? {
+        Some(fixed) => {
+            let mended = Source {
+                text: fixed.text.as_str(),
+                style: source.style,
+                literal: Some(fixed.snippet.as_str()),
+            };
+            Ok(put_kept(alloc, out, mode, path, mended)?)
+        }
+        None => Ok(put_kept(alloc, out, mode, path, source)?),
+    }
+}
+
+/// Returns what a task shows of a source, and whether a fault is left. Returns `Err` if an
+/// allocation fails.
+fn shown_of(alloc: Global, source: Source<'_>, task: Task<'_>) -> Result<(String, bool), AllocError>
+    requires { hashes source.style ≤ limit }
+    ensures { IfOk result (λ x. IsShown (seen_task task.entry) (seen_source source.entry)
+        (string_bytes x.0, x.1)) }
+{
+    let mut out = String::new(alloc);
+    let told = match task.show {
+        Show::Faults => put_drawn(alloc, &mut out, task.mode, task.path, source)?,
+        Show::Fix => put_fixed(alloc, &mut out, task.mode, task.path, source)?,
+    };
+    Ok((out, told))
+}
+
+/// Returns what a task shows of the input as a string literal, perhaps with a newline after it, and
+/// whether a fault is left. Returns `Err` if the input is not a string literal or an allocation
+/// fails.
+fn shown_of_literal(alloc: Global, input: &str, task: Task<'_>) -> Result<(String, bool), RunFault>
+    requires { IsShort input.now }
+    ensures shown { IfOk result (λ x. (s : SourceValue) × IsLiteralIn input.now s
+        × IsShown (seen_task task.entry) s (string_bytes x.0, x.1)) }
+    ensures not_literal { IsErrOf result NotLiteral → (s : SourceValue) → IsLiteralIn input.now s
+        → ⊥ }
+    ensures not_words { IfErr result (λ fault. fault ≢ Words) }
+    ensures not_long { IfErr result (λ fault. fault ≢ TooLong) }
+    ensures is_text { IfErr result (λ fault. fault ≢ NotText) }
+{
+    let literal = without_newline(input);
+    let Some((text, style)) = literal_text(alloc, literal)? else {
+        return Err(RunFault::NotLiteral);
+    };
+    let source = Source {
+        text: text.as_str(),
+        style,
+        literal: Some(literal),
+    };
+    Ok(shown_of(alloc, source, task)?)
+}
+
+/// Returns what a task shows of an input, and whether a fault is left. Returns `Err` if the task
+/// asks for a string literal and the input is none, or if an allocation fails.
+pub fn shown_of_input(
+    alloc: Global,
+    input: &str,
+    task: Task<'_>,
+) -> Result<(String, bool), RunFault>
+    requires { IsShort input.now }
+    ensures shown { IfOk result (λ x. (s : SourceValue)
+        × IsSourceIn task.entry.is_literal input.now s
+        × IsShown (seen_task task.entry) s (string_bytes x.0, x.1)) }
+    ensures not_literal { IsErrOf result NotLiteral → (s : SourceValue)
+        → IsSourceIn task.entry.is_literal input.now s → ⊥ }
+    ensures not_words { IfErr result (λ fault. fault ≢ Words) }
+    ensures not_long { IfErr result (λ fault. fault ≢ TooLong) }
+    ensures is_text { IfErr result (λ fault. fault ≢ NotText) }
+{
+    if task.is_literal {
+        return shown_of_literal(alloc, input, task);
+    }
+    let source = Source {
+        text: input,
+        style: None,
+        literal: None,
+    };
+    Ok(shown_of(alloc, source, task)?)
+}

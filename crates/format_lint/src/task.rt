@@ -1,0 +1,23 @@
+//! What the program is asked for.
+
+use rustc_parse_format::ParseMode;
+
+/// What is shown of an input.
+#[derive(Copy, Clone, Debug, Eq, PartialEq)]
+pub enum Show {
+    /// Its faults, drawn under their source.
+    Faults,
+    /// The literal with the edits that its faults suggest, and the faults that it then has.
+    Fix,
+}
+
+/// A task of the program.
+#[derive(Copy, Clone)]
+pub struct Task<'a> {
+    pub mode: ParseMode,
+    /// Whether the input is a string literal, as written in a program. Otherwise it is a text.
+    pub is_literal: bool,
+    /// The path that is shown for the input.
+    pub path: &'a str,
+    pub show: Show,
+}

@@ -1,0 +1,25 @@
+//! The error message and the exit status for each result of the program.
+
+ghost use Rattle.std.specs.Prelude.{◌≡◌};
+ghost use Rattle.format_lint.specs.Lint.{verdict};
+
+use piece_listing::verdict::RunFault;
+
+/// Returns the message for standard error, which is empty if there is no error, and the exit status
+/// of the program: 0 if no fault is left, 1 if one is, 2 if the arguments are invalid or the input
+/// is not a string literal, and 3 after any other error. Does not allocate.
+pub fn verdict(answer: &Result<bool, RunFault>) -> (&'static str, u8)
+    ensures { (result.0.now, result.1) ≡ verdict answer.now }
+{
+    match answer {
+        Ok(false) => ("", 0),
+        Ok(true) => ("", 1),
+        Err(RunFault::Words) => ("formatlint: invalid arguments", 2),
+        Err(RunFault::NotLiteral) => ("formatlint: input is not a string literal", 2),
+        Err(RunFault::Read) => ("formatlint: reading failed", 3),
+        Err(RunFault::TooLong) => ("formatlint: input is longer than 1048576 bytes", 3),
+        Err(RunFault::NotText) => ("formatlint: input is not UTF-8", 3),
+        Err(RunFault::Memory) => ("formatlint: out of memory", 3),
+        Err(RunFault::Write) => ("formatlint: writing failed", 3),
+    }
+}

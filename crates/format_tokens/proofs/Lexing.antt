@@ -1,0 +1,153 @@
+-- The tokens that are placed are those of the definition.
+use Rattle.std.proofs.Common.{◌≡◌, ℕ, suc, zero, ◌++◌, ◌-◌, ◌≤◌, ◌<◌, Bool, true, false}
+use Rattle.std.proofs.Common.{List, [], ◌∷◌, length, map, take, get_or, refl, sym, ap, ◌∙◌, arith}
+use Rattle.std.proofs.Common.{Option, Some, None}
+use Rattle.std.specs.Prelude.{min}
+use Rattle.std.specs.Int.{from_bool}
+use Rattle.std.proofs.lemmas.Bool.{cond-true, cond-false, false_from_ne_true}
+use Rattle.std.proofs.lemmas.List.{length-map, length-take, map-append}
+use Rattle.std.proofs.Math.Seq.{get_or-append_seam}
+use Rattle.rustc_parse_format.specs.Characters.{Text, byte_length}
+use Rattle.rustc_parse_format.specs.Literal.{IsSource}
+use Rattle.rustc_parse_format.specs.Marks.{Start}
+use Rattle.rustc_parse_format.specs.Source.{HasSource, unappended}
+use Rattle.rustc_parse_format.specs.Types.{Mode}
+use Rattle.rustc_parse_format.specs.World.{Place, World, number_of, world}
+use Rattle.rustc_parse_format.proofs.Sources.Decided.{found-source, has_source}
+use Rattle.rustc_parse_format.proofs.Spans.Worlds.{has_source-is}
+use Rattle.format_tokens.specs.declared.kinds.Kind.{Kind}
+use Rattle.format_tokens.specs.declared.kinds.Kind.TheVariants.{Quote}
+use Rattle.format_tokens.specs.declared.kinds.Token.{Token}
+use Rattle.format_tokens.specs.Seen.{seen_token}
+use Rattle.format_tokens.specs.Midway.{sized}
+use Rattle.format_tokens.specs.Placed.{Placed, placed, quoted, shown, tokens, within}
+use Rattle.format_tokens.specs.Starts.{placed_sizes, starts_of}
+use Rattle.format_tokens.specs.Tokens.{Label, token}
+use Rattle.format_tokens.specs.Walk.{tokens_of}
+use Rattle.format_tokens.proofs.Starts.{firsts, length-starts, placed-none, placed-some, starts-at}
+use Rattle.format_tokens.proofs.Worlds.{length-places}
+
+-- A token is placed if it has characters.
+token-placed : (w : World) (n j : ℕ) (k : Kind) (u : Text) (ls : List Label) → length u ≡ j
+    → 0 < j → placed w n (token k u ++ ls)
+    ≡ (k, (number_of w (Start n), number_of w (Start (n - j)))) ∷ placed w (n - j) ls
+token-placed w n j k [] ls e some = absurd (omega arith)
+token-placed w n j k (c ∷ u) ls e some = rw (← e) refl
+
+token-none : (w : World) (n j : ℕ) (k : Kind) (u : Text) (ls : List Label) → length u ≡ j
+    → j ≡ 0 → placed w n (token k u ++ ls) ≡ placed w n ls
+token-none w n j k [] ls e none = refl
+token-none w n j k (c ∷ u) ls e none = absurd (omega arith)
+
+-- By lengths alone the same tokens are placed.
+one-placed : (w : World) (n k j : ℕ) (l : Label) (ls : List Label)
+    → ((m i : ℕ) → placed_sizes w m i (map sized ls) ≡ placed w m (within i ls))
+    → min (length l.1) k ≡ j
+    → placed_sizes w n k (sized l ∷ map sized ls) ≡ placed w n (within k (l ∷ ls))
+one-placed w n k zero l ls others e = placed-none w n k (sized l) (map sized ls) e
+    ∙ (others n (k - length l.1)
+    ∙ sym (token-none w n 0 l.0 (take k l.1) (within (k - length l.1) ls)
+    (omega (arith, length-take k l.1, e)) refl))
+one-placed w n k (suc j) l ls others e =
+    placed-some w n k (sized l) (map sized ls) (omega (arith, e))
+    ∙ (ap (λ t. (l.0, (number_of w (Start n), number_of w (Start (n - min (length l.1) k)))) ∷ t)
+    (others (n - min (length l.1) k) (k - length l.1))
+    ∙ sym (token-placed w n (min (length l.1) k) l.0 (take k l.1)
+    (within (k - length l.1) ls) (omega (arith, length-take k l.1)) (omega (arith, e))))
+
+pub sizes-placed : (w : World) (n k : ℕ) (ls : List Label)
+    → placed_sizes w n k (map sized ls) ≡ placed w n (within k ls)
+sizes-placed w n k [] = refl
+sizes-placed w n k (l ∷ ls) =
+    one-placed w n k (min (length l.1) k) l ls (λ m i. sizes-placed w m i ls) refl
+
+-- How many characters are shown.
+pub kept-is : (b : Bool) (t : Text) → length t - from_bool b ≡ length (unappended b t)
+kept-is true t = omega (arith, length-take (length t - 1) t)
+kept-is false t = omega arith
+
+pub kept-small : (input : Text) (style : Option ℕ) (snippet : Option Text) (b : Bool)
+    (starts : List ℕ) (kept : ℕ) → starts ≡ starts_of (world input style snippet b)
+    → kept ≤ length input → kept < length starts
+kept-small input style snippet b starts kept e h =
+    omega (
+      arith,
+      ap length e,
+      length-starts (world input style snippet b),
+      length-places input style snippet b,
+    )
+
+-- The tokens of the text.
+text-tokens : (mode : Mode) (input : Text) (style : Option ℕ) (snippet : Option Text) (b : Bool)
+    (kept : ℕ) → kept ≡ length (unappended b input)
+    → (let w = world input style snippet b in
+    placed_sizes w (length w.places) kept (map sized (tokens_of mode input))
+    ≡ placed w (length input) (shown mode input b))
+text-tokens mode input style snippet b kept e =
+    let w = world input style snippet b in
+    sizes-placed w (length w.places) kept (tokens_of mode input)
+    ∙ (ap (λ n. placed w n (within kept (tokens_of mode input)))
+    (length-places input style snippet b)
+    ∙ ap (λ k. placed w (length input) (within k (tokens_of mode input))) e)
+
+unquoted : (input : Text) (style : Option ℕ) (snippet : Option Text) (b : Bool) (ts : List Placed)
+    → (HasSource input style snippet b → ⊥)
+    → quoted (world input style snippet b) input snippet ts ≡ ts
+unquoted input style None b ts none = refl
+unquoted input style (Some snippet) b ts none =
+    cond-false _ _ _ (has_source-is input style (Some snippet) b
+    ∙ false_from_ne_true _ (λ h. none ((has_source input style (Some snippet) b).0 h)))
+
+pub plain-tokens : (mode : Mode) (input : Text) (style : Option ℕ) (snippet : Option Text)
+    (b : Bool) (kept : ℕ) (all : List Placed) → kept ≡ length (unappended b input)
+    → (HasSource input style snippet b → ⊥)
+    → (let w = world input style snippet b in
+    all ≡ placed_sizes w (length w.places) kept (map sized (tokens_of mode input)))
+    → all ≡ tokens mode input style snippet b
+unfolding tokens
+plain-tokens mode input style snippet b kept all e none h =
+    h ∙ (text-tokens mode input style snippet b kept e
+    ∙ sym (unquoted input style snippet b _ none))
+
+starts-last : (w : World) → get_or (starts_of w) (length w.places) 0 ≡ w.end
+starts-last w =
+    ap (λ n. get_or (starts_of w) n 0) (sym (length-map w.places (λ (p : Place). p.0)))
+    ∙ get_or-append_seam (firsts w.places) w.end [] 0
+
+around : (a b c d m n : ℕ) (x y : List Placed) → a ≡ b → c ≡ d → m ≡ n → x ≡ y
+    → ((Quote, (0, a)) ∷ [] ++ x) ++ (Quote, (c, m)) ∷ []
+    ≡ (Quote, (0, b)) ∷ (y ++ (Quote, (d, n)) ∷ [])
+around a b c d m n x y e f g h = rw (e, f, g, h) refl
+
+pub quoted-tokens : (mode : Mode) (input : Text) (style : Option ℕ) (literal : Text) (b : Bool)
+    (kept n : ℕ) (starts : List ℕ) (all : List Placed) → kept ≡ length (unappended b input)
+    → IsSource input style literal b
+    → starts ≡ starts_of (world input style (Some literal) b) → n ≡ byte_length literal
+    → (let w = world input style (Some literal) b in
+    all ≡ ((Quote, (0, get_or starts 0 0)) ∷ []
+    ++ placed_sizes w (length w.places) kept (map sized (tokens_of mode input)))
+    ++ (Quote, (get_or starts (length starts - 1) 0, n)) ∷ [])
+    → all ≡ tokens mode input style (Some literal) b
+unfolding tokens
+quoted-tokens mode input style literal b kept n starts all e source f g h =
+    let w = world input style (Some literal) b in
+    let places = length-places input style (Some literal) b in
+    let first : get_or starts 0 0 ≡ number_of w (Start (length input)) =
+    ap (λ l. get_or l 0 0) f ∙ (starts-at w 0 (omega arith)
+    ∙ ap (λ k. number_of w (Start k)) (omega (arith, places))) in
+    let last : get_or starts (length starts - 1) 0 ≡ w.end =
+    ap (λ l. get_or l (length l - 1) 0) f
+    ∙ (ap (λ k. get_or (starts_of w) k 0) (omega (arith, length-starts w)) ∙ starts-last w) in
+    let yes : w.has_source ≡ true = has_source-is input style (Some literal) b
+    ∙ found-source input style literal b source in
+    h ∙ (around _ _ _ _ _ _ _ _ first last g
+    (text-tokens mode input style (Some literal) b kept e) ∙ sym (cond-true _ _ _ yes))
+
+-- The lists that a token before and a token after the others make.
+pub assembled : (none one two all : List Token) (a b : Token) (x : List Placed) → none ≡ []
+    → one ≡ none ++ a ∷ [] → map seen_token two ≡ map seen_token one ++ x → all ≡ two ++ b ∷ []
+    → map seen_token all ≡ ((seen_token a ∷ []) ++ x) ++ seen_token b ∷ []
+assembled none one two all a b x e f g h =
+    ap (map seen_token) h ∙ (map-append seen_token two (b ∷ [])
+    ∙ ap (λ l. l ++ seen_token b ∷ [])
+    (g ∙ ap (λ l. map seen_token l ++ x) (f ∙ ap (λ l. l ++ a ∷ []) e)))

@@ -1,0 +1,11 @@
+pub mod Calls
+pub mod Counts
+pub mod Lexing
+pub mod Ordinary
+pub mod Positions
+pub mod Progress
+pub mod Specifications
+pub mod Starts
+pub mod Taking
+pub mod Widths
+pub mod Worlds

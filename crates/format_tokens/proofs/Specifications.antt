@@ -1,0 +1,130 @@
+-- The tokens of a specification, by what it means.
+use Rattle.std.proofs.Common.{◌≡◌, ℕ, ◌++◌, Bool, true, false, List, [], ◌∷◌, chars, refl, sym, ap}
+use Rattle.std.proofs.Common.{◌∙◌, codes}
+use Rattle.std.specs.Int.{from_bool}
+use Rattle.std.proofs.lemmas.Bool.{false≢true, not-true}
+use Rattle.rustc_parse_format.specs.Characters.{Text, begins_with, byte_length, is_no_brace}
+use Rattle.rustc_parse_format.specs.Spelling.{IsPart, fixed, optional_identifier, run}
+use Rattle.rustc_parse_format.specs.Types.{Mode, Format, InlineAsm, Diagnostic, DiagnosticNamed}
+use Rattle.rustc_parse_format.specs.Types.{Spec}
+use Rattle.rustc_parse_format.specs.Syntax.{FormatText, SpecText, Default, Formatting, Modifier}
+use Rattle.rustc_parse_format.specs.Syntax.{DiagnosticText, alternate_part, format_part, spec_part}
+use Rattle.rustc_parse_format.specs.Values.{format_value, spec_value}
+use Rattle.rustc_parse_format.proofs.Grammar.PartLaws.{IsPart-moved}
+use Rattle.rustc_parse_format.proofs.Grammar.PartLaws.{two-split}
+use Rattle.format_tokens.specs.declared.kinds.Kind.TheVariants.{Colon}
+use Rattle.format_tokens.specs.declared.kinds.Kind.TheVariants.{Modifier as ModifierKind}
+use Rattle.format_tokens.specs.declared.kinds.Kind.TheVariants.{DiagnosticText as DiagnosticKind}
+use Rattle.format_tokens.specs.Midway.{Sized, Took}
+use Rattle.format_tokens.specs.Tokens.{format_tokens, spec_tokens}
+use Rattle.format_tokens.proofs.Taking.{Takes, then}
+
+pub alternate-width : (b : Bool) → from_bool b ≡ byte_length (alternate_part b).spelling
+alternate-width true = refl
+alternate-width false = refl
+
+-- Without a colon there is no specification.
+pub no_colon : (mode : Mode) (t r : Text) (k : SpecText) → begins_with 58 t ≡ false
+    → IsPart t (spec_part mode k) r → k ≡ Default
+no_colon mode t r Default e h = refl
+no_colon Format t r (Formatting p) e h = absurd (false≢true (sym e ∙ ap (begins_with 58) h.whole))
+no_colon InlineAsm t r (Modifier w) e h = absurd (false≢true (sym e ∙ ap (begins_with 58) h.whole))
+no_colon Diagnostic t r (DiagnosticText u) e h =
+    absurd (false≢true (sym e ∙ ap (begins_with 58) h.whole))
+no_colon DiagnosticNamed t r (DiagnosticText u) e h =
+    absurd (false≢true (sym e ∙ ap (begins_with 58) h.whole))
+no_colon Format t r (Modifier w) e h = absurd (false≢true h.formed)
+no_colon Format t r (DiagnosticText u) e h = absurd (false≢true h.formed)
+no_colon InlineAsm t r (Formatting p) e h = absurd (false≢true h.formed)
+no_colon InlineAsm t r (DiagnosticText u) e h = absurd (false≢true h.formed)
+no_colon Diagnostic t r (Formatting p) e h = absurd (false≢true h.formed)
+no_colon Diagnostic t r (Modifier w) e h = absurd (false≢true h.formed)
+no_colon DiagnosticNamed t r (Formatting p) e h = absurd (false≢true h.formed)
+no_colon DiagnosticNamed t r (Modifier w) e h = absurd (false≢true h.formed)
+
+-- With one there is.
+default_starts : (mode : Mode) (t r : Text) {A : Type 0} → begins_with 58 t ≡ true
+    → IsPart t (spec_part mode Default) r → A
+default_starts mode t r e h = absurd (false≢true (sym (not-true (begins_with 58 r) h.ends)
+    ∙ (ap (begins_with 58) (sym h.whole) ∙ e)))
+
+pub format-behind : (t b left : List ℕ) (x y z : List Sized) (f : Spec (Unit {0}))
+    → begins_with 58 (chars t) ≡ true → Takes Colon 1 t x y b
+    → ((p : FormatText) (n : ℕ) (r : Text) → IsPart (chars b) (format_part p) r
+    → f ≡ format_value n p → Took (format_tokens p) r y z left)
+    → (k : SpecText) (n : ℕ) (r : Text) → IsPart (chars t) (spec_part Format k) r
+    → f ≡ spec_value n k → Took (spec_tokens k) r x z left
+format-behind t b left x y z f e colon format Default n r h v =
+    default_starts Format (chars t) r e h
+format-behind t b left x y z f e colon format (Formatting p) n r h v =
+    let s = two-split (chars t) (fixed (codes ":")) (format_part p) r h in
+    let first = colon (codes ":") s.seam s.first.whole refl in
+    then first (format p n r (IsPart-moved _ _ _ _ first.leaves s.second) v)
+format-behind t b left x y z f e colon format (Modifier w) n r h v = absurd (false≢true h.formed)
+format-behind t b left x y z f e colon format (DiagnosticText w) n r h v =
+    absurd (false≢true h.formed)
+
+pub modifier-behind : (t b left : List ℕ) (x y z : List Sized) (f : Spec (Unit {0})) (m : ℕ)
+    → begins_with 58 (chars t) ≡ true → Takes Colon 1 t x y b → m ≡ byte_length f.ty
+    → Takes ModifierKind m b y z left
+    → (k : SpecText) (n : ℕ) (r : Text) → IsPart (chars t) (spec_part InlineAsm k) r
+    → f ≡ spec_value n k → Took (spec_tokens k) r x z left
+modifier-behind t b left x y z f m e colon i takes Default n r h v =
+    default_starts InlineAsm (chars t) r e h
+modifier-behind t b left x y z f m e colon i takes (Modifier w) n r h v =
+    let s = two-split (chars t) (fixed (codes ":")) (optional_identifier w) r h in
+    let first = colon (codes ":") s.seam s.first.whole refl in
+    then first (takes w r (first.leaves ∙ optional-whole w s.second)
+    (i ∙ ap (λ (g : Spec (Unit {0})). byte_length g.ty) v))
+  where
+    optional-whole : {t r : Text} (w : Text) → IsPart t (optional_identifier w) r → t ≡ w ++ r
+    optional-whole [] h = h.whole
+    optional-whole (c ∷ w) h = h.whole
+modifier-behind t b left x y z f m e colon i takes (Formatting w) n r h v =
+    absurd (false≢true h.formed)
+modifier-behind t b left x y z f m e colon i takes (DiagnosticText w) n r h v =
+    absurd (false≢true h.formed)
+
+-- The mode is one of the two for diagnostics.
+abbrev pub IsDiagnostic : Mode → Type 0
+IsDiagnostic Format = ⊥
+IsDiagnostic InlineAsm = ⊥
+IsDiagnostic Diagnostic = Unit {0}
+IsDiagnostic DiagnosticNamed = Unit {0}
+
+diagnostic : (t b left : List ℕ) (x y z : List Sized) (f : Spec (Unit {0})) (m : ℕ)
+    → Takes Colon 1 t x y b → m ≡ byte_length f.ty → Takes DiagnosticKind m b y z left
+    → (u : Text) (r : Text) → IsPart (chars t) (spec_part Diagnostic (DiagnosticText u)) r
+    → f.ty ≡ u → Took (spec_tokens (DiagnosticText u)) r x z left
+diagnostic t b left x y z f m colon i takes u r h v =
+    let s = two-split (chars t) (fixed (codes ":")) (run is_no_brace u) r h in
+    let first = colon (codes ":") s.seam s.first.whole refl in
+    then first (takes u r (first.leaves ∙ s.second.whole) (i ∙ ap byte_length v))
+
+pub diagnostic-behind : (mode : Mode) (t b left : List ℕ) (x y z : List Sized)
+    (f : Spec (Unit {0})) (m : ℕ) → begins_with 58 (chars t) ≡ true → Takes Colon 1 t x y b
+    → m ≡ byte_length f.ty → Takes DiagnosticKind m b y z left
+    → IsDiagnostic mode
+    → (k : SpecText) (n : ℕ) (r : Text) → IsPart (chars t) (spec_part mode k) r
+    → f ≡ spec_value n k → Took (spec_tokens k) r x z left
+diagnostic-behind mode t b left x y z f m e colon i takes d Default n r h v =
+    default_starts mode (chars t) r e h
+diagnostic-behind Diagnostic t b left x y z f m e colon i takes d (DiagnosticText u) n r h v =
+    diagnostic t b left x y z f m colon i takes u r h (ap (λ (g : Spec (Unit {0})). g.ty) v)
+diagnostic-behind DiagnosticNamed t b left x y z f m e colon i takes d (DiagnosticText u) n r h v =
+    diagnostic t b left x y z f m colon i takes u r h (ap (λ (g : Spec (Unit {0})). g.ty) v)
+diagnostic-behind Format t b left x y z f m e colon i takes d (DiagnosticText u) n r h v = absurd d
+diagnostic-behind InlineAsm t b left x y z f m e colon i takes d (DiagnosticText u) n r h v =
+    absurd d
+diagnostic-behind Format t b left x y z f m e colon i takes d (Formatting u) n r h v = absurd d
+diagnostic-behind InlineAsm t b left x y z f m e colon i takes d (Formatting u) n r h v = absurd d
+diagnostic-behind Diagnostic t b left x y z f m e colon i takes d (Formatting u) n r h v =
+    absurd (false≢true h.formed)
+diagnostic-behind DiagnosticNamed t b left x y z f m e colon i takes d (Formatting u) n r h v =
+    absurd (false≢true h.formed)
+diagnostic-behind Format t b left x y z f m e colon i takes d (Modifier u) n r h v = absurd d
+diagnostic-behind InlineAsm t b left x y z f m e colon i takes d (Modifier u) n r h v = absurd d
+diagnostic-behind Diagnostic t b left x y z f m e colon i takes d (Modifier u) n r h v =
+    absurd (false≢true h.formed)
+diagnostic-behind DiagnosticNamed t b left x y z f m e colon i takes d (Modifier u) n r h v =
+    absurd (false≢true h.formed)

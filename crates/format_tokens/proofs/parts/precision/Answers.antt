@@ -1,0 +1,9 @@
+use Rattle.std.proofs.Common.{ap, ◌∙◌}
+use Rattle.std.specs.Int.{from_bool}
+use Rattle.format_tokens.proofs.Counts.{precision-takes}
+use Rattle.format_tokens.proofs.parts.precision.Goals as goal
+
+pub returns : goal.returns
+returns c = precision-takes _ _ _ _ _ _ _ _ (c.from.ensures ∙ ap from_bool c.begins.ensures)
+    c.in_ok-behind.ensures c.in_ok-left.ensures.count c.in_ok-left.ensures.star
+    c.in_ok-left.ensures.none

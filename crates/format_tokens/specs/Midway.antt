@@ -1,0 +1,35 @@
+-- What the functions that read a part say of the tokens that they add: only the contracts of
+-- private
+-- functions cite it.
+use Prim.Native.Char.{code}
+use Rattle.std.specs.Prelude.{◌≡◌, ℕ, ◌++◌, ◌&&◌, Bool, false, List, [], ◌∷◌, length, map, chars}
+use Rattle.std.specs.Char.{is_ascii_digit, is_whitespace}
+use Rattle.rustc_parse_format.specs.Characters.{Text, begins_with, behind_first}
+use Rattle.format_tokens.specs.declared.kinds.Kind.{Kind}
+use Rattle.format_tokens.specs.declared.parts.Run.{Run}
+use Rattle.format_tokens.specs.declared.parts.Run.TheVariants.{Digits, White}
+use Rattle.format_tokens.specs.Tokens.{Label}
+
+-- A kind and a number of characters.
+abbrev pub Sized : Type 0
+Sized = Kind × ℕ
+
+-- The token with its length in place of its characters.
+abbrev pub sized : Label → Sized
+sized l = (l.0, length l.1)
+
+-- The tokens are added to a list, each with its length, and r is left of the text.
+pub record Took (ls : List Label) (r : Text) (old new : List Sized) (left : List ℕ) : Type 0 where
+  pub adds : new ≡ old ++ map sized ls
+  pub leaves : chars left ≡ r
+
+-- The class of a run, as a test of characters.
+abbrev pub passes : Run → ℕ → Bool
+passes Digits = is_ascii_digit
+passes White = is_whitespace
+
+-- The text begins with `r#`, and then as the name does.
+abbrev pub names_raw : Text → Text → Bool
+names_raw t [] = false
+names_raw t (c ∷ w) = begins_with (code "r") t && begins_with (code "#") (behind_first t)
+    && begins_with c (behind_first (behind_first t))

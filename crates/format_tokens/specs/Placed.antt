@@ -1,0 +1,51 @@
+-- The tokens of an input with their byte ranges in the source.
+use Rattle.std.specs.Prelude.{ℕ, ◌-◌, ◌++◌, Bool, if◌then◌else◌, List, [], ◌∷◌, length, take}
+use Rattle.std.specs.Prelude.{Option}
+use Rattle.std.specs.Prelude.{Some, None}
+use Rattle.rustc_parse_format.specs.Characters.{Text, byte_length}
+use Rattle.rustc_parse_format.specs.Marks.{Start}
+use Rattle.rustc_parse_format.specs.Types.{Mode}
+use Rattle.rustc_parse_format.specs.Source.{unappended}
+use Rattle.rustc_parse_format.specs.World.{World, Place, number_of, place_of, world}
+use Rattle.format_tokens.specs.declared.kinds.Kind.{Kind}
+use Rattle.format_tokens.specs.declared.kinds.Kind.TheVariants.{Quote}
+use Rattle.format_tokens.specs.Tokens.{Label, token}
+use Rattle.format_tokens.specs.Walk.{tokens_of}
+
+-- The tokens of the first n characters. One that goes on after these is shortened.
+abbrev pub within : ℕ → List Label → List Label
+within n [] = []
+within n (l ∷ ls) = token l.0 (take n l.1) ++ within (n - length l.1) ls
+
+-- The tokens of an input, faulty or not, without an appended newline.
+abbrev pub shown : Mode → Text → Bool → List Label
+shown mode input appended = within (length (unappended appended input)) (tokens_of mode input)
+
+-- A kind and a byte range.
+abbrev pub Placed : Type 0
+Placed = Kind × Place
+
+-- The tokens with their byte ranges, where n characters are left at the first of them. A token goes
+-- from where its first character starts to where the next character starts, or to the end of the
+-- text.
+abbrev pub placed : World → ℕ → List Label → List Placed
+placed w n [] = []
+placed w n (l ∷ ls) =
+    (l.0, place_of w (record { from = Start n; to = Start (n - length l.1) }))
+    ∷ placed w (n - length l.1) ls
+
+-- With a source literal, what is around the text: a token from the first byte of the literal to
+-- where the first character starts, and one from the end of the text to the last byte.
+abbrev pub quoted : World → Text → Option Text → List Placed → List Placed
+quoted w input None ts = ts
+quoted w input (Some snippet) ts =
+    if w.has_source
+    then (Quote, (0, number_of w (Start (length input))))
+    ∷ (ts ++ (Quote, (w.end, byte_length snippet)) ∷ [])
+    else ts
+
+-- The tokens of an input in its source.
+unfoldable pub tokens : Mode → Text → Option ℕ → Option Text → Bool → List Placed
+tokens mode input style snippet appended =
+    let w = world input style snippet appended in
+    quoted w input snippet (placed w (length input) (shown mode input appended))

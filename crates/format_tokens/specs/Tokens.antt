@@ -1,0 +1,97 @@
+-- The tokens of the parts of a format string as they are written, in the order of the grammar. A
+-- token is a kind and the characters that are written.
+use Rattle.std.specs.Prelude.{◌++◌, List, [], ◌∷◌, codes, flat_map}
+use Rattle.rustc_parse_format.specs.Characters.{Text}
+use Rattle.rustc_parse_format.specs.Syntax.{PositionText, Digits, Word, RawWord, NoPosition}
+use Rattle.rustc_parse_format.specs.Syntax.{CountText, NumberCount, IndexCount, NameCount, NoCount}
+use Rattle.rustc_parse_format.specs.Syntax.{WidthText, PaddedWidth, ZeroIndexWidth, PlainWidth}
+use Rattle.rustc_parse_format.specs.Syntax.{PrecisionText, NoPrecision, StarPrecision}
+use Rattle.rustc_parse_format.specs.Syntax.{DotPrecision, FormatText, SpecText, Default, Formatting}
+use Rattle.rustc_parse_format.specs.Syntax.{Modifier, DiagnosticText, FieldText, PieceText, RunText}
+use Rattle.rustc_parse_format.specs.Syntax.{DoubledText, PlaceholderText, fill_part, align_part}
+use Rattle.rustc_parse_format.specs.Syntax.{sign_part, alternate_part, type_part}
+use Rattle.format_tokens.specs.declared.kinds.Kind.{Kind}
+use Rattle.format_tokens.specs.declared.kinds.Kind.TheVariants.{Text as TextKind, Escape, Open}
+use Rattle.format_tokens.specs.declared.kinds.Kind.TheVariants.{Close}
+use Rattle.format_tokens.specs.declared.kinds.Kind.TheVariants.{Integer, Identifier, RawPrefix}
+use Rattle.format_tokens.specs.declared.kinds.Kind.TheVariants.{White}
+use Rattle.format_tokens.specs.declared.kinds.Kind.TheVariants.{Colon, Fill, Align, Sign}
+use Rattle.format_tokens.specs.declared.kinds.Kind.TheVariants.{NumberSign}
+use Rattle.format_tokens.specs.declared.kinds.Kind.TheVariants.{Zero, DollarSign, Dot, Asterisk}
+use Rattle.format_tokens.specs.declared.kinds.Kind.TheVariants.{«Type» as TypeKind}
+use Rattle.format_tokens.specs.declared.kinds.Kind.TheVariants.{Modifier as ModifierKind}
+use Rattle.format_tokens.specs.declared.kinds.Kind.TheVariants.{DiagnosticText as DiagnosticKind}
+
+-- A token: its kind and its characters.
+abbrev pub Label : Type 0
+Label = Kind × Text
+
+-- The token of a text. The empty text has none.
+abbrev pub token : Kind → Text → List Label
+token k [] = []
+token k (c ∷ u) = (k, c ∷ u) ∷ []
+
+-- argument := integer | identifier. A raw identifier is its prefix and the identifier.
+abbrev pub position_tokens : PositionText → List Label
+position_tokens (Digits ds) = token Integer ds
+position_tokens (Word w) = token Identifier w
+position_tokens (RawWord w) = token RawPrefix (codes "r#") ++ token Identifier w
+position_tokens NoPosition = []
+
+-- count := integer | parameter, parameter := argument '$'
+abbrev pub count_tokens : CountText → List Label
+count_tokens (NumberCount ds) = token Integer ds
+count_tokens (IndexCount ds) = token Integer ds ++ token DollarSign (codes "$")
+count_tokens (NameCount w) = token Identifier w ++ token DollarSign (codes "$")
+count_tokens NoCount = []
+
+-- ['0'] [width], width := count
+abbrev pub width_tokens : WidthText → List Label
+width_tokens (PaddedWidth k) = token Zero (codes "0") ++ count_tokens k
+width_tokens ZeroIndexWidth = token Integer (codes "0") ++ token DollarSign (codes "$")
+width_tokens (PlainWidth k) = count_tokens k
+
+-- ['.' precision], precision := count | '*'
+abbrev pub precision_tokens : PrecisionText → List Label
+precision_tokens NoPrecision = []
+precision_tokens StarPrecision = token Dot (codes ".") ++ token Asterisk (codes "*")
+precision_tokens (DotPrecision k) = token Dot (codes ".") ++ count_tokens k
+
+-- format_spec := [[fill]align][sign]['#']['0'][width]['.' precision]type
+abbrev pub format_tokens : FormatText → List Label
+format_tokens p = token Fill (fill_part p.fill).spelling
+    ++ (token Align (align_part p.align).spelling
+    ++ (token Sign (sign_part p.sign).spelling
+    ++ (token NumberSign (alternate_part p.alternate).spelling
+    ++ (width_tokens p.width
+    ++ (precision_tokens p.precision
+    ++ token TypeKind (type_part p.type).spelling)))))
+
+-- [ ':' format_spec ], or after the colon what the mode allows.
+abbrev pub spec_tokens : SpecText → List Label
+spec_tokens Default = []
+spec_tokens (Formatting p) = token Colon (codes ":") ++ format_tokens p
+spec_tokens (Modifier w) = token Colon (codes ":") ++ token ModifierKind w
+spec_tokens (DiagnosticText u) = token Colon (codes ":") ++ token DiagnosticKind u
+
+-- A field: a position, white space and a specification.
+abbrev pub field_tokens : FieldText → List Label
+field_tokens a = position_tokens a.position ++ (token White a.space ++ spec_tokens a.spec)
+
+-- An opening brace, a field, and white space before what comes next.
+abbrev pub opened_tokens : FieldText → Text → List Label
+opened_tokens a space = token Open (codes "{") ++ (field_tokens a ++ token White space)
+
+-- format_string := text [ maybe_format text ] *, maybe_format := '{' '{' | '}' '}' | format
+abbrev pub piece_tokens : PieceText → List Label
+piece_tokens (RunText u) = token TextKind u
+piece_tokens (DoubledText b u) = token Escape (b ∷ b ∷ []) ++ token TextKind u
+piece_tokens (PlaceholderText a space) = opened_tokens a space ++ token Close (codes "}")
+
+-- The tokens of pieces, one after the other.
+abbrev pub pieces_tokens : List PieceText → List Label
+pieces_tokens xs = flat_map piece_tokens xs
+
+-- The characters of tokens, one after the other.
+abbrev pub joined : List Label → Text
+joined ls = flat_map (λ (l : Label). l.1) ls

@@ -1,0 +1,11 @@
+//! The tokens of a format string: what an editor shows in colours.
+#![tactic(auto)]
+
+mod kinds;
+mod lexer;
+mod parts;
+mod places;
+mod walk;
+
+pub use kinds::{Kind, Token};
+pub use lexer::tokens;

@@ -1,0 +1,151 @@
+//! The tokens of a whole text, by the calls of the parser.
+
+ghost use Rattle.std.specs.Prelude.{◌≡◌, ◌+◌, ◌++◌, ◌<◌, ◌^◌, ℕ, Some, IfOk, chars, codes, length};
+ghost use Rattle.std.specs.Prelude.{if◌then◌else◌};
+ghost use Rattle.std.specs.Prelude.{map, option_map};
+ghost use Rattle.rustc_parse_format.specs.Call.{call, placeholder};
+ghost use Rattle.rustc_parse_format.specs.Characters.{Text, byte_length, first_passes, is_brace};
+ghost use Rattle.rustc_parse_format.specs.Placeholder.{cut};
+ghost use Rattle.rustc_parse_format.specs.Seen.{seen_argument, seen_mode, seen_taken};
+ghost use Rattle.rustc_parse_format.specs.Types.{Lit as LitPiece, Mode, bare_argument};
+ghost use Rattle.rustc_parse_format.specs.Values.{argument_value};
+ghost use Rattle.rustc_parse_format.specs.World.{World, piece_in};
+ghost use Rattle.format_tokens.specs.Midway.{Took, sized};
+ghost use Rattle.format_tokens.specs.Walk.{call_tokens, placeholder_tokens, tokens_of};
+
+use crate::kinds::Kind;
+use crate::parts::{Run, begins, position, run_width, specification, take, width_of};
+use rustc_parse_format::{Argument, FormatSpec, ParseMode, Parser, Position, Taken};
+use std::alloc::{AllocError, Global};
+
+/// Adds the tokens of a placeholder at the start of a text, and returns what is left of the text
+/// after the call that read it: `left` bytes.
+fn placeholder<'a>(
+    labels: &mut Vec<(Kind, usize)>,
+    mode: ParseMode,
+    argument: &Argument<'_>,
+    left: usize,
+    text: &'a str,
+) -> Result<&'a str, AllocError>
+    ensures { IfOk result (λ after. (n : ℕ) (t : Text) → chars text.now ≡ codes "{" ++ t
+        → bare_argument (seen_argument argument.now)
+        ≡ argument_value n (cut (seen_mode mode) t).field
+        → (let k = placeholder (seen_mode mode) n (chars text.now) t in
+        left ≡ byte_length k.rest
+        → Took (placeholder_tokens (seen_mode mode) t k.rest) k.rest
+        labels.old.items labels.new.items after.now)) }
+{
+    let field = take(labels, Kind::Open, 1, text)?;
+    let space = position(labels, &argument.position, field)?;
+    let spec = take(labels, Kind::White, run_width(space, Run::White), space)?;
+    let last = specification(labels, mode, &argument.format, spec)?;
+    let end = take(labels, Kind::White, run_width(last, Run::White), last)?;
+    let rest = take(labels, Kind::Close, usize::from(begins(end, '}')), end)?;
+    let after = take(
+        labels,
+        Kind::Unexpected,
+        width_of(rest).saturating_sub(left),
+        rest,
+    )?;
+    Ok(after)
+}
+
+/// Returns the byte length of the doubled brace at the start of a piece of literal text, or 0 if it
+/// starts with no brace.
+fn escape_width(text: &str) -> usize
+    ensures { result ≡ (if first_passes is_brace (chars text.now) then 2 else 0) }
+{
+    if begins(text, '{') || begins(text, '}') {
+        2
+    } else {
+        0
+    }
+}
+
+/// Adds the tokens of a piece of literal text at the start of a text, and returns what is left of
+/// the text after it: `left` bytes.
+fn literal<'a>(
+    labels: &mut Vec<(Kind, usize)>,
+    left: usize,
+    text: &'a str,
+) -> Result<&'a str, AllocError>
+    ensures { IfOk result (λ after. (mode : Mode) (n : ℕ) (l : Text) →
+        (let k = call mode n (chars text.now) in
+        k.piece ≡ Some (LitPiece l) → left ≡ byte_length k.rest
+        → Took (call_tokens mode (chars text.now) k.rest) k.rest
+        labels.old.items labels.new.items after.now)) }
+{
+    let rest = take(labels, Kind::Escape, escape_width(text), text)?;
+    let after = take(
+        labels,
+        Kind::Text,
+        width_of(rest).saturating_sub(left),
+        rest,
+    )?;
+    Ok(after)
+}
+
+/// Adds the tokens of a call at the start of a text, and returns what is left of the text after it:
+/// `left` bytes.
+fn call<'a>(
+    labels: &mut Vec<(Kind, usize)>,
+    mode: ParseMode,
+    taken: Option<Taken<'_>>,
+    argument: &Argument<'_>,
+    left: usize,
+    text: &'a str,
+) -> Result<&'a str, AllocError>
+    ensures { IfOk result (λ after. (w : World) (n : ℕ) →
+        (let k = call (seen_mode mode) n (chars text.now) in
+        option_map (seen_taken argument.now) taken.entry ≡ option_map (piece_in w) k.piece
+        → left ≡ byte_length k.rest
+        → Took (call_tokens (seen_mode mode) (chars text.now) k.rest) k.rest
+        labels.old.items labels.new.items after.now)) }
+{
+    let Some(piece) = taken else {
+        let after = take(
+            labels,
+            Kind::Unexpected,
+            width_of(text).saturating_sub(left),
+            text,
+        )?;
+        return Ok(after);
+    };
+    match piece {
+        Taken::Lit(_) => {
+            let after = literal(labels, left, text)?;
+            Ok(after)
+        }
+        Taken::NextArgument => {
+            let after = placeholder(labels, mode, argument, left, text)?;
+            Ok(after)
+        }
+    }
+}
+
+/// Returns an argument to read placeholders into.
+fn blank_argument<'a>() -> Argument<'a> {
+    Argument {
+        position: Position::ArgumentImplicitlyIs(0),
+        position_span: 0..0,
+        format: FormatSpec::default(),
+    }
+}
+
+/// Returns the kinds of the tokens of a text and the byte length of each.
+pub fn labels(alloc: Global, input: &str, mode: ParseMode) -> Result<Vec<(Kind, usize)>, AllocError>
+    requires { length input.now + 2 < 2 ^ 64 }
+    ensures { IfOk result (λ v. v.items
+        ≡ map sized (tokens_of (seen_mode mode) (chars input.now))) }
+{
+    let mut labels = Vec::new(alloc);
+    let mut parser = Parser::new(alloc, input, None, None, false, mode)?;
+    let mut argument = blank_argument();
+    let mut rest = input;
+    while !rest.is_empty() {
+        let (taken, _) = parser.next_into(&mut argument)?;
+        let left = width_of(input).saturating_sub(parser.position());
+        rest = call(&mut labels, mode, taken, &argument, left, rest)?;
+    }
+    Ok(labels)
+}

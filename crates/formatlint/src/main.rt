@@ -1,0 +1,108 @@
+//! Draws the faults of a string literal under it, as the Rust compiler does.
+#![tactic(auto)]
+
+use clap::{Arg, ArgAction, ArgMatches, Command, Error};
+use format_lint::run::run;
+use format_lint::task::{Show, Task};
+use format_lint::verdict::verdict;
+use piece_listing::verdict::RunFault;
+use rustc_parse_format::ParseMode;
+use std::alloc::{AllocError, Global};
+use std::process::ExitCode;
+use std::{env, fs};
+
+/// Returns the options and the argument of the program. Returns `Err` if an allocation fails.
+fn command<'a>(alloc: Global) -> Result<Command<'a>, AllocError> {
+    let mode = Arg::new(alloc, "mode")
+        .long("mode")
+        .value_name("MODE")
+        .value_parser(["format", "asm", "diagnostic", "diagnostic-named"].as_slice())
+        .default_value("format")
+        .help("What the string is");
+    let text = Arg::new(alloc, "text")
+        .long("text")
+        .action(ArgAction::SetTrue)
+        .help("Read a text, not a string literal");
+    let fix = Arg::new(alloc, "fix")
+        .long("fix")
+        .action(ArgAction::SetTrue)
+        .conflicts_with("text")?
+        .help("Print the literal with the suggestions applied, and the faults that it then has");
+    let file = Arg::new(alloc, "file")
+        .value_name("FILE")
+        .help("The file to read; without it, standard input is read");
+    Command::new(alloc, "formatlint")
+        .about("Draws the faults of a string literal under it, as the Rust compiler does")
+        .arg(mode)?
+        .arg(text)?
+        .arg(fix)?
+        .arg(file)
+}
+
+/// Returns the mode that is asked for.
+fn mode_of(matches: &ArgMatches<'_>) -> ParseMode {
+    let word = matches.get_str("mode").unwrap_or("format");
+    if word == "asm" {
+        ParseMode::InlineAsm
+    } else if word == "diagnostic" {
+        ParseMode::Diagnostic
+    } else if word == "diagnostic-named" {
+        ParseMode::DiagnosticNamed
+    } else {
+        ParseMode::Format
+    }
+}
+
+/// Returns the task that is asked for.
+fn task_of<'a>(matches: &ArgMatches<'a>) -> Task<'a> {
+    Task {
+        mode: mode_of(matches),
+        is_literal: !matches.get_flag("text"),
+        path: matches.get_str("file").unwrap_or("<stdin>"),
+        show: if matches.get_flag("fix") {
+            Show::Fix
+        } else {
+            Show::Faults
+        },
+    }
+}
+
+/// Runs a task on its file, or on standard input. Returns whether a fault is left, as `run` does.
+fn answer(rt: &HostRuntime, task: Task<'_>, file: Option<&str>) -> Result<bool, RunFault> {
+    match file {
+        Some(path) => match fs::open(rt, path) {
+            Ok(mut file) => run(rt.alloc(), &mut file, &mut rt.stdout(), task),
+            Err(_) => Err(RunFault::Read),
+        },
+        None => run(rt.alloc(), &mut rt.stdin(), &mut rt.stdout(), task),
+    }
+}
+
+/// Reads the arguments of the program and runs their task. Returns the exit status, and `Err` if
+/// the arguments are invalid, an allocation fails, or help is asked for.
+fn status(rt: &HostRuntime, words: &[String]) -> Result<u8, Error> {
+    let matches = command(rt.alloc())?.try_get_matches_from(words)?;
+    let answer = answer(rt, task_of(&matches), matches.get_str("file"));
+    let (text, status) = verdict(&answer);
+    if !text.is_empty() {
+        let _ = rt.eprintln(text);
+    }
+    Ok(status)
+}
+
+fn main(rt: HostRuntime) -> ExitCode {
+    let words: Vec<String> = match env::args(&rt) {
+        Ok(words) => match words.collect(rt.alloc()) {
+            Ok(words) => words,
+            Err(_) => return ExitCode::from(3),
+        },
+        Err(_) => return ExitCode::from(3),
+    };
+    match status(&rt, words.as_slice()) {
+        Ok(status) => ExitCode::from(status),
+        Err(error) => {
+            let _ = error.print(&rt);
+            ExitCode::from(error.exit_code() as u8)
+        }
+    }
+}

@@ -1,0 +1,18 @@
+//! Tests of `drawn_faults`: the drawings of faults, against those of rustc 1.95.
+//!
+//! `short_rows` and `line_rows` are the tables, `drawings` draws each row, and `misfits` has spans
+//! that no parser gives. In `memory` an allocation fails.
+#![tactic(auto)]
+
+#[cfg(test)]
+mod drawings;
+#[cfg(test)]
+mod line_rows;
+#[cfg(test)]
+mod memory;
+#[cfg(test)]
+mod misfits;
+#[cfg(test)]
+mod row;
+#[cfg(test)]
+mod short_rows;

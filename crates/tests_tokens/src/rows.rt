@@ -1,0 +1,163 @@
+//! The tokens of source literals.
+
+use format_tokens::Kind::{self, *};
+use format_tokens::{Token, tokens};
+use rustc_parse_format::ParseMode;
+use std::alloc::Global;
+use std::process::Abort;
+use std::test::Fail;
+
+/// The tokens have these kinds and start at these bytes, and each ends where the next one starts.
+fn check(rt: &impl Abort, found: &[Token], expected: &[(Kind, usize)], end: usize) {
+    assert_eq!(rt; found.len(), expected.len());
+    for i in 0..expected.len() {
+        assert!(rt; i < found.len());
+        assert!(rt; found[i].kind == expected[i].0);
+        assert_eq!(rt; found[i].span.start, expected[i].1);
+        let next = if i + 1 < expected.len() {
+            expected[i + 1].1
+        } else {
+            end
+        };
+        assert_eq!(rt; found[i].span.end, next);
+    }
+}
+
+/// Checks the tokens of an ordinary literal.
+fn check_literal(
+    rt: &impl Abort,
+    alloc: Global,
+    mode: ParseMode,
+    input: &str,
+    literal: &str,
+    expected: &[(Kind, usize)],
+) -> Result<(), Fail> {
+    assert!(rt; input.len() < 1000);
+    let snippet = String::from_str(alloc, literal)?;
+    let found = tokens(alloc, input, None, Some(snippet), false, mode)?;
+    check(rt, found.as_slice(), expected, literal.len());
+    Ok(())
+}
+
+#[test]
+fn each_kind_of_a_format_string(rt: HostRuntime) -> Result<(), Fail> {
+    let row = [
+        (Quote, 0),
+        (Text, 1),
+        (Open, 4),
+        (RawPrefix, 5),
+        (Identifier, 7),
+        (White, 8),
+        (Colon, 9),
+        (Fill, 10),
+        (Align, 11),
+        (Sign, 12),
+        (NumberSign, 13),
+        (Zero, 14),
+        (Integer, 15),
+        (DollarSign, 16),
+        (Dot, 17),
+        (Asterisk, 18),
+        (Type, 19),
+        (White, 21),
+        (Close, 22),
+        (Escape, 23),
+        (Text, 25),
+        (Unexpected, 26),
+        (Quote, 27),
+    ];
+    let input = "hi {r#a :*>+#01$.*x? }{{b}";
+    check_literal(
+        &rt,
+        rt.alloc(),
+        ParseMode::Format,
+        input,
+        "\"hi {r#a :*>+#01$.*x? }{{b}\"",
+        &row,
+    )
+}
+
+#[test]
+fn a_template_and_a_diagnostic(rt: HostRuntime) -> Result<(), Fail> {
+    let template = [
+        (Quote, 0),
+        (Open, 1),
+        (Integer, 2),
+        (Colon, 3),
+        (Modifier, 4),
+        (Close, 5),
+        (Quote, 6),
+    ];
+    check_literal(
+        &rt,
+        rt.alloc(),
+        ParseMode::InlineAsm,
+        "{0:e}",
+        "\"{0:e}\"",
+        &template,
+    )?;
+    let message = [
+        (Quote, 0),
+        (Open, 1),
+        (Identifier, 2),
+        (Colon, 3),
+        (DiagnosticText, 4),
+        (Close, 6),
+        (Quote, 7),
+    ];
+    check_literal(
+        &rt,
+        rt.alloc(),
+        ParseMode::Diagnostic,
+        "{T:a }",
+        "\"{T:a }\"",
+        &message,
+    )
+}
+
+#[test]
+fn what_recovery_takes(rt: HostRuntime) -> Result<(), Fail> {
+    let row = [
+        (Quote, 0),
+        (Open, 1),
+        (Identifier, 2),
+        (Unexpected, 3),
+        (Unexpected, 4),
+        (Quote, 5),
+    ];
+    check_literal(&rt, rt.alloc(), ParseMode::Format, "{a?}", "\"{a?}\"", &row)?;
+    let field = [
+        (Quote, 0),
+        (Open, 1),
+        (Identifier, 2),
+        (Unexpected, 3),
+        (Quote, 6),
+    ];
+    check_literal(
+        &rt,
+        rt.alloc(),
+        ParseMode::Format,
+        "{a.b}",
+        "\"{a.b}\"",
+        &field,
+    )
+}
+
+#[test]
+fn escapes_and_continued_lines(rt: HostRuntime) -> Result<(), Fail> {
+    let row = [
+        (Quote, 0),
+        (Open, 3),
+        (Identifier, 7),
+        (Close, 11),
+        (Quote, 12),
+    ];
+    check_literal(
+        &rt,
+        rt.alloc(),
+        ParseMode::Format,
+        "{a}",
+        "\"\\\n\\x7ba\\\n }\"",
+        &row,
+    )
+}
