@@ -96,7 +96,8 @@ class Progress:
     def done(self, name, how):
         """Tells that a crate is proved, or was before."""
         if name in self.left:
-            line = f"{self.now()} {how}, {self.time()}"
+            at = self.count - len(self.left) + 1
+            line = f"{self.what}: {at} of {self.count}, {name} {how}, {self.time()}"
             self.left.remove(name)
             print(f"\r{line}\033[K" if self.lines else line, file=sys.stderr, flush=True)
 
