@@ -108,8 +108,7 @@ impl<'input> Parser<'input> {
     /// Adds an error for each fault that a call found, at the start or the end of the list.
     #[inline(never)]
     fn add_errors(&mut self) {
-        let (first, more) = self.reader.found.take(Global);
-        for fault in first.into_iter().chain(more) {
+        while let Some(fault) = self.reader.found.pop_first() {
             let is_front = fault.is_front();
             let mut error = empty_error(Global);
             answer(tell(Global, &mut error, fault));

@@ -47,7 +47,9 @@ seen_fault (SignAfter s) = LateSign (pair s)
 seen_fault (NamedField s) = FieldAccess (pair s)
 seen_fault (NumberedField s) = TupleIndex (pair s)
 
--- The faults of a call: the first, if there is one, and those after it.
-abbrev pub seen_faults : Option DeclaredFault → List DeclaredFault → List (Fault Place)
-seen_faults None more = []
-seen_faults (Some f) more = seen_fault f ∷ map seen_fault more
+-- The faults of a call: the first and the second, if there are any, and those after them.
+abbrev pub seen_faults : Option DeclaredFault → Option DeclaredFault → List DeclaredFault
+    → List (Fault Place)
+seen_faults None second more = []
+seen_faults (Some f) None more = seen_fault f ∷ []
+seen_faults (Some f) (Some g) more = seen_fault f ∷ (seen_fault g ∷ map seen_fault more)

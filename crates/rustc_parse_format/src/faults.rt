@@ -1,12 +1,12 @@
 //! The faults of an input, as they are found.
 
-ghost use Rattle.std.specs.Prelude.{◌≡◌, ◌↔◌, ◌++◌, ◌∷◌, [], IsOk, IsTrue, OnErr, OnOk};
+ghost use Rattle.std.specs.Prelude.{◌≡◌, ◌↔◌, ◌<◌, ◌^◌, ◌++◌, ◌∷◌, [], IsOk, IsTrue, MatchOption};
+ghost use Rattle.std.specs.Prelude.{OnErr, OnOk, length};
 ghost use Rattle.rustc_parse_format.specs.Faults.{is_front};
-ghost use Rattle.rustc_parse_format.specs.SeenFaults.{seen_fault, seen_faults};
+ghost use Rattle.rustc_parse_format.specs.SeenFaults.{seen_fault};
 
 use std::alloc::{AllocError, Global};
 use std::marker::Model;
-use std::mem;
 use std::ops::Range;
 
 /// A fault of an input. The ranges are byte ranges in the source.
@@ -77,10 +77,11 @@ impl Fault<'_> {
     }
 }
 
-/// The faults of a call, in the order in which they were found. The first one needs no allocation.
+/// The faults of a call, in the order in which they were found. The first two need no allocation.
 #[derive(Drop)]
 pub struct Faults<'input> {
     first: Option<Fault<'input>>,
+    second: Option<Fault<'input>>,
     more: Vec<Fault<'input>>,
 }
 
@@ -92,9 +93,10 @@ impl<'input> Model for Faults<'input> {
 
     ghost Value = { List (Fault Place) };
 
-    ghost view = { λ f. seen_faults f.first f.more.items };
+    ghost view = { λ f. seen_faults f.first f.second f.more.items };
 
-    ghost invariant = { λ f. IsNone f.first → f.more.items ≡ [] };
+    ghost invariant = { λ f. (IsNone f.first → IsNone f.second)
+        × (IsNone f.second → f.more.items ≡ []) };
 }
 
 impl<'input> Faults<'input> {
@@ -104,19 +106,21 @@ impl<'input> Faults<'input> {
     {
         Faults {
             first: None,
+            second: None,
             more: Vec::new(alloc),
         }
     }
 
     /// Returns whether there are no faults.
     pub fn is_empty(&self) -> bool
-        ensures { IsTrue result ↔ (self.now ≡ []) }
+        ensures empty { IsTrue result ↔ (self.now ≡ []) }
+        ensures few { length self.now < 2 ^ 64 }
     {
         self.first.is_none()
     }
 
     /// Adds a fault at the end. Returns `Err` if an allocation fails, and the list is then
-    /// unchanged. The first fault needs no allocation.
+    /// unchanged. The first two faults need no allocation.
     pub fn push(&mut self, fault: Fault<'input>) -> Result<(), AllocError>
         ensures ok { OnOk result (self.new ≡ self.old ++ seen_fault fault.entry ∷ []) }
         ensures err { OnErr result (self.new ≡ self.old) }
@@ -124,21 +128,25 @@ impl<'input> Faults<'input> {
     {
         if self.first.is_none() {
             self.first = Some(fault);
+        } else if self.second.is_none() {
+            self.second = Some(fault);
         } else {
             self.more.push(fault)?;
         }
         Ok(())
     }
 
-    /// Takes all faults out of the list, and returns the first one and those after it. Does not
+    /// Takes the first fault out of the list, and returns it, or `None` if there is none. Does not
     /// allocate.
-    pub fn take(&mut self, alloc: Global) -> (Option<Fault<'input>>, Vec<Fault<'input>>)
-        ensures value { seen_faults result.0 result.1.items ≡ self.old }
-        ensures state { self.new ≡ [] }
+    pub fn pop_first(&mut self) -> Option<Fault<'input>>
+        ensures { MatchOption result ((self.old ≡ []) × (self.new ≡ []))
+            (λ f. self.old ≡ seen_fault f ∷ self.new) }
     {
-        (
-            self.first.take(),
-            mem::replace(&mut self.more, Vec::new(alloc)),
-        )
+        let fault = self.first.take();
+        self.first = self.second.take();
+        if !self.more.is_empty() {
+            self.second = Some(self.more.remove(0));
+        }
+        fault
     }
 }

@@ -1,6 +1,6 @@
 //! The lists of what a parser has found in all its calls so far, and the errors that faults become.
 
-ghost use Rattle.std.specs.Prelude.{◌≡◌, ◌++◌, ◌∷◌, [], IfOk, IsOk, None, OnErr, OnOk};
+ghost use Rattle.std.specs.Prelude.{◌≡◌, ◌<◌, ◌^◌, ◌++◌, ◌∷◌, [], IfOk, IsOk, None, OnErr, OnOk};
 ghost use Rattle.std.specs.Prelude.{length, map, option_map, take};
 ghost use Rattle.std.specs.List.{filter};
 ghost use Rattle.rustc_parse_format.specs.Faults.{add_errors, is_front};
@@ -40,23 +40,20 @@ fn add_error(alloc: Global, errors: &mut ErrorList, fault: Fault<'_>) -> Result<
 /// Takes the faults out of `found` and adds their errors. Returns how many errors were added at the
 /// front. Returns `Err` if an allocation fails, and `errors` is then unchanged.
 #[inline(never)]
-#[tactic(auto, using(crate::proofs::Readers::Errors::error_turns))]
 fn add_errors(
     alloc: Global,
     errors: &mut ErrorList,
     found: &mut Faults<'_>,
 ) -> Result<usize, AllocError>
+    requires { length found.old < 2 ^ 64 }
     ensures ok { OnOk result (errors.new ≡ add_errors errors.old found.old) }
     ensures fronts { IfOk result (λ n. n ≡ length (filter is_front found.old)) }
-    ensures taken { found.new ≡ [] }
+    ensures taken { OnOk result (found.new ≡ []) }
     ensures err { OnErr result (errors.new ≡ errors.old) }
 {
-    let (Some(first), more) = found.take(alloc) else {
-        return Ok(0);
-    };
     let count = errors.as_slice().len();
-    let mut fronts = add_error(alloc, errors, first)?;
-    for fault in more {
+    let mut fronts = 0;
+    while let Some(fault) = found.pop_first() {
         match add_error(alloc, errors, fault) {
             Ok(added) => fronts += added,
             Err(refused) => {

@@ -62,6 +62,7 @@ fn align_after(alloc: Global, sign: char) -> Result<String, AllocError>
 }
 
 /// Sets the description, the label and the span of an error. Returns `Err` if an allocation fails.
+#[inline(always)]
 fn show(
     alloc: Global,
     into: &mut ParseError,
@@ -83,6 +84,7 @@ fn show(
 
 /// Sets the description, the note, the label and the span of an error. Returns `Err` if an
 /// allocation fails.
+#[inline(always)]
 fn say(
     alloc: Global,
     into: &mut ParseError,

@@ -61,23 +61,56 @@ add_errors-kept {A = A} old fs =
       ap (take (length old)) (drop_at front (old ++ back) _ n) ∙ take_at old back (length old) refl,
     )
 
-pub add_errors-undone : {A : Type 0} (old at new : List (Message A)) (f : Fault A)
-    (fs : List (Fault A)) (m n : ℕ)
-    → at ≡ add_errors old (f ∷ []) → m ≡ length (filter is_front (f ∷ []))
-    → new ≡ add_errors at fs → n ≡ m + length (filter is_front fs)
-    → (n + length old ≤ length new) × (take (length old) (drop n new) ≡ old)
-add_errors-undone old at new f fs m n a b c d =
-    let e : n ≡ length (filter is_front (f ∷ fs)) =
-    d ∙ (ap (λ k. k + length (filter is_front fs)) b
-    ∙ sym (ap length (filter-append is_front (f ∷ []) fs)
-    ∙ length-append (filter is_front (f ∷ [])) (filter is_front fs))) in
-    rw (c, a, e) (add_errors-kept old (f ∷ fs))
-
--- One more fault after those that a loop has taken.
-pub ruleset error_turns = (map-append, filter-append, length-append, add_errors-append)
-
 pub few_fronts : {A : Type 0} (fs : List (Fault A)) → length (filter is_front fs) ≤ length fs
 few_fronts fs = rw (length-filter is_front fs) (count_by-le-length is_front fs)
+
+-- Some of the faults are added, and others are left.
+pub record Added {A : Type 0} (found left : List (Fault A)) (old new : List (Message A)) (n : ℕ)
+    : Type 0 where
+  pub done : List (Fault A)
+  pub parts : found ≡ done ++ left
+  pub errors : new ≡ add_errors old done
+  pub fronts : n ≡ length (filter is_front done)
+
+pub added-start : {A : Type 0} (fs : List (Fault A)) (old : List (Message A))
+    → Added fs fs old old 0
+added-start fs old = record { done = []; parts = refl; errors = refl; fronts = refl }
+
+-- The next one is added too.
+pub added-more : {A : Type 0} (found left more : List (Fault A)) (old at new : List (Message A))
+    (f : Fault A) (n m : ℕ)
+    → Added found left old at n → left ≡ f ∷ more → new ≡ add_errors at (f ∷ [])
+    → m ≡ length (filter is_front (f ∷ [])) → Added found more old new (n + m)
+added-more found left more old at new f n m a l e k =
+    record {
+      done = a.done ++ f ∷ [];
+      parts = a.parts ∙ ap (λ x. a.done ++ x) l ∙ sym (append_assoc a.done (f ∷ []) more);
+      errors = e ∙ ap (λ x. add_errors x (f ∷ [])) a.errors
+          ∙ sym (add_errors-append old a.done (f ∷ []));
+      fronts = ap (λ x. x + m) a.fronts ∙ ap (λ x. length (filter is_front a.done) + x) k
+          ∙ sym (ap length (filter-append is_front a.done (f ∷ []))
+          ∙ length-append (filter is_front a.done) (filter is_front (f ∷ [])));
+    }
+
+-- What was there before is kept,
+pub added-kept : {A : Type 0} (found left : List (Fault A)) (old new : List (Message A)) (n : ℕ)
+    → Added found left old new n
+    → (n + length old ≤ length new) × (take (length old) (drop n new) ≡ old)
+added-kept found left old new n a = rw (a.errors, a.fronts) (add_errors-kept old a.done)
+
+-- no more errors are added at the front than there are faults,
+pub added-few : {A : Type 0} (found left : List (Fault A)) (old new : List (Message A)) (n : ℕ)
+    → Added found left old new n → n + length left ≤ length found
+added-few found left old new n a =
+    rw (a.parts, length-append a.done left, a.fronts) (omega (arith, few_fronts a.done))
+
+-- and in the end all are added.
+pub added-all : {A : Type 0} (found : List (Fault A)) (old new : List (Message A)) (n : ℕ)
+    → Added found [] old new n
+    → (new ≡ add_errors old found) × (n ≡ length (filter is_front found))
+added-all found old new n a =
+    let all : found ≡ a.done = a.parts ∙ append-nil a.done in
+    rw (all) (a.errors, a.fronts)
 
 pub add_errors-keeps : {A : Type 0} (old : List (Message A)) (fs : List (Fault A))
     → Keeps old (add_errors old fs)

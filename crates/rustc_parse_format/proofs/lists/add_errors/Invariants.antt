@@ -1,12 +1,11 @@
-use Rattle.std.proofs.Common.{◌≡◌, ◌≤◌, ◌+◌, ◌^◌, length, map}
-use Rattle.std.specs.List.{filter}
-use Rattle.rustc_parse_format.specs.Faults.{is_front, add_errors}
-use Rattle.rustc_parse_format.specs.SeenFaults.{seen_fault}
+use Rattle.std.proofs.Common.{length}
+use Rattle.rustc_parse_format.proofs.Readers.Errors.{Added}
 use Rattle.rustc_parse_format.proofs.lists.add_errors.Given as goal
 
 abbrev pub invariant-loop-fault : goal.invariant-loop-fault
 invariant-loop-fault l = record {
-  errors : l.errors ≡ add_errors l.initial.errors (map seen_fault l.yielded);
-  fronts : l.fronts ≡ l.initial.fronts + length (filter is_front (map seen_fault l.yielded));
-  fits : l.fronts + l.fault-iterator.rest.len ≤ 2 ^ 63;
+  added : Added l.fn.found l.found l.fn.errors l.errors l.fronts;
 }
+
+abbrev pub decreases-loop-fault : goal.decreases-loop-fault
+decreases-loop-fault l = length l.found
