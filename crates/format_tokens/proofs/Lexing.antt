@@ -90,8 +90,8 @@ text-tokens mode input style snippet b kept e =
     (length-places input style snippet b)
     ∙ ap (λ k. placed w (length input) (within k (tokens_of mode input))) e)
 
-unquoted : (input : Text) (style : Option ℕ) (snippet : Option Text) (b : Bool) (ts : List Placed)
-    → (HasSource input style snippet b → ⊥)
+pub unquoted : (input : Text) (style : Option ℕ) (snippet : Option Text) (b : Bool)
+    (ts : List Placed) → (HasSource input style snippet b → ⊥)
     → quoted (world input style snippet b) input snippet ts ≡ ts
 unquoted input style None b ts none = refl
 unquoted input style (Some snippet) b ts none =

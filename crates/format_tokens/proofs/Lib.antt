@@ -1,11 +1,15 @@
 pub mod Calls
 pub mod Counts
+pub mod Covering
+pub mod Joining
 pub mod Lexing
 pub mod Ordinary
 pub mod Positions
 pub mod Progress
+pub mod ReadingBack
 pub mod Specifications
 pub mod Starts
 pub mod Taking
 pub mod Widths
 pub mod Worlds
+pub mod Writing

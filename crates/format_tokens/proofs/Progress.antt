@@ -66,13 +66,13 @@ so_far-start mode input s m i r n = record {
 }
 
 -- The tokens of the first call, and then those of the others.
-record Steps (mode : Mode) (n c : ℕ) (t : Text) : Type 0 where
-  fewer : ℕ
-  enough : length (call mode c t).rest ≤ fewer
-  unfolds : tokens_within n mode c t ≡ call_tokens mode t (call mode c t).rest
+pub record Steps (mode : Mode) (n c : ℕ) (t : Text) : Type 0 where
+  pub fewer : ℕ
+  pub enough : length (call mode c t).rest ≤ fewer
+  pub unfolds : tokens_within n mode c t ≡ call_tokens mode t (call mode c t).rest
       ++ tokens_within fewer mode (call mode c t).next (call mode c t).rest
 
-step : (mode : Mode) (n c : ℕ) (t : Text) → t ≢ [] → length t ≤ n → Steps mode n c t
+pub step : (mode : Mode) (n c : ℕ) (t : Text) → t ≢ [] → length t ≤ n → Steps mode n c t
 step mode n c [] some h = absurd (some refl)
 step mode zero c (b ∷ t) some h = absurd (omega arith)
 step mode (suc n) c (b ∷ t) some h = record {
@@ -116,15 +116,15 @@ so_far-next mode input x y rest t s new h e some took =
     }
 
 -- At the end all tokens are there.
+pub none_within : (mode : Mode) (n c : ℕ) → tokens_within n mode c [] ≡ []
+none_within mode zero c = refl
+none_within mode (suc n) c = refl
+
 pub so_far-end : (mode : Mode) (input : Text) (x : List Sized) (s : State)
     → IsSoFar mode input x [] s → x ≡ map sized (tokens_of mode input)
 so_far-end mode input x s h =
-    sym (append-nil x) ∙ (ap (λ l. x ++ map sized l) (sym (none h.turns s.next))
+    sym (append-nil x) ∙ (ap (λ l. x ++ map sized l) (sym (none_within mode h.turns s.next))
     ∙ rw (sym h.rest_is) at h.tokens)
-  where
-    none : (n c : ℕ) → tokens_within n mode c [] ≡ []
-    none zero c = refl
-    none (suc n) c = refl
 
 -- What a call does where the parser stands.
 pub piece_so_far : (mode : Mode) (input : Text) (x : List Sized) (rest : Text) (s : State)

@@ -1,3 +1,4 @@
+pub mod Covers
 pub mod Midway
 pub mod Placed
 pub mod Seen

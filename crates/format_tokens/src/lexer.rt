@@ -2,11 +2,13 @@
 
 ghost use Rattle.std.specs.Prelude.{◌≡◌, ◌+◌, ◌<◌, ◌^◌, None, Some, IfOk, MatchOption, chars};
 ghost use Rattle.std.specs.Prelude.{length, map, option_map};
+ghost use Rattle.rustc_parse_format.specs.Characters.{Text, byte_length};
 ghost use Rattle.rustc_parse_format.specs.Literal.{IsSource};
 ghost use Rattle.rustc_parse_format.specs.Seen.{seen_mode, seen_snippet};
 ghost use Rattle.rustc_parse_format.specs.Source.{HasSource};
 ghost use Rattle.rustc_parse_format.specs.World.{hashes, quote_offset, world};
-ghost use Rattle.format_tokens.specs.Placed.{tokens};
+ghost use Rattle.format_tokens.specs.Covers.{IsCover, in_quotes, kinds_of, ranges_of, read_back};
+ghost use Rattle.format_tokens.specs.Placed.{shown, tokens};
 ghost use Rattle.format_tokens.specs.Seen.{seen_text, seen_token};
 ghost use Rattle.format_tokens.specs.Starts.{starts_of};
 
@@ -114,8 +116,27 @@ pub fn tokens(
     mode: ParseMode,
 ) -> Result<Vec<Token>, AllocError>
     requires { hashes style + length input.now + 2 < 2 ^ 64 }
-    ensures { IfOk result (λ v. map seen_token v.items ≡ tokens (seen_mode mode) (chars input.now)
-        style (seen_snippet snippet) appended_newline) }
+    ensures tokens { IfOk result (λ v. map seen_token v.items ≡ tokens (seen_mode mode)
+        (chars input.now) style (seen_snippet snippet) appended_newline) }
+
+    // The kinds do not depend on style and snippet: with a source literal they are the same,
+    // between those of two quotes.
+    ensures worlds { IfOk result (λ v. let ts = map seen_token v.items in
+        let ls = shown (seen_mode mode) (chars input.now) appended_newline in
+        (HasSource (chars input.now) style (seen_snippet snippet) appended_newline
+        → kinds_of ts ≡ kinds_of (in_quotes ls))
+        × ((HasSource (chars input.now) style (seen_snippet snippet) appended_newline → ⊥)
+        → kinds_of ts ≡ kinds_of ls)) }
+
+    // With a source literal the byte ranges cover it. The part of the snippet in each, with its
+    // escapes decoded, is the characters of the token; in those of the quotes there are none.
+    ensures cover { IfOk result (λ v. (source : Text) → seen_snippet snippet ≡ Some source
+        → IsSource (chars input.now) style source appended_newline
+        → IsCover 0 (byte_length source) (ranges_of (map seen_token v.items))) }
+    ensures reads_back { IfOk result (λ v. (source : Text) → seen_snippet snippet ≡ Some source
+        → IsSource (chars input.now) style source appended_newline
+        → read_back (chars input.now) style source appended_newline (map seen_token v.items)
+        ≡ in_quotes (shown (seen_mode mode) (chars input.now) appended_newline)) }
 {
     let text = match &snippet {
         None => None,

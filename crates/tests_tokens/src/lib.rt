@@ -6,3 +6,5 @@
 mod memory;
 #[cfg(test)]
 mod rows;
+#[cfg(test)]
+mod sources;

@@ -8,7 +8,7 @@ use std::process::Abort;
 use std::test::Fail;
 
 /// The tokens have these kinds and start at these bytes, and each ends where the next one starts.
-fn check(rt: &impl Abort, found: &[Token], expected: &[(Kind, usize)], end: usize) {
+pub fn check(rt: &impl Abort, found: &[Token], expected: &[(Kind, usize)], end: usize) {
     assert_eq!(rt; found.len(), expected.len());
     for i in 0..expected.len() {
         assert!(rt; i < found.len());

@@ -6,6 +6,7 @@ use Rattle.format_tokens.specs.Placed.{tokens}
 use Rattle.format_tokens.specs.Seen.{seen_text, seen_token}
 use Rattle.format_tokens.specs.Starts.{placed_sizes, starts_of}
 use Rattle.format_tokens.proofs.Lexing.{assembled, kept-is, kept-small, plain-tokens, quoted-tokens}
+use Rattle.format_tokens.proofs.ReadingBack.{cover-of, reads_back-of, worlds-of}
 use Rattle.format_tokens.proofs.lexer.tokens.Goals as goal
 use Rattle.format_tokens.proofs.lexer.tokens.Goals.{in-None, in-Some}
 
@@ -23,8 +24,8 @@ place-requires-in-Some-source c =
     c.args.appended_newline _ _ c.in_ok-offsets.ensures
     (omega (arith, c.saturating_sub-kept.ensures, c.length_of.ensures)))
 
-pub returns-in-None-source : goal.returns-in-None-source
-returns-in-None-source c =
+pub returns-in-None-source-clause-tokens : goal.returns-in-None-source-clause-tokens
+returns-in-None-source-clause-tokens c =
     let same : seen_text c.match-snippet.text ≡ seen_snippet c.args.snippet =
     elim c.match-snippet.branch [
       | in-None v ↦ rw (v.text-is, v.in-None.is) refl
@@ -46,8 +47,8 @@ returns-in-None-source c =
     ∙ ap (placed_sizes w (length w.places) c.saturating_sub-kept.result) labels))
     ∙ ap (λ s. tokens (seen_mode c.args.mode) input c.args.style s c.args.appended_newline) same
 
-pub returns : goal.returns
-returns c =
+pub returns-clause-tokens : goal.returns-clause-tokens
+returns-clause-tokens c =
     let same : seen_text c.match-snippet.text ≡ seen_snippet c.args.snippet =
     elim c.match-snippet.branch [
       | in-None v ↦ rw (v.text-is, v.in-None.is) refl
@@ -73,3 +74,27 @@ returns c =
     c.in_ok-push-in-Some-source.ensures.items placed c.in_ok-push-in-Some-source-2.ensures.items)
     ∙ ap (λ s. tokens (seen_mode c.args.mode) input c.args.style s c.args.appended_newline)
     (sym source.0 ∙ same)
+
+pub returns-in-None-source-clause-worlds : goal.returns-in-None-source-clause-worlds
+returns-in-None-source-clause-worlds c =
+    worlds-of _ _ _ _ _ _ (returns-in-None-source-clause-tokens c)
+
+pub returns-in-None-source-clause-cover : goal.returns-in-None-source-clause-cover
+returns-in-None-source-clause-cover c =
+    cover-of _ _ _ _ _ _ (returns-in-None-source-clause-tokens c)
+
+pub returns-in-None-source-clause-reads_back : goal.returns-in-None-source-clause-reads_back
+returns-in-None-source-clause-reads_back c =
+    reads_back-of _ _ _ _ _ _ (returns-in-None-source-clause-tokens c)
+
+pub returns-clause-worlds : goal.returns-clause-worlds
+returns-clause-worlds c =
+    worlds-of _ _ _ _ _ _ (returns-clause-tokens c)
+
+pub returns-clause-cover : goal.returns-clause-cover
+returns-clause-cover c =
+    cover-of _ _ _ _ _ _ (returns-clause-tokens c)
+
+pub returns-clause-reads_back : goal.returns-clause-reads_back
+returns-clause-reads_back c =
+    reads_back-of _ _ _ _ _ _ (returns-clause-tokens c)

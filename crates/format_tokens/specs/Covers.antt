@@ -1,0 +1,33 @@
+-- What the byte ranges of tokens are in a source literal: they cover it, and each reads back.
+use Rattle.std.specs.Prelude.{◌≡◌, ℕ, ◌<◌, ◌++◌, Bool, List, [], ◌∷◌, map, Option}
+use Rattle.rustc_parse_format.specs.Characters.{Text}
+use Rattle.rustc_parse_format.specs.ReadBack.{inside, source_units}
+use Rattle.rustc_parse_format.specs.World.{Place, quote_offset}
+use Rattle.format_tokens.specs.declared.kinds.Kind.{Kind}
+use Rattle.format_tokens.specs.declared.kinds.Kind.TheVariants.{Quote}
+use Rattle.format_tokens.specs.Placed.{Placed}
+use Rattle.format_tokens.specs.Tokens.{Label}
+
+-- The byte ranges go from one byte to another: each begins where the one before it ends, and none
+-- is empty.
+abbrev pub IsCover : ℕ → ℕ → List Place → Type 0
+IsCover from to [] = from ≡ to
+IsCover from to (p ∷ ps) = (p.0 ≡ from) × (from < p.1) × IsCover p.1 to ps
+
+-- The byte ranges of tokens.
+abbrev pub ranges_of : List Placed → List Place
+ranges_of ts = map (λ (t : Placed). t.1) ts
+
+-- The kinds of tokens.
+abbrev pub kinds_of : {A : Type 0} → List (Kind × A) → List Kind
+kinds_of {A = A} ts = map (λ (t : Kind × A). t.0) ts
+
+-- The tokens with the text that their byte ranges stand for in a source literal of the input, with
+-- its escapes decoded.
+abbrev pub read_back : Text → Option ℕ → Text → Bool → List Placed → List Label
+read_back input style source appended ts = map (λ (t : Placed).
+    (t.0, inside t.1 (quote_offset style) (source_units input style source appended))) ts
+
+-- The tokens of a text in those of the quotes around it, which stand for no text.
+abbrev pub in_quotes : List Label → List Label
+in_quotes ls = (Quote, []) ∷ (ls ++ (Quote, []) ∷ [])

@@ -1,0 +1,28 @@
+//! Theorems about the definitions alone, each as the contract of a function that does nothing.
+
+ghost use Rattle.std.specs.Prelude.{◌≡◌, ℕ, Bool, List};
+ghost use Rattle.rustc_parse_format.specs.Characters.{Text};
+ghost use Rattle.rustc_parse_format.specs.Grammar.{Reads, piece_values};
+ghost use Rattle.rustc_parse_format.specs.Source.{unappended};
+ghost use Rattle.rustc_parse_format.specs.Syntax.{PieceText};
+ghost use Rattle.rustc_parse_format.specs.Types.{Mode, Piece};
+ghost use Rattle.format_tokens.specs.Placed.{shown};
+ghost use Rattle.format_tokens.specs.Tokens.{joined, pieces_tokens};
+ghost use Rattle.format_tokens.specs.Walk.{IsWritten, tokens_of};
+
+/// States that the characters of the tokens of an input, one after the other, are the input without
+/// an appended newline, also where it has faults. Does nothing.
+pub fn joined()
+    ensures { (mode : Mode) (input : Text) (appended : Bool)
+        → joined (shown mode input appended) ≡ unappended appended input }
+{}
+
+/// States that the tokens of a text that is in the grammar are its parts as they are written: of
+/// any pieces that it is written as, which need not be clean, and so of those of its reading. Does
+/// nothing.
+pub fn spelled()
+    ensures written { (mode : Mode) (t : Text) (xs : List PieceText) → IsWritten mode t xs
+        → tokens_of mode t ≡ pieces_tokens xs }
+    ensures reading { (mode : Mode) (t : Text) (ps : List (Piece (Unit {0}))) → Reads mode 0 t ps
+        → (xs : List PieceText) × IsWritten mode t xs × (piece_values 0 xs ≡ ps) }
+{}

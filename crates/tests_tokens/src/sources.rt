@@ -1,0 +1,115 @@
+//! The tokens of inputs with other sources than an ordinary literal, and of a long one.
+
+use crate::rows::check;
+use format_tokens::Kind::*;
+use format_tokens::tokens;
+use rustc_parse_format::ParseMode;
+use std::process::Abort;
+use std::test::Fail;
+
+#[test]
+fn a_raw_literal(rt: HostRuntime) -> Result<(), Fail> {
+    let row = [
+        (Quote, 0),
+        (Text, 4),
+        (Open, 5),
+        (Identifier, 6),
+        (Close, 7),
+        (Quote, 8),
+    ];
+    let snippet = String::from_str(rt.alloc(), "r##\"a{b}\"##")?;
+    let style = Some(2);
+    let found = tokens(
+        rt.alloc(),
+        "a{b}",
+        style,
+        Some(snippet),
+        false,
+        ParseMode::Format,
+    )?;
+    check(&rt, found.as_slice(), &row, 11);
+    Ok(())
+}
+
+#[test]
+fn an_appended_newline(rt: HostRuntime) -> Result<(), Fail> {
+    // it is a token of its own, which is left out
+    let row = [
+        (Quote, 0),
+        (Open, 1),
+        (Identifier, 2),
+        (Close, 3),
+        (Quote, 4),
+    ];
+    let snippet = String::from_str(rt.alloc(), "\"{a}\"")?;
+    let found = tokens(
+        rt.alloc(),
+        "{a}\n",
+        None,
+        Some(snippet),
+        true,
+        ParseMode::Format,
+    )?;
+    check(&rt, found.as_slice(), &row, 5);
+    Ok(())
+}
+
+#[test]
+fn a_newline_after_text(rt: HostRuntime) -> Result<(), Fail> {
+    // the token ends before it
+    let row = [(Quote, 0), (Text, 1), (Quote, 3)];
+    let snippet = String::from_str(rt.alloc(), "\"hi\"")?;
+    let found = tokens(
+        rt.alloc(),
+        "hi\n",
+        None,
+        Some(snippet),
+        true,
+        ParseMode::Format,
+    )?;
+    check(&rt, found.as_slice(), &row, 4);
+    Ok(())
+}
+
+#[test]
+fn a_snippet_that_is_not_the_literal(rt: HostRuntime) -> Result<(), Fail> {
+    // no quotes, and the text ends where the snippet does
+    let row = [(Open, 1), (Identifier, 2), (Close, 3)];
+    let snippet = String::from_str(rt.alloc(), "stringify!({a})")?;
+    let found = tokens(
+        rt.alloc(),
+        "{a}",
+        None,
+        Some(snippet),
+        false,
+        ParseMode::Format,
+    )?;
+    check(&rt, found.as_slice(), &row, 15);
+    Ok(())
+}
+
+#[test]
+fn a_mebibyte(rt: HostRuntime) -> Result<(), Fail> {
+    let mut input = String::new(rt.alloc());
+    for _ in 0..149_797 {
+        input.push_str("{a:>8} ")?;
+    }
+    assert!(rt; input.len() == 1_048_579);
+    let found = tokens(
+        rt.alloc(),
+        input.as_str(),
+        None,
+        None,
+        false,
+        ParseMode::Format,
+    )?;
+    assert!(rt; found.len() == input.len());
+    let kinds = [Open, Identifier, Colon, Align, Integer, Close, Text];
+    let mut at = 1;
+    for (i, token) in found.iter().enumerate() {
+        assert!(rt; token.kind == kinds[i % 7]);
+        assert!(rt; token.span.start == at);
+        at = token.span.end;
+    }
+    Ok(())
+}
