@@ -1,11 +1,14 @@
 -- Edits that are made are in order, and applying them is a loop.
 use Rattle.std.proofs.Common.{◌≡◌, ℕ, suc, ◌+◌, ◌-◌, ◌<◌, ◌++◌, List, [], ◌∷◌, length, map, take}
-use Rattle.std.proofs.Common.{drop, get_or, ◌∙◌, ap, subst, add-one, append_assoc}
+use Rattle.std.proofs.Common.{drop, get_or, ◌∙◌, ap, sym, subst, add-one, append_assoc, Some, true}
 use Rattle.std.proofs.Math.Seq.{drop-cons}
 use Rattle.std.proofs.lemmas.List.{get_or-map, length-map}
-use Rattle.std.proofs.lemmas.Bool.{cond_both, and_parts}
+use Rattle.std.proofs.lemmas.Bool.{cond_both, cond-true, and_parts}
+use Rattle.std.specs.List.{filter_map, cons_option}
+use Rattle.rustc_parse_format.specs.World.{Place}
+use Rattle.rustc_parse_format.specs.Faults.{Message}
 use borrow.Author.Tests.{ltb-true, leb-true}
-use Rattle.drawn_faults.specs.Edits.{Edit, is_behind, made, AreInOrder, applied}
+use Rattle.drawn_faults.specs.Edits.{Edit, edit_of, is_behind, made, AreInOrder, applied}
 
 -- The edits that are made are in order.
 pub made-order : (at : ℕ) (es : List Edit) → AreInOrder at (made at es)
@@ -15,6 +18,24 @@ made-order at (e ∷ es) =
     (λ yes. let h = and_parts _ _ yes in
     (ltb-true _ _ h.0, leb-true _ _ h.1, made-order e.span.1 es))
     (λ no. made-order at es)
+
+-- Where an edit is made, there is one.
+no_nil : (found : List Edit) (e : Edit) (es : List Edit) → found ++ e ∷ es ≡ [] → ⊥
+no_nil [] e es h = absurd (cc)
+no_nil (x ∷ xs) e es h = absurd (cc)
+
+pub some-made : (found : List Edit) (at : ℕ) (rest left : List (Message Place))
+    (m : Message Place) (e : Edit) (all : List Edit)
+    → found ++ made at (filter_map edit_of rest) ≡ all → rest ≡ m ∷ left → edit_of m ≡ Some e
+    → is_behind at e ≡ true → all ≡ [] → ⊥
+some-made found at rest left m e all h r s b n =
+    let first : made at (filter_map edit_of rest)
+    ≡ e ∷ made e.span.1 (filter_map edit_of left) =
+    ap (λ ms. made at (filter_map edit_of ms)) r
+    ∙ ap (λ o. made at (cons_option o (filter_map edit_of left))) s
+    ∙ cond-true (is_behind at e) _ _ b in
+    no_nil found e (made e.span.1 (filter_map edit_of left))
+    (ap (λ l. found ++ l) (sym first) ∙ h ∙ n)
 
 -- The elements from the k-th on, seen by a function: that of the k-th, and those after it.
 pub drop-seen : {X Y : Type 0} (f : X → Y) (xs : List X) (k : ℕ) (d : X) → k < length xs

@@ -1,8 +1,6 @@
 -- What is edited with the edits of all errors is fixed, and nothing else is.
-use Rattle.std.proofs.Common.{◌≡◌, ◌≢◌, ℕ, ◌==◌, refl, arith, Bool, true, false, List, [], ◌∷◌}
-use Rattle.std.proofs.Common.{length, map}
-use Rattle.std.proofs.Common.{Option, Some, None, IfOk, IfSome, IfNone, chars, sym, Result, Ok, Err}
-use Rattle.std.proofs.lemmas.Bool.{eqb-true, false≢true}
+use Rattle.std.proofs.Common.{◌≡◌, ℕ, Bool, List}
+use Rattle.std.proofs.Common.{Option, Some, None, IfOk, IfSome, IfNone, chars, Result, Ok, Err}
 use Rattle.std.specs.declared.alloc.AllocError.{AllocError}
 use Rattle.rustc_parse_format.specs.Types.{Mode}
 use Rattle.rustc_parse_format.specs.Literal.{IsSource}
@@ -10,15 +8,6 @@ use Rattle.drawn_faults.specs.Edits.{Edit}
 use Rattle.drawn_faults.specs.Fixing.{Fixed, IsEdited, IsFixed, literal_edits, text_edits}
 use Rattle.drawn_faults.specs.SeenEdits.{seen_fixed}
 use Rattle.drawn_faults.specs.declared.fixes.Fixed.{Fixed as DeclaredFixed}
-
--- A list that is as long as none is empty.
-pub not_empty : {A B : Type 0} (f : A → B) (xs : List A) → (length xs == 0) ≡ false → map f xs ≢ []
-not_empty f [] h e = false≢true (sym h)
-not_empty f (x ∷ xs) h e = cc
-
-pub is_empty : {A : Type 0} (xs : List A) → (length xs == 0) ≡ true → xs ≡ []
-is_empty [] h = refl
-is_empty (x ∷ xs) h = absurd (omega (arith, eqb-true _ _ h))
 
 -- What the literal with these edits is, if they are those of its errors.
 pub fixed-some : (mode : Mode) (input : List ℕ) (style : Option ℕ) (literal : List ℕ)

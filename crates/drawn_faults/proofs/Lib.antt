@@ -10,4 +10,7 @@ pub mod RawLaw
 pub mod Stopping
 pub mod PositionMoves
 pub mod ColonLaw
+pub mod SpecEnds
+pub mod SpecFaults
+pub mod FlagSpecs
 pub mod FlagLaw

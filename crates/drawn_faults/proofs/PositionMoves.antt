@@ -30,7 +30,7 @@ use Rattle.drawn_faults.proofs.Stopping.{Stops, word-stop, behind_word-stop, dig
 use Rattle.drawn_faults.proofs.Stopping.{behind_digits-stop, behind_white-stop, position-stop}
 
 -- The faults of a word, of a number and of a raw identifier before such a character.
-word_faults-at : (u : Text) (x : ℕ) (r : Text) → Stops x → word_faults (u ++ x ∷ r)
+pub word_faults-at : (u : Text) (x : ℕ) (r : Text) → Stops x → word_faults (u ++ x ∷ r)
     ≡ cond (bytes_eq (word u) (codes "_"))
     (Underscore (up_to (u ++ x ∷ r) (behind_word u ++ x ∷ r)) ∷ []) []
 word_faults-at u x r h =
@@ -39,8 +39,8 @@ word_faults-at u x r h =
     ∙ ap (λ s. cond (bytes_eq (word u) (codes "_")) (Underscore (up_to (u ++ x ∷ r) s) ∷ []) [])
     (behind_word-stop u x r h)
 
-number_faults-at : (u : Text) (x : ℕ) (r : Text) → Stops x → number_faults (u ++ x ∷ r)
-    ≡ cond (is_over (digits u))
+pub number_faults-at : (u : Text) (x : ℕ) (r : Text) → is_ascii_digit x ≡ false →
+    number_faults (u ++ x ∷ r) ≡ cond (is_over (digits u))
     (TooLarge (digits u) (through (u ++ x ∷ r) (behind_digits u ++ x ∷ r)) ∷ []) []
 number_faults-at u x r h =
     ap (λ w. cond (is_over w)
@@ -75,7 +75,7 @@ number_faults-moves : (move : Span → Span) (x : ℕ) (r : Text) (y : ℕ) (q u
     → Replaces move x r y q
     → number_faults (u ++ y ∷ q) ≡ map (map_fault move) (number_faults (u ++ x ∷ r))
 number_faults-moves move x r y q u h =
-    rw (number_faults-at u x r h.old_stops, number_faults-at u y q h.new_stops)
+    rw (number_faults-at u x r h.old_stops.digit, number_faults-at u y q h.new_stops.digit)
     (either (is_over (digits u)))
   where
     either : (b : Bool) → cond b

@@ -78,14 +78,15 @@ behind_word-stop (c ∷ u) x r h =
       | false ↦ refl
     ]
 
-pub digits-stop : (u : Text) (x : ℕ) (r : Text) → Stops x → digits (u ++ x ∷ r) ≡ digits u
+pub digits-stop : (u : Text) (x : ℕ) (r : Text) → is_ascii_digit x ≡ false
+    → digits (u ++ x ∷ r) ≡ digits u
 unfolding digits
-digits-stop u x r h = front-stop is_ascii_digit u x r h.digit
+digits-stop u x r h = front-stop is_ascii_digit u x r h
 
-pub behind_digits-stop : (u : Text) (x : ℕ) (r : Text) → Stops x
+pub behind_digits-stop : (u : Text) (x : ℕ) (r : Text) → is_ascii_digit x ≡ false
     → behind_digits (u ++ x ∷ r) ≡ behind_digits u ++ x ∷ r
 unfolding behind_digits
-behind_digits-stop u x r h = behind-stop is_ascii_digit u x r h.digit
+behind_digits-stop u x r h = behind-stop is_ascii_digit u x r h
 
 pub behind_white-stop : (u : Text) (x : ℕ) (r : Text) → Stops x
     → behind_white (u ++ x ∷ r) ≡ behind_white u ++ x ∷ r
@@ -120,8 +121,8 @@ position-stop (c ∷ u) x r h =
     let t : Text = c ∷ u in
     let P = λ (y z : PositionText × Text). y ≡ (z.0, z.1 ++ x ∷ r) in
     cond_alike {A = PositionText × Text} (is_ascii_digit c) _ _ _ _ P
-    (λ e. ap (λ w. (Digits w, behind_digits (t ++ x ∷ r))) (digits-stop t x r h)
-    ∙ ap (λ (s : Text). (Digits (digits t), s)) (behind_digits-stop t x r h))
+    (λ e. ap (λ w. (Digits w, behind_digits (t ++ x ∷ r))) (digits-stop t x r h.digit)
+    ∙ ap (λ (s : Text). (Digits (digits t), s)) (behind_digits-stop t x r h.digit))
     (λ e. rw (begins_raw-stop t x r h) (cond_alike {A = PositionText
     × Text} (begins_raw t) _ _ _ _ P
     (λ f. raw_word-stop t x r h f)

@@ -5,7 +5,6 @@ use Prim.Native.Char.{code}
 use Rattle.rustc_parse_format.specs.Characters.{Text, begins_with, behind_white}
 use Rattle.rustc_parse_format.specs.Types.{Format}
 use Rattle.rustc_parse_format.specs.Placeholder.{cut}
-use Rattle.rustc_parse_format.specs.Specification.{alternate_at}
 use Rattle.rustc_parse_format.specs.Meaning.{argument}
 use Rattle.rustc_parse_format.specs.Call.{unclosed_fault}
 use Rattle.drawn_faults.specs.Fixing.{all_faults}
@@ -67,11 +66,11 @@ late_flag_faults c u s f z r =
     ∷ unclosed_fault (codes "{" ++ inside) (argument c (cut Format inside)).format (f ∷ z)
     ∷ UnmatchedBrace (over_first (codes "}" ++ r)) ∷ []
 
--- The flag f, one of three, moves in front of the `?`: all spans stay. Between the colon and the
--- `?` are at most a fill, an alignment and a sign. Only white space is between the flag and the
--- closing brace, and no second one follows.
-abbrev pub MovesFlag : ℕ → Type 0
-MovesFlag f = (c : ℕ) (u s z r : Text) → (cut Format u).spec_at ≡ [] → alternate_at s ≡ []
+-- The flag f moves in front of the `?`: all spans stay. Between the colon and the `?` is what comes
+-- before a part of a specification and no more, where `left` gives what is left of a text at that
+-- part. Only white space is between the flag and the closing brace, and no second one follows.
+abbrev pub MovesFlag : ℕ → (Text → Text) → Type 0
+MovesFlag f left = (c : ℕ) (u s z r : Text) → (cut Format u).spec_at ≡ [] → left s ≡ []
     → behind_white z ≡ codes "}" ++ r → IsFalse (begins_with (code "}") r) →
     LosesOnly (late_flag_faults c u s f z r) (λ x. x)
     (all_faults Format c (codes "{" ++ (u ++ (codes ":" ++ (s ++ (codes "?" ++ f ∷ z))))))

@@ -67,11 +67,17 @@ is_covered m n =
     nat_lt (n.to - n.from) (m.to - m.from)
     || ((n.to - n.from == m.to - m.from) && nat_lt m.sign n.sign)
 
--- Two labels that overlap, of which the first one begins first: their signs, the one that covers
--- over the other; a bar from each; the text of the second one; the text of the first one.
+-- The signs of two labels that overlap, of which the first one begins first: the one that covers is
+-- over the other.
+abbrev pub covering : Mark → Mark → List ℕ
+covering l r =
+    if is_covered r l then signs l r (max l.to r.to) else signs r l (max l.to r.to)
+
+-- Two such labels: their signs; a bar from each; the text of the second one; the text of the first
+-- one.
 unfoldable pub overlapping : ℕ → Mark → Mark → List ℕ
 overlapping g l r =
-    under g (if is_covered r l then signs l r (max l.to r.to) else signs r l (max l.to r.to))
+    under g (covering l r)
     ++ (under g (bars l.from r.from ++ codes "|")
     ++ (under g (bars l.from r.from ++ r.text)
     ++ under g (run l.from 32 ++ l.text)))

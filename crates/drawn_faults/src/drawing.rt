@@ -1,13 +1,14 @@
 //! The text that shows a fault under its source. What begins with `put_` appends to `out`, and
 //! returns `Err` if an allocation fails.
 
-ghost use Rattle.std.specs.Prelude.{◌≡◌, ◌++◌, ◌<◌, ◌^◌, IfOk, IfSome, OnOk, option_map};
-ghost use Rattle.std.specs.Prelude.{string_bytes};
+ghost use Rattle.std.specs.Prelude.{◌≡◌, ◌++◌, ◌<◌, ◌^◌, IfOk, IfSome, None, OnOk, length};
+ghost use Rattle.std.specs.Prelude.{option_map, string_bytes};
 ghost use Rattle.rustc_parse_format.specs.Seen.{seen_error};
 ghost use Rattle.drawn_faults.specs.Places.{seen_picture};
-ghost use Rattle.drawn_faults.specs.Labels.{seen_edit, seen_frame, seen_label};
+ghost use Rattle.drawn_faults.specs.Labels.{primary, seen_edit, seen_frame, seen_label};
 ghost use Rattle.drawn_faults.specs.Drawing.{arrow, below, drawing, head, labelled_rows, laid_out};
-ghost use Rattle.drawn_faults.specs.Drawing.{note_row, title};
+ghost use Rattle.drawn_faults.specs.Drawing.{note_row, parting_before, title};
+ghost use Rattle.drawn_faults.specs.Suggestions.{help_rows};
 
 use crate::glyphs::{put_run, put_texts};
 use crate::labels::{Edit, Frame, Label, edit_of, frame_for, mark, second};
@@ -62,6 +63,29 @@ fn put_head(
     Ok(())
 }
 
+/// Adds the lines of a label that is alone.
+#[tactic(auto, unfolding(crate::specs::Drawing::labelled_rows))]
+fn put_label(
+    alloc: Global,
+    out: &mut String,
+    frame: &Frame<'_>,
+    label: &Label<'_>,
+) -> Result<(), AllocError>
+    requires number { label.now.extent.start.line < 2 ^ 59 }
+    requires last { label.now.extent.end.line < 2 ^ 59 }
+    requires column { label.now.extent.start.column < 2 ^ 61 }
+    requires cut { frame.now.cut < 2 ^ 62 }
+    ensures { OnOk result (string_bytes out.new ≡ string_bytes out.old
+        ++ labelled_rows (seen_frame frame.now) (seen_label label.now) None) }
+{
+    if label.extent.start.line == label.extent.end.line {
+        put_labelled(alloc, out, frame, &mark(label, frame.cut))?;
+    } else {
+        put_long(alloc, out, frame, label)?;
+    }
+    Ok(())
+}
+
 /// Adds the lines with labels.
 #[tactic(auto, unfolding(crate::specs::Drawing::labelled_rows))]
 fn put_labels(
@@ -81,16 +105,12 @@ fn put_labels(
         ++ labelled_rows (seen_frame frame.now) (seen_label label.now)
         (option_map seen_label second.now)) }
 {
-    let mark_of_fault = mark(label, frame.cut);
-    if let Some(second) = second {
-        let other = mark(second, frame.cut);
-        put_two_labels(alloc, out, frame, &mark_of_fault, &other)?;
-        return Ok(());
-    }
-    if label.extent.start.line == label.extent.end.line {
-        put_labelled(alloc, out, frame, &mark_of_fault)?;
-    } else {
-        put_long(alloc, out, frame, label)?;
+    match second {
+        None => put_label(alloc, out, frame, label)?,
+        Some(second) => {
+            let (m, n) = (mark(label, frame.cut), mark(second, frame.cut));
+            put_two_labels(alloc, out, frame, &m, &n)?;
+        }
     }
     Ok(())
 }
@@ -103,6 +123,41 @@ fn put_note(out: &mut String, gutter: usize, note: &Option<String>) -> Result<()
     if let Some(note) = note {
         put_run(out, ' ', gutter)?;
         put_texts(out, " = note: ", note.as_str(), "\n")?;
+    }
+    Ok(())
+}
+
+/// Adds the row between the labels and what is below them, if there is anything.
+fn put_parting_before(
+    out: &mut String,
+    frame: &Frame<'_>,
+    note: &Option<String>,
+    edit: &Option<Edit<'_>>,
+) -> Result<(), AllocError>
+    ensures { OnOk result (string_bytes out.new ≡ string_bytes out.old
+        ++ parting_before (seen_frame frame.now) (option_map string_bytes note.now)
+        (option_map seen_edit edit.now)) }
+{
+    if note.is_some() || edit.is_some() {
+        put_parting(out, frame)?;
+    }
+    Ok(())
+}
+
+/// Adds the rows of an edit, if there is one.
+fn put_help(
+    alloc: Global,
+    out: &mut String,
+    frame: &Frame<'_>,
+    edit: &Option<Edit<'_>>,
+) -> Result<(), AllocError>
+    requires first { IfSome edit.now (λ e. e.extent.start.line < 2 ^ 59) }
+    requires last { IfSome edit.now (λ e. e.extent.end.line < 2 ^ 59) }
+    ensures { OnOk result (string_bytes out.new ≡ string_bytes out.old
+        ++ help_rows (seen_frame frame.now) (option_map seen_edit edit.now)) }
+{
+    if let Some(edit) = edit {
+        put_edit(alloc, out, frame, edit)?;
     }
     Ok(())
 }
@@ -122,26 +177,23 @@ fn put_below(
         ++ below (seen_frame frame.now) (option_map string_bytes note.now)
         (option_map seen_edit edit.now)) }
 {
-    if note.is_some() || edit.is_some() {
-        put_parting(out, frame)?;
-    }
+    put_parting_before(out, frame, note, edit)?;
     put_note(out, frame.gutter, note)?;
-    if let Some(edit) = edit {
-        put_edit(alloc, out, frame, edit)?;
-    }
+    put_help(alloc, out, frame, edit)?;
     Ok(())
 }
 
-/// Returns the drawing of an error, from its labels and its edit.
+/// Adds the drawing of an error, from its labels and its edit.
 #[tactic(auto, unfolding(crate::specs::Drawing::laid_out))]
 fn lay_out(
     alloc: Global,
+    out: &mut String,
     frame: &Frame<'_>,
     error: &ParseError,
     label: &Label<'_>,
     second: &Option<Label<'_>>,
     edit: &Option<Edit<'_>>,
-) -> Result<String, AllocError>
+) -> Result<(), AllocError>
     requires number { label.now.extent.start.line < 2 ^ 59 }
     requires last { label.now.extent.end.line < 2 ^ 59 }
     requires chars { label.now.extent.start.chars < 2 ^ 59 }
@@ -151,21 +203,41 @@ fn lay_out(
     requires edit_first { IfSome edit.now (λ e. e.extent.start.line < 2 ^ 59) }
     requires edit_last { IfSome edit.now (λ e. e.extent.end.line < 2 ^ 59) }
     requires cut { frame.now.cut < 2 ^ 62 }
-    ensures { IfOk result (λ s. string_bytes s ≡ laid_out (seen_frame frame.now)
-        (seen_error error.now) (seen_label label.now) (option_map seen_label second.now)
-        (option_map seen_edit edit.now)) }
+    ensures { OnOk result (string_bytes out.new ≡ string_bytes out.old
+        ++ laid_out (seen_frame frame.now) (seen_error error.now) (seen_label label.now)
+        (option_map seen_label second.now) (option_map seen_edit edit.now)) }
 {
-    let mut out = String::new(alloc);
-    put_head(
-        &mut out,
-        frame,
-        error.description.as_str(),
-        label.extent.start,
-    )?;
-    put_labels(alloc, &mut out, frame, label, second)?;
-    put_below(alloc, &mut out, frame, &error.note, edit)?;
+    put_head(out, frame, error.description.as_str(), label.extent.start)?;
+    put_labels(alloc, out, frame, label, second)?;
+    put_below(alloc, out, frame, &error.note, edit)?;
     out.push_str("\n")?;
-    Ok(out)
+    Ok(())
+}
+
+/// Adds the drawing of an error with this label. Returns `Err` if an allocation fails.
+#[tactic(auto, unfolding(crate::specs::Drawing::drawing))]
+fn put_drawing(
+    alloc: Global,
+    out: &mut String,
+    picture: &Picture<'_>,
+    error: &ParseError,
+    label: &Label<'_>,
+) -> Result<(), AllocError>
+    requires source { length picture.now.source.now < 2 ^ 59 }
+    requires label { seen_label label.now
+        ≡ primary (seen_picture picture.now) (seen_error error.now) }
+    requires number { label.now.extent.start.line < 2 ^ 59 }
+    requires last { label.now.extent.end.line < 2 ^ 59 }
+    requires chars { label.now.extent.start.chars < 2 ^ 59 }
+    requires column { label.now.extent.start.column < 2 ^ 61 }
+    ensures { OnOk result (string_bytes out.new ≡ string_bytes out.old
+        ++ drawing (seen_picture picture.now) (seen_error error.now)) }
+{
+    let second = second(picture, error);
+    let edit = edit_of(picture, &error.suggestion);
+    let frame = frame_for(alloc, picture, label, &second, &edit)?;
+    lay_out(alloc, out, &frame, error, label, &second, &edit)?;
+    Ok(())
 }
 
 /// Returns the text that shows an error of a literal under its source, as rustc 1.95 draws it
@@ -186,7 +258,6 @@ fn lay_out(
 /// A span that does not fit is drawn too: an offset inside a character means the start of that
 /// character, one behind the source its end, and a range that ends before it begins is empty.
 /// Returns `Err` if an allocation fails, or if the source has 2^59 bytes or more.
-#[tactic(auto, unfolding(crate::specs::Drawing::drawing))]
 pub fn draw(alloc: Global, picture: &Picture<'_>, error: &ParseError) -> Result<String, AllocError>
     ensures drawn { IfOk result (λ s. string_bytes s
         ≡ drawing (seen_picture picture.now) (seen_error error.now)) }
@@ -200,8 +271,7 @@ pub fn draw(alloc: Global, picture: &Picture<'_>, error: &ParseError) -> Result<
         text: text.as_str(),
         extent: picture.extent(&error.span),
     };
-    let second = second(picture, error);
-    let edit = edit_of(picture, &error.suggestion);
-    let frame = frame_for(alloc, picture, &label, &second, &edit)?;
-    lay_out(alloc, &frame, error, &label, &second, &edit)
+    let mut out = String::new(alloc);
+    put_drawing(alloc, &mut out, picture, error, &label)?;
+    Ok(out)
 }

@@ -1,14 +1,15 @@
 //! What the suggestions of errors make of a literal: the edits that a machine may apply, and the
 //! literal with them applied.
 
-ghost use Rattle.std.specs.Prelude.{◌≡◌, ◌+◌, ◌<◌, ◌^◌, IfNone, IfOk, IfSome, IsUtf8, OnOk, Some};
-ghost use Rattle.std.specs.Prelude.{chars, drop, false, length, map, option_map, string_bytes};
-ghost use Rattle.std.specs.Prelude.{take};
+ghost use Rattle.std.specs.Prelude.{◌≡◌, ◌+◌, ◌<◌, ◌^◌, [], IfNone, IfOk, IfSome, IsOk, IsUtf8};
+ghost use Rattle.std.specs.Prelude.{OnOk, Some, chars, drop, false, length, map, option_map};
+ghost use Rattle.std.specs.Prelude.{string_bytes, take};
 ghost use Rattle.rustc_parse_format.specs.Seen.{seen_error, seen_mode, seen_snippet};
 ghost use Rattle.rustc_parse_format.specs.Seen.{seen_suggestion};
 ghost use Rattle.rustc_parse_format.specs.Characters.{is_nil};
 ghost use Rattle.rustc_parse_format.specs.State.{after, first_state, next_call};
 ghost use Rattle.rustc_parse_format.specs.World.{hashes};
+ghost use Rattle.rustc_parse_format.specs.Literal.{IsSource};
 ghost use Rattle.drawn_faults.specs.Edits.{AreInOrder, applied, edits, suggested};
 ghost use Rattle.drawn_faults.specs.Fixing.{Fixed as FixedLiteral, IsEdited, IsFixed, all_errors};
 ghost use Rattle.drawn_faults.specs.SeenEdits.{seen_edit, seen_fixed};
@@ -67,6 +68,7 @@ fn edit_of(suggestion: &Suggestion) -> Option<Edit<'_>>
 pub fn edits<'e>(alloc: Global, errors: &'e [ParseError]) -> Result<Vec<Edit<'e>>, AllocError>
     ensures edits { IfOk result (λ v. map seen_edit v.items ≡ edits (map seen_error errors.now)) }
     ensures order { IfOk result (λ v. AreInOrder 0 (map seen_edit v.items)) }
+    ensures spare { edits (map seen_error errors.now) ≡ [] → IsOk result }
 {
     let mut found = Vec::new(alloc);
     let mut end = 0;
@@ -149,9 +151,10 @@ pub fn errors_of(
     mode: ParseMode,
 ) -> Result<Vec<ParseError>, AllocError>
     requires { hashes style + length input.now + 2 < 2 ^ 64 }
-    ensures { IfOk result (λ v. map seen_error v.items
+    ensures errors { IfOk result (λ v. map seen_error v.items
         ≡ all_errors (first_state (seen_mode mode) (chars input.now) style
         (seen_snippet snippet) appended_newline)) }
+    ensures empty { input.now ≡ [] → IsOk result }
 {
     let mut parser = Parser::new(alloc, input, style, snippet, appended_newline, mode)?;
     while !is_at_end(&parser) {
@@ -237,6 +240,8 @@ pub fn fix(
         snippet.now appended_newline (seen_fixed f))) }
     ensures none { IfOk result (λ o. IfNone o ((f : FixedLiteral)
         → IsFixed (seen_mode mode) input.now style snippet.now appended_newline f → ⊥)) }
+    ensures foreign { (IsSource (chars input.now) style (chars snippet.now) appended_newline → ⊥)
+        → IsOk result }
 {
     if !is_source_literal(input, style, snippet, appended_newline) {
         return Ok(None);

@@ -10,8 +10,9 @@ ghost use Rattle.rustc_parse_format.specs.Characters.{begins_with, is_id_start};
 ghost use Rattle.rustc_parse_format.specs.Faults.{RawIdentifier};
 ghost use Rattle.rustc_parse_format.specs.Marks.{through, up_to};
 ghost use Rattle.rustc_parse_format.specs.Types.{Diagnostic, Format, Mode};
-ghost use Rattle.drawn_faults.specs.Fixing.{all_faults};
 ghost use Rattle.rustc_parse_format.specs.Placeholder.{cut};
+ghost use Rattle.rustc_parse_format.specs.Specification.{alternate_at, type_at};
+ghost use Rattle.drawn_faults.specs.Fixing.{all_faults};
 ghost use Rattle.drawn_faults.specs.Losing.{LosesOnly, MovesFlag, colon_faults, colon_moves};
 ghost use Rattle.drawn_faults.specs.Losing.{moved};
 
@@ -45,10 +46,11 @@ pub fn add_missing_colon()
 
 /// States what it does to move a flag in front of the type `?`, in the mode `Format`: the fault of
 /// the late flag goes, with those of the missing brace and of the brace that then closes nothing.
-/// Does nothing.
+/// The flags `x` and `X` may follow all parts before the type; before the flag `#` are at most a
+/// fill, an alignment and a sign. Does nothing.
 pub fn reorder_format_parameter()
     // the flags `#`, `x` and `X`
-    ensures number_sign { MovesFlag 35 }
-    ensures lower_hex { MovesFlag 120 }
-    ensures upper_hex { MovesFlag 88 }
+    ensures number_sign { MovesFlag 35 (λ s. alternate_at s) }
+    ensures lower_hex { MovesFlag 120 (λ s. type_at s) }
+    ensures upper_hex { MovesFlag 88 (λ s. type_at s) }
 {}

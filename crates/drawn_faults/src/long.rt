@@ -12,7 +12,7 @@ ghost use Rattle.drawn_faults.specs.Long.{bar_gap, bar_row, bar_rows, between, f
 ghost use Rattle.drawn_faults.specs.Long.{is_bare, is_bare_line, is_bracket, is_comment};
 ghost use Rattle.drawn_faults.specs.Long.{is_plain_comment, last_rows, long_rows, without_bare};
 
-use crate::glyphs::{put_run, split_first};
+use crate::glyphs::{put_run, put_texts, split_first};
 use crate::labels::{Frame, Label};
 use crate::lines::put_source;
 use crate::places::line;
@@ -208,9 +208,7 @@ fn put_end(out: &mut String, gutter: usize, columns: usize, text: &str) -> Resul
     put_gutter(out, gutter)?;
     out.push_str("|")?;
     put_run(out, '_', columns)?;
-    out.push_str("^ ")?;
-    out.push_str(text)?;
-    out.push_str("\n")?;
+    put_texts(out, "^ ", text, "\n")?;
     Ok(())
 }
 

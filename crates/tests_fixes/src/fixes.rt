@@ -1,36 +1,30 @@
-//! Tables of literals, with what `fix` makes of them.
+//! Literals and their fixes.
 
-use drawn_faults::{edits, fix};
-use rustc_parse_format::{ParseMode, read_all};
+use drawn_faults::{Edit, Fixed, edits, errors_of, fix};
+use rustc_parse_format::ParseMode;
 use std::alloc::{AllocError, Global};
 use std::process::Abort;
 use std::test::Fail;
 
-/// An ordinary literal of a text without quotes and escapes.
-fn quoted(alloc: Global, text: &str) -> Result<String, AllocError> {
-    let mut literal = String::new(alloc);
-    literal.push('"')?;
-    literal.push_str(text)?;
-    literal.push('"')?;
-    Ok(literal)
+/// A text, the hashes of its literal if that is raw, the literal, whether a newline was appended to
+/// the text, the literal with its fixes, and the text of that. A literal that is not fixed has none
+/// of both.
+type Row<'a> = (&'a str, Option<usize>, &'a str, bool, &'a str, &'a str);
+
+/// Returns whether a literal was fixed to this literal, which stands for this text.
+fn is_fixed_to(fixed: &Option<Fixed>, literal: &str, text: &str) -> bool {
+    match fixed {
+        Some(fixed) => fixed.snippet.as_str() == literal && fixed.text.as_str() == text,
+        None => literal.is_empty(),
+    }
 }
 
-/// The literal, which stands for the input, is fixed to this literal, which stands for this text.
-fn check_literal(
-    rt: &impl Abort,
-    alloc: Global,
-    mode: ParseMode,
-    row: (&str, Option<usize>, &str, bool, &str, &str),
-) -> Result<(), Fail> {
-    let (input, style, literal, appended, wanted, text) = row;
-    assert!(rt; input.len() < 1_000);
-    assert!(rt; style.unwrap_or(0) < 1_000);
-    let Some(fixed) = fix(alloc, input, style, literal, appended, mode)? else {
-        assert!(rt; false, "{literal} is not fixed");
-        return Ok(());
-    };
-    assert_eq!(rt; fixed.snippet.as_str(), wanted);
-    assert_eq!(rt; fixed.text.as_str(), text);
+/// The literal of the row is fixed as the row says.
+fn check(rt: &impl Abort, alloc: Global, mode: ParseMode, row: Row<'_>) -> Result<(), AllocError> {
+    let (text, style, literal, appended, wanted, wanted_text) = row;
+    assert!(rt; text.len() < 1_000 && style.unwrap_or(0) < 1_000);
+    let fixed = fix(alloc, text, style, literal, appended, mode)?;
+    assert!(rt; is_fixed_to(&fixed, wanted, wanted_text), "{literal}");
     Ok(())
 }
 
@@ -41,34 +35,19 @@ fn check_text(
     mode: ParseMode,
     text: &str,
     wanted: &str,
-) -> Result<(), Fail> {
-    let literal = quoted(alloc, text)?;
-    let wanted_literal = quoted(alloc, wanted)?;
-    check_literal(
+) -> Result<(), AllocError> {
+    let literal = format!(in alloc; "\"{text}\"")?;
+    let fixed = format!(in alloc; "\"{wanted}\"")?;
+    check(
         rt,
         alloc,
         mode,
-        (text, None, &literal, false, &wanted_literal, wanted),
+        (text, None, &literal, false, &fixed, wanted),
     )
 }
 
-/// The literal is not fixed.
-fn check_none(
-    rt: &impl Abort,
-    alloc: Global,
-    input: &str,
-    style: Option<usize>,
-    literal: &str,
-) -> Result<(), Fail> {
-    assert!(rt; input.len() < 1_000);
-    assert!(rt; style.unwrap_or(0) < 1_000);
-    let fixed = fix(alloc, input, style, literal, false, ParseMode::Format)?;
-    assert!(rt; fixed.is_none(), "{literal} is fixed");
-    Ok(())
-}
-
 #[test]
-fn of_one_suggestion(rt: HostRuntime) -> Result<(), Fail> {
+fn of_texts(rt: HostRuntime) -> Result<(), Fail> {
     for (text, wanted) in [
         ("{r#type}", "{type}"),
         ("{r#a:>5}", "{a:>5}"),
@@ -78,30 +57,14 @@ fn of_one_suggestion(rt: HostRuntime) -> Result<(), Fail> {
         ("{:?#}", "{:#?}"),
         ("{:?x}", "{:x?}"),
         ("{a:>?X}", "{a:>X?}"),
+        ("{:#05.2?x}", "{:#05.2x?}"),
         ("한{r#a}한", "한{a}한"),
-    ] {
-        check_text(&rt, rt.alloc(), ParseMode::Format, text, wanted)?;
-    }
-    Ok(())
-}
-
-#[test]
-fn of_several(rt: HostRuntime) -> Result<(), Fail> {
-    for (text, wanted) in [
+        // several suggestions
         ("{r#a:?x} {b?} {:?#}", "{a:x?} {b:?} {:#?}"),
         ("} {r#a} } {b?}", "} {a} } {b:?}"),
         ("{r#a.r#b}", "{a.b}"),
         ("{r#a{r#b{r#c", "{a{b{c"),
-    ] {
-        check_text(&rt, rt.alloc(), ParseMode::Format, text, wanted)?;
-    }
-    Ok(())
-}
-
-/// Texts that have faults of their own after the edit: for these the law of the edit does not hold.
-#[test]
-fn of_texts_that_stay_faulty(rt: HostRuntime) -> Result<(), Fail> {
-    for (text, wanted) in [
+        // texts that have faults of their own after the edit: for these its law does not hold
         ("{a?}}", "{a:?}}"),
         ("{a:?#}}", "{a:#?}}"),
         ("{:5?#}", "{:5#?}"),
@@ -185,46 +148,43 @@ fn of_literals(rt: HostRuntime) -> Result<(), Fail> {
             "r\"{a:?}\"",
             "{a:?}\n",
         ),
+        // no suggestion that can be applied without the arguments of the call
+        ("{}", None, "\"{}\"", false, "", ""),
+        ("{_}", None, "\"{_}\"", false, "", ""),
+        ("{a=}", None, "\"{a=}\"", false, "", ""),
+        ("{a.b}", None, "\"{a.b}\"", false, "", ""),
+        // snippets that are not the source literal of the input
+        ("{r#a}", None, "r\"{r#a}\"", false, "", ""),
+        ("{r#a}", Some(0), "\"{r#a}\"", false, "", ""),
+        ("{r#a}", None, "\"{r#b}\"", false, "", ""),
+        ("{r#a}", None, "concat!(\"{r#\", \"a}\")", false, "", ""),
+        // the no-break space behind the continued line belongs to the text
+        ("{?}한", None, "\"\\\n\u{a0}{?}한\"", false, "", ""),
     ] {
-        check_literal(&rt, rt.alloc(), ParseMode::Format, row)?;
+        check(&rt, rt.alloc(), ParseMode::Format, row)?;
     }
     Ok(())
 }
 
-#[test]
-fn of_what_is_not_fixed(rt: HostRuntime) -> Result<(), Fail> {
-    for (input, style, literal) in [
-        ("{}", None, "\"{}\""),
-        ("{_}", None, "\"{_}\""),
-        ("{a=}", None, "\"{a=}\""),
-        ("{a.b}", None, "\"{a.b}\""),
-        // snippets that are not the source literal of the input
-        ("{r#a}", None, "r\"{r#a}\""),
-        ("{r#a}", Some(0), "\"{r#a}\""),
-        ("{r#a}", None, "\"{r#b}\""),
-        ("{r#a}", None, "concat!(\"{r#\", \"a}\")"),
-        // the no-break space behind the continued line belongs to the text
-        ("{?}한", None, "\"\\\n\u{a0}{?}한\""),
-    ] {
-        check_none(&rt, rt.alloc(), input, style, literal)?;
+/// Edits, a line for each.
+fn listed(alloc: Global, edits: &[Edit<'_>]) -> Result<String, AllocError> {
+    let mut lines = String::new(alloc);
+    for edit in edits {
+        write!(
+            lines,
+            "{}..{} `{}`\n",
+            edit.span.start, edit.span.end, edit.text
+        )?;
     }
-    Ok(())
+    Ok(lines)
 }
 
 #[test]
 fn of_edits_in_order(rt: HostRuntime) -> Result<(), Fail> {
     let alloc = rt.alloc();
-    let input = "{r#a:?x}{b?}";
-    let (_, parser) = read_all(alloc, input, None, None, false, ParseMode::Format)?;
-    let found = edits(alloc, parser.errors())?;
-    assert_eq!(rt; found.len(), 2);
-    assert_eq!(rt;
-        (found[0].span.start, found[0].span.end, found[0].text),
-        (2, 4, "")
-    );
-    assert_eq!(rt;
-        (found[1].span.start, found[1].span.end, found[1].text),
-        (6, 8, "x?")
-    );
+    let errors = errors_of(alloc, "{r#a:?x}{b?}", None, None, false, ParseMode::Format)?;
+    let found = edits(alloc, &errors)?;
+    let lines = listed(alloc, &found)?;
+    assert!(rt; lines.as_str() == "2..4 ``\n6..8 `x?`\n11..11 `:`\n");
     Ok(())
 }

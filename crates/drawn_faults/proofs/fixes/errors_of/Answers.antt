@@ -12,12 +12,16 @@ loop-parser-smaller c =
 pub loop-parser-preserved : goal.loop-parser-preserved
 loop-parser-preserved c =
     let h : is_nil c.loop-parser.parser.rest ≡ false = cc in
-    all_errors-step c.loop-parser.parser c.advance.new.parser c.in_ok-advance.ensures.state h
-    ∙ c.loop-parser.invariant
+    let shorter = c.in_ok-advance.ensures.shorter h in
+    let left = c.loop-parser.invariant.1 in (
+      all_errors-step c.loop-parser.parser c.advance.new.parser c.in_ok-advance.ensures.state h
+          ∙ c.loop-parser.invariant.0,
+      omega (arith, shorter, left),
+    )
 
-pub returns : goal.returns
-returns c =
+pub returns-clause-errors : goal.returns-clause-errors
+returns-clause-errors c =
     let h : is_nil c.loop-parser.parser.rest ≡ true = cc in
     c.take_errors.ensures.errors ∙ sym (all_errors-end c.loop-parser.parser h)
-    ∙ c.loop-parser.invariant
+    ∙ c.loop-parser.invariant.0
     ∙ ap all_errors c.in_ok-parser.ensures.start

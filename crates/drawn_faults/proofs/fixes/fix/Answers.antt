@@ -9,7 +9,7 @@ returns-clause-some c =
     fixed-some _ _ _ _ _ _ _ c.edited.result (c.is_source_literal.ensures.0 cc)
     (ap (λ es. edits (map seen_error es)) c.deref.ensures.value ∙ ap edits c.in_ok-errors.ensures)
     (ap (λ es. edits (map seen_error es)) c.deref-2.ensures.value
-    ∙ ap edits c.in_ok-text_errors.ensures)
+    ∙ ap edits c.in_ok-text_errors.ensures.errors)
     c.edited.ensures.some
 
 pub returns-clause-none : goal.returns-clause-none
@@ -17,5 +17,5 @@ returns-clause-none c =
     fixed-none _ _ _ _ _ _ _ c.edited.result
     (ap (λ es. edits (map seen_error es)) c.deref.ensures.value ∙ ap edits c.in_ok-errors.ensures)
     (ap (λ es. edits (map seen_error es)) c.deref-2.ensures.value
-    ∙ ap edits c.in_ok-text_errors.ensures)
+    ∙ ap edits c.in_ok-text_errors.ensures.errors)
     c.edited.ensures.none
