@@ -16,6 +16,10 @@ use Rattle.drawn_faults.specs.Drawing.{drawing}
 use Rattle.drawn_faults.specs.Fixing.{Fixed, IsFixed, all_errors}
 use Rattle.format_lint.specs.declared.task.Show.{Show}
 use Rattle.format_lint.specs.declared.task.Show.TheVariants.{Faults as ShowFaults, Fix as ShowFix}
+use Rattle.format_lint.specs.declared.task.Show.TheVariants.{Tokens as ShowTokens}
+use Rattle.format_lint.specs.declared.task.Show.TheVariants.{Colours as ShowColours}
+use Rattle.format_tokens.specs.Placed.{Placed, tokens}
+use Rattle.format_lint.specs.Colours.{shown_tokens}
 
 -- What the arguments of the program ask for.
 pub record Task : Type 0 where
@@ -94,9 +98,24 @@ written s = unwrap_or s.literal s.text ++ codes "\n"
 abbrev pub kept : Mode → List ℕ → Source → Shown
 kept mode path s = (written s ++ (drawn mode path s).0, (drawn mode path s).1)
 
+-- The tokens of a source. The snippet is what faults are drawn in: the literal, or a text behind a
+-- line end, which is no literal, so that the last token ends where the text does.
+abbrev pub tokens_in : Mode → List ℕ → Source → List Placed
+tokens_in mode path s =
+    tokens mode (chars s.text) s.style (Some (chars (picture path s).source)) false
+
+-- The tokens of a source are shown, in colours with a line end after them or each in a line, and
+-- then its faults are drawn.
+abbrev pub lexed : Bool → Task → Source → Shown
+lexed colours a s = (
+  shown_tokens colours (chars (unwrap_or s.literal s.text)) (tokens_in a.mode a.path s)
+      ++ ((if colours then codes "\n" else []) ++ (drawn a.mode a.path s).0),
+  (drawn a.mode a.path s).1,
+)
+
 -- Where l is the literal of a source: the literal with the edits that its faults suggest is
--- written,
--- and then the faults that it still has. If there is no such literal, the source stays as it is.
+-- written, and then the faults that it still has. If there is no such literal, the source stays as
+-- it is.
 abbrev pub IsMendedIn : Mode → List ℕ → Source → List ℕ → Shown → Type 0
 IsMendedIn mode path s l x =
     ((f : Fixed) × IsFixed mode s.text s.style l false f × (x ≡ kept mode path
@@ -114,6 +133,8 @@ IsMended mode path s x = elim s.literal [
 abbrev pub IsShown : Task → Source → Shown → Type 0
 IsShown a s x = elim a.show [
   | ShowFaults ↦ x ≡ drawn a.mode a.path s
+  | ShowTokens ↦ x ≡ lexed false a s
+  | ShowColours ↦ x ≡ lexed true a s
   | ShowFix ↦ IsMended a.mode a.path s x
 ]
 

@@ -5,4 +5,5 @@
 pub mod run;
 mod shown;
 pub mod task;
+mod tokens;
 pub mod verdict;

@@ -1,11 +1,14 @@
 //! The program over any reader and writer: its input, what it shows, and its output.
 
-ghost use Rattle.std.specs.Prelude.{◌≡◌, ◌≢◌, List, Bool, ℕ, IfErr, IfOk, IfSome, IsErrOf, Err, Ok};
+ghost use Rattle.std.specs.Prelude.{◌≡◌, ◌≢◌, List, ℕ, IfErr, IfOk, IfSome, IsErrOf, Result, Err};
+ghost use Rattle.std.specs.Prelude.{Ok};
 ghost use Rattle.std.specs.Io.KnownBytes.{Appends};
 ghost use Rattle.piece_listing.specs.declared.verdict.RunFault.TheVariants.{Words, TooLong};
 ghost use Rattle.piece_listing.specs.declared.verdict.RunFault.TheVariants.{NotText, NotLiteral};
 ghost use Rattle.piece_listing.specs.declared.verdict.RunFault.TheVariants.{Write as WriteFault};
-ghost use Rattle.format_lint.specs.Lint.{IsOwed};
+ghost use Rattle.format_lint.specs.Lint.{IsOwed, Shown};
+ghost use Rattle.format_lint.specs.Lint.{Task as TaskValue};
+ghost use Rattle.piece_listing.specs.declared.verdict.RunFault.{RunFault as FaultValue};
 ghost use Rattle.format_lint.specs.SeenLint.{seen_task};
 
 use super::shown::shown_of_input;
@@ -32,6 +35,9 @@ pub fn run<R: Read, W: Write>(
     ensures shown { IfOk result (λ told. IfSome (R.remaining reader.old) (λ input. (text : List ℕ)
         × IsOwed (seen_task task.entry) input (Ok (text, told))
         × Appends (W.contents writer.old) (W.contents writer.new) text)) }
+    // The definition asks for one result.
+    ensures one_answer { (a : TaskValue) (input : List ℕ) (x y : Result Shown FaultValue)
+        → IsOwed a input x → IsOwed a input y → x ≡ y }
     ensures not_words { IfErr result (λ fault. fault ≢ Words) }
     ensures too_long { IsErrOf result TooLong → IfSome (R.remaining reader.old)
         (λ input. IsOwed (seen_task task.entry) input (Err TooLong)) }

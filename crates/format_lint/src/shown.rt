@@ -11,11 +11,13 @@ ghost use Rattle.drawn_faults.specs.Drawing.{drawing};
 ghost use Rattle.drawn_faults.specs.Places.{seen_picture};
 ghost use Rattle.format_lint.specs.Lint.{IsLiteralIn, IsMended, IsShown, IsSourceIn};
 ghost use Rattle.format_lint.specs.Lint.{Source as SourceValue};
-ghost use Rattle.format_lint.specs.Lint.{drawings, drawn, errors, kept, more, picture};
+ghost use Rattle.format_lint.specs.Lint.{drawings, drawn, errors, kept, lexed, more, picture};
 ghost use Rattle.format_lint.specs.SeenLint.{seen_source, seen_task};
 
 use super::task::{Show, Task};
+use super::tokens::put_tokens;
 use drawn_faults::{Picture, draw, errors_of, fix};
+use format_tokens::tokens;
 use piece_listing::literal::{literal_text, without_newline};
 use piece_listing::verdict::RunFault;
 use rustc_parse_format::{ParseError, ParseMode};
@@ -200,6 +202,41 @@ fn put_fixed(
     }
 }
 
+/// Appends the tokens of a source, in colours or each in a line, and the drawings of its faults to
+/// a text. Returns whether it has faults, and `Err` if an allocation fails.
+fn put_lexed(
+    alloc: Global,
+    out: &mut String,
+    colours: bool,
+    task: Task<'_>,
+    source: Source<'_>,
+) -> Result<bool, AllocError>
+    requires { hashes source.style ≤ limit }
+    ensures lexed { OnOk result (string_bytes out.new ≡ string_bytes out.old
+        ++ (lexed colours (seen_task task.entry) (seen_source source.entry)).0) }
+    ensures told { IfOk result (λ told. told
+        ≡ (lexed colours (seen_task task.entry) (seen_source source.entry)).1) }
+{
+    let written = source.literal.unwrap_or(source.text);
+    let snippet = match source.literal {
+        Some(literal) => String::from_str(alloc, literal)?,
+        None => format!(in alloc; "\n{written}")?,
+    };
+    let found = tokens(
+        alloc,
+        source.text,
+        source.style,
+        Some(snippet),
+        false,
+        task.mode,
+    )?;
+    put_tokens(out, colours, written, found.as_slice())?;
+    if colours {
+        out.push_str("\n")?;
+    }
+    put_drawn(alloc, out, task.mode, task.path, source)
+}
+
 /// Returns what a task shows of a source, and whether a fault is left. Returns `Err` if an
 /// allocation fails.
 fn shown_of(alloc: Global, source: Source<'_>, task: Task<'_>) -> Result<(String, bool), AllocError>
@@ -210,6 +247,8 @@ fn shown_of(alloc: Global, source: Source<'_>, task: Task<'_>) -> Result<(String
     let mut out = String::new(alloc);
     let told = match task.show {
         Show::Faults => put_drawn(alloc, &mut out, task.mode, task.path, source)?,
+        Show::Tokens => put_lexed(alloc, &mut out, false, task, source)?,
+        Show::Colours => put_lexed(alloc, &mut out, true, task, source)?,
         Show::Fix => put_fixed(alloc, &mut out, task.mode, task.path, source)?,
     };
     Ok((out, told))

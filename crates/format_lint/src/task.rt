@@ -7,6 +7,10 @@ use rustc_parse_format::ParseMode;
 pub enum Show {
     /// Its faults, drawn under their source.
     Faults,
+    /// Its tokens, each in a line, and then its faults.
+    Tokens,
+    /// Its text in the colours of its tokens, and then its faults.
+    Colours,
     /// The literal with the edits that its faults suggest, and the faults that it then has.
     Fix,
 }

@@ -1,4 +1,4 @@
-//! Draws the faults of a string literal under it, as the Rust compiler does.
+//! Draws the faults of a string literal under it, as the Rust compiler does, and shows its tokens.
 #![tactic(auto)]
 
 use clap::{Arg, ArgAction, ArgMatches, Command, Error};
@@ -8,6 +8,7 @@ use format_lint::verdict::verdict;
 use piece_listing::verdict::RunFault;
 use rustc_parse_format::ParseMode;
 use std::alloc::{AllocError, Global};
+use std::io::IsTerminal;
 use std::process::ExitCode;
 use std::{env, fs};
 
@@ -28,6 +29,17 @@ fn command<'a>(alloc: Global) -> Result<Command<'a>, AllocError> {
         .action(ArgAction::SetTrue)
         .conflicts_with("text")?
         .help("Print the literal with the suggestions applied, and the faults that it then has");
+    let tokens = Arg::new(alloc, "tokens")
+        .long("tokens")
+        .action(ArgAction::SetTrue)
+        .conflicts_with("fix")?
+        .help("Print the tokens, in colours or each in a line, and then the faults");
+    let color = Arg::new(alloc, "color")
+        .long("color")
+        .value_name("WHEN")
+        .value_parser(["auto", "always", "never"].as_slice())
+        .default_value("auto")
+        .help("Whether --tokens has colours; auto: if standard output is a terminal");
     let file = Arg::new(alloc, "file")
         .value_name("FILE")
         .help("The file to read; without it, standard input is read");
@@ -36,6 +48,8 @@ fn command<'a>(alloc: Global) -> Result<Command<'a>, AllocError> {
         .arg(mode)?
         .arg(text)?
         .arg(fix)?
+        .arg(tokens)?
+        .arg(color)?
         .arg(file)
 }
 
@@ -53,17 +67,32 @@ fn mode_of(matches: &ArgMatches<'_>) -> ParseMode {
     }
 }
 
+/// Returns whether tokens are to be in colours.
+fn wants_colours(rt: &HostRuntime, matches: &ArgMatches<'_>) -> bool {
+    let word = matches.get_str("color").unwrap_or("auto");
+    word == "always" || word == "auto" && rt.stdout().is_terminal()
+}
+
+/// Returns what is to be shown.
+fn show_of(rt: &HostRuntime, matches: &ArgMatches<'_>) -> Show {
+    if matches.get_flag("fix") {
+        Show::Fix
+    } else if !matches.get_flag("tokens") {
+        Show::Faults
+    } else if wants_colours(rt, matches) {
+        Show::Colours
+    } else {
+        Show::Tokens
+    }
+}
+
 /// Returns the task that is asked for.
-fn task_of<'a>(matches: &ArgMatches<'a>) -> Task<'a> {
+fn task_of<'a>(rt: &HostRuntime, matches: &ArgMatches<'a>) -> Task<'a> {
     Task {
         mode: mode_of(matches),
         is_literal: !matches.get_flag("text"),
         path: matches.get_str("file").unwrap_or("<stdin>"),
-        show: if matches.get_flag("fix") {
-            Show::Fix
-        } else {
-            Show::Faults
-        },
+        show: show_of(rt, matches),
     }
 }
 
@@ -82,7 +111,7 @@ fn answer(rt: &HostRuntime, task: Task<'_>, file: Option<&str>) -> Result<bool, 
 /// the arguments are invalid, an allocation fails, or help is asked for.
 fn status(rt: &HostRuntime, words: &[String]) -> Result<u8, Error> {
     let matches = command(rt.alloc())?.try_get_matches_from(words)?;
-    let answer = answer(rt, task_of(&matches), matches.get_str("file"));
+    let answer = answer(rt, task_of(rt, &matches), matches.get_str("file"));
     let (text, status) = verdict(&answer);
     if !text.is_empty() {
         let _ = rt.eprintln(text);

@@ -3,7 +3,7 @@ mod Cuts
 mod ListNumbers
 mod Literals
 mod Contents
-mod OneLiteral
+pub mod OneLiteral
 mod OneAnswer
 mod Empty
 mod WordRows

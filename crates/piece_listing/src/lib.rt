@@ -10,3 +10,5 @@ mod report_lines;
 pub mod run;
 mod task;
 pub mod verdict;
+
+pub use listing::put_quoted;

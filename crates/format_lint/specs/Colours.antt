@@ -1,0 +1,91 @@
+-- How the tokens of a source are shown: in the colours of their kinds, or each in a line.
+use Rattle.std.specs.Prelude.{ℕ, ◌-◌, ◌++◌, Bool, true, false, List, [], ◌∷◌, Option, None, Some}
+use Rattle.std.specs.Prelude.{codes, drop, length}
+use Rattle.std.specs.Str.{encode_utf8_all}
+use Rattle.rustc_parse_format.specs.Characters.{Text}
+use Rattle.piece_listing.specs.Listing.{quoted, span_text}
+use Rattle.drawn_faults.specs.Places.{within}
+use Rattle.format_tokens.specs.Placed.{Placed}
+use Rattle.format_tokens.specs.declared.kinds.Kind.{Kind}
+use Rattle.format_tokens.specs.declared.kinds.Kind.TheVariants.{Text as TextKind, Escape, Open}
+use Rattle.format_tokens.specs.declared.kinds.Kind.TheVariants.{Close, Integer, Identifier}
+use Rattle.format_tokens.specs.declared.kinds.Kind.TheVariants.{RawPrefix, White, Colon, Fill}
+use Rattle.format_tokens.specs.declared.kinds.Kind.TheVariants.{Align, Sign, NumberSign, Zero}
+use Rattle.format_tokens.specs.declared.kinds.Kind.TheVariants.{DollarSign, Dot, Asterisk}
+use Rattle.format_tokens.specs.declared.kinds.Kind.TheVariants.{«Type» as TypeKind, Modifier}
+use Rattle.format_tokens.specs.declared.kinds.Kind.TheVariants.{DiagnosticText, Unexpected, Quote}
+
+-- The name of a kind in a list of tokens.
+unfoldable pub kind_name : Kind → List ℕ
+kind_name TextKind = codes "text"
+kind_name Escape = codes "escape"
+kind_name Open = codes "open"
+kind_name Close = codes "close"
+kind_name Integer = codes "integer"
+kind_name Identifier = codes "identifier"
+kind_name RawPrefix = codes "raw-prefix"
+kind_name White = codes "white"
+kind_name Colon = codes "colon"
+kind_name Fill = codes "fill"
+kind_name Align = codes "align"
+kind_name Sign = codes "sign"
+kind_name NumberSign = codes "number-sign"
+kind_name Zero = codes "zero"
+kind_name DollarSign = codes "dollar-sign"
+kind_name Dot = codes "dot"
+kind_name Asterisk = codes "asterisk"
+kind_name TypeKind = codes "type"
+kind_name Modifier = codes "modifier"
+kind_name DiagnosticText = codes "diagnostic-text"
+kind_name Unexpected = codes "unexpected"
+kind_name Quote = codes "quote"
+
+-- The colour of a kind, as a number of SGR, the escapes for a terminal: blue for a doubled brace,
+-- magenta for what parts a placeholder, cyan for an argument or a number, yellow for the fill and
+-- the flags, green for the type, red for what is wrong. What is only text has none.
+unfoldable pub colour : Kind → Option (List ℕ)
+colour TextKind = None
+colour Escape = Some (codes "34")
+colour Open = Some (codes "35")
+colour Close = Some (codes "35")
+colour Integer = Some (codes "36")
+colour Identifier = Some (codes "36")
+colour RawPrefix = Some (codes "36")
+colour White = None
+colour Colon = Some (codes "35")
+colour Fill = Some (codes "33")
+colour Align = Some (codes "33")
+colour Sign = Some (codes "33")
+colour NumberSign = Some (codes "33")
+colour Zero = Some (codes "33")
+colour DollarSign = Some (codes "35")
+colour Dot = Some (codes "35")
+colour Asterisk = Some (codes "36")
+colour TypeKind = Some (codes "32")
+colour Modifier = Some (codes "32")
+colour DiagnosticText = None
+colour Unexpected = Some (codes "31")
+colour Quote = None
+
+-- A text in a colour: between the escape that sets the colour and the one that resets it.
+abbrev pub in_colour : Option (List ℕ) → List ℕ → List ℕ
+in_colour None u = u
+in_colour (Some n) u = codes "\u{1b}[" ++ (n ++ (codes "m" ++ (u ++ codes "\u{1b}[0m")))
+
+-- A token as it is shown: its text in the colour of its kind, or a line with its kind, its byte
+-- range, and its text in quotes.
+abbrev pub shown_token : Bool → Placed → Text → List ℕ
+shown_token true x u = in_colour (colour x.0) (encode_utf8_all u)
+shown_token false x u =
+    kind_name x.0 ++ (codes " " ++ (span_text x.1 ++ (codes " " ++ (quoted u ++ codes "\n"))))
+
+-- What is left of a text behind its first characters, as many as end within n bytes.
+abbrev pub behind : ℕ → Text → Text
+behind n t = drop (length (within n t)) t
+
+-- The tokens of a text: each takes as many bytes from what is left of it as its range has.
+abbrev pub shown_tokens : Bool → Text → List Placed → List ℕ
+shown_tokens colours t [] = []
+shown_tokens colours t (x ∷ xs) =
+    let n = x.1.1 - x.1.0 in
+    shown_token colours x (within n t) ++ shown_tokens colours (behind n t) xs

@@ -1,0 +1,126 @@
+//! How the tokens of a source are shown. What begins with `put_` appends to `out`, and returns
+//! `Err` if an allocation fails.
+
+ghost use Rattle.std.specs.Prelude.{◌≡◌, ◌++◌, OnOk, chars, false, map, option_map, string_bytes};
+ghost use Rattle.drawn_faults.specs.Places.{within};
+ghost use Rattle.format_tokens.specs.Seen.{seen_token};
+ghost use Rattle.format_lint.specs.Colours.{behind, colour, in_colour, kind_name};
+ghost use Rattle.format_lint.specs.Colours.{shown_token, shown_tokens};
+
+use format_tokens::{Kind, Token};
+use piece_listing::put_quoted;
+use std::alloc::AllocError;
+
+/// Returns the name of a kind in a list of tokens.
+#[tactic(auto, unfolding(crate::specs::Colours::kind_name))]
+fn kind_name(kind: Kind) -> &'static str
+    ensures { result.now ≡ kind_name kind }
+{
+    match kind {
+        Kind::Text => "text",
+        Kind::Escape => "escape",
+        Kind::Open => "open",
+        Kind::Close => "close",
+        Kind::Integer => "integer",
+        Kind::Identifier => "identifier",
+        Kind::RawPrefix => "raw-prefix",
+        Kind::White => "white",
+        Kind::Colon => "colon",
+        Kind::Fill => "fill",
+        Kind::Align => "align",
+        Kind::Sign => "sign",
+        Kind::NumberSign => "number-sign",
+        Kind::Zero => "zero",
+        Kind::DollarSign => "dollar-sign",
+        Kind::Dot => "dot",
+        Kind::Asterisk => "asterisk",
+        Kind::Type => "type",
+        Kind::Modifier => "modifier",
+        Kind::DiagnosticText => "diagnostic-text",
+        Kind::Unexpected => "unexpected",
+        Kind::Quote => "quote",
+    }
+}
+
+/// Returns the colour of a kind, as a number of SGR, the escapes for a terminal, or `None` if it is
+/// only text.
+#[tactic(auto, unfolding(crate::specs::Colours::colour))]
+fn colour(kind: Kind) -> Option<&'static str>
+    ensures { option_map (λ s. s.now) result ≡ colour kind }
+{
+    match kind {
+        Kind::Text | Kind::White | Kind::DiagnosticText | Kind::Quote => None,
+        Kind::Escape => Some("34"),
+        Kind::Open | Kind::Close | Kind::Colon | Kind::DollarSign | Kind::Dot => Some("35"),
+        Kind::Integer | Kind::Identifier | Kind::RawPrefix | Kind::Asterisk => Some("36"),
+        Kind::Fill | Kind::Align | Kind::Sign | Kind::NumberSign | Kind::Zero => Some("33"),
+        Kind::Type | Kind::Modifier => Some("32"),
+        Kind::Unexpected => Some("31"),
+    }
+}
+
+/// Adds a text in a colour, if there is one.
+fn put_in_colour(out: &mut String, colour: Option<&str>, text: &str) -> Result<(), AllocError>
+    ensures { OnOk result (string_bytes out.new ≡ string_bytes out.old
+        ++ in_colour (option_map (λ s. s.now) colour.entry) text.now) }
+{
+    match colour {
+        Some(number) => write!(out, "\u{1b}[{number}m{text}\u{1b}[0m")?,
+        None => out.push_str(text)?,
+    }
+    Ok(())
+}
+
+/// Adds a line with the kind, the byte range and the text of a token.
+fn put_line(out: &mut String, token: &Token, text: &str) -> Result<(), AllocError>
+    ensures { OnOk result (string_bytes out.new ≡ string_bytes out.old
+        ++ shown_token false (seen_token token.now) (chars text.now)) }
+{
+    out.push_str(kind_name(token.kind))?;
+    write!(out, " {}..{} ", token.span.start, token.span.end)?;
+    put_quoted(out, text)?;
+    out.push_str("\n")?;
+    Ok(())
+}
+
+/// Adds a token with this text.
+fn put_token(out: &mut String, colours: bool, token: &Token, text: &str) -> Result<(), AllocError>
+    ensures { OnOk result (string_bytes out.new ≡ string_bytes out.old
+        ++ shown_token colours (seen_token token.now) (chars text.now)) }
+{
+    if colours {
+        put_in_colour(out, colour(token.kind), text)?;
+    } else {
+        put_line(out, token, text)?;
+    }
+    Ok(())
+}
+
+/// Returns the first characters of a text, as many as end within `width` bytes, and what is left
+/// behind them.
+fn split_within(text: &str, width: usize) -> (&str, &str)
+    ensures front { chars result.0.now ≡ within width (chars text.now) }
+    ensures back { chars result.1.now ≡ behind width (chars text.now) }
+{
+    text.split_at(text.floor_char_boundary(width))
+}
+
+/// Adds the tokens of a text, in colours or each in a line.
+pub fn put_tokens(
+    out: &mut String,
+    colours: bool,
+    text: &str,
+    tokens: &[Token],
+) -> Result<(), AllocError>
+    ensures { OnOk result (string_bytes out.new ≡ string_bytes out.old
+        ++ shown_tokens colours (chars text.now) (map seen_token tokens.now)) }
+{
+    let mut rest = text;
+    for token in tokens {
+        let width = token.span.end.saturating_sub(token.span.start);
+        let (text, behind) = split_within(rest, width);
+        put_token(out, colours, token, text)?;
+        rest = behind;
+    }
+    Ok(())
+}

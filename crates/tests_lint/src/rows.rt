@@ -1,0 +1,228 @@
+//! What is shown of an input.
+
+use format_lint::run::run;
+use format_lint::task::{Show, Task};
+use format_lint::verdict::verdict;
+use piece_listing::verdict::RunFault;
+use rustc_parse_format::ParseMode;
+use std::alloc::Global;
+use std::process::Abort;
+use std::test::Fail;
+
+/// A task, an input, what is shown of it, and whether a fault is left.
+#[derive(Clone, Copy)]
+pub struct Row {
+    pub mode: ParseMode,
+    pub is_literal: bool,
+    pub show: Show,
+    pub input: &'static [u8],
+    pub shown: &'static str,
+    pub told: bool,
+}
+
+impl Row {
+    /// Returns the task.
+    pub fn task(&self) -> Task<'static> {
+        Task {
+            mode: self.mode,
+            is_literal: self.is_literal,
+            path: "a",
+            show: self.show,
+        }
+    }
+}
+
+/// The faults of a text.
+const FAULTS: Task<'static> = Task {
+    mode: ParseMode::Format,
+    is_literal: false,
+    path: "a",
+    show: Show::Faults,
+};
+
+/// This is shown of a row.
+fn check(rt: &impl Abort, alloc: Global, row: &Row) -> Result<(), Fail> {
+    let mut reader = row.input;
+    let mut written = Vec::new(alloc);
+    let answer = run(alloc, &mut reader, &mut written, row.task());
+    assert_eq!(rt; answer, Ok(row.told));
+    assert_eq!(rt; written.as_slice(), row.shown.as_bytes());
+    Ok(())
+}
+
+/// Each kind but those that come with a fault, and those of other modes.
+const LISTED: Row = Row {
+    mode: ParseMode::Format,
+    is_literal: true,
+    show: Show::Tokens,
+    input: b"\"hi {a :*>+#01$.*x? }{{b\"\n",
+    shown: "quote 0..1 \"\\\"\"\n\
+        text 1..4 \"hi \"\n\
+        open 4..5 \"{\"\n\
+        identifier 5..6 \"a\"\n\
+        white 6..7 \" \"\n\
+        colon 7..8 \":\"\n\
+        fill 8..9 \"*\"\n\
+        align 9..10 \">\"\n\
+        sign 10..11 \"+\"\n\
+        number-sign 11..12 \"#\"\n\
+        zero 12..13 \"0\"\n\
+        integer 13..14 \"1\"\n\
+        dollar-sign 14..15 \"$\"\n\
+        dot 15..16 \".\"\n\
+        asterisk 16..17 \"*\"\n\
+        type 17..19 \"x?\"\n\
+        white 19..20 \" \"\n\
+        close 20..21 \"}\"\n\
+        escape 21..23 \"{{\"\n\
+        text 23..24 \"b\"\n\
+        quote 24..25 \"\\\"\"\n",
+    told: false,
+};
+
+/// The same in colours.
+const COLOURED: Row = Row {
+    mode: ParseMode::Format,
+    is_literal: true,
+    show: Show::Colours,
+    input: b"\"hi {a :*>+#01$.*x? }{{b\"\n",
+    shown: "\"hi \u{1b}[35m{\u{1b}[0m\u{1b}[36ma\u{1b}[0m \u{1b}[35m:\u{1b}[0m\u{1b}[33m*\u{1b}[0m\
+        \u{1b}[33m>\u{1b}[0m\u{1b}[33m+\u{1b}[0m\u{1b}[33m#\u{1b}[0m\u{1b}[33m0\u{1b}[0m\
+        \u{1b}[36m1\u{1b}[0m\u{1b}[35m$\u{1b}[0m\u{1b}[35m.\u{1b}[0m\u{1b}[36m*\u{1b}[0m\
+        \u{1b}[32mx?\u{1b}[0m \u{1b}[35m}\u{1b}[0m\u{1b}[34m{{\u{1b}[0mb\"\n",
+    told: false,
+};
+
+/// The kinds of other modes.
+const MODIFIER: Row = Row {
+    mode: ParseMode::InlineAsm,
+    is_literal: false,
+    show: Show::Tokens,
+    input: b"{0:e}",
+    shown: "open 1..2 \"{\"\ninteger 2..3 \"0\"\ncolon 3..4 \":\"\nmodifier 4..5 \"e\"\n\
+        close 5..6 \"}\"\n",
+    told: false,
+};
+
+const DIAGNOSTIC: Row = Row {
+    mode: ParseMode::Diagnostic,
+    is_literal: false,
+    show: Show::Colours,
+    input: b"{T:a }",
+    shown: "\u{1b}[35m{\u{1b}[0m\u{1b}[36mT\u{1b}[0m\u{1b}[35m:\u{1b}[0ma \u{1b}[35m}\u{1b}[0m\n",
+    told: false,
+};
+
+/// The kinds that come with a fault.
+pub const RAW_PREFIX: Row = Row {
+    mode: ParseMode::Format,
+    is_literal: true,
+    show: Show::Tokens,
+    input: b"\"\\x7br#a}\"",
+    shown: "quote 0..1 \"\\\"\"\n\
+        open 1..5 \"\\\\x7b\"\n\
+        raw-prefix 5..7 \"r#\"\n\
+        identifier 7..8 \"a\"\n\
+        close 8..9 \"}\"\n\
+        quote 9..10 \"\\\"\"\n\
+        error: invalid format string: raw identifiers are not supported\n --> a:1:6\n  |\n\
+        1 | \"\\x7br#a}\"\n  |      --^\n  |      |\n\
+        \x20 |      raw identifier used here in format string\n  |      help: remove the `r#`\n\
+        \x20 |\n  = note: identifiers in format strings can be keywords and don't need to be \
+        prefixed with `r#`\n\n",
+    told: true,
+};
+
+pub const UNEXPECTED: Row = Row {
+    mode: ParseMode::Format,
+    is_literal: false,
+    show: Show::Colours,
+    input: b"\xe6\x97\xa5}",
+    shown: "\u{65e5}\u{1b}[31m}\u{1b}[0m\n\
+        error: invalid format string: unmatched `}` found\n --> a:1:2\n  |\n\
+        1 | \u{65e5}}\n  |   ^ unmatched `}` in format string\n  |\n\
+        \x20 = note: if you intended to print `}`, you can escape it using `}}`\n\n",
+    told: true,
+};
+
+/// A literal with its suggestion.
+pub const FIXED: Row = Row {
+    mode: ParseMode::Format,
+    is_literal: true,
+    show: Show::Fix,
+    input: b"\"\\x7br#a}\"",
+    shown: "\"\\x7ba}\"\n",
+    told: false,
+};
+
+#[test]
+fn shows_each_kind_of_token(rt: HostRuntime) -> Result<(), Fail> {
+    let rows = [
+        LISTED, COLOURED, MODIFIER, DIAGNOSTIC, RAW_PREFIX, UNEXPECTED, FIXED,
+    ];
+    for row in &rows {
+        check(&rt, rt.alloc(), row)?;
+    }
+    Ok(())
+}
+
+#[test]
+fn draws_ten_of_twelve_faults(rt: HostRuntime) -> Result<(), Fail> {
+    let mut reader: &[u8] = b"}a}a}a}a}a}a}a}a}a}a}a}a";
+    let mut written = Vec::new(rt.alloc());
+    let answer = run(rt.alloc(), &mut reader, &mut written, FAULTS);
+    assert_eq!(rt; answer, Ok(true));
+    assert!(rt; written.as_slice().ends_with(b"\n\nand 2 more\n"));
+    Ok(())
+}
+
+/// Nothing is shown of this input.
+fn check_refused(
+    rt: &impl Abort,
+    alloc: Global,
+    input: &[u8],
+    fault: RunFault,
+) -> Result<(), Fail> {
+    let mut reader = input;
+    let mut written = Vec::new(alloc);
+    let answer = run(alloc, &mut reader, &mut written, LISTED.task());
+    assert_eq!(rt; answer, Err(fault));
+    assert!(rt; written.as_slice().is_empty());
+    Ok(())
+}
+
+#[test]
+fn refuses_other_inputs(rt: HostRuntime) -> Result<(), Fail> {
+    check_refused(&rt, rt.alloc(), b"\"a", RunFault::NotLiteral)?;
+    check_refused(&rt, rt.alloc(), b"\"\xff\"", RunFault::NotText)?;
+    let long = vec![in rt.alloc(); b'a'; 1_048_577]?;
+    check_refused(&rt, rt.alloc(), long.as_slice(), RunFault::TooLong)
+}
+
+/// Each answer, with what is told and the status.
+const ANSWERS: &[(Result<bool, RunFault>, &str, u8)] = &[
+    (Ok(false), "", 0),
+    (Ok(true), "", 1),
+    (Err(RunFault::Words), "formatlint: invalid arguments", 2),
+    (
+        Err(RunFault::NotLiteral),
+        "formatlint: input is not a string literal",
+        2,
+    ),
+    (Err(RunFault::Read), "formatlint: reading failed", 3),
+    (
+        Err(RunFault::TooLong),
+        "formatlint: input is longer than 1048576 bytes",
+        3,
+    ),
+    (Err(RunFault::NotText), "formatlint: input is not UTF-8", 3),
+    (Err(RunFault::Memory), "formatlint: out of memory", 3),
+    (Err(RunFault::Write), "formatlint: writing failed", 3),
+];
+
+#[test]
+fn tells_each_answer(rt: HostRuntime) {
+    for (answer, text, status) in ANSWERS {
+        assert_eq!(rt; verdict(answer), (*text, *status));
+    }
+}
