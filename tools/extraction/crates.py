@@ -6,11 +6,11 @@ from extraction import ghosts, rules
 from extraction.source import Import, Source
 from extraction.tokens import Refused
 
+CRATES = ("rustc_parse_format", "placeholder_check", "format_tokens", "drawn_faults")
 NOTICE = """\
 // Extracted from {place} by tools/extract: not to be edited.
 // That source is proved, and each contract here is its. That this text means the same is tested:
-// rows of answers from outside, the proved static library (.ci/bindings) and the original
-// (tools/agree) give the same over it.
+// by results from outside, and beside what is proved (.ci/bindings) and the original (tools/agree).
 
 """
 
@@ -106,6 +106,8 @@ class Needs:
     def resolved(self, path):
         """The file and the name of what a path from the crates on leads to, past what other files
         import for it."""
+        if rules.in_library(path) is not None:
+            return None, path[-1]
         for cut in range(len(path) - 1, 0, -1):
             source = self.files.get(tuple(path[:cut]))
             if source is not None:
@@ -214,11 +216,8 @@ def rust_of(source, needs, crates, empty, cloned):
     for item in source.items:
         if item.is_kept:
             kept = [part for part in item.parts if part.is_kept and not item.trait] or [item]
-            own |= {
-                name if isinstance(name, str) else name[0]
-                for part in kept
-                for name in source.names_in(part.start, part.last)
-            }
+            for name in (it for part in kept for it in source.names_in(part.start, part.last)):
+                own |= {name if isinstance(name, str) else name[0], rules.TRAITS.get(name)}
             own |= source.names_in(item.start, item.open or item.last)
     here = (source.crate, *module_of(source.name))
     body, uses_shim = "", False

@@ -114,9 +114,6 @@ def empty_types(sources):
         for item in source.items
         if item.kind == "struct" and item.has_members
     ]
-    for source, item in structs:
-        if sum(other.name == item.name for _, other in structs) > 1:
-            source.refuse(item.head, f"two structs with the name `{item.name}`")
     grown = True
     while grown:
         grown = False
@@ -135,6 +132,10 @@ def empty_types(sources):
             if not item.members and item.name not in empty:
                 empty.add(item.name)
                 grown = True
+    for source, item in structs:
+        is_told_by_name = item.name in empty or fields[item.name]
+        if is_told_by_name and sum(other.name == item.name for _, other in structs) > 1:
+            source.refuse(item.head, f"two structs with the name `{item.name}`")
     return empty, {name: held for name, held in fields.items() if held and name not in empty}
 
 

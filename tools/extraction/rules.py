@@ -2,8 +2,10 @@
 reads, or rewrites a form that Rust does not have. What no rule knows is refused by its name."""
 from extraction.source import Import
 
-# What of the library may be named, and what replaces it. A path that is not here is refused.
+# What of the library may be named, and what replaces it. A path that is not here is refused. What
+# reads the parser by its calls reads that of the layer, so that there is one.
 LIBRARY = {
+    "rustc_parse_format::Parser": "crate::shim::parser::Parser",
     "std::alloc": "crate::shim::alloc",
     "std::collections::BTreeSet": None,
     "std::iter::FusedIterator": None,
@@ -12,24 +14,36 @@ LIBRARY = {
     "std::ops::Range": None,
     "std::simd::prelude": "crate::shim::simd",
     "unicode_ident": "crate::shim::unicode_ident",
+    "unicode_width": "crate::shim::unicode_width",
 }
 # Calls that take the allocator, or return an allocation failure. In Rust they are methods of the
 # shim's traits.
 CONSTRUCTORS = {"new": "made_in", "with_capacity": "made_for", "from_str": "made_from"}
+# Constructors that ask for no memory.
+PLAIN = ("from_utf8",)
 METHODS = {
     "push": "try_push",
     "push_str": "try_push_str",
     "insert": "try_insert",
     "append": "try_append",
     "extend": "try_extend",
+    "extend_from_slice": "try_extend_from_slice",
     "reserve": "try_reserve_more",
     "clone": "try_clone",
     # of the standard library only since Rust 1.91
     "floor_char_boundary": "boundary_at_most",
+    # of the standard library only since Rust 1.80
+    "split_at_checked": "parts_at",
 }
 # What a path may begin with besides what a file names.
 KNOWN = ("self", "super", "char", "str", "u8", "u8x16", "u16", "u32", "u64", "usize")
-MACROS = ("matches", "format")
+MACROS = {
+    "matches": "matches",
+    "format": "crate::shim::format_in",
+    "write": "crate::shim::write_in",
+}
+# Traits that are named only where they are imported, by the calls of their methods.
+TRAITS = {(".", "width", 0): "UnicodeWidthChar"}
 ATTRIBUTES = {"cycle", "default", "derive", "doc", "inline", "tactic"}
 DERIVES = {"Clone", "Copy", "Debug", "Default", "Drop", "Eq", "PartialEq"}
 # Members that what calls the crates has to write, for which they have no call.
@@ -92,7 +106,7 @@ def rewrite(source, item, crate, crates):
                 if source.text(source.next(called)) == "(" and source.text(called) in CONSTRUCTORS:
                     source.tokens[called].text = CONSTRUCTORS[source.text(called)]
                     uses_shim = True
-                else:
+                elif source.text(called) not in PLAIN:
                     source.refuse(called, f"a call `{text}::{source.text(called)}`")
             elif text[0].islower() and text not in (*KNOWN, *modules_of(source), *source.imports()):
                 source.refuse(at, f"a path that begins with `{text}`")
@@ -116,9 +130,9 @@ def rewrite(source, item, crate, crates):
             and source.text(source.prev(at, 2)) == "Err"
             and behind == ")"
         ):
-            source.refuse(at, "an answer to a refusal of memory, which never comes in Rust")
+            refusal(source, at)
         elif text == "!" and source.is_word(source.prev(at)) and behind in ("(", "[", "{"):
-            uses_shim |= macro(source, source.prev(at))
+            macro(source, source.prev(at))
         else:
             refuse_unknown(source, at)
     return uses_shim
@@ -128,14 +142,26 @@ def macro(source, at):
     name, opening = source.text(at), source.next(at, 2)
     if name not in MACROS:
         source.refuse(at, f"a macro `{name}!`")
-    if name != "format":
-        return False
     inner = source.next(opening)
-    if source.text(inner) != "in":
-        source.refuse(at, "a `format!` without an allocator")
-    source.tokens[at].text = "crate::shim::format_in"
-    source.tokens[inner].text = ""
-    return True
+    if name == "format":
+        if source.text(inner) != "in":
+            source.refuse(at, "a `format!` without an allocator")
+        source.tokens[inner].text = ""
+    source.tokens[at].text = MACROS[name]
+
+
+def refusal(source, at):
+    """Writes the answer to a text that is too long for memory anew: in Rust such a call panics, as
+    one of the standard library does. The proof counts by 64 bits; where there are 32, as many are
+    left for sums. No other answer to a refusal of memory ever comes in Rust."""
+    before = [source.text(source.prev(at, count)) for count in range(14, 0, -1)]
+    bits = before[9]
+    length = [".", "len", "(", ")", ">", "=", "1", "<", "<", bits, "{", "return", "Err", "("]
+    if before != length or not bits.isdecimal():
+        source.refuse(at, "an answer to a refusal of memory, which never comes in Rust")
+    source.tokens[source.prev(at, 5)].text = f"(usize::BITS - {64 - int(bits)})"
+    source.tokens[source.prev(at, 2)].text = "crate::shim::alloc::refuse"
+    source.tokens[at].text = ""
 
 
 def refuse_unknown(source, at):
@@ -164,7 +190,7 @@ def refuse_unknown(source, at):
         and ends_value(source, source.prev(at))
         and behind in (")", "]", ",", ";", "{", "=>")
     ):
-        if behind != "]" or not is_index(source, at):
+        if not is_place(source, at):
             source.refuse(at, "a range without an end")
     elif text == ".." and before in (",", "{") and behind not in ("}", ")", "]"):
         source.refuse(at, "a value that takes members over from another")
@@ -180,13 +206,18 @@ def ends_value(source, at):
     )
 
 
-def is_index(source, at):
-    """Whether a place stands in an index, and not in an array."""
+def is_place(source, at):
+    """Whether a range without an end stands in an index or a call of `get`, and not in an array."""
+    if source.text(source.next(at)) not in (")", "]"):
+        return False
     depth = 0
     while depth >= 0:
         at = source.prev(at)
         depth += (source.text(at) in (")", "]")) - (source.text(at) in ("(", "["))
-    return source.text(at) == "[" and ends_value(source, source.prev(at))
+    before = source.prev(at)
+    if source.text(at) == "(":
+        return source.text(before) == "get" and source.text(source.prev(before)) == "."
+    return ends_value(source, before)
 
 
 def is_pattern(source, at):
@@ -205,33 +236,27 @@ def modules_of(source):
     return [item.name for item in source.items if item.kind == "mod"]
 
 
+def in_library(path):
+    """What of the library a path leads to, or None."""
+    return next(
+        (name for name in LIBRARY if path[: len(name.split("::"))] == name.split("::")), None
+    )
+
+
 def imported(source, item, crate, crates, is_named):
     """The lines of a `use` of which the names are kept that something names."""
     of = {}
     for path, called in Import(source, source.next(item.head)).paths():
         if called != "*" and not is_named(called):
             continue
-        if path[0] not in (
-            "crate",
-            "self",
-            "super",
-            "std",
-            "unicode_ident",
-            *crates,
-            *modules_of(source),
-        ):
-            source.refuse(item.head, f"`{'::'.join(path)}`, which is not known")
-        if path[0] in ("crate", *crates):
-            path = ["crate", "proved", crate if path[0] == "crate" else path[0]] + path[1:]
-        elif path[0] in ("std", "unicode_ident"):
-            known = next(
-                (name for name in LIBRARY if path[: len(name.split("::"))] == name.split("::")),
-                None,
-            )
-            if known is None:
-                source.refuse(item.head, f"`{'::'.join(path)}`, which is not known")
+        known = in_library(path)
+        if known is not None:
             if LIBRARY[known]:
                 path = LIBRARY[known].split("::") + path[len(known.split("::")) :]
+        elif path[0] in ("crate", *crates):
+            path = ["crate", "proved", crate if path[0] == "crate" else path[0]] + path[1:]
+        elif path[0] not in ("self", "super", *modules_of(source)):
+            source.refuse(item.head, f"`{'::'.join(path)}`, which is not known")
         name = path[-1] if called == path[-1] else f"{path[-1]} as {called}"
         of.setdefault("::".join(path[:-1]), []).append(name)
     before = "".join(token.text for token in source.tokens[item.start : item.head])

@@ -1,19 +1,24 @@
 #![doc = include_str!("../README.md")]
 #![forbid(unsafe_code)]
 
+pub mod faults;
 pub mod literal;
 mod parser;
 // These sources are extracted from another language, which lacks some forms that clippy asks for.
 #[allow(
     dead_code,
+    clippy::manual_map,
+    clippy::needless_lifetimes,
     clippy::needless_question_mark,
     clippy::needless_range_loop,
     clippy::question_mark,
-    clippy::type_complexity
+    clippy::type_complexity,
+    clippy::while_let_on_iterator
 )]
 mod proved;
 mod report;
 mod shim;
+pub mod tokens;
 
 pub use parser::Parser;
 pub use proved::rustc_parse_format::{

@@ -2,6 +2,7 @@
 //! `AllocError` has no value, a `Result` with it is always `Ok`, and each `?` on one compiles to
 //! nothing.
 use std::collections::BTreeSet;
+use std::fmt::{self, Write};
 
 /// The allocator that is passed to calls.
 #[derive(Clone, Copy)]
@@ -18,6 +19,19 @@ pub fn answer<T>(result: Result<T, AllocError>) -> T {
         Ok(value) => value,
         Err(refusal) => match refusal {},
     }
+}
+
+/// Answers a text that is too long for any memory, as the standard library does.
+#[cold]
+pub fn refuse<T>() -> Result<T, AllocError> {
+    panic!("capacity overflow")
+}
+
+/// Appends formatted words to a text.
+pub fn write_to(out: &mut String, words: fmt::Arguments<'_>) -> Result<(), AllocError> {
+    // (writing to a `String` always succeeds)
+    let _ = out.write_fmt(words);
+    Ok(())
 }
 
 /// The method of `Box` that takes an allocator and may return an allocation failure.
@@ -37,6 +51,9 @@ pub trait VecIn<T>: Sized {
     fn made_in(alloc: Global) -> Self;
     fn made_for(alloc: Global, room: usize) -> Result<Self, AllocError>;
     fn try_push(&mut self, item: T) -> Result<(), AllocError>;
+    fn try_extend_from_slice(&mut self, items: &[T]) -> Result<(), AllocError>
+    where
+        T: Copy;
 }
 
 impl<T> VecIn<T> for Vec<T> {
@@ -53,6 +70,15 @@ impl<T> VecIn<T> for Vec<T> {
     #[inline(always)]
     fn try_push(&mut self, item: T) -> Result<(), AllocError> {
         self.push(item);
+        Ok(())
+    }
+
+    #[inline(always)]
+    fn try_extend_from_slice(&mut self, items: &[T]) -> Result<(), AllocError>
+    where
+        T: Copy,
+    {
+        self.extend_from_slice(items);
         Ok(())
     }
 }
@@ -119,11 +145,15 @@ impl StringIn for String {
     }
 }
 
-/// A method of `str` that older versions of the standard library do not have.
+/// Methods of `str` that older versions of the standard library do not have.
 pub trait StrIn {
     /// Returns the last byte offset that is at most `at` and a character boundary. In the standard
     /// library this is `floor_char_boundary`, which is recent.
     fn boundary_at_most(&self, at: usize) -> usize;
+
+    /// Returns what is before a byte offset and what is from there on, or `None` if that is no
+    /// character boundary. In the standard library this is `split_at_checked`, which is recent.
+    fn parts_at(&self, at: usize) -> Option<(&str, &str)>;
 }
 
 impl StrIn for str {
@@ -137,6 +167,11 @@ impl StrIn for str {
             at -= 1;
         }
         at
+    }
+
+    #[inline(always)]
+    fn parts_at(&self, at: usize) -> Option<(&str, &str)> {
+        Some((self.get(..at)?, self.get(at..)?))
     }
 }
 
@@ -166,6 +201,8 @@ mod tests {
             for at in 0..text.len() + 3 {
                 let wanted = starts.iter().copied().filter(|&start| start <= at).max();
                 assert_eq!(Some(text.boundary_at_most(at)), wanted, "{at} in {text:?}");
+                let parts = starts.contains(&at).then(|| text.split_at(at));
+                assert_eq!(text.parts_at(at), parts, "{at} in {text:?}");
             }
         }
     }

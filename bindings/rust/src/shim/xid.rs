@@ -1,7 +1,7 @@
 //! The ranges of `XID_Start` and `XID_Continue` beyond ASCII, of Unicode 18.0.0: where each
 //! begins, and where it has ended.
 
-// Made by tools/identifiers from the tables of the kit: not to be edited.
+// Made by tools/unicode from the tables of the kit: not to be edited.
 
 #[rustfmt::skip]
 pub static START: [u32; 1400] = [

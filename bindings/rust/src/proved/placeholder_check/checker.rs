@@ -2,8 +2,7 @@
 
 // Extracted from crates/placeholder_check/src/checker.rt by tools/extract: not to be edited.
 // That source is proved, and each contract here is its. That this text means the same is tested:
-// rows of answers from outside, the proved static library (.ci/bindings) and the original
-// (tools/agree) give the same over it.
+// by results from outside, and beside what is proved (.ci/bindings) and the original (tools/agree).
 
 use crate::proved::placeholder_check::entries::{lacked_below, lacked_by, members_from};
 use crate::proved::placeholder_check::uses::uses_of;

@@ -2,12 +2,10 @@
 
 // Extracted from crates/rustc_parse_format/src/faults.rt by tools/extract: not to be edited.
 // That source is proved, and each contract here is its. That this text means the same is tested:
-// rows of answers from outside, the proved static library (.ci/bindings) and the original
-// (tools/agree) give the same over it.
+// by results from outside, and beside what is proved (.ci/bindings) and the original (tools/agree).
 
 use crate::shim::alloc::{AllocError, Global};
 use crate::shim::prelude::*;
-use std::mem;
 use std::ops::Range;
 
 /// A fault of an input. The ranges are byte ranges in the source.
@@ -77,9 +75,10 @@ impl Fault<'_> {
     }
 }
 
-/// The faults of a call, in the order in which they were found. The first one needs no allocation.
+/// The faults of a call, in the order in which they were found. The first two need no allocation.
 pub struct Faults<'input> {
     first: Option<Fault<'input>>,
+    second: Option<Fault<'input>>,
     more: Vec<Fault<'input>>,
 }
 
@@ -90,19 +89,21 @@ impl<'input> Faults<'input> {
     pub fn new(alloc: Global) -> Faults<'input> {
         Faults {
             first: None,
+            second: None,
             more: Vec::made_in(alloc),
         }
     }
 
     /// Returns whether there are no faults.
-    // ensures { IsTrue result ↔ (self.now ≡ []) }
+    // ensures empty { IsTrue result ↔ (self.now ≡ []) }
+    // ensures few { length self.now < 2 ^ 64 }
     #[inline]
     pub fn is_empty(&self) -> bool {
         self.first.is_none()
     }
 
     /// Adds a fault at the end. Returns `Err` if an allocation fails, and the list is then
-    /// unchanged. The first fault needs no allocation.
+    /// unchanged. The first two faults need no allocation.
     // ensures ok { OnOk result (self.new ≡ self.old ++ seen_fault fault.entry ∷ []) }
     // ensures err { OnErr result (self.new ≡ self.old) }
     // ensures spare { self.old ≡ [] → IsOk result }
@@ -110,21 +111,25 @@ impl<'input> Faults<'input> {
     pub fn try_push(&mut self, fault: Fault<'input>) -> Result<(), AllocError> {
         if self.first.is_none() {
             self.first = Some(fault);
+        } else if self.second.is_none() {
+            self.second = Some(fault);
         } else {
             self.more.try_push(fault)?;
         }
         Ok(())
     }
 
-    /// Takes all faults out of the list, and returns the first one and those after it. Does not
+    /// Takes the first fault out of the list, and returns it, or `None` if there is none. Does not
     /// allocate.
-    // ensures value { seen_faults result.0 result.1.items ≡ self.old }
-    // ensures state { self.new ≡ [] }
+    // ensures { MatchOption result ((self.old ≡ []) × (self.new ≡ []))
+    //     (λ f. self.old ≡ seen_fault f ∷ self.new) }
     #[inline]
-    pub fn take(&mut self, alloc: Global) -> (Option<Fault<'input>>, Vec<Fault<'input>>) {
-        (
-            self.first.take(),
-            mem::replace(&mut self.more, Vec::made_in(alloc)),
-        )
+    pub fn pop_first(&mut self) -> Option<Fault<'input>> {
+        let fault = self.first.take();
+        self.first = self.second.take();
+        if !self.more.is_empty() {
+            self.second = Some(self.more.remove(0));
+        }
+        fault
     }
 }

@@ -2,8 +2,7 @@
 
 // Extracted from crates/rustc_parse_format/src/messages.rt by tools/extract: not to be edited.
 // That source is proved, and each contract here is its. That this text means the same is tested:
-// rows of answers from outside, the proved static library (.ci/bindings) and the original
-// (tools/agree) give the same over it.
+// by results from outside, and beside what is proved (.ci/bindings) and the original (tools/agree).
 
 use crate::proved::rustc_parse_format::faults::Fault;
 use crate::proved::rustc_parse_format::types::{ParseError, Suggestion};
@@ -66,7 +65,7 @@ fn align_after(alloc: Global, sign: char) -> Result<String, AllocError> {
 //   label = label.now;
 //   span = pair span;
 // }) }
-#[inline]
+#[inline(always)]
 fn show(
     alloc: Global,
     into: &mut ParseError,
@@ -88,7 +87,7 @@ fn show(
 //   label = label.now;
 //   span = pair span;
 // }) }
-#[inline]
+#[inline(always)]
 fn say(
     alloc: Global,
     into: &mut ParseError,

@@ -18,8 +18,7 @@
 
 // Extracted from crates/rustc_parse_format/src/lib.rt by tools/extract: not to be edited.
 // That source is proved, and each contract here is its. That this text means the same is tested:
-// rows of answers from outside, the proved static library (.ci/bindings) and the original
-// (tools/agree) give the same over it.
+// by results from outside, and beside what is proved (.ci/bindings) and the original (tools/agree).
 
 pub(crate) mod blocks;
 pub(crate) mod call;
@@ -41,5 +40,5 @@ pub(crate) mod types;
 pub(crate) mod written;
 pub use types::{
     Alignment, Argument, Count, DebugHex, FormatSpec, ParseError, ParseMode, Piece, Position, Sign,
-    Suggestion,
+    Suggestion, Taken,
 };

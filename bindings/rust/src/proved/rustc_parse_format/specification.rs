@@ -3,8 +3,7 @@
 
 // Extracted from crates/rustc_parse_format/src/specification.rt by tools/extract: not to be edited.
 // That source is proved, and each contract here is its. That this text means the same is tested:
-// rows of answers from outside, the proved static library (.ci/bindings) and the original
-// (tools/agree) give the same over it.
+// by results from outside, and beside what is proved (.ci/bindings) and the original (tools/agree).
 
 use crate::proved::rustc_parse_format::characters::first;
 use crate::proved::rustc_parse_format::faults::Fault;

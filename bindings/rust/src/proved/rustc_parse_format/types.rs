@@ -2,8 +2,7 @@
 
 // Extracted from crates/rustc_parse_format/src/types.rt by tools/extract: not to be edited.
 // That source is proved, and each contract here is its. That this text means the same is tested:
-// rows of answers from outside, the proved static library (.ci/bindings) and the original
-// (tools/agree) give the same over it.
+// by results from outside, and beside what is proved (.ci/bindings) and the original (tools/agree).
 
 use std::ops::Range;
 
@@ -31,6 +30,16 @@ pub enum Piece<'input> {
     Lit(&'input str),
     /// A placeholder.
     NextArgument(Box<Argument<'input>>),
+}
+
+/// A piece as returned by `Parser::next_into`, which reads a placeholder into an argument of the
+/// caller.
+#[derive(Clone, Copy)]
+pub enum Taken<'input> {
+    /// Literal text, borrowed from the input. An escaped brace, `{{` or `}}`, is one brace.
+    Lit(&'input str),
+    /// A placeholder, which is in the argument of the caller.
+    NextArgument,
 }
 
 /// The contents of a placeholder: which argument it refers to, and how that is formatted. Spans are

@@ -1,0 +1,135 @@
+//! The faults of a string literal for the one who wrote it: [`draw`] draws a fault under its
+//! source, as rustc does, and [`fix`] applies the edits that the suggestions of faults have.
+use crate::proved::drawn_faults::{
+    draw as draw_in, edits as edits_in, errors_of as errors_of_in, fix as fix_in,
+};
+use crate::shim::alloc::{answer, Global};
+use crate::{ParseError, ParseMode};
+
+pub use crate::proved::drawn_faults::{Edit, Fixed, Picture};
+
+/// Returns the text that shows an error of a literal under its source, as rustc 1.95 draws it
+/// without colours. The spans of the error are byte ranges of the literal: its parser had this
+/// literal as its snippet, and that was the source literal.
+///
+/// From top to bottom: what the error is, and its path, line and column, which counts characters;
+/// the lines with labels, each with its number and the signs of the labels under it; the note; the
+/// suggestion; an empty line. A suggestion to remove or to insert something is a second label, one
+/// to replace a text shows the old and the new lines. Those for which the arguments of the call are
+/// needed, `UsePositional` and `UseRustDebugPrintingMacro`, are left out. Long lines are not cut at
+/// their right. Of two labels each is drawn in the line in which it begins. The columns that a
+/// character takes are those of the crate `unicode_width`, of Unicode 18.
+///
+/// A span that does not fit is drawn too: an offset inside a character means the start of that
+/// character, one behind the source its end, and a range that ends before it begins is empty.
+///
+/// ```
+/// use dephungo::faults::{draw, errors_of, Picture};
+/// use dephungo::ParseMode;
+///
+/// let source = "println!(\"{a!}\");";
+/// let errors = errors_of("{a!}\n", None, Some("\"{a!}\"".to_string()), true, ParseMode::Format);
+/// let picture = Picture { path: "a.rs", source, line_start: 1, literal_start: 9 };
+/// let wanted = "\
+/// error: invalid format string: expected `}`, found `!`
+///  --> a.rs:1:13
+///   |
+/// 1 | println!(\"{a!}\");
+///   |           - ^ expected `}` in format string
+///   |           |
+///   |           because of this opening brace
+///   |
+///   = note: if you intended to print `{`, you can escape it using `{{`
+///
+/// ";
+/// assert_eq!(draw(&picture, &errors[0]), wanted);
+/// ```
+///
+/// # Panics
+///
+/// If the source has 2^59 bytes or more, or on 32 bits 2^27 or more. There the numbers of its lines
+/// also have to fit `usize`. An allocation failure aborts, as elsewhere in Rust.
+pub fn draw(picture: &Picture<'_>, error: &ParseError) -> String {
+    answer(draw_in(Global, picture, error))
+}
+
+/// Returns the edits of these errors, in the order of the source, each behind the end of the one
+/// before it.
+///
+/// The errors are in the order of a parser, in which each error that has an edit comes before those
+/// of earlier places. An edit that does not start behind the end of the one before it is left out.
+/// An allocation failure aborts, as elsewhere in Rust.
+///
+/// ```
+/// use dephungo::faults::{edits, errors_of};
+/// use dephungo::ParseMode;
+///
+/// let errors = errors_of("{r#a}{b?}", None, None, false, ParseMode::Format);
+/// let found = edits(&errors);
+/// assert_eq!((found[0].span.clone(), found[0].text), (2..4, ""));
+/// assert_eq!((found[1].span.clone(), found[1].text), (8..8, ":"));
+/// ```
+pub fn edits(errors: &[ParseError]) -> Vec<Edit<'_>> {
+    answer(edits_in(Global, errors))
+}
+
+/// Returns the errors of all calls of a parser up to the end of an input, in its order. The
+/// arguments are those of [`Parser::new`](crate::Parser::new). An allocation failure aborts, as
+/// elsewhere in Rust.
+///
+/// ```
+/// use dephungo::faults::errors_of;
+/// use dephungo::ParseMode;
+///
+/// let errors = errors_of("{}}", None, None, false, ParseMode::Format);
+/// assert_eq!(errors[0].description, "unmatched `}` found");
+/// ```
+pub fn errors_of(
+    input: &str,
+    style: Option<usize>,
+    snippet: Option<String>,
+    appended_newline: bool,
+    mode: ParseMode,
+) -> Vec<ParseError> {
+    answer(errors_of_in(
+        Global,
+        input,
+        style,
+        snippet,
+        appended_newline,
+        mode,
+    ))
+}
+
+/// Returns the source literal of an input with the edits of all errors up to the end of the input,
+/// and the text with the same edits, which the literal then stands for.
+///
+/// Returns `None` if the snippet is not the source literal of the input, so that no edit is made in
+/// a foreign literal, if there is no edit, or if the literal with its edits would not stand for the
+/// text with its own. The result may have other faults. The arguments are those of
+/// [`Parser::new`](crate::Parser::new). An allocation failure aborts, as elsewhere in Rust.
+///
+/// ```
+/// use dephungo::faults::fix;
+/// use dephungo::ParseMode;
+///
+/// let fixed = fix("{a?}", None, r#""{\x61?}""#, false, ParseMode::Format).unwrap();
+/// assert_eq!(fixed.snippet, r#""{\x61:?}""#);
+/// assert_eq!(fixed.text, "{a:?}");
+/// ```
+pub fn fix(
+    input: &str,
+    style: Option<usize>,
+    snippet: &str,
+    appended_newline: bool,
+    mode: ParseMode,
+) -> Option<Fixed> {
+    answer(fix_in(
+        Global,
+        input,
+        style,
+        snippet,
+        appended_newline,
+        mode,
+    ))
+}

@@ -1,0 +1,270 @@
+//! The text that shows a fault under its source. What begins with `put_` appends to `out`, and
+//! returns `Err` if an allocation fails.
+
+// Extracted from crates/drawn_faults/src/drawing.rt by tools/extract: not to be edited.
+// That source is proved, and each contract here is its. That this text means the same is tested:
+// by results from outside, and beside what is proved (.ci/bindings) and the original (tools/agree).
+
+use crate::proved::drawn_faults::glyphs::{put_run, put_texts};
+use crate::proved::drawn_faults::labels::{edit_of, frame_for, mark, second, Edit, Frame, Label};
+use crate::proved::drawn_faults::lines::{put_labelled, put_two_labels};
+use crate::proved::drawn_faults::long::put_long;
+use crate::proved::drawn_faults::places::{Picture, Spot};
+use crate::proved::drawn_faults::suggestions::{put_edit, put_parting};
+use crate::proved::rustc_parse_format::ParseError;
+use crate::shim::alloc::{AllocError, Global};
+use crate::shim::prelude::*;
+
+/// Adds what the error is.
+// ensures { OnOk result (string_bytes out.new ≡ string_bytes out.old ++ title description.now) }
+#[inline]
+fn put_title(out: &mut String, description: &str) -> Result<(), AllocError> {
+    put_texts(out, "error: invalid format string: ", description, "\n")?;
+    Ok(())
+}
+
+/// Adds where the text is that the error is about.
+// requires line { at.line < 2 ^ 59 }
+// requires chars { at.chars < 2 ^ 59 }
+// ensures { OnOk result (string_bytes out.new ≡ string_bytes out.old
+//     ++ arrow (seen_frame frame.now) at) }
+#[inline]
+fn put_arrow(out: &mut String, frame: &Frame<'_>, at: Spot) -> Result<(), AllocError> {
+    let line = frame.picture.line_start as usize + at.line;
+    let column = at.chars + 1;
+    put_run(out, ' ', frame.gutter)?;
+    out.try_push_str("--> ")?;
+    out.try_push_str(frame.picture.path)?;
+    crate::shim::write_in!(out, ":{line}:{column}\n")?;
+    Ok(())
+}
+
+/// Adds the lines above the source.
+// requires line { at.line < 2 ^ 59 }
+// requires chars { at.chars < 2 ^ 59 }
+// ensures { OnOk result (string_bytes out.new ≡ string_bytes out.old
+//     ++ head (seen_frame frame.now) description.now at) }
+#[inline]
+fn put_head(
+    out: &mut String,
+    frame: &Frame<'_>,
+    description: &str,
+    at: Spot,
+) -> Result<(), AllocError> {
+    put_title(out, description)?;
+    put_arrow(out, frame, at)?;
+    put_parting(out, frame)?;
+    Ok(())
+}
+
+/// Adds the lines of a label that is alone.
+// requires number { label.now.extent.start.line < 2 ^ 59 }
+// requires last { label.now.extent.end.line < 2 ^ 59 }
+// requires column { label.now.extent.start.column < 2 ^ 61 }
+// requires cut { frame.now.cut < 2 ^ 62 }
+// ensures { OnOk result (string_bytes out.new ≡ string_bytes out.old
+//     ++ labelled_rows (seen_frame frame.now) (seen_label label.now) None) }
+#[inline]
+fn put_label(
+    alloc: Global,
+    out: &mut String,
+    frame: &Frame<'_>,
+    label: &Label<'_>,
+) -> Result<(), AllocError> {
+    if label.extent.start.line == label.extent.end.line {
+        put_labelled(alloc, out, frame, &mark(label, frame.cut))?;
+    } else {
+        put_long(alloc, out, frame, label)?;
+    }
+    Ok(())
+}
+
+/// Adds the lines with labels.
+// requires number { label.now.extent.start.line < 2 ^ 59 }
+// requires last { label.now.extent.end.line < 2 ^ 59 }
+// requires column { label.now.extent.start.column < 2 ^ 61 }
+// requires second_number { IfSome second.now (λ l. l.extent.start.line < 2 ^ 59) }
+// requires second_column { IfSome second.now (λ l. l.extent.start.column < 2 ^ 61) }
+// requires cut { frame.now.cut < 2 ^ 62 }
+// ensures { OnOk result (string_bytes out.new ≡ string_bytes out.old
+//     ++ labelled_rows (seen_frame frame.now) (seen_label label.now)
+//     (option_map seen_label second.now)) }
+#[inline]
+fn put_labels(
+    alloc: Global,
+    out: &mut String,
+    frame: &Frame<'_>,
+    label: &Label<'_>,
+    second: &Option<Label<'_>>,
+) -> Result<(), AllocError> {
+    match second {
+        None => put_label(alloc, out, frame, label)?,
+        Some(second) => {
+            let (m, n) = (mark(label, frame.cut), mark(second, frame.cut));
+            put_two_labels(alloc, out, frame, &m, &n)?;
+        }
+    }
+    Ok(())
+}
+
+/// Adds the row of a note, if there is one.
+// ensures { OnOk result (string_bytes out.new ≡ string_bytes out.old
+//     ++ note_row gutter (option_map string_bytes note.now)) }
+#[inline]
+fn put_note(out: &mut String, gutter: usize, note: &Option<String>) -> Result<(), AllocError> {
+    if let Some(note) = note {
+        put_run(out, ' ', gutter)?;
+        put_texts(out, " = note: ", note.as_str(), "\n")?;
+    }
+    Ok(())
+}
+
+/// Adds the row between the labels and what is below them, if there is anything.
+// ensures { OnOk result (string_bytes out.new ≡ string_bytes out.old
+//     ++ parting_before (seen_frame frame.now) (option_map string_bytes note.now)
+//     (option_map seen_edit edit.now)) }
+#[inline]
+fn put_parting_before(
+    out: &mut String,
+    frame: &Frame<'_>,
+    note: &Option<String>,
+    edit: &Option<Edit<'_>>,
+) -> Result<(), AllocError> {
+    if note.is_some() || edit.is_some() {
+        put_parting(out, frame)?;
+    }
+    Ok(())
+}
+
+/// Adds the rows of an edit, if there is one.
+// requires first { IfSome edit.now (λ e. e.extent.start.line < 2 ^ 59) }
+// requires last { IfSome edit.now (λ e. e.extent.end.line < 2 ^ 59) }
+// ensures { OnOk result (string_bytes out.new ≡ string_bytes out.old
+//     ++ help_rows (seen_frame frame.now) (option_map seen_edit edit.now)) }
+#[inline]
+fn put_help(
+    alloc: Global,
+    out: &mut String,
+    frame: &Frame<'_>,
+    edit: &Option<Edit<'_>>,
+) -> Result<(), AllocError> {
+    if let Some(edit) = edit {
+        put_edit(alloc, out, frame, edit)?;
+    }
+    Ok(())
+}
+
+/// Adds what is below the labels.
+// requires first { IfSome edit.now (λ e. e.extent.start.line < 2 ^ 59) }
+// requires last { IfSome edit.now (λ e. e.extent.end.line < 2 ^ 59) }
+// ensures { OnOk result (string_bytes out.new ≡ string_bytes out.old
+//     ++ below (seen_frame frame.now) (option_map string_bytes note.now)
+//     (option_map seen_edit edit.now)) }
+#[inline]
+fn put_below(
+    alloc: Global,
+    out: &mut String,
+    frame: &Frame<'_>,
+    note: &Option<String>,
+    edit: &Option<Edit<'_>>,
+) -> Result<(), AllocError> {
+    put_parting_before(out, frame, note, edit)?;
+    put_note(out, frame.gutter, note)?;
+    put_help(alloc, out, frame, edit)?;
+    Ok(())
+}
+
+/// Adds the drawing of an error, from its labels and its edit.
+// requires number { label.now.extent.start.line < 2 ^ 59 }
+// requires last { label.now.extent.end.line < 2 ^ 59 }
+// requires chars { label.now.extent.start.chars < 2 ^ 59 }
+// requires column { label.now.extent.start.column < 2 ^ 61 }
+// requires second_number { IfSome second.now (λ l. l.extent.start.line < 2 ^ 59) }
+// requires second_column { IfSome second.now (λ l. l.extent.start.column < 2 ^ 61) }
+// requires edit_first { IfSome edit.now (λ e. e.extent.start.line < 2 ^ 59) }
+// requires edit_last { IfSome edit.now (λ e. e.extent.end.line < 2 ^ 59) }
+// requires cut { frame.now.cut < 2 ^ 62 }
+// ensures { OnOk result (string_bytes out.new ≡ string_bytes out.old
+//     ++ laid_out (seen_frame frame.now) (seen_error error.now) (seen_label label.now)
+//     (option_map seen_label second.now) (option_map seen_edit edit.now)) }
+#[inline]
+fn lay_out(
+    alloc: Global,
+    out: &mut String,
+    frame: &Frame<'_>,
+    error: &ParseError,
+    label: &Label<'_>,
+    second: &Option<Label<'_>>,
+    edit: &Option<Edit<'_>>,
+) -> Result<(), AllocError> {
+    put_head(out, frame, error.description.as_str(), label.extent.start)?;
+    put_labels(alloc, out, frame, label, second)?;
+    put_below(alloc, out, frame, &error.note, edit)?;
+    out.try_push_str("\n")?;
+    Ok(())
+}
+
+/// Adds the drawing of an error with this label. Returns `Err` if an allocation fails.
+// requires source { length picture.now.source.now < 2 ^ 59 }
+// requires label { seen_label label.now
+//     ≡ primary (seen_picture picture.now) (seen_error error.now) }
+// requires number { label.now.extent.start.line < 2 ^ 59 }
+// requires last { label.now.extent.end.line < 2 ^ 59 }
+// requires chars { label.now.extent.start.chars < 2 ^ 59 }
+// requires column { label.now.extent.start.column < 2 ^ 61 }
+// ensures { OnOk result (string_bytes out.new ≡ string_bytes out.old
+//     ++ drawing (seen_picture picture.now) (seen_error error.now)) }
+#[inline]
+fn put_drawing(
+    alloc: Global,
+    out: &mut String,
+    picture: &Picture<'_>,
+    error: &ParseError,
+    label: &Label<'_>,
+) -> Result<(), AllocError> {
+    let second = second(picture, error);
+    let edit = edit_of(picture, &error.suggestion);
+    let frame = frame_for(alloc, picture, label, &second, &edit)?;
+    lay_out(alloc, out, &frame, error, label, &second, &edit)?;
+    Ok(())
+}
+
+/// Returns the text that shows an error of a literal under its source, as rustc 1.95 draws it
+/// without colours. The spans of the error are byte ranges of the literal: its parser had this
+/// literal as its snippet, and that was the source literal.
+///
+/// From top to bottom: what the error is, and its path, line and column, which counts characters;
+/// the lines with labels, each with its number and the signs of the labels under it; the note; the
+/// suggestion; an empty line. A suggestion to remove or to insert something is a second label, one
+/// to replace a text shows the old and the new lines. Those for which the arguments of the call are
+/// needed, `UsePositional` and `UseRustDebugPrintingMacro`, are left out. Long lines are not cut at
+/// their right. Of two labels each is drawn in the line in which it begins.
+///
+/// The width of a character is that of the crate `unicode_width`. Of all characters up to U+323FF,
+/// it differs from that of rustc 1.95 for U+FF9E and U+FF9F, and for 1,027 that are new in Unicode
+/// 18.
+///
+/// A span that does not fit is drawn too: an offset inside a character means the start of that
+/// character, one behind the source its end, and a range that ends before it begins is empty.
+/// Returns `Err` if an allocation fails, or if the source has 2^59 bytes or more.
+// ensures drawn { IfOk result (λ s. string_bytes s
+//     ≡ drawing (seen_picture picture.now) (seen_error error.now)) }
+#[inline]
+pub fn draw(
+    alloc: Global,
+    picture: &Picture<'_>,
+    error: &ParseError,
+) -> Result<String, AllocError> {
+    if picture.source.len() >= 1 << (usize::BITS - 5) {
+        return crate::shim::alloc::refuse();
+    }
+    let text = crate::shim::format_in!( alloc; "{} in format string", error.label)?;
+    let label = Label {
+        sign: '^',
+        text: text.as_str(),
+        extent: picture.extent(&error.span),
+    };
+    let mut out = String::made_in(alloc);
+    put_drawing(alloc, &mut out, picture, error, &label)?;
+    Ok(out)
+}

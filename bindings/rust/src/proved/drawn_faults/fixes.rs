@@ -1,0 +1,252 @@
+//! What the suggestions of errors make of a literal: the edits that a machine may apply, and the
+//! literal with them applied.
+
+// Extracted from crates/drawn_faults/src/fixes.rt by tools/extract: not to be edited.
+// That source is proved, and each contract here is its. That this text means the same is tested:
+// by results from outside, and beside what is proved (.ci/bindings) and the original (tools/agree).
+
+use crate::proved::rustc_parse_format::literal::is_source_literal;
+use crate::proved::rustc_parse_format::{ParseError, ParseMode, Suggestion};
+use crate::shim::alloc::{AllocError, Global};
+use crate::shim::parser::Parser;
+use crate::shim::prelude::*;
+use std::ops::Range;
+
+/// An edit of a source: the bytes in a range are replaced by a text.
+pub struct Edit<'e> {
+    /// The byte range of the source that is replaced. It is empty where text is only inserted.
+    pub span: Range<usize>,
+    /// The text that replaces it. It is empty where text is only removed.
+    pub text: &'e str,
+}
+
+/// A literal with edits applied.
+pub struct Fixed {
+    /// The literal, as it is to be in the source.
+    pub snippet: String,
+    /// The text that it stands for, with the newline that was appended to the input, if one was.
+    pub text: String,
+}
+
+/// Returns the edit of a suggestion, or `None` if it has none or needs the arguments of the call.
+// ensures { option_map seen_edit result ≡ suggested (seen_suggestion suggestion.now) }
+#[inline]
+fn edit_of(suggestion: &Suggestion) -> Option<Edit<'_>> {
+    match suggestion {
+        Suggestion::RemoveRawIdent(span) => Some(Edit {
+            span: span.start..span.end,
+            text: "",
+        }),
+        Suggestion::ReorderFormatParameter(span, text) => Some(Edit {
+            span: span.start..span.end,
+            text: text.as_str(),
+        }),
+        Suggestion::AddMissingColon(span) => Some(Edit {
+            span: span.start..span.start,
+            text: ":",
+        }),
+        Suggestion::None | Suggestion::UsePositional | Suggestion::UseRustDebugPrintingMacro => {
+            None
+        }
+    }
+}
+
+/// Returns the edits of these errors, in the order of the source, each behind the end of the one
+/// before it.
+///
+/// The errors are in the order of a parser, in which each error that has an edit comes before those
+/// of earlier places. An edit that does not start behind the end of the one before it is left out.
+/// Returns `Err` if an allocation fails.
+// ensures edits { IfOk result (λ v. map seen_edit v.items ≡ edits (map seen_error errors.now)) }
+// ensures order { IfOk result (λ v. AreInOrder 0 (map seen_edit v.items)) }
+// ensures spare { edits (map seen_error errors.now) ≡ [] → IsOk result }
+#[inline]
+pub fn edits<'e>(alloc: Global, errors: &'e [ParseError]) -> Result<Vec<Edit<'e>>, AllocError> {
+    let mut found = Vec::made_in(alloc);
+    let mut end = 0;
+    for error in errors.iter().rev() {
+        if let Some(edit) = edit_of(&error.suggestion) {
+            if end < edit.span.start && edit.span.start <= edit.span.end {
+                end = edit.span.end;
+                found.try_push(edit)?;
+            }
+        }
+    }
+    Ok(found)
+}
+
+/// Returns the first n bytes, or all if there are fewer.
+// ensures { result.now ≡ take n bytes.now }
+#[inline]
+fn front(bytes: &[u8], n: usize) -> &[u8] {
+    bytes.get(..n).unwrap_or(bytes)
+}
+
+/// Returns the bytes after the first n, or none if there are no more.
+// ensures { result.now ≡ drop n bytes.now }
+#[inline]
+fn behind(bytes: &[u8], n: usize) -> &[u8] {
+    bytes.get(n..).unwrap_or(&[])
+}
+
+/// Returns a text with these edits, where the text starts at the byte offset `at`, or `None` if the
+/// result is not UTF-8. Returns `Err` if an allocation fails.
+// ensures some { IfOk result (λ o. IfSome o (λ s. string_bytes s
+//     ≡ applied at (map seen_edit edits.now) text.now)) }
+// ensures none { IfOk result (λ o. IfNone o
+//     (IsUtf8 (applied at (map seen_edit edits.now) text.now) → ⊥)) }
+#[inline]
+fn apply(
+    alloc: Global,
+    text: &str,
+    at: usize,
+    edits: &[Edit<'_>],
+) -> Result<Option<String>, AllocError> {
+    let mut bytes = Vec::made_in(alloc);
+    let mut rest = text.as_bytes();
+    let mut start = at;
+    for edit in edits {
+        bytes.try_extend_from_slice(front(rest, edit.span.start.saturating_sub(start)))?;
+        bytes.try_extend_from_slice(edit.text.as_bytes())?;
+        rest = behind(rest, edit.span.end.saturating_sub(start));
+        start = edit.span.end;
+    }
+    bytes.try_extend_from_slice(rest)?;
+    Ok(String::from_utf8(bytes).ok())
+}
+
+/// Returns whether a parser is at the end of its input.
+// ensures { result ≡ is_nil parser.now.rest }
+#[inline]
+fn is_at_end(parser: &Parser<'_>) -> bool {
+    parser.peek().is_none()
+}
+
+/// Makes a call of a parser, and leaves out the piece. Returns `Err` if an allocation fails.
+// ensures state { OnOk result (parser.new ≡ after parser.old (next_call parser.old)) }
+// ensures shorter { OnOk result (is_nil parser.old.rest ≡ false
+//     → length parser.new.rest < length parser.old.rest) }
+#[inline]
+fn advance(parser: &mut Parser<'_>) -> Result<(), AllocError> {
+    parser.next()?;
+    Ok(())
+}
+
+/// Returns the errors of all calls of a parser up to the end of an input, in its order. The
+/// arguments are those of [`Parser::new`]. Returns `Err` if an allocation fails.
+// requires { hashes style + length input.now + 2 < 2 ^ 64 }
+// ensures errors { IfOk result (λ v. map seen_error v.items
+//     ≡ all_errors (first_state (seen_mode mode) (chars input.now) style
+//     (seen_snippet snippet) appended_newline)) }
+// ensures empty { input.now ≡ [] → IsOk result }
+#[inline]
+pub fn errors_of(
+    alloc: Global,
+    input: &str,
+    style: Option<usize>,
+    snippet: Option<String>,
+    appended_newline: bool,
+    mode: ParseMode,
+) -> Result<Vec<ParseError>, AllocError> {
+    let mut parser = Parser::new(alloc, input, style, snippet, appended_newline, mode)?;
+    while !is_at_end(&parser) {
+        advance(&mut parser)?;
+    }
+    Ok(parser.take_errors())
+}
+
+/// Returns the errors of all calls of a parser over an input with this snippet, in its order.
+/// Returns `Err` if an allocation fails.
+// requires { hashes style + length input.now + 2 < 2 ^ 64 }
+// ensures { IfOk result (λ v. map seen_error v.items
+//     ≡ all_errors (first_state (seen_mode mode) (chars input.now) style
+//     (Some (chars snippet.now)) appended_newline)) }
+#[inline]
+fn literal_errors(
+    alloc: Global,
+    input: &str,
+    style: Option<usize>,
+    snippet: &str,
+    appended_newline: bool,
+    mode: ParseMode,
+) -> Result<Vec<ParseError>, AllocError> {
+    let snippet = String::made_from(alloc, snippet)?;
+    errors_of(alloc, input, style, Some(snippet), appended_newline, mode)
+}
+
+/// Returns a literal and its text, each with the edits of its errors, or `None` if the literal has
+/// none, or if they are then not a source literal and its text. Returns `Err` if an allocation
+/// fails.
+// ensures some { IfOk result (λ o. IfSome o (λ f. IsEdited input.now style snippet.now
+//     appended_newline (edits (map seen_error errors.now))
+//     (edits (map seen_error text_errors.now)) (seen_fixed f))) }
+// ensures none { IfOk result (λ o. IfNone o ((f : FixedLiteral) → IsEdited input.now style
+//     snippet.now appended_newline (edits (map seen_error errors.now))
+//     (edits (map seen_error text_errors.now)) f → ⊥)) }
+#[inline]
+fn edited(
+    alloc: Global,
+    input: &str,
+    style: Option<usize>,
+    snippet: &str,
+    appended_newline: bool,
+    errors: &[ParseError],
+    text_errors: &[ParseError],
+) -> Result<Option<Fixed>, AllocError> {
+    let in_literal = edits(alloc, errors)?;
+    if in_literal.as_slice().is_empty() {
+        return Ok(None);
+    }
+    let Some(snippet) = apply(alloc, snippet, 0, &in_literal)? else {
+        return Ok(None);
+    };
+    let in_text = edits(alloc, text_errors)?;
+    let Some(text) = apply(alloc, input, 1, &in_text)? else {
+        return Ok(None);
+    };
+    if is_source_literal(&text, style, &snippet, appended_newline) {
+        Ok(Some(Fixed { snippet, text }))
+    } else {
+        Ok(None)
+    }
+}
+
+/// Returns the source literal of an input with the edits of all errors up to the end of the input,
+/// and the text with the same edits, which the literal then stands for.
+///
+/// Returns `None` if the snippet is not the source literal of the input, so that no edit is made in
+/// a foreign literal, if there is no edit, or if the literal with its edits would not stand for the
+/// text with its own. The result may have other faults. The arguments are those of
+/// [`Parser::new`]: the number of hashes, the byte length of the input and 2 must add up to less
+/// than 2^64. Returns `Err` if an allocation fails.
+// requires { hashes style + length input.now + 2 < 2 ^ 64 }
+// ensures some { IfOk result (λ o. IfSome o (λ f. IsFixed (seen_mode mode) input.now style
+//     snippet.now appended_newline (seen_fixed f))) }
+// ensures none { IfOk result (λ o. IfNone o ((f : FixedLiteral)
+//     → IsFixed (seen_mode mode) input.now style snippet.now appended_newline f → ⊥)) }
+// ensures foreign { (IsSource (chars input.now) style (chars snippet.now) appended_newline → ⊥)
+//     → IsOk result }
+#[inline]
+pub fn fix(
+    alloc: Global,
+    input: &str,
+    style: Option<usize>,
+    snippet: &str,
+    appended_newline: bool,
+    mode: ParseMode,
+) -> Result<Option<Fixed>, AllocError> {
+    if !is_source_literal(input, style, snippet, appended_newline) {
+        return Ok(None);
+    }
+    let errors = literal_errors(alloc, input, style, snippet, appended_newline, mode)?;
+    let text_errors = errors_of(alloc, input, None, None, false, mode)?;
+    edited(
+        alloc,
+        input,
+        style,
+        snippet,
+        appended_newline,
+        &errors,
+        &text_errors,
+    )
+}

@@ -1,0 +1,147 @@
+//! Characters as they are drawn, and the columns that they take. What begins with `put_` appends
+//! to `out`, and returns `Err` if an allocation fails.
+
+// Extracted from crates/drawn_faults/src/glyphs.rt by tools/extract: not to be edited.
+// That source is proved, and each contract here is its. That this text means the same is tested:
+// by results from outside, and beside what is proved (.ci/bindings) and the original (tools/agree).
+
+use crate::shim::alloc::AllocError;
+use crate::shim::prelude::*;
+use crate::shim::unicode_width::UnicodeWidthChar;
+
+/// Returns the first character and what is after it, or `None` if the text is empty.
+// ensures parts { MatchOption result (chars text.now ≡ [])
+//     (λ x. chars text.now ≡ x.0 ∷ chars x.1.now) }
+// ensures shorter { IfSome result (λ x. length x.1.now < length text.now) }
+#[inline]
+pub fn split_first(text: &str) -> Option<(char, &str)> {
+    let mut rest = text.chars();
+    let c = rest.next()?;
+    Some((c, rest.as_str()))
+}
+
+/// Returns the character that is drawn for a character.
+// ensures { result ≡ glyph c }
+#[inline]
+fn glyph(c: char) -> char {
+    match c {
+        '\t' => ' ',
+        '\0'..='\u{1f}' => char::from_u32(0x2400 + c as u32).unwrap_or(c),
+        '\u{7f}' => '\u{2421}',
+        '\u{202a}'..='\u{202e}' | '\u{2066}'..='\u{2069}' => '\u{fffd}',
+        _ => c,
+    }
+}
+
+/// Returns how often the glyph of a character is drawn.
+// ensures value { result ≡ glyph_count c }
+// ensures few { result ≤ 4 }
+#[inline]
+fn glyph_count(c: char) -> usize {
+    match c {
+        '\t' => 4,
+        '\u{200d}' => 0,
+        _ => 1,
+    }
+}
+
+/// Returns how many columns a character takes.
+// ensures value { result ≡ width c }
+// ensures few { result ≤ 4 }
+#[inline]
+pub fn width(c: char) -> usize {
+    match c {
+        '\t' => 4,
+        '\u{202a}'..='\u{202e}' | '\u{2066}'..='\u{2069}' => 1,
+        _ => c.width().unwrap_or(1),
+    }
+}
+
+/// Returns how many columns of a line are its indent, or `None` if the line is blank.
+// requires { length line.now < 2 ^ 60 }
+// ensures value { result ≡ indent 0 (chars line.now) }
+// ensures few { IfSome result (λ n. n ≤ 4 * length line.now) }
+#[inline]
+pub fn indent(line: &str) -> Option<usize> {
+    let mut rest = line;
+    let mut columns = 0;
+    while let Some((c, tail)) = split_first(rest) {
+        if !c.is_whitespace() {
+            return Some(columns);
+        }
+        columns += if c == '\t' { 4 } else { 1 };
+        rest = tail;
+    }
+    None
+}
+
+/// Adds a character again and again.
+// ensures { OnOk result (string_bytes out.new ≡ string_bytes out.old ++ run count c) }
+#[inline]
+pub fn put_run(out: &mut String, c: char, count: usize) -> Result<(), AllocError> {
+    for _ in 0..count {
+        out.try_push(c)?;
+    }
+    Ok(())
+}
+
+/// Adds three texts.
+// ensures { OnOk result (string_bytes out.new
+//     ≡ string_bytes out.old ++ (a.now ++ (b.now ++ c.now))) }
+#[inline]
+pub fn put_texts(out: &mut String, a: &str, b: &str, c: &str) -> Result<(), AllocError> {
+    out.try_push_str(a)?;
+    out.try_push_str(b)?;
+    out.try_push_str(c)?;
+    Ok(())
+}
+
+/// Adds a text as it is drawn, without the first `skipped` characters of that.
+// ensures { OnOk result (string_bytes out.new ≡ string_bytes out.old ++
+//     encode_utf8_all (drop skipped (glyphs (chars text.now)))) }
+#[inline]
+pub fn put_glyphs(out: &mut String, text: &str, skipped: usize) -> Result<(), AllocError> {
+    let mut rest = text;
+    let mut skip = skipped;
+    while let Some((c, tail)) = split_first(rest) {
+        let count = glyph_count(c);
+        put_run(out, glyph(c), count.saturating_sub(skip))?;
+        skip = skip.saturating_sub(count);
+        rest = tail;
+    }
+    Ok(())
+}
+
+/// Adds the first characters of a text, as they are drawn.
+// ensures { OnOk result (string_bytes out.new ≡ string_bytes out.old
+//     ++ encode_utf8_all (glyphs (take count (chars text.now)))) }
+#[inline]
+pub fn put_front(out: &mut String, text: &str, count: usize) -> Result<(), AllocError> {
+    let mut rest = text;
+    let mut left = count;
+    while left > 0 {
+        let Some((c, tail)) = split_first(rest) else {
+            break;
+        };
+        put_run(out, glyph(c), glyph_count(c))?;
+        rest = tail;
+        left -= 1;
+    }
+    Ok(())
+}
+
+/// Returns what is left of a text behind its first characters.
+// ensures { chars result.now ≡ drop count (chars text.now) }
+#[inline]
+pub fn behind_chars(text: &str, count: usize) -> &str {
+    let mut rest = text;
+    let mut left = count;
+    while left > 0 {
+        let Some((_, tail)) = split_first(rest) else {
+            break;
+        };
+        rest = tail;
+        left -= 1;
+    }
+    rest
+}

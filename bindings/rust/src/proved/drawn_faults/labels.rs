@@ -1,0 +1,229 @@
+//! What is drawn of an error: its labels and its edit, with their places in the source.
+
+// Extracted from crates/drawn_faults/src/labels.rt by tools/extract: not to be edited.
+// That source is proved, and each contract here is its. That this text means the same is tested:
+// by results from outside, and beside what is proved (.ci/bindings) and the original (tools/agree).
+
+use crate::proved::drawn_faults::glyphs::indent;
+use crate::proved::drawn_faults::places::{line, Extent, Picture};
+use crate::proved::drawn_faults::rows::Mark;
+use crate::proved::rustc_parse_format::{ParseError, Suggestion};
+use crate::shim::alloc::{AllocError, Global};
+use std::ops::Range;
+
+/// A label of a range of the source.
+pub struct Label<'a> {
+    /// The sign under its columns.
+    pub sign: char,
+    /// Its text.
+    pub text: &'a str,
+    /// Where it is.
+    pub extent: Extent,
+}
+
+/// A suggestion that is drawn with its old and its new line.
+pub struct Edit<'a> {
+    /// The new text.
+    pub text: &'a str,
+    /// Where the text is that it replaces.
+    pub extent: Extent,
+}
+
+/// How a picture is laid out.
+pub struct Frame<'a> {
+    /// The source.
+    pub picture: &'a Picture<'a>,
+    /// How many columns the numbers of the lines have.
+    pub gutter: usize,
+    /// How many columns at the start of each line are cut.
+    pub cut: usize,
+}
+
+/// Returns the text and the range of the second label, or `None` if there is none.
+// ensures { option_map (λ x. (x.0.now, pair x.1.now)) result
+//     ≡ second_text (seen_error error.now).second (seen_error error.now).suggestion }
+#[inline]
+fn second_text<'a>(error: &'a ParseError) -> Option<(&'a str, &'a Range<usize>)> {
+    if let Some((text, span)) = &error.secondary_label {
+        return Some((text.as_str(), span));
+    }
+    match &error.suggestion {
+        Suggestion::RemoveRawIdent(span) => Some(("help: remove the `r#`", span)),
+        Suggestion::AddMissingColon(span) => {
+            Some(("help: add a colon before the format specifier: `:?`", span))
+        }
+        _ => None,
+    }
+}
+
+/// Returns the second label, or `None` if there is none.
+// requires { length picture.now.source.now < 2 ^ 59 }
+// ensures value { option_map seen_label result
+//     ≡ second (seen_picture picture.now) (seen_error error.now) }
+// ensures small { IfSome result (λ l. l.extent.end.line < 2 ^ 59) }
+// ensures small_start { IfSome result (λ l. l.extent.start.line < 2 ^ 59) }
+// ensures small_column { IfSome result (λ l. l.extent.start.column < 2 ^ 61) }
+#[inline]
+pub fn second<'a>(picture: &Picture<'_>, error: &'a ParseError) -> Option<Label<'a>> {
+    let (text, span) = second_text(error)?;
+    let is_same = span.start == error.span.start && span.end == error.span.end;
+    Some(Label {
+        sign: if is_same { '^' } else { '-' },
+        text,
+        extent: picture.extent(span),
+    })
+}
+
+/// Returns the edit that is drawn, or `None` if there is none.
+// requires { length picture.now.source.now < 2 ^ 59 }
+// ensures value { option_map seen_edit result
+//     ≡ edit_of (seen_picture picture.now) (seen_suggestion suggestion.now) }
+// ensures small { IfSome result (λ e. e.extent.end.line < 2 ^ 59) }
+// ensures small_start { IfSome result (λ e. e.extent.start.line < 2 ^ 59) }
+#[inline]
+pub fn edit_of<'a>(picture: &Picture<'_>, suggestion: &'a Suggestion) -> Option<Edit<'a>> {
+    let Suggestion::ReorderFormatParameter(span, text) = suggestion else {
+        return None;
+    };
+    Some(Edit {
+        text: text.as_str(),
+        extent: picture.extent(span),
+    })
+}
+
+/// Returns the last line of a label, or 0 without one.
+// requires { IfSome label.now (λ l. l.extent.end.line < 2 ^ 59) }
+// ensures value { result ≡ last_line (option_map seen_label label.now) }
+// ensures small { result < 2 ^ 59 }
+#[inline]
+fn last_line(label: &Option<Label<'_>>) -> usize {
+    match label {
+        None => 0,
+        Some(label) => label.extent.end.line,
+    }
+}
+
+/// Returns the last line of an edit, or 0 without one.
+// requires { IfSome edit.now (λ e. e.extent.end.line < 2 ^ 59) }
+// ensures value { result ≡ edit_line (option_map seen_edit edit.now) }
+// ensures small { result < 2 ^ 59 }
+#[inline]
+fn edit_line(edit: &Option<Edit<'_>>) -> usize {
+    match edit {
+        None => 0,
+        Some(edit) => edit.extent.end.line,
+    }
+}
+
+/// Returns the line of the second label, or else the last one of the first label.
+// ensures { result ≡ other_line (seen_label label.now) (option_map seen_label second.now) }
+#[inline]
+fn other_line(label: &Label<'_>, second: &Option<Label<'_>>) -> usize {
+    match second {
+        None => label.extent.end.line,
+        Some(second) => second.extent.start.line,
+    }
+}
+
+/// Returns the indent of a line of the source, unless it is blank.
+// requires { length picture.now.source.now < 2 ^ 59 }
+// ensures value { result ≡ line_indent (seen_picture picture.now) number }
+// ensures small { IfSome result (λ n. n < 2 ^ 62) }
+#[inline]
+fn line_indent(picture: &Picture<'_>, number: usize) -> Option<usize> {
+    indent(line(picture.source, number))
+}
+
+/// Returns the least indent, where a blank line has none.
+// requires small_first { IfSome m (λ k. k < 2 ^ 62) }
+// requires small_second { IfSome n (λ k. k < 2 ^ 62) }
+// ensures value { result ≡ least m n }
+// ensures small { result < 2 ^ 62 }
+#[inline]
+fn least(m: Option<usize>, n: Option<usize>) -> usize {
+    match (m, n) {
+        (None, None) => 0,
+        (None, Some(n)) => n,
+        (Some(m), None) => m,
+        (Some(m), Some(n)) => {
+            if n < m {
+                n
+            } else {
+                m
+            }
+        }
+    }
+}
+
+/// Returns how many columns are cut of lines with an indent.
+// ensures value { result ≡ cut_of indent }
+// ensures less { result ≤ indent }
+#[inline]
+fn cut_of(indent: usize) -> usize {
+    if indent > 26 {
+        indent - 22
+    } else {
+        0
+    }
+}
+
+/// Returns the number of digits of a number. Returns `Err` if an allocation fails.
+// ensures { IfOk result (λ n. n ≡ length (decimal number)) }
+#[inline]
+fn digits(alloc: Global, number: usize) -> Result<usize, AllocError> {
+    let digits = crate::shim::format_in!( alloc; "{number}")?;
+    Ok(digits.len())
+}
+
+/// Returns the layout for labels and an edit. Returns `Err` if an allocation fails.
+// requires source { length picture.now.source.now < 2 ^ 59 }
+// requires small { label.now.extent.end.line < 2 ^ 59 }
+// requires small_second { IfSome second.now (λ l. l.extent.end.line < 2 ^ 59) }
+// requires small_edit { IfSome edit.now (λ e. e.extent.end.line < 2 ^ 59) }
+// ensures value { IfOk result (λ f. seen_frame f ≡ frame (seen_picture picture.now)
+//     (seen_label label.now) (option_map seen_label second.now) (option_map seen_edit edit.now)) }
+// ensures small_cut { IfOk result (λ f. f.cut < 2 ^ 62) }
+#[inline]
+pub fn frame_for<'a>(
+    alloc: Global,
+    picture: &'a Picture<'a>,
+    label: &Label<'_>,
+    second: &Option<Label<'_>>,
+    edit: &Option<Edit<'_>>,
+) -> Result<Frame<'a>, AllocError> {
+    let last = label
+        .extent
+        .end
+        .line
+        .max(last_line(second).max(edit_line(edit)));
+    let gutter = digits(alloc, picture.line_start as usize + last)?;
+    let first = line_indent(picture, label.extent.start.line);
+    let other = line_indent(picture, other_line(label, second));
+    Ok(Frame {
+        picture,
+        gutter,
+        cut: cut_of(least(first, other)),
+    })
+}
+
+/// Returns a label in the line in which it begins.
+// requires { label.now.extent.start.column < 2 ^ 61 }
+// ensures value { seen_mark result ≡ mark cut (seen_label label.now) }
+// ensures line { result.line ≡ label.now.extent.start.line }
+#[inline]
+pub fn mark<'a>(label: &Label<'a>, cut: usize) -> Mark<'a> {
+    let Extent { start, end } = label.extent;
+    let from = start.column.saturating_sub(cut);
+    let to = if end.line == start.line {
+        end.column.saturating_sub(cut)
+    } else {
+        0
+    };
+    Mark {
+        line: start.line,
+        from,
+        to: to.max(from + 1),
+        sign: label.sign,
+        text: label.text,
+    }
+}

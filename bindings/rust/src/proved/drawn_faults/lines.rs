@@ -1,0 +1,180 @@
+//! Lines of the source with labels in one line. What begins with `put_` appends to `out`, and
+//! returns `Err` if an allocation fails.
+
+// Extracted from crates/drawn_faults/src/lines.rt by tools/extract: not to be edited.
+// That source is proved, and each contract here is its. That this text means the same is tested:
+// by results from outside, and beside what is proved (.ci/bindings) and the original (tools/agree).
+
+use crate::proved::drawn_faults::glyphs::{put_glyphs, put_run};
+use crate::proved::drawn_faults::labels::Frame;
+use crate::proved::drawn_faults::places::line;
+use crate::proved::drawn_faults::rows::{put_both, put_one, Mark};
+use crate::shim::alloc::{AllocError, Global};
+use crate::shim::prelude::*;
+
+/// Adds the number of a line of the source, at the right of its gutter.
+// requires { line < 2 ^ 61 }
+// ensures { OnOk result (string_bytes out.new ≡ string_bytes out.old
+//     ++ numbered (seen_frame frame.now) line) }
+#[inline]
+pub fn put_number(
+    alloc: Global,
+    out: &mut String,
+    frame: &Frame<'_>,
+    line: usize,
+) -> Result<(), AllocError> {
+    let number = frame.picture.line_start as usize + line;
+    let digits = crate::shim::format_in!( alloc; "{number}")?;
+    put_run(out, ' ', frame.gutter.saturating_sub(digits.len()))?;
+    out.try_push_str(digits.as_str())?;
+    Ok(())
+}
+
+/// Adds a line as it is drawn.
+// requires { cut < 2 ^ 62 }
+// ensures { OnOk result (string_bytes out.new
+//     ≡ string_bytes out.old ++ shown cut (chars text.now)) }
+#[inline]
+fn put_shown(out: &mut String, text: &str, cut: usize) -> Result<(), AllocError> {
+    if cut == 0 {
+        put_glyphs(out, text, 0)?;
+    } else {
+        out.try_push_str("...")?;
+        put_glyphs(out, text, cut + 3)?;
+    }
+    Ok(())
+}
+
+/// Adds what is behind a bar.
+// ensures { OnOk result (string_bytes out.new
+//     ≡ string_bytes out.old ++ behind_bar front.now code.now) }
+#[inline]
+fn put_behind_bar(out: &mut String, front: &str, code: &str) -> Result<(), AllocError> {
+    if !code.is_empty() {
+        out.try_push_str(front)?;
+        out.try_push_str(code)?;
+    }
+    Ok(())
+}
+
+/// Adds a line of the source, with its number, a bar, and what is in front of it.
+// requires number { number < 2 ^ 61 }
+// requires cut { frame.now.cut < 2 ^ 62 }
+// ensures { OnOk result (string_bytes out.new ≡ string_bytes out.old
+//     ++ source_row (seen_frame frame.now) bar.now front.now number) }
+#[inline]
+pub fn put_source(
+    alloc: Global,
+    out: &mut String,
+    frame: &Frame<'_>,
+    bar: &str,
+    front: &str,
+    number: usize,
+) -> Result<(), AllocError> {
+    let mut code = String::made_in(alloc);
+    put_shown(&mut code, line(frame.picture.source, number), frame.cut)?;
+    put_number(alloc, out, frame, number)?;
+    out.try_push_str(bar)?;
+    put_behind_bar(out, front, code.as_str())?;
+    out.try_push_str("\n")?;
+    Ok(())
+}
+
+/// Adds a line of the source.
+// requires number { number < 2 ^ 61 }
+// requires cut { frame.now.cut < 2 ^ 62 }
+// ensures { OnOk result (string_bytes out.new ≡ string_bytes out.old
+//     ++ code_row (seen_frame frame.now) number) }
+#[inline]
+fn put_code(
+    alloc: Global,
+    out: &mut String,
+    frame: &Frame<'_>,
+    number: usize,
+) -> Result<(), AllocError> {
+    put_source(alloc, out, frame, " |", " ", number)?;
+    Ok(())
+}
+
+/// Adds a line of the source with a label.
+// requires number { mark.now.line < 2 ^ 61 }
+// requires cut { frame.now.cut < 2 ^ 62 }
+// ensures { OnOk result (string_bytes out.new ≡ string_bytes out.old
+//     ++ labelled (seen_frame frame.now) (seen_mark mark.now)) }
+#[inline]
+pub fn put_labelled(
+    alloc: Global,
+    out: &mut String,
+    frame: &Frame<'_>,
+    mark: &Mark<'_>,
+) -> Result<(), AllocError> {
+    put_code(alloc, out, frame, mark.line)?;
+    put_one(out, frame.gutter, mark)?;
+    Ok(())
+}
+
+/// Adds what is between two lines with labels.
+// requires number { first < 2 ^ 60 }
+// requires cut { frame.now.cut < 2 ^ 62 }
+// ensures { OnOk result (string_bytes out.new ≡ string_bytes out.old
+//     ++ gap (seen_frame frame.now) first last) }
+#[inline]
+fn put_gap(
+    alloc: Global,
+    out: &mut String,
+    frame: &Frame<'_>,
+    first: usize,
+    last: usize,
+) -> Result<(), AllocError> {
+    if last == first + 2 {
+        put_code(alloc, out, frame, first + 1)?;
+    } else if last > first + 2 {
+        out.try_push_str("...\n")?;
+    }
+    Ok(())
+}
+
+/// Adds two lines with labels, of which `m` is the first one.
+// requires number { m.now.line < 2 ^ 60 }
+// requires second_number { n.now.line < 2 ^ 60 }
+// requires cut { frame.now.cut < 2 ^ 62 }
+// ensures { OnOk result (string_bytes out.new ≡ string_bytes out.old
+//     ++ apart (seen_frame frame.now) (seen_mark m.now) (seen_mark n.now)) }
+#[inline]
+fn put_apart(
+    alloc: Global,
+    out: &mut String,
+    frame: &Frame<'_>,
+    m: &Mark<'_>,
+    n: &Mark<'_>,
+) -> Result<(), AllocError> {
+    put_labelled(alloc, out, frame, m)?;
+    put_gap(alloc, out, frame, m.line, n.line)?;
+    put_labelled(alloc, out, frame, n)?;
+    Ok(())
+}
+
+/// Adds the lines with two labels.
+// requires number { m.now.line < 2 ^ 60 }
+// requires second_number { n.now.line < 2 ^ 60 }
+// requires cut { frame.now.cut < 2 ^ 62 }
+// ensures { OnOk result (string_bytes out.new ≡ string_bytes out.old
+//     ++ two_labels (seen_frame frame.now) (seen_mark m.now) (seen_mark n.now)) }
+#[inline]
+pub fn put_two_labels(
+    alloc: Global,
+    out: &mut String,
+    frame: &Frame<'_>,
+    m: &Mark<'_>,
+    n: &Mark<'_>,
+) -> Result<(), AllocError> {
+    if m.line == n.line {
+        put_code(alloc, out, frame, m.line)?;
+        put_both(out, frame.gutter, m, n)?;
+    } else if m.line < n.line {
+        put_apart(alloc, out, frame, m, n)?;
+    } else {
+        put_apart(alloc, out, frame, n, m)?;
+    }
+    Ok(())
+}

@@ -1,0 +1,280 @@
+//! A label over several lines. What begins with `put_` appends to `out`, and returns `Err` if an
+//! allocation fails.
+
+// Extracted from crates/drawn_faults/src/long.rt by tools/extract: not to be edited.
+// That source is proved, and each contract here is its. That this text means the same is tested:
+// by results from outside, and beside what is proved (.ci/bindings) and the original (tools/agree).
+
+use crate::proved::drawn_faults::glyphs::{put_run, put_texts, split_first};
+use crate::proved::drawn_faults::labels::{Frame, Label};
+use crate::proved::drawn_faults::lines::put_source;
+use crate::proved::drawn_faults::places::line;
+use crate::proved::drawn_faults::rows::put_gutter;
+use crate::shim::alloc::{AllocError, Global};
+use crate::shim::prelude::*;
+
+/// Returns whether a character is a bracket.
+// ensures { result ≡ is_bracket c }
+#[inline]
+fn is_bracket(c: char) -> bool {
+    c == '(' || c == ')' || c == '[' || c == ']' || c == '{' || c == '}'
+}
+
+/// Returns whether what begins with a text behind `//` is a comment, but no documentation.
+// ensures { result ≡ is_plain_comment (chars text.now) }
+#[inline]
+fn is_plain_comment(text: &str) -> bool {
+    match split_first(text) {
+        None => true,
+        Some((c, _)) => c != '/' && c != '!',
+    }
+}
+
+/// Returns whether what begins with a text behind `/` is a comment, but no documentation.
+// ensures { result ≡ is_comment (chars text.now) }
+#[inline]
+fn is_comment(text: &str) -> bool {
+    match split_first(text) {
+        None => false,
+        Some((c, rest)) => c == '/' && is_plain_comment(rest),
+    }
+}
+
+/// Returns whether a text is only white space.
+// ensures { result ≡ list_all is_whitespace (chars text.now) }
+#[inline]
+fn is_blank(text: &str) -> bool {
+    let mut rest = text;
+    while let Some((c, tail)) = split_first(rest) {
+        if !c.is_whitespace() {
+            return false;
+        }
+        rest = tail;
+    }
+    true
+}
+
+/// Returns whether a line is blank, a comment, or one bracket.
+// ensures { result ≡ is_bare (chars line.now) }
+#[inline]
+fn is_bare(line: &str) -> bool {
+    let mut rest = line;
+    while let Some((c, tail)) = split_first(rest) {
+        if !c.is_whitespace() {
+            if is_bracket(c) {
+                return is_blank(tail);
+            }
+            return c == '/' && is_comment(tail);
+        }
+        rest = tail;
+    }
+    true
+}
+
+/// Returns whether the line of the source with a number is bare.
+// ensures { result ≡ is_bare_line (seen_frame frame.now) number }
+#[inline]
+fn is_bare_line(frame: &Frame<'_>, number: usize) -> bool {
+    is_bare(line(frame.picture.source, number))
+}
+
+/// Returns how many of the lines behind a line are left without the bare ones at their end.
+// requires { first + count < 2 ^ 61 }
+// ensures value { result ≡ without_bare (seen_frame frame.now) first count }
+// ensures few { result ≤ count }
+#[inline]
+fn without_bare(frame: &Frame<'_>, first: usize, count: usize) -> usize {
+    let mut left = count;
+    while left > 0 && is_bare_line(frame, first + left) {
+        left -= 1;
+    }
+    left
+}
+
+/// Adds a line between the first and the last one.
+// requires number { number < 2 ^ 61 }
+// requires cut { frame.now.cut < 2 ^ 62 }
+// ensures { OnOk result (string_bytes out.new ≡ string_bytes out.old
+//     ++ bar_row (seen_frame frame.now) number) }
+#[inline]
+fn put_bar_row(
+    alloc: Global,
+    out: &mut String,
+    frame: &Frame<'_>,
+    number: usize,
+) -> Result<(), AllocError> {
+    put_source(alloc, out, frame, " | |", " ", number)?;
+    Ok(())
+}
+
+/// Adds so many lines behind a line.
+// requires number { first + count < 2 ^ 60 }
+// requires cut { frame.now.cut < 2 ^ 62 }
+// ensures { OnOk result (string_bytes out.new ≡ string_bytes out.old
+//     ++ bar_rows (seen_frame frame.now) first count) }
+#[inline]
+fn put_bar_rows(
+    alloc: Global,
+    out: &mut String,
+    frame: &Frame<'_>,
+    first: usize,
+    count: usize,
+) -> Result<(), AllocError> {
+    for behind in 0..count {
+        put_bar_row(alloc, out, frame, first + behind + 1)?;
+    }
+    Ok(())
+}
+
+/// Adds what is between two lines of the label that are drawn.
+// requires number { first < 2 ^ 60 }
+// requires cut { frame.now.cut < 2 ^ 62 }
+// ensures { OnOk result (string_bytes out.new ≡ string_bytes out.old
+//     ++ bar_gap (seen_frame frame.now) first last) }
+#[inline]
+fn put_bar_gap(
+    alloc: Global,
+    out: &mut String,
+    frame: &Frame<'_>,
+    first: usize,
+    last: usize,
+) -> Result<(), AllocError> {
+    if last == first + 2 {
+        put_bar_row(alloc, out, frame, first + 1)?;
+    } else if last > first + 2 {
+        out.try_push_str("...")?;
+        put_run(out, ' ', frame.gutter)?;
+        out.try_push_str("|\n")?;
+    }
+    Ok(())
+}
+
+/// Adds a row under a line: a text, a line to a column behind it, and a text.
+// ensures { OnOk result (string_bytes out.new ≡ string_bytes out.old
+//     ++ under gutter (front.now ++ (run columns 95 ++ text.now))) }
+#[inline]
+fn put_lead(
+    out: &mut String,
+    gutter: usize,
+    front: &str,
+    columns: usize,
+    text: &str,
+) -> Result<(), AllocError> {
+    put_gutter(out, gutter)?;
+    out.try_push_str(front)?;
+    put_run(out, '_', columns)?;
+    out.try_push_str(text)?;
+    out.try_push_str("\n")?;
+    Ok(())
+}
+
+/// Adds the first line of a label.
+// requires number { label.now.extent.start.line < 2 ^ 60 }
+// requires column { label.now.extent.start.column < 2 ^ 62 }
+// requires cut { frame.now.cut < 2 ^ 62 }
+// ensures { OnOk result (string_bytes out.new ≡ string_bytes out.old
+//     ++ first_rows (seen_frame frame.now) (seen_label label.now)) }
+#[inline]
+fn put_first_rows(
+    alloc: Global,
+    out: &mut String,
+    frame: &Frame<'_>,
+    label: &Label<'_>,
+) -> Result<(), AllocError> {
+    let start = label.extent.start;
+    if start.is_indent {
+        put_source(alloc, out, frame, " | /", " ", start.line)?;
+    } else {
+        put_source(alloc, out, frame, " |", "   ", start.line)?;
+        let columns = start.column.saturating_sub(frame.cut) + 1;
+        put_lead(out, frame.gutter, " ", columns, "^")?;
+    }
+    Ok(())
+}
+
+/// Adds the row under the last line of a label.
+// ensures { OnOk result (string_bytes out.new ≡ string_bytes out.old
+//     ++ under gutter (codes "|" ++ (run columns 95 ++ (codes "^ " ++ text.now)))) }
+#[inline]
+fn put_end(out: &mut String, gutter: usize, columns: usize, text: &str) -> Result<(), AllocError> {
+    put_gutter(out, gutter)?;
+    out.try_push_str("|")?;
+    put_run(out, '_', columns)?;
+    put_texts(out, "^ ", text, "\n")?;
+    Ok(())
+}
+
+/// Adds the last line of a label.
+// requires number { label.now.extent.end.line < 2 ^ 60 }
+// requires cut { frame.now.cut < 2 ^ 62 }
+// ensures { OnOk result (string_bytes out.new ≡ string_bytes out.old
+//     ++ last_rows (seen_frame frame.now) (seen_label label.now)) }
+#[inline]
+fn put_last_rows(
+    alloc: Global,
+    out: &mut String,
+    frame: &Frame<'_>,
+    label: &Label<'_>,
+) -> Result<(), AllocError> {
+    let end = label.extent.end;
+    put_bar_row(alloc, out, frame, end.line)?;
+    put_end(
+        out,
+        frame.gutter,
+        end.column.saturating_sub(frame.cut).max(1),
+        label.text,
+    )?;
+    Ok(())
+}
+
+/// Adds what is between the first and the last line of a label.
+// requires first { first < 2 ^ 59 }
+// requires last { last < 2 ^ 60 }
+// requires cut { frame.now.cut < 2 ^ 62 }
+// ensures { OnOk result (string_bytes out.new ≡ string_bytes out.old
+//     ++ between (seen_frame frame.now) first last) }
+#[inline]
+fn put_between(
+    alloc: Global,
+    out: &mut String,
+    frame: &Frame<'_>,
+    first: usize,
+    last: usize,
+) -> Result<(), AllocError> {
+    let behind = last.saturating_sub(first).saturating_sub(1);
+    let count = without_bare(frame, first, behind.min(3));
+    put_bar_rows(alloc, out, frame, first, count)?;
+    if last > first + 5 && !is_bare_line(frame, last - 1) {
+        put_bar_gap(alloc, out, frame, first + count, last - 1)?;
+        put_bar_row(alloc, out, frame, last - 1)?;
+    } else {
+        put_bar_gap(alloc, out, frame, first + count, last)?;
+    }
+    Ok(())
+}
+
+/// Adds the lines of a label over several lines.
+// requires number { label.now.extent.start.line < 2 ^ 59 }
+// requires last { label.now.extent.end.line < 2 ^ 59 }
+// requires column { label.now.extent.start.column < 2 ^ 62 }
+// requires cut { frame.now.cut < 2 ^ 62 }
+// ensures { OnOk result (string_bytes out.new ≡ string_bytes out.old
+//     ++ long_rows (seen_frame frame.now) (seen_label label.now)) }
+#[inline]
+pub fn put_long(
+    alloc: Global,
+    out: &mut String,
+    frame: &Frame<'_>,
+    label: &Label<'_>,
+) -> Result<(), AllocError> {
+    put_first_rows(alloc, out, frame, label)?;
+    put_between(
+        alloc,
+        out,
+        frame,
+        label.extent.start.line,
+        label.extent.end.line,
+    )?;
+    put_last_rows(alloc, out, frame, label)?;
+    Ok(())
+}

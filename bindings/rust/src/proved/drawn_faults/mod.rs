@@ -1,0 +1,20 @@
+//! The faults of a string literal for the one who wrote it: [`draw`] draws a fault under its
+//! source, as rustc does, and [`fix`] applies the edits that the suggestions of faults have.
+
+// Extracted from crates/drawn_faults/src/lib.rt by tools/extract: not to be edited.
+// That source is proved, and each contract here is its. That this text means the same is tested:
+// by results from outside, and beside what is proved (.ci/bindings) and the original (tools/agree).
+
+pub(crate) mod drawing;
+pub(crate) mod fixes;
+pub(crate) mod glyphs;
+pub(crate) mod labels;
+pub(crate) mod lines;
+pub(crate) mod long;
+pub(crate) mod places;
+pub(crate) mod rows;
+pub(crate) mod suggestions;
+
+pub use drawing::draw;
+pub use fixes::{edits, errors_of, fix, Edit, Fixed};
+pub use places::Picture;

@@ -1,0 +1,159 @@
+//! The source around a literal, its lines and places.
+
+// Extracted from crates/drawn_faults/src/places.rt by tools/extract: not to be edited.
+// That source is proved, and each contract here is its. That this text means the same is tested:
+// by results from outside, and beside what is proved (.ci/bindings) and the original (tools/agree).
+
+use crate::proved::drawn_faults::glyphs::{split_first, width};
+use std::ops::Range;
+
+/// The source that a fault is drawn in: a whole file, or those lines of it that have the literal.
+#[derive(Clone, Copy, Debug)]
+pub struct Picture<'a> {
+    /// The path of the file, as it is to be shown.
+    pub path: &'a str,
+    /// The source. Its lines end in line feeds.
+    pub source: &'a str,
+    /// The number of the first line of `source`.
+    pub line_start: u32,
+    /// The byte offset in `source` at which the literal begins.
+    pub literal_start: usize,
+}
+
+/// A place in a source.
+#[derive(Clone, Copy)]
+pub struct Spot {
+    /// The number of the line, counted from 0.
+    pub line: usize,
+    /// How many characters of the line are before the place.
+    pub chars: usize,
+    /// How many columns these take.
+    pub column: usize,
+    /// Whether these are all white space.
+    pub is_indent: bool,
+}
+
+/// The places at which a range begins and ends.
+#[derive(Clone, Copy)]
+pub struct Extent {
+    pub start: Spot,
+    pub end: Spot,
+}
+
+/// Returns the place behind a character.
+// requires small_line { spot.line < 2 ^ 62 }
+// requires small_chars { spot.chars < 2 ^ 62 }
+// requires small_column { spot.column < 2 ^ 61 }
+// ensures value { result ≡ past spot c }
+// ensures lines { result.line ≤ spot.line + 1 }
+// ensures chars { result.chars ≤ spot.chars + 1 }
+// ensures columns { result.column ≤ spot.column + 4 }
+#[inline]
+fn past(spot: Spot, c: char) -> Spot {
+    if c == '\n' {
+        return Spot {
+            line: spot.line + 1,
+            chars: 0,
+            column: 0,
+            is_indent: true,
+        };
+    }
+    Spot {
+        line: spot.line,
+        chars: spot.chars + 1,
+        column: spot.column + width(c),
+        is_indent: spot.is_indent && c.is_whitespace(),
+    }
+}
+
+/// Returns the place at a byte offset of a text.
+// requires { length text.now < 2 ^ 59 }
+// ensures value { result ≡ spot offset (chars text.now) }
+// ensures small_line { result.line < 2 ^ 59 }
+// ensures small_chars { result.chars < 2 ^ 59 }
+// ensures small_column { result.column < 2 ^ 61 }
+#[inline]
+fn spot_at(text: &str, offset: usize) -> Spot {
+    let mut at = Spot {
+        line: 0,
+        chars: 0,
+        column: 0,
+        is_indent: true,
+    };
+    let mut rest = text;
+    let mut left = offset;
+    while let Some((c, tail)) = split_first(rest) {
+        if left < c.len_utf8() {
+            break;
+        }
+        left -= c.len_utf8();
+        at = past(at, c);
+        rest = tail;
+    }
+    at
+}
+
+/// Returns the first line of a text.
+// ensures value { result.now ≡ first_line text.now }
+// ensures short { length result.now ≤ length text.now }
+#[inline]
+pub fn first_line(text: &str) -> &str {
+    match text.split_once('\n') {
+        Some((line, _)) => line,
+        None => text,
+    }
+}
+
+/// Returns what is left of a text behind its first line.
+// ensures rest { result.now ≡ behind_lines 1 text.now }
+// ensures short { length result.now ≤ length text.now }
+#[inline]
+pub fn behind_line(text: &str) -> &str {
+    match text.split_once('\n') {
+        Some((_, rest)) => rest,
+        None => "",
+    }
+}
+
+/// Returns what is left of a text behind its first lines.
+// ensures value { result.now ≡ behind_lines count text.now }
+// ensures short { length result.now ≤ length text.now }
+#[inline]
+pub fn behind_lines(text: &str, count: usize) -> &str {
+    let mut rest = text;
+    let mut left = count;
+    while left > 0 {
+        rest = behind_line(rest);
+        left -= 1;
+    }
+    rest
+}
+
+/// Returns the line with a number, counted from 0, or an empty text behind the last one.
+// ensures value { result.now ≡ line number text.now }
+// ensures short { length result.now ≤ length text.now }
+#[inline]
+pub fn line(text: &str, number: usize) -> &str {
+    first_line(behind_lines(text, number))
+}
+
+impl Picture<'_> {
+    /// Returns where a range of the literal begins and ends.
+    // requires { length self.now.source.now < 2 ^ 59 }
+    // ensures value { result ≡ extent (seen_picture self.now) (pair range.now) }
+    // ensures small_line { result.start.line < 2 ^ 59 }
+    // ensures small_end { result.end.line < 2 ^ 59 }
+    // ensures small_chars { result.start.chars < 2 ^ 59 }
+    // ensures small_column { result.start.column < 2 ^ 61 }
+    // ensures small_end_column { result.end.column < 2 ^ 61 }
+    #[inline]
+    pub(crate) fn extent(&self, range: &Range<usize>) -> Extent {
+        let length = self.source.len();
+        let start = self.literal_start.saturating_add(range.start).min(length);
+        let end = self.literal_start.saturating_add(range.end).min(length);
+        Extent {
+            start: spot_at(self.source, start),
+            end: spot_at(self.source, start.max(end)),
+        }
+    }
+}

@@ -1,0 +1,68 @@
+//! Tokens and their kinds.
+
+// Extracted from crates/format_tokens/src/kinds.rt by tools/extract: not to be edited.
+// That source is proved, and each contract here is its. That this text means the same is tested:
+// by results from outside, and beside what is proved (.ci/bindings) and the original (tools/agree).
+
+use std::ops::Range;
+
+/// The kind of a token. The names are those of rust-analyzer's lexer of format strings where it has
+/// one.
+#[derive(Clone, Copy, Debug, Eq, PartialEq)]
+pub enum Kind {
+    /// Literal text without braces.
+    Text,
+    /// A doubled brace, `{{` or `}}`.
+    Escape,
+    /// The `{` of a placeholder.
+    Open,
+    /// The `}` that closes a placeholder.
+    Close,
+    /// The digits of a position, a width or a precision.
+    Integer,
+    /// The name of an argument.
+    Identifier,
+    /// The `r#` of a raw identifier.
+    RawPrefix,
+    /// White space in a placeholder.
+    White,
+    /// The `:` before a specification.
+    Colon,
+    /// The fill character.
+    Fill,
+    /// The alignment: `<`, `^` or `>`.
+    Align,
+    /// The sign flag: `+` or `-`.
+    Sign,
+    /// The flag `#`.
+    NumberSign,
+    /// The flag `0`.
+    Zero,
+    /// The `$` after an argument of a width or a precision.
+    DollarSign,
+    /// The `.` before a precision.
+    Dot,
+    /// The `*` of a precision.
+    Asterisk,
+    /// The type, as `x?`, at the end of a format specification.
+    Type,
+    /// The modifier of an assembly template.
+    Modifier,
+    /// The text after the colon in a diagnostic.
+    DiagnosticText,
+    /// What has no place in the grammar: a `}` that closes nothing, and what the parser skips in
+    /// place of a closing brace that is missing.
+    Unexpected,
+    /// What is around the text in a source literal.
+    Quote,
+}
+
+/// A token: a kind and a byte range of the source.
+#[derive(Clone, Debug, Eq, PartialEq)]
+pub struct Token {
+    /// The kind.
+    pub kind: Kind,
+    /// From where the token's first character starts to where the next character starts, or to the
+    /// end of the text.
+    pub span: Range<usize>,
+}

@@ -1,0 +1,160 @@
+//! The tokens of an input in its source.
+
+// Extracted from crates/format_tokens/src/lexer.rt by tools/extract: not to be edited.
+// That source is proved, and each contract here is its. That this text means the same is tested:
+// by results from outside, and beside what is proved (.ci/bindings) and the original (tools/agree).
+
+use crate::proved::format_tokens::kinds::{Kind, Token};
+use crate::proved::format_tokens::parts::{length_of, width_of};
+use crate::proved::format_tokens::places::{ordinary_starts, place, plain_starts};
+use crate::proved::format_tokens::walk::labels;
+use crate::proved::rustc_parse_format::literal::is_source_literal;
+use crate::proved::rustc_parse_format::ParseMode;
+use crate::shim::alloc::{AllocError, Global};
+use crate::shim::prelude::*;
+
+/// Returns the snippet if it is the source literal of the input.
+// ensures { MatchOption result
+//     (HasSource (chars input.now) style (seen_text snippet.entry) appended_newline → ⊥)
+//     (λ s. (seen_text snippet.entry ≡ Some (chars s.now))
+//     × IsSource (chars input.now) style (chars s.now) appended_newline) }
+#[inline]
+fn source_of<'a>(
+    input: &str,
+    style: Option<usize>,
+    snippet: Option<&'a str>,
+    appended_newline: bool,
+) -> Option<&'a str> {
+    match snippet {
+        None => None,
+        Some(literal) => {
+            if is_source_literal(input, style, literal, appended_newline) {
+                Some(literal)
+            } else {
+                None
+            }
+        }
+    }
+}
+
+/// Returns the byte offset at which the text of a literal starts.
+// requires { hashes style + 2 < 2 ^ 64 }
+// ensures { result ≡ quote_offset style }
+#[inline]
+fn quote_offset(style: Option<usize>) -> usize {
+    match style {
+        None => 1,
+        Some(hashes) => hashes + 2,
+    }
+}
+
+/// Returns the byte offsets where the characters of an input start, and then the end of the text.
+/// `source` is the snippet if that is the source literal. Returns `Err` if an allocation fails.
+// requires room { hashes style + length input.now + 2 < 2 ^ 64 }
+// requires source { MatchOption source
+//     (HasSource (chars input.now) style (seen_text snippet) appended_newline → ⊥)
+//     (λ s. (seen_text snippet ≡ Some (chars s.now))
+//     × IsSource (chars input.now) style (chars s.now) appended_newline) }
+// ensures { IfOk result (λ v. v.items
+//     ≡ starts_of (world (chars input.now) style (seen_text snippet.entry) appended_newline)) }
+#[inline]
+fn starts(
+    alloc: Global,
+    input: &str,
+    style: Option<usize>,
+    snippet: Option<&str>,
+    source: Option<&str>,
+    appended_newline: bool,
+) -> Result<Vec<usize>, AllocError> {
+    let offset = quote_offset(style);
+    let Some(literal) = source else {
+        let end = match snippet {
+            None => width_of(input).saturating_sub(usize::from(appended_newline)),
+            Some(foreign) => width_of(foreign),
+        };
+        let starts = plain_starts(alloc, offset, input, end)?;
+        return Ok(starts);
+    };
+    match style {
+        None => ordinary_starts(alloc, literal, appended_newline),
+        Some(hashes) => {
+            let end = width_of(literal).saturating_sub(hashes + 1);
+            let starts = plain_starts(alloc, offset, input, end)?;
+            Ok(starts)
+        }
+    }
+}
+
+/// Returns the tokens of an input, faulty or not, with their byte ranges in its source. Nothing is
+/// left out but an appended newline.
+///
+/// The arguments are those of `Parser::new`: `style` is `None` for an ordinary literal and
+/// `Some(n)` for a raw one with n hashes, `snippet` is the literal as it is in the source, and
+/// `appended_newline` is whether the last character of the input is a newline that the source does
+/// not have. The number of hashes, the byte length of the input and 2 must add up to less than
+/// 2^64.
+///
+/// The kinds and the characters of the tokens never depend on `style` and `snippet`. If the snippet
+/// is the source literal of the input, the byte ranges are those of the snippet, and the first and
+/// the last token are what is around the text. Otherwise a byte range is what it would be in a
+/// literal that has the input unescaped, with the end of the text as the parser has it.
+///
+/// Returns `Err` if an allocation fails; nothing else is then returned.
+// requires { hashes style + length input.now + 2 < 2 ^ 64 }
+// ensures tokens { IfOk result (λ v. map seen_token v.items ≡ tokens (seen_mode mode)
+//     (chars input.now) style (seen_snippet snippet) appended_newline) }
+// The kinds do not depend on style and snippet: with a source literal they are the same,
+// between those of two quotes.
+// ensures worlds { IfOk result (λ v. let ts = map seen_token v.items in
+//     let ls = shown (seen_mode mode) (chars input.now) appended_newline in
+//     (HasSource (chars input.now) style (seen_snippet snippet) appended_newline
+//     → kinds_of ts ≡ kinds_of (in_quotes ls))
+//     × ((HasSource (chars input.now) style (seen_snippet snippet) appended_newline → ⊥)
+//     → kinds_of ts ≡ kinds_of ls)) }
+// With a source literal the byte ranges cover it. The part of the snippet in each, with its
+// escapes decoded, is the characters of the token; in those of the quotes there are none.
+// ensures cover { IfOk result (λ v. (source : Text) → seen_snippet snippet ≡ Some source
+//     → IsSource (chars input.now) style source appended_newline
+//     → IsCover 0 (byte_length source) (ranges_of (map seen_token v.items))) }
+// ensures reads_back { IfOk result (λ v. (source : Text) → seen_snippet snippet ≡ Some source
+//     → IsSource (chars input.now) style source appended_newline
+//     → read_back (chars input.now) style source appended_newline (map seen_token v.items)
+//     ≡ in_quotes (shown (seen_mode mode) (chars input.now) appended_newline)) }
+#[inline]
+pub fn tokens(
+    alloc: Global,
+    input: &str,
+    style: Option<usize>,
+    snippet: Option<String>,
+    appended_newline: bool,
+    mode: ParseMode,
+) -> Result<Vec<Token>, AllocError> {
+    let text = match &snippet {
+        None => None,
+        Some(literal) => Some(literal.as_str()),
+    };
+    let source = source_of(input, style, text, appended_newline);
+    let offsets = starts(alloc, input, style, text, source, appended_newline)?;
+    let starts = offsets.as_slice();
+    let labels = labels(alloc, input, mode)?;
+    let kept = length_of(input).saturating_sub(usize::from(appended_newline));
+    let mut tokens = Vec::made_in(alloc);
+    match source {
+        None => {
+            place(&mut tokens, &labels, starts, kept)?;
+            Ok(tokens)
+        }
+        Some(literal) => {
+            tokens.try_push(Token {
+                kind: Kind::Quote,
+                span: 0..starts[0],
+            })?;
+            place(&mut tokens, &labels, starts, kept)?;
+            tokens.try_push(Token {
+                kind: Kind::Quote,
+                span: starts[starts.len() - 1]..width_of(literal),
+            })?;
+            Ok(tokens)
+        }
+    }
+}

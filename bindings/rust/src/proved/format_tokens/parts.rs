@@ -1,0 +1,326 @@
+//! The tokens of the parts of a placeholder. Each function takes a part that the parser read, adds
+//! its tokens to a list, and returns what is left of the text after the part. Returns `Err` if an
+//! allocation fails; the list may then have some of the tokens.
+
+// Extracted from crates/format_tokens/src/parts.rt by tools/extract: not to be edited.
+// That source is proved, and each contract here is its. That this text means the same is tested:
+// by results from outside, and beside what is proved (.ci/bindings) and the original (tools/agree).
+
+use crate::proved::format_tokens::kinds::Kind;
+use crate::proved::rustc_parse_format::{
+    Alignment, Count, DebugHex, FormatSpec, ParseMode, Position, Sign,
+};
+use crate::shim::alloc::AllocError;
+use crate::shim::prelude::*;
+
+/// Returns the number of characters of a text.
+// ensures { result ≡ length (chars text.now) }
+#[inline]
+pub fn length_of(text: &str) -> usize {
+    text.chars().count()
+}
+
+/// Adds a token of a text's first `bytes` bytes, and returns what is left of the text. Without
+/// bytes there is no token. Returns `Err` if an allocation fails.
+// ensures { IfOk result (λ left. (u r : Text) → chars text.now ≡ u ++ r → bytes ≡ byte_length u
+//     → Took (token kind u) r labels.old.items labels.new.items left.now) }
+#[inline]
+pub fn take<'a>(
+    labels: &mut Vec<(Kind, usize)>,
+    kind: Kind,
+    bytes: usize,
+    text: &'a str,
+) -> Result<&'a str, AllocError> {
+    if bytes == 0 {
+        return Ok(text);
+    }
+    match text.parts_at(bytes) {
+        Some((front, left)) => {
+            labels.try_push((kind, length_of(front)))?;
+            Ok(left)
+        }
+        None => Ok(""),
+    }
+}
+
+/// Returns the byte length of a text.
+// ensures { result ≡ byte_length (chars text.now) }
+#[inline]
+pub fn width_of(text: &str) -> usize {
+    text.len()
+}
+
+/// Returns the first character, or `None` if the text is empty.
+// ensures { result ≡ first (chars text.now) }
+#[inline]
+fn first(text: &str) -> Option<char> {
+    text.chars().next()
+}
+
+/// Returns what is left after the first character, or an empty text if there is none.
+// ensures { chars result.now ≡ behind_first (chars text.now) }
+#[inline]
+fn behind_first(text: &str) -> &str {
+    let mut rest = text.chars();
+    rest.next();
+    rest.as_str()
+}
+
+/// Returns whether the first character is `c`.
+// ensures { result ≡ begins_with c (chars text.now) }
+#[inline]
+pub fn begins(text: &str, c: char) -> bool {
+    match first(text) {
+        Some(d) => d == c,
+        None => false,
+    }
+}
+
+/// A class of characters.
+#[derive(Clone, Copy)]
+pub enum Run {
+    /// The decimal digits.
+    Digits,
+    /// White space, as in `char::is_whitespace`.
+    White,
+}
+
+impl Run {
+    /// Returns whether a character is of the class.
+    // ensures { result ≡ passes self c }
+    #[inline]
+    fn passes(self, c: char) -> bool {
+        match self {
+            Run::Digits => c.is_ascii_digit(),
+            Run::White => c.is_whitespace(),
+        }
+    }
+}
+
+/// Returns the byte length of the longest prefix of a text whose characters are all of the class.
+// ensures { result ≡ byte_length (front (passes run) (chars text.now)) }
+#[inline]
+pub fn run_width(text: &str, run: Run) -> usize {
+    let mut rest = text.chars();
+    let mut width = 0;
+    while let Some(c) = rest.next() {
+        if !run.passes(c) {
+            return width;
+        }
+        width += c.len_utf8();
+    }
+    width
+}
+
+/// Returns whether a text that begins with a name has an `r#` in front of it.
+// ensures { result ≡ names_raw (chars text.now) (chars name.now) }
+#[inline]
+fn is_raw(text: &str, name: &str) -> bool {
+    let hash = behind_first(text);
+    match first(name) {
+        Some(c) => begins(text, 'r') && begins(hash, '#') && begins(behind_first(hash), c),
+        None => false,
+    }
+}
+
+/// Adds the tokens of a position.
+// ensures { IfOk result (λ left. (p : PositionText) (n : ℕ) (r : Text)
+//     → IsPart (chars text.now) (position_part p) r
+//     → seen_position position.now ≡ position_of n p
+//     → Took (position_tokens p) r labels.old.items labels.new.items left.now) }
+#[inline]
+pub fn position<'a>(
+    labels: &mut Vec<(Kind, usize)>,
+    position: &Position<'_>,
+    text: &'a str,
+) -> Result<&'a str, AllocError> {
+    match position {
+        Position::ArgumentImplicitlyIs(_) => Ok(text),
+        Position::ArgumentIs(_) => {
+            let left = take(labels, Kind::Integer, run_width(text, Run::Digits), text)?;
+            Ok(left)
+        }
+        Position::ArgumentNamed(name) => {
+            let prefix = if is_raw(text, name) { 2 } else { 0 };
+            let word = take(labels, Kind::RawPrefix, prefix, text)?;
+            let left = take(labels, Kind::Identifier, width_of(name), word)?;
+            Ok(left)
+        }
+    }
+}
+
+/// Adds the tokens of a count.
+// ensures count { IfOk result (λ left. (k : CountText) (r : Text)
+//     → IsPart (chars text.now) (count_part k) r
+//     → bare_count (seen_count count.now) ≡ count_value k
+//     → Took (count_tokens k) r labels.old.items labels.new.items left.now) }
+// ensures star { IfOk result (λ left. (n : ℕ) (r : Text) → chars text.now ≡ codes "*" ++ r
+//     → bare_count (seen_count count.now) ≡ Star n
+//     → Took (token Kind.Asterisk (codes "*")) r labels.old.items labels.new.items left.now) }
+// ensures none { IfOk result (λ left. bare_count (seen_count count.now) ≡ Implied
+//     → Took [] (chars text.now) labels.old.items labels.new.items left.now) }
+#[inline]
+fn count<'a>(
+    labels: &mut Vec<(Kind, usize)>,
+    count: &Count<'_>,
+    text: &'a str,
+) -> Result<&'a str, AllocError> {
+    match count {
+        Count::CountIs(_) => {
+            let left = take(labels, Kind::Integer, run_width(text, Run::Digits), text)?;
+            Ok(left)
+        }
+        Count::CountIsParam(_) => {
+            let dollar = take(labels, Kind::Integer, run_width(text, Run::Digits), text)?;
+            let left = take(labels, Kind::DollarSign, 1, dollar)?;
+            Ok(left)
+        }
+        Count::CountIsName(name, _) => {
+            let dollar = take(labels, Kind::Identifier, width_of(name), text)?;
+            let left = take(labels, Kind::DollarSign, 1, dollar)?;
+            Ok(left)
+        }
+        Count::CountIsStar(_) => {
+            let left = take(labels, Kind::Asterisk, 1, text)?;
+            Ok(left)
+        }
+        Count::CountImplied => Ok(text),
+    }
+}
+
+/// Adds the tokens of a width, with the flag `0` if it is set.
+// ensures { IfOk result (λ left. (k : WidthText) (r : Text)
+//     → IsPart (chars text.now) (width_part k) r
+//     → zero_pad ≡ is_padded k → bare_count (seen_count width.now) ≡ width_value k
+//     → Took (width_tokens k) r labels.old.items labels.new.items left.now) }
+#[inline]
+fn width<'a>(
+    labels: &mut Vec<(Kind, usize)>,
+    zero_pad: bool,
+    width: &Count<'_>,
+    text: &'a str,
+) -> Result<&'a str, AllocError> {
+    let behind = take(labels, Kind::Zero, usize::from(zero_pad), text)?;
+    let left = count(labels, width, behind)?;
+    Ok(left)
+}
+
+/// Adds the tokens of a precision, with the dot before it.
+// ensures { IfOk result (λ left. (k : PrecisionText) (n : ℕ) (r : Text)
+//     → IsPart (chars text.now) (precision_part k) r
+//     → bare_count (seen_count precision.now) ≡ precision_value n k
+//     → Took (precision_tokens k) r labels.old.items labels.new.items left.now) }
+#[inline]
+fn precision<'a>(
+    labels: &mut Vec<(Kind, usize)>,
+    precision: &Count<'_>,
+    text: &'a str,
+) -> Result<&'a str, AllocError> {
+    let behind = take(labels, Kind::Dot, usize::from(begins(text, '.')), text)?;
+    let left = count(labels, precision, behind)?;
+    Ok(left)
+}
+
+/// Returns the byte length of a fill.
+// ensures { result ≡ byte_length (fill_part fill).spelling }
+#[inline]
+fn fill_width(fill: Option<char>) -> usize {
+    match fill {
+        Some(c) => c.len_utf8(),
+        None => 0,
+    }
+}
+
+/// Returns the byte length of an alignment.
+// ensures { result ≡ byte_length (align_part (seen_alignment align)).spelling }
+#[inline]
+fn align_width(align: Alignment) -> usize {
+    match align {
+        Alignment::AlignLeft | Alignment::AlignRight | Alignment::AlignCenter => 1,
+        Alignment::AlignUnknown => 0,
+    }
+}
+
+/// Returns the byte length of a sign.
+// ensures { result ≡ byte_length (sign_part (option_map seen_sign sign)).spelling }
+#[inline]
+fn sign_width(sign: Option<Sign>) -> usize {
+    match sign {
+        Some(Sign::Plus | Sign::Minus) => 1,
+        None => 0,
+    }
+}
+
+/// Returns the byte length of a type. With a flag for its hexadecimal digits it is `x?` or `X?`.
+// ensures { (k : TypeText) → option_map seen_debug_hex debug_hex ≡ debug_hex_of k
+//     → chars ty.now ≡ type_of k → result ≡ byte_length (type_part k).spelling }
+#[inline]
+fn type_width(debug_hex: Option<DebugHex>, ty: &str) -> usize {
+    match debug_hex {
+        Some(_) => 2,
+        None => width_of(ty),
+    }
+}
+
+/// Adds the tokens of a format specification.
+// ensures { IfOk result (λ left. (p : FormatText) (n : ℕ) (r : Text)
+//     → IsPart (chars text.now) (format_part p) r
+//     → bare_spec (seen_spec format.now) ≡ format_value n p
+//     → Took (format_tokens p) r labels.old.items labels.new.items left.now) }
+#[inline]
+fn format<'a>(
+    labels: &mut Vec<(Kind, usize)>,
+    format: &FormatSpec<'_>,
+    text: &'a str,
+) -> Result<&'a str, AllocError> {
+    let align = take(labels, Kind::Fill, fill_width(format.fill), text)?;
+    let sign = take(labels, Kind::Align, align_width(format.align), align)?;
+    let alternate = take(labels, Kind::Sign, sign_width(format.sign), sign)?;
+    let number = take(
+        labels,
+        Kind::NumberSign,
+        usize::from(format.alternate),
+        alternate,
+    )?;
+    let dot = width(labels, format.zero_pad, &format.width, number)?;
+    let ty = precision(labels, &format.precision, dot)?;
+    let left = take(
+        labels,
+        Kind::Type,
+        type_width(format.debug_hex, format.ty),
+        ty,
+    )?;
+    Ok(left)
+}
+
+/// Adds the tokens of a specification, with the colon before it.
+// ensures { IfOk result (λ left. (k : SpecText) (n : ℕ) (r : Text)
+//     → IsPart (chars text.now) (spec_part (seen_mode mode) k) r
+//     → bare_spec (seen_spec spec.now) ≡ spec_value n k
+//     → Took (spec_tokens k) r labels.old.items labels.new.items left.now) }
+#[inline]
+pub fn specification<'a>(
+    labels: &mut Vec<(Kind, usize)>,
+    mode: ParseMode,
+    spec: &FormatSpec<'_>,
+    text: &'a str,
+) -> Result<&'a str, AllocError> {
+    if !begins(text, ':') {
+        return Ok(text);
+    }
+    let behind = take(labels, Kind::Colon, 1, text)?;
+    match mode {
+        ParseMode::Format => {
+            let left = format(labels, spec, behind)?;
+            Ok(left)
+        }
+        ParseMode::InlineAsm => {
+            let left = take(labels, Kind::Modifier, width_of(spec.ty), behind)?;
+            Ok(left)
+        }
+        ParseMode::Diagnostic | ParseMode::DiagnosticNamed => {
+            let left = take(labels, Kind::DiagnosticText, width_of(spec.ty), behind)?;
+            Ok(left)
+        }
+    }
+}

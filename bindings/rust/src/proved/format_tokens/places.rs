@@ -1,0 +1,90 @@
+//! Where the characters of an input start in its source.
+
+// Extracted from crates/format_tokens/src/places.rt by tools/extract: not to be edited.
+// That source is proved, and each contract here is its. That this text means the same is tested:
+// by results from outside, and beside what is proved (.ci/bindings) and the original (tools/agree).
+
+use crate::proved::format_tokens::kinds::{Kind, Token};
+use crate::proved::rustc_parse_format::literal::{between_quotes, read_content};
+use crate::shim::alloc::{AllocError, Global};
+use crate::shim::prelude::*;
+
+/// Returns the byte offsets where the characters of a text start, where it starts at `at` and each
+/// character stands for itself, and then `end`. Returns `Err` if an allocation fails.
+// requires { at + length text.now < 2 ^ 64 }
+// ensures { IfOk result (λ v. (b : Bool)
+//     → v.items ≡ starts_of (plain_world b at (chars text.now) end)) }
+#[inline]
+pub fn plain_starts(
+    alloc: Global,
+    at: usize,
+    text: &str,
+    end: usize,
+) -> Result<Vec<usize>, AllocError> {
+    let mut starts = Vec::made_in(alloc);
+    let mut next = at;
+    let mut rest = text.chars();
+    while let Some(c) = rest.next() {
+        starts.try_push(next)?;
+        next += c.len_utf8();
+    }
+    starts.try_push(end)?;
+    Ok(starts)
+}
+
+/// Returns the byte offsets where the characters of an input start in its source literal, an
+/// ordinary one, and then the end of the text. Returns `Err` if an allocation fails.
+// ensures { IfOk result (λ v. (input : Text)
+//     → IsSource input None (chars snippet.now) appended_newline
+//     → v.items ≡ starts_of (world input None (Some (chars snippet.now)) appended_newline)) }
+#[inline]
+pub fn ordinary_starts(
+    alloc: Global,
+    snippet: &str,
+    appended_newline: bool,
+) -> Result<Vec<usize>, AllocError> {
+    let mut starts = Vec::made_in(alloc);
+    let Some(content) = between_quotes(snippet) else {
+        return Ok(starts);
+    };
+    let Some(characters) = read_content(alloc, content)? else {
+        return Ok(starts);
+    };
+    let mut end = 1;
+    for character in &characters {
+        starts.try_push(character.0.start + 1)?;
+        end = character.0.end + 1;
+    }
+    if appended_newline {
+        starts.try_push(end)?;
+    }
+    starts.try_push(end)?;
+    Ok(starts)
+}
+
+/// Adds the tokens of the first `kept` characters. `labels` has the kind of each and its number of
+/// characters, `starts` where the characters start. Returns `Err` if an allocation fails.
+// requires { kept < length starts.now }
+// ensures { OnOk result ((w : World) → starts.now ≡ starts_of w
+//     → map seen_token tokens.new.items ≡ map seen_token tokens.old.items
+//     ++ placed_sizes w (length w.places) kept labels.now) }
+#[inline]
+pub fn place(
+    tokens: &mut Vec<Token>,
+    labels: &[(Kind, usize)],
+    starts: &[usize],
+    kept: usize,
+) -> Result<(), AllocError> {
+    let mut at = 0;
+    for label in labels {
+        let to = at + label.1.min(kept - at);
+        if at < to {
+            tokens.try_push(Token {
+                kind: label.0,
+                span: starts[at]..starts[to],
+            })?;
+        }
+        at = to;
+    }
+    Ok(())
+}

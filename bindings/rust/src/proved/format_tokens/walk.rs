@@ -1,0 +1,151 @@
+//! The tokens of a whole text, by the calls of the parser.
+
+// Extracted from crates/format_tokens/src/walk.rt by tools/extract: not to be edited.
+// That source is proved, and each contract here is its. That this text means the same is tested:
+// by results from outside, and beside what is proved (.ci/bindings) and the original (tools/agree).
+
+use crate::proved::format_tokens::kinds::Kind;
+use crate::proved::format_tokens::parts::{
+    begins, position, run_width, specification, take, width_of, Run,
+};
+use crate::proved::rustc_parse_format::{Argument, FormatSpec, ParseMode, Position, Taken};
+use crate::shim::alloc::{AllocError, Global};
+use crate::shim::parser::Parser;
+use crate::shim::prelude::*;
+
+/// Adds the tokens of a placeholder at the start of a text, and returns what is left of the text
+/// after the call that read it: `left` bytes.
+// ensures { IfOk result (λ after. (n : ℕ) (t : Text) → chars text.now ≡ codes "{" ++ t
+//     → bare_argument (seen_argument argument.now)
+//     ≡ argument_value n (cut (seen_mode mode) t).field
+//     → (let k = placeholder (seen_mode mode) n (chars text.now) t in
+//     left ≡ byte_length k.rest
+//     → Took (placeholder_tokens (seen_mode mode) t k.rest) k.rest
+//     labels.old.items labels.new.items after.now)) }
+#[inline]
+fn placeholder<'a>(
+    labels: &mut Vec<(Kind, usize)>,
+    mode: ParseMode,
+    argument: &Argument<'_>,
+    left: usize,
+    text: &'a str,
+) -> Result<&'a str, AllocError> {
+    let field = take(labels, Kind::Open, 1, text)?;
+    let space = position(labels, &argument.position, field)?;
+    let spec = take(labels, Kind::White, run_width(space, Run::White), space)?;
+    let last = specification(labels, mode, &argument.format, spec)?;
+    let end = take(labels, Kind::White, run_width(last, Run::White), last)?;
+    let rest = take(labels, Kind::Close, usize::from(begins(end, '}')), end)?;
+    let after = take(
+        labels,
+        Kind::Unexpected,
+        width_of(rest).saturating_sub(left),
+        rest,
+    )?;
+    Ok(after)
+}
+
+/// Returns the byte length of the doubled brace at the start of a piece of literal text, or 0 if it
+/// starts with no brace.
+// ensures { result ≡ (if first_passes is_brace (chars text.now) then 2 else 0) }
+#[inline]
+fn escape_width(text: &str) -> usize {
+    if begins(text, '{') || begins(text, '}') {
+        2
+    } else {
+        0
+    }
+}
+
+/// Adds the tokens of a piece of literal text at the start of a text, and returns what is left of
+/// the text after it: `left` bytes.
+// ensures { IfOk result (λ after. (mode : Mode) (n : ℕ) (l : Text) →
+//     (let k = call mode n (chars text.now) in
+//     k.piece ≡ Some (LitPiece l) → left ≡ byte_length k.rest
+//     → Took (call_tokens mode (chars text.now) k.rest) k.rest
+//     labels.old.items labels.new.items after.now)) }
+#[inline]
+fn literal<'a>(
+    labels: &mut Vec<(Kind, usize)>,
+    left: usize,
+    text: &'a str,
+) -> Result<&'a str, AllocError> {
+    let rest = take(labels, Kind::Escape, escape_width(text), text)?;
+    let after = take(
+        labels,
+        Kind::Text,
+        width_of(rest).saturating_sub(left),
+        rest,
+    )?;
+    Ok(after)
+}
+
+/// Adds the tokens of a call at the start of a text, and returns what is left of the text after it:
+/// `left` bytes.
+// ensures { IfOk result (λ after. (w : World) (n : ℕ) →
+//     (let k = call (seen_mode mode) n (chars text.now) in
+//     option_map (seen_taken argument.now) taken.entry ≡ option_map (piece_in w) k.piece
+//     → left ≡ byte_length k.rest
+//     → Took (call_tokens (seen_mode mode) (chars text.now) k.rest) k.rest
+//     labels.old.items labels.new.items after.now)) }
+#[inline]
+fn call<'a>(
+    labels: &mut Vec<(Kind, usize)>,
+    mode: ParseMode,
+    taken: Option<Taken<'_>>,
+    argument: &Argument<'_>,
+    left: usize,
+    text: &'a str,
+) -> Result<&'a str, AllocError> {
+    let Some(piece) = taken else {
+        let after = take(
+            labels,
+            Kind::Unexpected,
+            width_of(text).saturating_sub(left),
+            text,
+        )?;
+        return Ok(after);
+    };
+    match piece {
+        Taken::Lit(_) => {
+            let after = literal(labels, left, text)?;
+            Ok(after)
+        }
+        Taken::NextArgument => {
+            let after = placeholder(labels, mode, argument, left, text)?;
+            Ok(after)
+        }
+    }
+}
+
+/// Returns an argument to read placeholders into.
+#[inline]
+fn blank_argument<'a>() -> Argument<'a> {
+    Argument {
+        position: Position::ArgumentImplicitlyIs(0),
+        position_span: 0..0,
+        format: FormatSpec::default(),
+    }
+}
+
+/// Returns the kinds of the tokens of a text and the byte length of each.
+// requires { length input.now + 2 < 2 ^ 64 }
+// ensures { IfOk result (λ v. v.items
+//     ≡ map sized (tokens_of (seen_mode mode) (chars input.now))) }
+#[inline]
+pub fn labels(
+    alloc: Global,
+    input: &str,
+    mode: ParseMode,
+) -> Result<Vec<(Kind, usize)>, AllocError> {
+    let mut labels = Vec::made_in(alloc);
+    let mut parser = Parser::new(alloc, input, None, None, false, mode)?;
+    let mut argument = blank_argument();
+    let mut rest = input;
+    while !rest.is_empty() {
+        let (taken, _) = parser.next_into(&mut argument)?;
+        let left = width_of(input).saturating_sub(parser.position());
+        rest = call(&mut labels, mode, taken, &argument, left, rest)?;
+    }
+    Ok(labels)
+}

@@ -1,0 +1,65 @@
+//! The parser, with the calls by which other extracted modules read it.
+use crate::proved::rustc_parse_format::types::Taken;
+use crate::shim::alloc::{AllocError, Global};
+use crate::{Argument, ParseError, ParseMode, Piece};
+use std::ops::Range;
+
+/// A parser over an input, which reads one piece at a time.
+pub struct Parser<'input> {
+    parser: crate::Parser<'input>,
+    /// The byte length of the input.
+    length: usize,
+}
+
+impl<'input> Parser<'input> {
+    /// Creates a parser at the start of an input.
+    pub fn new(
+        _: Global,
+        input: &'input str,
+        style: Option<usize>,
+        snippet: Option<String>,
+        appended_newline: bool,
+        mode: ParseMode,
+    ) -> Result<Parser<'input>, AllocError> {
+        Ok(Parser {
+            parser: crate::Parser::new(input, style, snippet, appended_newline, mode),
+            length: input.len(),
+        })
+    }
+
+    /// Returns the next piece.
+    pub fn next(&mut self) -> Result<Option<Piece<'input>>, AllocError> {
+        Ok(self.parser.next())
+    }
+
+    /// Returns the next piece, and reads a placeholder into `argument`. How many errors were put
+    /// before all others is not told.
+    pub fn next_into(
+        &mut self,
+        argument: &mut Argument<'input>,
+    ) -> Result<(Option<Taken<'input>>, ()), AllocError> {
+        let taken = self.parser.next().map(|piece| match piece {
+            Piece::Lit(text) => Taken::Lit(text),
+            Piece::NextArgument(read) => {
+                *argument = *read;
+                Taken::NextArgument
+            }
+        });
+        Ok((taken, ()))
+    }
+
+    /// Returns the next character without reading it, with its places.
+    pub fn peek(&self) -> Option<(Range<usize>, usize, char)> {
+        self.parser.peek()
+    }
+
+    /// Returns how many bytes of the input were read.
+    pub fn position(&self) -> usize {
+        self.peek().map_or(self.length, |next| next.1)
+    }
+
+    /// Takes the errors of all calls so far out of the parser.
+    pub fn take_errors(&mut self) -> Vec<ParseError> {
+        std::mem::take(&mut self.parser.errors)
+    }
+}

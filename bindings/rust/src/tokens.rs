@@ -1,0 +1,50 @@
+//! The tokens of a format string: what an editor shows in colours.
+use crate::proved::format_tokens::tokens as tokens_in;
+use crate::shim::alloc::{answer, Global};
+use crate::ParseMode;
+
+pub use crate::proved::format_tokens::{Kind, Token};
+
+/// Returns the tokens of an input, faulty or not, with their byte ranges in its source. Nothing is
+/// left out but an appended newline.
+///
+/// The arguments are those of [`Parser::new`](crate::Parser::new). The kinds and the characters of
+/// the tokens never depend on `style` and `snippet`. If the snippet is the source literal of the
+/// input, the byte ranges are those of the snippet, and the first and the last token are what is
+/// around the text. Otherwise a byte range is what it would be in a literal that has the input
+/// unescaped, with the end of the text as the parser has it. An allocation failure aborts, as
+/// elsewhere in Rust.
+///
+/// ```
+/// use dephungo::tokens::{tokens, Kind};
+/// use dephungo::ParseMode;
+///
+/// let found = tokens("a{:?}", None, Some(r#""\x61{:?}""#.to_string()), false, ParseMode::Format);
+/// let starts: Vec<_> = found.iter().map(|token| (token.kind, token.span.start)).collect();
+/// let wanted = [
+///     (Kind::Quote, 0),
+///     (Kind::Text, 1),
+///     (Kind::Open, 5),
+///     (Kind::Colon, 6),
+///     (Kind::Type, 7),
+///     (Kind::Close, 8),
+///     (Kind::Quote, 9),
+/// ];
+/// assert_eq!(starts, wanted);
+/// ```
+pub fn tokens(
+    input: &str,
+    style: Option<usize>,
+    snippet: Option<String>,
+    appended_newline: bool,
+    mode: ParseMode,
+) -> Vec<Token> {
+    answer(tokens_in(
+        Global,
+        input,
+        style,
+        snippet,
+        appended_newline,
+        mode,
+    ))
+}

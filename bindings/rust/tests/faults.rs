@@ -1,0 +1,182 @@
+//! What is made of faults: the fixes of literals, and the drawings of spans that no parser gives,
+//! or of which there is no drawing of rustc. The others are compared by bindings/compare.
+use dephungo::faults::{draw, edits, errors_of, fix, Picture};
+use dephungo::ParseMode::{self, *};
+use dephungo::{ParseError, Suggestion};
+use std::ops::Range;
+
+/// The literal, with the edits of its faults, and its text.
+fn fixed(
+    mode: ParseMode,
+    input: &str,
+    style: Option<usize>,
+    literal: &str,
+) -> Option<(String, String)> {
+    let newline = input.ends_with('\n');
+    fix(input, style, literal, newline, mode).map(|fixed| (fixed.snippet, fixed.text))
+}
+
+#[test]
+fn texts() {
+    for (mode, text, wanted) in [
+        (Format, "{r#type}", "{type}"),
+        (Format, "{r#a:>5}", "{a:>5}"),
+        (Format, "{?}", "{:?}"),
+        (Format, "{a ?}", "{a :?}"),
+        (Format, "{:?#}", "{:#?}"),
+        (Format, "{:?x}", "{:x?}"),
+        (Format, "{a:>?X}", "{a:>X?}"),
+        (Format, "한{r#a}한", "한{a}한"),
+        (Format, "{r#a:?x} {b?} {:?#}", "{a:x?} {b:?} {:#?}"),
+        (Format, "} {r#a} } {b?}", "} {a} } {b:?}"),
+        (Format, "{r#a.r#b}", "{a.b}"),
+        (Format, "{r#a{r#b{r#c", "{a{b{c"),
+        // these have faults of their own after the edit
+        (Format, "{a?}}", "{a:?}}"),
+        (Format, "{:05?#}", "{:05#?}"),
+        (Format, "{:x??}", "{:x?:?}"),
+        (Format, "{r#r#a}", "{r#a}"),
+        (InlineAsm, "{a?}", "{a:?}"),
+        (DiagnosticNamed, "{a?}", "{a:?}"),
+    ] {
+        let quoted = |text: &str| format!("\"{text}\"");
+        let found = fixed(mode, text, None, &quoted(text));
+        assert_eq!(found, Some((quoted(wanted), wanted.to_string())));
+    }
+}
+
+#[test]
+fn literals() {
+    for (input, style, literal, wanted, text) in [
+        ("{r#a}", Some(0), "r\"{r#a}\"", "r\"{a}\"", "{a}"),
+        ("{a?}", Some(1), "r#\"{a?}\"#", "r#\"{a:?}\"#", "{a:?}"),
+        ("{r#a}", None, "\"{\\x72\\\n  #a}\"", "\"{a}\"", "{a}"),
+        (
+            "\t{a?}",
+            None,
+            "\"\\t{a\\u{3f}}\"",
+            "\"\\t{a:\\u{3f}}\"",
+            "\t{a:?}",
+        ),
+        (
+            "\u{a0}{?}",
+            None,
+            "\"\\\n\u{a0}{?}\"",
+            "\"\\\n\u{a0}{:?}\"",
+            "\u{a0}{:?}",
+        ),
+        ("{r#a}\n", None, "\"{r#a}\"", "\"{a}\"", "{a}\n"),
+        ("{a?}\n", Some(0), "r\"{a?}\"", "r\"{a:?}\"", "{a:?}\n"),
+    ] {
+        let found = fixed(Format, input, style, literal);
+        assert_eq!(found, Some((wanted.to_string(), text.to_string())));
+    }
+}
+
+#[test]
+fn what_is_not_fixed() {
+    for (input, style, literal) in [
+        ("{}", None, "\"{}\""),
+        ("{_}", None, "\"{_}\""),
+        ("{a=}", None, "\"{a=}\""),
+        // snippets that are not the source literal of the input
+        ("{r#a}", None, "r\"{r#a}\""),
+        ("{r#a}", Some(0), "\"{r#a}\""),
+        ("{r#a}", None, "\"{r#b}\""),
+        ("{r#a}", None, "\"{rxa}\""),
+        ("{?}한", None, "\"\\\n\u{a0}{?}한\""),
+    ] {
+        assert_eq!(fixed(Format, input, style, literal), None);
+    }
+}
+
+#[test]
+fn edits_are_in_order() {
+    let errors = errors_of("{r#a:?x}{b?}", None, None, false, Format);
+    let found: Vec<(Range<usize>, &str)> = edits(&errors)
+        .iter()
+        .map(|edit| (edit.span.clone(), edit.text))
+        .collect();
+    assert_eq!(found, [(2..4, ""), (6..8, "x?"), (11..11, ":")]);
+}
+
+fn error(span: Range<usize>, second: Option<Range<usize>>, suggestion: Suggestion) -> ParseError {
+    ParseError {
+        description: "d".to_string(),
+        note: None,
+        label: "l".to_string(),
+        span,
+        secondary_label: second.map(|span| ("s".to_string(), span)),
+        suggestion,
+    }
+}
+
+#[test]
+fn edits_do_not_overlap() {
+    let errors = [4..6, 2..4, 1..3].map(|span| error(0..0, None, Suggestion::RemoveRawIdent(span)));
+    let spans: Vec<_> = edits(&errors)
+        .iter()
+        .map(|edit| edit.span.clone())
+        .collect();
+    assert_eq!(spans, [1..3, 4..6]);
+}
+
+#[test]
+fn spans() {
+    for (source, span, second, wanted) in [
+        // behind the end of the source, and in a character: its start
+        (
+            "日a",
+            9..usize::MAX,
+            Some(1..2),
+            " --> a.rs:7:3\n  |\n7 | 日a\n  | -  ^ l in format string\n  | |\n  | s\n\n",
+        ),
+        // a range that ends before it begins is empty
+        (
+            "日a",
+            Range { start: 3, end: 0 },
+            Some(0..3),
+            " --> a.rs:7:2\n  |\n7 | 日a\n  | --^ l in format string\n  | |\n  | s\n\n",
+        ),
+        (
+            "a\nb",
+            Range { start: 2, end: 0 },
+            None,
+            " --> a.rs:8:1\n  |\n8 | b\n  | ^ l in format string\n\n",
+        ),
+        // of two that are as long the first one is above
+        (
+            "abc",
+            0..2,
+            Some(1..3),
+            " --> a.rs:7:1\n  |\n7 | abc\n  | ^^-\n  | ||\n  | |s\n  | l in format string\n\n",
+        ),
+        // up to the start of a line
+        (
+            "a\nb",
+            0..2,
+            None,
+            " --> a.rs:7:1\n  |\n7 | / a\n8 | | b\n  | |_^ l in format string\n\n",
+        ),
+        // documentation is no comment
+        (
+            "a\n/// b\n\n\n\n\nc",
+            0..12,
+            None,
+            "  --> a.rs:7:1\n   |\n 7 | / a\n 8 | | /// b\n...  |\n13 | | c\n\
+             \x20  | |_^ l in format string\n\n",
+        ),
+    ] {
+        let picture = Picture {
+            path: "a.rs",
+            source,
+            line_start: 7,
+            literal_start: 0,
+        };
+        let drawing = draw(&picture, &error(span, second, Suggestion::None));
+        assert_eq!(
+            drawing,
+            format!("error: invalid format string: d\n{wanted}")
+        );
+    }
+}

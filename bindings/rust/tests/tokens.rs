@@ -1,0 +1,136 @@
+//! The tokens of source literals, and of inputs without one.
+use dephungo::tokens::tokens;
+use dephungo::tokens::Kind::{self, *};
+use dephungo::ParseMode::{self, *};
+
+/// The tokens of the literal are those of the list, one behind the other.
+fn check(mode: ParseMode, input: &str, style: Option<usize>, wanted: &[(Kind, &str)]) {
+    let snippet: String = wanted.iter().map(|token| token.1).collect();
+    let (mut start, mut end) = (0, 0);
+    for (token, (kind, text)) in tokens(input, style, Some(snippet.clone()), false, mode)
+        .iter()
+        .zip(wanted)
+    {
+        end += text.len();
+        assert_eq!(
+            (token.kind, &token.span),
+            (*kind, &(start..end)),
+            "{snippet}"
+        );
+        start = end;
+    }
+    assert_eq!(end, snippet.len());
+}
+
+#[test]
+fn each_kind() {
+    let wanted = [
+        (Quote, "\""),
+        (Text, "hi "),
+        (Open, "{"),
+        (RawPrefix, "r#"),
+        (Identifier, "a"),
+        (White, " "),
+        (Colon, ":"),
+        (Fill, "*"),
+        (Align, ">"),
+        (Sign, "+"),
+        (NumberSign, "#"),
+        (Zero, "0"),
+        (Integer, "1"),
+        (DollarSign, "$"),
+        (Dot, "."),
+        (Asterisk, "*"),
+        (Type, "x?"),
+        (White, " "),
+        (Close, "}"),
+        (Escape, "{{"),
+        (Text, "b"),
+        (Unexpected, "}"),
+        (Quote, "\""),
+    ];
+    check(Format, "hi {r#a :*>+#01$.*x? }{{b}", None, &wanted);
+    let wanted = [
+        (Quote, "r\""),
+        (Open, "{"),
+        (Integer, "1"),
+        (Colon, ":"),
+        (Identifier, "w"),
+        (DollarSign, "$"),
+        (Dot, "."),
+        (Integer, "2"),
+        (Type, "e"),
+        (Close, "}"),
+        (Quote, "\""),
+    ];
+    check(Format, "{1:w$.2e}", Some(0), &wanted);
+    let wanted = [
+        (Quote, "\""),
+        (Open, "{"),
+        (Integer, "0"),
+        (Colon, ":"),
+        (Modifier, "e"),
+        (Close, "}"),
+        (Quote, "\""),
+    ];
+    check(InlineAsm, "{0:e}", None, &wanted);
+    let wanted = [
+        (Quote, "\""),
+        (Open, "{"),
+        (Identifier, "T"),
+        (Colon, ":"),
+        (DiagnosticText, "a "),
+        (Close, "}"),
+        (Quote, "\""),
+    ];
+    check(Diagnostic, "{T:a }", None, &wanted);
+}
+
+#[test]
+fn what_recovery_takes() {
+    let wanted = [
+        (Quote, "\""),
+        (Open, "{"),
+        (Identifier, "a"),
+        (Unexpected, "?"),
+        (Unexpected, "}"),
+        (Quote, "\""),
+    ];
+    check(Format, "{a?}", None, &wanted);
+    let wanted = [
+        (Quote, "r#\""),
+        (Open, "{"),
+        (Identifier, "a"),
+        (Unexpected, ".b}"),
+        (Quote, "\"#"),
+    ];
+    check(Format, "{a.b}", Some(1), &wanted);
+}
+
+#[test]
+fn escapes_and_continued_lines() {
+    let wanted = [
+        (Quote, "\"\\\n"),
+        (Open, "\\x7b"),
+        (Identifier, "a\\\n "),
+        (Close, "}"),
+        (Quote, "\""),
+    ];
+    check(Format, "{a}", None, &wanted);
+}
+
+/// Without a source literal a token is where it would be in one, and an appended newline has none.
+#[test]
+fn without_a_source_literal() {
+    let wanted = [(Text, 1..3), (Open, 3..4), (Close, 4..5)];
+    for (style, snippet, by) in [(None, None, 0), (Some(2), Some("foreign!!"), 3)] {
+        let snippet = snippet.map(String::from);
+        let found = tokens("é{}\n", style, snippet, true, Format);
+        assert_eq!(found.len(), 3);
+        for (token, (kind, span)) in found.iter().zip(&wanted) {
+            assert_eq!(token.kind, *kind);
+            assert_eq!(token.span.start, span.start + by);
+        }
+    }
+    assert_eq!(tokens("{", None, None, false, Format)[0].span, 1..1);
+}
