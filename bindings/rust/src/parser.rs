@@ -109,14 +109,14 @@ impl<'input> Parser<'input> {
     #[inline(never)]
     fn add_errors(&mut self) {
         while let Some(fault) = self.reader.found.pop_first() {
-            let is_front = fault.is_front();
+            let at = if fault.is_front() {
+                0
+            } else {
+                self.errors.len()
+            };
             let mut error = empty_error(Global);
             answer(tell(Global, &mut error, fault));
-            if is_front {
-                self.errors.insert(0, error);
-            } else {
-                self.errors.push(error);
-            }
+            self.errors.insert(at, error);
         }
     }
 
