@@ -64,55 +64,19 @@ function partLine(part, parts) {
 function listing(answer) {
   if (!answer) return null;
   const lines = [];
-  for (const { parts } of answer.pieces.first) {
-    const [{ part, value }] = parts;
-    if (part === 'text') lines.push(`lit ${quoted(value)}`);
-    else if (part !== 'lone') lines.push(parts.map((it) => partLine(it, parts)).join(''));
+  for (const piece of answer.pieces.first) {
+    if (piece.text !== undefined) lines.push(`lit ${quoted(piece.text)}`);
+    else if (piece.parts) lines.push(piece.parts.map((it, _, all) => partLine(it, all)).join(''));
   }
-  for (const { says } of answer.faults.first) lines.push(`fault ${span(says)} ${says.value}`);
-  if (answer.isGiven) {
-    for (const n of answer.missing_index.first) lines.push(`missing index ${n}`);
-    for (const name of answer.missing_name.first) lines.push(`missing name ${quoted(name)}`);
-    for (const n of answer.unused_index.first) lines.push(`unused index ${n}`);
-    for (const name of answer.unused_name.first) lines.push(`unused name ${quoted(name)}`);
+  for (const fault of answer.faults.first) lines.push(`fault ${span(fault)} ${fault.text}`);
+  const { report } = answer;
+  if (report) {
+    for (const n of report.missing_index.first) lines.push(`missing index ${n}`);
+    for (const name of report.missing_name.first) lines.push(`missing name ${quoted(name)}`);
+    for (const n of report.unused_index.first) lines.push(`unused index ${n}`);
+    for (const name of report.unused_name.first) lines.push(`unused name ${quoted(name)}`);
   }
   return lines.map((line) => line + '\n').join('');
 }
 
-/** What is read of a whole text, and of the part that the program reads: this stops at a brace that
- * closes nothing. */
-function read(reader, { text, literal, mode, args }) {
-  const given = literal ? text.replace(/\n$/, '') : text;
-  const whole = reader.read(given, literal, mode, args);
-  const lone = whole && whole.pieces.first.find(({ parts }) => parts[0].part === 'lone');
-  if (!lone) return { whole, part: whole };
-  const start = Buffer.from(given).subarray(0, lone.span[1]).toString();
-  const quote = literal ? /"#*$/.exec(given)[0] : '';
-  return { whole, part: reader.read(start + quote, literal, mode, args) };
-}
-
-/** A line of a listing without its ranges, and the offsets of these. */
-function parted(line) {
-  const offsets = [];
-  const range = line.startsWith('lit ') ? /(?!)/ : /("(?:[^"\\]|\\.)*")|([ @])(\d+)\.\.(\d+)(?!=)/g;
-  const bare = line.replace(range, (all, text, before, start, end) => {
-    if (text) return text;
-    offsets.push(Number(start), Number(end));
-    return `${before}..`;
-  });
-  return { bare, offsets };
-}
-
-/** Whether lines of the page are those of a listing. Without a literal this counts one quote,
- * except at the end of the text, and the page counts none. */
-function agree(got, wanted, { literal, text }) {
-  if (got === null || wanted === null) return got === wanted;
-  const end = Buffer.byteLength(text);
-  const [lines, others] = [got, wanted].map((it) => it.split('\n').map(parted));
-  const isSame = (a, b) => (literal ? a === b : a + 1 === b || (a === end && b === end));
-  return lines.length === others.length && lines.every(({ bare, offsets }, n) =>
-    bare === others[n].bare && offsets.length === others[n].offsets.length
-    && offsets.every((offset, m) => isSame(offset, others[n].offsets[m])));
-}
-
-module.exports = { REPLAY, agree, cases, listing, read };
+module.exports = { REPLAY, cases, listing };

@@ -3,11 +3,10 @@
 
 /** The parts that elements of the page belong to. */
 const owners = new WeakMap();
-const ITEMS = '.token, .part, .what';
 
 /** Lights up a part in the text and on its card, or nothing. */
 function light(part) {
-  const [from, to] = part ? part.range : [0, 0];
+  const [from, to] = part && part.range ? part.range : [0, 0];
   for (const { start, stop, element } of shown.segments) {
     const isLit = from <= start && stop <= to;
     if (element.classList.contains('lit') === isLit) continue;
@@ -19,30 +18,35 @@ function light(part) {
   if (part && part.card) part.card.classList.add('lit');
 }
 
-/** Lights up what is pointed at or has the focus. */
-function lightAt({ target }) {
-  const element = target.closest && target.closest('.token, .part, .fault');
-  light(element && owners.get(element));
+/** The part of an element that is pointed at or has the focus. */
+function partOf(target) {
+  const element = target && target.closest('.token, .part, .fault');
+  return element ? owners.get(element) : null;
 }
 
 /** One item of a list is reached with Tab, and the others from there with the arrow keys. */
-function rove(list) {
-  list.querySelectorAll(ITEMS).forEach((item, at) => {
+function rove(list, items) {
+  const all = [...list.querySelectorAll(items)];
+  all.forEach((item, at) => {
     item.tabIndex = at === 0 ? 0 : -1;
     if (!item.ariaLabel) item.ariaLabel = item.textContent;
   });
+  list.onkeydown = (event) => {
+    const at = all.indexOf(event.target);
+    const steps = { ArrowRight: at + 1, ArrowDown: at + 1, ArrowLeft: at - 1, ArrowUp: at - 1 };
+    const next = all[{ ...steps, Home: 0, End: all.length - 1 }[event.key]];
+    if (at < 0 || !next) return;
+    event.preventDefault();
+    event.target.tabIndex = -1;
+    next.tabIndex = 0;
+    next.focus();
+  };
 }
 
-function step(event) {
-  const list = event.target.matches(ITEMS) && event.target.closest('#view, #cards, #faults');
-  const all = list ? [...list.querySelectorAll(ITEMS)] : [];
-  const at = all.indexOf(event.target);
-  const next = { ArrowRight: 1, ArrowDown: 1, ArrowLeft: -1, ArrowUp: -1 };
-  const last = all.length - 1;
-  const item = all[{ Home: 0, End: last }[event.key] ?? at + next[event.key]];
-  if (!item) return;
-  event.preventDefault();
-  event.target.tabIndex = -1;
-  item.tabIndex = 0;
-  item.focus();
+/** Lights up what is pointed at or has the focus. */
+function listen() {
+  for (const event of ['pointerover', 'focusin']) {
+    document.addEventListener(event, ({ target }) => light(partOf(target)));
+  }
+  document.addEventListener('focusout', () => light(null));
 }

@@ -8,7 +8,7 @@ const EXAMPLES = [
   ['assembly', { text: 'mov {0:e}, {1:r}', mode: 'asm', args: '3' }],
 ];
 
-/** What a part of a piece is called. */
+/** What a part of a placeholder is called. */
 const LABELS = {
   implicit: 'next argument', index: 'argument number', name: 'argument name',
   fill: 'fill', align: 'alignment', sign: 'sign', alternate: 'alternate form', zero: 'zero padding',
@@ -32,9 +32,15 @@ const LEGEND = {
   name: 'name', number: 'number', flag: 'fill, alignment and flags', type: 'type',
   escape: 'escaped brace', unexpected: 'unexpected',
 };
-/** The kind of token in which a part without a range of its own is found. */
-const TOKEN_OF = {
-  align: 'Align', sign: 'Sign', alternate: 'NumberSign', zero: 'Zero', hex: 'Type', type: 'Type',
+/** The colour of each kind of token. */
+const COLOUR_OF = {};
+for (const [colour, kinds] of Object.entries(COLOURS)) {
+  for (const kind of kinds) COLOUR_OF[kind] = colour;
+}
+/** The kinds of tokens in which a part without a range of its own is found. */
+const TOKENS_OF = {
+  align: ['Align'], sign: ['Sign'], alternate: ['NumberSign'], zero: ['Zero'],
+  hex: ['Type'], type: ['Type'],
 };
 
 /** What a suggestion without an edit asks for. */
