@@ -114,9 +114,8 @@ impl<'input> Parser<'input> {
             } else {
                 self.errors.len()
             };
-            let mut error = empty_error(Global);
-            answer(tell(Global, &mut error, fault));
-            self.errors.insert(at, error);
+            self.errors.insert(at, empty_error(Global));
+            answer(tell(Global, &mut self.errors[at], fault));
         }
     }
 
