@@ -1,6 +1,6 @@
 -- Edits that are made are in order, and applying them is a loop.
 use Rattle.std.proofs.Common.{◌≡◌, ℕ, suc, ◌+◌, ◌-◌, ◌<◌, ◌++◌, List, [], ◌∷◌, length, map, take}
-use Rattle.std.proofs.Common.{drop, get_or, ◌∙◌, ap, sym, subst, add-one, append_assoc, Some, true}
+use Rattle.std.proofs.Common.{Option, None, Result, Ok, Err, IfOk, IfSome, drop, get_or, ◌∙◌, ap, sym, subst, add-one, append_assoc, Some, true}
 use Rattle.std.proofs.Math.Seq.{drop-cons}
 use Rattle.std.proofs.lemmas.List.{get_or-map, length-map}
 use Rattle.std.proofs.lemmas.Bool.{cond_both, cond-true, and_parts}
@@ -54,3 +54,10 @@ applied-turn start left behind e out rest whole l h =
     let g : out ++ applied start (e ∷ behind) rest
     ≡ whole = subst (λ es. out ++ applied start es rest ≡ whole) l h in
     simp append_assoc g
+
+-- What is so for each value is so for that of a result.
+pub if_some : {A E : Type 0} {P : A → Type 0} → ((a : A) → P a) → (r : Result (Option A) E)
+    → IfOk r (λ o. IfSome o P)
+if_some h (Ok (Some a)) = h a
+if_some h (Ok None) = tt
+if_some h (Err e) = tt

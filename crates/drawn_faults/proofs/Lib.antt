@@ -1,7 +1,7 @@
 mod GlyphLemmas
 pub mod EditLaws
-pub mod CallFaults
 pub mod FixLaws
+pub mod CallFaults
 pub mod Merging
 pub mod Moving
 pub mod CallMoves

@@ -6,7 +6,7 @@ ghost use Rattle.std.specs.Prelude.{option_map, string_bytes};
 ghost use Rattle.rustc_parse_format.specs.Seen.{seen_error};
 ghost use Rattle.drawn_faults.specs.Places.{seen_picture};
 ghost use Rattle.drawn_faults.specs.Labels.{primary, seen_edit, seen_frame, seen_label};
-ghost use Rattle.drawn_faults.specs.Drawing.{arrow, below, drawing, head, labelled_rows, laid_out};
+ghost use Rattle.drawn_faults.specs.Drawing.{arrow, below, drawing, head, labelled_rows};
 ghost use Rattle.drawn_faults.specs.Drawing.{note_row, parting_before, title};
 ghost use Rattle.drawn_faults.specs.Suggestions.{help_rows};
 
@@ -183,39 +183,8 @@ fn put_below(
     Ok(())
 }
 
-/// Adds the drawing of an error, from its labels and its edit.
-#[tactic(auto, unfolding(crate::specs::Drawing::laid_out))]
-fn lay_out(
-    alloc: Global,
-    out: &mut String,
-    frame: &Frame<'_>,
-    error: &ParseError,
-    label: &Label<'_>,
-    second: &Option<Label<'_>>,
-    edit: &Option<Edit<'_>>,
-) -> Result<(), AllocError>
-    requires number { label.now.extent.start.line < 2 ^ 59 }
-    requires last { label.now.extent.end.line < 2 ^ 59 }
-    requires chars { label.now.extent.start.chars < 2 ^ 59 }
-    requires column { label.now.extent.start.column < 2 ^ 61 }
-    requires second_number { IfSome second.now (λ l. l.extent.start.line < 2 ^ 59) }
-    requires second_column { IfSome second.now (λ l. l.extent.start.column < 2 ^ 61) }
-    requires edit_first { IfSome edit.now (λ e. e.extent.start.line < 2 ^ 59) }
-    requires edit_last { IfSome edit.now (λ e. e.extent.end.line < 2 ^ 59) }
-    requires cut { frame.now.cut < 2 ^ 62 }
-    ensures { OnOk result (string_bytes out.new ≡ string_bytes out.old
-        ++ laid_out (seen_frame frame.now) (seen_error error.now) (seen_label label.now)
-        (option_map seen_label second.now) (option_map seen_edit edit.now)) }
-{
-    put_head(out, frame, error.description.as_str(), label.extent.start)?;
-    put_labels(alloc, out, frame, label, second)?;
-    put_below(alloc, out, frame, &error.note, edit)?;
-    out.push_str("\n")?;
-    Ok(())
-}
-
 /// Adds the drawing of an error with this label. Returns `Err` if an allocation fails.
-#[tactic(auto, unfolding(crate::specs::Drawing::drawing))]
+#[tactic(auto, unfolding(crate::specs::Drawing::drawing, crate::specs::Drawing::laid_out))]
 fn put_drawing(
     alloc: Global,
     out: &mut String,
@@ -236,7 +205,10 @@ fn put_drawing(
     let second = second(picture, error);
     let edit = edit_of(picture, &error.suggestion);
     let frame = frame_for(alloc, picture, label, &second, &edit)?;
-    lay_out(alloc, out, &frame, error, label, &second, &edit)?;
+    put_head(out, &frame, error.description.as_str(), label.extent.start)?;
+    put_labels(alloc, out, &frame, label, &second)?;
+    put_below(alloc, out, &frame, &error.note, &edit)?;
+    out.push_str("\n")?;
     Ok(())
 }
 

@@ -1,7 +1,7 @@
 //! What the suggestions of errors make of a literal: the edits that a machine may apply, and the
 //! literal with them applied.
 
-ghost use Rattle.std.specs.Prelude.{◌≡◌, ◌+◌, ◌<◌, ◌^◌, [], IfNone, IfOk, IfSome, IsOk, IsUtf8};
+ghost use Rattle.std.specs.Prelude.{◌≡◌, ◌≢◌, ◌+◌, ◌<◌, ◌^◌, [], IfNone, IfOk, IfSome, IsOk, IsUtf8};
 ghost use Rattle.std.specs.Prelude.{OnOk, Some, chars, drop, false, length, map, option_map};
 ghost use Rattle.std.specs.Prelude.{string_bytes, take};
 ghost use Rattle.rustc_parse_format.specs.Seen.{seen_error, seen_mode, seen_snippet};
@@ -11,7 +11,8 @@ ghost use Rattle.rustc_parse_format.specs.State.{after, first_state, next_call};
 ghost use Rattle.rustc_parse_format.specs.World.{hashes};
 ghost use Rattle.rustc_parse_format.specs.Literal.{IsSource};
 ghost use Rattle.drawn_faults.specs.Edits.{AreInOrder, applied, edits, suggested};
-ghost use Rattle.drawn_faults.specs.Fixing.{Fixed as FixedLiteral, IsEdited, IsFixed, all_errors};
+ghost use Rattle.drawn_faults.specs.Fixing.{Fixed as FixedLiteral, IsFixed, all_errors};
+ghost use Rattle.drawn_faults.specs.Fixing.{literal_edits, text_edits};
 ghost use Rattle.drawn_faults.specs.SeenEdits.{seen_edit, seen_fixed};
 
 use rustc_parse_format::literal::is_source_literal;
@@ -20,7 +21,7 @@ use std::alloc::{AllocError, Global};
 use std::ops::Range;
 
 /// An edit of a source: the bytes in a range are replaced by a text.
-#[derive(Drop)]
+#[derive(Clone, Debug, Eq, PartialEq, Drop)]
 pub struct Edit<'e> {
     /// The byte range of the source that is replaced. It is empty where text is only inserted.
     pub span: Range<usize>,
@@ -29,7 +30,7 @@ pub struct Edit<'e> {
 }
 
 /// A literal with edits applied.
-#[derive(Drop)]
+#[derive(Debug, Eq, PartialEq, Drop)]
 pub struct Fixed {
     /// The literal, as it is to be in the source.
     pub snippet: String,
@@ -163,60 +164,48 @@ pub fn errors_of(
     Ok(parser.take_errors())
 }
 
-/// Returns the errors of all calls of a parser over an input with this snippet, in its order.
-/// Returns `Err` if an allocation fails.
-fn literal_errors(
+/// Returns the literal of an input with the edits of its errors, or `None` if it has none or is
+/// then not UTF-8. Returns `Err` if an allocation fails.
+fn edited_literal(
     alloc: Global,
     input: &str,
     style: Option<usize>,
     snippet: &str,
     appended_newline: bool,
     mode: ParseMode,
-) -> Result<Vec<ParseError>, AllocError>
+) -> Result<Option<String>, AllocError>
     requires { hashes style + length input.now + 2 < 2 ^ 64 }
-    ensures { IfOk result (λ v. map seen_error v.items
-        ≡ all_errors (first_state (seen_mode mode) (chars input.now) style
-        (Some (chars snippet.now)) appended_newline)) }
+    ensures edits { IfOk result (λ o. IfSome o (λ s. literal_edits (seen_mode mode)
+        (chars input.now) style (chars snippet.now) appended_newline ≢ [])) }
+    ensures some { IfOk result (λ o. IfSome o (λ s. string_bytes s ≡ applied 0 (literal_edits
+        (seen_mode mode) (chars input.now) style (chars snippet.now) appended_newline)
+        snippet.now)) }
+    ensures none { IfOk result (λ o. IfNone o (literal_edits (seen_mode mode) (chars input.now)
+        style (chars snippet.now) appended_newline ≢ [] → IsUtf8 (applied 0 (literal_edits
+        (seen_mode mode) (chars input.now) style (chars snippet.now) appended_newline)
+        snippet.now) → ⊥)) }
 {
-    let snippet = String::from_str(alloc, snippet)?;
-    errors_of(alloc, input, style, Some(snippet), appended_newline, mode)
-}
-
-/// Returns a literal and its text, each with the edits of its errors, or `None` if the literal has
-/// none, or if they are then not a source literal and its text. Returns `Err` if an allocation
-/// fails.
-fn edited(
-    alloc: Global,
-    input: &str,
-    style: Option<usize>,
-    snippet: &str,
-    appended_newline: bool,
-    errors: &[ParseError],
-    text_errors: &[ParseError],
-) -> Result<Option<Fixed>, AllocError>
-    ensures some { IfOk result (λ o. IfSome o (λ f. IsEdited input.now style snippet.now
-        appended_newline (edits (map seen_error errors.now))
-        (edits (map seen_error text_errors.now)) (seen_fixed f))) }
-    ensures none { IfOk result (λ o. IfNone o ((f : FixedLiteral) → IsEdited input.now style
-        snippet.now appended_newline (edits (map seen_error errors.now))
-        (edits (map seen_error text_errors.now)) f → ⊥)) }
-{
-    let in_literal = edits(alloc, errors)?;
+    let owned = String::from_str(alloc, snippet)?;
+    let errors = errors_of(alloc, input, style, Some(owned), appended_newline, mode)?;
+    let in_literal = edits(alloc, &errors)?;
     if in_literal.as_slice().is_empty() {
         return Ok(None);
     }
-    let Some(snippet) = apply(alloc, snippet, 0, &in_literal)? else {
-        return Ok(None);
-    };
-    let in_text = edits(alloc, text_errors)?;
-    let Some(text) = apply(alloc, input, 1, &in_text)? else {
-        return Ok(None);
-    };
-    if is_source_literal(&text, style, &snippet, appended_newline) {
-        Ok(Some(Fixed { snippet, text }))
-    } else {
-        Ok(None)
-    }
+    apply(alloc, snippet, 0, &in_literal)
+}
+
+/// Returns an input with the edits of its errors, or `None` if it is then not UTF-8. Returns `Err`
+/// if an allocation fails.
+fn edited_text(alloc: Global, input: &str, mode: ParseMode) -> Result<Option<String>, AllocError>
+    requires { length input.now + 2 < 2 ^ 64 }
+    ensures some { IfOk result (λ o. IfSome o (λ s. string_bytes s
+        ≡ applied 1 (text_edits (seen_mode mode) (chars input.now)) input.now)) }
+    ensures none { IfOk result (λ o. IfNone o
+        (IsUtf8 (applied 1 (text_edits (seen_mode mode) (chars input.now)) input.now) → ⊥)) }
+{
+    let errors = errors_of(alloc, input, None, None, false, mode)?;
+    let in_text = edits(alloc, &errors)?;
+    apply(alloc, input, 1, &in_text)
 }
 
 /// Returns the source literal of an input with the edits of all errors up to the end of the input,
@@ -246,15 +235,15 @@ pub fn fix(
     if !is_source_literal(input, style, snippet, appended_newline) {
         return Ok(None);
     }
-    let errors = literal_errors(alloc, input, style, snippet, appended_newline, mode)?;
-    let text_errors = errors_of(alloc, input, None, None, false, mode)?;
-    edited(
-        alloc,
-        input,
-        style,
-        snippet,
-        appended_newline,
-        &errors,
-        &text_errors,
-    )
+    let Some(snippet) = edited_literal(alloc, input, style, snippet, appended_newline, mode)? else {
+        return Ok(None);
+    };
+    let Some(text) = edited_text(alloc, input, mode)? else {
+        return Ok(None);
+    };
+    if is_source_literal(&text, style, &snippet, appended_newline) {
+        Ok(Some(Fixed { snippet, text }))
+    } else {
+        Ok(None)
+    }
 }

@@ -17,7 +17,7 @@ use std::alloc::{AllocError, Global};
 use std::ops::Range;
 
 /// A label of a range of the source.
-#[derive(Drop)]
+#[derive(Clone, Copy)]
 pub struct Label<'a> {
     /// The sign under its columns.
     pub sign: char,
@@ -28,7 +28,7 @@ pub struct Label<'a> {
 }
 
 /// A suggestion that is drawn with its old and its new line.
-#[derive(Drop)]
+#[derive(Clone, Copy)]
 pub struct Edit<'a> {
     /// The new text.
     pub text: &'a str,
@@ -37,7 +37,7 @@ pub struct Edit<'a> {
 }
 
 /// How a picture is laid out.
-#[derive(Drop)]
+#[derive(Clone, Copy)]
 pub struct Frame<'a> {
     /// The source.
     pub picture: &'a Picture<'a>,

@@ -174,36 +174,6 @@ fn put_below(
     Ok(())
 }
 
-/// Adds the drawing of an error, from its labels and its edit.
-// requires number { label.now.extent.start.line < 2 ^ 59 }
-// requires last { label.now.extent.end.line < 2 ^ 59 }
-// requires chars { label.now.extent.start.chars < 2 ^ 59 }
-// requires column { label.now.extent.start.column < 2 ^ 61 }
-// requires second_number { IfSome second.now (λ l. l.extent.start.line < 2 ^ 59) }
-// requires second_column { IfSome second.now (λ l. l.extent.start.column < 2 ^ 61) }
-// requires edit_first { IfSome edit.now (λ e. e.extent.start.line < 2 ^ 59) }
-// requires edit_last { IfSome edit.now (λ e. e.extent.end.line < 2 ^ 59) }
-// requires cut { frame.now.cut < 2 ^ 62 }
-// ensures { OnOk result (string_bytes out.new ≡ string_bytes out.old
-//     ++ laid_out (seen_frame frame.now) (seen_error error.now) (seen_label label.now)
-//     (option_map seen_label second.now) (option_map seen_edit edit.now)) }
-#[inline]
-fn lay_out(
-    alloc: Global,
-    out: &mut String,
-    frame: &Frame<'_>,
-    error: &ParseError,
-    label: &Label<'_>,
-    second: &Option<Label<'_>>,
-    edit: &Option<Edit<'_>>,
-) -> Result<(), AllocError> {
-    put_head(out, frame, error.description.as_str(), label.extent.start)?;
-    put_labels(alloc, out, frame, label, second)?;
-    put_below(alloc, out, frame, &error.note, edit)?;
-    out.try_push_str("\n")?;
-    Ok(())
-}
-
 /// Adds the drawing of an error with this label. Returns `Err` if an allocation fails.
 // requires source { length picture.now.source.now < 2 ^ 59 }
 // requires label { seen_label label.now
@@ -225,7 +195,10 @@ fn put_drawing(
     let second = second(picture, error);
     let edit = edit_of(picture, &error.suggestion);
     let frame = frame_for(alloc, picture, label, &second, &edit)?;
-    lay_out(alloc, out, &frame, error, label, &second, &edit)?;
+    put_head(out, &frame, error.description.as_str(), label.extent.start)?;
+    put_labels(alloc, out, &frame, label, &second)?;
+    put_below(alloc, out, &frame, &error.note, &edit)?;
+    out.try_push_str("\n")?;
     Ok(())
 }
 

@@ -13,6 +13,7 @@ use crate::shim::prelude::*;
 use std::ops::Range;
 
 /// An edit of a source: the bytes in a range are replaced by a text.
+#[derive(Clone, Debug, Eq, PartialEq)]
 pub struct Edit<'e> {
     /// The byte range of the source that is replaced. It is empty where text is only inserted.
     pub span: Range<usize>,
@@ -21,6 +22,7 @@ pub struct Edit<'e> {
 }
 
 /// A literal with edits applied.
+#[derive(Debug, Eq, PartialEq)]
 pub struct Fixed {
     /// The literal, as it is to be in the source.
     pub snippet: String,
@@ -155,60 +157,48 @@ pub fn errors_of(
     Ok(parser.take_errors())
 }
 
-/// Returns the errors of all calls of a parser over an input with this snippet, in its order.
-/// Returns `Err` if an allocation fails.
+/// Returns the literal of an input with the edits of its errors, or `None` if it has none or is
+/// then not UTF-8. Returns `Err` if an allocation fails.
 // requires { hashes style + length input.now + 2 < 2 ^ 64 }
-// ensures { IfOk result (λ v. map seen_error v.items
-//     ≡ all_errors (first_state (seen_mode mode) (chars input.now) style
-//     (Some (chars snippet.now)) appended_newline)) }
+// ensures edits { IfOk result (λ o. IfSome o (λ s. literal_edits (seen_mode mode)
+//     (chars input.now) style (chars snippet.now) appended_newline ≢ [])) }
+// ensures some { IfOk result (λ o. IfSome o (λ s. string_bytes s ≡ applied 0 (literal_edits
+//     (seen_mode mode) (chars input.now) style (chars snippet.now) appended_newline)
+//     snippet.now)) }
+// ensures none { IfOk result (λ o. IfNone o (literal_edits (seen_mode mode) (chars input.now)
+//     style (chars snippet.now) appended_newline ≢ [] → IsUtf8 (applied 0 (literal_edits
+//     (seen_mode mode) (chars input.now) style (chars snippet.now) appended_newline)
+//     snippet.now) → ⊥)) }
 #[inline]
-fn literal_errors(
+fn edited_literal(
     alloc: Global,
     input: &str,
     style: Option<usize>,
     snippet: &str,
     appended_newline: bool,
     mode: ParseMode,
-) -> Result<Vec<ParseError>, AllocError> {
-    let snippet = String::made_from(alloc, snippet)?;
-    errors_of(alloc, input, style, Some(snippet), appended_newline, mode)
-}
-
-/// Returns a literal and its text, each with the edits of its errors, or `None` if the literal has
-/// none, or if they are then not a source literal and its text. Returns `Err` if an allocation
-/// fails.
-// ensures some { IfOk result (λ o. IfSome o (λ f. IsEdited input.now style snippet.now
-//     appended_newline (edits (map seen_error errors.now))
-//     (edits (map seen_error text_errors.now)) (seen_fixed f))) }
-// ensures none { IfOk result (λ o. IfNone o ((f : FixedLiteral) → IsEdited input.now style
-//     snippet.now appended_newline (edits (map seen_error errors.now))
-//     (edits (map seen_error text_errors.now)) f → ⊥)) }
-#[inline]
-fn edited(
-    alloc: Global,
-    input: &str,
-    style: Option<usize>,
-    snippet: &str,
-    appended_newline: bool,
-    errors: &[ParseError],
-    text_errors: &[ParseError],
-) -> Result<Option<Fixed>, AllocError> {
-    let in_literal = edits(alloc, errors)?;
+) -> Result<Option<String>, AllocError> {
+    let owned = String::made_from(alloc, snippet)?;
+    let errors = errors_of(alloc, input, style, Some(owned), appended_newline, mode)?;
+    let in_literal = edits(alloc, &errors)?;
     if in_literal.as_slice().is_empty() {
         return Ok(None);
     }
-    let Some(snippet) = apply(alloc, snippet, 0, &in_literal)? else {
-        return Ok(None);
-    };
-    let in_text = edits(alloc, text_errors)?;
-    let Some(text) = apply(alloc, input, 1, &in_text)? else {
-        return Ok(None);
-    };
-    if is_source_literal(&text, style, &snippet, appended_newline) {
-        Ok(Some(Fixed { snippet, text }))
-    } else {
-        Ok(None)
-    }
+    apply(alloc, snippet, 0, &in_literal)
+}
+
+/// Returns an input with the edits of its errors, or `None` if it is then not UTF-8. Returns `Err`
+/// if an allocation fails.
+// requires { length input.now + 2 < 2 ^ 64 }
+// ensures some { IfOk result (λ o. IfSome o (λ s. string_bytes s
+//     ≡ applied 1 (text_edits (seen_mode mode) (chars input.now)) input.now)) }
+// ensures none { IfOk result (λ o. IfNone o
+//     (IsUtf8 (applied 1 (text_edits (seen_mode mode) (chars input.now)) input.now) → ⊥)) }
+#[inline]
+fn edited_text(alloc: Global, input: &str, mode: ParseMode) -> Result<Option<String>, AllocError> {
+    let errors = errors_of(alloc, input, None, None, false, mode)?;
+    let in_text = edits(alloc, &errors)?;
+    apply(alloc, input, 1, &in_text)
 }
 
 /// Returns the source literal of an input with the edits of all errors up to the end of the input,
@@ -238,15 +228,16 @@ pub fn fix(
     if !is_source_literal(input, style, snippet, appended_newline) {
         return Ok(None);
     }
-    let errors = literal_errors(alloc, input, style, snippet, appended_newline, mode)?;
-    let text_errors = errors_of(alloc, input, None, None, false, mode)?;
-    edited(
-        alloc,
-        input,
-        style,
-        snippet,
-        appended_newline,
-        &errors,
-        &text_errors,
-    )
+    let Some(snippet) = edited_literal(alloc, input, style, snippet, appended_newline, mode)?
+    else {
+        return Ok(None);
+    };
+    let Some(text) = edited_text(alloc, input, mode)? else {
+        return Ok(None);
+    };
+    if is_source_literal(&text, style, &snippet, appended_newline) {
+        Ok(Some(Fixed { snippet, text }))
+    } else {
+        Ok(None)
+    }
 }

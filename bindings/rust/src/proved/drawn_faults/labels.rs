@@ -12,6 +12,7 @@ use crate::shim::alloc::{AllocError, Global};
 use std::ops::Range;
 
 /// A label of a range of the source.
+#[derive(Clone, Copy)]
 pub struct Label<'a> {
     /// The sign under its columns.
     pub sign: char,
@@ -22,6 +23,7 @@ pub struct Label<'a> {
 }
 
 /// A suggestion that is drawn with its old and its new line.
+#[derive(Clone, Copy)]
 pub struct Edit<'a> {
     /// The new text.
     pub text: &'a str,
@@ -30,6 +32,7 @@ pub struct Edit<'a> {
 }
 
 /// How a picture is laid out.
+#[derive(Clone, Copy)]
 pub struct Frame<'a> {
     /// The source.
     pub picture: &'a Picture<'a>,

@@ -10,6 +10,7 @@ use crate::shim::alloc::AllocError;
 use crate::shim::prelude::*;
 
 /// A label in one line.
+#[derive(Clone, Copy)]
 pub struct Mark<'a> {
     /// The number of the line, counted from 0.
     pub line: usize,
