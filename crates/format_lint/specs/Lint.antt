@@ -5,7 +5,7 @@ use Rattle.std.specs.Prelude.{unwrap_or, Result, Ok, Err, chars, codes, decimal,
 use Rattle.rustc_parse_format.specs.Types.{Mode}
 use Rattle.rustc_parse_format.specs.Faults.{Message}
 use Rattle.rustc_parse_format.specs.World.{Place}
-use Rattle.rustc_parse_format.specs.State.{first_state}
+use Rattle.rustc_parse_format.specs.State.{State, first_state}
 use Rattle.piece_listing.specs.declared.verdict.RunFault.{RunFault}
 use Rattle.piece_listing.specs.declared.verdict.RunFault.TheVariants.{Words, Read, TooLong, NotText}
 use Rattle.piece_listing.specs.declared.verdict.RunFault.TheVariants.{NotLiteral, Memory, Write}
@@ -51,10 +51,14 @@ abbrev pub IsSourceIn : Bool → List ℕ → Source → Type 0
 IsSourceIn true input s = IsLiteralIn input s
 IsSourceIn false input s = s ≡ record { text = input; style = None; literal = None }
 
+-- A parser at the start of the source.
+abbrev pub start : Mode → Source → State
+start mode s =
+    first_state mode (chars s.text) s.style (option_map (λ l. chars l) s.literal) false
+
 -- The errors of all calls of a parser over the source, up to its end.
 abbrev pub errors : Mode → Source → List (Message Place)
-errors mode s = all_errors (first_state mode (chars s.text) s.style
-    (option_map (λ l. chars l) s.literal) false)
+errors mode s = all_errors (start mode s)
 
 -- What faults are drawn in: the literal, or the text. Without a literal a byte offset is one more
 -- than in the text, so that is shown behind a line end, and its lines count from 1.

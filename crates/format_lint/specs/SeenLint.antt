@@ -2,7 +2,7 @@
 use Rattle.std.specs.Prelude.{option_map}
 use Rattle.rustc_parse_format.specs.Seen.{seen_mode}
 use Rattle.format_lint.specs.declared.task.Task.{Task as DeclaredTask}
-use Rattle.format_lint.specs.declared.shown.Source.{Source as DeclaredSource}
+use Rattle.format_lint.specs.declared.faults.Source.{Source as DeclaredSource}
 use Rattle.format_lint.specs.Lint.{Source, Task}
 
 -- A task as a contract sees it.

@@ -2,6 +2,7 @@
 //! and exit status for each of its results (`verdict`).
 #![tactic(auto)]
 
+mod faults;
 pub mod run;
 mod shown;
 pub mod task;

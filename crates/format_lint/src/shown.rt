@@ -1,7 +1,7 @@
 //! What is shown of an input in UTF-8.
 
 ghost use Rattle.std.specs.Prelude.{◌≡◌, ◌≢◌, ◌≤◌, ◌++◌, List, [], IfErr, IfOk, IsErrOf, OnOk};
-ghost use Rattle.std.specs.Prelude.{flat_map, length, map, nat_lt, string_bytes};
+ghost use Rattle.std.specs.Prelude.{flat_map, map, string_bytes};
 ghost use Rattle.rustc_parse_format.specs.Seen.{seen_error, seen_mode};
 ghost use Rattle.rustc_parse_format.specs.World.{hashes};
 ghost use Rattle.piece_listing.specs.declared.verdict.RunFault.TheVariants.{Words, TooLong};
@@ -11,20 +11,18 @@ ghost use Rattle.drawn_faults.specs.Drawing.{drawing};
 ghost use Rattle.drawn_faults.specs.Places.{seen_picture};
 ghost use Rattle.format_lint.specs.Lint.{IsLiteralIn, IsMended, IsShown, IsSourceIn};
 ghost use Rattle.format_lint.specs.Lint.{Source as SourceValue};
-ghost use Rattle.format_lint.specs.Lint.{drawings, drawn, errors, kept, lexed, more, picture};
+ghost use Rattle.format_lint.specs.Lint.{drawn, kept, lexed, more, picture};
 ghost use Rattle.format_lint.specs.SeenLint.{seen_source, seen_task};
 
+use super::faults::{Faults, Source, faults_in};
 use super::task::{Show, Task};
 use super::tokens::put_tokens;
-use drawn_faults::{Picture, draw, errors_of, fix};
+use drawn_faults::{Picture, draw, fix};
 use format_tokens::tokens;
 use piece_listing::literal::{literal_text, without_newline};
 use piece_listing::verdict::RunFault;
 use rustc_parse_format::{ParseError, ParseMode};
 use std::alloc::{AllocError, Global};
-
-/// The most faults that are drawn.
-const MOST_DRAWN: usize = 10;
 
 /// Appends the drawings of errors to a text. Returns `Err` if an allocation fails.
 fn put_each(
@@ -56,61 +54,34 @@ fn put_more(alloc: Global, out: &mut String, count: usize) -> Result<(), AllocEr
     Ok(())
 }
 
-/// Appends the drawings of the first errors to a text, and says how many others there are. Returns
-/// whether there are any, and `Err` if an allocation fails.
+/// Appends the drawings of faults to a text, and says how many others there are. Returns `Err` if
+/// an allocation fails.
 fn put_drawings(
     alloc: Global,
     out: &mut String,
     picture: &Picture<'_>,
-    errors: &[ParseError],
-) -> Result<bool, AllocError>
-    ensures drawn { OnOk result (string_bytes out.new ≡ string_bytes out.old
-        ++ drawings (seen_picture picture.now) (map seen_error errors.now)) }
-    ensures told { IfOk result (λ told. told ≡ nat_lt 0 (length (map seen_error errors.now))) }
+    faults: &Faults,
+) -> Result<(), AllocError>
+    ensures { OnOk result (string_bytes out.new ≡ string_bytes out.old
+        ++ (flat_map (drawing (seen_picture picture.now)) (map seen_error faults.now.first.items)
+        ++ more faults.now.others)) }
 {
-    let drawn = errors.len().min(MOST_DRAWN);
-    put_each(alloc, out, picture, &errors[..drawn])?;
-    put_more(alloc, out, errors.len() - drawn)?;
-    Ok(errors.len() > 0)
+    put_each(alloc, out, picture, faults.first.as_slice())?;
+    put_more(alloc, out, faults.others)?;
+    Ok(())
 }
 
-/// A text, with the style of the literal that it is in and the literal as it is written.
-#[derive(Copy, Clone)]
-pub struct Source<'a> {
-    pub text: &'a str,
-    pub style: Option<usize>,
-    pub literal: Option<&'a str>,
-}
-
-/// Returns the errors of all calls of a parser over a source. Returns `Err` if an allocation fails.
-fn errors_in(
-    alloc: Global,
-    mode: ParseMode,
-    source: Source<'_>,
-) -> Result<Vec<ParseError>, AllocError>
-    requires { hashes source.style ≤ limit }
-    ensures { IfOk result (λ v. map seen_error v.items
-        ≡ errors (seen_mode mode) (seen_source source.entry)) }
-{
-    let snippet = match source.literal {
-        Some(literal) => Some(String::from_str(alloc, literal)?),
-        None => None,
-    };
-    errors_of(alloc, source.text, source.style, snippet, false, mode)
-}
-
-/// Appends the drawings of errors in a source to a text. Returns whether there are any, and `Err`
-/// if an allocation fails.
-fn put_errors(
+/// Appends the drawings of faults of a source to a text. Returns `Err` if an allocation fails.
+fn put_faults(
     alloc: Global,
     out: &mut String,
     path: &str,
     source: Source<'_>,
-    errors: &[ParseError],
-) -> Result<bool, AllocError>
-    ensures drawn { OnOk result (string_bytes out.new ≡ string_bytes out.old
-        ++ drawings (picture path.now (seen_source source.entry)) (map seen_error errors.now)) }
-    ensures told { IfOk result (λ told. told ≡ nat_lt 0 (length (map seen_error errors.now))) }
+    faults: &Faults,
+) -> Result<(), AllocError>
+    ensures { OnOk result (string_bytes out.new ≡ string_bytes out.old
+        ++ (flat_map (drawing (picture path.now (seen_source source.entry)))
+        (map seen_error faults.now.first.items) ++ more faults.now.others)) }
 {
     if let Some(literal) = source.literal {
         let picture = Picture {
@@ -119,7 +90,7 @@ fn put_errors(
             line_start: 1,
             literal_start: 0,
         };
-        return put_drawings(alloc, out, &picture, errors);
+        return put_drawings(alloc, out, &picture, faults);
     }
     let text = source.text;
     let shown = format!(in alloc; "\n{text}")?;
@@ -129,7 +100,7 @@ fn put_errors(
         line_start: 0,
         literal_start: 0,
     };
-    put_drawings(alloc, out, &picture, errors)
+    put_drawings(alloc, out, &picture, faults)
 }
 
 /// Appends the drawings of the faults of a source to a text. Returns whether it has faults, and
@@ -147,8 +118,9 @@ fn put_drawn(
     ensures told { IfOk result (λ told. told
         ≡ (drawn (seen_mode mode) path.now (seen_source source.entry)).1) }
 {
-    let errors = errors_in(alloc, mode, source)?;
-    Ok(put_errors(alloc, out, path, source, errors.as_slice())?)
+    let faults = faults_in(alloc, mode, source)?;
+    put_faults(alloc, out, path, source, &faults)?;
+    Ok(faults.first.len() > 0)
 }
 
 /// Appends a source as it is written, a line end, and the drawings of its faults to a text. Returns

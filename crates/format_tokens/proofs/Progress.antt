@@ -35,9 +35,13 @@ pub record IsSoFar (mode : Mode) (input : Text) (x : List Sized) (rest : Text) (
   pub tokens : x ++ map sized (tokens_within turns mode s.next s.rest)
       ≡ map sized (tokens_of mode input)
 
+-- A parser without its errors.
+abbrev pub forgotten : State → State
+forgotten s = record s { errors = [] }
+
 -- How many bytes are left after a call, by the position of the parser after it.
 pub left_after : (mode : Mode) (input : Text) (x : List Sized) (rest : Text) (s new : State)
-    (m w p : ℕ) → IsSoFar mode input x rest s → new ≡ after s (next_call s)
+    (m w p : ℕ) → IsSoFar mode input x rest s → new ≡ forgotten (after s (next_call s))
     → m ≡ w - p → w ≡ byte_length input → p ≡ byte_length new.input - byte_length new.rest
     → m ≡ byte_length (call mode s.next rest).rest
 left_after mode input x rest s new m w p h e i j k =
@@ -85,7 +89,7 @@ joins : (x y a b w : List Sized) → y ≡ x ++ a → x ++ (a ++ b) ≡ w → y 
 joins x y a b w e f = ap (λ z. z ++ b) e ∙ (append_assoc x a b ∙ f)
 
 pub so_far-next : (mode : Mode) (input : Text) (x y : List Sized) (rest : Text) (t : List ℕ)
-    (s new : State) → IsSoFar mode input x rest s → new ≡ after s (next_call s) → rest ≢ []
+    (s new : State) → IsSoFar mode input x rest s → new ≡ forgotten (after s (next_call s)) → rest ≢ []
     → Took (call_tokens mode rest (call mode s.next rest).rest) (call mode s.next rest).rest x y t
     → IsSoFar mode input y (chars t) new
 so_far-next mode input x y rest t s new h e some took =
@@ -134,7 +138,7 @@ piece_so_far mode input x rest s h =
 
 -- Each call leaves fewer characters.
 pub smaller : (mode : Mode) (input : Text) (x : List Sized) (rest : Text) (s new : State)
-    → IsSoFar mode input x rest s → new ≡ after s (next_call s) → rest ≢ []
+    → IsSoFar mode input x rest s → new ≡ forgotten (after s (next_call s)) → rest ≢ []
     → length new.rest < length s.rest
 smaller mode input x rest s new h e some =
     rw e (call-lt s.mode s.next s.rest (λ n. some (h.rest_is ∙ n)))

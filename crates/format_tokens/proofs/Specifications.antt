@@ -23,26 +23,7 @@ pub alternate-width : (b : Bool) → from_bool b ≡ byte_length (alternate_part
 alternate-width true = refl
 alternate-width false = refl
 
--- Without a colon there is no specification.
-pub no_colon : (mode : Mode) (t r : Text) (k : SpecText) → begins_with 58 t ≡ false
-    → IsPart t (spec_part mode k) r → k ≡ Default
-no_colon mode t r Default e h = refl
-no_colon Format t r (Formatting p) e h = absurd (false≢true (sym e ∙ ap (begins_with 58) h.whole))
-no_colon InlineAsm t r (Modifier w) e h = absurd (false≢true (sym e ∙ ap (begins_with 58) h.whole))
-no_colon Diagnostic t r (DiagnosticText u) e h =
-    absurd (false≢true (sym e ∙ ap (begins_with 58) h.whole))
-no_colon DiagnosticNamed t r (DiagnosticText u) e h =
-    absurd (false≢true (sym e ∙ ap (begins_with 58) h.whole))
-no_colon Format t r (Modifier w) e h = absurd (false≢true h.formed)
-no_colon Format t r (DiagnosticText u) e h = absurd (false≢true h.formed)
-no_colon InlineAsm t r (Formatting p) e h = absurd (false≢true h.formed)
-no_colon InlineAsm t r (DiagnosticText u) e h = absurd (false≢true h.formed)
-no_colon Diagnostic t r (Formatting p) e h = absurd (false≢true h.formed)
-no_colon Diagnostic t r (Modifier w) e h = absurd (false≢true h.formed)
-no_colon DiagnosticNamed t r (Formatting p) e h = absurd (false≢true h.formed)
-no_colon DiagnosticNamed t r (Modifier w) e h = absurd (false≢true h.formed)
-
--- With one there is.
+-- With a colon there is a specification.
 default_starts : (mode : Mode) (t r : Text) {A : Type 0} → begins_with 58 t ≡ true
     → IsPart t (spec_part mode Default) r → A
 default_starts mode t r e h = absurd (false≢true (sym (not-true (begins_with 58 r) h.ends)

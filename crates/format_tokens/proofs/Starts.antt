@@ -27,9 +27,6 @@ pub record IsPlainSoFar (at : ℕ) (text : List ℕ) (starts : List ℕ) (next :
   pub valid : IsUtf8 rest
   pub room : next + length rest ≡ at + length text
 
-pub plain-start : (at : ℕ) (text : List ℕ) → IsUtf8 text → IsPlainSoFar at text [] at text
-plain-start at text v = record { starts_are = refl; valid = v; room = refl }
-
 width-past : (s r : List ℕ) (c : ℕ) → s ≡ encode_utf8 c ++ r → length s ≡ len_utf8 c + length r
 width-past s r c e = ap length e ∙ (length-append (encode_utf8 c) r
     ∙ ap (λ k. k + length r) (length-encode c))
@@ -46,11 +43,6 @@ plain-next at text starts more next c s r h e m =
       valid = IsUtf8-past_char s r c h.valid e;
       room = omega (arith, h.room, width-past s r c e);
     }
-
-pub plain-room : (at : ℕ) (text starts : List ℕ) (next c : ℕ) (s r : List ℕ)
-    → IsPlainSoFar at text starts next s → s ≡ encode_utf8 c ++ r
-    → next + len_utf8 c ≤ at + length text
-plain-room at text starts next c s r h e = omega (arith, h.room, width-past s r c e)
 
 pub plain-end : (at : ℕ) (text starts all : List ℕ) (next end : ℕ) (s : List ℕ)
     → IsPlainSoFar at text starts next s → length s ≡ 0 → all ≡ starts ++ end ∷ []

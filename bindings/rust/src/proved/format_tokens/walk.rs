@@ -144,6 +144,8 @@ pub fn labels(
     let mut rest = input;
     while !rest.is_empty() {
         let (taken, _) = parser.next_into(&mut argument)?;
+        // (the errors are not needed, and are freed while they are in the caches)
+        parser.take_errors();
         let left = width_of(input).saturating_sub(parser.position());
         rest = call(&mut labels, mode, taken, &argument, left, rest)?;
     }

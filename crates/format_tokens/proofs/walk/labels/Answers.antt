@@ -5,7 +5,7 @@ use Rattle.rustc_parse_format.specs.Seen.{seen_mode}
 use Rattle.rustc_parse_format.specs.State.{State}
 use Rattle.rustc_parse_format.specs.World.{piece_in}
 use Rattle.format_tokens.proofs.Progress.{left_after, piece_so_far, so_far-end, so_far-next}
-use Rattle.format_tokens.proofs.Progress.{nil_chars, smaller, so_far-start, some_chars}
+use Rattle.format_tokens.proofs.Progress.{forgotten, nil_chars, smaller, so_far-start, some_chars}
 use Rattle.format_tokens.proofs.walk.labels.Goals as goal
 
 pub loop-argument-init : goal.loop-argument-init
@@ -22,12 +22,13 @@ pub loop-argument-smaller : goal.loop-argument-smaller
 loop-argument-smaller c =
     let some = some_chars _ c.loop-argument.invariant.0
     (sym c.is_empty.ensures ∙ c.loop-argument-test.true) in
-    smaller _ _ _ _ _ _ c.loop-argument.invariant.1 c.in_ok-taken.ensures.state some
+    smaller _ _ _ _ _ _ c.loop-argument.invariant.1
+    (c.take_errors.ensures.state ∙ ap forgotten c.in_ok-taken.ensures.state) some
 
 pub loop-argument-preserved : goal.loop-argument-preserved
 loop-argument-preserved c =
     let h = c.loop-argument.invariant.1 in
-    let new = c.in_ok-taken.ensures.state in
+    let new = c.take_errors.ensures.state ∙ ap forgotten c.in_ok-taken.ensures.state in
     let some = some_chars _ c.loop-argument.invariant.0
     (sym c.is_empty.ensures ∙ c.loop-argument-test.true) in
     let left = left_after _ _ _ _ _ _ _ _ _ h new c.saturating_sub-left.ensures
