@@ -5,7 +5,7 @@ use Rattle.std.proofs.Common.{append-nil, append_assoc, length-append, min, nat_
 use Rattle.std.specs.List.{filter}
 use Rattle.std.proofs.lemmas.Bool.{false≢true}
 use Rattle.std.proofs.lemmas.List.{drop-map, drop_at, length-map, length-reverse, length-take}
-use Rattle.std.proofs.lemmas.List.{length-take-le, map-append, take-append-drop, take-map, take_all}
+use Rattle.std.proofs.lemmas.List.{length-take-le, map-append, take-map, take_all}
 use Rattle.std.proofs.lemmas.List.{take_at}
 use Rattle.rustc_parse_format.specs.Characters.{is_nil}
 use Rattle.rustc_parse_format.specs.Faults.{Fault, Message, add_errors, is_front, map_fault, message}

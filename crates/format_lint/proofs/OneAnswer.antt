@@ -1,12 +1,12 @@
 -- An input has exactly one answer.
 use Rattle.std.proofs.Common.{◌≡◌, ◌<◌, ℕ, Bool, true, false, List, Option, None, Some, refl, sym}
-use Rattle.std.proofs.Common.{ap, ◌∙◌, ◌⊎◌, inl, inr, subst, arith, Result, Ok, Err, chars, length}
+use Rattle.std.proofs.Common.{ap, ◌∙◌, inl, inr, subst, arith, Result, Ok, Err, chars, length}
 use Rattle.std.proofs.Common.{option_map, IsUtf8}
 use Rattle.std.proofs.Math.Utf8.{encodes}
 use Rattle.std.proofs.lemmas.Option.{same_Some}
 use Rattle.std.proofs.lemmas.Str.{encodes-chars}
 use Rattle.rustc_parse_format.specs.Types.{Mode}
-use Rattle.drawn_faults.specs.Fixing.{Fixed, IsFixed}
+use Rattle.drawn_faults.specs.Fixing.{Fixed}
 use Rattle.piece_listing.specs.declared.verdict.RunFault.{RunFault}
 use Rattle.piece_listing.specs.declared.verdict.RunFault.TheVariants.{Words, Read, TooLong, NotText}
 use Rattle.piece_listing.specs.declared.verdict.RunFault.TheVariants.{NotLiteral, Memory, Write}

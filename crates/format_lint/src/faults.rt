@@ -94,7 +94,8 @@ fn blank_argument<'a>() -> Argument<'a> {
 }
 
 /// Returns the errors of all calls of a parser without errors that are drawn, and how many others
-/// there are, which are not kept. Returns `Err` if an allocation fails.
+/// there are, which are not kept. Returns `Err` if an allocation fails, or if there are more errors
+/// than a `usize` counts.
 fn faults_of<'a>(alloc: Global, parser: &mut Parser<'a>) -> Result<Faults, AllocError>
     requires { parser.old.errors ≡ [] }
     ensures first { IfOk result (λ f. map seen_error f.first.items

@@ -1,7 +1,6 @@
 use Rattle.std.proofs.Common.{◌≡◌, ◌≤◌, ◌∙◌, ap, sym, subst, [], length, take, map, arith}
-use Rattle.std.specs.List.{filter}
 use Rattle.std.proofs.lemmas.List.{length-map}
-use Rattle.rustc_parse_format.specs.Faults.{add_errors, is_front, map_fault}
+use Rattle.rustc_parse_format.specs.Faults.{add_errors, map_fault}
 use Rattle.rustc_parse_format.specs.Seen.{seen_error}
 use Rattle.rustc_parse_format.specs.State.{State, next_call}
 use Rattle.rustc_parse_format.specs.World.{faults_in, place_of}

@@ -1,5 +1,4 @@
-use Rattle.std.proofs.Common.{◌≡◌, false, true, ◌+◌, arith}
-use Rattle.std.proofs.lemmas.Grind.{common_steps}
+use Rattle.std.proofs.Common.{◌≡◌, false, true}
 use Rattle.rustc_parse_format.specs.Characters.{is_nil}
 use Rattle.format_lint.proofs.Firsts.{first-end, first-next, first-shorter}
 use Rattle.format_lint.proofs.faults.faults_of.Goals as goal
