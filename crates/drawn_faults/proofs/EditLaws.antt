@@ -1,6 +1,7 @@
 -- Edits that are made are in order, and applying them is a loop.
 use Rattle.std.proofs.Common.{◌≡◌, ℕ, suc, ◌+◌, ◌-◌, ◌<◌, ◌++◌, List, [], ◌∷◌, length, map, take}
-use Rattle.std.proofs.Common.{Option, None, Result, Ok, Err, IfOk, IfSome, drop, get_or, ◌∙◌, ap, sym, subst, add-one, append_assoc, Some, true}
+use Rattle.std.proofs.Common.{Option, None, Result, Ok, Err, IfOk, IfSome, drop, get_or, ◌∙◌}
+use Rattle.std.proofs.Common.{Some, add-one, ap, append_assoc, subst, sym, true}
 use Rattle.std.proofs.Math.Seq.{drop-cons}
 use Rattle.std.proofs.lemmas.List.{get_or-map, length-map}
 use Rattle.std.proofs.lemmas.Bool.{cond_both, cond-true, and_parts}

@@ -1,8 +1,8 @@
 //! What the suggestions of errors make of a literal: the edits that a machine may apply, and the
 //! literal with them applied.
 
-ghost use Rattle.std.specs.Prelude.{◌≡◌, ◌≢◌, ◌+◌, ◌<◌, ◌^◌, [], IfNone, IfOk, IfSome, IsOk, IsUtf8};
-ghost use Rattle.std.specs.Prelude.{OnOk, Some, chars, drop, false, length, map, option_map};
+ghost use Rattle.std.specs.Prelude.{◌≡◌, ◌≢◌, ◌+◌, ◌<◌, ◌^◌, [], IfNone, IfOk, IfSome, IsOk};
+ghost use Rattle.std.specs.Prelude.{IsUtf8, OnOk, Some, chars, drop, false, length, map, option_map};
 ghost use Rattle.std.specs.Prelude.{string_bytes, take};
 ghost use Rattle.rustc_parse_format.specs.Seen.{seen_error, seen_mode, seen_snippet};
 ghost use Rattle.rustc_parse_format.specs.Seen.{seen_suggestion};

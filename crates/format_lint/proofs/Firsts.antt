@@ -8,7 +8,8 @@ use Rattle.std.proofs.lemmas.List.{drop-map, drop_at, length-map, length-reverse
 use Rattle.std.proofs.lemmas.List.{length-take-le, map-append, take-map, take_all}
 use Rattle.std.proofs.lemmas.List.{take_at}
 use Rattle.rustc_parse_format.specs.Characters.{is_nil}
-use Rattle.rustc_parse_format.specs.Faults.{Fault, Message, add_errors, is_front, map_fault, message}
+use Rattle.rustc_parse_format.specs.Faults.{Fault, Message, add_errors, is_front, map_fault}
+use Rattle.rustc_parse_format.specs.Faults.{message}
 use Rattle.rustc_parse_format.specs.State.{State, after, next_call}
 use Rattle.rustc_parse_format.specs.World.{Place, faults_in, place_of}
 use Rattle.rustc_parse_format.proofs.Readers.Errors.{add_errors-ends, add_errors-kept}

@@ -89,7 +89,8 @@ joins : (x y a b w : List Sized) → y ≡ x ++ a → x ++ (a ++ b) ≡ w → y 
 joins x y a b w e f = ap (λ z. z ++ b) e ∙ (append_assoc x a b ∙ f)
 
 pub so_far-next : (mode : Mode) (input : Text) (x y : List Sized) (rest : Text) (t : List ℕ)
-    (s new : State) → IsSoFar mode input x rest s → new ≡ forgotten (after s (next_call s)) → rest ≢ []
+    (s new : State) → IsSoFar mode input x rest s → new ≡ forgotten (after s (next_call s))
+    → rest ≢ []
     → Took (call_tokens mode rest (call mode s.next rest).rest) (call mode s.next rest).rest x y t
     → IsSoFar mode input y (chars t) new
 so_far-next mode input x y rest t s new h e some took =
