@@ -2,8 +2,8 @@
 //! literal with them applied.
 
 ghost use Rattle.std.specs.Prelude.{◌≡◌, ◌≢◌, ◌+◌, ◌<◌, ◌^◌, [], IfNone, IfOk, IfSome, IsOk};
-ghost use Rattle.std.specs.Prelude.{IsUtf8, OnOk, Some, chars, drop, false, length, map, option_map};
-ghost use Rattle.std.specs.Prelude.{string_bytes, take};
+ghost use Rattle.std.specs.Prelude.{IsUtf8, OnOk, Some, chars, drop, false, length, map};
+ghost use Rattle.std.specs.Prelude.{option_map, string_bytes, take};
 ghost use Rattle.rustc_parse_format.specs.Seen.{seen_error, seen_mode, seen_snippet};
 ghost use Rattle.rustc_parse_format.specs.Seen.{seen_suggestion};
 ghost use Rattle.rustc_parse_format.specs.Characters.{is_nil};
