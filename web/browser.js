@@ -92,7 +92,7 @@ class Browser {
   close() {
     return new Promise((done) => {
       this.process.on('exit', () => {
-        fs.rmSync(this.folder, { recursive: true, force: true });
+        fs.rmSync(this.folder, { recursive: true, force: true, maxRetries: 9, retryDelay: 100 });
         done();
       });
       this.process.kill();

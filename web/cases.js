@@ -4,8 +4,6 @@
 const fs = require('fs');
 const path = require('path');
 
-const { quoted } = require('./reader.js');
-
 const REPLAY = path.join(__dirname, '../replay');
 const NAMED = { n: 10, t: 9, r: 13, '\\': 92, s: 32 };
 
@@ -39,44 +37,66 @@ function cases() {
   return found;
 }
 
-const span = (part) => (part.span ? `${part.span[0]}..${part.span[1]}` : '');
-const place = (part) => (part.span ? `@${span(part)}` : '');
-
-/** How a listing writes a part of a placeholder. */
-function partLine(part, parts) {
-  const [name, kind] = part.part.split(' ');
-  const named = ['implicit', 'index', 'name'].includes(name);
-  if (named) return `arg ${name} ${part.value} ${span(part)}`;
-  if (kind === 'of') return '';
-  if (kind === 'implied') return ` ${name}=implied${place(part)}`;
-  if (kind === 'name') {
-    const of = parts.find((other) => other.part === `${name} of`);
-    return ` ${name}=name:${part.value}${place(of)}${place(part)}`;
-  }
-  if (kind) return ` ${name}=${kind}:${part.value}${place(part)}`;
-  if (name === 'alternate') return ' alt';
-  if (name === 'zero') return ' zero';
-  const value = name === 'fill' || name === 'type' ? quoted(part.value) : part.value;
-  return ` ${name === 'type' ? 'ty' : name}=${value}${place(part)}`;
+/** A text in quotes, as a listing writes it. */
+function quoted(text) {
+  const names = { '\0': '\\0', '\t': '\\t', '\r': '\\r', '\n': '\\n' };
+  const written = (c) => {
+    if ('\'"\\'.includes(c)) return '\\' + c;
+    return names[c] || `\\u{${c.codePointAt(0).toString(16)}}`;
+  };
+  return `"${text.replace(/['"\\\x00-\x1f\x7f]/g, written)}"`;
 }
 
-/** The listing of what is read, as the program formatread writes it. */
-function listing(answer) {
-  if (!answer) return null;
-  const lines = [];
-  for (const piece of answer.pieces.first) {
-    if (piece.text !== undefined) lines.push(`lit ${quoted(piece.text)}`);
-    else if (piece.parts) lines.push(piece.parts.map((it, _, all) => partLine(it, all)).join(''));
+/** What a listing calls the parts of a placeholder, and the widths and precisions. */
+const NAMES = {
+  'next argument': 'implicit', 'argument number': 'index', 'argument name': 'name',
+  fill: 'fill', alignment: 'align', sign: 'sign', 'alternate form': 'alt', 'zero padding': 'zero',
+  'hex digits': 'hex', type: 'ty',
+};
+const COUNTS = {
+  '': 'is', ' from': 'name', ' from argument': 'param', ' from next argument': 'star',
+};
+
+/** How a listing writes a part of a placeholder, of which `next` is the one behind it. */
+function partLine([name, value, ...span], [, , ...named]) {
+  const [range, place] = [span, named].map((it) => it.join('..'));
+  const at = range && `@${range}`;
+  const [, count, from] = /^(width|precision)(.*)$/.exec(name) || [];
+  if (count) {
+    if (!from && !value) return ` ${count}=implied${at}`;
+    return ` ${count}=${COUNTS[from]}:${value}${from === ' from' ? `@${place}` : ''}${at}`;
   }
-  for (const fault of answer.faults.first) lines.push(`fault ${span(fault)} ${fault.text}`);
-  const { report } = answer;
-  if (report) {
-    for (const n of report.missing_index.first) lines.push(`missing index ${n}`);
-    for (const name of report.missing_name.first) lines.push(`missing name ${quoted(name)}`);
-    for (const n of report.unused_index.first) lines.push(`unused index ${n}`);
-    for (const name of report.unused_name.first) lines.push(`unused name ${quoted(name)}`);
+  const word = NAMES[name];
+  if (['implicit', 'index', 'name'].includes(word)) return `arg ${word} ${value} ${range}`;
+  if (['alt', 'zero'].includes(word)) return ` ${word}`;
+  return ` ${word}=${['fill', 'ty'].includes(word) ? quoted(value) : value}${at}`;
+}
+
+/** How a listing writes a piece: the parts behind its place. One that is not there has neither a
+ * value nor a range. */
+function pieceLine([, ...told]) {
+  const parts = told.filter(([, value, start]) => value || start !== undefined);
+  const [[name, value]] = parts;
+  if (name === 'closes nothing') return [];
+  if (name === 'text') return [`lit ${quoted(value)}`];
+  const named = (part) => (part && part[0] === 'its name' ? part : []);
+  const lines = parts.map((part, n) => (named(part).length ? ''
+    : partLine(part, named(parts[n + 1]))));
+  return [lines.join('')];
+}
+
+const faultLine = ([[, text, ...span]]) => `fault ${span.join('..')} ${text}`;
+
+/** The listing of what is read, as the program formatread writes it: with the report of arguments
+ * if these are given. */
+function listing(answer, args) {
+  if (!answer) return null;
+  const lines = [...answer.pieces.first.flatMap(pieceLine), ...answer.faults.first.map(faultLine)];
+  for (const what of args ? ['missing', 'unused'] : []) {
+    for (const [, n] of answer[`${what} argument`].first) lines.push(`${what} index ${n}`);
+    for (const [, name] of answer[`${what} name`].first) lines.push(`${what} name ${quoted(name)}`);
   }
   return lines.map((line) => line + '\n').join('');
 }
 
-module.exports = { REPLAY, cases, listing };
+module.exports = { REPLAY, cases, listing, quoted };

@@ -1,51 +1,150 @@
-//! The extracted parser for the page: a text goes in, and what is read of it comes out as JSON.
-use dephungo::ParseMode;
-use source::{given_by, Source};
-use std::sync::Mutex;
+//! The extracted parser for the page: a literal goes in, and what is read of it comes out as JSON.
+use dephungo::faults::{draw, edits, fix, Picture};
+use dephungo::{check, literal::read_content, tokens::*, ParseMode::*, *};
+use std::{fmt::Display, ops::Range, slice::from_ref, sync::Mutex};
 
-mod answer;
-mod json;
-mod source;
+/// The most faults, or arguments of a kind, that are told.
+const MOST: usize = 50;
+/// The most faults of a text with tokens and a fix, which take time that grows with their square.
+const FEW: usize = 4000;
+/// The most bytes of a text in which faults are drawn.
+const SHORT: usize = 20_000;
 
-/// What goes in: the arguments that are given, and then the text. The page writes it.
-static INPUT: Mutex<Vec<u8>> = Mutex::new(Vec::new());
-/// What comes out. The page reads it.
-static OUTPUT: Mutex<String> = Mutex::new(String::new());
+/// What goes in, and then what comes out.
+static BUFFER: Mutex<Vec<u8>> = Mutex::new(Vec::new());
 
-/// Makes room for an input of `len` bytes, and returns where it is to be written.
+/// Gives the buffer `len` bytes, and returns where they are.
 #[no_mangle]
-pub extern "C" fn input(len: usize) -> *mut u8 {
-    let mut input = INPUT.lock().unwrap();
-    *input = vec![0; len];
-    input.as_mut_ptr()
+pub extern "C" fn buffer(len: usize) -> *mut u8 {
+    let mut buffer = BUFFER.lock().unwrap();
+    buffer.resize(len, 0);
+    buffer.as_mut_ptr()
 }
 
-/// Returns where the output is.
+/// Reads the arguments, a newline and a literal in the buffer, and leaves the answer there: nothing
+/// if that is none. Its text is behind `start` bytes, of which `before` are not shown; 0 is for a
+/// text alone. Unless `all` is to be read, reading stops at a brace that closes nothing.
 #[no_mangle]
-pub extern "C" fn output() -> *const u8 {
-    OUTPUT.lock().unwrap().as_ptr()
+pub extern "C" fn read(before: usize, start: usize, mode: usize, all: bool) -> usize {
+    let mut buffer = BUFFER.lock().unwrap();
+    let input = String::from_utf8_lossy(&buffer).into_owned();
+    *buffer = answer(&input, before, start, mode, all).unwrap_or_default().into_bytes();
+    buffer.len()
 }
 
-/// Reads the input, of which the first `given` bytes are the arguments, and returns how many bytes
-/// the output has. A list in it has `most` items at most. If `whole` is 0, reading stops at a brace
-/// that closes nothing, as the compiler does.
-#[no_mangle]
-pub extern "C" fn read(given: usize, form: u32, mode: u32, most: usize, whole: u32) -> usize {
-    let mut input = INPUT.lock().unwrap();
-    let bytes = std::mem::take(&mut *input);
-    let words = String::from_utf8_lossy(&bytes);
-    let (given, text) = words.split_at(given);
-    let mode = match mode {
-        0 => ParseMode::Format,
-        1 => ParseMode::InlineAsm,
-        2 => ParseMode::Diagnostic,
-        _ => ParseMode::DiagnosticNamed,
+fn answer(input: &str, before: usize, start: usize, mode: usize, all: bool) -> Option<String> {
+    let (args, literal) = input.split_once('\n')?;
+    let mode = [Format, InlineAsm, Diagnostic, DiagnosticNamed][mode];
+    let style = start.checked_sub(2);
+    let end = literal.len() - style.map_or(start, |hashes| hashes + 1);
+    let snippet = (start > 0).then(|| literal.to_string());
+    let mut text = literal[start..end].to_string();
+    if start == 1 {
+        text = read_content(&text)?.into_iter().map(|(_, c)| c).collect();
+    }
+    let mut parser = Parser::new(&text, style, snippet.clone(), false, mode);
+    let (mut shown, mut pieces) = (Vec::new(), Vec::new());
+    let (mut calls, mut faults, mut is_lone) = (0, 0, false);
+    while let Some((next, ..)) = parser.peek().filter(|_| all || !is_lone) {
+        let piece = parser.next();
+        let stop = parser.peek().map_or(end, |(next, ..)| next.start);
+        is_lone = piece.is_none();
+        shown.extend((calls < 200).then(|| parts_of(next.start..stop, &piece)));
+        pieces.extend(piece.filter(|_| !args.is_empty()));
+        calls += 1;
+        faults += parser.errors.len() - MOST.min(faults);
+        parser.errors.truncate(MOST); // it takes long to put a fault in front of many
+    }
+    let fixed = if faults > FEW { None } else { fix(&text, style, literal, false, mode) };
+    let found = if faults > FEW { vec![] } else { tokens(&text, style, snippet, false, mode) };
+    let mut words = args.split(',');
+    let positional = words.next()?.parse().unwrap_or(0);
+    let report = check(&pieces, positional, &words.collect::<Vec<_>>());
+    // what is not shown becomes a line in front
+    let source = " ".repeat(before) + "\n" + if before > 0 { &text } else { literal };
+    let picture = Picture { path: "text", source: &source, line_start: 0, literal_start: 1 };
+    let kind = |it: &Token| part(&format!("{:?}", it.kind), "", Some(&it.span));
+    let lists = [
+        format!("\"counts\":[{calls},{faults}]"),
+        list("pieces", 200, shown.into_iter()),
+        list("faults", MOST, parser.errors.iter().map(|it| fault(it, &picture))),
+        list("tokens", 2000, found.iter().map(kind)),
+        list("fixed", 1, fixed.iter().map(|it| part("fixed", &it.snippet, None))),
+        list("missing argument", MOST, report.missing_index.iter().map(|n| part("", n, None))),
+        list("missing name", MOST, report.missing_name.iter().map(|it| part("", it, None))),
+        list("unused argument", MOST, report.unused_index.iter().map(|n| part("", n, None))),
+        list("unused name", MOST, report.unused_name.iter().map(|it| part("", it, None))),
+    ];
+    Some(format!("{{{}}}", lists.join(",")))
+}
+
+/// The place of a call, and the parts of its piece. A part that is not there has no value.
+fn parts_of(place: Range<usize>, piece: &Option<Piece<'_>>) -> String {
+    let parts = match piece {
+        None => part("closes nothing", "}", None),
+        Some(Piece::Lit(text)) => part("text", text, None),
+        Some(Piece::NextArgument(it)) => argument(it).join(","),
     };
-    let answer = match Source::new(text, form) {
-        Some(source) => answer::json(&source, mode, given_by(given), most, whole > 0),
-        None => "null".to_string(),
-    };
-    let mut output = OUTPUT.lock().unwrap();
-    *output = answer;
-    output.len()
+    format!("[{},{parts}]", part("piece", "", Some(&place)))
+}
+
+fn argument(Argument { position, position_span, format }: &Argument<'_>) -> [String; 10] {
+    [
+        match position {
+            ArgumentImplicitlyIs(n) => part("next argument", n, Some(position_span)),
+            ArgumentIs(n) => part("argument number", n, Some(position_span)),
+            ArgumentNamed(name) => part("argument name", name, Some(position_span)),
+        },
+        part("fill", format.fill.map_or(String::new(), String::from), format.fill_span.as_ref()),
+        part("alignment", ["left", "right", "center", ""][format.align as usize], None),
+        part("sign", format.sign.map_or("", |it| ["+", "-"][it as usize]), None),
+        part("alternate form", if format.alternate { "#" } else { "" }, None),
+        part("zero padding", if format.zero_pad { "0" } else { "" }, None),
+        count("width", &format.width, format.width_span.as_ref()),
+        count("precision", &format.precision, format.precision_span.as_ref()),
+        part("hex digits", format.debug_hex.map_or("", |it| ["lower", "upper"][it as usize]), None),
+        part("type", format.ty, format.ty_span.as_ref()),
+    ]
+}
+
+/// A width or a precision, and the name of the argument that it is from.
+fn count(name: &str, count: &Count<'_>, span: Option<&Range<usize>>) -> String {
+    let of = |from: &str, value: &dyn Display| part(&format!("{name}{from}"), value, span);
+    match count {
+        CountIs(n) => of("", n),
+        CountIsParam(n) => of(" from argument", n),
+        CountIsStar(n) => of(" from next argument", n),
+        CountIsName(word, place) => of(" from", word) + "," + &part("its name", word, Some(place)),
+        CountImplied => of("", &""),
+    }
+}
+
+/// What a fault says, its drawing, its note, and what is suggested.
+fn fault(error: &ParseError, picture: &Picture<'_>) -> String {
+    let drawn = if picture.source.len() > SHORT { "".into() } else { draw(picture, error) };
+    let is_local = matches!(error.suggestion, Suggestion::UsePositional);
+    let help = if is_local { "Pass the value as an argument by position." } else { "" };
+    let mut parts = vec![
+        part("says", &error.description, Some(&error.span)),
+        part("drawn", drawn, None),
+        part("note", error.note.as_deref().unwrap_or(""), None),
+        part("help", help, None),
+    ];
+    parts.extend(edits(from_ref(error)).iter().map(|it| part("edit", it.text, Some(&it.span))));
+    format!("[{}]", parts.join(","))
+}
+
+/// A list by its name: how many items it has, and at most `most` of them.
+fn list(name: &str, most: usize, items: impl ExactSizeIterator<Item = String>) -> String {
+    let (count, first) = (items.len(), items.take(most).collect::<Vec<_>>().join(","));
+    format!("\"{name}\":{{\"count\":{count},\"first\":[{first}]}}")
+}
+
+/// A part: its name, its value, and where it starts and ends if that is known.
+fn part(name: &str, value: impl Display, span: Option<&Range<usize>>) -> String {
+    let is_plain = |c: char| c >= ' ' && c != '"' && c != '\\';
+    let escaped = |c| if is_plain(c) { c.to_string() } else { format!("\\u{:04x}", c as u32) };
+    let value: String = value.to_string().chars().map(escaped).collect();
+    let span = span.map_or(String::new(), |it| format!(",{},{}", it.start, it.end));
+    format!("[\"{name}\",\"{value}\"{span}]")
 }
