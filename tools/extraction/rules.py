@@ -44,7 +44,7 @@ MACROS = {
 }
 # Traits that are named only where they are imported, by the calls of their methods.
 TRAITS = {(".", "width", 0): "UnicodeWidthChar"}
-ATTRIBUTES = {"cycle", "default", "derive", "doc", "inline", "tactic"}
+ATTRIBUTES = {"cold", "cycle", "default", "derive", "doc", "inline", "tactic"}
 DERIVES = {"Clone", "Copy", "Debug", "Default", "Drop", "Eq", "PartialEq"}
 # Members that what calls the crates has to write, for which they have no call.
 OPENED = {"Cursor": {"source"}}

@@ -1,19 +1,142 @@
--- The edits of a literal, from its errors.
-use Rattle.std.proofs.Common.{◌≡◌, ◌∙◌, ℕ, Bool, List, Option, Some, ap, chars}
-use Rattle.rustc_parse_format.specs.Characters.{Text}
+-- The edits of the errors of all calls, from the faults in the order in which they are found.
+use Rattle.std.proofs.Common.{◌≡◌, ◌∙◌, ◌++◌, List, [], ◌∷◌, Option, None, Some, ap, sym, refl}
+use Rattle.std.proofs.Common.{append-nil, append_assoc, false, true, reverse, not, nat_lt, ◌||◌, ℕ}
+use Rattle.std.proofs.Common.{Bool, ◌<◌, chars, length}
+use Rattle.std.proofs.lemmas.Bool.{cond_both, false≢true}
+use Rattle.std.proofs.lemmas.List.{map-append, reverse-append}
+use Rattle.std.proofs.lemmas.List.Elements.{filter_map-append}
+use Rattle.std.specs.List.{cons_option, filter_map}
+use Rattle.rustc_parse_format.specs.Characters.{Text, is_nil}
+use Rattle.rustc_parse_format.specs.Faults.{Fault, Message, add_errors, is_front, map_fault}
+use Rattle.rustc_parse_format.specs.Faults.{message, UnmatchedBrace, MissingBrace, FillBrace}
+use Rattle.rustc_parse_format.specs.Faults.{Underscore, TooLarge, Unnamed, TextAfterColon}
+use Rattle.rustc_parse_format.specs.Faults.{RawIdentifier, LateFlag, MissingColon, LateDebug}
+use Rattle.rustc_parse_format.specs.Faults.{LateAlign, Grouping, DebugPrint, LateSign}
+use Rattle.rustc_parse_format.specs.Faults.{FieldAccess, TupleIndex}
+use Rattle.rustc_parse_format.specs.Call.{call}
 use Rattle.rustc_parse_format.specs.Types.{Mode}
-use Rattle.rustc_parse_format.specs.Faults.{Message}
-use Rattle.rustc_parse_format.specs.World.{Place}
-use Rattle.rustc_parse_format.specs.State.{first_state}
-use Rattle.drawn_faults.specs.Edits.{Edit, edits}
-use Rattle.drawn_faults.specs.Fixing.{all_errors, literal_edits}
+use Rattle.rustc_parse_format.specs.World.{Place, World, faults_in, place_of}
+use Rattle.rustc_parse_format.specs.State.{State, after, first_state, next_call}
+use Rattle.rustc_parse_format.proofs.Walking.Progress.{call-lt}
+use Rattle.drawn_faults.specs.Edits.{Edit, applied, edit_of, edits, is_empty, joined, made}
+use Rattle.drawn_faults.specs.Fixing.{all_errors, all_faults, fault_edits, literal_edits}
+use Rattle.drawn_faults.proofs.CallFaults.{all_faults-step}
 
--- What was found in these errors are the edits of the literal, which a parser has as its snippet.
+-- What is behind a list that may begin with an element is behind the rest of it.
+pub cons_option-more : {A : Type 0} (o : Option A) (xs ys : List A)
+    → cons_option o xs ++ ys ≡ cons_option o (xs ++ ys)
+cons_option-more None xs ys = refl
+cons_option-more (Some x) xs ys = refl
+
+-- A fault whose error is added at the end has no edit.
+unedited : (f : Fault Place) → is_front f ≡ false → edit_of (message f) ≡ None
+unfolding message
+unedited (UnmatchedBrace s) e = refl
+unedited (MissingBrace c s o) e = refl
+unedited (FillBrace c s o) e = refl
+unedited (Underscore s) e = refl
+unedited (TooLarge ds s) e = refl
+unedited (Unnamed s) e = refl
+unedited (TextAfterColon s) e = refl
+unedited (RawIdentifier s p) e = absurd (cc)
+unedited (LateFlag c s b) e = absurd (cc)
+unedited (MissingColon s) e = absurd (cc)
+unedited (LateDebug w s) e = absurd (cc)
+unedited (LateAlign c s) e = absurd (cc)
+unedited (Grouping s o) e = absurd (cc)
+unedited (DebugPrint s o) e = absurd (cc)
+unedited (LateSign s) e = absurd (cc)
+unedited (FieldAccess s) e = absurd (cc)
+unedited (TupleIndex s) e = absurd (cc)
+
+-- From the last error on, the edits are in the order in which the faults are found.
+pub found-edits : (old : List (Message Place)) (fs : List (Fault Place))
+    → filter_map edit_of (reverse (add_errors old fs))
+    ≡ filter_map edit_of (reverse old) ++ fault_edits fs
+found-edits old [] = sym (append-nil (filter_map edit_of (reverse old)))
+found-edits old (f ∷ fs) =
+    let m = message f in
+    let before = filter_map edit_of (reverse old) in
+    let behind = fault_edits fs in
+    cond_both (is_front f) (m ∷ old) (old ++ m ∷ [])
+    (λ es. filter_map edit_of (reverse (add_errors es fs)) ≡ before ++ fault_edits (f ∷ fs))
+    (λ yes. found-edits (m ∷ old) fs
+    ∙ ap (λ ms. filter_map edit_of ms ++ behind) (reverse-append (m ∷ []) old)
+    ∙ ap (λ es. es ++ behind) (filter_map-append edit_of (reverse old) (m ∷ []))
+    ∙ append_assoc before (cons_option (edit_of m) []) behind
+    ∙ ap (λ es. before ++ es) (cons_option-more (edit_of m) [] behind))
+    (λ no. found-edits (old ++ m ∷ []) fs
+    ∙ ap (λ ms. filter_map edit_of ms ++ behind) (reverse-append old (m ∷ []))
+    ∙ ap (λ o. cons_option o before ++ behind) (unedited f no)
+    ∙ ap (λ o. before ++ cons_option o behind) (sym (unedited f no)))
+
+-- The edits of all calls of a parser from a state on.
+abbrev pub left_edits : State → List Edit
+left_edits s = fault_edits (faults_in s.world (all_faults s.mode s.next s.rest))
+
+-- Without errors before, they are those of which some are made.
+pub left_edits-are : (s : State) → s.errors ≡ [] → edits (all_errors s) ≡ made 0 (left_edits s)
+left_edits-are s none =
+    let fs = faults_in s.world (all_faults s.mode s.next s.rest) in
+    ap (λ es. edits (add_errors es fs)) none ∙ ap (made 0) (found-edits [] fs)
+
+-- They are those of the first call, and then those of the calls after it.
+pub left_edits-step : (s new : State) → new ≡ record (after s (next_call s)) { errors = [] }
+    → is_nil s.rest ≡ false
+    → fault_edits (faults_in s.world (next_call s).faults) ++ left_edits new ≡ left_edits s
+left_edits-step s new e h = ap (λ t. fault_edits (faults_in s.world (next_call s).faults)
+    ++ left_edits t) e ∙ step s.world s.mode s.next s.rest h
+  where
+    step : (w : World) (mode : Mode) (c : ℕ) (t : Text) → is_nil t ≡ false
+        → fault_edits (faults_in w (call mode c t).faults)
+        ++ fault_edits (faults_in w (all_faults mode (call mode c t).next (call mode c t).rest))
+        ≡ fault_edits (faults_in w (all_faults mode c t))
+    step w mode c [] h = absurd (cc)
+    step w mode c (b ∷ t) h =
+        let k = call mode c (b ∷ t) in
+        let now = faults_in w k.faults in
+        let later = faults_in w (all_faults mode k.next k.rest) in
+        sym (ap (λ fs. fault_edits (faults_in w fs)) (all_faults-step mode c b t)
+        ∙ ap fault_edits (map-append (map_fault (place_of w)) k.faults
+        (all_faults mode k.next k.rest))
+        ∙ filter_map-append (λ f. edit_of (message f)) now later)
+
+-- At the end there are none.
+pub left_edits-end : (s : State) → is_nil s.rest ≡ true → left_edits s ≡ []
+unfolding all_faults
+left_edits-end s h = at_end s.world s.mode s.next s.rest h
+  where
+    at_end : (w : World) (mode : Mode) (c : ℕ) (t : Text) → is_nil t ≡ true
+        → fault_edits (faults_in w (all_faults mode c t)) ≡ []
+    at_end w mode c [] e = refl
+    at_end w mode c (b ∷ t) e = absurd (cc)
+
+false-or : (b : Bool) → b || false ≡ b
+false-or true = refl
+false-or false = refl
+
+-- Once all calls are made, the text has the edits of all errors.
+pub edited-end : (s new : State) (out : List ℕ) (start end : ℕ) (rest : List ℕ) (at : ℕ)
+    (t : List ℕ) → s.errors ≡ [] → is_nil new.rest ≡ true
+    → joined out start end rest (left_edits new) ≡ joined [] at 0 t (left_edits s)
+    → (out ++ rest ≡ applied at (edits (all_errors s)) t)
+    × (nat_lt 0 end ≡ not (is_empty (edits (all_errors s))))
+edited-end s new out start end rest at t none h e =
+    let done = ap (joined out start end rest) (sym (left_edits-end new h)) ∙ e
+    ∙ ap (λ es. (applied at es t, not (is_empty es))) (sym (left_edits-are s none)) in
+    (ap (λ x. x.0) done, sym (false-or (nat_lt 0 end)) ∙ ap (λ x. x.1) done)
+
+-- A call before the end reads on.
+pub left-shorter : (s new : State) → new ≡ record (after s (next_call s)) { errors = [] }
+    → is_nil s.rest ≡ false → length new.rest < length s.rest
+left-shorter s new e some =
+    rw e (call-lt s.mode s.next s.rest (λ n. false≢true (sym some ∙ ap is_nil n)))
+
+-- The edits of a parser that has a literal as its snippet are those of the literal.
 pub literal_edits-are : (mode : Mode) (input : Text) (style : Option ℕ) (owned literal : List ℕ)
-    (appended : Bool) (errors seen : List (Message Place)) (found : List Edit)
-    → owned ≡ literal
-    → errors ≡ all_errors (first_state mode input style (Some (chars owned)) appended)
-    → seen ≡ errors → found ≡ edits seen
-    → found ≡ literal_edits mode input style (chars literal) appended
-literal_edits-are mode input style owned literal appended errors seen found o e s f =
-    f ∙ ap edits (s ∙ e) ∙ ap (λ l. literal_edits mode input style (chars l) appended) o
+    (appended : Bool) (s : State)
+    → s ≡ first_state mode input style (Some (chars owned)) appended → owned ≡ literal
+    → edits (all_errors s) ≡ literal_edits mode input style (chars literal) appended
+literal_edits-are mode input style owned literal appended s e o =
+    ap (λ t. edits (all_errors t)) e
+    ∙ ap (λ l. literal_edits mode input style (chars l) appended) o

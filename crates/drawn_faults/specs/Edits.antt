@@ -1,5 +1,6 @@
 -- Edits of a text, which suggestions have one, and the text with them.
-use Rattle.std.specs.Prelude.{ℕ, Bool, ◌-◌, ◌++◌, ◌<◌, ◌≤◌, ◌&&◌, nat_lt, nat_le}
+use Rattle.std.specs.Prelude.{ℕ, Bool, true, false, not, ◌-◌, ◌++◌, ◌<◌, ◌≤◌, ◌&&◌, ◌||◌}
+use Rattle.std.specs.Prelude.{nat_lt, nat_le}
 use Rattle.std.specs.Prelude.{if◌then◌else◌, List, [], ◌∷◌, take, drop, reverse, Option, Some, None}
 use Rattle.std.specs.Prelude.{codes}
 use Rattle.std.specs.List.{filter_map}
@@ -52,3 +53,15 @@ abbrev pub applied : ℕ → List Edit → List ℕ → List ℕ
 applied at [] t = t
 applied at (e ∷ es) t = take (e.span.0 - at) t
     ++ (e.text ++ applied e.span.1 es (drop (e.span.1 - at) t))
+
+-- There is no edit.
+abbrev pub is_empty : List Edit → Bool
+is_empty [] = true
+is_empty (e ∷ es) = false
+
+-- What the bytes out become with these edits in t, which is at the byte offset `at`, where the last
+-- edit before it ends at the byte offset `end`, which is 0 if there is none; and whether there is
+-- an edit.
+abbrev pub joined : List ℕ → ℕ → ℕ → List ℕ → List Edit → List ℕ × Bool
+joined out at end t es =
+    (out ++ applied at (made end es) t, nat_lt 0 end || not (is_empty (made end es)))

@@ -2,15 +2,16 @@
 use Rattle.std.specs.Prelude.{◌≡◌, ◌≢◌, ℕ, zero, suc, Bool, false, ◌++◌, List, [], ◌∷◌, length}
 use Rattle.std.specs.Prelude.{Option}
 use Rattle.std.specs.Prelude.{Some, None, chars, IsUtf8}
+use Rattle.std.specs.List.{filter_map}
 use Rattle.rustc_parse_format.specs.Characters.{Text}
 use Rattle.rustc_parse_format.specs.Types.{Mode}
 use Rattle.rustc_parse_format.specs.Marks.{Span}
-use Rattle.rustc_parse_format.specs.Faults.{Fault, Message, add_errors}
+use Rattle.rustc_parse_format.specs.Faults.{Fault, Message, add_errors, message}
 use Rattle.rustc_parse_format.specs.Call.{call}
 use Rattle.rustc_parse_format.specs.World.{Place, faults_in}
 use Rattle.rustc_parse_format.specs.State.{State, first_state}
 use Rattle.rustc_parse_format.specs.Literal.{IsSource}
-use Rattle.drawn_faults.specs.Edits.{Edit, edits, applied}
+use Rattle.drawn_faults.specs.Edits.{Edit, edits, edit_of, applied}
 
 -- The faults of the calls from t on, with at most n calls. A call that returns no piece before the
 -- end, as at a lone closing brace, is followed by others.
@@ -27,6 +28,10 @@ all_faults mode c t = faults_within (length t) mode c t
 -- The errors of a parser in this state, once all calls up to the end of the input are made.
 abbrev pub all_errors : State → List (Message Place)
 all_errors s = add_errors s.errors (faults_in s.world (all_faults s.mode s.next s.rest))
+
+-- The edits of faults, in the order of these.
+abbrev pub fault_edits : List (Fault Place) → List Edit
+fault_edits fs = filter_map (λ f. edit_of (message f)) fs
 
 -- The edits in the literal of an input.
 abbrev pub literal_edits : Mode → Text → Option ℕ → Text → Bool → List Edit

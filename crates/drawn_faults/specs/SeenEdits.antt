@@ -1,9 +1,10 @@
 -- What a contract sees of edits and of a fixed literal: texts as their bytes.
-use Rattle.std.specs.Prelude.{string_bytes}
+use Rattle.std.specs.Prelude.{ℕ, Bool, List, string_bytes}
 use Rattle.rustc_parse_format.specs.Seen.{pair}
 use Rattle.drawn_faults.specs.declared.fixes.Edit.{Edit as DeclaredEdit}
+use Rattle.drawn_faults.specs.declared.fixes.Edited.{Edited as DeclaredEdited}
 use Rattle.drawn_faults.specs.declared.fixes.Fixed.{Fixed as DeclaredFixed}
-use Rattle.drawn_faults.specs.Edits.{Edit}
+use Rattle.drawn_faults.specs.Edits.{Edit, joined}
 use Rattle.drawn_faults.specs.Fixing.{Fixed}
 
 -- An edit as a contract sees it.
@@ -13,3 +14,7 @@ seen_edit e = record { span = pair e.span; text = e.text.now }
 -- A fixed literal as a contract sees it.
 abbrev pub seen_fixed : DeclaredFixed → Fixed
 seen_fixed f = record { snippet = string_bytes f.snippet; text = string_bytes f.text }
+
+-- What a text in the middle of its edits becomes with further edits, and whether it has an edit.
+abbrev pub with_edits : DeclaredEdited → List Edit → List ℕ × Bool
+with_edits x es = joined x.bytes.items x.start x.end x.rest.now es

@@ -2,21 +2,25 @@
 //! literal with them applied.
 
 ghost use Rattle.std.specs.Prelude.{◌≡◌, ◌≢◌, ◌+◌, ◌<◌, ◌^◌, [], IfNone, IfOk, IfSome, IsOk};
-ghost use Rattle.std.specs.Prelude.{IsUtf8, OnOk, Some, chars, drop, false, length, map};
-ghost use Rattle.std.specs.Prelude.{option_map, string_bytes, take};
+ghost use Rattle.std.specs.Prelude.{IsUtf8, OnOk, Some, chars, drop, false, length, map, not};
+ghost use Rattle.std.specs.Prelude.{List, ◌++◌, option_map, reverse, string_bytes, take};
+ghost use Rattle.std.specs.List.{cons_option, filter_map};
 ghost use Rattle.rustc_parse_format.specs.Seen.{seen_error, seen_mode, seen_snippet};
 ghost use Rattle.rustc_parse_format.specs.Seen.{seen_suggestion};
 ghost use Rattle.rustc_parse_format.specs.Characters.{is_nil};
 ghost use Rattle.rustc_parse_format.specs.State.{after, first_state, next_call};
-ghost use Rattle.rustc_parse_format.specs.World.{hashes};
+ghost use Rattle.rustc_parse_format.specs.World.{faults_in, hashes};
 ghost use Rattle.rustc_parse_format.specs.Literal.{IsSource};
-ghost use Rattle.drawn_faults.specs.Edits.{AreInOrder, applied, edits, suggested};
+ghost use Rattle.drawn_faults.specs.Edits.{AreInOrder, Edit as EditValue, applied, edit_of};
+ghost use Rattle.drawn_faults.specs.Edits.{edits, is_empty, suggested};
 ghost use Rattle.drawn_faults.specs.Fixing.{Fixed as FixedLiteral, IsFixed, all_errors};
-ghost use Rattle.drawn_faults.specs.Fixing.{literal_edits, text_edits};
-ghost use Rattle.drawn_faults.specs.SeenEdits.{seen_edit, seen_fixed};
+ghost use Rattle.drawn_faults.specs.Fixing.{fault_edits, literal_edits, text_edits};
+ghost use Rattle.drawn_faults.specs.SeenEdits.{seen_edit, seen_fixed, with_edits};
 
 use rustc_parse_format::literal::is_source_literal;
-use rustc_parse_format::{ParseError, ParseMode, Parser, Suggestion};
+use rustc_parse_format::{
+    Argument, FormatSpec, ParseError, ParseMode, Parser, Position, Suggestion,
+};
 use std::alloc::{AllocError, Global};
 use std::ops::Range;
 
@@ -98,30 +102,67 @@ fn behind(bytes: &[u8], n: usize) -> &[u8]
     bytes.get(n..).unwrap_or(&[])
 }
 
-/// Returns a text with these edits, where the text starts at the byte offset `at`, or `None` if the
-/// result is not UTF-8. Returns `Err` if an allocation fails.
-fn apply(
-    alloc: Global,
-    text: &str,
-    at: usize,
-    edits: &[Edit<'_>],
-) -> Result<Option<String>, AllocError>
-    ensures some { IfOk result (λ o. IfSome o (λ s. string_bytes s
-        ≡ applied at (map seen_edit edits.now) text.now)) }
-    ensures none { IfOk result (λ o. IfNone o
-        (IsUtf8 (applied at (map seen_edit edits.now) text.now) → ⊥)) }
+/// A text in the middle of its edits.
+#[derive(Drop)]
+struct Edited<'t> {
+    /// What is written of the text with its edits.
+    bytes: Vec<u8>,
+    /// What is left of the text.
+    rest: &'t [u8],
+    /// The byte offset at which that starts.
+    start: usize,
+    /// Where the last edit ends, or 0 if there is none.
+    end: usize,
+}
+
+/// Makes the edit of a suggestion, if it has one that starts behind the end of the last one.
+/// Returns `Err` if an allocation fails.
+fn make(edited: &mut Edited<'_>, suggestion: &Suggestion) -> Result<(), AllocError>
+    ensures { OnOk result ((es : List EditValue) → with_edits edited.new es ≡ with_edits edited.old
+        (cons_option (suggested (seen_suggestion suggestion.now)) es)) }
 {
-    let mut bytes = Vec::new(alloc);
-    let mut rest = text.as_bytes();
-    let mut start = at;
-    for edit in edits {
-        bytes.extend_from_slice(front(rest, edit.span.start.saturating_sub(start)))?;
-        bytes.extend_from_slice(edit.text.as_bytes())?;
-        rest = behind(rest, edit.span.end.saturating_sub(start));
-        start = edit.span.end;
+    let Some(edit) = edit_of(suggestion) else {
+        return Ok(());
+    };
+    if edited.end < edit.span.start && edit.span.start <= edit.span.end {
+        let kept = front(edited.rest, edit.span.start.saturating_sub(edited.start));
+        edited.bytes.extend_from_slice(kept)?;
+        edited.bytes.extend_from_slice(edit.text.as_bytes())?;
+        edited.rest = behind(edited.rest, edit.span.end.saturating_sub(edited.start));
+        edited.start = edit.span.end;
+        edited.end = edit.span.end;
     }
-    bytes.extend_from_slice(rest)?;
-    Ok(String::from_utf8(bytes).ok())
+    Ok(())
+}
+
+/// Makes the edits of errors, the last one first. Returns `Err` if an allocation fails.
+fn make_each(edited: &mut Edited<'_>, errors: &[ParseError]) -> Result<(), AllocError>
+    ensures { OnOk result ((es : List EditValue) → with_edits edited.new es ≡ with_edits edited.old
+        (filter_map edit_of (reverse (map seen_error errors.now)) ++ es)) }
+{
+    for error in errors.iter().rev() {
+        make(edited, &error.suggestion)?;
+    }
+    Ok(())
+}
+
+/// Makes a call of a parser without errors, and the edits of its errors. Returns `Err` if an
+/// allocation fails.
+fn make_next<'a>(
+    edited: &mut Edited<'_>,
+    parser: &mut Parser<'a>,
+    argument: &mut Argument<'a>,
+) -> Result<(), AllocError>
+    requires { parser.old.errors ≡ [] }
+    ensures state { OnOk result (parser.new
+        ≡ record (after parser.old (next_call parser.old)) { errors = [] }) }
+    ensures edits { OnOk result ((es : List EditValue) → with_edits edited.new es ≡ with_edits
+        edited.old (fault_edits (faults_in parser.old.world (next_call parser.old).faults) ++ es)) }
+{
+    parser.next_into(argument)?;
+    let errors = parser.take_errors();
+    make_each(edited, &errors)?;
+    Ok(())
 }
 
 /// Returns whether a parser is at the end of its input.
@@ -164,6 +205,51 @@ pub fn errors_of(
     Ok(parser.take_errors())
 }
 
+/// Returns an argument to read placeholders into.
+fn blank_argument<'a>() -> Argument<'a> {
+    Argument {
+        position: Position::ArgumentImplicitlyIs(0),
+        position_span: 0..0,
+        format: FormatSpec::default(),
+    }
+}
+
+/// Returns a text with the edits of the errors of all calls of a parser without errors, and whether
+/// there are any. The text starts at the byte offset `at`. Returns `Err` if an allocation fails.
+fn edit_all(
+    alloc: Global,
+    parser: &mut Parser<'_>,
+    text: &str,
+    at: usize,
+) -> Result<(Vec<u8>, bool), AllocError>
+    requires { parser.old.errors ≡ [] }
+    ensures bytes { IfOk result (λ x. x.0.items
+        ≡ applied at (edits (all_errors parser.old)) text.now) }
+    ensures some { IfOk result (λ x. x.1 ≡ not (is_empty (edits (all_errors parser.old)))) }
+{
+    let mut argument = blank_argument();
+    let mut edited = Edited {
+        bytes: Vec::new(alloc),
+        rest: text.as_bytes(),
+        start: at,
+        end: 0,
+    };
+    while !is_at_end(parser) {
+        make_next(&mut edited, parser, &mut argument)?;
+    }
+    let rest = edited.rest;
+    edited.bytes.extend_from_slice(rest)?;
+    Ok((edited.bytes, edited.end > 0))
+}
+
+/// Returns bytes as a text, or `None` if they are not UTF-8.
+fn text_of(bytes: Vec<u8>) -> Option<String>
+    ensures some { IfSome result (λ s. string_bytes s ≡ bytes.items) }
+    ensures none { IfNone result (IsUtf8 bytes.items → ⊥) }
+{
+    String::from_utf8(bytes).ok()
+}
+
 /// Returns the literal of an input with the edits of its errors, or `None` if it has none or is
 /// then not UTF-8. Returns `Err` if an allocation fails.
 fn edited_literal(
@@ -186,12 +272,12 @@ fn edited_literal(
         snippet.now) → ⊥)) }
 {
     let owned = String::from_str(alloc, snippet)?;
-    let errors = errors_of(alloc, input, style, Some(owned), appended_newline, mode)?;
-    let in_literal = edits(alloc, &errors)?;
-    if in_literal.as_slice().is_empty() {
+    let mut parser = Parser::new(alloc, input, style, Some(owned), appended_newline, mode)?;
+    let (bytes, has_edits) = edit_all(alloc, &mut parser, snippet, 0)?;
+    if !has_edits {
         return Ok(None);
     }
-    apply(alloc, snippet, 0, &in_literal)
+    Ok(text_of(bytes))
 }
 
 /// Returns an input with the edits of its errors, or `None` if it is then not UTF-8. Returns `Err`
@@ -203,9 +289,9 @@ fn edited_text(alloc: Global, input: &str, mode: ParseMode) -> Result<Option<Str
     ensures none { IfOk result (λ o. IfNone o
         (IsUtf8 (applied 1 (text_edits (seen_mode mode) (chars input.now)) input.now) → ⊥)) }
 {
-    let errors = errors_of(alloc, input, None, None, false, mode)?;
-    let in_text = edits(alloc, &errors)?;
-    apply(alloc, input, 1, &in_text)
+    let mut parser = Parser::new(alloc, input, None, None, false, mode)?;
+    let (bytes, _) = edit_all(alloc, &mut parser, input, 1)?;
+    Ok(text_of(bytes))
 }
 
 /// Returns the source literal of an input with the edits of all errors up to the end of the input,

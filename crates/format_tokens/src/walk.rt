@@ -1,12 +1,12 @@
 //! The tokens of a whole text, by the calls of the parser.
 
-ghost use Rattle.std.specs.Prelude.{◌≡◌, ◌+◌, ◌++◌, ◌<◌, ◌^◌, ℕ, Some, IfOk, chars, codes, length};
-ghost use Rattle.std.specs.Prelude.{if◌then◌else◌};
-ghost use Rattle.std.specs.Prelude.{map, option_map};
+ghost use Rattle.std.specs.Prelude.{◌≡◌, ◌+◌, ◌++◌, ◌<◌, ◌^◌, ℕ, None, Some, IfOk, chars};
+ghost use Rattle.std.specs.Prelude.{codes, false, if◌then◌else◌, length, map, option_map};
 ghost use Rattle.rustc_parse_format.specs.Call.{call, placeholder};
 ghost use Rattle.rustc_parse_format.specs.Characters.{Text, byte_length, first_passes, is_brace};
 ghost use Rattle.rustc_parse_format.specs.Placeholder.{cut};
 ghost use Rattle.rustc_parse_format.specs.Seen.{seen_argument, seen_mode, seen_taken};
+ghost use Rattle.rustc_parse_format.specs.State.{first_state};
 ghost use Rattle.rustc_parse_format.specs.Types.{Lit as LitPiece, Mode, bare_argument};
 ghost use Rattle.rustc_parse_format.specs.Values.{argument_value};
 ghost use Rattle.rustc_parse_format.specs.World.{World, piece_in};
@@ -132,14 +132,18 @@ fn blank_argument<'a>() -> Argument<'a> {
     }
 }
 
-/// Returns the kinds of the tokens of a text and the byte length of each.
-pub fn labels(alloc: Global, input: &str, mode: ParseMode) -> Result<Vec<(Kind, usize)>, AllocError>
-    requires { length input.now + 2 < 2 ^ 64 }
+/// Returns the labels of an input, by the calls of a parser at its start.
+fn labels_by<'a>(
+    alloc: Global,
+    parser: &mut Parser<'a>,
+    mode: ParseMode,
+    input: &'a str,
+) -> Result<Vec<(Kind, usize)>, AllocError>
+    requires { parser.old ≡ first_state (seen_mode mode) (chars input.now) None None false }
     ensures { IfOk result (λ v. v.items
         ≡ map sized (tokens_of (seen_mode mode) (chars input.now))) }
 {
     let mut labels = Vec::new(alloc);
-    let mut parser = Parser::new(alloc, input, None, None, false, mode)?;
     let mut argument = blank_argument();
     let mut rest = input;
     while !rest.is_empty() {
@@ -150,4 +154,14 @@ pub fn labels(alloc: Global, input: &str, mode: ParseMode) -> Result<Vec<(Kind, 
         rest = call(&mut labels, mode, taken, &argument, left, rest)?;
     }
     Ok(labels)
+}
+
+/// Returns the kinds of the tokens of a text and the byte length of each.
+pub fn labels(alloc: Global, input: &str, mode: ParseMode) -> Result<Vec<(Kind, usize)>, AllocError>
+    requires { length input.now + 2 < 2 ^ 64 }
+    ensures { IfOk result (λ v. v.items
+        ≡ map sized (tokens_of (seen_mode mode) (chars input.now))) }
+{
+    let mut parser = Parser::new(alloc, input, None, None, false, mode)?;
+    labels_by(alloc, &mut parser, mode, input)
 }

@@ -12,45 +12,70 @@ use std::io::IsTerminal;
 use std::process::ExitCode;
 use std::{env, fs};
 
-/// Returns the options and the argument of the program. Returns `Err` if an allocation fails.
-fn command<'a>(alloc: Global) -> Result<Command<'a>, AllocError> {
-    let mode = Arg::new(alloc, "mode")
+/// Returns the option that says what the string is.
+fn mode_option<'a>(alloc: Global) -> Arg<'a> {
+    Arg::new(alloc, "mode")
         .long("mode")
         .value_name("MODE")
         .value_parser(["format", "asm", "diagnostic", "diagnostic-named"].as_slice())
         .default_value("format")
-        .help("What the string is");
-    let text = Arg::new(alloc, "text")
+        .help("What the string is")
+}
+
+/// Returns the option to read a text.
+fn text_option<'a>(alloc: Global) -> Arg<'a> {
+    Arg::new(alloc, "text")
         .long("text")
         .action(ArgAction::SetTrue)
-        .help("Read a text, not a string literal");
-    let fix = Arg::new(alloc, "fix")
+        .help("Read a text, not a string literal")
+}
+
+/// Returns the option to apply suggestions. Returns `Err` if an allocation fails.
+fn fix_option<'a>(alloc: Global) -> Result<Arg<'a>, AllocError> {
+    Arg::new(alloc, "fix")
         .long("fix")
         .action(ArgAction::SetTrue)
-        .conflicts_with("text")?
-        .help("Print the literal with the suggestions applied, and the faults that it then has");
-    let tokens = Arg::new(alloc, "tokens")
+        .help("Print the literal with the suggestions applied, and the faults that it then has")
+        .conflicts_with("text")
+}
+
+/// Returns the option to show tokens. Returns `Err` if an allocation fails.
+fn tokens_option<'a>(alloc: Global) -> Result<Arg<'a>, AllocError> {
+    Arg::new(alloc, "tokens")
         .long("tokens")
         .action(ArgAction::SetTrue)
-        .conflicts_with("fix")?
-        .help("Print the tokens, in colours or each in a line, and then the faults");
-    let color = Arg::new(alloc, "color")
+        .help("Print the tokens, in colours or each in a line, and then the faults")
+        .conflicts_with("fix")
+}
+
+/// Returns the option that says whether tokens are in colours.
+fn color_option<'a>(alloc: Global) -> Arg<'a> {
+    Arg::new(alloc, "color")
         .long("color")
         .value_name("WHEN")
         .value_parser(["auto", "always", "never"].as_slice())
         .default_value("auto")
-        .help("Whether --tokens has colours; auto: if standard output is a terminal");
-    let file = Arg::new(alloc, "file")
+        .help("Whether --tokens has colours; auto: if standard output is a terminal")
+}
+
+/// Returns the argument of the program.
+fn file_argument<'a>(alloc: Global) -> Arg<'a> {
+    Arg::new(alloc, "file")
         .value_name("FILE")
-        .help("The file to read; without it, standard input is read");
-    Command::new(alloc, "formatlint")
-        .about("Draws the faults of a string literal under it, as the Rust compiler does")
-        .arg(mode)?
-        .arg(text)?
-        .arg(fix)?
-        .arg(tokens)?
-        .arg(color)?
-        .arg(file)
+        .help("The file to read; without it, standard input is read")
+}
+
+/// Returns the options and the argument of the program. Returns `Err` if an allocation fails.
+fn command<'a>(alloc: Global) -> Result<Command<'a>, AllocError> {
+    let command = Command::new(alloc, "formatlint").about(
+        "Draws the faults of a string literal under it, as the Rust compiler does",
+    );
+    let with_mode = command.arg(mode_option(alloc))?;
+    let with_text = with_mode.arg(text_option(alloc))?;
+    let with_fix = with_text.arg(fix_option(alloc)?)?;
+    let with_tokens = with_fix.arg(tokens_option(alloc)?)?;
+    let with_color = with_tokens.arg(color_option(alloc))?;
+    with_color.arg(file_argument(alloc))
 }
 
 /// Returns the mode that is asked for.

@@ -5,3 +5,4 @@ pub mod CharacterStarts
 pub mod Counting
 pub mod LaneBits
 pub mod Texts
+pub mod WordBytes

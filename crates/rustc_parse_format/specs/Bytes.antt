@@ -1,6 +1,8 @@
 -- The bytes of a text and of a suffix of it, and prefixes of a text found by its bytes.
+use Prim.Native.Char.{code}
 use Rattle.std.specs.Prelude.{◌≡◌, ◌-◌, ◌≤◌, ◌==◌, ◌||◌, ℕ, Bool, not, true, false, List, length}
 use Rattle.std.specs.Prelude.{take, drop}
+use Rattle.std.specs.Char.{is_ascii_alphanumeric}
 use Rattle.std.specs.List.{list_all}
 use Rattle.std.specs.Str.{is_utf8}
 use Rattle.rustc_parse_format.specs.Characters.{first_passes}
@@ -32,3 +34,7 @@ pub record IsSharedFront (p : ℕ → Bool) (bytes others : List ℕ) (n : ℕ) 
 -- The byte x is none of the three.
 abbrev pub is_none_of : (a b c : ℕ) → ℕ → Bool
 is_none_of a b c x = not ((x == a || x == b) || x == c)
+
+-- The byte is an ASCII character that can continue a word: a letter, a digit or `_`.
+abbrev pub is_word_byte : ℕ → Bool
+is_word_byte b = is_ascii_alphanumeric b || (b == code "_")

@@ -1,14 +1,15 @@
 //! Classes of characters, and prefixes and suffixes of texts. Of all code that reads pieces, only
 //! this module, `source` and `cursor` work with bytes and UTF-8.
 
-ghost use Rattle.std.specs.Char.{digit_value, is_ascii_digit, is_whitespace};
-ghost use Rattle.std.specs.Prelude.{◌%◌, ◌*◌, ◌++◌, ◌+◌, ◌<◌, ◌≡◌, bytes_eq, chars, codes, IsTrue};
-ghost use Rattle.std.specs.Prelude.{List, nat_lt, true, ℕ};
-ghost use Rattle.rustc_parse_format.specs.Bytes.{IsFront, IsLeft, IsOfAscii};
+ghost use Rattle.std.specs.Char.{digit_value, is_ascii_alphabetic, is_ascii_digit, is_whitespace};
+ghost use Rattle.std.specs.Prelude.{◌%◌, ◌*◌, ◌++◌, ◌+◌, ◌<◌, ◌≡◌, bytes_eq, chars, codes};
+ghost use Rattle.std.specs.Prelude.{IfSome, IsNone, IsTrue, length, List, Some, false, nat_lt};
+ghost use Rattle.std.specs.Prelude.{slice_index, true, ℕ};
+ghost use Rattle.rustc_parse_format.specs.Bytes.{IsFront, IsLeft, IsOfAscii, is_word_byte};
 ghost use Rattle.rustc_parse_format.specs.Characters.{Text, begins_with, behind, behind_digits};
 ghost use Rattle.rustc_parse_format.specs.Characters.{behind_first, behind_word, digits, first};
 ghost use Rattle.rustc_parse_format.specs.Characters.{first_passes};
-ghost use Rattle.rustc_parse_format.specs.Characters.{is_id_start, is_over, number};
+ghost use Rattle.rustc_parse_format.specs.Characters.{is_id_start, is_over, number, word};
 ghost use Rattle.rustc_parse_format.specs.Classes.{passes};
 
 use crate::blocks::calm_front;
@@ -75,6 +76,49 @@ pub fn begins_digit(text: &str) -> bool
 {
     let bytes = text.as_bytes();
     !bytes.is_empty() && bytes[0].is_ascii_digit()
+}
+
+/// Returns the first character if it is an ASCII digit, or else `None`.
+#[tactic(auto, using(crate::proofs::Bytes::WordBytes::first_ascii, crate::proofs::Bytes::ByteFronts::first_byte))]
+#[inline(always)]
+fn first_digit(text: &str) -> Option<u8>
+    ensures digit { IfSome result (λ d. (first (chars text.now) ≡ Some d)
+        × IsTrue (is_ascii_digit d)) }
+    ensures none { IsNone result → first_passes is_ascii_digit (chars text.now) ≡ false }
+{
+    let bytes = text.as_bytes();
+    if bytes.is_empty() || !bytes[0].is_ascii_digit() {
+        return None;
+    }
+    Some(bytes[0])
+}
+
+/// Returns whether the byte is an ASCII letter.
+#[inline(always)]
+fn is_letter(byte: u8) -> bool
+    ensures { result ≡ is_ascii_alphabetic byte }
+{
+    (byte | 32).is_ascii_lowercase()
+}
+
+/// Returns whether the byte is an ASCII character that can continue a word.
+#[inline(always)]
+fn is_word_byte(byte: u8) -> bool
+    ensures { result ≡ is_word_byte byte }
+{
+    is_letter(byte) || byte.is_ascii_digit() || byte == b'_'
+}
+
+/// Returns whether the first character can begin a word. Most often its first byte shows it.
+#[inline(always)]
+pub fn begins_word(text: &str) -> bool
+    ensures { result ≡ first_passes is_id_start (chars text.now) }
+{
+    let bytes = text.as_bytes();
+    if !bytes.is_empty() && bytes[0] < 128 {
+        return is_letter(bytes[0]) || bytes[0] == b'_';
+    }
+    first(text).is_some_and(is_id_start)
 }
 
 /// Returns what is left after the first character, or an empty text if there is none.
@@ -158,15 +202,55 @@ pub fn behind_while(text: &str, class: Class) -> &str
     rest
 }
 
-/// Returns what is left after the word that begins the text.
-#[tactic(auto, using(crate::proofs::Grammar::Fronts::behind_word_some))]
+/// Returns the number of bytes before the first one that is not an ASCII character that can
+/// continue a word.
 #[inline(always)]
-pub fn behind_word(text: &str) -> &str
-    requires { first_passes is_id_start (chars text.now) ≡ true }
-    ensures rest { chars result.now ≡ behind_word (chars text.now) }
-    ensures left { (input : List ℕ) → IsLeft input text.now → IsLeft input result.now }
+fn word_width(bytes: &[u8]) -> usize
+    ensures { IsFront is_word_byte bytes.now result }
 {
-    behind_while(behind_first(text), Class::Continue)
+    for i in 0..bytes.len() {
+        if !is_word_byte(bytes[i]) {
+            return i;
+        }
+    }
+    bytes.len()
+}
+
+/// Returns whether there is a byte at the index `at` that is not ASCII.
+#[inline(always)]
+fn is_wide(bytes: &[u8], at: usize) -> bool
+    ensures { result ≡ false → at < length bytes.now → slice_index bytes.now at < 128 }
+{
+    at < bytes.len() && bytes[at] >= 128
+}
+
+/// Splits a text behind the word that begins it. Most often that is ASCII.
+#[inline(always)]
+pub fn split_word(text: &str) -> (&str, &str)
+    requires { first_passes is_id_start (chars text.now) ≡ true }
+    ensures word { chars result.0.now ≡ word (chars text.now) }
+    ensures rest { chars result.1.now ≡ behind_word (chars text.now) }
+    ensures left { (input : List ℕ) → IsLeft input text.now → IsLeft input result.1.now }
+{
+    let bytes = text.as_bytes();
+    let width = word_width(bytes);
+    if is_wide(bytes, width) {
+        return split_wide_word(text);
+    }
+    text.split_at(width)
+}
+
+/// Splits a text behind the word that begins it, which need not be ASCII.
+#[tactic(auto, using(crate::proofs::Grammar::Fronts::behind_word_some))]
+#[inline(never)]
+fn split_wide_word(text: &str) -> (&str, &str)
+    requires { first_passes is_id_start (chars text.now) ≡ true }
+    ensures word { chars result.0.now ≡ word (chars text.now) }
+    ensures rest { chars result.1.now ≡ behind_word (chars text.now) }
+    ensures left { (input : List ℕ) → IsLeft input text.now → IsLeft input result.1.now }
+{
+    let rest = behind_while(behind_first(text), Class::Continue);
+    (before(text, rest), rest)
 }
 
 /// Returns the value of the ASCII digits at the start of the text modulo 65536, whether that value
@@ -182,11 +266,8 @@ pub fn behind_number(text: &str) -> (u16, bool, &str)
     let mut value = 0;
     let mut over = false;
     let mut rest = text;
-    while let Some(c) = first(rest) {
-        if !c.is_ascii_digit() {
-            break;
-        }
-        let more = with_digit(value, c);
+    while let Some(digit) = first_digit(rest) {
+        let more = with_digit(value, digit);
         value = more.0;
         over |= more.1;
         rest = behind_first(rest);
@@ -219,7 +300,7 @@ pub fn is_underscore(text: &str) -> bool
 
 /// Returns the value of `number` with one more decimal digit, modulo 65536, and whether that value
 /// exceeds 65535.
-pub fn with_digit(number: u16, digit: char) -> (u16, bool)
+fn with_digit(number: u16, digit: u8) -> (u16, bool)
     requires { IsTrue (is_ascii_digit digit) }
     ensures value { result.0 ≡ (number * 10 + digit_value digit) % 65536 }
     ensures over { result.1 ≡ nat_lt 65535 (number * 10 + digit_value digit) }

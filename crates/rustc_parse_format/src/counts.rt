@@ -29,6 +29,7 @@ impl<'input> Reader<'input> {
     /// Reads the ASCII digits at the cursor, if any, and returns their value modulo 65536. A value
     /// above 65535 is a fault, whose span includes the character after the digits. Returns `Err` if
     /// an allocation fails.
+    #[inline(always)]
     pub fn integer(&mut self) -> Result<u16, AllocError>
         ensures value { IfOk result (λ n. n ≡ number (digits self.old.rest)) }
         ensures reads { ReadsTo self.old result self.new (behind_digits self.old.rest) self.old.next
@@ -43,6 +44,7 @@ impl<'input> Reader<'input> {
 
     /// Reads the word that begins at the cursor. The word `_` is a fault. Returns `Err` if an
     /// allocation fails.
+    #[inline(always)]
     pub fn word(&mut self) -> Result<&'input str, AllocError>
         requires { first_passes is_id_start self.old.rest ≡ true }
         ensures value { IfOk result (λ w. chars w.now ≡ word self.old.rest) }
@@ -60,6 +62,7 @@ impl<'input> Reader<'input> {
     /// `$`, goes back to the start of the word, but keeps its fault. Returns `Err` if an allocation
     /// fails.
     #[tactic(auto, using(crate::proofs::Readers::Steps::part_le))]
+    #[inline(always)]
     fn named_count(&mut self, into: &mut Count<'input>) -> Result<(), AllocError>
         requires blank { seen_count into.old ≡ Implied }
         requires furthest { IsFurthest self.old.rest self.old.back }

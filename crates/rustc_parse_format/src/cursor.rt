@@ -3,7 +3,7 @@
 mod steps;
 mod words;
 
-use crate::characters::{before, begins, begins_digit, behind_first, first, is_id_start};
+use crate::characters::{before, begins, begins_digit, begins_word, behind_first, first};
 use crate::source::{Anchor, Source, first_anchor};
 use std::marker::Model;
 use std::ops::Range;
@@ -317,7 +317,7 @@ impl<'input> Cursor<'input> {
     pub fn is_word_next(&self) -> bool
         ensures { result ≡ first_passes is_id_start self.now.rest }
     {
-        self.peek().is_some_and(is_id_start)
+        begins_word(self.rest)
     }
 
     /// Returns whether the next two characters are `r#`.
@@ -331,6 +331,6 @@ impl<'input> Cursor<'input> {
     pub fn is_word_ahead(&self) -> bool
         ensures { result ≡ first_passes is_id_start (behind_first self.now.rest) }
     {
-        self.peek_ahead().is_some_and(is_id_start)
+        begins_word(behind_first(self.rest))
     }
 }

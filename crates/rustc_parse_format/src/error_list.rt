@@ -14,21 +14,24 @@ use std::mem;
 /// added at the front. The list is the entries after them.
 #[derive(Drop)]
 pub struct ErrorList {
-    entries: Vec<ParseError>,
+    /// `None` before the first error: most lists have none, and are then dropped at once.
+    entries: Option<Vec<ParseError>>,
     room: usize,
 }
 
 impl Model for ErrorList {
-    ghost use Rattle.std.specs.Prelude.{◌≤◌, List, drop, length, map};
+    ghost use Rattle.std.specs.Prelude.{◌≤◌, [], List, drop, length, map, option_map, unwrap_or};
     ghost use Rattle.rustc_parse_format.specs.Faults.{Message};
     ghost use Rattle.rustc_parse_format.specs.Seen.{seen_error};
     ghost use Rattle.rustc_parse_format.specs.World.{Place};
 
     ghost Value = { List (Message Place) };
 
-    ghost view = { λ l. map seen_error (drop l.room l.entries.items) };
+    ghost view = { λ l. map seen_error (drop l.room
+        (unwrap_or (option_map (λ v. v.items) l.entries) [])) };
 
-    ghost invariant = { λ l. l.room ≤ length l.entries.items };
+    ghost invariant = { λ l. l.room
+        ≤ length (unwrap_or (option_map (λ v. v.items) l.entries) []) };
 }
 
 /// Returns an error whose texts are empty. Does not allocate.
@@ -62,11 +65,11 @@ fn widen(alloc: Global, entries: &mut Vec<ParseError>, count: usize) -> Result<(
 
 impl ErrorList {
     /// Returns an empty list. Does not allocate.
-    pub fn new(alloc: Global) -> ErrorList
+    pub fn new() -> ErrorList
         ensures { result ≡ [] }
     {
         ErrorList {
-            entries: Vec::new(alloc),
+            entries: None,
             room: 0,
         }
     }
@@ -75,7 +78,10 @@ impl ErrorList {
     pub fn as_slice(&self) -> &[ParseError]
         ensures { map seen_error result.now ≡ self.now }
     {
-        &self.entries[self.room..]
+        match &self.entries {
+            Some(entries) => &entries[self.room..],
+            None => &[],
+        }
     }
 
     /// Takes all errors out of the list, and returns them in order. Does not allocate.
@@ -83,10 +89,14 @@ impl ErrorList {
         ensures value { map seen_error result.items ≡ self.old }
         ensures state { self.new ≡ [] }
     {
-        let mut errors = mem::replace(&mut self.entries, Vec::new(alloc));
-        errors.drain(..self.room);
-        self.room = 0;
-        errors
+        let room = mem::replace(&mut self.room, 0);
+        match self.entries.take() {
+            Some(mut entries) => {
+                entries.drain(..room);
+                entries
+            }
+            None => Vec::new(alloc),
+        }
     }
 
     /// Adds an error at the front. Returns `Err` if an allocation fails, and the list is then
@@ -96,24 +106,29 @@ impl ErrorList {
         ensures ok { OnOk result (self.new ≡ seen_error error ∷ self.old) }
         ensures err { OnErr result (self.new ≡ self.old) }
     {
+        let entries = self.entries.get_or_insert_with(|| Vec::new(alloc));
+        if entries.is_empty() {
+            return Ok(entries.push(error)?);
+        }
         if self.room == 0 {
-            let count = self.entries.len() + 1;
-            widen(alloc, &mut self.entries, count)?;
+            let count = entries.len() + 1;
+            widen(alloc, entries, count)?;
             self.room = count;
         }
         self.room -= 1;
-        self.entries[self.room] = error;
+        entries[self.room] = error;
         Ok(())
     }
 
     /// Adds an error at the back. Returns `Err` if an allocation fails, and the list is then
     /// unchanged.
     #[tactic(auto, using(crate::proofs::Readers::Errors::list_ends))]
-    pub fn push_back(&mut self, error: ParseError) -> Result<(), AllocError>
+    pub fn push_back(&mut self, alloc: Global, error: ParseError) -> Result<(), AllocError>
         ensures ok { OnOk result (self.new ≡ self.old ++ seen_error error ∷ []) }
         ensures err { OnErr result (self.new ≡ self.old) }
     {
-        self.entries.push(error)?;
+        let entries = self.entries.get_or_insert_with(|| Vec::new(alloc));
+        entries.push(error)?;
         Ok(())
     }
 
@@ -123,7 +138,9 @@ impl ErrorList {
         requires { skipped + count ≤ length self.old }
         ensures { self.new ≡ take count (drop skipped self.old) }
     {
-        self.room += skipped;
-        self.entries.truncate(self.room + count);
+        if let Some(entries) = &mut self.entries {
+            self.room += skipped;
+            entries.truncate(self.room + count);
+        }
     }
 }

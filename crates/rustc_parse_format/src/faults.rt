@@ -142,11 +142,11 @@ impl<'input> Faults<'input> {
         ensures { MatchOption result ((self.old ≡ []) × (self.new ≡ []))
             (λ f. self.old ≡ seen_fault f ∷ self.new) }
     {
-        let fault = self.first.take();
+        let fault = self.first.take()?;
         self.first = self.second.take();
         if !self.more.is_empty() {
             self.second = Some(self.more.remove(0));
         }
-        fault
+        Some(fault)
     }
 }

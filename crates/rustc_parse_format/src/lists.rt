@@ -32,7 +32,7 @@ fn add_error(alloc: Global, errors: &mut ErrorList, fault: Fault<'_>) -> Result<
         errors.push_front(alloc, error)?;
         Ok(1)
     } else {
-        errors.push_back(error)?;
+        errors.push_back(alloc, error)?;
         Ok(0)
     }
 }
@@ -79,7 +79,7 @@ impl Lists {
         ensures { (result.errors ≡ []) × (result.arg_places ≡ []) × (result.line_spans ≡ []) }
     {
         Lists {
-            errors: ErrorList::new(alloc),
+            errors: ErrorList::new(),
             arg_places: RangeList::new(alloc),
             line_spans: RangeList::new(alloc),
         }

@@ -71,6 +71,7 @@ impl<'input> Reader<'input> {
     /// Reads the position: an integer, or else a word, which may be raw. Returns `None` if there is
     /// neither, and `Err` if an allocation fails.
     #[tactic(auto, using(crate::proofs::Readers::TriedParts::tried_parts, crate::proofs::Readers::Parts::read_nothing, crate::proofs::Readers::RawWords::no_raw_words))]
+    #[inline(always)]
     fn position(&mut self) -> Result<Option<Position<'input>>, AllocError>
         ensures value { IfOk result (λ p. option_map seen_position p
             ≡ given_position (position self.old.rest).0) }
@@ -104,6 +105,7 @@ impl<'input> Reader<'input> {
     /// Reads the position and the white space after it, and sets `span` to their byte range.
     /// Returns `None` if there is no position, and `Err` if an allocation fails. In a mode that
     /// allows only names, anything but a name is a fault.
+    #[inline(always)]
     fn spaced_position(
         &mut self,
         mode: ParseMode,

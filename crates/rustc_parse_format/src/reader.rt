@@ -188,6 +188,7 @@ impl<'input> Reader<'input> {
 
     /// Moves past the longest prefix without braces. In a source literal it does so line by line,
     /// and records the lines that end. Returns `Err` if an allocation fails.
+    #[inline(never)]
     fn skip_string(&mut self) -> Result<(), AllocError>
         ensures reads { Reaches self.old result self.new (read_run self.old)
             (IsInOneLine self.old) }
@@ -201,6 +202,7 @@ impl<'input> Reader<'input> {
 
     /// Moves past the longest prefix without braces of a source literal, line by line, and records
     /// the lines that end. Returns `Err` if an allocation fails.
+    #[inline(never)]
     fn skip_lines(&mut self) -> Result<(), AllocError>
         requires { IsTrue self.old.world.has_source }
         ensures reads { Reaches self.old result self.new (read_run self.old)

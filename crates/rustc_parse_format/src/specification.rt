@@ -237,6 +237,7 @@ impl<'input> Reader<'input> {
     /// Reads a colon and what `mode` has after it into `format`, which is still the default. Reads
     /// nothing if the next character is not a colon. Returns `Err` if an allocation fails.
     #[tactic(auto, using(crate::proofs::Readers::Steps::part_le, crate::proofs::Readers::Steps::at_colon))]
+    #[inline(always)]
     pub fn specification(
         &mut self,
         mode: ParseMode,

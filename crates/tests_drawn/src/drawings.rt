@@ -3,8 +3,8 @@
 use crate::line_rows::line_rows;
 use crate::row::Row;
 use crate::short_rows::short_rows;
-use drawn_faults::{Picture, draw};
-use rustc_parse_format::{ParseMode, read_all};
+use drawn_faults::{Picture, draw, errors_of};
+use rustc_parse_format::{ParseError, ParseMode};
 use std::alloc::{AllocError, Global};
 use std::process::Abort;
 use std::test::Fail;
@@ -19,33 +19,52 @@ fn joined(alloc: Global, texts: &[&str], end: &str) -> Result<String, AllocError
     Ok(all)
 }
 
-/// The row's first fault is drawn as it says, and an empty line ends the drawing.
-fn check(rt: &impl Abort, alloc: Global, row: &Row) -> Result<(), AllocError> {
+/// The faults of a row.
+fn errors_in(rt: &impl Abort, alloc: Global, row: &Row) -> Result<Vec<ParseError>, AllocError> {
     let style = row.style.unwrap_or(0);
     assert!(rt; row.text.len() < 10000 && style < 10000);
     let snippet = String::from_str(alloc, row.literal)?;
-    let (_pieces, parser) = read_all(
+    errors_of(
         alloc,
         row.text,
         row.style,
         Some(snippet),
         row.appended_newline,
         ParseMode::Format,
-    )?;
+    )
+}
+
+/// The drawing of a fault of a row.
+fn drawn(alloc: Global, row: &Row, error: &ParseError) -> Result<String, AllocError> {
     let source = joined(alloc, &[row.before, row.literal, row.after], "")?;
-    let mut wanted = joined(alloc, row.lines, "\n")?;
-    wanted.push_str("\n")?;
     let picture = Picture {
         path: "a.rs",
         source: source.as_str(),
         line_start: row.line,
         literal_start: row.before.len(),
     };
-    let errors = parser.errors();
-    assert!(rt; !errors.is_empty(), "{}", row.literal);
-    let drawing = draw(alloc, &picture, &errors[0])?;
-    assert_eq!(rt; drawing.as_str(), wanted.as_str());
+    draw(alloc, &picture, error)
+}
+
+/// A drawing is as the row says, and an empty line ends it.
+fn check_drawing(
+    rt: &impl Abort,
+    alloc: Global,
+    row: &Row,
+    drawing: &str,
+) -> Result<(), AllocError> {
+    let mut wanted = joined(alloc, row.lines, "\n")?;
+    wanted.push_str("\n")?;
+    assert_eq!(rt; drawing, wanted.as_str());
     Ok(())
+}
+
+/// The row's first fault is drawn as it says.
+fn check(rt: &impl Abort, alloc: Global, row: &Row) -> Result<(), AllocError> {
+    let errors = errors_in(rt, alloc, row)?;
+    assert!(rt; !errors.is_empty(), "{}", row.literal);
+    let drawing = drawn(alloc, row, &errors[0])?;
+    check_drawing(rt, alloc, row, drawing.as_str())
 }
 
 #[test]

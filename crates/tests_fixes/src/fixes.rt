@@ -46,36 +46,39 @@ fn check_text(
     )
 }
 
+/// Texts, and what each is fixed to.
+const TEXTS: &[(&str, &str)] = &[
+    ("{r#type}", "{type}"),
+    ("{r#a:>5}", "{a:>5}"),
+    ("{a?}", "{a:?}"),
+    ("{?}", "{:?}"),
+    ("{a ?}", "{a :?}"),
+    ("{:?#}", "{:#?}"),
+    ("{:?x}", "{:x?}"),
+    ("{a:>?X}", "{a:>X?}"),
+    ("{:#05.2?x}", "{:#05.2x?}"),
+    ("한{r#a}한", "한{a}한"),
+    // several suggestions
+    ("{r#a:?x} {b?} {:?#}", "{a:x?} {b:?} {:#?}"),
+    ("} {r#a} } {b?}", "} {a} } {b:?}"),
+    ("{r#a.r#b}", "{a.b}"),
+    ("{r#a{r#b{r#c", "{a{b{c"),
+    // texts that have faults of their own after the edit: for these its law does not hold
+    ("{a?}}", "{a:?}}"),
+    ("{a:?#}}", "{a:#?}}"),
+    ("{:5?#}", "{:5#?}"),
+    ("{:05?#}", "{:05#?}"),
+    ("{:.3?#}", "{:.3#?}"),
+    ("{:#?#}", "{:##?}"),
+    ("{:x??}", "{:x?:?}"),
+    ("{a:?##}", "{a:#?#}"),
+    ("{r#r#a}", "{r#a}"),
+    ("{a.:?#}", "{a.:#?}"),
+];
+
 #[test]
 fn of_texts(rt: HostRuntime) -> Result<(), Fail> {
-    for (text, wanted) in [
-        ("{r#type}", "{type}"),
-        ("{r#a:>5}", "{a:>5}"),
-        ("{a?}", "{a:?}"),
-        ("{?}", "{:?}"),
-        ("{a ?}", "{a :?}"),
-        ("{:?#}", "{:#?}"),
-        ("{:?x}", "{:x?}"),
-        ("{a:>?X}", "{a:>X?}"),
-        ("{:#05.2?x}", "{:#05.2x?}"),
-        ("한{r#a}한", "한{a}한"),
-        // several suggestions
-        ("{r#a:?x} {b?} {:?#}", "{a:x?} {b:?} {:#?}"),
-        ("} {r#a} } {b?}", "} {a} } {b:?}"),
-        ("{r#a.r#b}", "{a.b}"),
-        ("{r#a{r#b{r#c", "{a{b{c"),
-        // texts that have faults of their own after the edit: for these its law does not hold
-        ("{a?}}", "{a:?}}"),
-        ("{a:?#}}", "{a:#?}}"),
-        ("{:5?#}", "{:5#?}"),
-        ("{:05?#}", "{:05#?}"),
-        ("{:.3?#}", "{:.3#?}"),
-        ("{:#?#}", "{:##?}"),
-        ("{:x??}", "{:x?:?}"),
-        ("{a:?##}", "{a:#?#}"),
-        ("{r#r#a}", "{r#a}"),
-        ("{a.:?#}", "{a.:#?}"),
-    ] {
+    for (text, wanted) in TEXTS {
         check_text(&rt, rt.alloc(), ParseMode::Format, text, wanted)?;
     }
     for mode in [ParseMode::InlineAsm, ParseMode::DiagnosticNamed] {
@@ -84,84 +87,87 @@ fn of_texts(rt: HostRuntime) -> Result<(), Fail> {
     Ok(())
 }
 
+/// Literals that are fixed, or not.
+const LITERALS: &[Row<'static>] = &[
+    ("{r#a}", Some(0), "r\"{r#a}\"", false, "r\"{a}\"", "{a}"),
+    (
+        "{a?}",
+        Some(1),
+        "r#\"{a?}\"#",
+        false,
+        "r#\"{a:?}\"#",
+        "{a:?}",
+    ),
+    // the `r#` and what is between its two characters go
+    (
+        "{r#a}",
+        None,
+        "\"{\\x72\\\n  #a}\"",
+        false,
+        "\"{a}\"",
+        "{a}",
+    ),
+    (
+        "{r#a}",
+        None,
+        "\"{\\\n  r#\\\n  a}\"",
+        false,
+        "\"{\\\n  \\\n  a}\"",
+        "{a}",
+    ),
+    (
+        "\t{a?}",
+        None,
+        "\"\\t{a\\u{3f}}\"",
+        false,
+        "\"\\t{a:\\u{3f}}\"",
+        "\t{a:?}",
+    ),
+    (
+        "{:?#}\"",
+        None,
+        "\"{:?\\x23}\\\"\"",
+        false,
+        "\"{:#?}\\\"\"",
+        "{:#?}\"",
+    ),
+    // rustc 1.95 crashes here: it takes the literal for one of another text
+    (
+        "\u{a0}{?}한",
+        None,
+        "\"\\\n\u{a0}{?}한\"",
+        false,
+        "\"\\\n\u{a0}{:?}한\"",
+        "\u{a0}{:?}한",
+    ),
+    // with an appended newline
+    ("{r#a}\n", None, "\"{r#a}\"", true, "\"{a}\"", "{a}\n"),
+    (
+        "{a?}\n",
+        Some(0),
+        "r\"{a?}\"",
+        true,
+        "r\"{a:?}\"",
+        "{a:?}\n",
+    ),
+    // no suggestion that can be applied without the arguments of the call
+    ("{}", None, "\"{}\"", false, "", ""),
+    ("{_}", None, "\"{_}\"", false, "", ""),
+    ("{a=}", None, "\"{a=}\"", false, "", ""),
+    ("{a.b}", None, "\"{a.b}\"", false, "", ""),
+    // snippets that are not the source literal of the input
+    ("{r#a}", None, "r\"{r#a}\"", false, "", ""),
+    ("{r#a}", Some(0), "\"{r#a}\"", false, "", ""),
+    ("{r#a}", None, "\"{r#b}\"", false, "", ""),
+    ("{r#a}", None, "concat!(\"{r#\", \"a}\")", false, "", ""),
+    // the no-break space behind the continued line belongs to the text
+    ("{?}한", None, "\"\\\n\u{a0}{?}한\"", false, "", ""),
+];
+
 #[test]
 fn of_literals(rt: HostRuntime) -> Result<(), Fail> {
-    for row in [
-        ("{r#a}", Some(0), "r\"{r#a}\"", false, "r\"{a}\"", "{a}"),
-        (
-            "{a?}",
-            Some(1),
-            "r#\"{a?}\"#",
-            false,
-            "r#\"{a:?}\"#",
-            "{a:?}",
-        ),
-        // the `r#` and what is between its two characters go
-        (
-            "{r#a}",
-            None,
-            "\"{\\x72\\\n  #a}\"",
-            false,
-            "\"{a}\"",
-            "{a}",
-        ),
-        (
-            "{r#a}",
-            None,
-            "\"{\\\n  r#\\\n  a}\"",
-            false,
-            "\"{\\\n  \\\n  a}\"",
-            "{a}",
-        ),
-        (
-            "\t{a?}",
-            None,
-            "\"\\t{a\\u{3f}}\"",
-            false,
-            "\"\\t{a:\\u{3f}}\"",
-            "\t{a:?}",
-        ),
-        (
-            "{:?#}\"",
-            None,
-            "\"{:?\\x23}\\\"\"",
-            false,
-            "\"{:#?}\\\"\"",
-            "{:#?}\"",
-        ),
-        // rustc 1.95 crashes here: it takes the literal for one of another text
-        (
-            "\u{a0}{?}한",
-            None,
-            "\"\\\n\u{a0}{?}한\"",
-            false,
-            "\"\\\n\u{a0}{:?}한\"",
-            "\u{a0}{:?}한",
-        ),
-        // with an appended newline
-        ("{r#a}\n", None, "\"{r#a}\"", true, "\"{a}\"", "{a}\n"),
-        (
-            "{a?}\n",
-            Some(0),
-            "r\"{a?}\"",
-            true,
-            "r\"{a:?}\"",
-            "{a:?}\n",
-        ),
-        // no suggestion that can be applied without the arguments of the call
-        ("{}", None, "\"{}\"", false, "", ""),
-        ("{_}", None, "\"{_}\"", false, "", ""),
-        ("{a=}", None, "\"{a=}\"", false, "", ""),
-        ("{a.b}", None, "\"{a.b}\"", false, "", ""),
-        // snippets that are not the source literal of the input
-        ("{r#a}", None, "r\"{r#a}\"", false, "", ""),
-        ("{r#a}", Some(0), "\"{r#a}\"", false, "", ""),
-        ("{r#a}", None, "\"{r#b}\"", false, "", ""),
-        ("{r#a}", None, "concat!(\"{r#\", \"a}\")", false, "", ""),
-        // the no-break space behind the continued line belongs to the text
-        ("{?}한", None, "\"\\\n\u{a0}{?}한\"", false, "", ""),
-    ] {
-        check(&rt, rt.alloc(), ParseMode::Format, row)?;
+    for row in LITERALS {
+        check(&rt, rt.alloc(), ParseMode::Format, *row)?;
     }
     Ok(())
 }

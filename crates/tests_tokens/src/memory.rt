@@ -4,35 +4,39 @@
 //! it prints a line `refused`. `.ci/refusals` runs it with its first allocation failing, then with
 //! its second, and so on.
 
-use format_tokens::{Token, tokens};
-use rustc_parse_format::ParseMode;
-use std::alloc::{AllocError, Global};
+use crate::rows::check;
+use crate::sources::tokens_of;
+use format_tokens::Kind::*;
+use format_tokens::Token;
+use std::alloc::Global;
 use std::io::Print;
 use std::process::Abort;
 use std::test::Fail;
 
-/// The tokens of a literal with an escape.
-fn read(alloc: Global) -> Result<Vec<Token>, AllocError> {
-    let snippet = String::from_str(alloc, "\"\\x7ba}\"")?;
-    tokens(alloc, "{a}", None, Some(snippet), false, ParseMode::Format)
-}
-
-/// The same, read once more where an allocation fails.
-fn read_again(rt: &(impl Abort + Print), alloc: Global) -> Result<Vec<Token>, Fail> {
-    if let Ok(found) = read(alloc) {
+/// The tokens of an ordinary literal, read once more where an allocation fails.
+fn read(
+    rt: &(impl Abort + Print),
+    alloc: Global,
+    input: &str,
+    literal: &str,
+) -> Result<Vec<Token>, Fail> {
+    if let Ok(found) = tokens_of(rt, alloc, input, None, literal, false) {
         return Ok(found);
     }
     println!(rt; "refused")?;
-    Ok(read(alloc)?)
+    Ok(tokens_of(rt, alloc, input, None, literal, false)?)
 }
 
 #[test]
 fn tokens_out_of_memory_are_read_again(rt: HostRuntime) -> Result<(), Fail> {
-    let found = read_again(&rt, rt.alloc())?;
-    assert!(rt; found.len() == 5);
-    let ends = [1, 5, 6, 7, 8];
-    for (token, end) in found.iter().zip(ends) {
-        assert!(rt; token.span.end == end);
-    }
+    let row = [
+        (Quote, 0),
+        (Open, 1),
+        (Identifier, 5),
+        (Close, 6),
+        (Quote, 7),
+    ];
+    let found = read(&rt, rt.alloc(), "{a}", "\"\\x7ba}\"")?;
+    check(&rt, found.as_slice(), &row, 8);
     Ok(())
 }

@@ -9,17 +9,15 @@ use std::test::Fail;
 
 /// The tokens have these kinds and start at these bytes, and each ends where the next one starts.
 pub fn check(rt: &impl Abort, found: &[Token], expected: &[(Kind, usize)], end: usize) {
-    assert_eq!(rt; found.len(), expected.len());
+    assert!(rt; found.len() == expected.len());
     for i in 0..expected.len() {
-        assert!(rt; i < found.len());
-        assert!(rt; found[i].kind == expected[i].0);
-        assert_eq!(rt; found[i].span.start, expected[i].1);
         let next = if i + 1 < expected.len() {
             expected[i + 1].1
         } else {
             end
         };
-        assert_eq!(rt; found[i].span.end, next);
+        assert!(rt; i < found.len() && found[i].kind == expected[i].0);
+        assert!(rt; found[i].span.start == expected[i].1 && found[i].span.end == next);
     }
 }
 

@@ -2,10 +2,32 @@
 
 use crate::rows::check;
 use format_tokens::Kind::*;
-use format_tokens::tokens;
+use format_tokens::{Token, tokens};
 use rustc_parse_format::ParseMode;
+use std::alloc::{AllocError, Global};
 use std::process::Abort;
 use std::test::Fail;
+
+/// The tokens of a short input with this snippet.
+pub fn tokens_of(
+    rt: &impl Abort,
+    alloc: Global,
+    input: &str,
+    style: Option<usize>,
+    snippet: &str,
+    appended_newline: bool,
+) -> Result<Vec<Token>, AllocError> {
+    assert!(rt; input.len() < 1000 && style.unwrap_or(0) < 1000);
+    let snippet = String::from_str(alloc, snippet)?;
+    tokens(
+        alloc,
+        input,
+        style,
+        Some(snippet),
+        appended_newline,
+        ParseMode::Format,
+    )
+}
 
 #[test]
 fn a_raw_literal(rt: HostRuntime) -> Result<(), Fail> {
@@ -17,16 +39,7 @@ fn a_raw_literal(rt: HostRuntime) -> Result<(), Fail> {
         (Close, 7),
         (Quote, 8),
     ];
-    let snippet = String::from_str(rt.alloc(), "r##\"a{b}\"##")?;
-    let style = Some(2);
-    let found = tokens(
-        rt.alloc(),
-        "a{b}",
-        style,
-        Some(snippet),
-        false,
-        ParseMode::Format,
-    )?;
+    let found = tokens_of(&rt, rt.alloc(), "a{b}", Some(2), "r##\"a{b}\"##", false)?;
     check(&rt, found.as_slice(), &row, 11);
     Ok(())
 }
@@ -41,15 +54,7 @@ fn an_appended_newline(rt: HostRuntime) -> Result<(), Fail> {
         (Close, 3),
         (Quote, 4),
     ];
-    let snippet = String::from_str(rt.alloc(), "\"{a}\"")?;
-    let found = tokens(
-        rt.alloc(),
-        "{a}\n",
-        None,
-        Some(snippet),
-        true,
-        ParseMode::Format,
-    )?;
+    let found = tokens_of(&rt, rt.alloc(), "{a}\n", None, "\"{a}\"", true)?;
     check(&rt, found.as_slice(), &row, 5);
     Ok(())
 }
@@ -58,15 +63,7 @@ fn an_appended_newline(rt: HostRuntime) -> Result<(), Fail> {
 fn a_newline_after_text(rt: HostRuntime) -> Result<(), Fail> {
     // the token ends before it
     let row = [(Quote, 0), (Text, 1), (Quote, 3)];
-    let snippet = String::from_str(rt.alloc(), "\"hi\"")?;
-    let found = tokens(
-        rt.alloc(),
-        "hi\n",
-        None,
-        Some(snippet),
-        true,
-        ParseMode::Format,
-    )?;
+    let found = tokens_of(&rt, rt.alloc(), "hi\n", None, "\"hi\"", true)?;
     check(&rt, found.as_slice(), &row, 4);
     Ok(())
 }
@@ -75,15 +72,7 @@ fn a_newline_after_text(rt: HostRuntime) -> Result<(), Fail> {
 fn a_snippet_that_is_not_the_literal(rt: HostRuntime) -> Result<(), Fail> {
     // no quotes, and the text ends where the snippet does
     let row = [(Open, 1), (Identifier, 2), (Close, 3)];
-    let snippet = String::from_str(rt.alloc(), "stringify!({a})")?;
-    let found = tokens(
-        rt.alloc(),
-        "{a}",
-        None,
-        Some(snippet),
-        false,
-        ParseMode::Format,
-    )?;
+    let found = tokens_of(&rt, rt.alloc(), "{a}", None, "stringify!({a})", false)?;
     check(&rt, found.as_slice(), &row, 15);
     Ok(())
 }

@@ -46,8 +46,9 @@ impl u8x16 {
     /// Panics if the slice is shorter.
     #[inline(always)]
     pub fn from_slice(bytes: &[u8]) -> u8x16 {
+        let word = |bytes: &[u8]| u64::from_le_bytes(bytes.try_into().expect("eight bytes"));
         let (low, high) = bytes[..16].split_at(8);
-        u8x16([low, high].map(|bytes| u64::from_le_bytes(bytes.try_into().expect("eight bytes"))))
+        u8x16([word(low), word(high)])
     }
 }
 

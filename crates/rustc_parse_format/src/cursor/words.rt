@@ -1,7 +1,7 @@
 //! The longest prefixes that a cursor reads: characters of a class, white space, words and numbers.
 
-ghost use Rattle.std.specs.Prelude.{◌≡◌, bytes_eq, chars, codes, if◌then◌else◌, None, option_map};
-ghost use Rattle.std.specs.Prelude.{Some, true};
+ghost use Rattle.std.specs.Prelude.{◌≡◌, ◌++◌, bytes_eq, chars, codes, if◌then◌else◌, None};
+ghost use Rattle.std.specs.Prelude.{option_map, Some, true};
 ghost use Rattle.rustc_parse_format.specs.Characters.{Text, behind, behind_digits, behind_white};
 ghost use Rattle.rustc_parse_format.specs.Characters.{behind_word, digits, first_passes};
 ghost use Rattle.rustc_parse_format.specs.Characters.{is_id_start, is_over, number, word};
@@ -13,7 +13,7 @@ ghost use Rattle.rustc_parse_format.specs.World.{Place, place_of};
 use super::Cursor;
 use super::steps::count_before;
 use crate::characters::{
-    Class, before, begins_white, behind_number, behind_while, behind_word, is_underscore,
+    Class, before, begins_white, behind_number, behind_while, is_underscore, split_word,
 };
 use std::ops::Range;
 
@@ -47,6 +47,17 @@ impl<'input> Cursor<'input> {
         self.skip_while(Class::White);
     }
 
+    /// Returns the byte range in the source of what is before `rest`, a suffix of what is left. It
+    /// is not inlined, since few words are a fault.
+    #[cold]
+    #[inline(never)]
+    fn place_before(&self, rest: &'input str) -> Range<usize>
+        requires { (read : Text) × (self.now.rest ≡ read ++ chars rest.now) }
+        ensures { pair result ≡ place_of self.now.world (up_to self.now.rest (chars rest.now)) }
+    {
+        self.start()..self.source.start(rest, &self.anchor)
+    }
+
     /// Reads the word that begins at the cursor. If it is `_`, also returns its byte range in the
     /// source.
     #[inline(always)]
@@ -59,16 +70,30 @@ impl<'input> Cursor<'input> {
             then Some (place_of self.old.world (up_to self.old.rest (behind_word self.old.rest)))
             else None }
     {
-        let rest = behind_word(self.rest);
-        let word = before(self.rest, rest);
+        let (word, rest) = split_word(self.rest);
         let underscore = if is_underscore(word) {
-            Some(self.start()..self.source.start(rest, &self.anchor))
+            Some(self.place_before(rest))
         } else {
             None
         };
         self.tally.pass(count_before(self.rest, rest));
         self.rest = rest;
         (word, underscore)
+    }
+
+    /// Returns what is before `rest`, a suffix of what is left, and its byte range in the source
+    /// with that of the character after it. It is not inlined, since few numbers are a fault.
+    #[cold]
+    #[inline(never)]
+    fn digits_before(&self, rest: &'input str) -> (&'input str, Range<usize>)
+        requires { (read : Text) × (self.now.rest ≡ read ++ chars rest.now) }
+        ensures text { (read : Text) → self.now.rest ≡ read ++ chars rest.now
+            → chars result.0.now ≡ read }
+        ensures place { pair result.1
+            ≡ place_of self.now.world (through self.now.rest (chars rest.now)) }
+    {
+        let span = self.start()..self.source.stop(rest, &self.anchor);
+        (before(self.rest, rest), span)
     }
 
     /// Reads the ASCII digits at the cursor, and returns their value modulo 65536. If that value
@@ -88,8 +113,7 @@ impl<'input> Cursor<'input> {
     {
         let (number, is_over, rest) = behind_number(self.rest);
         let over = if is_over {
-            let span = self.start()..self.source.stop(rest, &self.anchor);
-            Some((before(self.rest, rest), span))
+            Some(self.digits_before(rest))
         } else {
             None
         };

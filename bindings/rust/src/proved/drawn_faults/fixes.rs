@@ -6,7 +6,9 @@
 // by results from outside, and beside what is proved (.ci/bindings) and the original (tools/agree).
 
 use crate::proved::rustc_parse_format::literal::is_source_literal;
-use crate::proved::rustc_parse_format::{ParseError, ParseMode, Suggestion};
+use crate::proved::rustc_parse_format::{
+    Argument, FormatSpec, ParseError, ParseMode, Position, Suggestion,
+};
 use crate::shim::alloc::{AllocError, Global};
 use crate::shim::parser::Parser;
 use crate::shim::prelude::*;
@@ -91,30 +93,66 @@ fn behind(bytes: &[u8], n: usize) -> &[u8] {
     bytes.get(n..).unwrap_or(&[])
 }
 
-/// Returns a text with these edits, where the text starts at the byte offset `at`, or `None` if the
-/// result is not UTF-8. Returns `Err` if an allocation fails.
-// ensures some { IfOk result (λ o. IfSome o (λ s. string_bytes s
-//     ≡ applied at (map seen_edit edits.now) text.now)) }
-// ensures none { IfOk result (λ o. IfNone o
-//     (IsUtf8 (applied at (map seen_edit edits.now) text.now) → ⊥)) }
+/// A text in the middle of its edits.
+struct Edited<'t> {
+    /// What is written of the text with its edits.
+    bytes: Vec<u8>,
+    /// What is left of the text.
+    rest: &'t [u8],
+    /// The byte offset at which that starts.
+    start: usize,
+    /// Where the last edit ends, or 0 if there is none.
+    end: usize,
+}
+
+/// Makes the edit of a suggestion, if it has one that starts behind the end of the last one.
+/// Returns `Err` if an allocation fails.
+// ensures { OnOk result ((es : List EditValue) → with_edits edited.new es ≡ with_edits edited.old
+//     (cons_option (suggested (seen_suggestion suggestion.now)) es)) }
 #[inline]
-fn apply(
-    alloc: Global,
-    text: &str,
-    at: usize,
-    edits: &[Edit<'_>],
-) -> Result<Option<String>, AllocError> {
-    let mut bytes = Vec::made_in(alloc);
-    let mut rest = text.as_bytes();
-    let mut start = at;
-    for edit in edits {
-        bytes.try_extend_from_slice(front(rest, edit.span.start.saturating_sub(start)))?;
-        bytes.try_extend_from_slice(edit.text.as_bytes())?;
-        rest = behind(rest, edit.span.end.saturating_sub(start));
-        start = edit.span.end;
+fn make(edited: &mut Edited<'_>, suggestion: &Suggestion) -> Result<(), AllocError> {
+    let Some(edit) = edit_of(suggestion) else {
+        return Ok(());
+    };
+    if edited.end < edit.span.start && edit.span.start <= edit.span.end {
+        let kept = front(edited.rest, edit.span.start.saturating_sub(edited.start));
+        edited.bytes.try_extend_from_slice(kept)?;
+        edited.bytes.try_extend_from_slice(edit.text.as_bytes())?;
+        edited.rest = behind(edited.rest, edit.span.end.saturating_sub(edited.start));
+        edited.start = edit.span.end;
+        edited.end = edit.span.end;
     }
-    bytes.try_extend_from_slice(rest)?;
-    Ok(String::from_utf8(bytes).ok())
+    Ok(())
+}
+
+/// Makes the edits of errors, the last one first. Returns `Err` if an allocation fails.
+// ensures { OnOk result ((es : List EditValue) → with_edits edited.new es ≡ with_edits edited.old
+//     (filter_map edit_of (reverse (map seen_error errors.now)) ++ es)) }
+#[inline]
+fn make_each(edited: &mut Edited<'_>, errors: &[ParseError]) -> Result<(), AllocError> {
+    for error in errors.iter().rev() {
+        make(edited, &error.suggestion)?;
+    }
+    Ok(())
+}
+
+/// Makes a call of a parser without errors, and the edits of its errors. Returns `Err` if an
+/// allocation fails.
+// requires { parser.old.errors ≡ [] }
+// ensures state { OnOk result (parser.new
+//     ≡ record (after parser.old (next_call parser.old)) { errors = [] }) }
+// ensures edits { OnOk result ((es : List EditValue) → with_edits edited.new es ≡ with_edits
+//     edited.old (fault_edits (faults_in parser.old.world (next_call parser.old).faults) ++ es)) }
+#[inline]
+fn make_next<'a>(
+    edited: &mut Edited<'_>,
+    parser: &mut Parser<'a>,
+    argument: &mut Argument<'a>,
+) -> Result<(), AllocError> {
+    parser.next_into(argument)?;
+    let errors = parser.take_errors();
+    make_each(edited, &errors)?;
+    Ok(())
 }
 
 /// Returns whether a parser is at the end of its input.
@@ -157,6 +195,52 @@ pub fn errors_of(
     Ok(parser.take_errors())
 }
 
+/// Returns an argument to read placeholders into.
+#[inline]
+fn blank_argument<'a>() -> Argument<'a> {
+    Argument {
+        position: Position::ArgumentImplicitlyIs(0),
+        position_span: 0..0,
+        format: FormatSpec::default(),
+    }
+}
+
+/// Returns a text with the edits of the errors of all calls of a parser without errors, and whether
+/// there are any. The text starts at the byte offset `at`. Returns `Err` if an allocation fails.
+// requires { parser.old.errors ≡ [] }
+// ensures bytes { IfOk result (λ x. x.0.items
+//     ≡ applied at (edits (all_errors parser.old)) text.now) }
+// ensures some { IfOk result (λ x. x.1 ≡ not (is_empty (edits (all_errors parser.old)))) }
+#[inline]
+fn edit_all(
+    alloc: Global,
+    parser: &mut Parser<'_>,
+    text: &str,
+    at: usize,
+) -> Result<(Vec<u8>, bool), AllocError> {
+    let mut argument = blank_argument();
+    let mut edited = Edited {
+        bytes: Vec::made_in(alloc),
+        rest: text.as_bytes(),
+        start: at,
+        end: 0,
+    };
+    while !is_at_end(parser) {
+        make_next(&mut edited, parser, &mut argument)?;
+    }
+    let rest = edited.rest;
+    edited.bytes.try_extend_from_slice(rest)?;
+    Ok((edited.bytes, edited.end > 0))
+}
+
+/// Returns bytes as a text, or `None` if they are not UTF-8.
+// ensures some { IfSome result (λ s. string_bytes s ≡ bytes.items) }
+// ensures none { IfNone result (IsUtf8 bytes.items → ⊥) }
+#[inline]
+fn text_of(bytes: Vec<u8>) -> Option<String> {
+    String::from_utf8(bytes).ok()
+}
+
 /// Returns the literal of an input with the edits of its errors, or `None` if it has none or is
 /// then not UTF-8. Returns `Err` if an allocation fails.
 // requires { hashes style + length input.now + 2 < 2 ^ 64 }
@@ -179,12 +263,12 @@ fn edited_literal(
     mode: ParseMode,
 ) -> Result<Option<String>, AllocError> {
     let owned = String::made_from(alloc, snippet)?;
-    let errors = errors_of(alloc, input, style, Some(owned), appended_newline, mode)?;
-    let in_literal = edits(alloc, &errors)?;
-    if in_literal.as_slice().is_empty() {
+    let mut parser = Parser::new(alloc, input, style, Some(owned), appended_newline, mode)?;
+    let (bytes, has_edits) = edit_all(alloc, &mut parser, snippet, 0)?;
+    if !has_edits {
         return Ok(None);
     }
-    apply(alloc, snippet, 0, &in_literal)
+    Ok(text_of(bytes))
 }
 
 /// Returns an input with the edits of its errors, or `None` if it is then not UTF-8. Returns `Err`
@@ -196,9 +280,9 @@ fn edited_literal(
 //     (IsUtf8 (applied 1 (text_edits (seen_mode mode) (chars input.now)) input.now) → ⊥)) }
 #[inline]
 fn edited_text(alloc: Global, input: &str, mode: ParseMode) -> Result<Option<String>, AllocError> {
-    let errors = errors_of(alloc, input, None, None, false, mode)?;
-    let in_text = edits(alloc, &errors)?;
-    apply(alloc, input, 1, &in_text)
+    let mut parser = Parser::new(alloc, input, None, None, false, mode)?;
+    let (bytes, _) = edit_all(alloc, &mut parser, input, 1)?;
+    Ok(text_of(bytes))
 }
 
 /// Returns the source literal of an input with the edits of all errors up to the end of the input,

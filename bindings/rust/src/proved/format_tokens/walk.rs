@@ -128,18 +128,18 @@ fn blank_argument<'a>() -> Argument<'a> {
     }
 }
 
-/// Returns the kinds of the tokens of a text and the byte length of each.
-// requires { length input.now + 2 < 2 ^ 64 }
+/// Returns the labels of an input, by the calls of a parser at its start.
+// requires { parser.old ≡ first_state (seen_mode mode) (chars input.now) None None false }
 // ensures { IfOk result (λ v. v.items
 //     ≡ map sized (tokens_of (seen_mode mode) (chars input.now))) }
 #[inline]
-pub fn labels(
+fn labels_by<'a>(
     alloc: Global,
-    input: &str,
+    parser: &mut Parser<'a>,
     mode: ParseMode,
+    input: &'a str,
 ) -> Result<Vec<(Kind, usize)>, AllocError> {
     let mut labels = Vec::made_in(alloc);
-    let mut parser = Parser::new(alloc, input, None, None, false, mode)?;
     let mut argument = blank_argument();
     let mut rest = input;
     while !rest.is_empty() {
@@ -150,4 +150,18 @@ pub fn labels(
         rest = call(&mut labels, mode, taken, &argument, left, rest)?;
     }
     Ok(labels)
+}
+
+/// Returns the kinds of the tokens of a text and the byte length of each.
+// requires { length input.now + 2 < 2 ^ 64 }
+// ensures { IfOk result (λ v. v.items
+//     ≡ map sized (tokens_of (seen_mode mode) (chars input.now))) }
+#[inline]
+pub fn labels(
+    alloc: Global,
+    input: &str,
+    mode: ParseMode,
+) -> Result<Vec<(Kind, usize)>, AllocError> {
+    let mut parser = Parser::new(alloc, input, None, None, false, mode)?;
+    labels_by(alloc, &mut parser, mode, input)
 }

@@ -64,6 +64,44 @@ pub fn begins_digit(text: &str) -> bool {
     !bytes.is_empty() && bytes[0].is_ascii_digit()
 }
 
+/// Returns the first character if it is an ASCII digit, or else `None`.
+// ensures digit { IfSome result (λ d. (first (chars text.now) ≡ Some d)
+//     × IsTrue (is_ascii_digit d)) }
+// ensures none { IsNone result → first_passes is_ascii_digit (chars text.now) ≡ false }
+#[inline(always)]
+fn first_digit(text: &str) -> Option<u8> {
+    let bytes = text.as_bytes();
+    if bytes.is_empty() || !bytes[0].is_ascii_digit() {
+        return None;
+    }
+    Some(bytes[0])
+}
+
+/// Returns whether the byte is an ASCII letter.
+// ensures { result ≡ is_ascii_alphabetic byte }
+#[inline(always)]
+fn is_letter(byte: u8) -> bool {
+    (byte | 32).is_ascii_lowercase()
+}
+
+/// Returns whether the byte is an ASCII character that can continue a word.
+// ensures { result ≡ is_word_byte byte }
+#[inline(always)]
+fn is_word_byte(byte: u8) -> bool {
+    is_letter(byte) || byte.is_ascii_digit() || byte == b'_'
+}
+
+/// Returns whether the first character can begin a word. Most often its first byte shows it.
+// ensures { result ≡ first_passes is_id_start (chars text.now) }
+#[inline(always)]
+pub fn begins_word(text: &str) -> bool {
+    let bytes = text.as_bytes();
+    if !bytes.is_empty() && bytes[0] < 128 {
+        return is_letter(bytes[0]) || bytes[0] == b'_';
+    }
+    first(text).map_or(false, is_id_start)
+}
+
 /// Returns what is left after the first character, or an empty text if there is none.
 // ensures rest { chars result.now ≡ behind_first (chars text.now) }
 // ensures left { (input : List ℕ) → IsLeft input text.now → IsLeft input result.now }
@@ -139,13 +177,50 @@ pub fn behind_while(text: &str, class: Class) -> &str {
     rest
 }
 
-/// Returns what is left after the word that begins the text.
-// requires { first_passes is_id_start (chars text.now) ≡ true }
-// ensures rest { chars result.now ≡ behind_word (chars text.now) }
-// ensures left { (input : List ℕ) → IsLeft input text.now → IsLeft input result.now }
+/// Returns the number of bytes before the first one that is not an ASCII character that can
+/// continue a word.
+// ensures { IsFront is_word_byte bytes.now result }
 #[inline(always)]
-pub fn behind_word(text: &str) -> &str {
-    behind_while(behind_first(text), Class::Continue)
+fn word_width(bytes: &[u8]) -> usize {
+    for i in 0..bytes.len() {
+        if !is_word_byte(bytes[i]) {
+            return i;
+        }
+    }
+    bytes.len()
+}
+
+/// Returns whether there is a byte at the index `at` that is not ASCII.
+// ensures { result ≡ false → at < length bytes.now → slice_index bytes.now at < 128 }
+#[inline(always)]
+fn is_wide(bytes: &[u8], at: usize) -> bool {
+    at < bytes.len() && bytes[at] >= 128
+}
+
+/// Splits a text behind the word that begins it. Most often that is ASCII.
+// requires { first_passes is_id_start (chars text.now) ≡ true }
+// ensures word { chars result.0.now ≡ word (chars text.now) }
+// ensures rest { chars result.1.now ≡ behind_word (chars text.now) }
+// ensures left { (input : List ℕ) → IsLeft input text.now → IsLeft input result.1.now }
+#[inline(always)]
+pub fn split_word(text: &str) -> (&str, &str) {
+    let bytes = text.as_bytes();
+    let width = word_width(bytes);
+    if is_wide(bytes, width) {
+        return split_wide_word(text);
+    }
+    text.split_at(width)
+}
+
+/// Splits a text behind the word that begins it, which need not be ASCII.
+// requires { first_passes is_id_start (chars text.now) ≡ true }
+// ensures word { chars result.0.now ≡ word (chars text.now) }
+// ensures rest { chars result.1.now ≡ behind_word (chars text.now) }
+// ensures left { (input : List ℕ) → IsLeft input text.now → IsLeft input result.1.now }
+#[inline(never)]
+fn split_wide_word(text: &str) -> (&str, &str) {
+    let rest = behind_while(behind_first(text), Class::Continue);
+    (before(text, rest), rest)
 }
 
 /// Returns the value of the ASCII digits at the start of the text modulo 65536, whether that value
@@ -159,11 +234,8 @@ pub fn behind_number(text: &str) -> (u16, bool, &str) {
     let mut value = 0;
     let mut over = false;
     let mut rest = text;
-    while let Some(c) = first(rest) {
-        if !c.is_ascii_digit() {
-            break;
-        }
-        let more = with_digit(value, c);
+    while let Some(digit) = first_digit(rest) {
+        let more = with_digit(value, digit);
         value = more.0;
         over |= more.1;
         rest = behind_first(rest);
@@ -199,7 +271,7 @@ pub fn is_underscore(text: &str) -> bool {
 // ensures value { result.0 ≡ (number * 10 + digit_value digit) % 65536 }
 // ensures over { result.1 ≡ nat_lt 65535 (number * 10 + digit_value digit) }
 #[inline]
-pub fn with_digit(number: u16, digit: char) -> (u16, bool) {
+fn with_digit(number: u16, digit: u8) -> (u16, bool) {
     let value = u32::from(number) * 10 + (u32::from(digit) - 48);
     ((value % 65536) as u16, value > 65535)
 }

@@ -17,7 +17,7 @@ impl<'input> Reader<'input> {
     // ensures value { IfOk result (λ n. n ≡ number (digits self.old.rest)) }
     // ensures reads { ReadsTo self.old result self.new (behind_digits self.old.rest) self.old.next
     //     (number_faults self.old.rest) [] }
-    #[inline]
+    #[inline(always)]
     pub fn integer(&mut self) -> Result<u16, AllocError> {
         let (number, over) = self.cursor.number();
         if let Some((digits, span)) = over {
@@ -32,7 +32,7 @@ impl<'input> Reader<'input> {
     // ensures value { IfOk result (λ w. chars w.now ≡ word self.old.rest) }
     // ensures reads { ReadsTo self.old result self.new (behind_word self.old.rest) self.old.next
     //     (word_faults self.old.rest) [] }
-    #[inline]
+    #[inline(always)]
     pub fn word(&mut self) -> Result<&'input str, AllocError> {
         let (word, underscore) = self.cursor.word();
         if let Some(span) = underscore {
@@ -53,7 +53,7 @@ impl<'input> Reader<'input> {
     // ensures reads { (let t = self.old.rest in let k = behind_name t (word t) (behind_word t) in
     //     ReadsTo self.old result self.new k.1 self.old.next (word_faults t)
     //     (count_tries t k.0)) }
-    #[inline]
+    #[inline(always)]
     fn named_count(&mut self, into: &mut Count<'input>) -> Result<(), AllocError> {
         let front = self.cursor.checkpoint();
         let start = self.cursor.start();

@@ -7,7 +7,7 @@
 pub(crate) mod words;
 
 use crate::proved::rustc_parse_format::characters::{
-    before, begins, begins_digit, behind_first, first, is_id_start,
+    before, begins, begins_digit, begins_word, behind_first, first,
 };
 use crate::proved::rustc_parse_format::source::{first_anchor, Anchor, Source};
 use std::ops::Range;
@@ -241,7 +241,7 @@ impl<'input> Cursor<'input> {
     // ensures { result ≡ first_passes is_id_start self.now.rest }
     #[inline]
     pub fn is_word_next(&self) -> bool {
-        self.peek().map_or(false, is_id_start)
+        begins_word(self.rest)
     }
 
     /// Returns whether the next two characters are `r#`.
@@ -255,6 +255,6 @@ impl<'input> Cursor<'input> {
     // ensures { result ≡ first_passes is_id_start (behind_first self.now.rest) }
     #[inline]
     pub fn is_word_ahead(&self) -> bool {
-        self.peek_ahead().map_or(false, is_id_start)
+        begins_word(behind_first(self.rest))
     }
 }

@@ -125,11 +125,11 @@ impl<'input> Faults<'input> {
     //     (λ f. self.old ≡ seen_fault f ∷ self.new) }
     #[inline]
     pub fn pop_first(&mut self) -> Option<Fault<'input>> {
-        let fault = self.first.take();
+        let fault = self.first.take()?;
         self.first = self.second.take();
         if !self.more.is_empty() {
             self.second = Some(self.more.remove(0));
         }
-        fault
+        Some(fault)
     }
 }

@@ -53,7 +53,7 @@ impl<'input> Reader<'input> {
     //     ≡ given_position (position self.old.rest).0) }
     // ensures reads { let p = position self.old.rest in ReadsTo self.old result self.new p.1
     //     self.old.next (position_faults self.old.rest p.0) [] }
-    #[inline]
+    #[inline(always)]
     fn position(&mut self) -> Result<Option<Position<'input>>, AllocError> {
         if self.cursor.is_digit_next() {
             let number = self.integer()?;
@@ -96,7 +96,7 @@ impl<'input> Reader<'input> {
     //     let span = up_to self.old.rest (behind_white p.1) in
     //     position_faults self.old.rest p.0 ≡ []
     //     → name_faults (seen_mode mode) (given_position p.0) span ≡ [] → IsOk result) }
-    #[inline]
+    #[inline(always)]
     fn spaced_position(
         &mut self,
         mode: ParseMode,

@@ -113,7 +113,7 @@ impl<'input> Reader<'input> {
     /// and records the lines that end. Returns `Err` if an allocation fails.
     // ensures reads { Reaches self.old result self.new (read_run self.old)
     //     (IsInOneLine self.old) }
-    #[inline]
+    #[inline(never)]
     fn skip_string(&mut self) -> Result<(), AllocError> {
         if self.cursor.is_source_literal() {
             return self.skip_lines();
@@ -127,7 +127,7 @@ impl<'input> Reader<'input> {
     // requires { IsTrue self.old.world.has_source }
     // ensures reads { Reaches self.old result self.new (read_run self.old)
     //     (IsInOneLine self.old) }
-    #[inline]
+    #[inline(never)]
     fn skip_lines(&mut self) -> Result<(), AllocError> {
         while let Some(c) = self.cursor.peek() {
             if !Class::Text.passes(c) {

@@ -220,7 +220,7 @@ impl<'input> Reader<'input> {
     //     Reaches self.old result self.new
     //     (read_texts (read_tries read (spec_tries s.0 s.1)) (spec_texts s.0 s.1))
     //     (FindsNothing self.old fs (spec_texts s.0 s.1)) }
-    #[inline]
+    #[inline(always)]
     pub fn specification(
         &mut self,
         mode: ParseMode,

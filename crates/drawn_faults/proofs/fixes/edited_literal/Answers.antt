@@ -1,39 +1,43 @@
-use Rattle.std.proofs.Common.{◌≡◌, ◌∙◌, ap, sym, map, length, zero, arith, []}
-use Rattle.std.proofs.lemmas.Grind.{common_steps}
-use Rattle.std.proofs.lemmas.List.{length-map}
-use Rattle.rustc_parse_format.specs.Seen.{seen_error}
-use Rattle.drawn_faults.specs.SeenEdits.{seen_edit}
-use Rattle.drawn_faults.proofs.EditLaws.{if_some}
+use Rattle.std.proofs.Common.{◌≡◌, ◌∙◌, ap, subst, not, chars, string_bytes, false, true}
+use Rattle.std.proofs.Common.{IfSome, IfNone, IsUtf8}
+use Rattle.rustc_parse_format.specs.Seen.{seen_mode}
+use Rattle.drawn_faults.specs.Edits.{applied, is_empty}
+use Rattle.drawn_faults.proofs.EditLaws.{if_none, if_some, no-edits, some-edits}
 use Rattle.drawn_faults.proofs.FixLaws.{literal_edits-are}
 use Rattle.drawn_faults.proofs.fixes.edited_literal.Goals as goal
 
-pub returns-then-is_empty-clause-none : goal.returns-then-is_empty-clause-none
-returns-then-is_empty-clause-none c = λ some utf8.
-    let e = literal_edits-are _ _ _ _ _ _ _ _ _ c.in_ok-owned.ensures.ok
-    c.in_ok-errors.ensures.errors (ap (map seen_error) c.deref.ensures.value)
-    c.in_ok-in_literal.ensures.edits in
-    let n : map seen_edit c.in_ok-in_literal.in_literal.items ≡ [] = grind (arith, common_steps) in
-    some (sym e ∙ n)
+pub returns-then-not-has_edits-clause-none : goal.returns-then-not-has_edits-clause-none
+returns-then-not-has_edits-clause-none c = λ some utf8.
+    let e = literal_edits-are (seen_mode c.args.mode) (chars c.args.input.now) c.args.style _
+    c.args.snippet.now c.args.appended_newline c.in_ok-parser.parser c.in_ok-parser.ensures.start
+    c.in_ok-owned.ensures.ok in
+    let h : false ≡ c.in_ok-bytes.has_edits = cc in
+    some (no-edits _ (h ∙ c.in_ok-bytes.ensures.some ∙ ap (λ es. not (is_empty es)) e))
 
 pub returns-clause-edits : goal.returns-clause-edits
-returns-clause-edits c = if_some (λ s none.
-    let e = literal_edits-are _ _ _ _ _ _ _ _ _ c.in_ok-owned.ensures.ok
-    c.in_ok-errors.ensures.errors (ap (map seen_error) c.deref.ensures.value)
-    c.in_ok-in_literal.ensures.edits in
-    let n : length c.in_ok-in_literal.in_literal.items ≡ zero =
-    sym (length-map c.in_ok-in_literal.in_literal.items seen_edit) ∙ ap length (e ∙ none) in
-    absurd (grind (arith, common_steps))) c.apply.result
+returns-clause-edits c =
+    let e = literal_edits-are (seen_mode c.args.mode) (chars c.args.input.now) c.args.style _
+    c.args.snippet.now c.args.appended_newline c.in_ok-parser.parser c.in_ok-parser.ensures.start
+    c.in_ok-owned.ensures.ok in
+    let h : true ≡ c.in_ok-bytes.has_edits = cc in
+    if_some (λ s. some-edits _ (h ∙ c.in_ok-bytes.ensures.some
+    ∙ ap (λ es. not (is_empty es)) e)) c.text_of.result
 
 pub returns-clause-some : goal.returns-clause-some
 returns-clause-some c =
-    let e = literal_edits-are _ _ _ _ _ _ _ _ _ c.in_ok-owned.ensures.ok
-    c.in_ok-errors.ensures.errors (ap (map seen_error) c.deref.ensures.value)
-    c.in_ok-in_literal.ensures.edits in
-    grind (arith, common_steps)
+    let e = literal_edits-are (seen_mode c.args.mode) (chars c.args.input.now) c.args.style _
+    c.args.snippet.now c.args.appended_newline c.in_ok-parser.parser c.in_ok-parser.ensures.start
+    c.in_ok-owned.ensures.ok in
+    subst (λ bs. IfSome c.text_of.result (λ s. string_bytes s ≡ bs))
+    (c.in_ok-bytes.ensures.bytes ∙ ap (λ es. applied 0 es c.args.snippet.now) e)
+    c.text_of.ensures.some
 
 pub returns-clause-none : goal.returns-clause-none
 returns-clause-none c =
-    let e = literal_edits-are _ _ _ _ _ _ _ _ _ c.in_ok-owned.ensures.ok
-    c.in_ok-errors.ensures.errors (ap (map seen_error) c.deref.ensures.value)
-    c.in_ok-in_literal.ensures.edits in
-    grind (arith, common_steps)
+    let e = literal_edits-are (seen_mode c.args.mode) (chars c.args.input.now) c.args.style _
+    c.args.snippet.now c.args.appended_newline c.in_ok-parser.parser c.in_ok-parser.ensures.start
+    c.in_ok-owned.ensures.ok in
+    if_none (λ no some. no) c.text_of.result
+    (subst (λ bs. IfNone c.text_of.result (IsUtf8 bs → ⊥))
+    (c.in_ok-bytes.ensures.bytes ∙ ap (λ es. applied 0 es c.args.snippet.now) e)
+    c.text_of.ensures.none)

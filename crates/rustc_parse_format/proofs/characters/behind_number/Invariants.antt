@@ -7,8 +7,8 @@ use Rattle.rustc_parse_format.specs.Characters.{front, behind}
 use Rattle.rustc_parse_format.proofs.Bytes.Counting.{Counted}
 use Rattle.rustc_parse_format.proofs.characters.behind_number.Given as goal
 
-abbrev pub invariant-loop-c : goal.invariant-loop-c
-invariant-loop-c l = record {
+abbrev pub invariant-loop-digit : goal.invariant-loop-digit
+invariant-loop-digit l = record {
   text : shadow (Utf8 l.rest);
   counted : Counted l.value l.over (front is_ascii_digit (chars l.rest))
       (front is_ascii_digit (chars l.text));
@@ -16,5 +16,5 @@ invariant-loop-c l = record {
   left : (input : List ℕ) → IsLeft input l.text → IsLeft input l.rest;
 }
 
-abbrev pub decreases-loop-c : goal.decreases-loop-c
-decreases-loop-c l = length (chars l.rest)
+abbrev pub decreases-loop-digit : goal.decreases-loop-digit
+decreases-loop-digit l = length (chars l.rest)

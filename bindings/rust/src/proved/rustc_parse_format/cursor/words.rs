@@ -6,7 +6,7 @@
 
 use super::Cursor;
 use crate::proved::rustc_parse_format::characters::{
-    before, begins_white, behind_number, behind_while, behind_word, is_underscore, Class,
+    before, begins_white, behind_number, behind_while, is_underscore, split_word, Class,
 };
 use std::ops::Range;
 
@@ -36,6 +36,16 @@ impl<'input> Cursor<'input> {
         self.skip_while(Class::White);
     }
 
+    /// Returns the byte range in the source of what is before `rest`, a suffix of what is left. It
+    /// is not inlined, since few words are a fault.
+    // requires { (read : Text) × (self.now.rest ≡ read ++ chars rest.now) }
+    // ensures { pair result ≡ place_of self.now.world (up_to self.now.rest (chars rest.now)) }
+    #[cold]
+    #[inline(never)]
+    fn place_before(&self, rest: &'input str) -> Range<usize> {
+        self.start()..self.source.start(rest, &self.anchor)
+    }
+
     /// Reads the word that begins at the cursor. If it is `_`, also returns its byte range in the
     /// source.
     // requires { first_passes is_id_start self.old.rest ≡ true }
@@ -47,16 +57,29 @@ impl<'input> Cursor<'input> {
     //     else None }
     #[inline(always)]
     pub fn word(&mut self) -> (&'input str, Option<Range<usize>>) {
-        let rest = behind_word(self.rest);
-        let word = before(self.rest, rest);
+        let (word, rest) = split_word(self.rest);
         let underscore = if is_underscore(word) {
-            Some(self.start()..self.source.start(rest, &self.anchor))
+            Some(self.place_before(rest))
         } else {
             None
         };
 
         self.rest = rest;
         (word, underscore)
+    }
+
+    /// Returns what is before `rest`, a suffix of what is left, and its byte range in the source
+    /// with that of the character after it. It is not inlined, since few numbers are a fault.
+    // requires { (read : Text) × (self.now.rest ≡ read ++ chars rest.now) }
+    // ensures text { (read : Text) → self.now.rest ≡ read ++ chars rest.now
+    //     → chars result.0.now ≡ read }
+    // ensures place { pair result.1
+    //     ≡ place_of self.now.world (through self.now.rest (chars rest.now)) }
+    #[cold]
+    #[inline(never)]
+    fn digits_before(&self, rest: &'input str) -> (&'input str, Range<usize>) {
+        let span = self.start()..self.source.stop(rest, &self.anchor);
+        (before(self.rest, rest), span)
     }
 
     /// Reads the ASCII digits at the cursor, and returns their value modulo 65536. If that value
@@ -75,8 +98,7 @@ impl<'input> Cursor<'input> {
     pub fn number(&mut self) -> (u16, Option<(&'input str, Range<usize>)>) {
         let (number, is_over, rest) = behind_number(self.rest);
         let over = if is_over {
-            let span = self.start()..self.source.stop(rest, &self.anchor);
-            Some((before(self.rest, rest), span))
+            Some(self.digits_before(rest))
         } else {
             None
         };

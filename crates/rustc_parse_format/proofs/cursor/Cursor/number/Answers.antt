@@ -6,10 +6,13 @@ use Rattle.rustc_parse_format.proofs.Readers.Steps.{counted_on, behind_digits-pa
 use Rattle.rustc_parse_format.proofs.cursor.Cursor.number.Goals as goal
 use Rattle.rustc_parse_format.proofs.cursor.Cursor.number.Goals.{then-is_over, else-is_over}
 
-pub before-requires : goal.before-requires
-before-requires c =
-    let t = chars c.self.inside.rest.now in
-    (digits t, rw c.behind_number-number.ensures.rest (digits-behind t))
+pub digits_before-requires : goal.digits_before-requires
+digits_before-requires c =
+    let t = chars c.self.inside.rest.now in (
+      digits t,
+      sym (ap (λ (u : Unread). u.rest) c.self.view_is)
+          ∙ rw c.behind_number-number.ensures.rest (digits-behind t),
+    )
 
 pub count_before-requires : goal.count_before-requires
 count_before-requires c =
@@ -28,13 +31,14 @@ invariant_of-self c =
 pub returns-clause-over : goal.returns-clause-over
 returns-clause-over c =
     let t = chars c.self.inside.rest.now in
-    let whole : t ≡ digits t ++ chars c.behind_number-number.result.2.now =
-    rw c.behind_number-number.ensures.rest (digits-behind t) in
+    let view = ap (λ (u : Unread). u.rest) c.self.view_is in
+    let whole : c.args.self.now.rest ≡ digits t ++ chars c.behind_number-number.result.2.now =
+    sym view ∙ rw c.behind_number-number.ensures.rest (digits-behind t) in
     let test = c.behind_number-number.ensures.over
     ∙ ap (λ (u : Unread). is_over (digits u.rest)) c.self.view_is in
     elim c.if-is_over.branch [
       | then-is_over w ↦
-          let read = w.before-then-is_over.ensures (digits t) whole
+          let read = w.digits_before.ensures.text (digits t) whole
           ∙ ap (λ (u : Unread). digits u.rest) c.self.view_is in
           rw (w.over-is, sym test ∙ w.if-is_over.true) (search rules)
       | else-is_over w ↦ rw (w.over-is, sym test ∙ w.if-is_over.false) refl

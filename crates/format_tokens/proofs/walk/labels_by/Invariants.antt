@@ -3,7 +3,7 @@ use denote.Text.{Utf8}
 use denote.Shadow.{shadow}
 use Rattle.rustc_parse_format.specs.Seen.{seen_mode}
 use Rattle.format_tokens.proofs.Progress.{IsSoFar}
-use Rattle.format_tokens.proofs.walk.labels.Given as goal
+use Rattle.format_tokens.proofs.walk.labels_by.Given as goal
 
 abbrev pub invariant-loop-argument : goal.invariant-loop-argument
 invariant-loop-argument l = shadow (Utf8 l.rest)

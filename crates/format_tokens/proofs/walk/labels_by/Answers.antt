@@ -6,14 +6,14 @@ use Rattle.rustc_parse_format.specs.State.{State}
 use Rattle.rustc_parse_format.specs.World.{piece_in}
 use Rattle.format_tokens.proofs.Progress.{left_after, piece_so_far, so_far-end, so_far-next}
 use Rattle.format_tokens.proofs.Progress.{forgotten, nil_chars, smaller, so_far-start, some_chars}
-use Rattle.format_tokens.proofs.walk.labels.Goals as goal
+use Rattle.format_tokens.proofs.walk.labels_by.Goals as goal
 
 pub loop-argument-init : goal.loop-argument-init
 loop-argument-init c =
-    let e = c.in_ok-parser.ensures.start in (
+    let e = c.requires in (
       c.utf8.input,
       rw c.new-labels.ensures.items
-          (so_far-start (seen_mode c.args.mode) (chars c.args.input.now) c.in_ok-parser.parser
+          (so_far-start (seen_mode c.args.mode) (chars c.args.input.now) c.args.parser.now
           (ap (λ (s : State). s.mode) e) (ap (λ (s : State). s.input) e)
           (ap (λ (s : State). s.rest) e) (ap (λ (s : State). s.next) e)),
     )

@@ -1,0 +1,16 @@
+use Rattle.std.proofs.Common.{◌≡◌, [], length}
+use Rattle.drawn_faults.specs.Edits.{joined}
+use Rattle.drawn_faults.specs.SeenEdits.{with_edits}
+use Rattle.drawn_faults.proofs.FixLaws.{left_edits}
+use Rattle.drawn_faults.proofs.fixes.edit_all.Given as goal
+
+-- With the edits of the calls that are left, the text becomes what it does with those of all.
+abbrev pub invariant-loop-argument : goal.invariant-loop-argument
+invariant-loop-argument l = record {
+  none : l.parser.errors ≡ [];
+  same : with_edits l.edited (left_edits l.parser)
+      ≡ joined [] l.fn.at 0 l.fn.text (left_edits l.fn.parser);
+}
+
+abbrev pub decreases-loop-argument : goal.decreases-loop-argument
+decreases-loop-argument l = length l.parser.rest

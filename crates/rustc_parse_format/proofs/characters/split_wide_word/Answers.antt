@@ -1,0 +1,16 @@
+use Rattle.std.proofs.Common.{chars}
+use Rattle.rustc_parse_format.specs.Characters.{word}
+use Rattle.rustc_parse_format.proofs.Bytes.WordBytes.{word-rest}
+use Rattle.rustc_parse_format.proofs.characters.split_wide_word.Goals as goal
+
+pub before-requires : goal.before-requires
+before-requires c = let t = chars c.args.text.now in (
+  word t,
+  rw (c.behind_while-rest.ensures.rest, c.behind_first.ensures.rest)
+      (word-rest t c.requires),
+)
+
+pub returns-clause-word : goal.returns-clause-word
+returns-clause-word c = let t = chars c.args.text.now in
+    c.before-2.ensures (word t) (rw (c.behind_while-rest.ensures.rest, c.behind_first.ensures.rest)
+    (word-rest t c.requires))
