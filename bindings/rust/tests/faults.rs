@@ -144,6 +144,19 @@ fn spans() {
             None,
             " --> a.rs:8:1\n  |\n8 | b\n  | ^ l in format string\n\n",
         ),
+        (
+            "abcdef",
+            Range { start: 3, end: 1 },
+            None,
+            " --> a.rs:7:4\n  |\n7 | abcdef\n  |    ^ l in format string\n\n",
+        ),
+        // from a byte in a character, so from its start
+        (
+            "日ab",
+            2..4,
+            None,
+            " --> a.rs:7:1\n  |\n7 | 日ab\n  | ^^^ l in format string\n\n",
+        ),
         // of two that are as long the first one is above
         (
             "abc",

@@ -1,9 +1,10 @@
 //! The source around a literal, its lines and places.
 
-ghost use Rattle.std.specs.Prelude.{◌≡◌, ◌+◌, ◌*◌, ◌<◌, ◌≤◌, ◌^◌, [], chars, length};
+ghost use Rattle.std.specs.Prelude.{◌≡◌, ◌+◌, ◌*◌, ◌<◌, ◌≤◌, ◌^◌, [], chars, length, ℕ};
+ghost use Rattle.std.specs.List.{fold};
 ghost use Rattle.rustc_parse_format.specs.Seen.{pair};
 ghost use Rattle.drawn_faults.specs.Places.{behind_lines, extent, first_line, line, past};
-ghost use Rattle.drawn_faults.specs.Places.{seen_picture, spot};
+ghost use Rattle.drawn_faults.specs.Places.{seen_picture, within};
 
 use crate::glyphs::{split_first, width};
 use std::ops::Range;
@@ -33,6 +34,14 @@ pub struct Spot {
     /// Whether these are all white space.
     pub is_indent: bool,
 }
+
+/// The place at the start of a text.
+const ORIGIN: Spot = Spot {
+    line: 0,
+    chars: 0,
+    column: 0,
+    is_indent: true,
+};
 
 /// The places at which a range begins and ends.
 #[derive(Clone, Copy)]
@@ -68,22 +77,24 @@ fn past(spot: Spot, c: char) -> Spot
     }
 }
 
-/// Returns the place at a byte offset of a text.
-fn spot_at(text: &str, offset: usize) -> Spot
-    requires { length text.now < 2 ^ 59 }
-    ensures value { result ≡ spot offset (chars text.now) }
-    ensures small_line { result.line < 2 ^ 59 }
-    ensures small_chars { result.chars < 2 ^ 59 }
-    ensures small_column { result.column < 2 ^ 61 }
+/// Passes the characters of a text that end within `width` bytes. Returns the place behind them,
+/// what is left of the text, and how many of the bytes are left.
+fn pass(from: Spot, text: &str, width: usize) -> (Spot, &str, usize)
+    requires small_line { from.line + length text.now < 2 ^ 60 }
+    requires small_chars { from.chars + length text.now < 2 ^ 60 }
+    requires small_column { from.column + 4 * length text.now < 2 ^ 61 }
+    ensures value { result.0 ≡ fold past from (within width (chars text.now)) }
+    ensures on { (more : ℕ) → fold past from (within (width + more) (chars text.now))
+        ≡ fold past result.0 (within (result.2 + more) (chars result.1.now)) }
+    ensures fewer { result.2 ≤ width }
+    ensures lines { result.0.line + length result.1.now ≤ from.line + length text.now }
+    ensures chars { result.0.chars + length result.1.now ≤ from.chars + length text.now }
+    ensures columns { result.0.column + 4 * length result.1.now
+        ≤ from.column + 4 * length text.now }
 {
-    let mut at = Spot {
-        line: 0,
-        chars: 0,
-        column: 0,
-        is_indent: true,
-    };
+    let mut at = from;
     let mut rest = text;
-    let mut left = offset;
+    let mut left = width;
     while let Some((c, tail)) = split_first(rest) {
         if left < c.len_utf8() {
             break;
@@ -92,7 +103,7 @@ fn spot_at(text: &str, offset: usize) -> Spot
         at = past(at, c);
         rest = tail;
     }
-    at
+    (at, rest, left)
 }
 
 /// Returns the first line of a text.
@@ -153,11 +164,10 @@ impl Picture<'_> {
         ensures small_end_column { result.end.column < 2 ^ 61 }
     {
         let length = self.source.len();
-        let start = self.literal_start.saturating_add(range.start).min(length);
-        let end = self.literal_start.saturating_add(range.end).min(length);
-        Extent {
-            start: spot_at(self.source, start),
-            end: spot_at(self.source, start.max(end)),
-        }
+        let from = self.literal_start.saturating_add(range.start).min(length);
+        let to = self.literal_start.saturating_add(range.end).min(length);
+        let (start, rest, left) = pass(ORIGIN, self.source, from);
+        let (end, _, _) = pass(start, rest, left + to.saturating_sub(from));
+        Extent { start, end }
     }
 }

@@ -173,6 +173,7 @@ pub struct Walker<'a> {
 
 impl<'a> Walker<'a> {
     /// Creates a walker at the start of an input, perhaps with a guide. Does not allocate.
+    #[inline(always)]
     pub fn new(
         alloc: Global,
         parser: Parser<'a>,

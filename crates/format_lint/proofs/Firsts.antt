@@ -3,7 +3,6 @@ use Rattle.std.proofs.Common.{◌≡◌, ℕ, suc, zero, ◌+◌, ◌-◌, ◌�
 use Rattle.std.proofs.Common.{◌∷◌, length, drop, take, map, reverse, refl, sym, ap, ◌∙◌, arith}
 use Rattle.std.proofs.Common.{append-nil, append_assoc, length-append, min, nat_lt, ◌<◌}
 use Rattle.std.specs.List.{filter}
-use Rattle.std.proofs.lemmas.Bool.{false≢true}
 use Rattle.std.proofs.lemmas.List.{drop-map, drop_at, length-map, length-reverse, length-take}
 use Rattle.std.proofs.lemmas.List.{length-take-le, map-append, take-map, take_all}
 use Rattle.std.proofs.lemmas.List.{take_at}
@@ -14,7 +13,6 @@ use Rattle.rustc_parse_format.specs.State.{State, after, next_call}
 use Rattle.rustc_parse_format.specs.World.{Place, faults_in, place_of}
 use Rattle.rustc_parse_format.proofs.Readers.Errors.{add_errors-ends, add_errors-kept}
 use Rattle.rustc_parse_format.proofs.Walking.FaultlessStates.{add_errors-length}
-use Rattle.rustc_parse_format.proofs.Walking.Progress.{call-lt}
 use Rattle.drawn_faults.specs.Fixing.{all_errors, all_faults}
 use Rattle.drawn_faults.proofs.CallFaults.{all_errors-end, all_errors-step}
 use Rattle.format_lint.specs.Lint.{most_drawn}
@@ -88,12 +86,6 @@ first-start s e =
       first_are = ap (take most_drawn) same;
       count = omega (arith, ap length same);
     }
-
--- A call before the end reads on.
-pub first-shorter : (s new : State) → new ≡ record (after s (next_call s)) { errors = [] }
-    → is_nil s.rest ≡ false → length new.rest < length s.rest
-first-shorter s new e some =
-    rw e (call-lt s.mode s.next s.rest (λ n. false≢true (sym some ∙ ap is_nil n)))
 
 pub first-next : (s new : State) (first more : List (Message Place)) (others n : ℕ)
     (all : List (Message Place)) → AreFirst s first others all

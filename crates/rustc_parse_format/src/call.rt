@@ -5,7 +5,7 @@ use crate::faults::Fault;
 use crate::laws::default_of_spec;
 use crate::placeholder::blank_argument;
 use crate::reader::Reader;
-use crate::types::{Argument, ParseMode, Piece, Taken};
+use crate::types::{Argument, ParseMode, Piece, Position, Taken};
 use std::alloc::{AllocError, Global};
 use std::ops::Range;
 
@@ -19,11 +19,12 @@ impl<'input> Reader<'input> {
     ghost use Rattle.rustc_parse_format.specs.Marks.{End, Span, over_first, up_to};
     ghost use Rattle.rustc_parse_format.specs.Reads.{Reaches};
     ghost use Rattle.rustc_parse_format.specs.Seen.{pair, seen, seen_argument, seen_mode};
-    ghost use Rattle.rustc_parse_format.specs.Seen.{seen_spec, seen_taken};
+    ghost use Rattle.rustc_parse_format.specs.Seen.{seen_position, seen_spec, seen_taken};
     ghost use Rattle.rustc_parse_format.specs.Midway.{FindsNothing, behind_closing};
     ghost use Rattle.rustc_parse_format.specs.Midway.{opens_placeholder, read_call};
-    ghost use Rattle.rustc_parse_format.specs.Types.{Argument as ArgumentValue, Mode, Lit};
-    ghost use Rattle.rustc_parse_format.specs.Types.{NextArgument, default_spec, map_argument};
+    ghost use Rattle.rustc_parse_format.specs.Types.{Argument as ArgumentValue, Implicit, Lit};
+    ghost use Rattle.rustc_parse_format.specs.Types.{Mode, NextArgument, default_spec};
+    ghost use Rattle.rustc_parse_format.specs.Types.{map_argument};
     ghost use Rattle.rustc_parse_format.specs.World.{number_of, piece_in, place_of};
 
     /// Adds the fault that no brace closes `argument`, whose opening brace has the byte range
@@ -94,14 +95,15 @@ impl<'input> Reader<'input> {
         self.recover(mode, argument, opening)
     }
 
-    /// Reads a placeholder, with its opening brace, into `into`, whose format is still the default.
-    /// Returns `Err` if an allocation fails.
+    /// Reads a placeholder, with its opening brace, into `into`, whose position is still implicit
+    /// and whose format is the default. Returns `Err` if an allocation fails.
     #[tactic(auto, using(crate::proofs::Readers::Steps::part_le, crate::proofs::Readers::Placeholders::placeholder_given))]
     pub fn placeholder(
         &mut self,
         mode: ParseMode,
         into: &mut Argument<'input>,
     ) -> Result<(), AllocError>
+        requires implicit { seen_position into.old.position ≡ Implicit 0 }
         requires blank { seen_spec into.old.format ≡ default_spec }
         requires opens { opens_placeholder self.old.rest ≡ true }
         requires numbers { self.old.next + length self.old.rest < 2 ^ 64 }
@@ -196,6 +198,7 @@ impl<'input> Reader<'input> {
             (FindsNothing self.old k.faults k.texts) }
     {
         if self.cursor.opens_placeholder() {
+            into.position = Position::ArgumentImplicitlyIs(0);
             into.format = default_of_spec();
             self.placeholder(mode, into)?;
             return Ok(Some(Taken::NextArgument));

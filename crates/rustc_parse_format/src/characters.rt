@@ -3,8 +3,8 @@
 
 ghost use Rattle.std.specs.Char.{digit_value, is_ascii_alphabetic, is_ascii_digit, is_whitespace};
 ghost use Rattle.std.specs.Prelude.{◌%◌, ◌*◌, ◌++◌, ◌+◌, ◌<◌, ◌≡◌, bytes_eq, chars, codes};
-ghost use Rattle.std.specs.Prelude.{IfSome, IsNone, IsTrue, length, List, Some, false, nat_lt};
-ghost use Rattle.std.specs.Prelude.{slice_index, true, ℕ};
+ghost use Rattle.std.specs.Prelude.{IfSome, IsFalse, IsNone, IsTrue, length, List, Some, false};
+ghost use Rattle.std.specs.Prelude.{nat_lt, slice_index, true, ℕ, ◌↔◌};
 ghost use Rattle.rustc_parse_format.specs.Bytes.{IsFront, IsLeft, IsOfAscii, is_word_byte};
 ghost use Rattle.rustc_parse_format.specs.Characters.{Text, begins_with, behind, behind_digits};
 ghost use Rattle.rustc_parse_format.specs.Characters.{behind_first, behind_word, digits, first};
@@ -219,7 +219,7 @@ fn word_width(bytes: &[u8]) -> usize
 /// Returns whether there is a byte at the index `at` that is not ASCII.
 #[inline(always)]
 fn is_wide(bytes: &[u8], at: usize) -> bool
-    ensures { result ≡ false → at < length bytes.now → slice_index bytes.now at < 128 }
+    ensures { IsFalse result ↔ (at < length bytes.now → slice_index bytes.now at < 128) }
 {
     at < bytes.len() && bytes[at] >= 128
 }

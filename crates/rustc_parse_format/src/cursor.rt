@@ -62,6 +62,7 @@ impl<'input> Cursor<'input> {
     ghost use Rattle.rustc_parse_format.specs.World.{number_of, place_at};
 
     /// Returns a cursor at the start of `input`, the input of `source`. Does not allocate.
+    #[inline(always)]
     pub fn new(source: Source<'input>, input: &'input str) -> Cursor<'input>
         requires input { source.input.now ≡ input.now }
         requires kept { IsKept source }

@@ -1,8 +1,8 @@
 //! Reads a placeholder after its opening brace: its position and its specification.
 
 ghost use Rattle.std.specs.Prelude.{◌≡◌};
-ghost use Rattle.rustc_parse_format.specs.Seen.{seen_spec};
-ghost use Rattle.rustc_parse_format.specs.Types.{default_spec};
+ghost use Rattle.rustc_parse_format.specs.Seen.{seen_position, seen_spec};
+ghost use Rattle.rustc_parse_format.specs.Types.{Implicit, default_spec};
 
 use crate::faults::Fault;
 use crate::laws::default_of_spec;
@@ -13,7 +13,8 @@ use std::ops::Range;
 
 /// Returns an argument with the default format, into which one is then read.
 pub fn blank_argument<'input>() -> Argument<'input>
-    ensures { seen_spec result.format ≡ default_spec }
+    ensures position { seen_position result.position ≡ Implicit 0 }
+    ensures format { seen_spec result.format ≡ default_spec }
 {
     Argument {
         position: Position::ArgumentImplicitlyIs(0),
@@ -37,10 +38,11 @@ impl<'input> Reader<'input> {
     ghost use Rattle.rustc_parse_format.specs.Midway.{FindsNothing, read_texts, read_to};
     ghost use Rattle.rustc_parse_format.specs.Midway.{read_tries};
     ghost use Rattle.rustc_parse_format.specs.Reads.{Reaches, ReadsTo};
-    ghost use Rattle.rustc_parse_format.specs.Syntax.{NoPosition};
+    ghost use Rattle.rustc_parse_format.specs.Syntax.{NoPosition, PositionText};
     ghost use Rattle.rustc_parse_format.specs.Tries.{spec_tries};
     ghost use Rattle.rustc_parse_format.specs.Types.{Implicit, Named, default_spec, map_argument};
     ghost use Rattle.rustc_parse_format.specs.Values.{given_position, number_after_field};
+    ghost use Rattle.rustc_parse_format.specs.Values.{number_after_position, position_of};
     ghost use Rattle.rustc_parse_format.specs.World.{faults_in, place_of};
 
     /// Reads a word that begins with `r#`, and returns it without that prefix; such a raw
@@ -68,29 +70,28 @@ impl<'input> Reader<'input> {
         Ok(word)
     }
 
-    /// Reads the position: an integer, or else a word, which may be raw. Returns `None` if there is
-    /// neither, and `Err` if an allocation fails.
+    /// Reads the position, an integer or else a word, which may be raw, into `into`, which is still
+    /// implicit. Reads nothing if there is neither. Returns `Err` if an allocation fails.
     #[tactic(auto, using(crate::proofs::Readers::TriedParts::tried_parts, crate::proofs::Readers::Parts::read_nothing, crate::proofs::Readers::RawWords::no_raw_words))]
     #[inline(always)]
-    fn position(&mut self) -> Result<Option<Position<'input>>, AllocError>
-        ensures value { IfOk result (λ p. option_map seen_position p
-            ≡ given_position (position self.old.rest).0) }
+    fn position(&mut self, into: &mut Position<'input>) -> Result<(), AllocError>
+        requires { seen_position into.old ≡ Implicit 0 }
+        ensures value { OnOk result
+            (seen_position into.new ≡ position_of 0 (position self.old.rest).0) }
         ensures reads { let p = position self.old.rest in ReadsTo self.old result self.new p.1
             self.old.next (position_faults self.old.rest p.0) [] }
     {
         if self.cursor.is_digit_next() {
             let number = self.integer()?;
-            return Ok(Some(Position::ArgumentIs(usize::from(number))));
-        }
-        if self.cursor.is_raw_prefix_next() {
+            *into = Position::ArgumentIs(usize::from(number));
+        } else if self.cursor.is_raw_prefix_next() {
             let name = self.prefixed_word()?;
-            return Ok(Some(Position::ArgumentNamed(name)));
-        }
-        if self.cursor.is_word_next() {
+            *into = Position::ArgumentNamed(name);
+        } else if self.cursor.is_word_next() {
             let name = self.word()?;
-            return Ok(Some(Position::ArgumentNamed(name)));
+            *into = Position::ArgumentNamed(name);
         }
-        Ok(None)
+        Ok(())
     }
 
     /// Returns whether the next character is a `}` or a `:`, so that there is no position.
@@ -102,24 +103,26 @@ impl<'input> Reader<'input> {
         matches!(self.cursor.peek(), Some('}' | ':'))
     }
 
-    /// Reads the position and the white space after it, and sets `span` to their byte range.
-    /// Returns `None` if there is no position, and `Err` if an allocation fails. In a mode that
+    /// Reads the position and the white space after it into `into`, whose position is still
+    /// implicit, and sets their byte range. Returns `Err` if an allocation fails. In a mode that
     /// allows only names, anything but a name is a fault.
     #[inline(always)]
     fn spaced_position(
         &mut self,
         mode: ParseMode,
-        span: &mut Range<usize>,
-    ) -> Result<Option<Position<'input>>, AllocError>
-        ensures value { IfOk result (λ p. option_map seen_position p
-            ≡ given_position (position self.old.rest).0) }
-        ensures span { (let p = position self.old.rest in OnOk result (pair span.new
+        into: &mut Argument<'input>,
+    ) -> Result<(), AllocError>
+        requires { seen_position into.old.position ≡ Implicit 0 }
+        ensures value { OnOk result
+            (seen_position into.new.position ≡ position_of 0 (position self.old.rest).0) }
+        ensures span { (let p = position self.old.rest in OnOk result (pair into.new.position_span
             ≡ place_of self.old.world (up_to self.old.rest (behind_white p.1)))) }
+        ensures format { into.new.format ≡ into.old.format }
         ensures state { OnOk result (self.new ≡ (let p = position self.old.rest in
             let fs = position_faults self.old.rest p.0 in
             record (read_to self.old (behind_white p.1) self.old.next fs) {
-              faults = (self.old.faults ++ faults_in self.old.world fs)
-                  ++ name_faults (seen_mode mode) (given_position p.0) (pair span.new);
+              faults = (self.old.faults ++ faults_in self.old.world fs) ++ name_faults
+                  (seen_mode mode) (given_position p.0) (pair into.new.position_span);
             })) }
         ensures err { OnErr result (self.new.source ≡ self.old.source) }
         ensures spare { (let p = position self.old.rest in
@@ -128,43 +131,34 @@ impl<'input> Reader<'input> {
             → name_faults (seen_mode mode) (given_position p.0) span ≡ [] → IsOk result) }
     {
         let start = self.cursor.start();
-        if self.has_no_position() {
-            *span = start..start;
-            if !wants_names(mode) {
-                return Ok(None);
-            }
-            self.note(Fault::Unnamed(start..start))?;
-            return Ok(None);
+        let mut end = start;
+        if !self.has_no_position() {
+            self.position(&mut into.position)?;
+            self.cursor.ws();
+            end = self.cursor.start();
         }
-        let given = self.position()?;
-        self.cursor.ws();
-        let end = self.cursor.start();
-        *span = start..end;
-        if !wants_names(mode) || matches!(given, Some(Position::ArgumentNamed(_))) {
-            return Ok(given);
+        into.position_span = start..end;
+        if wants_names(mode) && !matches!(into.position, Position::ArgumentNamed(_)) {
+            self.note(Fault::Unnamed(start..end))?;
         }
-        self.note(Fault::Unnamed(start..end))?;
-        Ok(given)
+        Ok(())
     }
 
-    /// Returns the given position, or the next implicit argument if there is none.
-    fn position_of(&mut self, given: Option<Position<'input>>) -> Position<'input>
+    /// Gives an implicit position the index of the next implicit argument.
+    fn resolve(&mut self, position: &mut Position<'input>)
         requires { self.old.next + 1 < 2 ^ 64 }
-        ensures value { seen_position result
-            ≡ unwrap_or (option_map seen_position given.entry) (Implicit self.old.next) }
-        ensures state { self.new ≡ record self.old {
-          next = if is_some (option_map seen_position given.entry)
-              then self.old.next else suc self.old.next;
-        } }
+        ensures value { (p : PositionText) → seen_position position.old ≡ position_of 0 p
+            → seen_position position.new ≡ position_of self.old.next p }
+        ensures state { (p : PositionText) → seen_position position.old ≡ position_of 0 p
+            → self.new ≡ record self.old { next = number_after_position self.old.next p } }
     {
-        match given {
-            Some(position) => position,
-            None => Position::ArgumentImplicitlyIs(self.take_curarg()),
+        if let Position::ArgumentImplicitlyIs(_) = position {
+            *position = Position::ArgumentImplicitlyIs(self.take_curarg());
         }
     }
 
-    /// Reads a position, white space and a specification into `into`, whose format is still the
-    /// default. Returns `Err` if an allocation fails.
+    /// Reads a position, white space and a specification into `into`, whose position is still
+    /// implicit and whose format is the default. Returns `Err` if an allocation fails.
     #[tactic(auto, using(crate::proofs::Readers::Steps::part_le), unfolding(crate::specs::Placeholder::cut, crate::specs::Meaning::argument, crate::specs::Values::number_after_field, crate::specs::PartFaults::cut_faults))]
     #[inline(always)]
     pub fn argument(
@@ -172,6 +166,7 @@ impl<'input> Reader<'input> {
         mode: ParseMode,
         into: &mut Argument<'input>,
     ) -> Result<(), AllocError>
+        requires implicit { seen_position into.old.position ≡ Implicit 0 }
         requires blank { seen_spec into.old.format ≡ default_spec }
         requires numbers { self.old.next + 1 + length self.old.rest < 2 ^ 64 }
         ensures value { (let a = cut (seen_mode mode) self.old.rest in
@@ -185,9 +180,9 @@ impl<'input> Reader<'input> {
             (read_texts (read_tries read (spec_tries a.field.spec a.rest)) texts)
             (FindsNothing self.old fs texts) }
     {
-        let given = self.spaced_position(mode, &mut into.position_span)?;
+        self.spaced_position(mode, into)?;
         self.specification(mode, &mut into.format)?;
-        into.position = self.position_of(given);
+        self.resolve(&mut into.position);
         Ok(())
     }
 }

@@ -5,9 +5,9 @@ use Rattle.std.proofs.lemmas.List.{append-nil, map-append}
 use Rattle.rustc_parse_format.specs.Characters.{Text}
 use Rattle.rustc_parse_format.specs.Faults.{Fault, Unnamed, map_fault}
 use Rattle.rustc_parse_format.specs.Marks.{Span, up_to}
-use Rattle.std.specs.Prelude.{if◌then◌else◌, is_some}
 use Rattle.rustc_parse_format.specs.Characters.{behind_white, behind_word}
-use Rattle.rustc_parse_format.specs.Types.{Mode, wants_names, Position}
+use Rattle.rustc_parse_format.specs.Syntax.{PositionText}
+use Rattle.rustc_parse_format.specs.Types.{Mode, wants_names}
 use Rattle.rustc_parse_format.specs.Specification.{specification}
 use Rattle.rustc_parse_format.specs.Placeholder.{cut, position}
 use Rattle.rustc_parse_format.specs.Values.{given_position, is_name, number_after_field}
@@ -66,14 +66,14 @@ behind_position mode s =
           ++ name_faults mode (given_position p.0) (place_of s.world (up_to s.rest t));
     }
 
--- after a specification, and the number of a position that is given or is the next one
-abbrev pub behind_specification : Mode → Option Position → Midway → Midway
-behind_specification mode given s =
+-- after a specification, with the next number after the position
+abbrev pub behind_specification : Mode → PositionText → Midway → Midway
+behind_specification mode position s =
     let p = specification mode s.rest in
     let n = number_after_spec s.next p.0 in
     record (read_texts (read_tries (read_to s p.1 n (spec_faults mode s.rest p.0 p.1))
     (spec_tries p.0 p.1)) (spec_texts p.0 p.1)) {
-      next = if is_some given then n else suc n;
+      next = number_after_position n position;
     }
 
 names_in : (w : World) (b : Bool) (s : Span) → cond b (Unnamed (place_of w s) ∷ []) []
@@ -96,19 +96,18 @@ faults_on w old fs b s gs =
     ∙ ap (λ hs. old ++ hs) (sym (map-append (map_fault (place_of w)) (fs ++ ns) gs))
 
 -- an argument: its position, white space and its specification
-pub argument_read : (s : Midway) (mode : Mode) (given : Option Position)
-    → given ≡ given_position (position s.rest).0 →
-    behind_specification mode given (behind_position mode s)
+pub argument_read : (s : Midway) (mode : Mode) →
+    behind_specification mode (position s.rest).0 (behind_position mode s)
     ≡ (let a = cut mode s.rest in
     read_texts
     (read_tries (read_to s a.rest (number_after_field s.next a.field) (cut_faults mode a))
     (spec_tries a.field.spec a.rest))
     (spec_texts a.field.spec a.rest))
 unfolding cut cut_faults number_after_field
-argument_read s mode given e =
+argument_read s mode =
     let t = behind_white (position s.rest).1 in
     let p = specification mode t in
-    rw e (ap
+    ap
     (λ (fs : List (Fault Place)).
     record (read_texts (read_tries s (spec_tries p.0 p.1)) (spec_texts p.0 p.1)) {
       rest = p.1;
@@ -116,4 +115,4 @@ argument_read s mode given e =
       faults = fs;
     }) (faults_on s.world s.faults (position_faults s.rest (position s.rest).0)
     (wants_names mode && not (is_name (given_position (position s.rest).0))) (up_to s.rest t)
-    (spec_faults mode t p.0 p.1)))
+    (spec_faults mode t p.0 p.1))

@@ -33,6 +33,14 @@ pub struct Spot {
     pub is_indent: bool,
 }
 
+/// The place at the start of a text.
+const ORIGIN: Spot = Spot {
+    line: 0,
+    chars: 0,
+    column: 0,
+    is_indent: true,
+};
+
 /// The places at which a range begins and ends.
 #[derive(Clone, Copy)]
 pub struct Extent {
@@ -66,22 +74,24 @@ fn past(spot: Spot, c: char) -> Spot {
     }
 }
 
-/// Returns the place at a byte offset of a text.
-// requires { length text.now < 2 ^ 59 }
-// ensures value { result ≡ spot offset (chars text.now) }
-// ensures small_line { result.line < 2 ^ 59 }
-// ensures small_chars { result.chars < 2 ^ 59 }
-// ensures small_column { result.column < 2 ^ 61 }
+/// Passes the characters of a text that end within `width` bytes. Returns the place behind them,
+/// what is left of the text, and how many of the bytes are left.
+// requires small_line { from.line + length text.now < 2 ^ 60 }
+// requires small_chars { from.chars + length text.now < 2 ^ 60 }
+// requires small_column { from.column + 4 * length text.now < 2 ^ 61 }
+// ensures value { result.0 ≡ fold past from (within width (chars text.now)) }
+// ensures on { (more : ℕ) → fold past from (within (width + more) (chars text.now))
+//     ≡ fold past result.0 (within (result.2 + more) (chars result.1.now)) }
+// ensures fewer { result.2 ≤ width }
+// ensures lines { result.0.line + length result.1.now ≤ from.line + length text.now }
+// ensures chars { result.0.chars + length result.1.now ≤ from.chars + length text.now }
+// ensures columns { result.0.column + 4 * length result.1.now
+//     ≤ from.column + 4 * length text.now }
 #[inline]
-fn spot_at(text: &str, offset: usize) -> Spot {
-    let mut at = Spot {
-        line: 0,
-        chars: 0,
-        column: 0,
-        is_indent: true,
-    };
+fn pass(from: Spot, text: &str, width: usize) -> (Spot, &str, usize) {
+    let mut at = from;
     let mut rest = text;
-    let mut left = offset;
+    let mut left = width;
     while let Some((c, tail)) = split_first(rest) {
         if left < c.len_utf8() {
             break;
@@ -90,7 +100,7 @@ fn spot_at(text: &str, offset: usize) -> Spot {
         at = past(at, c);
         rest = tail;
     }
-    at
+    (at, rest, left)
 }
 
 /// Returns the first line of a text.
@@ -149,11 +159,10 @@ impl Picture<'_> {
     #[inline]
     pub(crate) fn extent(&self, range: &Range<usize>) -> Extent {
         let length = self.source.len();
-        let start = self.literal_start.saturating_add(range.start).min(length);
-        let end = self.literal_start.saturating_add(range.end).min(length);
-        Extent {
-            start: spot_at(self.source, start),
-            end: spot_at(self.source, start.max(end)),
-        }
+        let from = self.literal_start.saturating_add(range.start).min(length);
+        let to = self.literal_start.saturating_add(range.end).min(length);
+        let (start, rest, left) = pass(ORIGIN, self.source, from);
+        let (end, _, _) = pass(start, rest, left + to.saturating_sub(from));
+        Extent { start, end }
     }
 }

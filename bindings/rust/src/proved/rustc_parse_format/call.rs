@@ -81,8 +81,9 @@ impl<'input> Reader<'input> {
         self.recover(mode, argument, opening)
     }
 
-    /// Reads a placeholder, with its opening brace, into `into`, whose format is still the default.
-    /// Returns `Err` if an allocation fails.
+    /// Reads a placeholder, with its opening brace, into `into`, whose position is still implicit
+    /// and whose format is the default. Returns `Err` if an allocation fails.
+    // requires implicit { seen_position into.old.position ≡ Implicit 0 }
     // requires blank { seen_spec into.old.format ≡ default_spec }
     // requires opens { opens_placeholder self.old.rest ≡ true }
     // requires numbers { self.old.next + length self.old.rest < 2 ^ 64 }

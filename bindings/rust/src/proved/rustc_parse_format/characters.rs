@@ -191,7 +191,7 @@ fn word_width(bytes: &[u8]) -> usize {
 }
 
 /// Returns whether there is a byte at the index `at` that is not ASCII.
-// ensures { result ≡ false → at < length bytes.now → slice_index bytes.now at < 128 }
+// ensures { IsFalse result ↔ (at < length bytes.now → slice_index bytes.now at < 128) }
 #[inline(always)]
 fn is_wide(bytes: &[u8], at: usize) -> bool {
     at < bytes.len() && bytes[at] >= 128

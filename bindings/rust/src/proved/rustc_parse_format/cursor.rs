@@ -31,7 +31,7 @@ impl<'input> Cursor<'input> {
     // requires kept { IsKept source }
     // requires fits { source.offset + length input.now < 2 ^ 64 }
     // ensures { result ≡ unread_at source.entry input.now (nothing_back (chars input.now)) 0 }
-    #[inline]
+    #[inline(always)]
     pub fn new(source: Source<'input>, input: &'input str) -> Cursor<'input> {
         let anchor = first_anchor(&source);
         Cursor {

@@ -9,10 +9,10 @@ use crate::proved::rustc_parse_format::laws::default_of_spec;
 use crate::proved::rustc_parse_format::reader::Reader;
 use crate::proved::rustc_parse_format::types::{wants_names, Argument, ParseMode, Position};
 use crate::shim::alloc::AllocError;
-use std::ops::Range;
 
 /// Returns an argument with the default format, into which one is then read.
-// ensures { seen_spec result.format ≡ default_spec }
+// ensures position { seen_position result.position ≡ Implicit 0 }
+// ensures format { seen_spec result.format ≡ default_spec }
 #[inline]
 pub fn blank_argument<'input>() -> Argument<'input> {
     Argument {
@@ -47,27 +47,26 @@ impl<'input> Reader<'input> {
         Ok(word)
     }
 
-    /// Reads the position: an integer, or else a word, which may be raw. Returns `None` if there is
-    /// neither, and `Err` if an allocation fails.
-    // ensures value { IfOk result (λ p. option_map seen_position p
-    //     ≡ given_position (position self.old.rest).0) }
+    /// Reads the position, an integer or else a word, which may be raw, into `into`, which is still
+    /// implicit. Reads nothing if there is neither. Returns `Err` if an allocation fails.
+    // requires { seen_position into.old ≡ Implicit 0 }
+    // ensures value { OnOk result
+    //     (seen_position into.new ≡ position_of 0 (position self.old.rest).0) }
     // ensures reads { let p = position self.old.rest in ReadsTo self.old result self.new p.1
     //     self.old.next (position_faults self.old.rest p.0) [] }
     #[inline(always)]
-    fn position(&mut self) -> Result<Option<Position<'input>>, AllocError> {
+    fn position(&mut self, into: &mut Position<'input>) -> Result<(), AllocError> {
         if self.cursor.is_digit_next() {
             let number = self.integer()?;
-            return Ok(Some(Position::ArgumentIs(usize::from(number))));
-        }
-        if self.cursor.is_raw_prefix_next() {
+            *into = Position::ArgumentIs(usize::from(number));
+        } else if self.cursor.is_raw_prefix_next() {
             let name = self.prefixed_word()?;
-            return Ok(Some(Position::ArgumentNamed(name)));
-        }
-        if self.cursor.is_word_next() {
+            *into = Position::ArgumentNamed(name);
+        } else if self.cursor.is_word_next() {
             let name = self.word()?;
-            return Ok(Some(Position::ArgumentNamed(name)));
+            *into = Position::ArgumentNamed(name);
         }
-        Ok(None)
+        Ok(())
     }
 
     /// Returns whether the next character is a `}` or a `:`, so that there is no position.
@@ -78,18 +77,20 @@ impl<'input> Reader<'input> {
         matches!(self.cursor.peek(), Some('}' | ':'))
     }
 
-    /// Reads the position and the white space after it, and sets `span` to their byte range.
-    /// Returns `None` if there is no position, and `Err` if an allocation fails. In a mode that
+    /// Reads the position and the white space after it into `into`, whose position is still
+    /// implicit, and sets their byte range. Returns `Err` if an allocation fails. In a mode that
     /// allows only names, anything but a name is a fault.
-    // ensures value { IfOk result (λ p. option_map seen_position p
-    //     ≡ given_position (position self.old.rest).0) }
-    // ensures span { (let p = position self.old.rest in OnOk result (pair span.new
+    // requires { seen_position into.old.position ≡ Implicit 0 }
+    // ensures value { OnOk result
+    //     (seen_position into.new.position ≡ position_of 0 (position self.old.rest).0) }
+    // ensures span { (let p = position self.old.rest in OnOk result (pair into.new.position_span
     //     ≡ place_of self.old.world (up_to self.old.rest (behind_white p.1)))) }
+    // ensures format { into.new.format ≡ into.old.format }
     // ensures state { OnOk result (self.new ≡ (let p = position self.old.rest in
     //     let fs = position_faults self.old.rest p.0 in
     //     record (read_to self.old (behind_white p.1) self.old.next fs) {
-    //       faults = (self.old.faults ++ faults_in self.old.world fs)
-    //           ++ name_faults (seen_mode mode) (given_position p.0) (pair span.new);
+    //       faults = (self.old.faults ++ faults_in self.old.world fs) ++ name_faults
+    //           (seen_mode mode) (given_position p.0) (pair into.new.position_span);
     //     })) }
     // ensures err { OnErr result (self.new.source ≡ self.old.source) }
     // ensures spare { (let p = position self.old.rest in
@@ -100,46 +101,38 @@ impl<'input> Reader<'input> {
     fn spaced_position(
         &mut self,
         mode: ParseMode,
-        span: &mut Range<usize>,
-    ) -> Result<Option<Position<'input>>, AllocError> {
+        into: &mut Argument<'input>,
+    ) -> Result<(), AllocError> {
         let start = self.cursor.start();
-        if self.has_no_position() {
-            *span = start..start;
-            if !wants_names(mode) {
-                return Ok(None);
-            }
-            self.note(Fault::Unnamed(start..start))?;
-            return Ok(None);
+        let mut end = start;
+        if !self.has_no_position() {
+            self.position(&mut into.position)?;
+            self.cursor.ws();
+            end = self.cursor.start();
         }
-        let given = self.position()?;
-        self.cursor.ws();
-        let end = self.cursor.start();
-        *span = start..end;
-        if !wants_names(mode) || matches!(given, Some(Position::ArgumentNamed(_))) {
-            return Ok(given);
+        into.position_span = start..end;
+        if wants_names(mode) && !matches!(into.position, Position::ArgumentNamed(_)) {
+            self.note(Fault::Unnamed(start..end))?;
         }
-        self.note(Fault::Unnamed(start..end))?;
-        Ok(given)
+        Ok(())
     }
 
-    /// Returns the given position, or the next implicit argument if there is none.
+    /// Gives an implicit position the index of the next implicit argument.
     // requires { self.old.next + 1 < 2 ^ 64 }
-    // ensures value { seen_position result
-    //     ≡ unwrap_or (option_map seen_position given.entry) (Implicit self.old.next) }
-    // ensures state { self.new ≡ record self.old {
-    //   next = if is_some (option_map seen_position given.entry)
-    //       then self.old.next else suc self.old.next;
-    // } }
+    // ensures value { (p : PositionText) → seen_position position.old ≡ position_of 0 p
+    //     → seen_position position.new ≡ position_of self.old.next p }
+    // ensures state { (p : PositionText) → seen_position position.old ≡ position_of 0 p
+    //     → self.new ≡ record self.old { next = number_after_position self.old.next p } }
     #[inline]
-    fn position_of(&mut self, given: Option<Position<'input>>) -> Position<'input> {
-        match given {
-            Some(position) => position,
-            None => Position::ArgumentImplicitlyIs(self.take_curarg()),
+    fn resolve(&mut self, position: &mut Position<'input>) {
+        if let Position::ArgumentImplicitlyIs(_) = position {
+            *position = Position::ArgumentImplicitlyIs(self.take_curarg());
         }
     }
 
-    /// Reads a position, white space and a specification into `into`, whose format is still the
-    /// default. Returns `Err` if an allocation fails.
+    /// Reads a position, white space and a specification into `into`, whose position is still
+    /// implicit and whose format is the default. Returns `Err` if an allocation fails.
+    // requires implicit { seen_position into.old.position ≡ Implicit 0 }
     // requires blank { seen_spec into.old.format ≡ default_spec }
     // requires numbers { self.old.next + 1 + length self.old.rest < 2 ^ 64 }
     // ensures value { (let a = cut (seen_mode mode) self.old.rest in
@@ -158,9 +151,9 @@ impl<'input> Reader<'input> {
         mode: ParseMode,
         into: &mut Argument<'input>,
     ) -> Result<(), AllocError> {
-        let given = self.spaced_position(mode, &mut into.position_span)?;
+        self.spaced_position(mode, into)?;
         self.specification(mode, &mut into.format)?;
-        into.position = self.position_of(given);
+        self.resolve(&mut into.position);
         Ok(())
     }
 }

@@ -1,12 +1,13 @@
 use Rattle.std.proofs.Common.{◌≡◌, false, true}
 use Rattle.rustc_parse_format.specs.Characters.{is_nil}
-use Rattle.format_lint.proofs.Firsts.{first-end, first-next, first-shorter}
+use Rattle.drawn_faults.proofs.FixLaws.{left-shorter}
+use Rattle.format_lint.proofs.Firsts.{first-end, first-next}
 use Rattle.format_lint.proofs.faults.faults_of.Goals as goal
 
 pub loop-argument-smaller : goal.loop-argument-smaller
 loop-argument-smaller c =
     let h : is_nil c.loop-argument.parser.rest ≡ false = cc in
-    first-shorter c.loop-argument.parser c.add_next.new.parser c.in_ok-left_out.ensures.state h
+    left-shorter c.loop-argument.parser c.add_next.new.parser c.in_ok-left_out.ensures.state h
 
 pub loop-argument-preserved : goal.loop-argument-preserved
 loop-argument-preserved c =

@@ -1,9 +1,8 @@
 use Rattle.std.proofs.Common.{◌∙◌, ap, arith, length, refl, rules}
 use Rattle.std.proofs.lemmas.Bool.{false≢true}
-use Rattle.std.specs.Prelude.{option_map}
 use Rattle.rustc_parse_format.specs.Meaning.{argument}
 use Rattle.rustc_parse_format.specs.Placeholder.{cut, position}
-use Rattle.rustc_parse_format.specs.Seen.{seen_mode, seen_position}
+use Rattle.rustc_parse_format.specs.Seen.{seen_mode}
 use Rattle.rustc_parse_format.specs.Midway.{Midway}
 use Rattle.rustc_parse_format.specs.PartFaults.{cut_faults}
 use Rattle.rustc_parse_format.proofs.Grammar.CleanWords.{none_left, none_right}
@@ -16,7 +15,7 @@ use Rattle.rustc_parse_format.proofs.reader.Reader.argument.Goals as goal
 pub specification-requires-clause-numbers : goal.specification-requires-clause-numbers
 specification-requires-clause-numbers c =
     let t = c.args.self.now.rest in
-    let a = c.in_ok-given.ensures in
+    let a = c.in_ok-spaced_position.ensures in
     let read = rw a.span at a.state in
     omega (
       arith,
@@ -27,10 +26,10 @@ specification-requires-clause-numbers c =
       c.requires.numbers,
     )
 
-pub position_of-into-requires : goal.position_of-into-requires
-position_of-into-requires c =
+pub resolve-requires : goal.resolve-requires
+resolve-requires c =
     let t = c.args.self.now.rest in
-    let a = c.in_ok-given.ensures in
+    let a = c.in_ok-spaced_position.ensures in
     let read = rw a.span at a.state in
     let state = rw read at c.in_ok-specification.ensures.reads.state in
     omega (
@@ -46,39 +45,39 @@ position_of-into-requires c =
 pub returns-clause-value : goal.returns-clause-value
 unfolding argument cut
 returns-clause-value c =
-    let a = c.in_ok-given.ensures in
+    let a = c.in_ok-spaced_position.ensures in
     let read = rw a.span at a.state in
     let state = rw read at c.in_ok-specification.ensures.reads.state in
     let spec = rw read at c.in_ok-specification.ensures.value in
-    let position = rw (state, a.value) at c.position_of-into.ensures.value in
+    let position = rw state at c.resolve.ensures.value _ a.value in
     rw (position, a.span, spec) refl
 
 pub returns-clause-reads : goal.returns-clause-reads
 returns-clause-reads c =
-    let a = c.in_ok-given.ensures in
+    let a = c.in_ok-spaced_position.ensures in
     let read = rw a.span at a.state in
     let state = rw read at c.in_ok-specification.ensures.reads.state in
     record {
-      state = rw state at c.position_of-into.ensures.state
-          ∙ argument_read c.args.self.now (seen_mode c.args.mode)
-          (option_map seen_position c.in_ok-given.given) a.value;
+      state = rw state at c.resolve.ensures.state _ a.value
+          ∙ argument_read c.args.self.now (seen_mode c.args.mode);
       err = tt;
       spare = λ none. refl;
     }
 
-pub returns-in_err-given-clause-reads : goal.returns-in_err-given-clause-reads
+pub returns-in_err-spaced_position-clause-reads : goal.returns-in_err-spaced_position-clause-reads
 unfolding cut cut_faults
-returns-in_err-given-clause-reads c = record {
+returns-in_err-spaced_position-clause-reads c = record {
   state = search rules;
   err = search rules;
   spare = λ h. let given = none_left _ _ h.0 in absurd
-      (false≢true (c.in_err-given.ensures.spare (none_left _ _ given) (none_right _ _ given)));
+      (false≢true
+      (c.in_err-spaced_position.ensures.spare (none_left _ _ given) (none_right _ _ given)));
 }
 
 pub returns-in_err-specification-clause-reads : goal.returns-in_err-specification-clause-reads
 unfolding cut cut_faults
 returns-in_err-specification-clause-reads c =
-    let a = c.in_ok-given.ensures in
+    let a = c.in_ok-spaced_position.ensures in
     let read = rw a.span at a.state in
     let spare = rw read at c.in_err-specification.ensures.reads.spare in
     record {
