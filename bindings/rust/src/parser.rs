@@ -112,7 +112,8 @@ impl<'input> Parser<'input> {
         if self.errors.capacity() == 0 {
             self.errors = Vec::with_capacity(4);
         }
-        while let Some(fault) = self.reader.found.pop_first() {
+        let mut index = 0;
+        while let Some(fault) = self.reader.found.get(index) {
             let at = if fault.is_front() {
                 0
             } else {
@@ -120,7 +121,9 @@ impl<'input> Parser<'input> {
             };
             self.errors.insert(at, empty_error(Global));
             answer(tell(Global, &mut self.errors[at], fault));
+            index += 1;
         }
+        self.reader.found.clear();
     }
 
     /// Adds the last line of a source literal, unless it is already in the list.

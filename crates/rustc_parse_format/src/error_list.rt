@@ -2,9 +2,12 @@
 
 ghost use Rattle.std.specs.Prelude.{◌≡◌, ◌+◌, ◌≤◌, ◌++◌, ◌∷◌, [], None, OnErr, OnOk};
 ghost use Rattle.std.specs.Prelude.{drop, length, map, take};
-ghost use Rattle.rustc_parse_format.specs.Faults.{error};
+ghost use Rattle.rustc_parse_format.specs.Faults.{error, message};
 ghost use Rattle.rustc_parse_format.specs.Seen.{seen_error};
+ghost use Rattle.rustc_parse_format.specs.SeenFaults.{seen_fault};
 
+use crate::faults::Fault;
+use crate::messages::tell;
 use crate::types::{ParseError, Suggestion};
 use std::alloc::{AllocError, Global};
 use std::marker::Model;
@@ -63,6 +66,28 @@ fn widen(alloc: Global, entries: &mut Vec<ParseError>, count: usize) -> Result<(
     Ok(())
 }
 
+/// Appends the error of a fault. Returns `Err` if an allocation fails, and the entries are then
+/// unchanged.
+#[inline(always)]
+#[tactic(auto, using(crate::proofs::Readers::Errors::list_ends))]
+fn push_error(
+    alloc: Global,
+    entries: &mut Vec<ParseError>,
+    fault: &Fault<'_>,
+) -> Result<(), AllocError>
+    ensures ok { OnOk result (map seen_error entries.new.items
+        ≡ map seen_error entries.old.items ++ message (seen_fault fault.now) ∷ []) }
+    ensures err { OnErr result (entries.new.items ≡ entries.old.items) }
+{
+    let last = entries.len();
+    entries.push(empty_error(alloc))?;
+    let told = tell(alloc, &mut entries[last], fault);
+    if told.is_err() {
+        entries.truncate(last);
+    }
+    told
+}
+
 impl ErrorList {
     /// Returns an empty list. Does not allocate.
     pub fn new() -> ErrorList
@@ -99,37 +124,38 @@ impl ErrorList {
         }
     }
 
-    /// Adds an error at the front. Returns `Err` if an allocation fails, and the list is then
-    /// unchanged. If no entry is free, makes one more free entry than there are errors, so the
-    /// number of errors moved in all calls is proportional to the number added.
-    pub fn push_front(&mut self, alloc: Global, error: ParseError) -> Result<(), AllocError>
-        ensures ok { OnOk result (self.new ≡ seen_error error ∷ self.old) }
+    /// Adds the error of a fault at the front. Returns `Err` if an allocation fails, and the list
+    /// is then unchanged. If no entry is free, makes as many as there are errors, so the number of
+    /// errors moved in all calls is proportional to the number added.
+    pub fn push_front(&mut self, alloc: Global, fault: &Fault<'_>) -> Result<(), AllocError>
+        ensures ok { OnOk result (self.new ≡ message (seen_fault fault.now) ∷ self.old) }
         ensures err { OnErr result (self.new ≡ self.old) }
     {
         let entries = self.entries.get_or_insert_with(|| Vec::new(alloc));
         if entries.is_empty() {
-            return Ok(entries.push(error)?);
+            return push_error(alloc, entries, fault);
         }
         if self.room == 0 {
-            let count = entries.len() + 1;
+            let count = entries.len();
             widen(alloc, entries, count)?;
             self.room = count;
         }
-        self.room -= 1;
-        entries[self.room] = error;
+        let first = self.room - 1;
+        entries[first] = empty_error(alloc);
+        tell(alloc, &mut entries[first], fault)?;
+        self.room = first;
         Ok(())
     }
 
-    /// Adds an error at the back. Returns `Err` if an allocation fails, and the list is then
-    /// unchanged.
-    #[tactic(auto, using(crate::proofs::Readers::Errors::list_ends))]
-    pub fn push_back(&mut self, alloc: Global, error: ParseError) -> Result<(), AllocError>
-        ensures ok { OnOk result (self.new ≡ self.old ++ seen_error error ∷ []) }
+    /// Adds the error of a fault at the back. Returns `Err` if an allocation fails, and the list is
+    /// then unchanged.
+    #[tactic(auto, using(crate::proofs::Readers::Errors::at_back))]
+    pub fn push_back(&mut self, alloc: Global, fault: &Fault<'_>) -> Result<(), AllocError>
+        ensures ok { OnOk result (self.new ≡ self.old ++ message (seen_fault fault.now) ∷ []) }
         ensures err { OnErr result (self.new ≡ self.old) }
     {
         let entries = self.entries.get_or_insert_with(|| Vec::new(alloc));
-        entries.push(error)?;
-        Ok(())
+        push_error(alloc, entries, fault)
     }
 
     /// Keeps `count` errors after the first `skipped` ones, and drops all others.

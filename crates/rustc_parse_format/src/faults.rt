@@ -1,7 +1,7 @@
 //! The faults of an input, as they are found.
 
 ghost use Rattle.std.specs.Prelude.{◌≡◌, ◌↔◌, ◌<◌, ◌^◌, ◌++◌, ◌∷◌, [], IsOk, IsTrue, MatchOption};
-ghost use Rattle.std.specs.Prelude.{OnErr, OnOk, length};
+ghost use Rattle.std.specs.Prelude.{◌+◌, OnErr, OnOk, drop, length};
 ghost use Rattle.rustc_parse_format.specs.Faults.{is_front};
 ghost use Rattle.rustc_parse_format.specs.SeenFaults.{seen_fault};
 
@@ -136,17 +136,26 @@ impl<'input> Faults<'input> {
         Ok(())
     }
 
-    /// Takes the first fault out of the list, and returns it, or `None` if there is none. Does not
-    /// allocate.
-    pub fn pop_first(&mut self) -> Option<Fault<'input>>
-        ensures { MatchOption result ((self.old ≡ []) × (self.new ≡ []))
-            (λ f. self.old ≡ seen_fault f ∷ self.new) }
+    /// Returns the fault at an index, or `None` if the list ends before it.
+    pub fn get(&self, index: usize) -> Option<&Fault<'input>>
+        ensures { MatchOption result (drop index self.now ≡ [])
+            (λ f. drop index self.now ≡ seen_fault f.now ∷ drop (index + 1) self.now) }
     {
-        let fault = self.first.take()?;
-        self.first = self.second.take();
-        if !self.more.is_empty() {
-            self.second = Some(self.more.remove(0));
+        if index == 0 {
+            return self.first.as_ref();
         }
-        Some(fault)
+        if index == 1 {
+            return self.second.as_ref();
+        }
+        self.more.get(index - 2)
+    }
+
+    /// Removes all faults. Does not allocate.
+    pub fn clear(&mut self)
+        ensures { self.new ≡ [] }
+    {
+        self.first = None;
+        self.second = None;
+        self.more.clear();
     }
 }

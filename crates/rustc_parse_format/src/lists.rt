@@ -9,51 +9,46 @@ ghost use Rattle.rustc_parse_format.specs.Midway.{HasFoundNothing};
 ghost use Rattle.rustc_parse_format.specs.Seen.{pair};
 ghost use Rattle.rustc_parse_format.specs.SeenFaults.{seen_fault};
 
-use crate::error_list::{ErrorList, empty_error};
+use crate::error_list::ErrorList;
 use crate::faults::{Fault, Faults};
-use crate::messages::tell;
 use crate::range_list::RangeList;
 use crate::reader::Reader;
-use crate::types::ParseError;
 use std::alloc::{AllocError, Global};
 use std::ops::Range;
 
 /// Adds the error of a fault. Returns how many errors were added at the front. Returns `Err` if an
 /// allocation fails, and `errors` is then unchanged.
-fn add_error(alloc: Global, errors: &mut ErrorList, fault: Fault<'_>) -> Result<usize, AllocError>
-    ensures ok { OnOk result (errors.new ≡ add_errors errors.old (seen_fault fault.entry ∷ [])) }
-    ensures fronts { IfOk result (λ n. n ≡ length (filter is_front (seen_fault fault.entry ∷ []))) }
+fn add_error(alloc: Global, errors: &mut ErrorList, fault: &Fault<'_>) -> Result<usize, AllocError>
+    ensures ok { OnOk result (errors.new ≡ add_errors errors.old (seen_fault fault.now ∷ [])) }
+    ensures fronts { IfOk result (λ n. n ≡ length (filter is_front (seen_fault fault.now ∷ []))) }
     ensures err { OnErr result (errors.new ≡ errors.old) }
 {
-    let is_front = fault.is_front();
-    let mut error = empty_error(alloc);
-    tell(alloc, &mut error, fault)?;
-    if is_front {
-        errors.push_front(alloc, error)?;
+    if fault.is_front() {
+        errors.push_front(alloc, fault)?;
         Ok(1)
     } else {
-        errors.push_back(alloc, error)?;
+        errors.push_back(alloc, fault)?;
         Ok(0)
     }
 }
 
-/// Takes the faults out of `found` and adds their errors. Returns how many errors were added at the
-/// front. Returns `Err` if an allocation fails, and `errors` is then unchanged.
+/// Adds the errors of faults. Returns how many errors were added at the front. Returns `Err` if an
+/// allocation fails, and `errors` is then unchanged.
 #[inline(never)]
 fn add_errors(
     alloc: Global,
     errors: &mut ErrorList,
-    found: &mut Faults<'_>,
+    found: &Faults<'_>,
 ) -> Result<usize, AllocError>
-    requires { length found.old < 2 ^ 64 }
-    ensures ok { OnOk result (errors.new ≡ add_errors errors.old found.old) }
-    ensures fronts { IfOk result (λ n. n ≡ length (filter is_front found.old)) }
-    ensures taken { OnOk result (found.new ≡ []) }
+    requires { length found.now < 2 ^ 64 }
+    ensures ok { OnOk result (errors.new ≡ add_errors errors.old found.now) }
+    ensures fronts { IfOk result (λ n. n ≡ length (filter is_front found.now)) }
     ensures err { OnErr result (errors.new ≡ errors.old) }
 {
     let count = errors.as_slice().len();
     let mut fronts = 0;
-    while let Some(fault) = found.pop_first() {
+    let mut index = 0;
+    while let Some(fault) = found.get(index) {
         match add_error(alloc, errors, fault) {
             Ok(added) => fronts += added,
             Err(refused) => {
@@ -61,6 +56,7 @@ fn add_errors(
                 return Err(refused);
             }
         }
+        index += 1;
     }
     Ok(fronts)
 }
@@ -117,7 +113,9 @@ impl Lists {
         if found.is_empty() {
             return Ok(0);
         }
-        add_errors(alloc, &mut self.errors, found)
+        let fronts = add_errors(alloc, &mut self.errors, found)?;
+        found.clear();
+        Ok(fronts)
     }
 
     /// Takes all that a call has found out of `reader` and adds it. Returns how many errors were

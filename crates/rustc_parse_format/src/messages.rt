@@ -68,17 +68,17 @@ fn show(
     into: &mut ParseError,
     description: String,
     label: &str,
-    span: Range<usize>,
+    span: &Range<usize>,
 ) -> Result<(), AllocError>
     ensures { OnOk result (seen_error into.new ≡ record (seen_error into.old) {
       description = string_bytes description;
       label = label.now;
-      span = pair span;
+      span = pair span.now;
     }) }
 {
     into.description = description;
     into.label = String::from_str(alloc, label)?;
-    into.span = span;
+    into.span = span.start..span.end;
     Ok(())
 }
 
@@ -91,13 +91,13 @@ fn say(
     description: &str,
     note: &str,
     label: &str,
-    span: Range<usize>,
+    span: &Range<usize>,
 ) -> Result<(), AllocError>
     ensures { OnOk result (seen_error into.new ≡ record (seen_error into.old) {
       description = description.now;
       note = Some note.now;
       label = label.now;
-      span = pair span;
+      span = pair span.now;
     }) }
 {
     let description = String::from_str(alloc, description)?;
@@ -112,19 +112,22 @@ fn tell_brace(
     into: &mut ParseError,
     description: String,
     note: &str,
-    span: Range<usize>,
-    second: (&str, Range<usize>),
+    span: &Range<usize>,
+    second: (&str, &Range<usize>),
 ) -> Result<(), AllocError>
     ensures { OnOk result (seen_error into.new ≡ record (seen_error into.old) {
       description = string_bytes description;
       note = Some note.now;
       label = codes "expected `}`";
-      span = pair span;
-      second = Some (second.entry.0.now, pair second.entry.1);
+      span = pair span.now;
+      second = Some (second.entry.0.now, pair second.entry.1.now);
     }) }
 {
     into.note = Some(String::from_str(alloc, note)?);
-    into.secondary_label = Some((String::from_str(alloc, second.0)?, second.1));
+    into.secondary_label = Some((
+        String::from_str(alloc, second.0)?,
+        second.1.start..second.1.end,
+    ));
     show(alloc, into, description, "expected `}`", span)
 }
 
@@ -134,10 +137,10 @@ fn tell_field(
     alloc: Global,
     into: &mut ParseError,
     description: &str,
-    span: Range<usize>,
+    span: &Range<usize>,
 ) -> Result<(), AllocError>
     requires { seen_error into.old ≡ error [] None [] (0, 0) None }
-    ensures { OnOk result (seen_error into.new ≡ local_variable description.now (pair span)) }
+    ensures { OnOk result (seen_error into.new ≡ local_variable description.now (pair span.now)) }
 {
     into.suggestion = Suggestion::UsePositional;
     say(
@@ -152,9 +155,9 @@ fn tell_field(
 
 /// Sets an error, which is still empty, to that of a fault. Returns `Err` if an allocation fails.
 #[tactic(auto, unfolding(crate::specs::Faults::message))]
-pub fn tell(alloc: Global, into: &mut ParseError, fault: Fault<'_>) -> Result<(), AllocError>
+pub fn tell(alloc: Global, into: &mut ParseError, fault: &Fault<'_>) -> Result<(), AllocError>
     requires { seen_error into.old ≡ error [] None [] (0, 0) None }
-    ensures { OnOk result (seen_error into.new ≡ message (seen_fault fault.entry)) }
+    ensures { OnOk result (seen_error into.new ≡ message (seen_fault fault.now)) }
 {
     match fault {
         Fault::UnmatchedBrace(span) => say(
@@ -168,7 +171,7 @@ pub fn tell(alloc: Global, into: &mut ParseError, fault: Fault<'_>) -> Result<()
         Fault::MissingBrace(found, span, opening) => tell_brace(
             alloc,
             into,
-            expected_brace(alloc, found)?,
+            expected_brace(alloc, *found)?,
             "if you intended to print `{`, you can escape it using `{{`",
             span,
             ("because of this opening brace", opening),
@@ -176,7 +179,7 @@ pub fn tell(alloc: Global, into: &mut ParseError, fault: Fault<'_>) -> Result<()
         Fault::FillBrace(found, span, fill) => tell_brace(
             alloc,
             into,
-            expected_brace(alloc, found)?,
+            expected_brace(alloc, *found)?,
             "the character `}` is interpreted as a fill character because of the `:` that precedes it",
             span,
             (
@@ -215,7 +218,7 @@ pub fn tell(alloc: Global, into: &mut ParseError, fault: Fault<'_>) -> Result<()
             span,
         ),
         Fault::RawIdentifier(span, prefix) => {
-            into.suggestion = Suggestion::RemoveRawIdent(prefix);
+            into.suggestion = Suggestion::RemoveRawIdent(prefix.start..prefix.end);
             say(
                 alloc,
                 into,
@@ -226,8 +229,11 @@ pub fn tell(alloc: Global, into: &mut ParseError, fault: Fault<'_>) -> Result<()
             )
         }
         Fault::LateFlag(flag, span, both) => {
-            into.suggestion = Suggestion::ReorderFormatParameter(both, flagged_type(alloc, flag)?);
-            let description = expected_brace(alloc, Some(flag))?;
+            into.suggestion = Suggestion::ReorderFormatParameter(
+                both.start..both.end,
+                flagged_type(alloc, *flag)?,
+            );
+            let description = expected_brace(alloc, Some(*flag))?;
             show(alloc, into, description, "expected `'}'`", span)
         }
         Fault::MissingColon(span) => {
@@ -252,8 +258,8 @@ pub fn tell(alloc: Global, into: &mut ParseError, fault: Fault<'_>) -> Result<()
             )
         }
         Fault::LateAlign(sign, span) => {
-            into.label = align_after(alloc, sign)?;
-            into.span = span;
+            into.label = align_after(alloc, *sign)?;
+            into.span = span.start..span.end;
             into.description = String::from_str(
                 alloc,
                 "expected alignment specifier after `:` in format string; example: `{:>?}`",

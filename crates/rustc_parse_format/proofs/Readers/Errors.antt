@@ -1,6 +1,7 @@
 -- How faults are added to a list of errors: at its start and at its end.
 use Rattle.std.proofs.Common.{◌≡◌, ◌≤◌, ◌+◌, ◌++◌, Bool, true, false, cond, not, ℕ, List, [], ◌∷◌}
-use Rattle.std.proofs.Common.{length, drop, take, map, reverse, refl, sym, ap, ◌∙◌, arith}
+use Rattle.std.proofs.Common.{length, drop, take, map, reverse, refl, sym, ap, ◌∙◌, arith, suc}
+use Rattle.std.proofs.Common.{Option, None, Some, IsNone, MatchOption}
 use Rattle.std.proofs.Common.{append_assoc, length-append}
 use Rattle.std.specs.List.{filter}
 use Rattle.std.proofs.lemmas.List.Elements.{filter-append}
@@ -8,12 +9,27 @@ use Rattle.std.proofs.lemmas.List.Sums.{count_by-le-length, length-filter}
 use Rattle.std.proofs.lemmas.List.{append-nil, drop-append-le, drop-drop, drop-map, drop-take}
 use Rattle.std.proofs.lemmas.List.{drop_at, length-map, length-reverse, map-append, reverse-append}
 use Rattle.std.proofs.lemmas.List.{take-map, take_at}
+use Rattle.std.proofs.lemmas.Bool.{ltb-false, ltb-true}
+use Rattle.std.proofs.lemmas.List.{drop_more}
+use Rattle.std.proofs.Math.ListN.{drop_of_length-le}
+use Rattle.std.proofs.Math.Seq.{drop-nil, set-append_seam}
+use Rattle.std.specs.Slice.{IsItemAt}
+use denote.Ref.{Bor}
+use Rattle.rustc_parse_format.specs.declared.faults.Fault.{Fault as DeclaredFault}
 use Rattle.rustc_parse_format.specs.Faults.{Fault, Message, message, is_front, add_errors, Keeps}
+use Rattle.rustc_parse_format.specs.SeenFaults.{seen_fault, seen_faults}
 
 -- an error at the back, and errors from one place to another
-pub ruleset list_ends = (map-append, drop-append-le)
+pub ruleset list_ends = (map-append, set-append_seam)
 
 pub ruleset list_parts = (drop-take, drop-drop, take-map, drop-map)
+
+pub at_back : {X Y : Type 0} (f : X → Y) (n : ℕ) (old new : List X) (y : Y) → n ≤ length old
+    → map f new ≡ map f old ++ y ∷ [] → map f (drop n new) ≡ map f (drop n old) ++ y ∷ []
+at_back f n old new y few e =
+    sym (drop-map f n new) ∙ ap (drop n) e
+    ∙ drop-append-le n (map f old) (y ∷ []) (rw (length-map old f) few)
+    ∙ ap (λ ys. ys ++ y ∷ []) (drop-map f n old)
 
 one_more : {F M : Type 0} (m : F → M) (b : Bool) (f : F) (fronts backs : List F) (old : List M)
     → reverse (map m fronts) ++ cond b (m f ∷ old) (old ++ m f ∷ []) ++ map m backs
@@ -118,3 +134,37 @@ add_errors-keeps old fs =
     let front = reverse (map message (filter is_front fs)) in
     let back = map message (filter (λ f. not (is_front f)) fs) in
     (front, back, add_errors-ends old fs ∙ append_assoc front old back)
+
+-- A fault behind the first two, by its index among those,
+later_fault : (fs : List DeclaredFault) (i : ℕ) (x : Option (Bor DeclaredFault)) → IsItemAt fs i x
+    → MatchOption x (drop i (map seen_fault fs) ≡ [])
+    (λ f. drop i (map seen_fault fs) ≡ seen_fault f.now ∷ drop (i + 1) (map seen_fault fs))
+later_fault fs i None h =
+    rw (drop-map seen_fault i fs)
+    (ap (map seen_fault) (drop_of_length-le fs (ltb-false i (length fs) (sym h.0))))
+later_fault fs i (Some f) h =
+    rw (drop-map seen_fault i fs, drop-map seen_fault (i + 1) fs)
+    (ap (map seen_fault) (drop_more fs i f.now (ltb-true i (length fs) (sym h.0)))
+    ∙ ap (λ g. seen_fault g ∷ map seen_fault (drop (i + 1) fs)) (sym h.1))
+
+behind_two : (f g : DeclaredFault) (fs : List DeclaredFault) (i n : ℕ) → n ≡ i + 2
+    → drop n (seen_faults (Some f) (Some g) fs) ≡ drop i (map seen_fault fs)
+behind_two f g fs i n e = let two : n ≡ suc (suc i) = omega (arith, e) in rw two refl
+
+-- and by its index among all.
+pub fault_at : (f g : Option DeclaredFault) (fs : List DeclaredFault) (i n : ℕ)
+    (x : Option (Bor DeclaredFault)) → (IsNone f → IsNone g) × (IsNone g → fs ≡ []) → n ≡ i + 2
+    → IsItemAt fs i x → (let all = seen_faults f g fs in MatchOption x (drop n all ≡ [])
+    (λ f. drop n all ≡ seen_fault f.now ∷ drop (n + 1) all))
+fault_at None g fs i n None p e h = drop-nil n
+fault_at None g fs i n (Some f) p e h =
+    absurd (omega (arith, ltb-true i (length fs) (sym h.0), ap length (p.1 (p.0 refl))))
+fault_at (Some f) None fs i n None p e h =
+    let two : n ≡ suc (suc i) = omega (arith, e) in rw two refl
+fault_at (Some f) None fs i n (Some g) p e h =
+    absurd (omega (arith, ltb-true i (length fs) (sym h.0), ap length (p.1 refl)))
+fault_at (Some f) (Some g) fs i n None p e h =
+    behind_two f g fs i n e ∙ later_fault fs i None h
+fault_at (Some f) (Some g) fs i n (Some x) p e h =
+    rw (behind_two f g fs i n e, behind_two f g fs (i + 1) (n + 1) (omega (arith, e)))
+    (later_fault fs i (Some x) h)

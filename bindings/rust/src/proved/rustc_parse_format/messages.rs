@@ -63,7 +63,7 @@ fn align_after(alloc: Global, sign: char) -> Result<String, AllocError> {
 // ensures { OnOk result (seen_error into.new ≡ record (seen_error into.old) {
 //   description = string_bytes description;
 //   label = label.now;
-//   span = pair span;
+//   span = pair span.now;
 // }) }
 #[inline(always)]
 fn show(
@@ -71,11 +71,11 @@ fn show(
     into: &mut ParseError,
     description: String,
     label: &str,
-    span: Range<usize>,
+    span: &Range<usize>,
 ) -> Result<(), AllocError> {
     into.description = description;
     into.label = String::made_from(alloc, label)?;
-    into.span = span;
+    into.span = span.start..span.end;
     Ok(())
 }
 
@@ -85,7 +85,7 @@ fn show(
 //   description = description.now;
 //   note = Some note.now;
 //   label = label.now;
-//   span = pair span;
+//   span = pair span.now;
 // }) }
 #[inline(always)]
 fn say(
@@ -94,7 +94,7 @@ fn say(
     description: &str,
     note: &str,
     label: &str,
-    span: Range<usize>,
+    span: &Range<usize>,
 ) -> Result<(), AllocError> {
     let description = String::made_from(alloc, description)?;
     into.note = Some(String::made_from(alloc, note)?);
@@ -107,8 +107,8 @@ fn say(
 //   description = string_bytes description;
 //   note = Some note.now;
 //   label = codes "expected `}`";
-//   span = pair span;
-//   second = Some (second.entry.0.now, pair second.entry.1);
+//   span = pair span.now;
+//   second = Some (second.entry.0.now, pair second.entry.1.now);
 // }) }
 #[inline]
 fn tell_brace(
@@ -116,24 +116,27 @@ fn tell_brace(
     into: &mut ParseError,
     description: String,
     note: &str,
-    span: Range<usize>,
-    second: (&str, Range<usize>),
+    span: &Range<usize>,
+    second: (&str, &Range<usize>),
 ) -> Result<(), AllocError> {
     into.note = Some(String::made_from(alloc, note)?);
-    into.secondary_label = Some((String::made_from(alloc, second.0)?, second.1));
+    into.secondary_label = Some((
+        String::made_from(alloc, second.0)?,
+        second.1.start..second.1.end,
+    ));
     show(alloc, into, description, "expected `}`", span)
 }
 
 /// Sets an error, which is still empty, to that of a field access. Returns `Err` if an allocation
 /// fails.
 // requires { seen_error into.old ≡ error [] None [] (0, 0) None }
-// ensures { OnOk result (seen_error into.new ≡ local_variable description.now (pair span)) }
+// ensures { OnOk result (seen_error into.new ≡ local_variable description.now (pair span.now)) }
 #[inline]
 fn tell_field(
     alloc: Global,
     into: &mut ParseError,
     description: &str,
-    span: Range<usize>,
+    span: &Range<usize>,
 ) -> Result<(), AllocError> {
     into.suggestion = Suggestion::UsePositional;
     say(
@@ -148,9 +151,9 @@ fn tell_field(
 
 /// Sets an error, which is still empty, to that of a fault. Returns `Err` if an allocation fails.
 // requires { seen_error into.old ≡ error [] None [] (0, 0) None }
-// ensures { OnOk result (seen_error into.new ≡ message (seen_fault fault.entry)) }
+// ensures { OnOk result (seen_error into.new ≡ message (seen_fault fault.now)) }
 #[inline]
-pub fn tell(alloc: Global, into: &mut ParseError, fault: Fault<'_>) -> Result<(), AllocError> {
+pub fn tell(alloc: Global, into: &mut ParseError, fault: &Fault<'_>) -> Result<(), AllocError> {
     match fault {
         Fault::UnmatchedBrace(span) => say(
             alloc,
@@ -163,7 +166,7 @@ pub fn tell(alloc: Global, into: &mut ParseError, fault: Fault<'_>) -> Result<()
         Fault::MissingBrace(found, span, opening) => tell_brace(
             alloc,
             into,
-            expected_brace(alloc, found)?,
+            expected_brace(alloc, *found)?,
             "if you intended to print `{`, you can escape it using `{{`",
             span,
             ("because of this opening brace", opening),
@@ -171,7 +174,7 @@ pub fn tell(alloc: Global, into: &mut ParseError, fault: Fault<'_>) -> Result<()
         Fault::FillBrace(found, span, fill) => tell_brace(
             alloc,
             into,
-            expected_brace(alloc, found)?,
+            expected_brace(alloc, *found)?,
             "the character `}` is interpreted as a fill character because of the `:` that precedes it",
             span,
             (
@@ -210,7 +213,7 @@ pub fn tell(alloc: Global, into: &mut ParseError, fault: Fault<'_>) -> Result<()
             span,
         ),
         Fault::RawIdentifier(span, prefix) => {
-            into.suggestion = Suggestion::RemoveRawIdent(prefix);
+            into.suggestion = Suggestion::RemoveRawIdent(prefix.start..prefix.end);
             say(
                 alloc,
                 into,
@@ -221,8 +224,11 @@ pub fn tell(alloc: Global, into: &mut ParseError, fault: Fault<'_>) -> Result<()
             )
         }
         Fault::LateFlag(flag, span, both) => {
-            into.suggestion = Suggestion::ReorderFormatParameter(both, flagged_type(alloc, flag)?);
-            let description = expected_brace(alloc, Some(flag))?;
+            into.suggestion = Suggestion::ReorderFormatParameter(
+                both.start..both.end,
+                flagged_type(alloc, *flag)?,
+            );
+            let description = expected_brace(alloc, Some(*flag))?;
             show(alloc, into, description, "expected `'}'`", span)
         }
         Fault::MissingColon(span) => {
@@ -247,8 +253,8 @@ pub fn tell(alloc: Global, into: &mut ParseError, fault: Fault<'_>) -> Result<()
             )
         }
         Fault::LateAlign(sign, span) => {
-            into.label = align_after(alloc, sign)?;
-            into.span = span;
+            into.label = align_after(alloc, *sign)?;
+            into.span = span.start..span.end;
             into.description = String::made_from(
                 alloc,
                 "expected alignment specifier after `:` in format string; example: `{:>?}`",

@@ -1,4 +1,4 @@
-use Rattle.std.proofs.Common.{◌≡◌, ◌≤◌, ◌+◌, ◌∙◌, ap, arith, length, sym}
+use Rattle.std.proofs.Common.{◌≡◌, ◌+◌, ◌∙◌, ap, arith, drop, length, sym}
 use Rattle.std.proofs.lemmas.List.{length-map}
 use Rattle.rustc_parse_format.specs.Seen.{seen_error}
 use Rattle.rustc_parse_format.specs.SeenFaults.{seen_fault}
@@ -8,20 +8,19 @@ use Rattle.rustc_parse_format.proofs.lists.add_errors.Goals as goal
 pub loop-fault-preserved : goal.loop-fault-preserved
 loop-fault-preserved c =
     record {
-      added = added-more c.args.found.now c.loop-fault.found c.pop_first.new.self
+      added = added-more c.args.found.now _ (drop (c.loop-fault.index + 1) c.args.found.now)
           c.args.errors.now c.loop-fault.errors c.add_error.new.errors
-          (seen_fault c.in-Some.fault) c.loop-fault.fronts c.in-Ok.added
+          (seen_fault c.in-Some.fault.now) c.loop-fault.fronts c.in-Ok.added
           c.loop-fault.invariant.added c.in-Some.ensures c.in-Ok.ensures.ok c.in-Ok.ensures.fronts;
     }
 
 pub overflow_add-fronts : goal.overflow_add-fronts
 overflow_add-fronts c =
-    let more = added-more c.args.found.now c.loop-fault.found c.pop_first.new.self
+    let more = added-more c.args.found.now _ (drop (c.loop-fault.index + 1) c.args.found.now)
     c.args.errors.now c.loop-fault.errors c.add_error.new.errors
-    (seen_fault c.in-Some.fault) c.loop-fault.fronts c.in-Ok.added
+    (seen_fault c.in-Some.fault.now) c.loop-fault.fronts c.in-Ok.added
     c.loop-fault.invariant.added c.in-Some.ensures c.in-Ok.ensures.ok c.in-Ok.ensures.fronts in
-    let few : c.loop-fault.fronts + c.in-Ok.added + length c.pop_first.new.self
-    ≤ length c.args.found.now = added-few _ _ _ _ _ more in
+    let few = added-few _ _ _ _ _ more in
     omega (arith, few, c.requires)
 
 pub keep-requires : goal.keep-requires
