@@ -34,16 +34,21 @@ fn expected_brace(alloc: Global, found: Option<char>) -> Result<String, AllocErr
 fn out_of_range(alloc: Global, digits: &str) -> Result<String, AllocError>
     ensures { IfOk result (λ s. string_bytes s ≡ out_of_range (chars digits.now)) }
 {
-    format!(in alloc;
-        "integer `{digits}` does not fit into the type `u16` whose range is `0..=65535`"
-    )
+    let mut text = String::with_capacity(alloc, 70 + digits.len())?;
+    text.push_str("integer `")?;
+    text.push_str(digits)?;
+    text.push_str("` does not fit into the type `u16` whose range is `0..=65535`")?;
+    Ok(text)
 }
 
 /// Returns the flag with the type `?` after it. Returns `Err` if an allocation fails.
 fn flagged_type(alloc: Global, flag: char) -> Result<String, AllocError>
     ensures { IfOk result (λ s. string_bytes s ≡ encode_utf8_all (flag ∷ codes "?")) }
 {
-    format!(in alloc; "{flag}?")
+    let mut text = String::with_capacity(alloc, 1 + flag.len_utf8())?;
+    text.push(flag)?;
+    text.push('?')?;
+    Ok(text)
 }
 
 /// Returns the note on how to write the type `?` for the argument `word`. Returns `Err` if an
@@ -51,14 +56,22 @@ fn flagged_type(alloc: Global, flag: char) -> Result<String, AllocError>
 fn debug_after(alloc: Global, word: &str) -> Result<String, AllocError>
     ensures { IfOk result (λ s. string_bytes s ≡ debug_after (chars word.now)) }
 {
-    format!(in alloc; "`?` comes after `:`, try `{word}:?` instead")
+    let mut text = String::with_capacity(alloc, 37 + word.len())?;
+    text.push_str("`?` comes after `:`, try `")?;
+    text.push_str(word)?;
+    text.push_str(":?` instead")?;
+    Ok(text)
 }
 
 /// Returns the label on where an alignment belongs. Returns `Err` if an allocation fails.
 fn align_after(alloc: Global, sign: char) -> Result<String, AllocError>
     ensures { IfOk result (λ s. string_bytes s ≡ align_after sign) }
 {
-    format!(in alloc; "expected `{sign}` to occur after `:`")
+    let mut text = String::with_capacity(alloc, 30 + sign.len_utf8())?;
+    text.push_str("expected `")?;
+    text.push(sign)?;
+    text.push_str("` to occur after `:`")?;
+    Ok(text)
 }
 
 /// Sets the description, the label and the span of an error. Returns `Err` if an allocation fails.

@@ -32,16 +32,21 @@ fn expected_brace(alloc: Global, found: Option<char>) -> Result<String, AllocErr
 // ensures { IfOk result (λ s. string_bytes s ≡ out_of_range (chars digits.now)) }
 #[inline]
 fn out_of_range(alloc: Global, digits: &str) -> Result<String, AllocError> {
-    crate::shim::format_in!( alloc;
-        "integer `{digits}` does not fit into the type `u16` whose range is `0..=65535`"
-    )
+    let mut text = String::made_for(alloc, 70 + digits.len())?;
+    text.try_push_str("integer `")?;
+    text.try_push_str(digits)?;
+    text.try_push_str("` does not fit into the type `u16` whose range is `0..=65535`")?;
+    Ok(text)
 }
 
 /// Returns the flag with the type `?` after it. Returns `Err` if an allocation fails.
 // ensures { IfOk result (λ s. string_bytes s ≡ encode_utf8_all (flag ∷ codes "?")) }
 #[inline]
 fn flagged_type(alloc: Global, flag: char) -> Result<String, AllocError> {
-    crate::shim::format_in!( alloc; "{flag}?")
+    let mut text = String::made_for(alloc, 1 + flag.len_utf8())?;
+    text.try_push(flag)?;
+    text.try_push('?')?;
+    Ok(text)
 }
 
 /// Returns the note on how to write the type `?` for the argument `word`. Returns `Err` if an
@@ -49,14 +54,22 @@ fn flagged_type(alloc: Global, flag: char) -> Result<String, AllocError> {
 // ensures { IfOk result (λ s. string_bytes s ≡ debug_after (chars word.now)) }
 #[inline]
 fn debug_after(alloc: Global, word: &str) -> Result<String, AllocError> {
-    crate::shim::format_in!( alloc; "`?` comes after `:`, try `{word}:?` instead")
+    let mut text = String::made_for(alloc, 37 + word.len())?;
+    text.try_push_str("`?` comes after `:`, try `")?;
+    text.try_push_str(word)?;
+    text.try_push_str(":?` instead")?;
+    Ok(text)
 }
 
 /// Returns the label on where an alignment belongs. Returns `Err` if an allocation fails.
 // ensures { IfOk result (λ s. string_bytes s ≡ align_after sign) }
 #[inline]
 fn align_after(alloc: Global, sign: char) -> Result<String, AllocError> {
-    crate::shim::format_in!( alloc; "expected `{sign}` to occur after `:`")
+    let mut text = String::made_for(alloc, 30 + sign.len_utf8())?;
+    text.try_push_str("expected `")?;
+    text.try_push(sign)?;
+    text.try_push_str("` to occur after `:`")?;
+    Ok(text)
 }
 
 /// Sets the description, the label and the span of an error. Returns `Err` if an allocation fails.
