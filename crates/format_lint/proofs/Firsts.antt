@@ -1,18 +1,19 @@
 -- The first errors of all calls, where after each call only the first are kept.
-use Rattle.std.proofs.Common.{◌≡◌, ℕ, suc, zero, ◌+◌, ◌-◌, ◌≤◌, ◌++◌, false, true, not, List, []}
+use Rattle.std.proofs.Common.{◌≡◌, ◌≢◌, ℕ, suc, zero, ◌+◌, ◌-◌, ◌≤◌, ◌++◌, false, true, not}
 use Rattle.std.proofs.Common.{◌∷◌, length, drop, take, map, reverse, refl, sym, ap, ◌∙◌, arith}
-use Rattle.std.proofs.Common.{append-nil, append_assoc, length-append, min, nat_lt, ◌<◌}
+use Rattle.std.proofs.Common.{List, [], append-nil, append_assoc, length-append, min, nat_lt}
 use Rattle.std.specs.List.{filter}
 use Rattle.std.proofs.lemmas.List.{drop-map, drop_at, length-map, length-reverse, length-take}
 use Rattle.std.proofs.lemmas.List.{length-take-le, map-append, take-map, take_all}
 use Rattle.std.proofs.lemmas.List.{take_at}
-use Rattle.rustc_parse_format.specs.Characters.{is_nil}
-use Rattle.rustc_parse_format.specs.Faults.{Fault, Message, add_errors, is_front, map_fault}
+use Rattle.rustc_parse_format.specs.Characters.{Text, is_nil}
+use Rattle.rustc_parse_format.specs.Faults.{Fault, Message, add_errors, is_front}
 use Rattle.rustc_parse_format.specs.Faults.{message}
 use Rattle.rustc_parse_format.specs.State.{State, after, next_call}
-use Rattle.rustc_parse_format.specs.World.{Place, faults_in, place_of}
+use Rattle.rustc_parse_format.specs.World.{Place, faults_in}
 use Rattle.rustc_parse_format.proofs.Readers.Errors.{add_errors-ends, add_errors-kept}
 use Rattle.rustc_parse_format.proofs.Walking.FaultlessStates.{add_errors-length}
+use Rattle.rustc_parse_format.proofs.Walking.ParserLaws.{count_of_fronts}
 use Rattle.drawn_faults.specs.Fixing.{all_errors, all_faults}
 use Rattle.drawn_faults.proofs.CallFaults.{all_errors-end, all_errors-step}
 use Rattle.format_lint.specs.Lint.{most_drawn}
@@ -40,7 +41,7 @@ kept m es fs =
     ) (taken m m front es back (omega arith))
 
 -- The errors of a call by itself, so many of which go to the front, are put around those before.
-pub merged : {A : Type 0} (old : List (Message A)) (fs : List (Fault A))
+merged : {A : Type 0} (old : List (Message A)) (fs : List (Fault A))
     (added : List (Message A)) (n : ℕ) → added ≡ add_errors [] fs → n ≡ length (filter is_front fs)
     → take n added ++ (old ++ drop n added) ≡ add_errors old fs
 merged old fs added n e k =
@@ -53,9 +54,28 @@ merged old fs added n e k =
     rw (whole, take_at front back n count, drop_at front back n count)
     (sym (append_assoc front old back) ∙ sym (add_errors-ends old fs))
 
-pub fronts-fit : {A : Type 0} (fs : List (Fault A)) (added : List (Message A)) (n : ℕ)
+fronts-fit : {A : Type 0} (fs : List (Fault A)) (added : List (Message A)) (n : ℕ)
     → added ≡ add_errors [] fs → n ≡ length (filter is_front fs) → n ≤ length added
 fronts-fit fs added n e k = rw (e, k) (omega (arith, (add_errors-kept [] fs).0))
+
+-- A parser without errors has those of a call after it, and knows how many go to the front.
+pub record Called (s new : State) (n : ℕ) : Type 0 where
+  pub errors_are : new.errors ≡ add_errors [] (faults_in s.world (next_call s).faults)
+  pub fronts : n ≡ length (filter is_front (faults_in s.world (next_call s).faults))
+
+pub called : (s new : State) (n : ℕ) → s.errors ≡ [] → new ≡ after s (next_call s)
+    → n ≡ length (filter is_front (next_call s).faults) → Called s new n
+called s new n none e k = record {
+  errors_are = ap (λ (u : State). u.errors) e
+      ∙ ap (λ es. add_errors es (faults_in s.world (next_call s).faults)) none;
+  fronts = k ∙ sym (count_of_fronts s.world (next_call s).faults);
+}
+
+pub call-fits : (s new : State) (n : ℕ) → s.errors ≡ [] → new ≡ after s (next_call s)
+    → n ≡ length (filter is_front (next_call s).faults) → n ≤ length new.errors
+call-fits s new n none e k =
+    let c = called s new n none e k in
+    fronts-fit (faults_in s.world (next_call s).faults) new.errors n c.errors_are c.fronts
 
 pub map-around : {A B : Type 0} (g : A → B) (m n : ℕ) (old added : List A)
     → map g (take m (take n added ++ (old ++ drop n added)))
@@ -87,25 +107,30 @@ first-start s e =
       count = omega (arith, ap length same);
     }
 
-pub first-next : (s new : State) (first more : List (Message Place)) (others n : ℕ)
+pub first-next : (s mid new : State) (first more : List (Message Place)) (others left n : ℕ)
     (all : List (Message Place)) → AreFirst s first others all
-    → new ≡ record (after s (next_call s)) { errors = [] } → is_nil s.rest ≡ false
-    → more ≡ take most_drawn (add_errors first (faults_in s.world (next_call s).faults))
-    → n + length more ≡ length first + length (next_call s).faults
-    → AreFirst new more (others + n) all
-first-next s new first more others n all h e some m k =
+    → mid ≡ after s (next_call s) → new ≡ record mid { errors = [] } → is_nil s.rest ≡ false
+    → n ≡ length (filter is_front (next_call s).faults)
+    → more ≡ take most_drawn (take n mid.errors ++ (first ++ drop n mid.errors))
+    → left + length more ≡ others + (length first + length mid.errors)
+    → AreFirst new more left all
+first-next s mid new first more others left n all h e f some i m k =
     let t = record s { errors = first } in
     let u = after t (next_call t) in
-    let added = add_errors first (faults_in s.world (next_call s).faults) in
+    let fs = faults_in s.world (next_call s).faults in
+    let c = called s mid n h.none e i in
+    let added = add_errors first fs in
     let later = faults_in s.world (all_faults u.mode u.next u.rest) in
     let same : add_errors added later ≡ all_errors t = all_errors-step t u refl some in
     let counts : length (add_errors added later) ≡ length (all_errors t) = ap length same in
+    let are : more ≡ take most_drawn added =
+    m ∙ ap (take most_drawn) (merged first fs mid.errors n c.errors_are c.fronts) in
     let few : length more ≡ min most_drawn (length added) =
-    ap length m ∙ length-take most_drawn added in
+    ap length are ∙ length-take most_drawn added in
     let firsts : take most_drawn (add_errors more later) ≡ take most_drawn all =
-    ap (λ es. take most_drawn (add_errors es later)) m ∙ kept most_drawn added later
+    ap (λ es. take most_drawn (add_errors es later)) are ∙ kept most_drawn added later
     ∙ ap (take most_drawn) same ∙ h.first_are in
-    rw e (record {
+    rw (f, e) (record {
       none = refl;
       few = omega (arith, few);
       first_are = firsts;
@@ -114,12 +139,17 @@ first-next s new first more others n all h e some m k =
         h.count,
         counts,
         k,
+        ap length c.errors_are,
+        add_errors-length [] fs,
         add_errors-length more later,
         add_errors-length added later,
-        add_errors-length first (faults_in s.world (next_call s).faults),
-        length-map (next_call s).faults (map_fault (place_of s.world)),
+        add_errors-length first fs,
       );
     })
+
+pub some-left : (t : Text) → t ≢ [] → is_nil t ≡ false
+some-left [] some = absurd (some refl)
+some-left (c ∷ t) some = refl
 
 -- In the end the first errors are there, and so many others.
 pub record AreAll (first : List (Message Place)) (others : ℕ) (all : List (Message Place)) :
@@ -153,6 +183,13 @@ pub some-first : (m : ℕ) {A : Type 0} (all : List A)
     → nat_lt 0 (length (take (suc m) all)) ≡ nat_lt 0 (length all)
 some-first m [] = refl
 some-first m (x ∷ all) = positive x (take m all) ∙ sym (positive x all)
+
+-- Where nothing is added, the first elements stay.
+pub nothing-added : {A : Type 0} (m n : ℕ) (first added : List A) → length first ≤ m
+    → n ≤ length added → added ≡ [] → first ≡ take m (take n added ++ (first ++ drop n added))
+nothing-added m n first added h k e =
+    let none : n ≡ 0 = omega (arith, k, ap length e) in
+    rw (e, none) (sym (ap (take m) (append-nil first) ∙ take_all m first h))
 
 -- A list is put behind another, its first k elements last, and these are turned to the front.
 pub turned : {A : Type 0} (old added whole : List A) (n k : ℕ) → k ≤ length added

@@ -1,18 +1,20 @@
-//! A source, and the faults of it that are drawn.
+//! A source, its tokens, and the faults of it that are drawn.
 
 ghost use Rattle.std.specs.Prelude.{◌≡◌, ◌+◌, ◌-◌, ◌≤◌, ◌++◌, [], drop, length, map, nat_lt, take};
-ghost use Rattle.std.specs.Prelude.{IfOk, OnOk, chars, option_map};
-ghost use Rattle.std.specs.List.{filter};
+ghost use Rattle.std.specs.Prelude.{IfOk, OnOk, Some, chars, false, option_map};
 ghost use Rattle.rustc_parse_format.specs.Characters.{is_nil};
-ghost use Rattle.rustc_parse_format.specs.Faults.{add_errors, is_front};
 ghost use Rattle.rustc_parse_format.specs.Seen.{seen_error, seen_mode};
-ghost use Rattle.rustc_parse_format.specs.State.{after, next_call};
-ghost use Rattle.rustc_parse_format.specs.World.{faults_in, hashes};
+ghost use Rattle.rustc_parse_format.specs.World.{hashes};
 ghost use Rattle.piece_listing.specs.Program.{limit};
 ghost use Rattle.drawn_faults.specs.Fixing.{all_errors};
+ghost use Rattle.format_tokens.specs.Midway.{sized};
+ghost use Rattle.format_tokens.specs.Placed.{tokens};
+ghost use Rattle.format_tokens.specs.Seen.{seen_token};
+ghost use Rattle.format_tokens.specs.Walk.{tokens_of};
 ghost use Rattle.format_lint.specs.Lint.{errors, most_drawn, start};
 ghost use Rattle.format_lint.specs.SeenLint.{seen_source};
 
+use format_tokens::{Kind, Token, label, placed};
 use rustc_parse_format::{Argument, FormatSpec, ParseError, ParseMode, Parser, Position};
 use std::alloc::{AllocError, Global};
 
@@ -34,47 +36,37 @@ pub struct Faults {
     pub others: usize,
 }
 
-/// Adds the errors of a call to the first errors of the calls before it: `fronts` of them before
-/// these, and the others behind. Keeps only those that are drawn, and returns how many are left
-/// out. Returns `Err` if an allocation fails.
-fn add(
-    first: &mut Vec<ParseError>,
-    mut added: Vec<ParseError>,
-    fronts: usize,
-) -> Result<usize, AllocError>
-    requires { fronts ≤ length added.items }
-    ensures first { OnOk result (first.new.items ≡ take most_drawn
-        (take fronts added.items ++ (first.old.items ++ drop fronts added.items))) }
-    ensures count { IfOk result (λ n. n + length first.new.items
-        ≡ length first.old.items + length added.items) }
-{
-    added.rotate_left(fronts);
-    first.append(&mut added)?;
-    first.rotate_right(fronts);
-    let count = first.len();
-    first.truncate(MOST_DRAWN);
-    Ok(count - first.len())
-}
-
-/// Makes a call of a parser without errors, and adds those of the call to the first errors of the
-/// calls before it. Returns how many are left out. Returns `Err` if an allocation fails.
-fn add_next<'a>(
-    first: &mut Vec<ParseError>,
-    parser: &mut Parser<'a>,
-    argument: &mut Argument<'a>,
-) -> Result<usize, AllocError>
-    requires { parser.old.errors ≡ [] }
-    ensures state { OnOk result (parser.new
-        ≡ record (after parser.old (next_call parser.old)) { errors = [] }) }
-    ensures first { OnOk result (map seen_error first.new.items ≡ take most_drawn
-        (add_errors (map seen_error first.old.items)
-        (faults_in parser.old.world (next_call parser.old).faults))) }
-    ensures count { IfOk result (λ n. n + length (map seen_error first.new.items)
-        ≡ length (map seen_error first.old.items) + length (next_call parser.old).faults) }
-{
-    let (_, fronts) = parser.next_into(argument)?;
-    let left_out = add(first, parser.take_errors(), fronts)?;
-    Ok(left_out)
+impl Faults {
+    /// Moves the errors of a call out of a parser that had none before the call, and adds them to
+    /// those of the calls before: `fronts` of them before these, and the others behind. Keeps only
+    /// those that are drawn. Returns `Err` if an allocation fails, or if there are more errors than
+    /// a `usize` counts.
+    fn add(&mut self, parser: &mut Parser<'_>, fronts: usize) -> Result<(), AllocError>
+        requires few { length (map seen_error self.old.first.items) ≤ most_drawn }
+        requires fronts { fronts ≤ length parser.old.errors }
+        ensures state { OnOk result (parser.new ≡ record parser.old { errors = [] }) }
+        ensures first { OnOk result (map seen_error self.new.first.items ≡ take most_drawn
+            (take fronts parser.old.errors ++ (map seen_error self.old.first.items
+            ++ drop fronts parser.old.errors))) }
+        ensures count { OnOk result (self.new.others + length (map seen_error self.new.first.items)
+            ≡ self.old.others + (length (map seen_error self.old.first.items)
+            + length parser.old.errors)) }
+    {
+        let mut added = parser.take_errors();
+        if added.is_empty() {
+            return Ok(());
+        }
+        added.rotate_left(fronts);
+        self.first.append(&mut added)?;
+        self.first.rotate_right(fronts);
+        let count = self.first.len();
+        self.first.truncate(MOST_DRAWN);
+        let Some(others) = self.others.checked_add(count - self.first.len()) else {
+            return Err(AllocError);
+        };
+        self.others = others;
+        Ok(())
+    }
 }
 
 /// Returns whether a parser is at the end of its input.
@@ -103,16 +95,50 @@ fn faults_of<'a>(alloc: Global, parser: &mut Parser<'a>) -> Result<Faults, Alloc
     ensures others { IfOk result (λ f. f.others ≡ length (all_errors parser.old) - most_drawn) }
 {
     let mut argument = blank_argument();
-    let mut first = Vec::new(alloc);
-    let mut others: usize = 0;
+    let mut faults = Faults {
+        first: Vec::new(alloc),
+        others: 0,
+    };
     while !is_at_end(parser) {
-        let left_out = add_next(&mut first, parser, &mut argument)?;
-        let Some(sum) = others.checked_add(left_out) else {
-            return Err(AllocError);
-        };
-        others = sum;
+        let (_, fronts) = parser.next_into(&mut argument)?;
+        faults.add(parser, fronts)?;
     }
-    Ok(Faults { first, others })
+    Ok(faults)
+}
+
+/// Returns the tokens of a source's text, each with its number of characters, and the faults that
+/// `faults_of` returns, by the calls of a parser at its start. Returns `Err` as `faults_of` does.
+fn labels_of<'a>(
+    alloc: Global,
+    parser: &mut Parser<'a>,
+    mode: ParseMode,
+    source: Source<'a>,
+) -> Result<(Vec<(Kind, usize)>, Faults), AllocError>
+    requires { parser.old ≡ start (seen_mode mode) (seen_source source) }
+    ensures labels { IfOk result (λ x. x.0.items
+        ≡ map sized (tokens_of (seen_mode mode) (chars source.entry.text.now))) }
+    ensures first { IfOk result (λ x. map seen_error x.1.first.items
+        ≡ take most_drawn (errors (seen_mode mode) (seen_source source.entry))) }
+    ensures others { IfOk result (λ x. x.1.others
+        ≡ length (errors (seen_mode mode) (seen_source source.entry)) - most_drawn) }
+    ensures some { IfOk result (λ x. nat_lt 0 (length (map seen_error x.1.first.items))
+        ≡ nat_lt 0 (length (errors (seen_mode mode) (seen_source source.entry)))) }
+{
+    let text = source.text;
+    let mut argument = blank_argument();
+    let mut labels = Vec::new(alloc);
+    let mut faults = Faults {
+        first: Vec::new(alloc),
+        others: 0,
+    };
+    let mut rest = text;
+    while !rest.is_empty() {
+        let (taken, fronts) = parser.next_into(&mut argument)?;
+        faults.add(parser, fronts)?;
+        let left = text.len().saturating_sub(parser.position());
+        rest = label(&mut labels, mode, taken, &argument, left, rest)?;
+    }
+    Ok((labels, faults))
 }
 
 /// Returns a parser at the start of a source. Returns `Err` if an allocation fails.
@@ -145,4 +171,35 @@ pub fn faults_in(alloc: Global, mode: ParseMode, source: Source<'_>) -> Result<F
     let mut parser = parser_of(alloc, mode, source)?;
     let faults = faults_of(alloc, &mut parser)?;
     Ok(faults)
+}
+
+/// Returns the tokens of a source with this snippet, and the faults that `faults_in` returns.
+/// Returns `Err` as `faults_in` does.
+pub fn tokens_in(
+    alloc: Global,
+    mode: ParseMode,
+    source: Source<'_>,
+    snippet: &str,
+) -> Result<(Vec<Token>, Faults), AllocError>
+    requires { hashes source.style ≤ limit }
+    ensures tokens { IfOk result (λ x. map seen_token x.0.items ≡ tokens (seen_mode mode)
+        (chars source.entry.text.now) source.entry.style (Some (chars snippet.now)) false) }
+    ensures first { IfOk result (λ x. map seen_error x.1.first.items
+        ≡ take most_drawn (errors (seen_mode mode) (seen_source source.entry))) }
+    ensures others { IfOk result (λ x. x.1.others
+        ≡ length (errors (seen_mode mode) (seen_source source.entry)) - most_drawn) }
+    ensures some { IfOk result (λ x. nat_lt 0 (length (map seen_error x.1.first.items))
+        ≡ nat_lt 0 (length (errors (seen_mode mode) (seen_source source.entry)))) }
+{
+    let mut parser = parser_of(alloc, mode, source)?;
+    let (labels, faults) = labels_of(alloc, &mut parser, mode, source)?;
+    let tokens = placed(
+        alloc,
+        source.text,
+        source.style,
+        Some(snippet),
+        false,
+        labels.as_slice(),
+    )?;
+    Ok((tokens, faults))
 }

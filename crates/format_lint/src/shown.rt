@@ -1,7 +1,7 @@
 //! What is shown of an input in UTF-8.
 
 ghost use Rattle.std.specs.Prelude.{◌≡◌, ◌≢◌, ◌≤◌, ◌++◌, List, [], IfErr, IfOk, IsErrOf, OnOk};
-ghost use Rattle.std.specs.Prelude.{flat_map, map, string_bytes};
+ghost use Rattle.std.specs.Prelude.{flat_map, length, map, nat_lt, string_bytes};
 ghost use Rattle.rustc_parse_format.specs.Seen.{seen_error, seen_mode};
 ghost use Rattle.rustc_parse_format.specs.World.{hashes};
 ghost use Rattle.piece_listing.specs.declared.verdict.RunFault.TheVariants.{Words, TooLong};
@@ -14,11 +14,10 @@ ghost use Rattle.format_lint.specs.Lint.{Source as SourceValue};
 ghost use Rattle.format_lint.specs.Lint.{drawn, kept, lexed, more, picture};
 ghost use Rattle.format_lint.specs.SeenLint.{seen_source, seen_task};
 
-use super::faults::{Faults, Source, faults_in};
+use super::faults::{Faults, Source, faults_in, tokens_in};
 use super::task::{Show, Task};
 use super::tokens::put_tokens;
 use drawn_faults::{Picture, draw, fix};
-use format_tokens::tokens;
 use piece_listing::literal::{literal_text, without_newline};
 use piece_listing::verdict::RunFault;
 use rustc_parse_format::{ParseError, ParseMode};
@@ -54,34 +53,39 @@ fn put_more(alloc: Global, out: &mut String, count: usize) -> Result<(), AllocEr
     Ok(())
 }
 
-/// Appends the drawings of faults to a text, and says how many others there are. Returns `Err` if
-/// an allocation fails.
+/// Appends the drawings of faults to a text, and says how many others there are. Returns whether
+/// there are any, and `Err` if an allocation fails.
 fn put_drawings(
     alloc: Global,
     out: &mut String,
     picture: &Picture<'_>,
     faults: &Faults,
-) -> Result<(), AllocError>
-    ensures { OnOk result (string_bytes out.new ≡ string_bytes out.old
+) -> Result<bool, AllocError>
+    ensures drawn { OnOk result (string_bytes out.new ≡ string_bytes out.old
         ++ (flat_map (drawing (seen_picture picture.now)) (map seen_error faults.now.first.items)
         ++ more faults.now.others)) }
+    ensures told { IfOk result (λ told. told
+        ≡ nat_lt 0 (length (map seen_error faults.now.first.items))) }
 {
     put_each(alloc, out, picture, faults.first.as_slice())?;
     put_more(alloc, out, faults.others)?;
-    Ok(())
+    Ok(faults.first.len() > 0)
 }
 
-/// Appends the drawings of faults of a source to a text. Returns `Err` if an allocation fails.
+/// Appends the drawings of faults of a source to a text. Returns whether there are any, and `Err`
+/// if an allocation fails.
 fn put_faults(
     alloc: Global,
     out: &mut String,
     path: &str,
     source: Source<'_>,
     faults: &Faults,
-) -> Result<(), AllocError>
-    ensures { OnOk result (string_bytes out.new ≡ string_bytes out.old
+) -> Result<bool, AllocError>
+    ensures drawn { OnOk result (string_bytes out.new ≡ string_bytes out.old
         ++ (flat_map (drawing (picture path.now (seen_source source.entry)))
         (map seen_error faults.now.first.items) ++ more faults.now.others)) }
+    ensures told { IfOk result (λ told. told
+        ≡ nat_lt 0 (length (map seen_error faults.now.first.items))) }
 {
     if let Some(literal) = source.literal {
         let picture = Picture {
@@ -119,8 +123,8 @@ fn put_drawn(
         ≡ (drawn (seen_mode mode) path.now (seen_source source.entry)).1) }
 {
     let faults = faults_in(alloc, mode, source)?;
-    put_faults(alloc, out, path, source, &faults)?;
-    Ok(faults.first.len() > 0)
+    let told = put_faults(alloc, out, path, source, &faults)?;
+    Ok(told)
 }
 
 /// Appends a source as it is written, a line end, and the drawings of its faults to a text. Returns
@@ -194,19 +198,13 @@ fn put_lexed(
         Some(literal) => String::from_str(alloc, literal)?,
         None => format!(in alloc; "\n{written}")?,
     };
-    let found = tokens(
-        alloc,
-        source.text,
-        source.style,
-        Some(snippet),
-        false,
-        task.mode,
-    )?;
+    let (found, faults) = tokens_in(alloc, task.mode, source, snippet.as_str())?;
     put_tokens(out, colours, written, found.as_slice())?;
     if colours {
         out.push_str("\n")?;
     }
-    put_drawn(alloc, out, task.mode, task.path, source)
+    let told = put_faults(alloc, out, task.path, source, &faults)?;
+    Ok(told)
 }
 
 /// Returns what a task shows of a source, and whether a fault is left. Returns `Err` if an

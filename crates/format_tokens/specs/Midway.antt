@@ -1,6 +1,5 @@
--- What the functions that read a part say of the tokens that they add: only the contracts of
--- private
--- functions cite it.
+-- What the functions that read a part say of the tokens that they add. Of public functions only the
+-- contracts of `label` and `placed` cite it, which make what `tokens` makes.
 use Prim.Native.Char.{code}
 use Rattle.std.specs.Prelude.{◌≡◌, ℕ, ◌++◌, ◌&&◌, Bool, false, List, [], ◌∷◌, length, map, chars}
 use Rattle.std.specs.Char.{is_ascii_digit, is_whitespace}

@@ -6,11 +6,14 @@ ghost use Rattle.rustc_parse_format.specs.Characters.{Text, byte_length};
 ghost use Rattle.rustc_parse_format.specs.Literal.{IsSource};
 ghost use Rattle.rustc_parse_format.specs.Seen.{seen_mode, seen_snippet};
 ghost use Rattle.rustc_parse_format.specs.Source.{HasSource};
+ghost use Rattle.rustc_parse_format.specs.Types.{Mode};
 ghost use Rattle.rustc_parse_format.specs.World.{hashes, quote_offset, world};
 ghost use Rattle.format_tokens.specs.Covers.{IsCover, in_quotes, kinds_of, ranges_of, read_back};
+ghost use Rattle.format_tokens.specs.Midway.{sized};
 ghost use Rattle.format_tokens.specs.Placed.{shown, tokens};
 ghost use Rattle.format_tokens.specs.Seen.{seen_text, seen_token};
 ghost use Rattle.format_tokens.specs.Starts.{starts_of};
+ghost use Rattle.format_tokens.specs.Walk.{tokens_of};
 
 use crate::kinds::{Kind, Token};
 use crate::parts::{length_of, width_of};
@@ -92,6 +95,47 @@ fn starts(
     }
 }
 
+/// Returns the tokens of an input with their byte ranges in its source. `labels` has the kind of
+/// each and its number of characters; the other arguments are those of `tokens`. Returns `Err` if
+/// an allocation fails.
+pub fn placed(
+    alloc: Global,
+    input: &str,
+    style: Option<usize>,
+    snippet: Option<&str>,
+    appended_newline: bool,
+    labels: &[(Kind, usize)],
+) -> Result<Vec<Token>, AllocError>
+    requires { hashes style + length input.now + 2 < 2 ^ 64 }
+    ensures { IfOk result (λ v. (mode : Mode)
+        → labels.now ≡ map sized (tokens_of mode (chars input.now)) → map seen_token v.items
+        ≡ tokens mode (chars input.now) style (seen_text snippet.entry) appended_newline) }
+{
+    let source = source_of(input, style, snippet, appended_newline);
+    let offsets = starts(alloc, input, style, snippet, source, appended_newline)?;
+    let starts = offsets.as_slice();
+    let kept = length_of(input).saturating_sub(usize::from(appended_newline));
+    let mut tokens = Vec::new(alloc);
+    match source {
+        None => {
+            place(&mut tokens, labels, starts, kept)?;
+            Ok(tokens)
+        }
+        Some(literal) => {
+            tokens.push(Token {
+                kind: Kind::Quote,
+                span: 0..starts[0],
+            })?;
+            place(&mut tokens, labels, starts, kept)?;
+            tokens.push(Token {
+                kind: Kind::Quote,
+                span: starts[starts.len() - 1]..width_of(literal),
+            })?;
+            Ok(tokens)
+        }
+    }
+}
+
 /// Returns the tokens of an input, faulty or not, with their byte ranges in its source. Nothing is
 /// left out but an appended newline.
 ///
@@ -142,28 +186,7 @@ pub fn tokens(
         None => None,
         Some(literal) => Some(literal.as_str()),
     };
-    let source = source_of(input, style, text, appended_newline);
-    let offsets = starts(alloc, input, style, text, source, appended_newline)?;
-    let starts = offsets.as_slice();
     let labels = labels(alloc, input, mode)?;
-    let kept = length_of(input).saturating_sub(usize::from(appended_newline));
-    let mut tokens = Vec::new(alloc);
-    match source {
-        None => {
-            place(&mut tokens, &labels, starts, kept)?;
-            Ok(tokens)
-        }
-        Some(literal) => {
-            tokens.push(Token {
-                kind: Kind::Quote,
-                span: 0..starts[0],
-            })?;
-            place(&mut tokens, &labels, starts, kept)?;
-            tokens.push(Token {
-                kind: Kind::Quote,
-                span: starts[starts.len() - 1]..width_of(literal),
-            })?;
-            Ok(tokens)
-        }
-    }
+    let tokens = placed(alloc, input, style, text, appended_newline, &labels)?;
+    Ok(tokens)
 }

@@ -9,4 +9,5 @@ mod places;
 mod walk;
 
 pub use kinds::{Kind, Token};
-pub use lexer::tokens;
+pub use lexer::{placed, tokens};
+pub use walk::label;

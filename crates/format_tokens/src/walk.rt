@@ -85,9 +85,11 @@ fn literal<'a>(
     Ok(after)
 }
 
-/// Adds the tokens of a call at the start of a text, and returns what is left of the text after it:
-/// `left` bytes.
-fn call<'a>(
+/// Adds the kinds of the tokens of a call at the start of a text and the number of characters of
+/// each, and returns what is left of the text after it: `left` bytes. `taken` and `argument` are
+/// what `Parser::next_into` returned and read. Returns `Err` if an allocation fails; the list may
+/// then have some of the tokens.
+pub fn label<'a>(
     labels: &mut Vec<(Kind, usize)>,
     mode: ParseMode,
     taken: Option<Taken<'_>>,
@@ -151,12 +153,12 @@ fn labels_by<'a>(
         // (the errors are not needed, and are freed while they are in the caches)
         parser.take_errors();
         let left = width_of(input).saturating_sub(parser.position());
-        rest = call(&mut labels, mode, taken, &argument, left, rest)?;
+        rest = label(&mut labels, mode, taken, &argument, left, rest)?;
     }
     Ok(labels)
 }
 
-/// Returns the kinds of the tokens of a text and the byte length of each.
+/// Returns the kinds of the tokens of a text and the number of characters of each.
 pub fn labels(alloc: Global, input: &str, mode: ParseMode) -> Result<Vec<(Kind, usize)>, AllocError>
     requires { length input.now + 2 < 2 ^ 64 }
     ensures { IfOk result (λ v. v.items

@@ -85,6 +85,47 @@ fn starts(
     }
 }
 
+/// Returns the tokens of an input with their byte ranges in its source. `labels` has the kind of
+/// each and its number of characters; the other arguments are those of `tokens`. Returns `Err` if
+/// an allocation fails.
+// requires { hashes style + length input.now + 2 < 2 ^ 64 }
+// ensures { IfOk result (λ v. (mode : Mode)
+//     → labels.now ≡ map sized (tokens_of mode (chars input.now)) → map seen_token v.items
+//     ≡ tokens mode (chars input.now) style (seen_text snippet.entry) appended_newline) }
+#[inline]
+pub fn placed(
+    alloc: Global,
+    input: &str,
+    style: Option<usize>,
+    snippet: Option<&str>,
+    appended_newline: bool,
+    labels: &[(Kind, usize)],
+) -> Result<Vec<Token>, AllocError> {
+    let source = source_of(input, style, snippet, appended_newline);
+    let offsets = starts(alloc, input, style, snippet, source, appended_newline)?;
+    let starts = offsets.as_slice();
+    let kept = length_of(input).saturating_sub(usize::from(appended_newline));
+    let mut tokens = Vec::made_in(alloc);
+    match source {
+        None => {
+            place(&mut tokens, labels, starts, kept)?;
+            Ok(tokens)
+        }
+        Some(literal) => {
+            tokens.try_push(Token {
+                kind: Kind::Quote,
+                span: 0..starts[0],
+            })?;
+            place(&mut tokens, labels, starts, kept)?;
+            tokens.try_push(Token {
+                kind: Kind::Quote,
+                span: starts[starts.len() - 1]..width_of(literal),
+            })?;
+            Ok(tokens)
+        }
+    }
+}
+
 /// Returns the tokens of an input, faulty or not, with their byte ranges in its source. Nothing is
 /// left out but an appended newline.
 ///
@@ -133,28 +174,7 @@ pub fn tokens(
         None => None,
         Some(literal) => Some(literal.as_str()),
     };
-    let source = source_of(input, style, text, appended_newline);
-    let offsets = starts(alloc, input, style, text, source, appended_newline)?;
-    let starts = offsets.as_slice();
     let labels = labels(alloc, input, mode)?;
-    let kept = length_of(input).saturating_sub(usize::from(appended_newline));
-    let mut tokens = Vec::made_in(alloc);
-    match source {
-        None => {
-            place(&mut tokens, &labels, starts, kept)?;
-            Ok(tokens)
-        }
-        Some(literal) => {
-            tokens.try_push(Token {
-                kind: Kind::Quote,
-                span: 0..starts[0],
-            })?;
-            place(&mut tokens, &labels, starts, kept)?;
-            tokens.try_push(Token {
-                kind: Kind::Quote,
-                span: starts[starts.len() - 1]..width_of(literal),
-            })?;
-            Ok(tokens)
-        }
-    }
+    let tokens = placed(alloc, input, style, text, appended_newline, &labels)?;
+    Ok(tokens)
 }

@@ -80,8 +80,10 @@ fn literal<'a>(
     Ok(after)
 }
 
-/// Adds the tokens of a call at the start of a text, and returns what is left of the text after it:
-/// `left` bytes.
+/// Adds the kinds of the tokens of a call at the start of a text and the number of characters of
+/// each, and returns what is left of the text after it: `left` bytes. `taken` and `argument` are
+/// what `Parser::next_into` returned and read. Returns `Err` if an allocation fails; the list may
+/// then have some of the tokens.
 // ensures { IfOk result (λ after. (w : World) (n : ℕ) →
 //     (let k = call (seen_mode mode) n (chars text.now) in
 //     option_map (seen_taken argument.now) taken.entry ≡ option_map (piece_in w) k.piece
@@ -89,7 +91,7 @@ fn literal<'a>(
 //     → Took (call_tokens (seen_mode mode) (chars text.now) k.rest) k.rest
 //     labels.old.items labels.new.items after.now)) }
 #[inline]
-fn call<'a>(
+pub fn label<'a>(
     labels: &mut Vec<(Kind, usize)>,
     mode: ParseMode,
     taken: Option<Taken<'_>>,
@@ -147,12 +149,12 @@ fn labels_by<'a>(
         // (the errors are not needed, and are freed while they are in the caches)
         parser.take_errors();
         let left = width_of(input).saturating_sub(parser.position());
-        rest = call(&mut labels, mode, taken, &argument, left, rest)?;
+        rest = label(&mut labels, mode, taken, &argument, left, rest)?;
     }
     Ok(labels)
 }
 
-/// Returns the kinds of the tokens of a text and the byte length of each.
+/// Returns the kinds of the tokens of a text and the number of characters of each.
 // requires { length input.now + 2 < 2 ^ 64 }
 // ensures { IfOk result (λ v. v.items
 //     ≡ map sized (tokens_of (seen_mode mode) (chars input.now))) }

@@ -6,7 +6,7 @@ use Rattle.format_lint.proofs.faults.faults_of.Given as goal
 
 abbrev pub invariant-loop-argument : goal.invariant-loop-argument
 invariant-loop-argument l =
-    AreFirst l.parser (map seen_error l.first.items) l.others (all_errors l.fn.parser)
+    AreFirst l.parser (map seen_error l.faults.first.items) l.faults.others (all_errors l.fn.parser)
 
 abbrev pub decreases-loop-argument : goal.decreases-loop-argument
 decreases-loop-argument l = length l.parser.rest

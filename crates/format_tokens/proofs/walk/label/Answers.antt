@@ -7,7 +7,7 @@ use Rattle.rustc_parse_format.specs.Types.{bare_argument}
 use Rattle.rustc_parse_format.proofs.Grammar.BareValues.{argument-bare}
 use Rattle.rustc_parse_format.proofs.Walking.ReadPieces.{none_given}
 use Rattle.format_tokens.proofs.Calls.{argument-given, argument-opens, none-took, text-given}
-use Rattle.format_tokens.proofs.walk.call.Goals as goal
+use Rattle.format_tokens.proofs.walk.label.Goals as goal
 
 pub returns-in_ok-after-in-Lit : goal.returns-in_ok-after-in-Lit
 returns-in_ok-after-in-Lit c w n e left =

@@ -1,0 +1,86 @@
+use Rattle.std.proofs.Common.{◌≡◌, ◌-◌, IsUtf8, ap, ◌∙◌, sym, chars, length, nat_lt, rules}
+use Rattle.std.proofs.Common.{take, true}
+use Rattle.std.specs.Prelude.{option_map}
+use Rattle.rustc_parse_format.proofs.Sources.PlainPlaces.{width_chars}
+use Rattle.rustc_parse_format.specs.Call.{Call}
+use Rattle.rustc_parse_format.specs.Characters.{is_nil}
+use Rattle.rustc_parse_format.specs.Seen.{seen_mode}
+use Rattle.rustc_parse_format.specs.State.{State}
+use Rattle.rustc_parse_format.specs.World.{piece_in}
+use Rattle.drawn_faults.specs.Fixing.{all_errors}
+use Rattle.format_tokens.proofs.Progress.{forgotten, left_after, nil_chars, piece_so_far, smaller}
+use Rattle.format_tokens.proofs.Progress.{so_far-end, so_far-next, so_far-start, some_chars}
+use Rattle.format_lint.proofs.Firsts.{call-fits, first-end, first-next, first-start}
+use Rattle.format_lint.proofs.Firsts.{some-first, some-left}
+use Rattle.format_lint.specs.Lint.{errors, most_drawn}
+use Rattle.format_lint.specs.SeenLint.{seen_source}
+use Rattle.format_lint.proofs.faults.labels_of.Goals as goal
+
+pub loop-text-init : goal.loop-text-init
+loop-text-init c =
+    let e = c.requires in record {
+      is_text = search rules;
+      labels = rw c.new-labels.ensures.items
+          (so_far-start (seen_mode c.args.mode) (chars c.args.source.text.now) c.args.parser.now
+          (ap (λ (s : State). s.mode) e) (ap (λ (s : State). s.input) e)
+          (ap (λ (s : State). s.rest) e) (ap (λ (s : State). s.next) e));
+      faults = rw c.new.ensures.items (first-start c.args.parser.now
+          (ap (λ (s : State). s.errors) e));
+    }
+
+pub add-requires-clause-fronts : goal.add-requires-clause-fronts
+add-requires-clause-fronts c =
+    call-fits c.loop-text.parser c.next_into.new.self _ c.loop-text.invariant.faults.none
+    c.in_ok-taken.ensures.state c.in_ok-taken.ensures.fronts
+
+pub loop-text-smaller : goal.loop-text-smaller
+loop-text-smaller c =
+    let some = some_chars _ c.loop-text.invariant.is_text
+    (sym c.is_empty.ensures ∙ c.loop-text-test.true) in
+    smaller _ _ _ _ _ _ c.loop-text.invariant.labels
+    (c.in_ok-add.ensures.state ∙ ap forgotten c.in_ok-taken.ensures.state) some
+
+pub loop-text-preserved : goal.loop-text-preserved
+loop-text-preserved c =
+    let u : IsUtf8 c.args.source.text.now = search rules in
+    let h = c.loop-text.invariant.labels in
+    let new = c.in_ok-add.ensures.state ∙ ap forgotten c.in_ok-taken.ensures.state in
+    let some = some_chars _ c.loop-text.invariant.is_text
+    (sym c.is_empty.ensures ∙ c.loop-text-test.true) in
+    let left = left_after _ _ _ _ _ _ _ _ _ h new c.saturating_sub-left.ensures
+    (sym (width_chars _ u)) c.position.ensures in record {
+      is_text = search rules;
+      labels = so_far-next _ _ _ _ _ c.in_ok-rest.rest.now _ _ h new some
+          (c.in_ok-rest.ensures c.loop-text.parser.world c.loop-text.parser.next
+          (c.in_ok-taken.ensures.piece ∙ ap (λ (k : Call). option_map
+          (piece_in c.loop-text.parser.world) k.piece) (piece_so_far _ _ _ _ _ h)) left);
+      faults = first-next c.loop-text.parser c.next_into.new.self c.add.new.parser _ _ _ _ _ _
+          c.loop-text.invariant.faults c.in_ok-taken.ensures.state c.in_ok-add.ensures.state
+          (some-left _ (λ n. some (h.rest_is ∙ n)))
+          c.in_ok-taken.ensures.fronts c.in_ok-add.ensures.first c.in_ok-add.ensures.count;
+    }
+
+pub returns-clause-labels : goal.returns-clause-labels
+returns-clause-labels c =
+    let e = nil_chars _ (sym c.is_empty.ensures ∙ c.loop-text-test.false) in
+    so_far-end _ _ _ _ (rw e at c.loop-text.invariant.labels)
+
+pub returns-clause-first : goal.returns-clause-first
+returns-clause-first c =
+    let h : is_nil c.loop-text.parser.rest ≡ true =
+    ap is_nil (sym c.loop-text.invariant.labels.rest_is
+    ∙ nil_chars _ (sym c.is_empty.ensures ∙ c.loop-text-test.false)) in
+    (first-end _ _ _ _ c.loop-text.invariant.faults h).first_are
+    ∙ ap (λ s. take most_drawn (all_errors s)) c.requires
+
+pub returns-clause-others : goal.returns-clause-others
+returns-clause-others c =
+    let h : is_nil c.loop-text.parser.rest ≡ true =
+    ap is_nil (sym c.loop-text.invariant.labels.rest_is
+    ∙ nil_chars _ (sym c.is_empty.ensures ∙ c.loop-text-test.false)) in
+    (first-end _ _ _ _ c.loop-text.invariant.faults h).count
+    ∙ ap (λ s. length (all_errors s) - most_drawn) c.requires
+
+pub returns-clause-some : goal.returns-clause-some
+returns-clause-some c = ap (λ l. nat_lt 0 (length l)) (returns-clause-first c)
+    ∙ some-first 9 (errors (seen_mode c.args.mode) (seen_source c.args.source))

@@ -1,0 +1,19 @@
+use Rattle.std.proofs.Common.{chars, length, map}
+use denote.Text.{Utf8}
+use denote.Shadow.{shadow}
+use Rattle.rustc_parse_format.specs.Seen.{seen_error, seen_mode}
+use Rattle.drawn_faults.specs.Fixing.{all_errors}
+use Rattle.format_tokens.proofs.Progress.{IsSoFar}
+use Rattle.format_lint.proofs.Firsts.{AreFirst}
+use Rattle.format_lint.proofs.faults.labels_of.Given as goal
+
+abbrev pub invariant-loop-text : goal.invariant-loop-text
+invariant-loop-text l = record {
+  is_text : shadow (Utf8 l.rest);
+  labels : IsSoFar (seen_mode l.fn.mode) (chars l.text) l.labels.items (chars l.rest) l.parser;
+  faults : AreFirst l.parser (map seen_error l.faults.first.items) l.faults.others
+      (all_errors l.fn.parser);
+}
+
+abbrev pub decreases-loop-text : goal.decreases-loop-text
+decreases-loop-text l = length l.parser.rest
