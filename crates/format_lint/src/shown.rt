@@ -4,8 +4,7 @@ ghost use Rattle.std.specs.Prelude.{◌≡◌, ◌≢◌, ◌≤◌, ◌++◌, L
 ghost use Rattle.std.specs.Prelude.{flat_map, length, map, nat_lt, string_bytes};
 ghost use Rattle.rustc_parse_format.specs.Seen.{seen_error, seen_mode};
 ghost use Rattle.rustc_parse_format.specs.World.{hashes};
-ghost use Rattle.piece_listing.specs.declared.verdict.RunFault.TheVariants.{Words, TooLong};
-ghost use Rattle.piece_listing.specs.declared.verdict.RunFault.TheVariants.{NotText, NotLiteral};
+ghost use Rattle.piece_listing.specs.declared.verdict.RunFault.TheVariants.{Memory, NotLiteral};
 ghost use Rattle.piece_listing.specs.Program.{IsShort, limit};
 ghost use Rattle.drawn_faults.specs.Drawing.{drawing};
 ghost use Rattle.drawn_faults.specs.Places.{seen_picture};
@@ -233,9 +232,7 @@ fn shown_of_literal(alloc: Global, input: &str, task: Task<'_>) -> Result<(Strin
         × IsShown (seen_task task.entry) s (string_bytes x.0, x.1)) }
     ensures not_literal { IsErrOf result NotLiteral → (s : SourceValue) → IsLiteralIn input.now s
         → ⊥ }
-    ensures not_words { IfErr result (λ fault. fault ≢ Words) }
-    ensures not_long { IfErr result (λ fault. fault ≢ TooLong) }
-    ensures is_text { IfErr result (λ fault. fault ≢ NotText) }
+    ensures others { IfErr result (λ fault. fault ≢ NotLiteral → fault ≡ Memory) }
 {
     let literal = without_newline(input);
     let Some((text, style)) = literal_text(alloc, literal)? else {
@@ -262,9 +259,7 @@ pub fn shown_of_input(
         × IsShown (seen_task task.entry) s (string_bytes x.0, x.1)) }
     ensures not_literal { IsErrOf result NotLiteral → (s : SourceValue)
         → IsSourceIn task.entry.is_literal input.now s → ⊥ }
-    ensures not_words { IfErr result (λ fault. fault ≢ Words) }
-    ensures not_long { IfErr result (λ fault. fault ≢ TooLong) }
-    ensures is_text { IfErr result (λ fault. fault ≢ NotText) }
+    ensures others { IfErr result (λ fault. fault ≢ NotLiteral → fault ≡ Memory) }
 {
     if task.is_literal {
         return shown_of_literal(alloc, input, task);
