@@ -1,7 +1,9 @@
 //! Times in one run, over the same inputs: cost STRINGS, a file with a string and its literal on a
 //! line, with a tab between them. A line of what it writes is a row's name, with a tab behind it
 //! and behind each time in microseconds: of the crate of bindings/rust, of the original, and with
-//! `--cfg library` of the library's own walk and of the export into buffers that are kept.
+//! `--cfg library` of the library's own walk and of the export into buffers that are kept. With
+//! `--cfg growth` there are only walks of the library, over kinds of input at growing sizes.
+#![allow(dead_code)]
 #[cfg(library)]
 mod library;
 
@@ -10,6 +12,9 @@ use std::time::Instant;
 
 /// How many pieces and how many errors there are up to the first None.
 type Counts = (usize, usize);
+type Walk = fn(&str, Option<&str>) -> Counts;
+/// A text, perhaps with its literal.
+type Input = (String, Option<String>);
 
 macro_rules! walk {
     ($name:ident, $of:ident) => {
@@ -22,15 +27,12 @@ macro_rules! walk {
     };
 }
 walk!(the_crate, dephungo);
+#[cfg(not(growth))]
 walk!(the_original, original);
 
-/// The walks over the static library: its own, and the export.
-#[cfg(library)]
-mod proved {
-    use super::library::{blank, records::*, Buffers};
-    use super::Counts;
-    use std::cell::RefCell;
-
+/// The library's own walk.
+#[cfg(any(library, growth))]
+fn the_library(input: &str, snippet: Option<&str>) -> Counts {
     unsafe extern "C" {
         fn counted_walk(
             input: *const u8,
@@ -40,15 +42,18 @@ mod proved {
             has_snippet: bool,
         ) -> usize;
     }
+    let (is_given, text) = (snippet.is_some(), snippet.unwrap_or(""));
+    // SAFETY: each pointer is that of a text, whose length goes with it.
+    let counts =
+        unsafe { counted_walk(input.as_ptr(), input.len(), text.as_ptr(), text.len(), is_given) };
+    (counts >> 24, counts & 0xff_ffff)
+}
 
-    pub fn walk(input: &str, snippet: Option<&str>) -> Counts {
-        let (has_snippet, text) = (snippet.is_some(), snippet.unwrap_or(""));
-        // SAFETY: each pointer is that of a text, whose length goes with it.
-        let counts = unsafe {
-            counted_walk(input.as_ptr(), input.len(), text.as_ptr(), text.len(), has_snippet)
-        };
-        (counts >> 24, counts & 0xff_ffff)
-    }
+#[cfg(library)]
+mod export {
+    use super::library::{blank, records::*, Buffers};
+    use super::Counts;
+    use std::cell::RefCell;
 
     thread_local! {
         static KEPT: RefCell<Buffers> = RefCell::new(Buffers::with_room(Answer {
@@ -62,7 +67,7 @@ mod proved {
     }
 
     /// The export alone, which is what is timed: its records are there, and nobody looks at them.
-    pub fn export(input: &str, snippet: Option<&str>) -> Counts {
+    pub fn alone(input: &str, snippet: Option<&str>) -> Counts {
         let options = Options { has_snippet: snippet.is_some().into(), ..blank() };
         KEPT.with_borrow_mut(|kept| {
             assert_eq!(kept.read(input, snippet.unwrap_or(""), &options), DONE);
@@ -71,8 +76,8 @@ mod proved {
     }
 
     /// What its records say of the walk up to its first None.
-    pub fn export_counted(input: &str, snippet: Option<&str>) -> Counts {
-        let (steps, faults) = export(input, snippet);
+    pub fn counted(input: &str, snippet: Option<&str>) -> Counts {
+        let (steps, faults) = alone(input, snippet);
         KEPT.with_borrow(|kept| {
             let is_end = |step: &Step| step.kind == PIECE_NONE;
             let end = kept.steps[..steps].iter().position(is_end).expect("an end");
@@ -81,27 +86,26 @@ mod proved {
     }
 }
 
-type Walk = fn(&str, Option<&str>) -> Counts;
 /// Each walk, as it is timed and as it counts.
 const WALKS: &[(Walk, Walk)] = &[
+    #[cfg(not(growth))]
     (the_crate, the_crate),
+    #[cfg(not(growth))]
     (the_original, the_original),
+    #[cfg(any(library, growth))]
+    (the_library, the_library),
     #[cfg(library)]
-    (proved::walk, proved::walk),
-    #[cfg(library)]
-    (proved::export, proved::export_counted),
+    (export::alone, export::counted),
 ];
-
-type Input = (String, Option<String>);
 
 fn sum_of(walk: Walk, inputs: &[Input]) -> Counts {
     let counts = inputs.iter().map(|(input, snippet)| walk(black_box(input), snippet.as_deref()));
     counts.fold((0, 0), |sum, (pieces, errors)| (sum.0 + pieces, sum.1 + errors))
 }
 
-/// The shortest of the times of each walk, in turn, so that another load on the machine hits all of
-/// them.
-fn row(name: &str, inputs: &[Input], times: usize) {
+/// What there is to count, and the shortest of the times of each walk, in microseconds; in turn, so
+/// that another load on the machine hits all of them.
+fn timed(name: &str, inputs: &[Input], times: usize) -> (Counts, Vec<f64>) {
     let counts: Vec<_> = WALKS.iter().map(|(_, counting)| sum_of(*counting, inputs)).collect();
     assert!(counts.iter().all(|it| *it == counts[0]), "{name}: the counts differ: {counts:?}");
     let mut best = vec![f64::MAX; WALKS.len()];
@@ -111,10 +115,15 @@ fn row(name: &str, inputs: &[Input], times: usize) {
             for _ in 0..times {
                 black_box(sum_of(*timed, inputs));
             }
-            *best = best.min(start.elapsed().as_secs_f64());
+            *best = best.min(start.elapsed().as_secs_f64() * 1e6);
         }
     }
-    let columns: String = best.iter().map(|time| format!("\t{:.3}", time * 1e6)).collect();
+    (counts[0], best)
+}
+
+fn row(name: &str, inputs: &[Input], times: usize) {
+    let (_, best) = timed(name, inputs, times);
+    let columns: String = best.iter().map(|time| format!("\t{time:.3}")).collect();
     println!("{name}{columns}");
 }
 
@@ -145,9 +154,49 @@ const PARTS: &[(&str, usize)] = &[
     ("{a:w$.p$}", 4096), ("{\u{e9}\u{e9}\u{e9}}", 4096), ("a", 1 << 16), ("\u{e9}", 1 << 15),
     ("a line {}\n", 4096), ("{_} ", 4096), ("{a.b} ", 1024),
 ];
+/// Parts of texts at growing sizes, and how those with a literal are written in it. An `n` is a
+/// part of one long name.
+#[rustfmt::skip]
+const KINDS: &[(&str, Option<&str>)] = &[
+    ("a", None), ("When the parser is asked, it answers. ", None), ("größe 大小 🦀! ", None),
+    ("{}", None), ("{{}}", None), ("{:?}", None), ("{name} ", None), ("{name:>8.3} ", None),
+    ("{a:w$.p$}", None), ("{größe} ", None), ("{:*^+#08.prec$x?}", None), ("{_} ", None),
+    ("{r#name} ", None), ("{a.b} ", None), ("{99999} ", None), ("n", None),
+    ("no escape at all ", Some("no escape at all ")), ("aé", Some("\\x61\\u{e9}")),
+    ("a line of text\n", Some("a line of text\\n")), ("line\n        ", Some("line\\n        ")),
+    ("words", Some("words\\\n    ")), ("{name}\n", Some("{name}\\n")), ("{:?}\t", Some("{:?}\\t")),
+];
+
+/// Writes nanoseconds for each byte at growing sizes, how many times the last is the first, and
+/// nanoseconds for each piece at the last.
+fn show_growth() {
+    println!("{:40}    1 KiB  256 KiB    1 MiB   growth ns/piece", "ns for each byte");
+    for (part, written) in KINDS {
+        let shown = match written {
+            Some(written) => format!("{written:?}, a literal"),
+            None => format!("{part:?}"),
+        };
+        print!("{shown:40}");
+        let (mut first, mut last, mut pieces) = (None, 0.0, 0);
+        for size in [1 << 10, 1 << 18, 1 << 20] {
+            let count = size / written.unwrap_or(part).len();
+            let literal = written.map(|it| format!("\"{}\"", it.repeat(count)));
+            let text = match *part {
+                "n" => format!("{{{}}}", "n".repeat(size - 2)),
+                part => part.repeat(count),
+            };
+            let (counts, best) = timed(part, &[(text, literal)], (1 << 20) / size);
+            (last, pieces) = (best[0] * 1e3 / f64::from(1 << 20), counts.0);
+            first = first.or(Some(last));
+            print!("{last:9.2}");
+        }
+        let each = last * f64::from(1 << 20) / pieces as f64;
+        println!("{:8.2}x{each:9.1}", last / first.unwrap_or(last));
+    }
+}
 
 fn main() {
-    let file = std::env::args().nth(1).expect("a file of strings");
+    let Some(file) = std::env::args().nth(1) else { return show_growth() };
     let file = std::fs::read_to_string(file).expect("a file of strings");
     let pairs = file.lines().filter_map(|line| line.split_once('\t'));
     let with: Vec<Input> = pairs.map(|(text, it)| (column(text), Some(column(it)))).collect();
