@@ -4,19 +4,22 @@
     replay/make_rows.py           writes them
     replay/make_rows.py --check   compares them with what it would write
 
-A line of library.tsv has, with tabs between them, a name, the mode, the style, whether a newline was appended, the
-snippet, the input and the answer, as crates/tests_rows/src/row.rt says; but bytes are written as in cases.py, and the
-answer has a line `end N`, which no public call tells and which is dropped. The table
-of snippets has every row with a snippet, with nothing but whether it is the source literal of the input."""
+A line of library.tsv has, with tabs between them, a name, the mode, the style, whether a newline
+was appended, the snippet, the input and the answer, as crates/tests_rows/src/row.rt says; but bytes
+are written as in cases.py, and the answer has a line `end N`, which no public call tells and which
+is dropped. The table of snippets has every row with a snippet, with nothing but whether it is the
+source literal of the input."""
 
-import os
 import re
 import sys
 
-import cases
+sys.dont_write_bytecode = True
+from cases import HERE, bytes_of, rows  # noqa: E402
 
-HERE = os.path.dirname(os.path.abspath(__file__))
-SOURCES = os.path.join(HERE, "..", "crates", "tests_rows", "src")
+sys.path.append(str(HERE.parent / "tools"))
+from made import differing, words_of, write  # noqa: E402
+
+SOURCES = HERE.parent / "crates/tests_rows/src"
 
 
 def escaped(data):
@@ -48,54 +51,40 @@ def table(about, name, what, rows):
 
 
 def files():
-    """Each file of tables, by its name."""
+    """Each file of tables, by its path."""
     named, mixed, sources = [], [], []
-    with open(os.path.join(HERE, "library.tsv"), encoding="utf-8", newline="\n") as lines:
-        for line in lines:
-            if line.startswith("# "):
-                continue
-            name, mode, style, newline, snippet, text, answer = line.rstrip("\n").split("\t")
-            snippet, text = cases.bytes_of(snippet), cases.bytes_of(text)
-            answer = cases.bytes_of(answer).split(b"\n")[:-1]
-            assert answer[0] in (b"source yes", b"source no") and answer[1].startswith(b"end "), line
-            columns = [escaped(name.encode()), mode, style, newline, escaped(snippet), escaped(text)]
-            if snippet != b"-":
-                sources.append(row([columns[0], "format", *columns[2:]], answer[:1]))
-            (mixed if name.startswith("mixed-") else named).append(row(columns, [answer[0], *answer[2:]]))
+
+    def add(name, mode, style, newline, snippet, text, answer):
+        first, end, *rest = bytes_of(answer).split(b"\n")[:-1]
+        if first not in (b"source yes", b"source no") or not end.startswith(b"end "):
+            raise ValueError("the answer does not begin with `source` and `end`")
+        columns = [name.encode(), mode, style, newline, bytes_of(snippet), bytes_of(text)]
+        columns = [escaped(it) if isinstance(it, bytes) else it for it in columns]
+        if snippet != "-":
+            sources.append(row([columns[0], "format", *columns[2:]], [first]))
+        (mixed if name.startswith("mixed-") else named).append(row(columns, [first, *rest]))
+
+    list(rows(HERE / "library.tsv", add))
     walked = "All that reading the inputs gives."
-    return {
+    is_source = "Whether the snippet is the source literal of the input."
+    made = {
         "named_rows.rt": table("Worked rows: each shows one thing.", "ROWS", walked, named),
         "mixed_rows.rt": table("Inputs that were made at random.", "ROWS", walked, mixed),
-        "snippets.rt": table(
-            "Snippets and inputs.", "SOURCES", "Whether the snippet is the source literal of the input.", sources
-        ),
+        "snippets.rt": table("Snippets and inputs.", "SOURCES", is_source, sources),
     }
-
-
-def check(made):
-    """Counts the files that are what would be written now."""
-    failed = 0
-    for name, text in made.items():
-        with open(os.path.join(SOURCES, name), encoding="utf-8", newline="\n") as file:
-            if file.read() != text:
-                print(f"FAILED: {name} is not what replay/make_rows.py makes of replay/library.tsv")
-                failed += 1
-    print(f"tables: {len(made) - failed} passed, {failed} failed")
-    return 1 if failed else 0
+    return {SOURCES / name: text for name, text in made.items()}
 
 
 def main():
-    if sys.argv[1:] not in ([], ["--check"]):
-        sys.exit(__doc__)
-    made = files()
-    if sys.argv[1:]:
-        return check(made)
-    for name, text in made.items():
-        with open(os.path.join(SOURCES, name), "w", encoding="utf-8", newline="\n") as out:
-            out.write(text)
-        counts = re.findall(r"const (\w+)_COUNT: usize = (\d+)", text)
-        print(f"{name}: " + ", ".join(f"{count} {table.lower()}" for table, count in counts))
-    return 0
+    is_check, made = words_of(__doc__, ([], ["--check"])), files()
+    if not is_check:
+        write(made)
+        return 0
+    failed = differing(made)
+    for name in failed:
+        print(f"FAILED: {name} is not what replay/make_rows.py makes of replay/library.tsv")
+    print(f"tables: {len(made) - len(failed)} passed, {len(failed)} failed")
+    return 1 if failed else 0
 
 
 if __name__ == "__main__":

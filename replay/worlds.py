@@ -1,26 +1,22 @@
 #!/usr/bin/env python3
-"""Runs the program formatread over each input of library.tsv as it is, and with the word --literal over two literals
-that stand for it: an ordinary one, in which each character is an escape with a continuation after it, and a raw one
-with three hashes.
+"""Runs the program formatread over each input of library.tsv as it is, and with the word --literal
+over two literals that stand for it: an ordinary one, in which each character is an escape with a
+continuation after it, and a raw one with three hashes.
 
-    replay/worlds.py [--program FILE] [--show N]
+    replay/worlds.py [--program FILE]
 
-The three runs have to end with the same status and the same listing, but for its spans. Each line of a placeholder or
-a fault must have a span to take out, and the spans themselves must be others in each run. With no --program, the
-program is built first. The last line counts the inputs that passed and failed, and the status is 0 only if each
-passed."""
+The three runs have to end with the same status and the same listing, but for its spans. Each line
+of a placeholder or a fault must have a span to take out, and the spans themselves must be others in
+each run. With no --program, the program is built first. The last line counts the inputs that passed
+and failed, and the status is 0 only if each passed."""
 
-import argparse
-import os
 import re
 import subprocess
 import sys
-from concurrent.futures import ThreadPoolExecutor
 
-import built
-import cases
+sys.dont_write_bytecode = True
+from cases import HERE, bytes_of, main, rows  # noqa: E402
 
-HERE = os.path.dirname(os.path.abspath(__file__))
 SECONDS = 60
 # How many inputs there are: one that is lost is a failure.
 CASES = 555
@@ -31,17 +27,6 @@ LONE = [("lone-brace", "format", b"}a"), ("lone-braces", "format", b"}}}a}")]
 LINE = re.compile(rb"(arg (?:implicit|index) \d+|arg name \S+|fault) (\d+\.\.\d+)((?: .*)?)")
 # A text in quotes, in which nothing is a span, or the span of a part.
 PART = re.compile(rb'("(?:[^"\\]|\\.)*")|@\d+\.\.\d+')
-
-
-def inputs():
-    """The name, the mode and the text of each input."""
-    found = [*LONE]
-    with open(os.path.join(HERE, "library.tsv"), encoding="utf-8", newline="\n") as lines:
-        for line in lines:
-            if not line.startswith("# "):
-                name, mode, _, _, _, text, _ = line.rstrip("\n").split("\t")
-                found.append((name, mode, cases.bytes_of(text)))
-    return found
 
 
 def escaped(text):
@@ -91,36 +76,21 @@ def fault(program, mode, text):
         for literal in (escaped(text), raw(text)):
             told, spans = read(program, [mode, "--literal"], literal)
             if told != plain:
-                return f"{told!r:.500} from the literal {literal!r:.300}, and {plain!r:.500} from its text"
+                return f"{told!r:.500} from {literal!r:.300}, and {plain!r:.500} from its text"
             if spans and spans in seen or len(spans) != len(seen[0]):
-                return f"spans {spans!r:.300} from the literal {literal!r:.300}, after {seen!r:.500}"
+                return f"spans {spans!r:.300} from {literal!r:.300}, after {seen!r:.500}"
             seen.append(spans)
     except (ValueError, subprocess.TimeoutExpired) as error:
         return str(error)
     return None
 
 
-def main():
-    parser = argparse.ArgumentParser(description=__doc__, formatter_class=argparse.RawDescriptionHelpFormatter)
-    parser.add_argument("--program")
-    parser.add_argument("--show", type=int, default=10)
-    said = parser.parse_args()
-    program = built.program(said.program)
-    if not program:
-        print("worlds: 0 passed, 1 failed: the program was not built")
-        return 1
-    todo = inputs()
-    if len(todo) != CASES:
-        print(f"worlds: 0 passed, 1 failed: there are {len(todo)} inputs, and not {CASES}")
-        return 1
-    with ThreadPoolExecutor(os.cpu_count()) as pool:
-        why = list(pool.map(lambda it: fault(program, *it[1:]), todo))
-    failed = [(case, it) for case, it in zip(todo, why) if it]
-    for (name, mode, text), it in failed[: said.show]:
-        print(f"FAILED {name}: {mode}, input {cases.text_of(text[:300])!r}\n    {it}")
-    print(f"worlds: {len(todo) - len(failed)} passed, {len(failed)} failed")
-    return 1 if failed else 0
+def cases():
+    """The name, the mode and the text of each input."""
+    yield from LONE
+    made = lambda name, mode, style, newline, snippet, text, answer: (name, mode, bytes_of(text))
+    yield from rows(HERE / "library.tsv", made)
 
 
 if __name__ == "__main__":
-    sys.exit(main())
+    sys.exit(main(__doc__, "worlds", CASES, cases(), fault))

@@ -117,15 +117,19 @@ def is_fresh(file, sources):
     return file.exists() and not subprocess.run(find, **how).stdout
 
 
-def put(file, target, time):
-    """Copies a file in one move, for who runs or links it meanwhile, and gives it a time."""
-    fresh = target.with_name(f".{target.name}")
+def put(files, time):
+    """Copies files to out/, each in one move, for who runs or links it meanwhile, and gives them a
+    time."""
+    fresh = [OUT / f".{it.name}" for it in files]
     try:
-        shutil.copy(file, fresh)
-        os.utime(fresh, ns=(time, time))
-        os.replace(fresh, target)
+        for file, made in zip(files, fresh):
+            shutil.copy(file, made)
+            os.utime(made, ns=(time, time))
+        for file, made in zip(files, fresh):
+            os.replace(made, OUT / file.name)
     finally:
-        fresh.unlink(missing_ok=True)
+        for made in fresh:
+            made.unlink(missing_ok=True)
 
 
 def built(who, name):
@@ -165,8 +169,7 @@ def built(who, name):
         if not is_fresh(start, sources):
             raise Stop("a source changed meanwhile, so call it once more")
         (OUT / f".{name}.sources").write_text("\n".join(map(str, sources)))
-        for it in made:
-            put(it, OUT / it.name, start.stat().st_mtime_ns)
+        put(made, start.stat().st_mtime_ns)
     return file
 
 
