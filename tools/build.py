@@ -6,8 +6,8 @@ also what the library needs of the kit, and its C header.
 The gate of the kit (`rt ci`) proves the crates that are needed, in a copy of them alone. What was
 proved on this machine is not proved again, here or by ./check. Each crate that is done is written
 to standard error. If there are two calls at once, the second waits for the first. The status is 0
-if it was built, 1 if not; if interrupted, 128 and the signal's number. Until all is proved, what was
-built before stays as it was."""
+if it was built, 1 if not; if interrupted, 128 and the signal's number. Until all is proved, what
+was built before stays as it was."""
 
 import fcntl
 import os
@@ -29,8 +29,6 @@ OTHERS = {
     "counted_walk": "counted_walk staticlib: rustc_parse_format",
     "drawings": "drawings: rustc_parse_format drawn_faults",
 }
-# How many bytes have to be free in out/.
-ROOM = 50_000_000
 SIGNALS = (signal.SIGINT, signal.SIGTERM, signal.SIGHUP)
 
 
@@ -48,10 +46,11 @@ def crates_of(name):
     return found | {name: uses[name]}
 
 
-def copied(name, folder, root="main"):
+def copied(name, folder):
     """Copies what a check of a crate reads."""
     if name in OTHERS:
         (folder / "src").mkdir(parents=True)
+        root = "lib" if " staticlib:" in OTHERS[name] else "main"
         shutil.copy(RATTLE / f"{name}.txt", folder / f"src/{root}.rt")
     else:
         others = shutil.ignore_patterns("out", "*must-fail")
@@ -72,8 +71,12 @@ def run(who, folder, *command):
     it says."""
     how = {"stdin": subprocess.DEVNULL, "stdout": subprocess.PIPE, "stderr": subprocess.STDOUT}
     how |= {"cwd": folder, "env": {**os.environ, "PYTHONUNBUFFERED": "1"}, "errors": "replace"}
+    # (a signal waits until the command is known here)
+    signal.pthread_sigmask(signal.SIG_BLOCK, SIGNALS)
+    how |= {"preexec_fn": lambda: signal.pthread_sigmask(signal.SIG_UNBLOCK, SIGNALS)}
     ran, said = subprocess.Popen(command, start_new_session=True, text=True, **how), ""
     try:
+        signal.pthread_sigmask(signal.SIG_UNBLOCK, SIGNALS)
         for line in ran.stdout:
             said += line
             if re.match(r"rt: \w+ (proved$|is kept:)", line):
@@ -105,7 +108,7 @@ def proved(who, name, room):
         words += ["--extern", f"{it}={rlibs}/{it}.rlib", "-L", f"dependency={rlibs}"]
     words += ["--antt-project", f"{kit}/rattle/logic/antt-project.json"]
     words += ["--logic-built", f"{kit}/logic_built", "-o", room / f"lib{name}.a"]
-    copied(name, room / name, "lib")
+    copied(name, room / name)
     run(who, room / name, f"{kit}/bin/rattle", "build", *words)
     return [kit / "c/liblibc_c.a", HEADER, room / f"lib{name}.a"]
 
@@ -155,8 +158,6 @@ def built(who, name):
             fcntl.flock(lock, fcntl.LOCK_EX)
         if is_fresh(file, sources):
             return file
-        if shutil.disk_usage(OUT).free < ROOM:
-            raise Stop(f"{OUT}: fewer than {ROOM} bytes are free")
         told = f"{len(crates)} crates, which takes some 15 minutes from nothing"
         print(f"{who}: proving {told}", file=sys.stderr, flush=True)
         # (the gate runs programs in it as nobody)
@@ -180,13 +181,14 @@ def interrupted(number, _):
     sys.exit(128 + number)
 
 
-def status_of(who, work):
-    """Does a command's work. Returns its status, and says why it was not done."""
+def main(who, name):
+    """Builds it, and returns the status. Says why it was not built."""
     for it in SIGNALS:
         signal.signal(it, interrupted)
     status = 1
     try:
-        work()
+        file = built(who, name)
+        print(OUT if who == "library" else file)
         return 0
     except SystemExit as end:
         status, why = end.code, "interrupted"
@@ -197,14 +199,6 @@ def status_of(who, work):
         why = f"{place}: {error.strerror}" if place else error.strerror
     print(f"{who}: {why}", file=sys.stderr)
     return status
-
-
-def main(who, name):
-    def work():
-        file = built(who, name)
-        print(OUT if who == "library" else file)
-
-    return status_of(who, work)
 
 
 if __name__ == "__main__":
