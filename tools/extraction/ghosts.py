@@ -36,7 +36,7 @@ def attributes(source, item):
         if name not in ATTRIBUTES:
             source.refuse(at, f"an attribute `{name}`")
         behind = source.next(end)
-        if name in ("tactic", "cycle"):
+        if name == "tactic":
             source.cut(at, behind - 1)
         elif name == "derive":
             item.derive = (at, end)

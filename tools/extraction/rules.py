@@ -44,7 +44,7 @@ MACROS = {
 }
 # Traits that are named only where they are imported, by the calls of their methods.
 TRAITS = {(".", "width", 0): "UnicodeWidthChar"}
-ATTRIBUTES = {"cold", "cycle", "default", "derive", "doc", "inline", "tactic"}
+ATTRIBUTES = {"cold", "default", "derive", "doc", "inline", "tactic"}
 DERIVES = {"Clone", "Copy", "Debug", "Default", "Drop", "Eq", "PartialEq"}
 # Members that what calls the crates has to write, for which they have no call.
 OPENED = {"Cursor": {"source"}}
@@ -166,10 +166,7 @@ def refusal(source, at):
 
 def refuse_unknown(source, at):
     """Refuses what both languages read, and do not mean the same by, or may not."""
-    if source.text(at) == "#" and source.text(source.next(at, 2)) not in ATTRIBUTES - {
-        "tactic",
-        "cycle",
-    }:
+    if source.text(at) == "#" and source.text(source.next(at, 2)) not in ATTRIBUTES - {"tactic"}:
         source.refuse(at, f"an attribute `{source.text(source.next(at, 2))}`")
     token, before, behind = (
         source.tokens[at],
