@@ -4,9 +4,7 @@
 #include "rows.h"
 #include <stdio.h>
 #include <stdlib.h>
-#include <string.h>
 
-enum { STEPS, SPECS, FAULTS, TEXTS, LINES, BUFFERS };
 static const size_t bytes_of[BUFFERS] = {sizeof(dephungo_step), sizeof(dephungo_spec), sizeof(dephungo_fault), 1, sizeof(dephungo_range)};
 
 /* Blocks of so many records each, filled with a byte. An empty one is still a block. */
@@ -17,12 +15,6 @@ static void make(void *buffers[BUFFERS], const size_t rooms[BUFFERS]) {
         if (buffers[b] == NULL) exit(3);
         memset(buffers[b], 0x5a, bytes ? bytes : 1);
     }
-}
-
-static uint32_t read_row(const row *r, void *buffers[BUFFERS], const size_t rooms[BUFFERS], dephungo_answer *answer) {
-    return dephungo_read((const uint8_t *)r->input, strlen(r->input), (const uint8_t *)r->snippet, strlen(r->snippet), &r->options,
-                         buffers[STEPS], rooms[STEPS], buffers[SPECS], rooms[SPECS], buffers[FAULTS], rooms[FAULTS],
-                         buffers[TEXTS], rooms[TEXTS], buffers[LINES], rooms[LINES], answer);
 }
 
 /* Whether a call with these rooms, but one record less in the buffer `less`, answers the code, tells what is needed and leaves

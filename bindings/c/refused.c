@@ -2,7 +2,6 @@
  * leaks. Where nothing is refused any more, the code is DONE. It is linked with --wrap=malloc, realloc and free. */
 #include "rows.h"
 #include <stdio.h>
-#include <string.h>
 
 void *__real_malloc(size_t bytes);
 void *__real_realloc(void *old, size_t bytes);
@@ -38,14 +37,8 @@ static dephungo_spec specs[64];
 static dephungo_fault faults[64];
 static dephungo_range lines[64];
 static uint8_t texts[8192];
-
-static uint32_t read_row(const row *r, dephungo_answer *answer) {
-    counting = 1;
-    uint32_t code = dephungo_read((const uint8_t *)r->input, strlen(r->input), (const uint8_t *)r->snippet, strlen(r->snippet),
-                                  &r->options, steps, 64, specs, 64, faults, 64, texts, sizeof texts, lines, 64, answer);
-    counting = 0;
-    return code;
-}
+static void *const buffers[BUFFERS] = {steps, specs, faults, texts, lines};
+static const size_t rooms[BUFFERS] = {64, 64, 64, sizeof texts, 64};
 
 /* How many requests of a row were refused in turn, or -1 where a call did not do what it has to. */
 static long refuse_each(const row *r) {
@@ -54,7 +47,9 @@ static long refuse_each(const row *r) {
     for (long n = 0; n < 10000; n++) {
         left = n;
         answer = before;
-        uint32_t code = read_row(r, &answer);
+        counting = 1;
+        uint32_t code = read_row(r, buffers, rooms, &answer);
+        counting = 0;
         if (held != 0) return printf("%s: %ld is not given back at request %ld\n", r->input, held, n), -1;
         if (left >= 0) {
             if (code == DEPHUNGO_DONE && answer.steps > 0) return n;

@@ -1,5 +1,6 @@
 /* The inputs that the programs beside this file read. */
 #include "dephungo.h"
+#include <string.h>
 
 typedef struct {
     const char *input, *snippet;
@@ -20,3 +21,12 @@ static const row rows[] = {
 };
 
 enum { ROWS = sizeof rows / sizeof rows[0] };
+
+enum { STEPS, SPECS, FAULTS, TEXTS, LINES, BUFFERS };
+
+/* Reads a row into buffers with these rooms. */
+static uint32_t read_row(const row *r, void *const buffers[BUFFERS], const size_t rooms[BUFFERS], dephungo_answer *answer) {
+    return dephungo_read((const uint8_t *)r->input, strlen(r->input), (const uint8_t *)r->snippet, strlen(r->snippet),
+                         &r->options, buffers[STEPS], rooms[STEPS], buffers[SPECS], rooms[SPECS], buffers[FAULTS],
+                         rooms[FAULTS], buffers[TEXTS], rooms[TEXTS], buffers[LINES], rooms[LINES], answer);
+}
