@@ -1,9 +1,17 @@
 """A script that makes files from others: it writes them, or with --check compares them."""
-import os
+import shutil
 import sys
 from pathlib import Path
 
 TOP = Path(__file__).resolve().parent.parent
+NAME = Path(sys.argv[0]).name
+
+
+def needs(*tools):
+    """Stops, and says why, if one of the tools is not on the path."""
+    for tool in tools:
+        if not shutil.which(tool):
+            sys.exit(f"{NAME}: {tool} is not on the path")
 
 
 def words_of(about, choices):
@@ -43,7 +51,6 @@ def main(about, made, folder=None, faults=lambda: []):
     if not is_check:
         write(files, folder)
         return 0
-    name = os.path.basename(sys.argv[0])
-    found = [f"{it} is not what {name} makes" for it in differing(files, folder)] + [*faults()]
+    found = [f"{it} is not what {NAME} makes" for it in differing(files, folder)] + [*faults()]
     print("".join(f"{it}\n" for it in found), end="")
     return 1 if found else 0

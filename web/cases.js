@@ -99,4 +99,11 @@ function listing(answer, args) {
   return lines.map((line) => line + '\n').join('');
 }
 
-module.exports = { REPLAY, cases, listing, quoted };
+/** Answers --help with the comment at the head of a script, and ends it. */
+function helped(file) {
+  if (!process.argv.includes('--help')) return;
+  console.log(/\/\*\* ([^]*?) \*\//.exec(fs.readFileSync(file, 'utf8'))[1].replace(/^ \* ?/gm, ''));
+  process.exit(0);
+}
+
+module.exports = { REPLAY, cases, helped, listing };
