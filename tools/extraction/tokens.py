@@ -23,7 +23,6 @@ CLAUSE_TOKEN = re.compile(
 )
 
 TRIVIA = ("space", "comment", "doc")
-PAIRS = {"(": ")", "[": "]", "{": "}"}
 
 
 class Refused(Exception):
