@@ -18,7 +18,7 @@ use format_tokens::{Kind, Token, label, placed};
 use rustc_parse_format::{Argument, FormatSpec, ParseError, ParseMode, Parser, Position};
 use std::alloc::{AllocError, Global};
 
-/// The most faults that are drawn.
+/// The most faults that are drawn. Each drawing has the whole line, which may be the whole input.
 const MOST_DRAWN: usize = 10;
 
 /// A text, with the style of the literal that it is in and the literal as it is written.
@@ -38,9 +38,9 @@ pub struct Faults {
 
 impl Faults {
     /// Moves the errors of a call out of a parser that had none before the call, and adds them to
-    /// those of the calls before: `fronts` of them before these, and the others behind. Keeps only
-    /// those that are drawn. Returns `Err` if an allocation fails, or if there are more errors than
-    /// a `usize` counts.
+    /// those of the calls before: `fronts` of them before these, and the others after. Keeps only
+    /// those that are drawn, so that hostile input does not fill the memory. Returns `Err` if an
+    /// allocation fails, or if there are more errors than a `usize` counts.
     fn add(&mut self, parser: &mut Parser<'_>, fronts: usize) -> Result<(), AllocError>
         requires few { length (map seen_error self.old.first.items) ≤ most_drawn }
         requires fronts { fronts ≤ length parser.old.errors }
