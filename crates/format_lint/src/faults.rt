@@ -2,7 +2,6 @@
 
 ghost use Rattle.std.specs.Prelude.{◌≡◌, ◌+◌, ◌-◌, ◌≤◌, ◌++◌, [], drop, length, map, nat_lt, take};
 ghost use Rattle.std.specs.Prelude.{IfOk, OnOk, Some, chars, false, option_map};
-ghost use Rattle.rustc_parse_format.specs.Characters.{is_nil};
 ghost use Rattle.rustc_parse_format.specs.Seen.{seen_error, seen_mode};
 ghost use Rattle.rustc_parse_format.specs.World.{hashes};
 ghost use Rattle.piece_listing.specs.Program.{limit};
@@ -69,13 +68,6 @@ impl Faults {
     }
 }
 
-/// Returns whether a parser is at the end of its input.
-fn is_at_end(parser: &Parser<'_>) -> bool
-    ensures { result ≡ is_nil parser.now.rest }
-{
-    parser.peek().is_none()
-}
-
 /// Returns an argument to read placeholders into.
 fn blank_argument<'a>() -> Argument<'a> {
     Argument {
@@ -99,7 +91,7 @@ fn faults_of<'a>(alloc: Global, parser: &mut Parser<'a>) -> Result<Faults, Alloc
         first: Vec::new(alloc),
         others: 0,
     };
-    while !is_at_end(parser) {
+    while !parser.is_at_end() {
         let (_, fronts) = parser.next_into(&mut argument)?;
         faults.add(parser, fronts)?;
     }

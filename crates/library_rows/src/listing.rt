@@ -1,6 +1,6 @@
-//! What calls return as lines of text: pieces as `formatread` lists them, `none` for a call without a
-//! piece, and then `curarg`, the errors, each with the lines `note`, `label`, `second` and `suggest`
-//! that it has, and the byte ranges of placeholders and of lines.
+//! The results of calls as lines of text: pieces as `formatread` lists them, `none` for a call
+//! without a piece, and then `curarg`, the errors, each with the lines `note`, `label`, `second`
+//! and `suggest` that it has, and the byte ranges of placeholders and of lines.
 
 use piece_listing::put_piece;
 use rustc_parse_format::{ParseError, Parser, Piece, Suggestion};

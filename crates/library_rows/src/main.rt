@@ -4,8 +4,8 @@
 //! A row is a line with tabs between its columns: a name, the mode (`format`, `asm`, `diagnostic`
 //! or `diagnostic-named`), the style (`-`, or the number of `#`), whether a newline was appended
 //! (`0` or `1`), the snippet (`-`, or `=` and the snippet), the input, and the result. A backslash
-//! is before `n`, `t` and `r` for LF, HT and CR, before itself, and before `x` and the two digits of
-//! a byte. A line that begins with `#` is no row.
+//! is before `n`, `t` and `r` for LF, HT and CR, before itself, and before `x` and the two digits
+//! of a byte. A line that begins with `#` is no row.
 //!
 //! The result is a listing of all that a walk over the input gives, or the calls of a script, each
 //! with its own result (`script`).

@@ -7,8 +7,8 @@
 //! the number of pieces; `names` is the example for callers; `step` and `skip` take the next piece
 //! and all pieces, and write nothing; `is_identifier` is called on the next piece; `fronts` writes
 //! how many errors the next call puts in front, and how many there are then; `items` takes so many
-//! items of a new iterator; of the errors `spans` writes their spans, `whole` all that they say, and
-//! `has_errors` whether there are any.
+//! items of a new iterator; of the errors `spans` writes their spans, `whole` all that they say,
+//! and `has_errors` whether there are any.
 
 use crate::listing::{put_error, put_line, put_range};
 use crate::names::names;
