@@ -1,59 +1,73 @@
-"""The lists of cases: a line each, with tabs between id, words, standard input, refusal, standard output and status.
+"""The lists of cases, and what the scripts that run the program over them have in common.
 
-Bytes are written as text. A backslash stands before n, t and r for LF, HT and CR, before itself, and before x and two
-hexadecimal digits for any byte that isn't part of a printable character. In the words, s after a backslash is a space
-inside a word, and e an empty word. A refusal is the name of one, or empty. A line that begins with # and a space is no
-case. The answers are those of the whole program."""
+A list has a line for each case, with tabs between its columns. In those with bytes a backslash
+stands before n, t and r for LF, HT and CR, before itself, and before x and two hexadecimal digits
+for any byte that isn't part of a printable character. In the words, s after a backslash is a space
+inside a word, and e an empty word. A line that begins with # and a space is no case."""
 
-NAMED = {"n": 10, "t": 9, "r": 13, "\\": 92, "s": 32}
+import argparse
+import os
+import re
+import subprocess
+import sys
+from concurrent.futures import ThreadPoolExecutor
+from pathlib import Path
+
+HERE = Path(__file__).resolve().parent
+NAMED = {"n": b"\n", "t": b"\t", "r": b"\r", "\\": b"\\", "s": b" ", "e": b""}
 
 
 def bytes_of(text):
-    out, at = bytearray(), 0
-    while at < len(text):
-        if text[at] != "\\":
-            out += text[at].encode()
-            at += 1
-        elif text[at + 1] == "x":
-            out.append(int(text[at + 2 : at + 4], 16))
-            at += 4
-        else:
-            if text[at + 1] != "e":
-                out.append(NAMED[text[at + 1]])
-            at += 2
-    return bytes(out)
+    def meant(found):
+        code, name, plain = found.groups()
+        if code:
+            return bytes([int(code, 16)])
+        if name is None:
+            return plain.encode()
+        if name not in NAMED:
+            raise ValueError(f"nothing known is behind a backslash: {found[0]!r}")
+        return NAMED[name]
+
+    parts = re.finditer(r"(?s)\\x([0-9a-fA-F]{2})|\\(.?)|([^\\]+)", text)
+    return b"".join(map(meant, parts))
 
 
-def text_of(data):
-    names = {code: "\\" + name for name, code in NAMED.items() if name != "s"}
-    out = []
-    # A byte that is no part of a character becomes a lone surrogate.
-    for char in data.decode("utf-8", "surrogateescape"):
-        if ord(char) in names:
-            out.append(names[ord(char)])
-        elif char == " " or char.isprintable() and not char.isspace():
-            out.append(char)
-        else:
-            out += ["\\x%02x" % byte for byte in char.encode("utf-8", "surrogateescape")]
-    return "".join(out)
+def rows(path, made):
+    """What is made of the columns of each row of a list. A row that is not well formed ends the
+    script."""
+    for number, line in enumerate(path.read_text(encoding="utf-8").split("\n"), 1):
+        if line and not line.startswith("# "):
+            try:
+                yield made(*line.split("\t"))
+            except TypeError:
+                sys.exit(f"{path}:{number}: a row does not have {line.count(chr(9)) + 1} columns")
+            except ValueError as why:
+                sys.exit(f"{path}:{number}: {why}")
 
 
-def words_of(text):
-    return [bytes_of(word) for word in text.split(" ")] if text else []
-
-
-def text_of_words(words):
-    return " ".join(text_of(word).replace(" ", "\\s") or "\\e" for word in words)
-
-
-def read(path):
-    """The cases of a list."""
-    found = []
-    with open(path, encoding="utf-8", newline="\n") as lines:
-        for line in lines:
-            line = line.rstrip("\n")
-            if not line or line.startswith("# "):
-                continue
-            name, words, given, refusal, wanted, status = line.split("\t")
-            found.append((name, words_of(words), bytes_of(given), refusal, bytes_of(wanted), int(status)))
-    return found
+def main(about, name, count, cases, fault):
+    """Runs the program, which is proved and built unless it is given, over so many cases, and
+    counts those of which `fault` returns no reason why they failed. A case begins with its name."""
+    parser = argparse.ArgumentParser(
+        description=about, formatter_class=argparse.RawDescriptionHelpFormatter
+    )
+    parser.add_argument("--program", metavar="FILE", help="the program to be run")
+    program = parser.parse_args().program
+    if not program:
+        how = {"stdin": subprocess.DEVNULL, "stdout": subprocess.PIPE}
+        program = subprocess.run([HERE.parent / "build"], **how).stdout.decode().strip()
+    todo = list(cases)
+    why = "" if program else "the program was not built"
+    if len(todo) != count:
+        why = f"there are {len(todo)} cases, and not {count}"
+    if why:
+        print(f"{name}: 0 passed, 1 failed: {why}")
+        return 1
+    program = os.path.abspath(program)
+    with ThreadPoolExecutor(os.cpu_count()) as pool:
+        found = list(pool.map(lambda case: fault(program, *case[1:]), todo))
+    failed = [(case, why) for case, why in zip(todo, found) if why]
+    for case, why in failed[:10]:
+        print(f"FAILED {case[0]}: {case[1:3]!r:.400}\n    {why}")
+    print(f"{name}: {len(todo) - len(failed)} passed, {len(failed)} failed")
+    return 1 if failed else 0

@@ -1,16 +1,14 @@
-"""Proves and builds the program formatread, or with the word `formatlint` that program, or with
-`library` the static library, unless that was done.
-
-    build            leaves it in out/formatread, which ./formatread runs, and prints that path
-    build formatlint the same for formatlint
-    build library    leaves it in out/, with what it needs of the kit and its C header, and prints
-                     that folder
+"""Proves a program or a static library, and the crates below it, and leaves what is built in out/,
+unless that was done: build.py COMMAND NAME. For ./build NAME is formatread or formatlint, and the
+path of the program is printed; for ./library it is dephungo, and out/ is printed, where then is
+also what the library needs of the kit, and its C header. ./check calls build.py gather TREE FOLDER,
+where TREE is a copy of the repository in which the gate has run.
 
 The gate of the kit (`rt ci`) proves the crates that are needed, in a copy of them alone. What was
-proved on this machine is not proved again, here or by ./check. Each crate that is done, and the
-time, are written to standard error. If there are two calls at once, the second waits for the first.
-The status is 0 if it was built, 1 if not, and 2 for other arguments; if interrupted, 128 and the
-signal's number. Until all is proved, what was built before stays as it was."""
+proved on this machine is not proved again, here or by ./check. Each crate that is done is written
+to standard error. If there are two calls at once, the second waits for the first. The status is 0
+if it was built, 1 if not; if interrupted, 128 and the signal's number. Until all is proved, what
+was built before stays as it was."""
 
 import fcntl
 import os
@@ -20,305 +18,218 @@ import signal
 import subprocess
 import sys
 import tempfile
-import threading
-import time
-from contextlib import contextmanager
 from pathlib import Path
 
 TOP = Path(__file__).resolve().parent.parent
 OUT = TOP / "out"
-# How many bytes have to be free there.
-ROOM = 50_000_000
-# What it takes where nothing was proved yet, of four processors that are two cores.
-MINUTES = "some 15"
-# How many folders ./formatread looks into, below the top.
-DEEPEST = 4
-# What interrupts.
+RATTLE = TOP / "tools/rattle"
+HEADER = TOP / "bindings/c/dephungo.h"
+# Crates that the gate is not to prove each time. It refuses a `.rt` file that is in none of the
+# crates that it proves, so each of these is a file NAME.txt.
+OTHERS = {
+    "counted_walk": "counted_walk staticlib: rustc_parse_format",
+    "drawings": "drawings: rustc_parse_format drawn_faults",
+}
 SIGNALS = (signal.SIGINT, signal.SIGTERM, signal.SIGHUP)
-# What a check of a crate reads.
-PARTS = ("src", "specs", "proofs")
 
 
 class Stop(Exception):
-    """Why nothing was built, in one line."""
+    """Why nothing was built."""
 
 
 def crates_of(name):
     """The lines of crates.txt of a crate and of those below it, lowest first, by their names."""
-    lines = (TOP / "crates.txt").read_text().split("\n")
-    lines = [it for it in lines if it and not it.startswith("#")]
-    uses = {re.split(r"[ :]", it)[0]: it for it in lines}
+    lines = [*(TOP / "crates.txt").read_text().splitlines(), *OTHERS.values()]
+    uses = {re.split("[ :]", it)[0]: it for it in lines if it and not it.startswith("#")}
     found = {}
     for below in uses[name].partition(":")[2].split():
         found |= crates_of(below) if below in uses else {}
     return found | {name: uses[name]}
 
 
-def copied(crates, room):
+def copied(name, folder):
+    """Copies what a check of a crate reads."""
+    if name in OTHERS:
+        (folder / "src").mkdir(parents=True)
+        root = "lib" if " staticlib:" in OTHERS[name] else "main"
+        shutil.copy(RATTLE / f"{name}.txt", folder / f"src/{root}.rt")
+    else:
+        others = shutil.ignore_patterns("out", "*must-fail")
+        shutil.copytree(TOP / "crates" / name, folder, ignore=others)
+
+
+def furnished(room, crates):
     """Makes a repository of these crates alone."""
     for name in crates:
-        for part in filter(Path.is_dir, (TOP / "crates" / name / it for it in PARTS)):
-            shutil.copytree(part, room / part.relative_to(TOP))
-        for file in filter(Path.is_file, (TOP / "crates" / name).iterdir()):
-            shutil.copy(file, room / file.relative_to(TOP))
+        copied(name, room / "crates" / name)
     shutil.copy(TOP / "HANDLES", room)
     (room / "crates.txt").write_text("".join(f"{it}\n" for it in crates.values()))
     (room / ".git").mkdir()
 
 
-class Progress:
-    """What is told on standard error: one line that is written over on a terminal, and else a line
-    for each crate."""
-
-    def __init__(self, what, crates):
-        self.what, self.left, self.count = what, list(crates), len(crates)
-        self.start, self.ended = time.monotonic(), threading.Event()
-        self.lines = sys.stderr.isatty()
-        told = f"{what}: proving {self.count} crates, which takes {MINUTES} minutes from nothing"
-        print(told, file=sys.stderr, flush=True)
-        self.ticking = threading.Thread(target=self.tick, daemon=True)
-        self.ticking.start()
-
-    def time(self):
-        minutes, seconds = divmod(int(time.monotonic() - self.start), 60)
-        return f"{minutes} min {seconds:02} s"
-
-    def now(self):
-        at = self.count - len(self.left) + 1
-        place = f"{at} of {self.count}, {self.left[0]}" if self.left else "building"
-        return f"{self.what}: {place}"
-
-    def tick(self):
-        while not self.ended.wait(0.5):
-            if self.lines:
-                print(f"\r{self.now()}, {self.time()}\033[K", end="", file=sys.stderr, flush=True)
-
-    def done(self, name, how):
-        """Tells that a crate is proved, or was before."""
-        if name in self.left:
-            at = self.count - len(self.left) + 1
-            line = f"{self.what}: {at} of {self.count}, {name} {how}, {self.time()}"
-            self.left.remove(name)
-            print(f"\r{line}\033[K" if self.lines else line, file=sys.stderr, flush=True)
-
-    def end(self):
-        self.ended.set()
-        self.ticking.join()
-        if self.lines:
-            print("\r\033[K", end="", file=sys.stderr, flush=True)
+def run(who, folder, *command):
+    """Runs a command in a process group of its own, which ends with this program, and returns what
+    it says."""
+    how = {"stdin": subprocess.DEVNULL, "stdout": subprocess.PIPE, "stderr": subprocess.STDOUT}
+    how |= {"cwd": folder, "env": {**os.environ, "PYTHONUNBUFFERED": "1"}, "errors": "replace"}
+    # (a signal waits until the command is known here)
+    signal.pthread_sigmask(signal.SIG_BLOCK, SIGNALS)
+    how |= {"preexec_fn": lambda: signal.pthread_sigmask(signal.SIG_UNBLOCK, SIGNALS)}
+    ran, said = subprocess.Popen(command, start_new_session=True, text=True, **how), ""
+    try:
+        signal.pthread_sigmask(signal.SIG_UNBLOCK, SIGNALS)
+        for line in ran.stdout:
+            said += line
+            if re.match(r"rt: \w+ (proved$|is kept:)", line):
+                print(f"{who}: {line[4:]}", end="", file=sys.stderr, flush=True)
+        if ran.wait():
+            raise Stop(f"not proved, so nothing was built:\n{said[-4000:]}")
+        return said
+    finally:
+        if ran.poll() is None:
+            os.killpg(ran.pid, signal.SIGTERM)
+            ran.wait()
 
 
-def stop(number, _):
+def words_over(tree, name, kit):
+    """The words by which rattle reads a library over those that the gate has proved in a tree."""
+    crates = crates_of(name)
+    used = {it for line in crates.values() for it in line.partition(":")[2].split()} | {"std"}
+    words = ["--crate-name", name, "src/lib.rt", "--links", f"{name}="]
+    for it in sorted(used):
+        rlibs = tree / "crates" / it / "out/rlib" if it in crates else kit / "rlibs"
+        words += ["--extern", f"{it}={rlibs}/{it}.rlib", "-L", f"dependency={rlibs}"]
+    words += ["-L", f"dependency={kit}/rlibs", "--logic-built", f"{kit}/logic_built"]
+    return [*words, "--antt-project", f"{kit}/rattle/logic/antt-project.json"]
+
+
+def kit_folder():
+    """The folder of the kit."""
+    said = subprocess.run(["rt", "doc"], stdout=subprocess.PIPE, text=True, check=True).stdout
+    return Path(said.strip()).parent
+
+
+def static_library(who, name, tree, folder):
+    """Proves and builds a static library over the libraries that the gate has proved in a tree: the
+    gate keeps none. Returns the files to be kept, which it puts into a folder."""
+    kit = kit_folder()
+    words = words_over(tree, name, kit) + ["--crate-type", "staticlib", "--backend", "llvm"]
+    words += ["--toolchain", f"{kit}/toolchain", "-o", folder / f"lib{name}.a"]
+    copied(name, folder / name)
+    run(who, folder / name, f"{kit}/bin/rattle", "build", *words)
+    return [kit / "c/liblibc_c.a", HEADER, folder / f"lib{name}.a"]
+
+
+def proved(who, name, room):
+    """Proves a program or a static library in the room, and returns the files to be kept."""
+    crates = crates_of(name)
+    is_static = " staticlib:" in crates[name]
+    furnished(room, {it: crates[it] for it in crates if it != name or not is_static})
+    run(who, room, "rt", "ci")
+    if is_static:
+        return static_library(who, name, room, room)
+    return [room / "crates" / name / "out" / name]
+
+
+def is_fresh(file, sources):
+    """Whether a file is there, and no source was made or changed since its time."""
+    how = {"cwd": TOP, "stdout": subprocess.PIPE, "stderr": subprocess.STDOUT}
+    find = ["find", *sources, "-newercm", file]
+    return file.exists() and not subprocess.run(find, **how).stdout
+
+
+def put(files, time):
+    """Copies files to out/, each in one move, for who runs or links it meanwhile, and gives them a
+    time."""
+    fresh = [OUT / f".{it.name}" for it in files]
+    try:
+        for file, made in zip(files, fresh):
+            shutil.copy(file, made)
+            os.utime(made, ns=(time, time))
+        for file, made in zip(files, fresh):
+            os.replace(made, OUT / file.name)
+    finally:
+        for made in fresh:
+            made.unlink(missing_ok=True)
+
+
+def built(who, name):
+    """The path of a program or a static library, which is proved and built if it is not there, or
+    if what it is made from changed. Its time is that at which this was read, and the list beside it
+    says where ./formatread looks for what is newer."""
+    crates = crates_of(name)
+    is_static = " staticlib:" in crates[name]
+    file = OUT / (f"lib{name}.a" if is_static else name)
+    parts = [TOP / "crates" / it / part for it in crates for part in ("src", "specs")]
+    sources = [TOP / "crates.txt", RATTLE / f"{name}.txt", *[HEADER] * is_static, *parts]
+    sources = [it.relative_to(TOP) for it in sources if it.exists()]
+    if is_fresh(file, sources):
+        return file
+    if not shutil.which("rt"):
+        raise Stop("the kit's command rt is not on the path")
+    OUT.mkdir(exist_ok=True)
+    with open(OUT / f".{name}.lock", "w") as lock, tempfile.TemporaryDirectory() as room:
+        try:
+            fcntl.flock(lock, fcntl.LOCK_EX | fcntl.LOCK_NB)
+        except BlockingIOError:
+            print(f"{who}: another call makes it, and this one waits", file=sys.stderr, flush=True)
+            fcntl.flock(lock, fcntl.LOCK_EX)
+        if is_fresh(file, sources):
+            return file
+        told = f"{len(crates)} crates, which takes some 15 minutes from nothing"
+        print(f"{who}: proving {told}", file=sys.stderr, flush=True)
+        # (the gate runs programs in it as nobody)
+        os.chmod(room, 0o711)
+        os.environ["TMPDIR"] = room
+        start = Path(room) / "start"
+        start.touch()
+        (Path(room) / "tree").mkdir()
+        made = proved(who, name, Path(room) / "tree")
+        if not is_fresh(start, sources):
+            raise Stop("a source changed meanwhile, so call it once more")
+        (OUT / f".{name}.sources").write_text("\n".join(map(str, sources)))
+        put(made, start.stat().st_mtime_ns)
+    return file
+
+
+def interrupted(number, _):
     """Ends this program, and then nothing interrupts that."""
     for it in SIGNALS:
         signal.signal(it, signal.SIG_IGN)
     sys.exit(128 + number)
 
 
-@contextmanager
-def held():
-    """Lets a signal wait for what is done."""
-    came = []
+def main(who, name):
+    """Builds it, and returns the status. Says why it was not built."""
     for it in SIGNALS:
-        signal.signal(it, lambda number, _: came.append(number))
-    yield
-    for it in SIGNALS:
-        signal.signal(it, stop)
-    if came:
-        stop(came[0], None)
-
-
-def run(command, folder, hear=lambda line: None):
-    """Runs a command in a process group of its own, which ends with this program, and returns its
-    status and lines."""
-    how = {"stdin": subprocess.DEVNULL, "stdout": subprocess.PIPE, "stderr": subprocess.STDOUT}
-    how |= {"cwd": folder, "env": {**os.environ, "PYTHONUNBUFFERED": "1"}, "errors": "replace"}
-    ran, said = None, []
+        signal.signal(it, interrupted)
+    status = 1
     try:
-        with held():
-            ran = subprocess.Popen(command, start_new_session=True, text=True, **how)
-        for line in ran.stdout:
-            said.append(line)
-            hear(line)
-        return ran.wait(), "".join(said)
-    finally:
-        if ran and ran.poll() is None:
-            os.killpg(ran.pid, signal.SIGTERM)
-            ran.wait()
-
-
-def proved(room, crates, progress):
-    """Proves the crates in the room, and leaves there what the gate makes of each."""
-
-    def hear(line):
-        told = re.match(r"rt: (\w+) (?:(proved)$|is kept:)", line)
-        if told:
-            progress.done(told[1], "proved" if told[2] else "was proved before")
-
-    copied(crates, room)
-    status, said = run(["rt", "ci"], room, hear)
-    if status:
-        raise Stop(f"not proved, so nothing was built:\n{said[-4000:]}")
-
-
-def times_of(crates):
-    """The times of the files and folders that decide what these crates do and promise, by their
-    places below the top."""
-    parts = [TOP / "crates" / name / part for name in crates for part in PARTS[:2]]
-    paths = [TOP / "crates.txt", *parts]
-    every = [it for path in paths if path.exists() for it in (path, *path.rglob("*"))]
-    return {str(it.relative_to(TOP)): it.stat().st_mtime_ns for it in every}
-
-
-@contextmanager
-def turn(made):
-    """Waits until no other call makes the same, where it can be made."""
-    if not shutil.which("rt"):
-        raise Stop("the kit's command rt is not on the path")
-    OUT.mkdir(exist_ok=True)
-    with open(OUT / f".{made}.lock", "w") as lock:
-        try:
-            fcntl.flock(lock, fcntl.LOCK_EX | fcntl.LOCK_NB)
-        except BlockingIOError:
-            print(f"{made}: another call makes it, and this one waits", file=sys.stderr, flush=True)
-            fcntl.flock(lock, fcntl.LOCK_EX)
-        if shutil.disk_usage(OUT).free < ROOM:
-            raise Stop(f"{OUT}: fewer than {ROOM} bytes are free")
-        yield
-
-
-def is_fresh(made, times):
-    """Whether each of these files and folders has the time that `mark` noted of it."""
-    marks = OUT / f"{made}.times"
-    try:
-        places = [it for path in times for it in (marks / path, marks / f"{path}~") if it.exists()]
-        noted = [it.stat().st_mtime_ns for it in places]
-    except FileNotFoundError:  # another call takes them away
-        return False
-    return (OUT / made).is_file() and noted == [*times.values()]
-
-
-def unmark(made):
-    """Takes the times away, all at once."""
-    marks, gone = OUT / f"{made}.times", OUT / f".{made}.gone"
-    shutil.rmtree(gone, ignore_errors=True)
-    if marks.exists():
-        os.rename(marks, gone)
-        shutil.rmtree(gone)
-
-
-def mark(made, times):
-    """Notes the times of the sources of what was made: a file or folder of that time for each, `~`
-    behind a file's name. ./formatread compares them by the shell alone, which takes some three
-    milliseconds."""
-    fresh = OUT / f".{made}.times"
-    shutil.rmtree(fresh, ignore_errors=True)
-    for path, at in sorted(times.items(), reverse=True):
-        if path.count("/") > DEEPEST:
-            raise Stop(f"{path} stands deeper than ./formatread looks")
-        is_folder = (TOP / path).is_dir()
-        noted = fresh / (path if is_folder else f"{path}~")
-        noted.parent.mkdir(parents=True, exist_ok=True)
-        noted.mkdir(exist_ok=True) if is_folder else noted.touch()
-        os.utime(noted, ns=(at, at))
-    os.rename(fresh, OUT / f"{made}.times")
-
-
-def put(file, name):
-    """Puts a file into out/, in one move, for who runs or links it meanwhile."""
-    fresh = OUT / f".{name}"
-    try:
-        shutil.copy(file, fresh)
-        os.replace(fresh, OUT / name)
-    finally:
-        fresh.unlink(missing_ok=True)
-
-
-def static_library(room):
-    """Proves and builds the export over the libraries that the gate has left in the room; it keeps
-    no static library."""
-    kit, crate = Path(run(["rt", "doc"], room)[1].strip()).parent, room / "dephungo"
-    shutil.copytree(TOP / "crates/dephungo", crate, ignore=shutil.ignore_patterns("out"))
-    words = ["--crate-name", "dephungo", "src/lib.rt", "--crate-type", "staticlib"]
-    words += ["--links", "dephungo=", "--backend", "llvm"]
-    words += ["--extern", f"std={kit}/rlibs/std.rlib", "-L", f"dependency={kit}/rlibs"]
-    for name in ("rustc_parse_format", "flat_reading"):
-        folder = room / "crates" / name / "out/rlib"
-        words += ["--extern", f"{name}={folder}/{name}.rlib", "-L", f"dependency={folder}"]
-    words += ["--antt-project", f"{kit}/rattle/logic/antt-project.json"]
-    words += ["--logic-built", f"{kit}/logic_built"]
-    words += ["--toolchain", f"{kit}/toolchain", "-o", f"{room}/libdephungo.a"]
-    status, said = run([f"{kit}/bin/rattle", "build", *words], crate)
-    if status:
-        raise Stop(f"the export is not proved, so nothing was built:\n{said[-4000:]}")
-    return [room / "libdephungo.a", kit / "c/liblibc_c.a", TOP / "bindings/c/dephungo.h"]
-
-
-def build(made, crates, more, files_of):
-    """Proves crates and puts into out/ what is made of them, unless it is there and no source has
-    another time than then."""
-    times = times_of([*crates, *more])
-    if is_fresh(made, times):
-        return
-    with turn(made), tempfile.TemporaryDirectory(prefix="build-") as folder:
-        if is_fresh(made, times):
-            return
-        room = Path(folder)
-        # (the gate runs programs in it as nobody)
-        room.chmod(0o711)
-        os.environ["TMPDIR"] = folder
-        progress = Progress(made, crates)
-        try:
-            proved(room, crates, progress)
-            files = files_of(room)
-        finally:
-            progress.end()
-        if times != times_of([*crates, *more]):
-            raise Stop("a source changed meanwhile, so call it once more")
-        unmark(made)
-        for file in files:
-            put(file, file.name)
-        mark(made, times)
-
-
-def status_of(name, work):
-    """Does a command's work. Returns its status, and says why it was not done."""
-    for it in SIGNALS:
-        signal.signal(it, stop)
-    try:
-        work()
+        file = built(who, name)
+        print(OUT if who == "library" else file)
+        return 0
     except SystemExit as end:
-        print(f"{name}: interrupted", file=sys.stderr)
-        return end.code
-    except Stop as why:
-        print(f"{name}: {why}", file=sys.stderr)
-        return 1
-    except OSError as why:
-        place = why.filename2 or why.filename
-        print(f"{name}: {f'{place}: ' if place else ''}{why.strerror}", file=sys.stderr)
-        return 1
-    return 0
+        status, why = end.code, "interrupted"
+    except Stop as stop:
+        why = stop
+    except OSError as error:
+        place = error.filename2 or error.filename
+        why = f"{place}: {error.strerror}" if place else error.strerror
+    print(f"{who}: {why}", file=sys.stderr)
+    return status
 
 
-def program(name="formatread"):
-    files = lambda room: [room / "crates" / name / "out" / name]
-    build(name, crates_of(name), [], files)
-    print(OUT / name)
-
-
-def library():
-    build("libdephungo.a", crates_of("flat_reading"), ["dephungo"], static_library)
-    print(OUT)
-
-
-def main():
-    if sys.argv[1:] not in ([], ["formatlint"], ["library"]):
-        print("usage: build [formatlint | library]", file=sys.stderr)
-        return 2
-    if sys.argv[1:] == ["library"]:
-        return status_of("library", library)
-    return status_of("build", lambda: program(*sys.argv[1:]))
+def gather(tree, folder):
+    """Puts the programs and the static library of a tree in which the gate has proved all crates
+    into a folder."""
+    made = [tree / "crates" / it / "out" / it for it in ("formatread", "formatlint")]
+    with tempfile.TemporaryDirectory() as room:
+        for file in made + static_library("gather", "dephungo", tree, Path(room)):
+            shutil.copy(file, folder)
 
 
 if __name__ == "__main__":
-    sys.exit(main())
+    if sys.argv[1:2] == ["gather"]:
+        gather(Path(sys.argv[2]), Path(sys.argv[3]))
+    else:
+        sys.exit(main(*sys.argv[1:]))

@@ -1,12 +1,16 @@
-/* The proved parser of Rust's format strings, for C. Made by tools/records from bindings/records.txt.
+/* The proved parser of Rust's format strings, for C.
+ * Made by tools/records from bindings/records.txt.
  *
- * One call, dephungo_read, reads a whole input and writes the results into buffers of the caller. The library owns nothing
- * and keeps nothing after the call. A record is plain integers: any memory of its size may be passed, and a copy of it stays
- * valid as long as the input and the texts do.
- * A range of the input is in byte offsets of the input. A range in the source is in byte offsets of the snippet, if that is
- * the source literal of the input, and otherwise in those of a literal that has the input, as it is, after its opening quote.
- * But there the end of the text is the length of the snippet, or without one that of the input (less 1 if a newline was
- * appended), and no quote is counted; so a range up to the end may be empty or end before it starts. */
+ * One call, dephungo_read, reads a whole input and writes the results into buffers of the
+ * caller. The library owns nothing and keeps nothing after the call. A record is plain
+ * integers: any memory of its size may be passed, and a copy of it stays valid as long as the
+ * input and the texts do.
+ * A range of the input is in byte offsets of the input. A range in the source is in byte
+ * offsets of the snippet, if that is the source literal of the input, and otherwise in those of
+ * a literal that has the input, as it is, after its opening quote. But there the end of the
+ * text is the length of the snippet, or without one that of the input (less 1 if a newline was
+ * appended), and no quote is counted; so a range up to the end may be empty or end before it
+ * starts. */
 #ifndef DEPHUNGO_H
 #define DEPHUNGO_H
 #include <stddef.h>
@@ -206,8 +210,8 @@ enum {
  * lines:    the byte ranges of the lines in the source
  * answer:   the lengths of the five results above, and the state before the first call
  *
- * A length or a room is a number of bytes or of records. No pointer may be null, even if its length or room is 0, and
- * what the call writes may not overlap anything else. */
+ * A length or a room is a number of bytes or of records. No pointer may be null, even if its length
+ * or room is 0, and what the call writes may not overlap anything else. */
 uint32_t dephungo_read(
     const uint8_t *input, size_t input_length,
     const uint8_t *snippet, size_t snippet_length,

@@ -1,120 +1,14 @@
-//! The crate of bindings/rust beside a build of the original, or beside the static library: agree
-//! SEED COUNT. With `--cfg applied` the other has the differences of docs/DIFFERENCES.md and the
-//! fourth mode, and nothing is left out. With `--cfg fixed` it does not let `is_source_literal` be
-//! set to true.
+//! The crate of bindings/rust beside a build of the original, or of the crate itself: agree SEED
+//! COUNT. With `--cfg applied` the other has the differences of docs/DIFFERENCES.md and the fourth
+//! mode; then nothing is left out, and as many literals with right and wrong escapes are compared.
 mod cases;
+#[macro_use]
+mod seen;
 
-use cases::{case, Case, Random};
+use cases::{case, literal, same_as_its_literal, Case, Random};
 use std::collections::BTreeMap;
 use std::panic::catch_unwind;
 
-type Text = String;
-type Place = std::ops::Range<usize>;
-
-/// An error with all its fields, or a piece with the places of its texts, as something to compare:
-/// of either crate.
-macro_rules! seen_by {
-    ($name:ident, $of:ident) => {
-        mod $name {
-            use super::*;
-            use $of::*;
-
-            pub fn mode(mode: usize) -> ParseMode {
-                match mode {
-                    0 => ParseMode::Format,
-                    1 => ParseMode::InlineAsm,
-                    2 => ParseMode::Diagnostic,
-                    #[cfg(applied)]
-                    3 => ParseMode::DiagnosticNamed,
-                    _ => unreachable!(),
-                }
-            }
-
-            pub fn parser(case: &Case) -> Parser<'_> {
-                Parser::new(
-                    &case.input,
-                    case.style,
-                    case.snippet.clone(),
-                    case.newline,
-                    mode(case.mode),
-                )
-            }
-
-            pub fn error(
-                e: &ParseError,
-            ) -> (
-                &Text,
-                &Option<Text>,
-                &Text,
-                &Place,
-                &Option<(Text, Place)>,
-                (u8, Option<&Place>, Option<&Text>),
-            ) {
-                let suggestion = match &e.suggestion {
-                    Suggestion::None => (0, None, None),
-                    Suggestion::UsePositional => (1, None, None),
-                    Suggestion::RemoveRawIdent(at) => (2, Some(at), None),
-                    Suggestion::ReorderFormatParameter(at, text) => (3, Some(at), Some(text)),
-                    Suggestion::AddMissingColon(at) => (4, Some(at), None),
-                    Suggestion::UseRustDebugPrintingMacro => (5, None, None),
-                };
-                (
-                    &e.description,
-                    &e.note,
-                    &e.label,
-                    &e.span,
-                    &e.secondary_label,
-                    suggestion,
-                )
-            }
-
-            /// The bytes of the input in which the texts of a piece stand; None for one that stands
-            /// elsewhere or is empty.
-            pub fn places(input: &str, piece: &Option<Piece<'_>>) -> Vec<Option<usize>> {
-                let place = |text: &str| {
-                    let at = (text.as_ptr() as usize).wrapping_sub(input.as_ptr() as usize);
-                    (!text.is_empty() && at < input.len()).then_some(at)
-                };
-                let count = |count: &Count<'_>| match count {
-                    CountIsName(name, _) => place(name),
-                    _ => None,
-                };
-                match piece {
-                    None => vec![],
-                    Some(Piece::Lit(text)) => vec![place(text)],
-                    Some(Piece::NextArgument(a)) => {
-                        let name = if let ArgumentNamed(name) = a.position {
-                            place(name)
-                        } else {
-                            None
-                        };
-                        vec![
-                            name,
-                            count(&a.format.width),
-                            count(&a.format.precision),
-                            place(a.format.ty),
-                        ]
-                    }
-                }
-            }
-
-            /// What can be asked of a piece: whether its argument is an identifier, its number,
-            /// whether it asks for nothing, and whether its clone is equal to it.
-            pub fn answers(piece: &Option<Piece<'_>>) -> (bool, Option<usize>, bool, bool) {
-                let same = piece.clone() == *piece;
-                match piece {
-                    Some(Piece::NextArgument(a)) => (
-                        a.is_identifier(),
-                        a.position.index(),
-                        a.format == FormatSpec::default(),
-                        same,
-                    ),
-                    _ => (false, None, false, same),
-                }
-            }
-        }
-    };
-}
 seen_by!(ours, dephungo);
 seen_by!(theirs, original);
 
@@ -130,7 +24,9 @@ fn left_out(case: &Case) -> Option<&'static str> {
         (Some(_), Some(_)) if case.newline && !case.input.ends_with('\n') => {
             Some("a raw literal whose appended newline is cut off without a look")
         }
-        (None, _) if case.newline && case.input.is_empty() => Some("an empty input with an appended newline and no snippet"),
+        (None, _) if case.newline && case.input.is_empty() => {
+            Some("an empty input with an appended newline and no snippet")
+        }
         _ => None,
     }
 }
@@ -143,7 +39,8 @@ fn warns(snippet: &str) -> bool {
         let behind = &rest[at + 1..];
         if let Some(continued) = behind.strip_prefix('\n') {
             let left = continued.trim_start_matches([' ', '\t', '\n', '\r']);
-            if continued[..continued.len() - left.len()].contains('\n') || left.starts_with(char::is_whitespace) {
+            let skipped = &continued[..continued.len() - left.len()];
+            if skipped.contains('\n') || left.starts_with(char::is_whitespace) {
                 return true;
             }
         }
@@ -155,22 +52,37 @@ fn warns(snippet: &str) -> bool {
 /// Whether two descriptions say the same, but for a character beyond ASCII that one of them
 /// escapes.
 fn differ_by_an_escape(ours: &str, theirs: &str) -> bool {
-    let found = ours
-        .strip_prefix("expected `}`, found `")
-        .and_then(|rest| rest.strip_suffix('`'));
-    let wide = found.and_then(|found| found.chars().next()).filter(|c| !c.is_ascii());
+    let found = ours.strip_prefix("expected `}`, found `").and_then(|it| it.chars().next());
+    let wide = found.filter(|c| !c.is_ascii());
     wide.is_some_and(|c| theirs == format!("expected `}}`, found `{}`", c.escape_debug()))
 }
 
+/// Texts that the original escapes.
+const ESCAPED: &str = "(compared but for one text) a message that escapes a character beyond ASCII";
+
+#[derive(Default)]
 struct Counts {
+    compared: usize,
     calls: usize,
     literals: usize,
     faulty: usize,
+    panics: usize,
     by_name: BTreeMap<&'static str, usize>,
 }
 
+impl Counts {
+    fn add(&mut self, name: &'static str) {
+        *self.by_name.entry(name).or_default() += 1;
+    }
+}
+
 /// Compares all that can be seen of two parsers.
-fn same_state(case: &Case, a: &dephungo::Parser<'_>, b: &original::Parser<'_>, counts: &mut Counts) {
+fn same_state(
+    case: &Case,
+    a: &dephungo::Parser<'_>,
+    b: &original::Parser<'_>,
+    counts: &mut Counts,
+) {
     assert_eq!(a.peek(), b.peek(), "peek of {case:?}");
     assert_eq!(a.peek_ahead(), b.peek_ahead(), "peek_ahead of {case:?}");
     assert_eq!(a.curarg, b.curarg, "curarg of {case:?}");
@@ -181,10 +93,7 @@ fn same_state(case: &Case, a: &dephungo::Parser<'_>, b: &original::Parser<'_>, c
     for (x, y) in a.errors.iter().zip(&b.errors) {
         let (x, mut y) = (ours::error(x), theirs::error(y));
         if !cfg!(applied) && x.0 != y.0 && differ_by_an_escape(x.0, y.0) {
-            *counts
-                .by_name
-                .entry("(compared but for one text) a message that escapes a character beyond ASCII")
-                .or_default() += 1;
+            counts.add(ESCAPED);
             y.0 = x.0;
         }
         assert_eq!(x, y, "error of {case:?}");
@@ -193,6 +102,14 @@ fn same_state(case: &Case, a: &dephungo::Parser<'_>, b: &original::Parser<'_>, c
 
 /// Both parsers side by side, up to two calls behind the end, with fields written in between.
 fn compare(case: &Case, random: &mut Random, counts: &mut Counts) {
+    if let Some(name) = left_out(case) {
+        return counts.add(name);
+    }
+    if catch_unwind(|| theirs::parser(case).count()).is_err() {
+        println!("the original panics over {case:?}");
+        counts.panics += 1;
+        return;
+    }
     let (mut a, mut b) = (ours::parser(case), theirs::parser(case));
     if !cfg!(applied)
         && a.is_source_literal
@@ -200,12 +117,10 @@ fn compare(case: &Case, random: &mut Random, counts: &mut Counts) {
         && case.style.is_none()
         && warns(case.snippet.as_deref().unwrap_or(""))
     {
-        *counts
-            .by_name
-            .entry("a literal that a warning of the unescaper makes foreign")
-            .or_default() += 1;
-        return;
+        return counts.add("a literal that a warning of the unescaper makes foreign");
     }
+    same_as_its_literal(case);
+    counts.compared += 1;
     counts.literals += usize::from(a.is_source_literal);
     let mut behind = 0;
     while behind < 3 {
@@ -218,7 +133,7 @@ fn compare(case: &Case, random: &mut Random, counts: &mut Counts) {
             4 => drop((a.line_spans.pop(), b.line_spans.pop())),
             5 => (a.arg_places, b.arg_places) = (vec![3..4], vec![3..4]),
             6 if random.one_in(8) => {
-                let set = !cfg!(fixed) && random.one_in(2);
+                let set = random.one_in(2);
                 (a.is_source_literal, b.is_source_literal) = (set, set)
             }
             _ => {}
@@ -228,56 +143,28 @@ fn compare(case: &Case, random: &mut Random, counts: &mut Counts) {
         counts.calls += 1;
         assert_eq!(format!("{x:?}"), format!("{y:?}"), "piece of {case:?}");
         assert_eq!(ours::answers(&x), theirs::answers(&y), "what is asked of a piece of {case:?}");
-        assert_eq!(
-            ours::places(&case.input, &x),
-            theirs::places(&case.input, &y),
-            "places of the texts of {case:?}"
-        );
+        let places = [ours::places(&case.input, &x), theirs::places(&case.input, &y)];
+        assert_eq!(places[0], places[1], "places of the texts of {case:?}");
     }
     same_state(case, &a, &b, counts);
     counts.faulty += usize::from(!a.errors.is_empty());
 }
 
 fn main() {
-    let words: Vec<u64> = std::env::args().skip(1).map(|word| word.parse().expect("a number")).collect();
-    let (seed, count) = (words[0], words[1]);
+    let word = |at| std::env::args().nth(at).and_then(|word| word.parse().ok());
+    let (seed, count) = (word(1).expect("a seed"), word(2).expect("a count"));
     let mut random = Random::new(seed);
-    let mut counts = Counts {
-        calls: 0,
-        literals: 0,
-        faulty: 0,
-        by_name: BTreeMap::new(),
-    };
-    let mut panics = 0;
+    let mut counts = Counts::default();
     for _ in 0..count {
-        let case = case(&mut random, if cfg!(applied) { 4 } else { 3 });
-        if let Some(name) = left_out(&case) {
-            *counts.by_name.entry(name).or_default() += 1;
-            continue;
+        compare(&case(&mut random, if cfg!(applied) { 4 } else { 3 }), &mut random, &mut counts);
+        if cfg!(applied) {
+            compare(&literal(&mut random), &mut random, &mut counts);
         }
-        if catch_unwind(|| theirs::parser(&case).count()).is_err() {
-            println!("the original panics over {case:?}");
-            panics += 1;
-            continue;
-        }
-        compare(&case, &mut random, &mut counts);
     }
-    let out: usize = counts
-        .by_name
-        .iter()
-        .filter(|(name, _)| !name.starts_with('('))
-        .map(|(_, n)| n)
-        .sum();
-    println!(
-        "seed {seed}: {count} inputs, {} compared, all agree: {} calls",
-        count as usize - out - panics,
-        counts.calls
-    );
-    println!(
-        "  {} of them from their source literal, {} with faults in the end",
-        counts.literals, counts.faulty
-    );
-    for (name, n) in &counts.by_name {
+    let Counts { compared, calls, literals, faulty, panics, by_name } = counts;
+    println!("seed {seed}: {count} inputs, {compared} compared, all agree: {calls} calls");
+    println!("  {literals} of them from their source literal, {faulty} with faults in the end");
+    for (name, n) in &by_name {
         println!("  {n} {}{name}", if name.starts_with('(') { "" } else { "left out: " });
     }
     if panics > 0 {

@@ -1,4 +1,5 @@
 //! Random cases: an input, how it is read, and a snippet that is its source literal or is not.
+#![allow(dead_code)]
 
 /// Random numbers, the same for the same seed.
 pub struct Random(u64);
@@ -34,97 +35,48 @@ pub struct Case {
     pub mode: usize,
 }
 
+/// Parts of inputs.
+#[rustfmt::skip]
 const PARTS: &[&str] = &[
-    "{",
-    "}",
-    "{{",
-    "}}",
-    "{",
-    "}",
-    "{}",
-    "a",
-    "name",
-    "_",
-    "r#",
-    "r#r#",
-    "r",
-    "é",
-    "€",
-    "😀",
-    "e\u{301}",
-    "\u{200d}",
-    "\u{2028}",
-    "\u{a0}",
-    " ",
-    "  ",
-    "\n",
-    "\n  ",
-    "\t",
-    "\r",
-    "\r\n",
-    "\0",
-    "\"",
-    "\\",
-    "'",
-    "0",
-    "12",
-    "65535",
-    "65536",
-    "99999999999",
-    ":",
-    "$",
-    ".",
-    ".*",
-    "*",
-    "#",
-    "<",
-    ">",
-    "^",
-    "+",
-    "-",
-    "=",
-    ",",
-    "?",
-    "x",
-    "X",
-    "x?",
-    "X?",
-    "?#",
-    "?x",
-    "w$",
-    ".p$",
-    "0$",
-    "1$",
-    "{x}",
-    "{0}",
-    "{:>8.3}",
-    "{n:w$.p$x?}",
-    "{a.b}",
-    "{a.0}",
-    "{a.b:?}",
-    "{a?}",
-    "{a?:b}",
-    "{a<}",
-    "{a,}",
-    "{a=}",
-    "{a+}",
-    "{:?#}",
-    "{:x?#}",
-    "{:}>}",
-    "{:}<",
-    "}>",
-    "{ }",
-    "{a:x}",
-    "{a:b c}",
-    "{a }",
-    "%",
-    "{:{}>",
-    "text of some words",
-    "{a.b.c}",
-    "{{{}}}",
+    "{", "}", "{{", "}}", "{", "}", "{}", "a", "name", "_", "r#", "r#r#", "r", "é", "€", "😀",
+    "e\u{301}", "\u{200d}", "\u{2028}", "\u{a0}", " ", "  ", "\n", "\n  ", "\t", "\r", "\r\n",
+    "\0", "\"", "\\", "'", "0", "12", "65535", "65536", "99999999999", ":", "$", ".", ".*", "*",
+    "#", "<", ">", "^", "+", "-", "=", ",", "?", "x", "X", "x?", "X?", "?#", "?x", "w$", ".p$",
+    "0$", "1$", "{x}", "{0}", "{:>8.3}", "{n:w$.p$x?}", "{a.b}", "{a.0}", "{a.b:?}", "{a?}",
+    "{a?:b}", "{a<}", "{a,}", "{a=}", "{a+}", "{:?#}", "{:x?#}", "{:}>}", "{:}<", "}>", "{ }",
+    "{a:x}", "{a:b c}", "{a }", "%", "{:{}>", "text of some words", "{a.b.c}", "{{{}}}",
 ];
 
-/// A literal's content that stands for a text: each character as it is or by an escape, with continued lines in between.
+/// Snippets that are hardly ever the source literal of an input.
+#[rustfmt::skip]
+const FOREIGN: &[&str] = &[
+    "", "\"", "r", "r\"", "r\"\"", "\"\"", "x", "\"é", "concat!(\"a\")", "r#\"\"#", "é",
+];
+
+/// How a unit of a literal is written, and what it stands for or might be taken for.
+#[rustfmt::skip]
+const UNITS: &[(&str, &str)] = &[
+    ("a", "a"), ("é", "é"), ("{", "{"), ("}", "}"), ("{}", "{}"), ("\n", "\n"), ("\r", "\r"),
+    ("\r\n", "\r\n"), ("\r\n", "\n"), ("\"", "\""), ("\\", "\\"), ("\\n", "\n"), ("\\r", "\r"),
+    ("\\t", "\t"), ("\\0", "\0"), ("\\'", "'"), ("\\\"", "\""), ("\\\\", "\\"), ("\\q", "q"),
+    ("\\N", "\n"), ("\\x41", "A"), ("\\x62", "1"), ("\\x31", "b"), ("\\x7f", "\u{7f}"),
+    ("\\x7F", "\u{7f}"), ("\\x80", "\u{80}"), ("\\x81", "\u{81}"), ("\\x90", "\u{90}"),
+    ("\\xff", "ÿ"), ("\\x4", "\u{4}"), ("\\xg1", "g1"), ("\\x4g", "4g"), ("\\X41", "A"),
+    ("\\x4A", "J"), ("\\x4a", "J"), ("\\x4A", "j"), ("\\x4_1", "A"), ("\\u{41}", "A"),
+    ("\\u{4_1}", "A"), ("\\u{_41}", "A"), ("\\u{41_}", "A"), ("\\u{000041}", "A"),
+    ("\\u{0000041}", "A"), ("\\u{}", "\0"), ("\\u{_}", "\0"), ("\\u{d800}", " "),
+    ("\\u{d800}", "\u{fffd}"), ("\\u{dfff}", "\u{fffd}"), ("\\u{e000}", "\u{e000}"),
+    ("\\u{10ffff}", "\u{10ffff}"), ("\\u{110000}", "\u{fffd}"), ("\\u{1F600}", "😀"),
+    ("\\u{g}", "g"), ("\\u41", "A"), ("\\u{41", "A"), ("\\u 41}", "A"), ("\\\n  ", ""),
+    ("\\\n\t \n \r ", ""), ("\\\n\u{a0}", "\u{a0}"), ("\\\n\u{c}", "\u{c}"), ("\\\r\n ", ""),
+    ("\\\r ", ""), ("\\ ", " "), ("", ""),
+    ("sixteen bytes {} of text", "sixteen bytes {} of text"), ("{\\n}", "{\n}"),
+    ("{\\x7d", "{}"), ("{\\x7d\\x7d", "{}}"), ("{a\t}", "{a\t}"), ("{a:\t", "{a:\t"),
+    ("\n \t b \u{a0} c", "\n \t b \u{a0} c"),
+];
+
+/// The content of a literal that stands for a text: each character as it is or by an escape, with
+/// continued lines in between.
 fn content(random: &mut Random, text: &str, plain: bool) -> String {
     let mut out = String::new();
     for c in text.chars() {
@@ -152,35 +104,27 @@ fn content(random: &mut Random, text: &str, plain: bool) -> String {
 
 /// Something done to a snippet, so that it mostly is no source literal any more.
 fn spoilt(random: &mut Random, mut snippet: String) -> String {
-    let places: Vec<usize> = (0..=snippet.len()).filter(|&at| snippet.is_char_boundary(at)).collect();
+    let is_boundary = |&at: &usize| snippet.is_char_boundary(at);
+    let places: Vec<usize> = (0..=snippet.len()).filter(is_boundary).collect();
     let at = places[random.below(places.len())];
     match random.below(6) {
         0 => snippet.truncate(at),
         1 => snippet.insert_str(at, random.of(PARTS)),
         2 => drop(snippet.drain(..at)),
-        3 => {
-            snippet = random
-                .of(&[
-                    "",
-                    "\"",
-                    "r",
-                    "r\"",
-                    "r\"\"",
-                    "\"\"",
-                    "x",
-                    "\"é",
-                    "concat!(\"a\")",
-                    "r#\"\"#",
-                    "é",
-                ])
-                .to_string()
-        }
+        3 => snippet = random.of(FOREIGN).to_string(),
         4 => snippet.push_str(random.of(&["\"", "#", "u8", " ", "é"])),
         _ => drop(snippet.pop()),
     }
     snippet
 }
 
+/// A literal of a style around a content.
+pub fn quoted(style: Option<usize>, content: &str) -> String {
+    let hashes = "#".repeat(style.unwrap_or(0));
+    format!("{}{hashes}\"{content}\"{hashes}", if style.is_some() { "r" } else { "" })
+}
+
+/// An input of random parts, in one of so many modes, mostly with a snippet.
 pub fn case(random: &mut Random, modes: usize) -> Case {
     let parts = match random.below(20_000) {
         0 => 1000 + random.below(2000),
@@ -192,30 +136,53 @@ pub fn case(random: &mut Random, modes: usize) -> Case {
         input.push('\n');
     }
     let newline = random.one_in(if input.ends_with('\n') { 2 } else { 40 });
-    let style = if random.one_in(3) { Some(random.below(4)) } else { None };
-    let written = if newline {
-        input.strip_suffix('\n').unwrap_or(&input)
-    } else {
-        &input
-    };
-    let snippet = match style {
-        _ if random.one_in(4) => None,
-        Some(hashes) => {
-            let hashes = "#".repeat(hashes);
-            Some(format!("r{hashes}\"{written}\"{hashes}"))
+    let style = random.one_in(3).then(|| random.below(4));
+    let line = if newline { input.strip_suffix('\n') } else { None };
+    let written = line.unwrap_or(&input);
+    let snippet = (!random.one_in(4)).then(|| {
+        let is_plain = random.one_in(3);
+        let snippet = match style {
+            Some(_) => quoted(style, written),
+            None => quoted(style, &content(random, written, is_plain)),
+        };
+        if random.one_in(6) { spoilt(random, snippet) } else { snippet }
+    });
+    Case { input, style, snippet, newline, mode: random.below(modes + 2).saturating_sub(2) }
+}
+
+/// A literal with right and wrong escapes, and an input that it stands for or might be taken for.
+pub fn literal(random: &mut Random) -> Case {
+    let units: Vec<_> = (0..random.below(6)).map(|_| UNITS[random.below(UNITS.len())]).collect();
+    let (content, mut input): (String, String) = units.into_iter().unzip();
+    let style = random.one_in(5).then(|| random.below(3));
+    let newline = random.one_in(4);
+    if newline && !random.one_in(8) {
+        input += "\n";
+    }
+    Case { input, style, snippet: Some(quoted(style, &content)), newline, mode: 0 }
+}
+
+/// Compares what the functions of `literal` say of a case with what a parser shows of it.
+pub fn same_as_its_literal(case: &Case) {
+    use dephungo::literal::{between_quotes, is_source_literal, read_content};
+    let Some(snippet) = &case.snippet else { return };
+    let format = dephungo::ParseMode::Format;
+    let snippet_too = Some(snippet.clone());
+    let mut parser =
+        dephungo::Parser::new(&case.input, case.style, snippet_too, case.newline, format);
+    let is_literal = is_source_literal(&case.input, case.style, snippet, case.newline);
+    assert_eq!(is_literal, parser.is_source_literal, "is_source_literal of {case:?}");
+    if !is_literal || case.style.is_some() {
+        return;
+    }
+    let content = between_quotes(snippet).expect("a content between quotes");
+    let found = read_content(content).expect("the content of a literal");
+    let text: String = found.iter().map(|(_, c)| *c).collect();
+    assert_eq!(text + if case.newline { "\n" } else { "" }, case.input, "read_content of {case:?}");
+    while let Some((place, at, c)) = parser.peek() {
+        if let Some((wanted, d)) = found.get(case.input[..at].chars().count()) {
+            assert_eq!((place, c), (wanted.start + 1..wanted.end + 1, *d), "{at} of {case:?}");
         }
-        None => {
-            let plain = random.one_in(3);
-            let content = content(random, written, plain);
-            Some(format!("\"{content}\""))
-        }
-    };
-    let snippet = snippet.map(|snippet| if random.one_in(6) { spoilt(random, snippet) } else { snippet });
-    Case {
-        input,
-        style,
-        snippet,
-        newline,
-        mode: random.below(modes + 2).saturating_sub(2),
+        parser.next();
     }
 }

@@ -1,83 +1,85 @@
-//! The walks over the static library: the library's own, and the export into buffers that are kept.
+//! The call into the static library, and its records as the proved sources have them. All that is
+//! unsafe is in this file.
+#[path = "../../crates/flat_reading/src/records.rt"]
 #[allow(dead_code)]
-#[path = "reader/src/call.rs"]
-mod call;
-use super::{records, Counts};
-use std::cell::RefCell;
+pub mod records;
+use records::*;
 
+#[link(name = "dephungo", kind = "static")]
+#[link(name = "libc_c", kind = "static")]
 unsafe extern "C" {
-    fn counted_walk(
+    fn dephungo_read(
         input: *const u8,
         input_length: usize,
         snippet: *const u8,
         snippet_length: usize,
-        has_snippet: bool,
-    ) -> usize;
+        options: *const Options,
+        steps: *mut Step,
+        step_room: usize,
+        specs: *mut Spec,
+        spec_room: usize,
+        faults: *mut Fault,
+        fault_room: usize,
+        texts: *mut u8,
+        text_room: usize,
+        lines: *mut Extent,
+        line_room: usize,
+        answer: *mut Answer,
+    ) -> u32;
 }
 
-pub fn walk(input: &str, snippet: Option<&str>) -> Counts {
-    let text = snippet.unwrap_or("");
-    let counts = unsafe {
-        counted_walk(
-            input.as_ptr(),
-            input.len(),
-            text.as_ptr(),
-            text.len(),
-            snippet.is_some(),
-        )
-    };
-    (counts >> 24, counts & 0xff_ffff)
+/// What a reading is written into. The length of each vector is its room.
+pub struct Buffers {
+    pub steps: Vec<Step>,
+    pub specs: Vec<Spec>,
+    pub faults: Vec<Fault>,
+    pub texts: Vec<u8>,
+    pub lines: Vec<Extent>,
+    pub answer: Answer,
 }
 
-thread_local! {
-    static KEPT: RefCell<call::Buffers> = RefCell::new(call::Buffers {
-        steps: vec![Default::default(); 1 << 16],
-        specs: vec![Default::default(); 1 << 14],
-        faults: vec![Default::default(); 1 << 14],
-        texts: vec![0; 1 << 22],
-        lines: vec![Default::default(); 1 << 14],
-    });
+/// Options, an answer or any other record, with nothing but zeros.
+pub fn blank<T: Copy>() -> T {
+    // SAFETY: it is asked only for records and bytes, which are plain integers.
+    unsafe { std::mem::zeroed() }
 }
 
-/// Reads an input into the kept buffers, and gives what is asked of them and of the answer.
-fn read<T>(
-    input: &str,
-    snippet: Option<&str>,
-    seen: impl FnOnce(&call::Buffers, &records::Answer) -> T,
-) -> T {
-    KEPT.with_borrow_mut(|buffers| {
-        let options = records::Options {
-            has_snippet: snippet.is_some().into(),
-            ..Default::default()
-        };
-        let mut answer = records::Answer::default();
-        assert_eq!(
-            call::read(input, snippet.unwrap_or(""), &options, buffers, &mut answer),
-            records::DONE
-        );
-        seen(buffers, &answer)
-    })
-}
+impl Buffers {
+    /// Buffers with room for what an answer tells.
+    pub fn with_room(told: Answer) -> Self {
+        Buffers {
+            steps: vec![blank(); told.steps],
+            specs: vec![blank(); told.specs],
+            faults: vec![blank(); told.faults],
+            texts: vec![0; told.texts],
+            lines: vec![blank(); told.lines],
+            answer: blank(),
+        }
+    }
 
-/// What the records say of the walk up to its first None.
-pub fn export(input: &str, snippet: Option<&str>) -> Counts {
-    read(input, snippet, |buffers, answer| {
-        let steps = &buffers.steps[..answer.steps];
-        let end = steps
-            .iter()
-            .position(|step| step.kind == records::PIECE_NONE)
-            .unwrap();
-        (
-            end,
-            buffers.faults[..answer.faults]
-                .iter()
-                .filter(|fault| fault.step <= end)
-                .count(),
-        )
-    })
-}
-
-/// The export alone, which is what is timed: its records are there, and nobody looks at them.
-pub fn export_alone(input: &str, snippet: Option<&str>) -> Counts {
-    read(input, snippet, |_, answer| (answer.steps, answer.faults))
+    /// Reads an input into them, as far as they go, and returns the code of the library.
+    pub fn read(&mut self, input: &str, snippet: &str, options: &Options) -> u32 {
+        // SAFETY: each pointer is that of a reference or of a slice, whose length goes with it;
+        // what is written is borrowed for this call alone, and a record may hold any numbers.
+        unsafe {
+            dephungo_read(
+                input.as_ptr(),
+                input.len(),
+                snippet.as_ptr(),
+                snippet.len(),
+                options,
+                self.steps.as_mut_ptr(),
+                self.steps.len(),
+                self.specs.as_mut_ptr(),
+                self.specs.len(),
+                self.faults.as_mut_ptr(),
+                self.faults.len(),
+                self.texts.as_mut_ptr(),
+                self.texts.len(),
+                self.lines.as_mut_ptr(),
+                self.lines.len(),
+                &mut self.answer,
+            )
+        }
+    }
 }

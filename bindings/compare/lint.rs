@@ -1,9 +1,8 @@
 //! Random literals, over the crate of bindings/rust and over the proved program formatlint: lint
 //! PROGRAM SEED COUNT. What the program writes, without an option and with `--fix`, is what the
 //! crate makes of the literal.
-#[allow(dead_code)]
 mod cases;
-use cases::Random;
+use cases::{quoted, Random};
 use dephungo::faults::{draw, errors_of, fix, Picture};
 use dephungo::ParseMode;
 use std::io::Write;
@@ -16,133 +15,66 @@ const MODES: [(&str, ParseMode); 4] = [
     ("diagnostic-named", ParseMode::DiagnosticNamed),
 ];
 
-/// A literal as it is written, with its text and style.
-struct Literal {
-    snippet: String,
-    text: String,
-    style: Option<usize>,
-}
-
 /// Places of faults, and what is around them.
+#[rustfmt::skip]
 const PARTS: &[&str] = &[
-    "{r#a}",
-    "{a?}",
-    "{:?#}",
-    "{a!}",
-    "{a.b}",
-    "{a\n.b}",
-    "{",
-    "}",
-    "{_}",
-    "{a:5\n}",
-    "日",
-    "\t",
-    "\n",
-    "\n\n\n\n",
-    " a ",
-    "\u{202e}",
-    "\u{7}",
-    "e\u{301}",
-    "                              ",
-    "{{",
-    "{:.65536}",
+    "{r#a}", "{a?}", "{:?#}", "{a!}", "{a.b}", "{a\n.b}", "{", "}", "{_}", "{a:5\n}", "日", "\t",
+    "\n", "\n\n\n\n", " a ", "\u{202e}", "\u{7}", "e\u{301}", "                              ",
+    "{{", "{:.65536}",
 ];
 
-fn literal(random: &mut Random) -> Literal {
-    let parts: Vec<&str> = (0..random.below(9)).map(|_| random.of(PARTS)).collect();
-    let text = parts.concat();
+/// A literal, its text and its style.
+fn literal(random: &mut Random) -> (String, String, Option<usize>) {
+    let text: String = (0..random.below(9)).map(|_| random.of(PARTS)).collect();
     let style = random.one_in(3).then(|| random.below(2));
-    let snippet = match style {
-        Some(hashes) => format!("r{0}\"{text}\"{0}", "#".repeat(hashes)),
-        None => {
-            let written = |c: char| match random.below(9) {
-                0 => format!("\\u{{{:x}}}", c as u32),
-                1 if !c.is_whitespace() => format!("\\\n  {c}"),
-                _ => c.to_string(),
-            };
-            format!("\"{}\"", text.chars().map(written).collect::<String>())
-        }
+    let mut written = |c: char| match random.below(9) {
+        0 => format!("\\u{{{:x}}}", c as u32),
+        1 if !c.is_whitespace() => format!("\\\n  {c}"),
+        _ => c.to_string(),
     };
-    Literal {
-        snippet,
-        text,
-        style,
-    }
+    let content = match style {
+        Some(_) => text.clone(),
+        None => text.chars().map(&mut written).collect(),
+    };
+    (quoted(style, &content), text, style)
 }
 
 /// What the program writes of a literal's faults.
-fn drawings(literal: &Literal, mode: ParseMode) -> String {
-    let Literal {
-        snippet,
-        text,
-        style,
-    } = literal;
-    let errors = errors_of(text, *style, Some(snippet.clone()), false, mode);
-    let picture = Picture {
-        path: "<stdin>",
-        source: snippet,
-        line_start: 1,
-        literal_start: 0,
-    };
-    let mut out: String = errors
-        .iter()
-        .take(10)
-        .map(|it| draw(&picture, it))
-        .collect();
+fn drawings(snippet: &str, text: &str, style: Option<usize>, mode: ParseMode) -> String {
+    let errors = errors_of(text, style, Some(snippet.to_string()), false, mode);
+    let picture = Picture { path: "<stdin>", source: snippet, line_start: 1, literal_start: 0 };
+    let mut out: String = errors.iter().take(10).map(|it| draw(&picture, it)).collect();
     if errors.len() > 10 {
         out += &format!("and {} more\n", errors.len() - 10);
     }
     out
 }
 
-/// What it writes of the fixed literal.
-fn kept(literal: Literal, mode: ParseMode) -> String {
-    let mended = fix(&literal.text, literal.style, &literal.snippet, false, mode)
-        .map(|fixed| Literal {
-            snippet: fixed.snippet,
-            text: fixed.text,
-            style: literal.style,
-        })
-        .unwrap_or(literal);
-    format!("{}\n{}", mended.snippet, drawings(&mended, mode))
-}
-
 fn said(program: &str, words: &[&str], input: &str) -> String {
-    let mut child = Command::new(program)
-        .args(words)
-        .stdin(Stdio::piped())
-        .stdout(Stdio::piped())
-        .spawn()
-        .expect("the program");
-    let mut stdin = child.stdin.take().unwrap();
-    stdin.write_all(input.as_bytes()).unwrap();
-    drop(stdin);
+    let mut command = Command::new(program);
+    let command = command.args(words).stdin(Stdio::piped()).stdout(Stdio::piped());
+    let mut child = command.spawn().expect("the program");
+    child.stdin.take().unwrap().write_all(input.as_bytes()).unwrap();
     String::from_utf8(child.wait_with_output().unwrap().stdout).unwrap()
 }
 
 fn main() {
     let words: Vec<String> = std::env::args().skip(1).collect();
-    let count: usize = words[2].parse().unwrap();
-    let mut random = Random::new(words[1].parse().unwrap());
+    let [program, seed, count] = &words[..] else { panic!("lint PROGRAM SEED COUNT") };
+    let mut random = Random::new(seed.parse().expect("a seed"));
+    let count: usize = count.parse().expect("a count");
     let (mut faulty, mut fixed) = (0, 0);
     for _ in 0..count {
-        let literal = literal(&mut random);
+        let (snippet, text, style) = literal(&mut random);
         let (name, mode) = MODES[random.below(6) % 4];
-        let input = literal.snippet.clone();
-        let drawn = drawings(&literal, mode);
-        assert_eq!(
-            said(&words[0], &["--mode", name], &input),
-            drawn,
-            "{input:?}"
-        );
+        let drawn = drawings(&snippet, &text, style, mode);
+        assert_eq!(said(program, &["--mode", name], &snippet), drawn, "{snippet:?}");
         faulty += usize::from(!drawn.is_empty());
-        let kept = kept(literal, mode);
-        assert_eq!(
-            said(&words[0], &["--mode", name, "--fix"], &input),
-            kept,
-            "{input:?}"
-        );
-        fixed += usize::from(!kept.starts_with(&input));
+        let mended = fix(&text, style, &snippet, false, mode).map(|it| (it.snippet, it.text));
+        let (kept, text) = mended.unwrap_or_else(|| (snippet.clone(), text));
+        fixed += usize::from(kept != snippet);
+        let wanted = format!("{kept}\n{}", drawings(&kept, &text, style, mode));
+        assert_eq!(said(program, &["--mode", name, "--fix"], &snippet), wanted, "{snippet:?}");
     }
     println!("{count} literals, {faulty} with faults, {fixed} fixed: all agree");
 }

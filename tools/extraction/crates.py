@@ -1,11 +1,14 @@
 """Crates as a whole: which of their items are needed, and the sources in Rust that these make."""
 import re
 import subprocess
+from pathlib import Path
 
 from extraction import ghosts, rules
 from extraction.source import Import, Source
 from extraction.tokens import Refused
 
+TOP = Path(__file__).resolve().parent.parent.parent
+RUST = TOP / "bindings/rust/src"
 CRATES = ("rustc_parse_format", "placeholder_check", "format_tokens", "drawn_faults")
 NOTICE = """\
 // Extracted from {place} by tools/extract: not to be edited.
@@ -54,6 +57,13 @@ def extracted(crates, callers):
             target = source.name.replace(".rt", ".rs")
             made.append((f"{source.crate}/{'mod.rs' if target == 'lib.rs' else target}", text))
     return made
+
+
+def of_repository(crates=TOP / "crates"):
+    """The sources that the crates of the repository make for the crate for Rust, by their names."""
+    folders = {name: crates / name / "src" for name in CRATES}
+    callers = [it for it in sorted(RUST.rglob("*.rs")) if RUST / "proved" not in it.parents]
+    return dict(extracted(folders, callers))
 
 
 def laid_out(text):

@@ -1,0 +1,197 @@
+//! What the static library writes of random inputs, and of as many literals with right and wrong
+//! escapes, beside what the crate of bindings/rust reads of them: records SEED COUNT.
+mod cases;
+mod library;
+#[macro_use]
+mod seen;
+
+use cases::{case, literal, same_as_its_literal, Case, Random};
+use dephungo::*;
+use library::{blank, records::*, Buffers};
+use std::ops::Range;
+
+seen_by!(ours, dephungo);
+
+fn range(at: Extent) -> Range<usize> {
+    at.from..at.to
+}
+
+fn maybe(at: MaybeExtent) -> Option<Range<usize>> {
+    (at.there != 0).then_some(at.from..at.to)
+}
+
+/// What a number stands for.
+fn meant<T: Clone>(tag: u32, meanings: &[(u32, T)]) -> T {
+    let found = meanings.iter().find(|(number, _)| *number == tag);
+    found.unwrap_or_else(|| panic!("a record with the tag {tag}")).1.clone()
+}
+
+/// A piece of an input by its records; each implicit number is so much higher.
+fn piece<'a>(input: &'a str, step: &Step, specs: &[Spec], more: usize) -> Option<Piece<'a>> {
+    if step.kind != PIECE_ARGUMENT {
+        let pieces = [(PIECE_NONE, None), (PIECE_TEXT, Some(Piece::Lit(&input[range(step.text)])))];
+        return meant(step.kind, &pieces);
+    }
+    let (number, name) = (step.number, &input[range(step.text)]);
+    let position = meant(step.position, &[
+        (POSITION_IMPLICIT, ArgumentImplicitlyIs(number.wrapping_add(more))),
+        (POSITION_INDEX, ArgumentIs(number)),
+        (POSITION_NAMED, ArgumentNamed(name)),
+    ]);
+    let spec = step.spec.checked_sub(1).map(|at| &specs[at]);
+    let format = spec.map_or_else(FormatSpec::default, |spec| format_spec(input, spec, more));
+    let position_span = range(step.position_span);
+    Some(Piece::NextArgument(Box::new(Argument { position, position_span, format })))
+}
+
+fn count<'a>(input: &'a str, count: &CountRecord, more: usize) -> Count<'a> {
+    let (number, name) = (count.number, &input[range(count.name)]);
+    meant(count.kind, &[
+        (COUNT_IMPLIED, CountImplied),
+        (COUNT_IS, CountIs(number as u16)),
+        (COUNT_IS_NAME, CountIsName(name, range(count.name_span))),
+        (COUNT_IS_PARAM, CountIsParam(number)),
+        (COUNT_IS_STAR, CountIsStar(number.wrapping_add(more))),
+    ])
+}
+
+fn format_spec<'a>(input: &'a str, spec: &Spec, more: usize) -> FormatSpec<'a> {
+    FormatSpec {
+        fill: char::from_u32(spec.fill),
+        fill_span: maybe(spec.fill_span),
+        align: meant(spec.align, &[
+            (ALIGN_UNKNOWN, AlignUnknown),
+            (ALIGN_LEFT, AlignLeft),
+            (ALIGN_RIGHT, AlignRight),
+            (ALIGN_CENTER, AlignCenter),
+        ]),
+        sign: meant(spec.sign, &[
+            (SIGN_NONE, None),
+            (SIGN_PLUS, Some(Sign::Plus)),
+            (SIGN_MINUS, Some(Sign::Minus)),
+        ]),
+        alternate: spec.alternate != 0,
+        zero_pad: spec.zero_pad != 0,
+        debug_hex: meant(spec.debug_hex, &[
+            (HEX_NONE, None),
+            (HEX_LOWER, Some(DebugHex::Lower)),
+            (HEX_UPPER, Some(DebugHex::Upper)),
+        ]),
+        precision: count(input, &spec.precision, more),
+        precision_span: maybe(spec.precision_span),
+        width: count(input, &spec.width, more),
+        width_span: maybe(spec.width_span),
+        ty: meant(spec.type_kind, &[
+            (TYPE_NONE, ""),
+            (TYPE_TEXT, &input[range(spec.ty)]),
+            (TYPE_LOWER_HEX, "x"),
+            (TYPE_UPPER_HEX, "X"),
+            (TYPE_DEBUG, "?"),
+        ]),
+        ty_span: maybe(spec.ty_span),
+    }
+}
+
+fn error(texts: &[u8], fault: &Fault) -> ParseError {
+    let text = |at: Range<usize>| String::from_utf8(texts[at].to_vec()).expect("a text");
+    let at = range(fault.suggestion_span);
+    ParseError {
+        description: text(range(fault.description)),
+        note: maybe(fault.note).map(text),
+        label: text(range(fault.label)),
+        span: range(fault.span),
+        secondary_label: maybe(fault.second_label).map(|it| (text(it), range(fault.second_span))),
+        suggestion: match fault.suggestion {
+            MEND_NONE => Suggestion::None,
+            MEND_USE_POSITIONAL => Suggestion::UsePositional,
+            MEND_REMOVE_RAW_IDENT => Suggestion::RemoveRawIdent(at),
+            MEND_REORDER_FORMAT_PARAMETER => {
+                Suggestion::ReorderFormatParameter(at, text(range(fault.suggestion_text)))
+            }
+            MEND_ADD_MISSING_COLON => Suggestion::AddMissingColon(at),
+            MEND_USE_RUST_DEBUG_PRINTING_MACRO => Suggestion::UseRustDebugPrintingMacro,
+            other => panic!("a fault with the tag {other}"),
+        },
+    }
+}
+
+/// Reads a case twice: without any room, and with as much as is then told.
+fn read(case: &Case, peeks: bool) -> Buffers {
+    let options = Options {
+        mode: [MODE_FORMAT, MODE_INLINE_ASM, MODE_DIAGNOSTIC, MODE_DIAGNOSTIC_NAMED][case.mode],
+        is_raw: case.style.is_some().into(),
+        hashes: case.style.unwrap_or(0),
+        has_snippet: case.snippet.is_some().into(),
+        appended_newline: case.newline.into(),
+        peeks: peeks.into(),
+    };
+    let snippet = case.snippet.as_deref().unwrap_or("");
+    let mut buffers = Buffers::with_room(blank());
+    assert_eq!(buffers.read(&case.input, snippet, &options), SHORT, "no room for {case:?}");
+    buffers = Buffers::with_room(buffers.answer);
+    assert_eq!(buffers.read(&case.input, snippet, &options), DONE, "room for {case:?}");
+    buffers
+}
+
+/// Compares what is read of a case, before each call and up to two calls behind the end, with
+/// fields written in between. Returns the number of faults.
+fn compare(case: &Case, random: &mut Random) -> usize {
+    same_as_its_literal(case);
+    let has_peeks = random.one_in(2);
+    let Buffers { steps, specs, faults, texts, lines, answer } = read(case, has_peeks);
+    let (fronts, backs) = faults.split_at(answer.fronts);
+    assert!(fronts.windows(2).all(|two| two[0].step >= two[1].step), "fronts of {case:?}");
+    assert!(backs.windows(2).all(|two| two[0].step <= two[1].step), "backs of {case:?}");
+    let mut parser = ours::parser(case);
+    assert_eq!(answer.is_source_literal != 0, parser.is_source_literal, "literal of {case:?}");
+    let mut last = Step { peek: answer.peek, peek_ahead: answer.peek_ahead, ..blank() };
+    let (mut places, mut known_lines) = (vec![], vec![]);
+    // by how much implicit numbers are higher, and from which step on faults are kept
+    let (mut more, mut since) = (0, 0);
+    let end = steps.len() - 1;
+    for number in 0..=end + 3 {
+        let rest = &case.input[last.read..];
+        let mut rest = rest.char_indices().map(|(at, c)| (last.read + at, c));
+        for (told, seen) in [(last.peek, parser.peek()), (last.peek_ahead, parser.peek_ahead())] {
+            let (place, next) = seen.map(|(place, at, c)| (place, (at, c))).unzip();
+            assert_eq!(rest.next(), next, "peek {number} of {case:?}");
+            assert_eq!(maybe(told), place.filter(|_| has_peeks), "peek {number} of {case:?}");
+        }
+        assert_eq!(parser.curarg, last.next.wrapping_add(more), "curarg {number} of {case:?}");
+        assert_eq!(parser.arg_places, places, "arg_places {number} of {case:?}");
+        assert_eq!(parser.line_spans, known_lines, "line_spans {number} of {case:?}");
+        let is_kept = |it: &&Fault| since <= it.step && it.step < number;
+        let told: Vec<_> = faults.iter().filter(is_kept).map(|it| error(&texts, it)).collect();
+        let [told, seen] = [&told, &parser.errors].map(|it| it.iter().map(ours::error));
+        assert!(told.eq(seen), "errors {number} of {case:?}");
+        match random.below(24) {
+            0 => (parser.curarg, more) = (7, 7_usize.wrapping_sub(last.next)),
+            1 => (parser.errors, since) = (vec![], number),
+            2 if random.one_in(8) => parser.is_source_literal = false,
+            _ => {}
+        }
+        let step = steps[number.min(end)];
+        let pieces = [piece(&case.input, &step, &specs, more), parser.next()];
+        assert_eq!(pieces[0], pieces[1], "piece {number} of {case:?}");
+        let texts = pieces.map(|piece| ours::places(&case.input, &piece));
+        assert_eq!(texts[0], texts[1], "places of the texts of piece {number} of {case:?}");
+        if parser.is_source_literal && number <= end {
+            places.extend(maybe(step.place));
+            known_lines.extend(lines[known_lines.len()..step.lines].iter().map(|it| range(*it)));
+        }
+        last = step;
+    }
+    faults.len()
+}
+
+fn main() {
+    let word = |at| std::env::args().nth(at).and_then(|word| word.parse().ok());
+    let (seed, count) = (word(1).expect("a seed"), word(2).expect("a count"));
+    let mut random = Random::new(seed);
+    let mut faults = 0;
+    for _ in 0..count {
+        faults += compare(&case(&mut random, 4), &mut random);
+        faults += compare(&literal(&mut random), &mut random);
+    }
+    println!("seed {seed}: {count} inputs and {count} literals with {faults} faults: all agree");
+}
