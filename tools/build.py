@@ -1,7 +1,8 @@
 """Proves a program or a static library, and the crates below it, and leaves what is built in out/,
 unless that was done: build.py COMMAND NAME. For ./build NAME is formatread or formatlint, and the
 path of the program is printed; for ./library it is dephungo, and out/ is printed, where then is
-also what the library needs of the kit, and its C header.
+also what the library needs of the kit, and its C header. ./check calls build.py gather TREE FOLDER,
+where TREE is a copy of the repository in which the gate has run.
 
 The gate of the kit (`rt ci`) proves the crates that are needed, in a copy of them alone. What was
 proved on this machine is not proved again, here or by ./check. Each crate that is done is written
@@ -90,27 +91,44 @@ def run(who, folder, *command):
             ran.wait()
 
 
+def words_over(tree, name, kit):
+    """The words by which rattle reads a library over those that the gate has proved in a tree."""
+    crates = crates_of(name)
+    used = {it for line in crates.values() for it in line.partition(":")[2].split()} | {"std"}
+    words = ["--crate-name", name, "src/lib.rt", "--links", f"{name}="]
+    for it in sorted(used):
+        rlibs = tree / "crates" / it / "out/rlib" if it in crates else kit / "rlibs"
+        words += ["--extern", f"{it}={rlibs}/{it}.rlib", "-L", f"dependency={rlibs}"]
+    words += ["-L", f"dependency={kit}/rlibs", "--logic-built", f"{kit}/logic_built"]
+    return [*words, "--antt-project", f"{kit}/rattle/logic/antt-project.json"]
+
+
+def kit_folder():
+    """The folder of the kit."""
+    said = subprocess.run(["rt", "doc"], stdout=subprocess.PIPE, text=True, check=True).stdout
+    return Path(said.strip()).parent
+
+
+def static_library(who, name, tree, folder):
+    """Proves and builds a static library over the libraries that the gate has proved in a tree: the
+    gate keeps none. Returns the files to be kept, which it puts into a folder."""
+    kit = kit_folder()
+    words = words_over(tree, name, kit) + ["--crate-type", "staticlib", "--backend", "llvm"]
+    words += ["--toolchain", f"{kit}/toolchain", "-o", folder / f"lib{name}.a"]
+    copied(name, folder / name)
+    run(who, folder / name, f"{kit}/bin/rattle", "build", *words)
+    return [kit / "c/liblibc_c.a", HEADER, folder / f"lib{name}.a"]
+
+
 def proved(who, name, room):
-    """Proves a program or a static library in the room, and returns the files to be kept. The gate
-    keeps no static library, so that is built over the libraries that the gate leaves."""
+    """Proves a program or a static library in the room, and returns the files to be kept."""
     crates = crates_of(name)
     is_static = " staticlib:" in crates[name]
     furnished(room, {it: crates[it] for it in crates if it != name or not is_static})
     run(who, room, "rt", "ci")
-    if not is_static:
-        return [room / "crates" / name / "out" / name]
-    kit = Path(run(who, room, "rt", "doc").strip()).parent
-    words = ["--crate-name", name, "src/lib.rt", "--crate-type", "staticlib", "--links", f"{name}="]
-    words += ["--backend", "llvm", "--toolchain", f"{kit}/toolchain"]
-    words += ["--extern", f"std={kit}/rlibs/std.rlib", "-L", f"dependency={kit}/rlibs"]
-    for it in [it for it in crates if it != name]:
-        rlibs = room / "crates" / it / "out/rlib"
-        words += ["--extern", f"{it}={rlibs}/{it}.rlib", "-L", f"dependency={rlibs}"]
-    words += ["--antt-project", f"{kit}/rattle/logic/antt-project.json"]
-    words += ["--logic-built", f"{kit}/logic_built", "-o", room / f"lib{name}.a"]
-    copied(name, room / name)
-    run(who, room / name, f"{kit}/bin/rattle", "build", *words)
-    return [kit / "c/liblibc_c.a", HEADER, room / f"lib{name}.a"]
+    if is_static:
+        return static_library(who, name, room, room)
+    return [room / "crates" / name / "out" / name]
 
 
 def is_fresh(file, sources):
@@ -201,5 +219,17 @@ def main(who, name):
     return status
 
 
+def gather(tree, folder):
+    """Puts the programs and the static library of a tree in which the gate has proved all crates
+    into a folder."""
+    made = [tree / "crates" / it / "out" / it for it in ("formatread", "formatlint")]
+    with tempfile.TemporaryDirectory() as room:
+        for file in made + static_library("gather", "dephungo", tree, Path(room)):
+            shutil.copy(file, folder)
+
+
 if __name__ == "__main__":
-    sys.exit(main(*sys.argv[1:]))
+    if sys.argv[1:2] == ["gather"]:
+        gather(Path(sys.argv[2]), Path(sys.argv[3]))
+    else:
+        sys.exit(main(*sys.argv[1:]))

@@ -161,6 +161,11 @@ pub fn compare(file: &str, text: &str) -> usize {
         let [name, mode, style, newline, snippet, input, wanted] = columns[..] else {
             panic!("{file}: {line:?}")
         };
+        // (another result is a script of calls, which are those of the proved library)
+        if !wanted.starts_with("source ") {
+            continue;
+        }
+        let wanted = text_of(wanted);
         let mode = match mode {
             "format" => ParseMode::Format,
             "asm" => ParseMode::InlineAsm,
@@ -177,10 +182,6 @@ pub fn compare(file: &str, text: &str) -> usize {
         let snippet = snippet.strip_prefix('=').map(str::to_string);
         let style = hashes.map(|hashes| hashes as usize);
         let out = listing(Parser::new(&input, style, snippet, newline == "1", mode));
-        // where the text ends is no field
-        let lines = text_of(wanted);
-        let is_field = |line: &&str| !line.starts_with("end ");
-        let wanted: String = lines.split_inclusive('\n').filter(is_field).collect();
         assert_eq!(out, wanted, "row {name} of {file}");
         same_in_each_world(name, &input, mode);
         rows += 1;

@@ -80,6 +80,16 @@ impl<'input> Parser<'input> {
         self.reader.cursor.peek_place_ahead()
     }
 
+    /// Returns whether the whole input was read.
+    pub(crate) fn is_at_end(&self) -> bool {
+        self.reader.is_at_end()
+    }
+
+    /// Returns how many bytes of the input were read.
+    pub(crate) fn position(&self) -> usize {
+        self.reader.cursor.position()
+    }
+
     /// Moves what a call found from the reader to the fields.
     #[inline(always)]
     fn take_over(&mut self) {

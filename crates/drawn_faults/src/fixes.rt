@@ -165,13 +165,6 @@ fn make_next<'a>(
     Ok(())
 }
 
-/// Returns whether a parser is at the end of its input.
-fn is_at_end(parser: &Parser<'_>) -> bool
-    ensures { result ≡ is_nil parser.now.rest }
-{
-    parser.peek().is_none()
-}
-
 /// Makes a call of a parser, and leaves out the piece. Returns `Err` if an allocation fails.
 fn advance(parser: &mut Parser<'_>) -> Result<(), AllocError>
     ensures state { OnOk result (parser.new ≡ after parser.old (next_call parser.old)) }
@@ -199,7 +192,7 @@ pub fn errors_of(
     ensures empty { input.now ≡ [] → IsOk result }
 {
     let mut parser = Parser::new(alloc, input, style, snippet, appended_newline, mode)?;
-    while !is_at_end(&parser) {
+    while !parser.is_at_end() {
         advance(&mut parser)?;
     }
     Ok(parser.take_errors())
@@ -234,7 +227,7 @@ fn edit_all(
         start: at,
         end: 0,
     };
-    while !is_at_end(parser) {
+    while !parser.is_at_end() {
         make_next(&mut edited, parser, &mut argument)?;
     }
     let rest = edited.rest;

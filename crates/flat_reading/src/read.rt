@@ -124,7 +124,8 @@ fn put_lines(spans: &[Range<usize>], lines: &mut [Extent])
 }
 
 /// Reads an input to its end with a parser that is at its start, and writes the results as `read`
-/// does. Returns `Err` if an allocation fails, and `answer` is then unchanged.
+/// does. It does not make the parser, whose room would then be filled twice. Returns `Err` if an
+/// allocation fails, and `answer` is then unchanged.
 #[inline(always)]
 fn read_by<'a>(
     alloc: Global,

@@ -2,7 +2,6 @@
 
 ghost use Rattle.std.specs.Prelude.{◌≡◌, ◌+◌, ◌-◌, ◌≤◌, ◌++◌, [], drop, length, map, nat_lt, take};
 ghost use Rattle.std.specs.Prelude.{IfOk, OnOk, Some, chars, false, option_map};
-ghost use Rattle.rustc_parse_format.specs.Characters.{is_nil};
 ghost use Rattle.rustc_parse_format.specs.Seen.{seen_error, seen_mode};
 ghost use Rattle.rustc_parse_format.specs.World.{hashes};
 ghost use Rattle.piece_listing.specs.Program.{limit};
@@ -18,7 +17,7 @@ use format_tokens::{Kind, Token, label, placed};
 use rustc_parse_format::{Argument, FormatSpec, ParseError, ParseMode, Parser, Position};
 use std::alloc::{AllocError, Global};
 
-/// The most faults that are drawn.
+/// The most faults that are drawn. Each drawing has the whole line, which may be the whole input.
 const MOST_DRAWN: usize = 10;
 
 /// A text, with the style of the literal that it is in and the literal as it is written.
@@ -38,9 +37,9 @@ pub struct Faults {
 
 impl Faults {
     /// Moves the errors of a call out of a parser that had none before the call, and adds them to
-    /// those of the calls before: `fronts` of them before these, and the others behind. Keeps only
-    /// those that are drawn. Returns `Err` if an allocation fails, or if there are more errors than
-    /// a `usize` counts.
+    /// those of the calls before: `fronts` of them before these, and the others after. Keeps only
+    /// those that are drawn, so that hostile input does not fill the memory. Returns `Err` if an
+    /// allocation fails, or if there are more errors than a `usize` counts.
     fn add(&mut self, parser: &mut Parser<'_>, fronts: usize) -> Result<(), AllocError>
         requires few { length (map seen_error self.old.first.items) ≤ most_drawn }
         requires fronts { fronts ≤ length parser.old.errors }
@@ -69,13 +68,6 @@ impl Faults {
     }
 }
 
-/// Returns whether a parser is at the end of its input.
-fn is_at_end(parser: &Parser<'_>) -> bool
-    ensures { result ≡ is_nil parser.now.rest }
-{
-    parser.peek().is_none()
-}
-
 /// Returns an argument to read placeholders into.
 fn blank_argument<'a>() -> Argument<'a> {
     Argument {
@@ -99,7 +91,7 @@ fn faults_of<'a>(alloc: Global, parser: &mut Parser<'a>) -> Result<Faults, Alloc
         first: Vec::new(alloc),
         others: 0,
     };
-    while !is_at_end(parser) {
+    while !parser.is_at_end() {
         let (_, fronts) = parser.next_into(&mut argument)?;
         faults.add(parser, fronts)?;
     }

@@ -96,6 +96,7 @@ fn put_faults(
         return put_drawings(alloc, out, &picture, faults);
     }
     let text = source.text;
+    // without a literal a span is one more than in the text, and so is the place in this source
     let shown = format!(in alloc; "\n{text}")?;
     let picture = Picture {
         path,

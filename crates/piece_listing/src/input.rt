@@ -88,8 +88,8 @@ fn list_text_of(
 }
 
 /// Returns the listing of the text that the input stands for as a string literal, perhaps with a
-/// newline after it, and whether there is a line that is not of a piece. Returns `Err` if the input
-/// is not a string literal or an allocation fails.
+/// newline after it, as editors and shells end a line, and whether there is a line that is not of a
+/// piece. Returns `Err` if the input is not a string literal or an allocation fails.
 fn list_literal(alloc: Global, input: &str, task: Task<'_>) -> Result<(String, bool), RunFault>
     requires { IsShort input.now }
     ensures lines { IfOk result (λ x. (s : Source) × IsInLiteral (chars input.now) s

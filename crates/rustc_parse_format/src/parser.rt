@@ -55,7 +55,7 @@ impl<'input> Parser<'input> {
     ghost use Rattle.std.specs.Prelude.{List, Option, IfOk, IsNone, IsOk, IsTrue, OnErr, OnOk};
     ghost use Rattle.std.specs.Prelude.{chars, length, map, option_map};
     ghost use Rattle.rustc_parse_format.specs.Agreement.{Agree};
-    ghost use Rattle.rustc_parse_format.specs.Characters.{Text, behind_first, byte_length};
+    ghost use Rattle.rustc_parse_format.specs.Characters.{Text, behind_first, byte_length, is_nil};
     ghost use Rattle.std.specs.List.{filter};
     ghost use Rattle.rustc_parse_format.specs.Faults.{Keeps, add_errors, bare_fault, bare_message};
     ghost use Rattle.rustc_parse_format.specs.Faults.{is_front};
@@ -291,6 +291,15 @@ impl<'input> Parser<'input> {
             ≡ first_of self.now.world self.now.input (behind_first self.now.rest) }
     {
         self.reader.cursor.peek_place_ahead()
+    }
+
+    /// Returns whether the whole input was read. Unlike [`Parser::peek`], it looks at no place in
+    /// the source, and so takes the same time wherever the parser is.
+    #[inline(always)]
+    pub fn is_at_end(&self) -> bool
+        ensures { result ≡ is_nil self.now.rest }
+    {
+        self.reader.cursor.peek().is_none()
     }
 
     /// Returns how many bytes of the input were read: the byte offset of the next character, or the

@@ -9,6 +9,7 @@ use std::iter::FusedIterator;
 /// [`Parser::next`] returns: a piece, or `AllocError` if an allocation fails, and the parser is
 /// then unchanged. The iterator ends for good at the first call that returns `None`, and after the
 /// first error; [`Parser::pieces`] then returns a new one, which goes on.
+// It has no model: the prover follows the borrow of the parser by its name, which a model hides.
 #[derive(Drop)]
 pub struct Pieces<'a, 'input> {
     parser: &'a mut Parser<'input>,

@@ -1,5 +1,5 @@
 //! Tests of the library by the values that its calls take and return, where the tables and scripts
-//! of `tests_rows` show too little, and of `placeholder_check`.
+//! of `library_rows` show too little, and of `placeholder_check`.
 //!
 //! `values` has what is exported, the defaults, clones and equality, `pieces` the pieces
 //! themselves, `ends` where a text ends, `faults` very many errors, `literals` the calls that read

@@ -2,13 +2,10 @@
 use crate::proved::rustc_parse_format::types::Taken;
 use crate::shim::alloc::{AllocError, Global};
 use crate::{Argument, ParseError, ParseMode, Piece};
-use std::ops::Range;
 
 /// A parser over an input, which reads one piece at a time.
 pub struct Parser<'input> {
     parser: crate::Parser<'input>,
-    /// The byte length of the input.
-    length: usize,
 }
 
 impl<'input> Parser<'input> {
@@ -23,7 +20,6 @@ impl<'input> Parser<'input> {
     ) -> Result<Parser<'input>, AllocError> {
         Ok(Parser {
             parser: crate::Parser::new(input, style, snippet, appended_newline, mode),
-            length: input.len(),
         })
     }
 
@@ -48,14 +44,14 @@ impl<'input> Parser<'input> {
         Ok((taken, ()))
     }
 
-    /// Returns the next character without reading it, with its places.
-    pub fn peek(&self) -> Option<(Range<usize>, usize, char)> {
-        self.parser.peek()
+    /// Returns whether the whole input was read.
+    pub fn is_at_end(&self) -> bool {
+        self.parser.is_at_end()
     }
 
     /// Returns how many bytes of the input were read.
     pub fn position(&self) -> usize {
-        self.peek().map_or(self.length, |next| next.1)
+        self.parser.position()
     }
 
     /// Takes the errors of all calls so far out of the parser.

@@ -155,13 +155,6 @@ fn make_next<'a>(
     Ok(())
 }
 
-/// Returns whether a parser is at the end of its input.
-// ensures { result ≡ is_nil parser.now.rest }
-#[inline]
-fn is_at_end(parser: &Parser<'_>) -> bool {
-    parser.peek().is_none()
-}
-
 /// Makes a call of a parser, and leaves out the piece. Returns `Err` if an allocation fails.
 // ensures state { OnOk result (parser.new ≡ after parser.old (next_call parser.old)) }
 // ensures shorter { OnOk result (is_nil parser.old.rest ≡ false
@@ -189,7 +182,7 @@ pub fn errors_of(
     mode: ParseMode,
 ) -> Result<Vec<ParseError>, AllocError> {
     let mut parser = Parser::new(alloc, input, style, snippet, appended_newline, mode)?;
-    while !is_at_end(&parser) {
+    while !parser.is_at_end() {
         advance(&mut parser)?;
     }
     Ok(parser.take_errors())
@@ -225,7 +218,7 @@ fn edit_all(
         start: at,
         end: 0,
     };
-    while !is_at_end(parser) {
+    while !parser.is_at_end() {
         make_next(&mut edited, parser, &mut argument)?;
     }
     let rest = edited.rest;

@@ -1,4 +1,6 @@
-//! The entries of one list that are not in another.
+//! The entries of one list that are not in another. Sets of names are ordered, since a text may be
+//! hostile and the kit's hash has a fixed seed. Lists are filled by `push`: `collect` asks for more
+//! room first, and for less if that fails.
 
 // Extracted from crates/placeholder_check/src/entries.rt by tools/extract: not to be edited.
 // That source is proved, and each contract here is its. That this text means the same is tested:
@@ -29,7 +31,8 @@ pub fn members_from(
 }
 
 /// Returns the numbers below `end` that are not in a set, in ascending order. Allocates room for
-/// `room` numbers first; returns `Err` if an allocation fails.
+/// `room` numbers first, since `end` may be the greatest `usize`, and filling the memory before the
+/// failure would take minutes. Returns `Err` if an allocation fails.
 // ensures lacked { IfOk result
 //     (λ v. Lists (λ n. (n < end) × (contains nat_cmp set.now n ≡ false)) v.items) }
 // ensures empty { end ≡ 0 → room ≡ 0 → IsOk result }

