@@ -6,15 +6,23 @@ are made here.
 
 Each case compares standard output, standard error and the status with the answer. With no
 --program, the program is built first. The last line counts the cases that passed and failed, and
-the status is 0 only if each passed."""
+the status is 0 only if each passed.
 
+A list has a line for each case, with tabs between its columns. In those with bytes a backslash
+stands before n, t and r for LF, HT and CR, before itself, and before x and two hexadecimal digits
+for any byte that isn't part of a printable character. In the words, s after a backslash is a space
+inside a word, and e an empty word. A line that begins with # and a space is no case."""
+
+import argparse
 import os
+import re
 import subprocess
 import sys
+from concurrent.futures import ThreadPoolExecutor
+from pathlib import Path
 
-sys.dont_write_bytecode = True
-from cases import HERE, bytes_of, main, rows  # noqa: E402
-
+HERE = Path(__file__).resolve().parent
+NAMED = {"n": b"\n", "t": b"\t", "r": b"\r", "\\": b"\\", "s": b" ", "e": b""}
 LIMIT = 1048576
 SECONDS = 60
 # How many cases there are: one that is lost is a failure.
@@ -32,6 +40,21 @@ SAYS = {
 }
 
 
+def bytes_of(text):
+    def meant(found):
+        code, name, plain = found.groups()
+        if code:
+            return bytes([int(code, 16)])
+        if name is None:
+            return plain.encode()
+        if name not in NAMED:
+            raise ValueError(f"nothing known is behind a backslash: {found[0]!r}")
+        return NAMED[name]
+
+    parts = re.finditer(r"(?s)\\x([0-9a-fA-F]{2})|\\(.?)|([^\\]+)", text)
+    return b"".join(map(meant, parts))
+
+
 def listed(name, words, given, refusal, wanted, status):
     """A case of a list: its name, words, standard input, the name of what is on standard error,
     standard output and status."""
@@ -39,6 +62,20 @@ def listed(name, words, given, refusal, wanted, status):
         raise ValueError(f"no such refusal: {refusal}")
     words = [bytes_of(word) for word in words.split(" ")] if words else []
     return name, words, bytes_of(given), refusal, bytes_of(wanted), int(status)
+
+
+def listed_cases():
+    """The cases of all lists. A row that is not well formed ends the script."""
+    for path in sorted((HERE / "cases").glob("*.tsv")):
+        for number, line in enumerate(path.read_text(encoding="utf-8").split("\n"), 1):
+            columns = line.split("\t")
+            if line and not line.startswith("# "):
+                try:
+                    if len(columns) != 6:
+                        raise ValueError(f"{len(columns)} columns, and not 6")
+                    yield listed(*columns)
+                except ValueError as why:
+                    sys.exit(f"{path}:{number}: {why}")
 
 
 def made_cases():
@@ -93,11 +130,30 @@ def fault(program, words, given, refusal, wanted, status, fails=None):
     return "; ".join(f"{it}: {got!r:.500}, wanted {x!r:.500}" for it, got, x in pairs if got != x)
 
 
-def cases():
-    for path in sorted((HERE / "cases").glob("*.tsv")):
-        yield from rows(path, listed)
-    yield from made_cases()
+def main():
+    how = {"formatter_class": argparse.RawDescriptionHelpFormatter}
+    parser = argparse.ArgumentParser(description=__doc__, **how)
+    parser.add_argument("--program", metavar="FILE", help="the program to be run")
+    program = parser.parse_args().program
+    if not program:
+        how = {"stdin": subprocess.DEVNULL, "stdout": subprocess.PIPE}
+        program = subprocess.run([HERE.parent / "build"], **how).stdout.decode().strip()
+    cases = [*listed_cases(), *made_cases()]
+    why = "" if program else "the program was not built"
+    if len(cases) != CASES:
+        why = f"there are {len(cases)} cases, and not {CASES}"
+    if why:
+        print(f"replay: 0 passed, 1 failed: {why}")
+        return 1
+    program = os.path.abspath(program)
+    with ThreadPoolExecutor(os.cpu_count()) as pool:
+        found = list(pool.map(lambda case: fault(program, *case[1:]), cases))
+    failed = [(case, why) for case, why in zip(cases, found) if why]
+    for case, why in failed[:10]:
+        print(f"FAILED {case[0]}: {case[1:3]!r:.400}\n    {why}")
+    print(f"replay: {len(cases) - len(failed)} passed, {len(failed)} failed")
+    return 1 if failed else 0
 
 
 if __name__ == "__main__":
-    sys.exit(main(__doc__, "replay", CASES, cases(), fault))
+    sys.exit(main())

@@ -7,7 +7,7 @@ const path = require('path');
 const REPLAY = path.join(__dirname, '../replay');
 const NAMED = { n: 10, t: 9, r: 13, '\\': 92, s: 32 };
 
-/** The bytes of a column, as replay/cases.py says. */
+/** The bytes of a column, as replay/run.py says. */
 function bytesOf(column) {
   const parts = column.split(/(\\x..|\\.)/u).map((part) => {
     if (!part.startsWith('\\')) return Buffer.from(part);
