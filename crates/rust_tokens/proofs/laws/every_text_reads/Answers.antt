@@ -1,0 +1,5 @@
+use Rattle.rust_tokens.proofs.Readings.{reads-some}
+use Rattle.rust_tokens.proofs.laws.every_text_reads.Goals as goal
+
+pub returns : goal.returns
+returns c = reads-some

@@ -1,0 +1,5 @@
+use Rattle.rust_tokens.proofs.Readings.{reads-once}
+use Rattle.rust_tokens.proofs.laws.one_reading.Goals as goal
+
+pub returns : goal.returns
+returns c = reads-once

@@ -1,0 +1,32 @@
+use Rattle.std.proofs.Common.{rules, arith, [], refl}
+use Rattle.rust_tokens.proofs.Readings.{lexed-more, place-token}
+use Rattle.rust_tokens.proofs.lexer.tokens.Goals as goal
+
+pub loop-step-init : goal.loop-step-init
+loop-step-init c = record {
+  lexed = ([], refl, c.new-found.ensures.items, omega arith);
+  utf8 = search rules;
+}
+
+pub overflow_sub-token : goal.overflow_sub-token
+overflow_sub-token c = omega (arith, c.loop-step.invariant.lexed.3)
+
+pub overflow_sub-token-in-Some : goal.overflow_sub-token-in-Some
+overflow_sub-token-in-Some c =
+    let b = c.in-Some.ensures.begins in
+    omega (arith, c.loop-step.invariant.lexed.3, b.4, b.5)
+
+pub overflow_sub-token-in-Some-2 : goal.overflow_sub-token-in-Some-2
+overflow_sub-token-in-Some-2 c =
+    let b = c.in-Some.ensures.begins in
+    omega (arith, c.loop-step.invariant.lexed.3, b.4, b.5)
+
+pub loop-step-preserved : goal.loop-step-preserved
+loop-step-preserved c =
+    let b = c.in-Some.ensures.begins in
+    record {
+      lexed = rw (c.in_ok-push.ensures.items) (lexed-more _ _ _ _ b.0 _ c.loop-step.invariant.lexed b.1
+          (omega (arith, b.4, b.5))
+          (λ at h. place-token b.0 _ _ _ _ _ _ at b.2 b.3 b.4 b.5 h));
+      utf8 = search rules;
+    }
