@@ -12,6 +12,7 @@ use Rattle.rust_tokens.specs.declared.kinds.Kind.TheVariants.{RawLifetime, Binar
 use Rattle.rust_tokens.specs.declared.kinds.Kind.TheVariants.{DecimalInt, HexadecimalInt, Float, Char}
 use Rattle.rust_tokens.specs.declared.kinds.Kind.TheVariants.{Byte, Str, ByteStr, CStr, RawStr}
 use Rattle.rust_tokens.specs.declared.kinds.Kind.TheVariants.{RawByteStr, RawCStr, Punct, Unknown}
+use Rattle.rust_tokens.specs.declared.kinds.Kind.TheVariants.{Shebang, ByteOrderMark}
 use Rattle.rust_tokens.specs.Texts.{Text}
 use Rattle.rust_tokens.specs.Numbers.{IsPointed, IsFractional, IsScientific}
 use Rattle.rust_tokens.specs.Comments.{IsBlock}
@@ -74,6 +75,8 @@ body-first RawByteStr e b a x = raw 98 (codes "r") e b a x
 body-first RawCStr e b a x = raw 99 (codes "r") e b a x
 body-first Punct e b a x = first b _ x.3
 body-first Unknown e b a x = first b _ x.3
+body-first Shebang e b a x = absurd x
+body-first ByteOrderMark e b a x = absurd x
 
 some_bytes : (b : Text) → has_first b ≡ true → 0 < byte_length b
 some_bytes [] h = absurd (false≢true h)

@@ -1,6 +1,7 @@
 -- Where the tokens of a text are, in bytes.
-use Rattle.std.specs.Prelude.{ℕ, ◌+◌, List, [], ◌∷◌}
+use Rattle.std.specs.Prelude.{ℕ, true, ◌+◌, List, [], ◌∷◌, nat_lt, if◌then◌else◌}
 use Rattle.std.specs.Char.{len_utf8}
+use Rattle.rust_tokens.specs.declared.kinds.Kind.{Kind}
 use Rattle.rust_tokens.specs.declared.kinds.Token.{Token}
 use Rattle.rust_tokens.specs.Texts.{Text}
 use Rattle.rust_tokens.specs.Tokens.{Lexeme}
@@ -27,3 +28,17 @@ token_at at x = record {
 abbrev pub placed : ℕ → List Lexeme → List Token
 placed at [] = []
 placed at (x ∷ xs) = token_at at x ∷ placed (end_of at x) xs
+
+-- Where the last one ends.
+abbrev pub end_of_all : ℕ → List Lexeme → ℕ
+end_of_all at [] = at
+end_of_all at (x ∷ xs) = end_of_all (end_of at x) xs
+
+-- One token of this kind between two offsets, or none if they are the same.
+abbrev pub between : Kind → ℕ → ℕ → List Token
+between k a b = if nat_lt a b then record {
+  kind = k;
+  span = record { start = a; end = b };
+  suffix_start = b;
+  is_ended = true;
+} ∷ [] else []

@@ -59,6 +59,11 @@ pub enum Kind {
     Punct,
     /// One character that begins no token of another kind.
     Unknown,
+    /// The line `#!..` at the start of a file, without its LF: not where an attribute begins there,
+    /// that is, where `[` follows after white space and comments.
+    Shebang,
+    /// The byte order mark at the start of a file.
+    ByteOrderMark,
 }
 
 /// A token of a text.

@@ -1,7 +1,7 @@
 use denote.Shadow.{shadow}
 use denote.Text.{Utf8}
 use Rattle.std.proofs.Common.{length}
-use Rattle.rust_tokens.proofs.Readings.{Lexed}
+use Rattle.rust_tokens.proofs.Files.{Lexed}
 use Rattle.rust_tokens.proofs.lexer.tokens.Given as goal
 
 abbrev pub invariant-loop-step : goal.invariant-loop-step
