@@ -45,7 +45,7 @@ float b a (inl x) = first b _ (x.2 ∙ ap (λ t. t ++ codes ".") x.1.4)
 float b a (inr (inl x)) = first b _ (x.4 ∙ ap (λ t. t ++ (codes "." ++ x.1)) x.2.4)
 float b a (inr (inr x)) = first b _ (x.6 ∙ ap (λ t. t ++ (x.1 ++ x.2)) x.3.4)
 
-body-first : (k : Kind) (e : Bool) (b a : Text) → Stands k e b a → has_first b ≡ true
+pub body-first : (k : Kind) (e : Bool) (b a : Text) → Stands k e b a → has_first b ≡ true
 body-first Whitespace e b a x = first b _ x.1.4
 body-first LineComment e b a x = first b _ x.1.2
 body-first OuterLineDoc e b a x = first b _ x.1.2
@@ -82,7 +82,7 @@ some_bytes : (b : Text) → has_first b ≡ true → 0 < byte_length b
 some_bytes [] h = absurd (false≢true h)
 some_bytes (c ∷ t) h = omega (arith, len_utf8_bounds c)
 
-some_characters : (b : Text) → has_first b ≡ true → 0 < length b
+pub some_characters : (b : Text) → has_first b ≡ true → 0 < length b
 some_characters [] h = absurd (false≢true h)
 some_characters (c ∷ t) h = omega arith
 

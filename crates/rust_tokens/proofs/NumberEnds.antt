@@ -15,7 +15,7 @@ use Rattle.rust_tokens.specs.Openings.{first_opening}
 use Rattle.rust_tokens.specs.declared.kinds.Kind.TheVariants.{DecimalInt, Float}
 use Rattle.rust_tokens.specs.First.{Body, first_of, first_body, by_opening, first_number, first_zero}
 use Rattle.rust_tokens.specs.First.{first_decimal, fraction_or, behind_fraction, exponent_or}
-use Rattle.rust_tokens.proofs.Classes.{apart, behind-append, digit-starts, digit-space, digit-part}
+use Rattle.rust_tokens.proofs.Classes.{apart, behind-append, behind-more, digit-starts, digit-space, digit-part}
 use Rattle.rust_tokens.proofs.Basics.{not_false, no_pass, neither, and_no}
 
 pub unspaced : (c : ℕ) (t : Text) → is_space c ≡ false
@@ -77,7 +77,7 @@ decimal-found b a x =
     ∙ (ap (λ o. Some (fraction_or a o)) x.2 ∙ ap (λ o. Some (exponent_or DecimalInt a o)) x.3))
 
 -- Behind a point.
-at-point : (d : ℕ) (w u : Text) → is_digit d ≡ true → list_all is_digit_part w ≡ true
+pub at-point : (d : ℕ) (w u : Text) → is_digit d ≡ true → list_all is_digit_part w ≡ true
     → IsTrue (stops is_point_or_start u) → first_of (d ∷ (w ++ 46 ∷ u)) ≡ Some (behind_fraction u)
 at-point d w u y a s =
     at-decimal d w (46 ∷ u) y a refl (not-based d w u 46 a refl)
@@ -99,7 +99,7 @@ at-fraction fs u x s =
     ∙ ap (λ t. exponent_or Float t (behind_exponent t))
     (behind-append is_digit_part (x.0 ∷ x.1) u (and_from _ _ (digit-part x.0 x.2) x.3) s))
 
-digits-stop : (fs u : Text) → IsDigits fs → IsTrue (stops is_point_or_start (fs ++ u))
+pub digits-stop : (fs u : Text) → IsDigits fs → IsTrue (stops is_point_or_start (fs ++ u))
 digits-stop fs u x =
     rw x.4 (no_pass _ (rw (apart is_digit x.0 46 refl x.2) (digit-starts x.0 x.2)))
 
@@ -132,10 +132,10 @@ no-sign (c ∷ us) d u a y =
     cond-false (is_sign c) _ _
     (rw (apart is_underscore c 43 refl h, apart is_underscore c 45 refl h) refl)
 
--- What is behind an exponent is found.
-pub exponent-ends : (x a : Text) → IsExponent x → first_passes is_digit_part a ≡ false
-    → behind_exponent (x ++ a) ≡ Some a
-exponent-ends x a y s =
+-- What is behind an exponent, with all its digits, is found.
+exponent-ends : (x a : Text) → IsExponent x
+    → behind_exponent (x ++ a) ≡ Some (behind is_digit_part a)
+exponent-ends x a y =
     ap (λ t. behind_exponent (t ++ a)) y.10 ∙ (cond-true (is_exponent_mark y.0) _ _ y.5
     ∙ (ap (λ t. behind_digits (behind is_underscore (behind_sign t)))
     (append_assoc y.1 (y.2 ++ y.3 ∷ y.4) a
@@ -143,8 +143,8 @@ exponent-ends x a y s =
     ∙ (ap (λ t. behind_digits (behind is_underscore t)) (signed y.6)
     ∙ (ap (λ t. behind_digits t) (underscores-digit y.2 y.3 (y.4 ++ a) y.7 y.8)
     ∙ (cond-true (is_digit y.3) _ _ y.8
-    ∙ ap (λ t. Some t) (behind-append is_digit_part (y.3 ∷ y.4) a
-    (and_from _ _ (digit-part y.3 y.8) y.9) s))))))
+    ∙ ap (λ t. Some t) (behind-more is_digit_part (y.3 ∷ y.4) a
+    (and_from _ _ (digit-part y.3 y.8) y.9)))))))
   where
     signed : (y.1 ≡ []) ⊎ ((m : ℕ) × IsTrue (is_sign m) × (y.1 ≡ m ∷ []))
         → behind_sign (y.1 ++ (y.2 ++ y.3 ∷ (y.4 ++ a))) ≡ y.2 ++ y.3 ∷ (y.4 ++ a)
@@ -166,8 +166,9 @@ mark-facts c y = by_test (c == 101) refl y
 no-point : (c : ℕ) (t : Text) → (c == 46) ≡ false → behind_point (c ∷ t) ≡ None
 no-point c t e = rw e refl
 
-pub scientific-found : (b a : Text) → IsScientific b a → first_of (b ++ a) ≡ Some (Float, true, a)
-scientific-found b a x =
+pub scientific-behind : (b c a : Text) → IsScientific b c
+    → first_of (b ++ a) ≡ Some (Float, true, behind is_digit_part a)
+scientific-behind b c a x =
     ap (λ t. first_of (t ++ a)) (x.6 ∙ ap (λ t. t ++ (x.1 ++ x.2)) y.4)
     ∙ (ap (λ t. first_of (y.0 ∷ t)) (append_assoc y.1 (x.1 ++ x.2) a
     ∙ ap (λ t. y.1 ++ t) (append_assoc x.1 x.2 a)) ∙ by_fraction x.4)
@@ -185,14 +186,14 @@ scientific-found b a x =
     stop : first_passes is_digit_part (x.2 ++ a) ≡ false
     stop = ap (λ t. first_passes is_digit_part (t ++ a)) z.10 ∙ m.0
 
-    found : behind_exponent (x.2 ++ a) ≡ Some a
-    found = exponent-ends x.2 a z (not_false _ x.7)
+    found : behind_exponent (x.2 ++ a) ≡ Some (behind is_digit_part a)
+    found = exponent-ends x.2 a z
 
     no_point : behind_point (x.2 ++ a) ≡ None
     no_point = ap (λ t. behind_point (t ++ a)) z.10 ∙ no-point z.0 ((z.1 ++ (z.2 ++ z.3 ∷ z.4)) ++ a) m.1
 
     by_fraction : (x.1 ≡ []) ⊎ ((fs : Text) × IsDigits fs × (x.1 ≡ codes "." ++ fs))
-        → first_of (y.0 ∷ (y.1 ++ (x.1 ++ (x.2 ++ a)))) ≡ Some (Float, true, a)
+        → first_of (y.0 ∷ (y.1 ++ (x.1 ++ (x.2 ++ a)))) ≡ Some (Float, true, behind is_digit_part a)
     by_fraction (inl e) =
         ap (λ t. first_of (y.0 ∷ (y.1 ++ (t ++ (x.2 ++ a))))) e
         ∙ (at-decimal y.0 y.1 (x.2 ++ a) y.2 y.3 stop
@@ -204,3 +205,8 @@ scientific-found b a x =
         ap (λ t. first_of (y.0 ∷ (y.1 ++ (t ++ (x.2 ++ a))))) f.2
         ∙ (at-fractional y.0 y.1 f.0 (x.2 ++ a) y.2 y.3 f.1 stop
         ∙ ap (λ o. Some (exponent_or Float (x.2 ++ a) o)) found)
+
+pub scientific-found : (b a : Text) → IsScientific b a → first_of (b ++ a) ≡ Some (Float, true, a)
+scientific-found b a x =
+    scientific-behind b a a x
+    ∙ ap (λ t. Some (Float, true, t)) (behind-append is_digit_part [] a refl (not_false _ x.7))

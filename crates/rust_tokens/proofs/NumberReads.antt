@@ -55,7 +55,7 @@ digits-read (d ∷ t) m h = by_test (is_digit d) refl h
               ∙ ap (λ u. front is_digit_part t ++ u) same),
         )
 
-exponent-reads : (t m : Text) → behind_exponent t ≡ Some m
+pub exponent-reads : (t m : Text) → behind_exponent t ≡ Some m
     → (x : Text) × IsExponent x × IsTrue (stops is_digit_part m) × (t ≡ x ++ m)
 exponent-reads [] m h = absurd (none-some m h)
 exponent-reads (c ∷ t) m h = by_test (is_exponent_mark c) refl h
@@ -76,7 +76,7 @@ exponent-reads (c ∷ t) m h = by_test (is_exponent_mark c) refl h
               ∙ sym (append_assoc s.0 (us ++ x.0 ∷ x.1) m))),
         )
 
-point-reads : (t m : Text) → behind_point t ≡ Some m
+pub point-reads : (t m : Text) → behind_point t ≡ Some m
     → (t ≡ 46 ∷ m) × IsTrue (stops is_point_or_start m)
 point-reads [] m h = absurd (none-some m h)
 point-reads (c ∷ t) m h = by_tests (c == 46) (stops is_point_or_start t) refl refl h

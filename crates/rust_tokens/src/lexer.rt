@@ -2,6 +2,7 @@
 
 ghost use Rattle.std.specs.Prelude.{◌≡◌, ◌+◌, ◌<◌, ◌≤◌, ◌-◌, ◌++◌, ℕ, [], IfOk, IfSome, IsFalse};
 ghost use Rattle.std.specs.Prelude.{IsNone, IsTrue, List, chars, length};
+ghost use Rattle.rust_tokens.specs.Covers.{Covers};
 ghost use Rattle.rust_tokens.specs.Files.{IsMarked, IsShebanged, OpensAttribute, ReadsFile, is_gap};
 ghost use Rattle.rust_tokens.specs.Placed.{between, byte_length, end_of_all, placed, token_at};
 ghost use Rattle.rust_tokens.specs.Texts.{Text};
@@ -148,6 +149,7 @@ fn add_unless_empty(
 pub fn tokens(alloc: Global, text: &str) -> Result<Vec<Token>, AllocError>
     ensures reads { IfOk result (λ v. (xs : List Lexeme) × ReadsFile (chars text.now) xs
         × (v.items ≡ placed 0 xs)) }
+    ensures covers { IfOk result (λ v. Covers 0 v.items (length text.now)) }
 {
     let unmarked = behind_mark(text);
     let mark_end = text.len() - unmarked.len();

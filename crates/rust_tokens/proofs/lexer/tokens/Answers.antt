@@ -1,4 +1,5 @@
 use Rattle.std.proofs.Common.{rules, arith, [], refl}
+use Rattle.rust_tokens.proofs.Covering.{lexed-covers}
 use Rattle.rust_tokens.proofs.Files.{lexed-more, lexed-start}
 use Rattle.rust_tokens.proofs.Readings.{place-token}
 use Rattle.rust_tokens.proofs.lexer.tokens.Goals as goal
@@ -39,3 +40,8 @@ loop-step-init c =
           ) refl);
       utf8 = search rules;
     }
+
+pub returns-clause-covers : goal.returns-clause-covers
+returns-clause-covers c =
+    lexed-covers _ _ _ c.loop-step.invariant.lexed c.loop-step.invariant.utf8
+    (c.in_default.ensures.none refl)
