@@ -8,16 +8,19 @@ use Rattle.std.proofs.lemmas.Option.{none-some, same_Some}
 use Rattle.rust_tokens.specs.Texts.{Text, strip}
 use Rattle.rust_tokens.specs.Runs.{first_passes, stops, behind, IsWord, is_id_start, is_id_continue}
 use Rattle.rust_tokens.specs.Runs.{is_apostrophe}
-use Rattle.rust_tokens.specs.Characters.{is_plain, is_in_escape, IsCharTail, behind_escape, behind_char}
+use Rattle.rust_tokens.specs.Characters.{is_plain, is_in_escape, IsCharTail, behind_escape}
+use Rattle.rust_tokens.specs.Characters.{behind_char}
 use Rattle.rust_tokens.specs.Characters.{behind_name, behind_raw_name, unless_apostrophe}
 use Rattle.rust_tokens.proofs.Classes.{starts-back, goes_on-tick, apart, behind-append}
-use Rattle.rust_tokens.proofs.Basics.{not_false, front, front-behind, all-front, stops-behind, strip-reads}
+use Rattle.rust_tokens.proofs.Basics.{not_false, front, front-behind, all-front, stops-behind}
+use Rattle.rust_tokens.proofs.Basics.{strip-reads}
 
 -- What is behind a character and an apostrophe is found.
 pub char-ends : (s a : Text) → IsCharTail s → behind_char (s ++ a) ≡ Some a
 char-ends s a (inl x) =
     ap (λ t. behind_char (t ++ a)) x.2
-    ∙ (cond-false (x.0 == 92) _ _ (apart is_plain x.0 92 refl x.1) ∙ cond-true (is_plain x.0) _ _ x.1)
+    ∙ (cond-false (x.0 == 92) _ _ (apart is_plain x.0 92 refl x.1)
+    ∙ cond-true (is_plain x.0) _ _ x.1)
 char-ends s a (inr x) =
     ap (λ t. behind_char (t ++ a)) x.3
     ∙ ap (λ t. strip 39 t) (ap (λ t. behind is_in_escape t) (append_assoc x.1 (codes "'") a)

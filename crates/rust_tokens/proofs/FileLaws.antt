@@ -1,5 +1,6 @@
 -- Each file reads as tokens, and in one way.
-use Rattle.std.proofs.Common.{◌≡◌, ℕ, zero, suc, ◌<◌, ◌≤◌, Bool, true, false, ◌&&◌, ◌++◌, List, [], ◌∷◌}
+use Rattle.std.proofs.Common.{◌≡◌, ℕ, zero, suc, ◌<◌, ◌≤◌, Bool, true, false, ◌&&◌, ◌++◌, List, []}
+use Rattle.std.proofs.Common.{◌∷◌}
 use Rattle.std.proofs.Common.{refl, ap, sym, ◌∙◌, inl, inr, subst, length, arith, cond}
 use Rattle.std.specs.Prelude.{IsTrue, codes, ◌==◌}
 use Rattle.std.specs.List.{list_all}
@@ -11,7 +12,8 @@ use Rattle.rust_tokens.specs.Tokens.{is_literal, Lexeme, Begins, ReadsTo, Reads}
 use Rattle.rust_tokens.specs.Files.{is_gap, is_bracket, is_mark, OpensAttribute, mark, shebang}
 use Rattle.rust_tokens.specs.Files.{IsMarked, IsShebanged, ReadsFile}
 use Rattle.rust_tokens.specs.First.{Body, first_body, behind_suffix}
-use Rattle.rust_tokens.proofs.Basics.{not_false, no_pass, front, front-behind, all-front, stops-behind}
+use Rattle.rust_tokens.proofs.Basics.{not_false, no_pass, front, front-behind, all-front}
+use Rattle.rust_tokens.proofs.Basics.{stops-behind}
 use Rattle.rust_tokens.proofs.Classes.{behind-append}
 use Rattle.rust_tokens.proofs.Files.{Passed, gaps-once}
 use Rattle.rust_tokens.proofs.NotEmpty.{less-left}

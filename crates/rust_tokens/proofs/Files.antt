@@ -1,6 +1,8 @@
 -- The start of a file.
-use Rattle.std.proofs.Common.{◌≡◌, ℕ, zero, suc, ◌+◌, ◌-◌, ◌<◌, ◌≤◌, Bool, true, false, ◌++◌, List, [], ◌∷◌, cond}
-use Rattle.std.proofs.Common.{Some, None, Option, refl, ap, sym, ◌∙◌, inl, inr, subst, chars, length, arith}
+use Rattle.std.proofs.Common.{◌≡◌, ℕ, zero, suc, ◌+◌, ◌-◌, ◌<◌, ◌≤◌, Bool, true, false, ◌++◌, List}
+use Rattle.std.proofs.Common.{[], ◌∷◌, cond}
+use Rattle.std.proofs.Common.{Some, None, Option, refl, ap, sym, ◌∙◌, inl, inr, subst, chars}
+use Rattle.std.proofs.Common.{length, arith}
 use Rattle.std.proofs.Common.{append_assoc, IsUtf8}
 use Rattle.std.specs.Prelude.{IsTrue, IsFalse, is_some, codes, nat_lt, ◌==◌, option_map}
 use Rattle.std.specs.List.{list_all}
@@ -17,10 +19,12 @@ use Rattle.rust_tokens.specs.Files.{is_gap, is_bracket, is_mark, OpensAttribute,
 use Rattle.rust_tokens.specs.Files.{IsMarked, IsShebanged, ReadsFile}
 use Rattle.rust_tokens.specs.First.{Body, first_body, first_of}
 use Rattle.rust_tokens.specs.Placed.{byte_length, end_of, end_of_all, token_at, placed, between}
-use Rattle.rust_tokens.proofs.Basics.{no_pass, front, front-behind, all-front, stops-behind, strip-reads}
+use Rattle.rust_tokens.proofs.Basics.{no_pass, front, front-behind, all-front, stops-behind}
+use Rattle.rust_tokens.proofs.Basics.{strip-reads}
 use Rattle.rust_tokens.proofs.Classes.{start_at}
 use Rattle.rust_tokens.proofs.NotEmpty.{body-bytes}
-use Rattle.rust_tokens.proofs.Readings.{reads-more, placed-more, end-more, bytes-join, reads-once, not-at-end}
+use Rattle.rust_tokens.proofs.Readings.{reads-more, placed-more, end-more, bytes-join, reads-once}
+use Rattle.rust_tokens.proofs.Readings.{not-at-end}
 use Rattle.rust_tokens.proofs.Suffixes.{begins-once, begins-first}
 
 -- The tokens that were found of a file, up to the bytes that are left.
@@ -101,9 +105,11 @@ lexed-start whole unmarked rest found ms ss m p e s q l f =
       s,
       refl,
       f ∙ (ap (λ r. between ByteOrderMark 0 (length whole - length unmarked) ++ r)
-          (rw (start, end) refl) ∙ (ap (λ r. r ++ between Shebang at (at + (length unmarked - length rest))) (sym p)
+          (rw (start, end) refl) ∙ (ap (λ r. r ++ between Shebang at (at +
+          (length unmarked - length rest))) (sym p)
           ∙ (ap (λ r. placed 0 ms ++ r) (sym y.0)
-          ∙ sym (placed-append 0 ms (ss ++ []) ∙ ap (λ r. placed 0 ms ++ placed at r) (append_none ss))))),
+          ∙ sym (placed-append 0 ms (ss ++ []) ∙ ap (λ r. placed 0 ms ++ placed at r)
+          (append_none ss))))),
       omega (arith, e, n, z),
     )
 
@@ -125,7 +131,8 @@ pub marked : (whole rest : List ℕ) → IsUtf8 whole → IsUtf8 rest
     × (placed 0 xs ≡ between ByteOrderMark 0 (length whole - length rest))
     × (end_of_all 0 xs + length rest ≡ length whole)
 marked whole rest u v h =
-    let j : chars whole ≡ 0xFEFF ∷ chars rest = strip-reads 0xFEFF (chars whole) (chars rest) (sym h) in
+    let j : chars whole ≡ 0xFEFF ∷ chars rest = strip-reads 0xFEFF (chars whole) (chars rest)
+    (sym h) in
     let n : length whole ≡ 3 + length rest = bytes-join whole rest (0xFEFF ∷ []) u v j in
     let d : length whole - length rest ≡ 3 = omega (arith, n) in (
       mark ∷ [],
@@ -163,7 +170,8 @@ bracket-first (c ∷ t) r x h b =
     let f : first_of (91 ∷ t) ≡ Some (x.kind, x.is_ended, x.suffix ++ r) =
     ap (λ d. first_of (d ∷ t)) (sym e) ∙ begins-first x (c ∷ t) r b in
     let g : ◌≡◌ {A = Body} (Punct, true, t) (x.kind, x.is_ended, x.suffix ++ r) =
-    same_Some _ _ (ap (λ z. Some z) (sym (cond-false (is_id_start 91) _ _ (start_at 91 (omega arith)))) ∙ f) in
+    same_Some _ _ (ap (λ z. Some z) (sym (cond-false (is_id_start 91) _ _ (start_at 91
+    (omega arith)))) ∙ f) in
     ap (λ z. is_gap z.0) (sym g)
 
 -- Gaps up to a text that begins with none, and gaps up to a bracket, end at the same place.

@@ -1,19 +1,23 @@
 -- An opening ends behind the word that it begins with.
-use Rattle.std.proofs.Common.{◌≡◌, ℕ, ◌+◌, ◌≤◌, Bool, true, false, ◌&&◌, ◌++◌, cond, [], ◌∷◌, ◌⊎◌, inl, inr}
+use Rattle.std.proofs.Common.{◌≡◌, ℕ, ◌+◌, ◌≤◌, Bool, true, false, ◌&&◌, ◌++◌, cond, [], ◌∷◌, ◌⊎◌}
+use Rattle.std.proofs.Common.{inl, inr}
 use Rattle.std.proofs.Common.{Option, Some, None, refl, ap, sym, ◌∙◌, append_assoc, subst, length}
 use Rattle.std.proofs.Common.{length-append, arith}
 use Rattle.std.specs.Prelude.{◌==◌, codes, flat_map, replicate, option_map}
 use Rattle.std.specs.List.{list_all}
-use Rattle.std.proofs.lemmas.Bool.{eqb-true, false≢true, and_parts, cond_both, cond-true, cond-false}
+use Rattle.std.proofs.lemmas.Bool.{eqb-true, false≢true, and_parts, cond_both, cond-true}
+use Rattle.std.proofs.lemmas.Bool.{cond-false}
 use Rattle.std.proofs.lemmas.Option.{none-some}
 use Rattle.rust_tokens.specs.Texts.{Text, strip, or}
 use Rattle.rust_tokens.specs.Runs.{behind, count, is_id_start, is_id_continue, is_hash}
 use Rattle.rust_tokens.specs.Strings.{spelling, behind_string}
 use Rattle.rust_tokens.specs.RawStrings.{behind_raw}
 use Rattle.rust_tokens.specs.Characters.{behind_char}
-use Rattle.rust_tokens.specs.Openings.{first_opening, raw_opening, word_opening, byte_opening, c_opening}
+use Rattle.rust_tokens.specs.Openings.{first_opening, raw_opening, word_opening, byte_opening}
+use Rattle.rust_tokens.specs.Openings.{c_opening}
 use Rattle.rust_tokens.specs.declared.kinds.Kind.{Kind}
-use Rattle.rust_tokens.specs.declared.kinds.Kind.TheVariants.{Str, ByteStr, CStr, RawStr, RawByteStr}
+use Rattle.rust_tokens.specs.declared.kinds.Kind.TheVariants.{Str, ByteStr, CStr, RawStr}
+use Rattle.rust_tokens.specs.declared.kinds.Kind.TheVariants.{RawByteStr}
 use Rattle.rust_tokens.specs.declared.kinds.Kind.TheVariants.{RawCStr, Byte}
 use Rattle.rust_tokens.specs.declared.openings.Opening.{Opening}
 use Rattle.rust_tokens.specs.declared.openings.Opening.TheVariants.{Quote, Raw, ByteQuote, RawWord}
@@ -87,7 +91,8 @@ raw-inside : (p : Text) (k : Kind) (t : Text) → Inside (p ++ t) (raw_opening k
 raw-inside p k [] = tt
 raw-inside p k (d ∷ t) = by_quote (strip 34 (behind is_hash (d ∷ t))) refl
   where
-    no_word : (b : Bool) (u : Text) → (d == 35) ≡ b → strip 34 (cond b (behind is_hash t) (d ∷ t)) ≡ Some u
+    no_word : (b : Bool) (u : Text) → (d == 35) ≡ b
+        → strip 34 (cond b (behind is_hash t) (d ∷ t)) ≡ Some u
         → is_id_continue d ≡ false
     no_word true u e h = ap (λ c. is_id_continue c) (eqb-true d 35 e) ∙ goes_on-hash
     no_word false u e h =
@@ -145,7 +150,8 @@ byte-inside (c ∷ t) =
     (λ y. at (Some (ByteQuote, t)) (codes "b") t c 39 y
     (codes "b", 39, t, refl, goes_on-tick, byte-short t))
     (λ n. cond_both (c == 114) (raw_opening RawByteStr t) None (λ o. Inside (98 ∷ c ∷ t) o)
-    (λ y. at (raw_opening RawByteStr t) (codes "b") t c 114 y (raw-inside (codes "br") RawByteStr t))
+    (λ y. at (raw_opening RawByteStr t) (codes "b") t c 114 y (raw-inside
+    (codes "br") RawByteStr t))
     (λ n. tt)))
 
 c-inside : (t : Text) → Inside (99 ∷ t) (c_opening t)

@@ -1,15 +1,19 @@
 -- No token is empty.
-use Rattle.std.proofs.Common.{◌≡◌, ℕ, ◌+◌, ◌<◌, ◌≤◌, Bool, true, false, ◌++◌, [], ◌∷◌, inl, inr, ◌⊎◌}
+use Rattle.std.proofs.Common.{◌≡◌, ℕ, ◌+◌, ◌<◌, ◌≤◌, Bool, true, false, ◌++◌, [], ◌∷◌, inl, inr}
+use Rattle.std.proofs.Common.{◌⊎◌}
 use Rattle.std.proofs.Common.{refl, ap, ◌∙◌, length, length-append, arith}
 use Rattle.std.specs.Prelude.{codes}
 use Rattle.std.proofs.lemmas.Bool.{false≢true}
 use Rattle.std.proofs.lemmas.Str.{len_utf8_bounds}
 use Rattle.rust_tokens.specs.declared.kinds.Kind.{Kind}
 use Rattle.rust_tokens.specs.declared.kinds.Kind.TheVariants.{Whitespace, LineComment, OuterLineDoc}
-use Rattle.rust_tokens.specs.declared.kinds.Kind.TheVariants.{InnerLineDoc, BlockComment, OuterBlockDoc}
-use Rattle.rust_tokens.specs.declared.kinds.Kind.TheVariants.{InnerBlockDoc, Ident, RawIdent, Lifetime}
+use Rattle.rust_tokens.specs.declared.kinds.Kind.TheVariants.{InnerLineDoc, BlockComment}
+use Rattle.rust_tokens.specs.declared.kinds.Kind.TheVariants.{OuterBlockDoc}
+use Rattle.rust_tokens.specs.declared.kinds.Kind.TheVariants.{InnerBlockDoc, Ident, RawIdent}
+use Rattle.rust_tokens.specs.declared.kinds.Kind.TheVariants.{Lifetime}
 use Rattle.rust_tokens.specs.declared.kinds.Kind.TheVariants.{RawLifetime, BinaryInt, OctalInt}
-use Rattle.rust_tokens.specs.declared.kinds.Kind.TheVariants.{DecimalInt, HexadecimalInt, Float, Char}
+use Rattle.rust_tokens.specs.declared.kinds.Kind.TheVariants.{DecimalInt, HexadecimalInt, Float}
+use Rattle.rust_tokens.specs.declared.kinds.Kind.TheVariants.{Char}
 use Rattle.rust_tokens.specs.declared.kinds.Kind.TheVariants.{Byte, Str, ByteStr, CStr, RawStr}
 use Rattle.rust_tokens.specs.declared.kinds.Kind.TheVariants.{RawByteStr, RawCStr, Punct, Unknown}
 use Rattle.rust_tokens.specs.declared.kinds.Kind.TheVariants.{Shebang, ByteOrderMark}
@@ -93,7 +97,8 @@ body-bytes x whole r b =
 -- Less is left behind a token.
 pub less-left : (x : Lexeme) (whole r : Text) → Begins x whole r → length r < length whole
 less-left x whole r b =
-    let some = some_characters x.body (body-first x.kind x.is_ended x.body (x.suffix ++ r) b.stands) in
+    let some = some_characters x.body (body-first x.kind x.is_ended x.body
+    (x.suffix ++ r) b.stands) in
     let all : length whole ≡ length x.body + length (x.suffix ++ r) =
     ap (λ t. length t) b.joins ∙ length-append x.body (x.suffix ++ r) in
     let more : length (x.suffix ++ r) ≡ length x.suffix + length r = length-append x.suffix r in

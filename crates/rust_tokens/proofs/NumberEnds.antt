@@ -1,5 +1,6 @@
 -- Where numbers end.
-use Rattle.std.proofs.Common.{◌≡◌, ℕ, Bool, true, false, ◌&&◌, ◌||◌, ◌++◌, cond, [], ◌∷◌, inl, inr, ◌⊎◌}
+use Rattle.std.proofs.Common.{◌≡◌, ℕ, Bool, true, false, ◌&&◌, ◌||◌, ◌++◌, cond, [], ◌∷◌, inl, inr}
+use Rattle.std.proofs.Common.{◌⊎◌}
 use Rattle.std.proofs.Common.{Option, Some, None, refl, ap, sym, ◌∙◌, append_assoc}
 use Rattle.std.specs.Prelude.{◌==◌, codes, IsTrue}
 use Rattle.std.specs.List.{list_all}
@@ -8,14 +9,18 @@ use Rattle.std.proofs.lemmas.Option.{none-some, same_Some}
 use Rattle.rust_tokens.specs.Texts.{Text}
 use Rattle.rust_tokens.specs.Runs.{first_passes, stops, behind, is_space, is_id_start, is_digit}
 use Rattle.rust_tokens.specs.Runs.{is_digit_part, is_underscore}
-use Rattle.rust_tokens.specs.Numbers.{is_exponent_mark, is_sign, is_point_or_start, IsDigits, IsExponent}
-use Rattle.rust_tokens.specs.Numbers.{behind_sign, behind_digits, behind_exponent, behind_point, is_based}
+use Rattle.rust_tokens.specs.Numbers.{is_exponent_mark, is_sign, is_point_or_start, IsDigits}
+use Rattle.rust_tokens.specs.Numbers.{IsExponent}
+use Rattle.rust_tokens.specs.Numbers.{behind_sign, behind_digits, behind_exponent, behind_point}
+use Rattle.rust_tokens.specs.Numbers.{is_based}
 use Rattle.rust_tokens.specs.Numbers.{IsDecimal, IsPointed, IsFractional, IsScientific}
 use Rattle.rust_tokens.specs.Openings.{first_opening}
 use Rattle.rust_tokens.specs.declared.kinds.Kind.TheVariants.{DecimalInt, Float}
-use Rattle.rust_tokens.specs.First.{Body, first_of, first_body, by_opening, first_number, first_zero}
+use Rattle.rust_tokens.specs.First.{Body, first_of, first_body, by_opening, first_number}
+use Rattle.rust_tokens.specs.First.{first_zero}
 use Rattle.rust_tokens.specs.First.{first_decimal, fraction_or, behind_fraction, exponent_or}
-use Rattle.rust_tokens.proofs.Classes.{apart, behind-append, behind-more, digit-starts, digit-space, digit-part}
+use Rattle.rust_tokens.proofs.Classes.{apart, behind-append, behind-more, digit-starts}
+use Rattle.rust_tokens.proofs.Classes.{digit-space, digit-part}
 use Rattle.rust_tokens.proofs.Basics.{not_false, no_pass, neither, and_no}
 
 pub unspaced : (c : ℕ) (t : Text) → is_space c ≡ false
@@ -47,7 +52,8 @@ unbased d (c ∷ t) h = by_test (d == 48) h
     by_test true h =
         let x = neither (c == 98) _ h in
         let y = neither (c == 111) _ x.1 in
-        cond-false (c == 98) _ _ x.0 ∙ (cond-false (c == 111) _ _ y.0 ∙ cond-false (c == 120) _ _ y.1)
+        cond-false (c == 98) _ _ x.0 ∙ (cond-false (c == 111) _ _ y.0
+        ∙ cond-false (c == 120) _ _ y.1)
 
 -- A number whose digits end where u begins.
 at-decimal : (d : ℕ) (w u : Text) → is_digit d ≡ true → list_all is_digit_part w ≡ true
@@ -190,7 +196,8 @@ scientific-behind b c a x =
     found = exponent-ends x.2 a z
 
     no_point : behind_point (x.2 ++ a) ≡ None
-    no_point = ap (λ t. behind_point (t ++ a)) z.10 ∙ no-point z.0 ((z.1 ++ (z.2 ++ z.3 ∷ z.4)) ++ a) m.1
+    no_point = ap (λ t. behind_point (t ++ a)) z.10
+        ∙ no-point z.0 ((z.1 ++ (z.2 ++ z.3 ∷ z.4)) ++ a) m.1
 
     by_fraction : (x.1 ≡ []) ⊎ ((fs : Text) × IsDigits fs × (x.1 ≡ codes "." ++ fs))
         → first_of (y.0 ∷ (y.1 ++ (x.1 ++ (x.2 ++ a)))) ≡ Some (Float, true, behind is_digit_part a)

@@ -1,16 +1,21 @@
 -- What is found of a number is one by the grammar.
-use Rattle.std.proofs.Common.{◌≡◌, ℕ, Bool, true, false, ◌&&◌, ◌||◌, ◌++◌, cond, [], ◌∷◌, inl, inr, ◌⊎◌}
+use Rattle.std.proofs.Common.{◌≡◌, ℕ, Bool, true, false, ◌&&◌, ◌||◌, ◌++◌, cond, [], ◌∷◌, inl, inr}
+use Rattle.std.proofs.Common.{◌⊎◌}
 use Rattle.std.proofs.Common.{Option, Some, None, refl, ap, sym, ◌∙◌, append_assoc, subst}
 use Rattle.std.specs.Prelude.{◌==◌, codes, IsTrue}
 use Rattle.std.specs.List.{list_all}
 use Rattle.std.proofs.lemmas.Bool.{eqb-true, false≢true, and_parts, cond-true, cond_both}
 use Rattle.std.proofs.lemmas.Option.{none-some, same_Some}
 use Rattle.rust_tokens.specs.Texts.{Text}
-use Rattle.rust_tokens.specs.Runs.{first_passes, stops, behind, is_digit, is_digit_part, is_hex_part}
+use Rattle.rust_tokens.specs.Runs.{first_passes, stops, behind, is_digit, is_digit_part}
+use Rattle.rust_tokens.specs.Runs.{is_hex_part}
 use Rattle.rust_tokens.specs.Runs.{is_underscore}
-use Rattle.rust_tokens.specs.Numbers.{is_exponent_mark, is_sign, is_point_or_start, IsDigits, IsExponent}
-use Rattle.rust_tokens.specs.Numbers.{behind_sign, behind_digits, behind_exponent, behind_point, is_based}
-use Rattle.rust_tokens.specs.declared.kinds.Kind.TheVariants.{DecimalInt, Float, BinaryInt, OctalInt}
+use Rattle.rust_tokens.specs.Numbers.{is_exponent_mark, is_sign, is_point_or_start, IsDigits}
+use Rattle.rust_tokens.specs.Numbers.{IsExponent}
+use Rattle.rust_tokens.specs.Numbers.{behind_sign, behind_digits, behind_exponent, behind_point}
+use Rattle.rust_tokens.specs.Numbers.{is_based}
+use Rattle.rust_tokens.specs.declared.kinds.Kind.TheVariants.{DecimalInt, Float, BinaryInt}
+use Rattle.rust_tokens.specs.declared.kinds.Kind.TheVariants.{OctalInt}
 use Rattle.rust_tokens.specs.declared.kinds.Kind.TheVariants.{HexadecimalInt}
 use Rattle.rust_tokens.specs.Tokens.{Stands}
 use Rattle.rust_tokens.specs.First.{Body, first_number, first_zero, first_decimal, fraction_or}
@@ -41,7 +46,8 @@ digits-read (d ∷ t) m h = by_test (is_digit d) refl h
     by_test : (b : Bool) → is_digit d ≡ b
         → cond b (Some (behind is_digit_part (d ∷ t))) None ≡ Some m
         → (e : ℕ) × (w : Text) × IsTrue (is_digit e)
-        × IsTrue (list_all is_digit_part w) × IsTrue (stops is_digit_part m) × (d ∷ t ≡ e ∷ (w ++ m))
+        × IsTrue (list_all is_digit_part w) × IsTrue (stops is_digit_part m)
+        × (d ∷ t ≡ e ∷ (w ++ m))
     by_test false e h = absurd (none-some m h)
     by_test true e h =
         let same : behind is_digit_part t ≡ m =

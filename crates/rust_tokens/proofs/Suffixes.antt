@@ -1,5 +1,6 @@
 -- Tokens with their suffixes: each text begins with exactly one.
-use Rattle.std.proofs.Common.{◌≡◌, ℕ, Bool, true, false, not, ◌&&◌, ◌++◌, cond, [], ◌∷◌, inl, inr, ◌⊎◌}
+use Rattle.std.proofs.Common.{◌≡◌, ℕ, Bool, true, false, not, ◌&&◌, ◌++◌, cond, [], ◌∷◌, inl, inr}
+use Rattle.std.proofs.Common.{◌⊎◌}
 use Rattle.std.proofs.Common.{Option, Some, None, refl, ap, sym, ◌∙◌, append_assoc, subst}
 use Rattle.std.specs.Prelude.{IsTrue}
 use Rattle.std.proofs.lemmas.Bool.{cond-true, cond-false}
@@ -10,7 +11,8 @@ use Rattle.rust_tokens.specs.Texts.{Text}
 use Rattle.rust_tokens.specs.Runs.{stops, behind, IsWord, is_id_start, is_id_continue}
 use Rattle.rust_tokens.specs.Tokens.{Stands, is_literal, IsSuffix, Lexeme, Begins}
 use Rattle.rust_tokens.specs.First.{Body, first_body, first_of, behind_suffix}
-use Rattle.rust_tokens.proofs.Basics.{not_false, no_pass, front, front-behind, all-front, stops-behind}
+use Rattle.rust_tokens.proofs.Basics.{not_false, no_pass, front, front-behind, all-front}
+use Rattle.rust_tokens.proofs.Basics.{stops-behind}
 use Rattle.rust_tokens.proofs.Classes.{behind-append}
 use Rattle.rust_tokens.proofs.Firsts.{token-found}
 use Rattle.rust_tokens.proofs.Found.{begins-body}
@@ -37,7 +39,11 @@ suffix-reads true (c ∷ t) = by_test (is_id_start c) refl
         × (c ∷ t ≡ s ++ cond b (behind is_id_continue t) (c ∷ t))
     by_test true e = (
       c ∷ front is_id_continue t,
-      inr ((c, front is_id_continue t, e, all-front is_id_continue t, refl), stops-behind is_id_continue t),
+      inr (
+        (c, front is_id_continue t, e, all-front is_id_continue t, refl),
+        stops-behind
+            is_id_continue t,
+      ),
       ap (λ u. c ∷ u) (front-behind is_id_continue t),
     )
     by_test false e = ([], inl (refl, no_pass _ e), refl)

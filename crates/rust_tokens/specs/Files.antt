@@ -1,8 +1,9 @@
--- The tokens of a file: a byte order mark and a shebang may stand in front. The public rule is in the
--- Rust Reference, input format: a byte order mark at the start is removed; then SHEBANG : `#!` ~LF*,
--- where (WHITESPACE | LINE_COMMENT | BLOCK_COMMENT)* `[` does not follow the `#!`.
+-- The tokens of a file: a byte order mark and a shebang may stand in front. The public rule is in
+-- the Rust Reference, input format: a byte order mark at the start is removed; then SHEBANG : `#!`
+-- ~LF*, where (WHITESPACE | LINE_COMMENT | BLOCK_COMMENT)* `[` does not follow the `#!`.
 use Prim.Native.Char.{code}
-use Rattle.std.specs.Prelude.{◌≡◌, ℕ, Bool, true, false, ◌==◌, ◌++◌, ◌⊎◌, IsTrue, List, [], ◌∷◌, codes}
+use Rattle.std.specs.Prelude.{◌≡◌, ℕ, Bool, true, false, ◌==◌, ◌++◌, ◌⊎◌, IsTrue, List, [], ◌∷◌}
+use Rattle.std.specs.Prelude.{codes}
 use Rattle.std.specs.List.{list_all}
 use Rattle.rust_tokens.specs.declared.kinds.Kind.{Kind}
 use Rattle.rust_tokens.specs.declared.kinds.Kind.TheVariants.{Whitespace, LineComment, BlockComment}
@@ -18,9 +19,11 @@ is_gap LineComment = true
 is_gap BlockComment = true
 is_gap k = false
 
+-- `[`
 abbrev pub is_bracket : ℕ → Bool
 is_bracket c = c == code "["
 
+-- The byte order mark.
 abbrev pub is_mark : ℕ → Bool
 is_mark c = c == 0xFEFF
 
@@ -29,6 +32,7 @@ abbrev pub OpensAttribute : Text → Type 0
 OpensAttribute t = (xs : List Lexeme) × (r : Text) × ReadsTo t xs r
     × IsTrue (list_all (λ x. is_gap x.kind) xs) × IsTrue (first_passes is_bracket r)
 
+-- The byte order mark as a token.
 abbrev pub mark : Lexeme
 mark = record { kind = ByteOrderMark; is_ended = true; body = 0xFEFF ∷ []; suffix = [] }
 

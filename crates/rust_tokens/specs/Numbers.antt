@@ -14,9 +14,11 @@ use Rattle.rust_tokens.specs.Texts.{Text}
 use Rattle.rust_tokens.specs.Runs.{first_passes, stops, behind, IsRun, is_id_start, is_digit}
 use Rattle.rust_tokens.specs.Runs.{is_digit_part, is_underscore}
 
+-- `e` and `E` begin an exponent.
 abbrev pub is_exponent_mark : ℕ → Bool
 is_exponent_mark c = c == code "e" || c == code "E"
 
+-- The sign of an exponent.
 abbrev pub is_sign : ℕ → Bool
 is_sign c = c == code "+" || c == code "-"
 

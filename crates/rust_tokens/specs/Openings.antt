@@ -2,7 +2,8 @@
 use Prim.Native.Char.{code}
 use Rattle.std.specs.Prelude.{ℕ, ◌&&◌, ◌==◌, if◌then◌else◌, [], ◌∷◌, Option, Some, None, option_map}
 use Rattle.rust_tokens.specs.declared.kinds.Kind.{Kind}
-use Rattle.rust_tokens.specs.declared.kinds.Kind.TheVariants.{Str, ByteStr, CStr, RawStr, RawByteStr, RawCStr}
+use Rattle.rust_tokens.specs.declared.kinds.Kind.TheVariants.{Str, ByteStr, CStr, RawStr}
+use Rattle.rust_tokens.specs.declared.kinds.Kind.TheVariants.{RawByteStr, RawCStr}
 use Rattle.rust_tokens.specs.declared.openings.Opening.{Opening}
 use Rattle.rust_tokens.specs.declared.openings.Opening.TheVariants.{Quote, Raw, ByteQuote, RawWord}
 use Rattle.rust_tokens.specs.Texts.{Text, strip, or}
@@ -10,7 +11,8 @@ use Rattle.rust_tokens.specs.Runs.{behind, count, is_hash, is_id_start}
 
 -- Hashes and a quote: the opening of a raw string of this kind, and what is left behind it.
 abbrev pub raw_opening : Kind → Text → Option (Opening × Text)
-raw_opening k t = option_map (λ u. (Raw k (count is_hash t), u)) (strip (code "\"") (behind is_hash t))
+raw_opening k t = option_map (λ u. (Raw k (count is_hash t), u)) (strip (code "\"")
+    (behind is_hash t))
 
 -- A hash and the first character of a word.
 abbrev pub word_opening : Text → Option (Opening × Text)
@@ -32,8 +34,8 @@ c_opening (c ∷ t) = if c == code "\"" then Some (Quote CStr, t) else
     (if c == code "r" then raw_opening RawCStr t else None)
 
 -- The opening of a literal in quotes, of a byte or of a raw identifier, and what is left behind it:
--- `"`, `b"`, `c"`, `b'`; `r`, `br` or `cr` with any number of hashes and `"`; `r#` and the first character of a word.
--- None if none of these is at the start.
+-- `"`, `b"`, `c"`, `b'`; `r`, `br` or `cr` with any number of hashes and `"`; `r#` and the first
+-- character of a word. None if none of these is at the start.
 abbrev pub first_opening : Text → Option (Opening × Text)
 first_opening [] = None
 first_opening (c ∷ t) = if c == code "\"" then Some (Quote Str, t) else

@@ -7,7 +7,7 @@ ghost use Rattle.rust_tokens.specs.Seen.{seen};
 ghost use Rattle.rust_tokens.specs.Texts.{Text};
 ghost use Rattle.rust_tokens.specs.Tokens.{is_literal};
 
-use crate::bodies::Body;
+use crate::bodies::{Body, ended, unended};
 use crate::kinds::Kind;
 use crate::literals::{
     behind_char, behind_comment, behind_name, behind_raw, behind_raw_name, behind_string,
@@ -22,16 +22,8 @@ fn closed<'a>(kind: Kind, end: Option<&'a str>) -> Body<'a>
     ensures { seen result ≡ closed kind (option_map (λ r. chars r.now) end.entry) }
 {
     match end {
-        Some(rest) => Body {
-            kind,
-            is_ended: true,
-            rest,
-        },
-        None => Body {
-            kind,
-            is_ended: false,
-            rest: "",
-        },
+        Some(rest) => ended(kind, rest),
+        None => unended(kind, ""),
     }
 }
 
@@ -40,28 +32,16 @@ fn first_slashed(text: &str) -> Body<'_>
     ensures { seen result ≡ first_slashed (chars text.now) }
 {
     let Some((c, rest)) = split_first(text) else {
-        return Body {
-            kind: Kind::Punct,
-            is_ended: true,
-            rest: text,
-        };
+        return ended(Kind::Punct, text);
     };
     if c == '/' {
         let kind = line_kind(rest);
-        return Body {
-            kind,
-            is_ended: true,
-            rest: behind_run(rest, Class::Line),
-        };
+        return ended(kind, behind_run(rest, Class::Line));
     }
     if c == '*' {
         return closed(block_kind(rest), behind_comment(rest));
     }
-    Body {
-        kind: Kind::Punct,
-        is_ended: true,
-        rest: text,
-    }
+    ended(Kind::Punct, text)
 }
 
 /// Returns the token that begins with an apostrophe before the text.
@@ -69,31 +49,15 @@ fn first_quoted(text: &str) -> Body<'_>
     ensures { seen result ≡ first_quoted (chars text.now) }
 {
     if let Some(rest) = behind_char(text) {
-        return Body {
-            kind: Kind::Char,
-            is_ended: true,
-            rest,
-        };
+        return ended(Kind::Char, rest);
     }
     if let Some(rest) = behind_raw_name(text) {
-        return Body {
-            kind: Kind::RawLifetime,
-            is_ended: true,
-            rest,
-        };
+        return ended(Kind::RawLifetime, rest);
     }
     if let Some(rest) = behind_name(text) {
-        return Body {
-            kind: Kind::Lifetime,
-            is_ended: true,
-            rest,
-        };
+        return ended(Kind::Lifetime, rest);
     }
-    Body {
-        kind: Kind::Char,
-        is_ended: false,
-        rest: text,
-    }
+    unended(Kind::Char, text)
 }
 
 /// Returns the token that begins with `c` before the text and has no opening.
@@ -102,11 +66,7 @@ fn first_plain(c: char, text: &str) -> Body<'_>
 {
     if is_id_start(c) {
         let rest = behind_run(text, Class::Continue);
-        return Body {
-            kind: Kind::Ident,
-            is_ended: true,
-            rest,
-        };
+        return ended(Kind::Ident, rest);
     }
     if c.is_ascii_digit() {
         return first_number(c, text);
@@ -122,11 +82,7 @@ fn first_plain(c: char, text: &str) -> Body<'_>
     } else {
         Kind::Unknown
     };
-    Body {
-        kind,
-        is_ended: true,
-        rest: text,
-    }
+    ended(kind, text)
 }
 
 /// Returns the token that goes on with the text after this opening.
@@ -138,25 +94,13 @@ fn opened(opening: Opening, text: &str) -> Body<'_>
         Opening::Raw(kind, hashes) => closed(kind, behind_raw(text, hashes)),
         Opening::ByteQuote => {
             match behind_char(text) {
-                Some(rest) => Body {
-                    kind: Kind::Byte,
-                    is_ended: true,
-                    rest,
-                },
-                None => Body {
-                    kind: Kind::Byte,
-                    is_ended: false,
-                    rest: text,
-                },
+                Some(rest) => ended(Kind::Byte, rest),
+                None => unended(Kind::Byte, text),
             }
         }
         Opening::RawWord => {
             let rest = behind_run(text, Class::Continue);
-            Body {
-                kind: Kind::RawIdent,
-                is_ended: true,
-                rest,
-            }
+            ended(Kind::RawIdent, rest)
         }
     }
 }
@@ -170,11 +114,7 @@ pub fn first_body(text: &str) -> Option<Body<'_>>
     };
     if is_space(c) {
         let rest = behind_run(rest, Class::Space);
-        return Some(Body {
-            kind: Kind::Whitespace,
-            is_ended: true,
-            rest,
-        });
+        return Some(ended(Kind::Whitespace, rest));
     }
     match first_opening(text) {
         Some((opening, rest)) => Some(opened(opening, rest)),

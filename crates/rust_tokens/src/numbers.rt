@@ -7,7 +7,7 @@ ghost use Rattle.rust_tokens.specs.Numbers.{behind_digits, behind_exponent, behi
 ghost use Rattle.rust_tokens.specs.Numbers.{behind_sign};
 ghost use Rattle.rust_tokens.specs.Seen.{seen};
 
-use crate::bodies::Body;
+use crate::bodies::{Body, ended};
 use crate::kinds::Kind;
 use crate::texts::{Class, begins, behind_run, split_first};
 
@@ -66,16 +66,8 @@ fn exponent_or<'a>(kind: Kind, rest: &'a str, exponent: Option<&'a str>) -> Body
         (option_map (λ r. chars r.now) exponent.entry) }
 {
     match exponent {
-        Some(rest) => Body {
-            kind: Kind::Float,
-            is_ended: true,
-            rest,
-        },
-        None => Body {
-            kind,
-            is_ended: true,
-            rest,
-        },
+        Some(rest) => ended(Kind::Float, rest),
+        None => ended(kind, rest),
     }
 }
 
@@ -87,11 +79,7 @@ fn behind_fraction(text: &str) -> Body<'_>
         let rest = behind_run(text, Class::DigitPart);
         return exponent_or(Kind::Float, rest, behind_exponent(rest));
     }
-    Body {
-        kind: Kind::Float,
-        is_ended: true,
-        rest: text,
-    }
+    ended(Kind::Float, text)
 }
 
 /// Returns a decimal number, from after its first digit on.
@@ -115,27 +103,15 @@ fn first_zero(text: &str) -> Body<'_>
     match c {
         'b' => {
             let rest = behind_run(rest, Class::DigitPart);
-            Body {
-                kind: Kind::BinaryInt,
-                is_ended: true,
-                rest,
-            }
+            ended(Kind::BinaryInt, rest)
         }
         'o' => {
             let rest = behind_run(rest, Class::DigitPart);
-            Body {
-                kind: Kind::OctalInt,
-                is_ended: true,
-                rest,
-            }
+            ended(Kind::OctalInt, rest)
         }
         'x' => {
             let rest = behind_run(rest, Class::HexPart);
-            Body {
-                kind: Kind::HexadecimalInt,
-                is_ended: true,
-                rest,
-            }
+            ended(Kind::HexadecimalInt, rest)
         }
         _ => first_decimal(text),
     }

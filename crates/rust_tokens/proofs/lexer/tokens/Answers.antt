@@ -21,7 +21,8 @@ pub loop-step-preserved : goal.loop-step-preserved
 loop-step-preserved c =
     let b = c.in-Some.ensures.begins in
     record {
-      lexed = rw (c.in_ok-push.ensures.items) (lexed-more _ _ _ _ b.0 _ c.loop-step.invariant.lexed b.1
+      lexed = rw (c.in_ok-push.ensures.items)
+          (lexed-more _ _ _ _ b.0 _ c.loop-step.invariant.lexed b.1
           (omega (arith, b.4, b.5))
           (λ at h. place-token b.0 _ _ _ _ _ _ at b.2 b.3 b.4 b.5 h));
       utf8 = search rules;
