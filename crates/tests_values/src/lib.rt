@@ -1,9 +1,9 @@
 //! Tests of the library by the values that its calls take and return, where the tables and scripts
 //! of `library_rows` show too little, and of `placeholder_check`.
 //!
-//! `values` has what is exported, the defaults, clones and equality, `pieces` the pieces
-//! themselves, `ends` where a text ends, `faults` very many errors, `literals` the calls that read
-//! literals without a parser, and `reports` the reports of `placeholder_check` on texts.
+//! `values` has the exported names, `pieces` the pieces themselves, `ends` where a text ends,
+//! `faults` very many errors, `literals` the calls that read literals without a parser, and
+//! `reports` the reports of `placeholder_check` on texts.
 #![tactic(auto)]
 
 #[cfg(test)]

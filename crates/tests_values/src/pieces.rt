@@ -1,8 +1,7 @@
-//! Pieces: they outlive their parser, and are equal to their clones and to no other piece.
+//! Pieces: they outlive their parser, and can be cloned.
 
-use rustc_parse_format::{ParseMode, Parser, Piece, Position, read_all};
+use rustc_parse_format::{ParseMode, Parser, Piece, Position};
 use std::alloc::{AllocError, Global};
-use std::process::Abort;
 use std::test::Fail;
 
 /// The first piece of an input, whose parser is gone.
@@ -28,59 +27,19 @@ fn an_argument_outlives_its_parser(rt: HostRuntime) -> Result<(), Fail> {
     Ok(())
 }
 
-/// The pieces of an input that comes from no literal.
-fn pieces(alloc: Global, input: &'static str) -> Result<Vec<Piece<'static>>, AllocError> {
-    let (pieces, _) = read_all(alloc, input, None, None, false, ParseMode::Format)?;
-    Ok(pieces)
-}
-
-/// The first of two placeholders is equal to one that stands alone, and to nothing else.
-fn check_equality<'a>(rt: &impl Abort, both: &[Piece<'a>], alone: &[Piece<'a>]) {
-    assert_eq!(rt; both.len(), 2);
-    assert_eq!(rt; alone.len(), 1);
-    assert!(rt; both[0] == alone[0]);
-    assert!(rt; both[0] != both[1]);
-    assert!(rt; both[0] != Piece::Lit("{a}"));
-}
-
-#[test]
-fn pieces_are_equal_with_their_spans(rt: HostRuntime) -> Result<(), Fail> {
-    let both = pieces(rt.alloc(), "{a}{a}")?;
-    let alone = pieces(rt.alloc(), "{a}")?;
-    check_equality(&rt, both.as_slice(), alone.as_slice());
-    Ok(())
-}
-
-/// A clone of a piece is equal to it.
-fn check_clone(rt: &impl Abort, alloc: Global, piece: &Piece<'_>) -> Result<(), Fail> {
-    let copy = piece.clone(alloc)?;
-    assert!(rt; copy == *piece);
-    Ok(())
-}
-
-/// And to no other piece.
-fn check_other<'a>(
-    rt: &impl Abort,
-    alloc: Global,
-    piece: &Piece<'a>,
-    other: &Piece<'a>,
-) -> Result<(), Fail> {
-    let copy = piece.clone(alloc)?;
-    assert!(rt; copy != *other);
-    Ok(())
-}
-
-/// Clones of four pieces.
-fn check_clones(rt: &impl Abort, alloc: Global, pieces: &[Piece<'_>]) -> Result<(), Fail> {
-    assert_eq!(rt; pieces.len(), 4);
-    for piece in pieces {
-        check_clone(rt, alloc, piece)?;
+/// The first piece of an input, and a clone of it.
+fn cloned(alloc: Global, input: &'static str) -> Result<Option<Piece<'static>>, AllocError> {
+    match first_piece(alloc, input)? {
+        Some(piece) => Ok(Some(piece.clone(alloc)?)),
+        None => Ok(None),
     }
-    check_other(rt, alloc, &pieces[1], &pieces[0])
 }
 
 #[test]
-fn clones_of_pieces_are_equal(rt: HostRuntime) -> Result<(), Fail> {
-    let found = pieces(rt.alloc(), "{}{:.*}{}x")?;
-    check_clones(&rt, rt.alloc(), found.as_slice())
+fn pieces_are_cloned(rt: HostRuntime) -> Result<(), Fail> {
+    let argument = cloned(rt.alloc(), "{name}")?;
+    assert!(rt; matches!(argument, Some(Piece::NextArgument(_))));
+    let text = cloned(rt.alloc(), "text{}")?;
+    assert!(rt; matches!(text, Some(Piece::Lit("text"))));
+    Ok(())
 }

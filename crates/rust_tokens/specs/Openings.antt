@@ -1,0 +1,44 @@
+-- What begins with letters and is no plain word: literals with a prefix, and raw identifiers.
+use Prim.Native.Char.{code}
+use Rattle.std.specs.Prelude.{ℕ, ◌&&◌, ◌==◌, if◌then◌else◌, [], ◌∷◌, Option, Some, None, option_map}
+use Rattle.rust_tokens.specs.declared.kinds.Kind.{Kind}
+use Rattle.rust_tokens.specs.declared.kinds.Kind.TheVariants.{Str, ByteStr, CStr, RawStr}
+use Rattle.rust_tokens.specs.declared.kinds.Kind.TheVariants.{RawByteStr, RawCStr}
+use Rattle.rust_tokens.specs.declared.openings.Opening.{Opening}
+use Rattle.rust_tokens.specs.declared.openings.Opening.TheVariants.{Quote, Raw, ByteQuote, RawWord}
+use Rattle.rust_tokens.specs.Texts.{Text, strip, or}
+use Rattle.rust_tokens.specs.Runs.{behind, count, is_hash, is_id_start}
+
+-- Hashes and a quote: the opening of a raw string of this kind, and what is left behind it.
+abbrev pub raw_opening : Kind → Text → Option (Opening × Text)
+raw_opening k t = option_map (λ u. (Raw k (count is_hash t), u)) (strip (code "\"")
+    (behind is_hash t))
+
+-- A hash and the first character of a word.
+abbrev pub word_opening : Text → Option (Opening × Text)
+word_opening [] = None
+word_opening (c ∷ []) = None
+word_opening (c ∷ d ∷ t) = if c == code "#" && is_id_start d then Some (RawWord, t) else None
+
+-- Behind a `b`: `b"`, `b'`, `br"`, `br#"` and so on.
+abbrev pub byte_opening : Text → Option (Opening × Text)
+byte_opening [] = None
+byte_opening (c ∷ t) = if c == code "\"" then Some (Quote ByteStr, t) else
+    (if c == code "'" then Some (ByteQuote, t) else
+    (if c == code "r" then raw_opening RawByteStr t else None))
+
+-- Behind a `c`: `c"`, `cr"`, `cr#"` and so on.
+abbrev pub c_opening : Text → Option (Opening × Text)
+c_opening [] = None
+c_opening (c ∷ t) = if c == code "\"" then Some (Quote CStr, t) else
+    (if c == code "r" then raw_opening RawCStr t else None)
+
+-- The opening of a literal in quotes, of a byte or of a raw identifier, and what is left behind it:
+-- `"`, `b"`, `c"`, `b'`; `r`, `br` or `cr` with any number of hashes and `"`; `r#` and the first
+-- character of a word. None if none of these is at the start.
+abbrev pub first_opening : Text → Option (Opening × Text)
+first_opening [] = None
+first_opening (c ∷ t) = if c == code "\"" then Some (Quote Str, t) else
+    (if c == code "b" then byte_opening t else
+    (if c == code "c" then c_opening t else
+    (if c == code "r" then or (raw_opening RawStr t) (word_opening t) else None)))

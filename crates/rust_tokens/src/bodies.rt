@@ -1,0 +1,39 @@
+//! A token without its suffix, and what is left after it.
+
+ghost use Rattle.std.specs.Prelude.{◌≡◌, chars, false, true};
+ghost use Rattle.rust_tokens.specs.Seen.{seen};
+
+use crate::kinds::Kind;
+
+/// A token without its suffix.
+#[derive(Clone, Copy)]
+pub struct Body<'a> {
+    /// The kind.
+    pub kind: Kind,
+    /// Whether it has its end.
+    pub is_ended: bool,
+    /// What is left after it: its suffix, and what follows.
+    pub rest: &'a str,
+}
+
+/// Returns the token of this kind after which `rest` is left.
+pub fn ended(kind: Kind, rest: &str) -> Body<'_>
+    ensures { seen result ≡ (kind, true, chars rest.now) }
+{
+    Body {
+        kind,
+        is_ended: true,
+        rest,
+    }
+}
+
+/// Returns the token of this kind without its end after which `rest` is left.
+pub fn unended(kind: Kind, rest: &str) -> Body<'_>
+    ensures { seen result ≡ (kind, false, chars rest.now) }
+{
+    Body {
+        kind,
+        is_ended: false,
+        rest,
+    }
+}

@@ -1,0 +1,164 @@
+//! The first token of a text.
+
+ghost use Rattle.std.specs.Prelude.{◌≡◌, ◌&&◌, ℕ, Some, chars, option_map};
+ghost use Rattle.rust_tokens.specs.First.{behind_suffix, closed, first_of};
+ghost use Rattle.rust_tokens.specs.First.{first_plain, first_quoted, first_slashed, by_opening};
+ghost use Rattle.rust_tokens.specs.Seen.{seen};
+ghost use Rattle.rust_tokens.specs.Texts.{Text};
+ghost use Rattle.rust_tokens.specs.Tokens.{is_literal};
+
+use crate::bodies::{Body, ended, unended};
+use crate::kinds::Kind;
+use crate::literals::{
+    behind_char, behind_comment, behind_name, behind_raw, behind_raw_name, behind_string,
+    block_kind, line_kind,
+};
+use crate::numbers::first_number;
+use crate::openings::{Opening, first_opening};
+use crate::texts::{Class, behind_run, is_id_start, is_punct, is_space, split_first};
+
+/// Returns the token with this end, or the one that is not ended, which takes all.
+fn closed<'a>(kind: Kind, end: Option<&'a str>) -> Body<'a>
+    ensures { seen result ≡ closed kind (option_map (λ r. chars r.now) end.entry) }
+{
+    match end {
+        Some(rest) => ended(kind, rest),
+        None => unended(kind, ""),
+    }
+}
+
+/// Returns the token that begins with a `/` before the text.
+fn first_slashed(text: &str) -> Body<'_>
+    ensures { seen result ≡ first_slashed (chars text.now) }
+{
+    let Some((c, rest)) = split_first(text) else {
+        return ended(Kind::Punct, text);
+    };
+    if c == '/' {
+        let kind = line_kind(rest);
+        return ended(kind, behind_run(rest, Class::Line));
+    }
+    if c == '*' {
+        return closed(block_kind(rest), behind_comment(rest));
+    }
+    ended(Kind::Punct, text)
+}
+
+/// Returns the token that begins with an apostrophe before the text.
+fn first_quoted(text: &str) -> Body<'_>
+    ensures { seen result ≡ first_quoted (chars text.now) }
+{
+    if let Some(rest) = behind_char(text) {
+        return ended(Kind::Char, rest);
+    }
+    if let Some(rest) = behind_raw_name(text) {
+        return ended(Kind::RawLifetime, rest);
+    }
+    if let Some(rest) = behind_name(text) {
+        return ended(Kind::Lifetime, rest);
+    }
+    unended(Kind::Char, text)
+}
+
+/// Returns the token that begins with `c` before the text and has no opening.
+fn first_plain(c: char, text: &str) -> Body<'_>
+    ensures { seen result ≡ first_plain c (chars text.now) }
+{
+    if is_id_start(c) {
+        let rest = behind_run(text, Class::Continue);
+        return ended(Kind::Ident, rest);
+    }
+    if c.is_ascii_digit() {
+        return first_number(c, text);
+    }
+    if c == '/' {
+        return first_slashed(text);
+    }
+    if c == '\'' {
+        return first_quoted(text);
+    }
+    let kind = if is_punct(c) {
+        Kind::Punct
+    } else {
+        Kind::Unknown
+    };
+    ended(kind, text)
+}
+
+/// Returns the token that goes on with the text after this opening.
+fn opened(opening: Opening, text: &str) -> Body<'_>
+    ensures { (c : ℕ) (t : Text) → seen result ≡ by_opening c t (Some (opening, chars text.now)) }
+{
+    match opening {
+        Opening::Quote(kind) => closed(kind, behind_string(text)),
+        Opening::Raw(kind, hashes) => closed(kind, behind_raw(text, hashes)),
+        Opening::ByteQuote => {
+            match behind_char(text) {
+                Some(rest) => ended(Kind::Byte, rest),
+                None => unended(Kind::Byte, text),
+            }
+        }
+        Opening::RawWord => {
+            let rest = behind_run(text, Class::Continue);
+            ended(Kind::RawIdent, rest)
+        }
+    }
+}
+
+/// Returns the first token of a text, without its suffix, or `None` if the text is empty.
+pub fn first_body(text: &str) -> Option<Body<'_>>
+    ensures { option_map (λ b. seen b) result ≡ first_of (chars text.now) }
+{
+    let Some((c, rest)) = split_first(text) else {
+        return None;
+    };
+    if is_space(c) {
+        let rest = behind_run(rest, Class::Space);
+        return Some(ended(Kind::Whitespace, rest));
+    }
+    match first_opening(text) {
+        Some((opening, rest)) => Some(opened(opening, rest)),
+        None => Some(first_plain(c, rest)),
+    }
+}
+
+/// Returns whether a token of this kind is a literal, which may have a suffix.
+fn is_literal(kind: Kind) -> bool
+    ensures { result ≡ is_literal kind }
+{
+    matches!(
+        kind,
+        Kind::BinaryInt
+            | Kind::OctalInt
+            | Kind::DecimalInt
+            | Kind::HexadecimalInt
+            | Kind::Float
+            | Kind::Char
+            | Kind::Byte
+            | Kind::Str
+            | Kind::ByteStr
+            | Kind::CStr
+            | Kind::RawStr
+            | Kind::RawByteStr
+            | Kind::RawCStr
+    )
+}
+
+/// Returns what is left after a token with its suffix.
+pub fn behind_suffix(body: Body<'_>) -> &str
+    ensures { chars result.now
+        ≡ behind_suffix (is_literal body.entry.kind && body.entry.is_ended)
+        (chars body.entry.rest.now) }
+{
+    if !(body.is_ended && is_literal(body.kind)) {
+        return body.rest;
+    }
+    let Some((c, rest)) = split_first(body.rest) else {
+        return body.rest;
+    };
+    if is_id_start(c) {
+        behind_run(rest, Class::Continue)
+    } else {
+        body.rest
+    }
+}

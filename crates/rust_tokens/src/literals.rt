@@ -1,0 +1,196 @@
+//! Where literals and comments end, and what a comment documents.
+
+ghost use Rattle.std.specs.Prelude.{◌≡◌, chars, option_map, false};
+ghost use Rattle.rust_tokens.specs.Characters.{behind_char, behind_escape, behind_name};
+ghost use Rattle.rust_tokens.specs.Characters.{behind_raw_name, unless_apostrophe};
+ghost use Rattle.rust_tokens.specs.Comments.{behind_comment, block_kind, line_kind};
+ghost use Rattle.rust_tokens.specs.RawStrings.{behind_hashes, behind_raw};
+ghost use Rattle.rust_tokens.specs.Strings.{behind_string};
+
+use crate::kinds::Kind;
+use crate::texts::{Class, begins, behind_run, is_id_start, is_plain, split_first, strip};
+
+/// Returns what is left after the closing quote of a string with escapes, from after its opening
+/// quote on, or `None` if it has no end.
+#[tactic(auto, unfolding(crate::specs::Strings::behind_string))]
+pub fn behind_string(text: &str) -> Option<&str>
+    ensures { option_map (λ r. chars r.now) result ≡ behind_string false (chars text.now) }
+{
+    let mut rest = text;
+    let mut is_escaped = false;
+    while let Some((c, more)) = split_first(rest) {
+        if is_escaped {
+            is_escaped = false;
+        } else if c == '"' {
+            return Some(more);
+        } else {
+            is_escaped = c == '\\';
+        }
+        rest = more;
+    }
+    None
+}
+
+/// Returns what is left after the end of a block comment, from after its `/*` on, or `None` if it
+/// has no end.
+#[tactic(auto, unfolding(crate::specs::Comments::behind_comment))]
+pub fn behind_comment(text: &str) -> Option<&str>
+    ensures { option_map (λ r. chars r.now) result ≡ behind_comment 0 0 (chars text.now) }
+{
+    let mut rest = text;
+    let mut above: usize = 0;
+    let mut before = '\0';
+    while let Some((c, more)) = split_first(rest) {
+        if before == '/' && c == '*' {
+            above += 1;
+            before = '\0';
+        } else if before == '*' && c == '/' {
+            if above == 0 {
+                return Some(more);
+            }
+            above -= 1;
+            before = '\0';
+        } else {
+            before = c;
+        }
+        rest = more;
+    }
+    None
+}
+
+/// Returns what is left after this many hashes, or `None` if there are not so many.
+#[tactic(auto, using(crate::proofs::Hashes::hash_steps))]
+fn behind_hashes(text: &str, hashes: usize) -> Option<&str>
+    ensures { option_map (λ r. chars r.now) result ≡ behind_hashes hashes (chars text.now) }
+{
+    let mut rest = text;
+    let mut left = hashes;
+    while left > 0 {
+        let Some((c, more)) = split_first(rest) else {
+            return None;
+        };
+        if c != '#' {
+            return None;
+        }
+        rest = more;
+        left -= 1;
+    }
+    Some(rest)
+}
+
+/// Returns what is left after the end of a raw string with this many hashes, from after its opening
+/// quote on, or `None` if it has no end.
+#[tactic(auto, unfolding(crate::specs::RawStrings::behind_raw))]
+pub fn behind_raw(text: &str, hashes: usize) -> Option<&str>
+    ensures { option_map (λ r. chars r.now) result ≡ behind_raw hashes (chars text.now) }
+{
+    let mut rest = text;
+    while let Some((c, more)) = split_first(rest) {
+        if c == '"' {
+            if let Some(end) = behind_hashes(more, hashes) {
+                return Some(end);
+            }
+        }
+        rest = more;
+    }
+    None
+}
+
+/// Returns the kind of a line comment, by what is behind its `//`.
+pub fn line_kind(text: &str) -> Kind
+    ensures { result ≡ line_kind (chars text.now) }
+{
+    let Some((c, rest)) = split_first(text) else {
+        return Kind::LineComment;
+    };
+    if c == '!' {
+        Kind::InnerLineDoc
+    } else if c == '/' && !begins(rest, Class::Slash) {
+        Kind::OuterLineDoc
+    } else {
+        Kind::LineComment
+    }
+}
+
+/// Returns the kind of a block comment, by what is behind its `/*`.
+pub fn block_kind(text: &str) -> Kind
+    ensures { result ≡ block_kind (chars text.now) }
+{
+    let Some((c, rest)) = split_first(text) else {
+        return Kind::BlockComment;
+    };
+    if c == '!' {
+        Kind::InnerBlockDoc
+    } else if c == '*' && !begins(rest, Class::StarOrSlash) {
+        Kind::OuterBlockDoc
+    } else {
+        Kind::BlockComment
+    }
+}
+
+/// Returns what is left after an escape and an apostrophe, from after the backslash on, or `None`.
+fn behind_escape(text: &str) -> Option<&str>
+    ensures { option_map (λ r. chars r.now) result ≡ behind_escape (chars text.now) }
+{
+    let Some((_, rest)) = split_first(text) else {
+        return None;
+    };
+    strip(behind_run(rest, Class::Escape), '\'')
+}
+
+/// Returns what is left after a character literal, from after its first apostrophe on, or `None` if
+/// there is none.
+pub fn behind_char(text: &str) -> Option<&str>
+    ensures { option_map (λ r. chars r.now) result ≡ behind_char (chars text.now) }
+{
+    let Some((c, rest)) = split_first(text) else {
+        return None;
+    };
+    if c == '\\' {
+        return behind_escape(rest);
+    }
+    if is_plain(c) {
+        return strip(rest, '\'');
+    }
+    None
+}
+
+/// Returns the text, or `None` if it begins with an apostrophe.
+fn unless_apostrophe(text: &str) -> Option<&str>
+    ensures { option_map (λ r. chars r.now) result ≡ unless_apostrophe (chars text.now) }
+{
+    if begins(text, Class::Apostrophe) {
+        None
+    } else {
+        Some(text)
+    }
+}
+
+/// Returns what is left after a word that no apostrophe follows, or `None`.
+pub fn behind_name(text: &str) -> Option<&str>
+    ensures { option_map (λ r. chars r.now) result ≡ behind_name (chars text.now) }
+{
+    let Some((c, rest)) = split_first(text) else {
+        return None;
+    };
+    if is_id_start(c) {
+        return unless_apostrophe(behind_run(rest, Class::Continue));
+    }
+    None
+}
+
+/// Returns what is left after `r#` and a word that no apostrophe follows, or `None`.
+pub fn behind_raw_name(text: &str) -> Option<&str>
+    ensures { option_map (λ r. chars r.now) result ≡ behind_raw_name (chars text.now) }
+{
+    let Some((c, rest)) = split_first(text) else {
+        return None;
+    };
+    let Some((d, more)) = split_first(rest) else {
+        return None;
+    };
+    if c == 'r' && d == '#' {
+        return behind_name(more);
+    }
+    None
+}

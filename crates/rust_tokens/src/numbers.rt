@@ -1,0 +1,129 @@
+//! Numbers, from after their first digit on.
+
+ghost use Rattle.std.specs.Prelude.{◌≡◌, chars, option_map};
+ghost use Rattle.rust_tokens.specs.First.{behind_fraction, exponent_or, first_decimal};
+ghost use Rattle.rust_tokens.specs.First.{first_number, first_zero, fraction_or};
+ghost use Rattle.rust_tokens.specs.Numbers.{behind_digits, behind_exponent, behind_point};
+ghost use Rattle.rust_tokens.specs.Numbers.{behind_sign};
+ghost use Rattle.rust_tokens.specs.Seen.{seen};
+
+use crate::bodies::{Body, ended};
+use crate::kinds::Kind;
+use crate::texts::{Class, begins, behind_run, split_first};
+
+/// Returns what is left after a sign, or the text if it begins with none.
+fn behind_sign(text: &str) -> &str
+    ensures { chars result.now ≡ behind_sign (chars text.now) }
+{
+    match split_first(text) {
+        Some((c, rest)) => { if c == '+' || c == '-' { rest } else { text } }
+        None => text,
+    }
+}
+
+/// Returns what is left after digits, or `None` if the text begins with none.
+fn behind_digits(text: &str) -> Option<&str>
+    ensures { option_map (λ r. chars r.now) result ≡ behind_digits (chars text.now) }
+{
+    if begins(text, Class::Digit) {
+        Some(behind_run(text, Class::DigitPart))
+    } else {
+        None
+    }
+}
+
+/// Returns what is left after an exponent, or `None` if the text begins with none.
+fn behind_exponent(text: &str) -> Option<&str>
+    ensures { option_map (λ r. chars r.now) result ≡ behind_exponent (chars text.now) }
+{
+    let Some((c, rest)) = split_first(text) else {
+        return None;
+    };
+    if c == 'e' || c == 'E' {
+        return behind_digits(behind_run(behind_sign(rest), Class::Underscore));
+    }
+    None
+}
+
+/// Returns what is left after a point that belongs to the number before it, or `None`.
+fn behind_point(text: &str) -> Option<&str>
+    ensures { option_map (λ r. chars r.now) result ≡ behind_point (chars text.now) }
+{
+    let Some((c, rest)) = split_first(text) else {
+        return None;
+    };
+    if c == '.' && !begins(rest, Class::PointOrStart) {
+        Some(rest)
+    } else {
+        None
+    }
+}
+
+/// Returns a float with an exponent after which `exponent` is left, or else a number of this kind
+/// after which `rest` is left.
+fn exponent_or<'a>(kind: Kind, rest: &'a str, exponent: Option<&'a str>) -> Body<'a>
+    ensures { seen result ≡ exponent_or kind (chars rest.now)
+        (option_map (λ r. chars r.now) exponent.entry) }
+{
+    match exponent {
+        Some(rest) => ended(Kind::Float, rest),
+        None => ended(kind, rest),
+    }
+}
+
+/// Returns a number, from after its point on.
+fn behind_fraction(text: &str) -> Body<'_>
+    ensures { seen result ≡ behind_fraction (chars text.now) }
+{
+    if begins(text, Class::Digit) {
+        let rest = behind_run(text, Class::DigitPart);
+        return exponent_or(Kind::Float, rest, behind_exponent(rest));
+    }
+    ended(Kind::Float, text)
+}
+
+/// Returns a decimal number, from after its first digit on.
+fn first_decimal(text: &str) -> Body<'_>
+    ensures { seen result ≡ first_decimal (chars text.now) }
+{
+    let rest = behind_run(text, Class::DigitPart);
+    match behind_point(rest) {
+        Some(fraction) => behind_fraction(fraction),
+        None => exponent_or(Kind::DecimalInt, rest, behind_exponent(rest)),
+    }
+}
+
+/// Returns a number that begins with `0`, from after that on.
+fn first_zero(text: &str) -> Body<'_>
+    ensures { seen result ≡ first_zero (chars text.now) }
+{
+    let Some((c, rest)) = split_first(text) else {
+        return first_decimal(text);
+    };
+    match c {
+        'b' => {
+            let rest = behind_run(rest, Class::DigitPart);
+            ended(Kind::BinaryInt, rest)
+        }
+        'o' => {
+            let rest = behind_run(rest, Class::DigitPart);
+            ended(Kind::OctalInt, rest)
+        }
+        'x' => {
+            let rest = behind_run(rest, Class::HexPart);
+            ended(Kind::HexadecimalInt, rest)
+        }
+        _ => first_decimal(text),
+    }
+}
+
+/// Returns the number that begins with the digit `c` before the text.
+pub fn first_number(c: char, text: &str) -> Body<'_>
+    ensures { seen result ≡ first_number c (chars text.now) }
+{
+    if c == '0' {
+        first_zero(text)
+    } else {
+        first_decimal(text)
+    }
+}

@@ -1,0 +1,188 @@
+//! The first character of a text, and runs of characters of one class.
+
+ghost use Rattle.std.specs.Prelude.{◌≡◌, ◌<◌, IfSome, chars, length, option_map};
+ghost use Rattle.rust_tokens.specs.Classes.{passes};
+ghost use Rattle.rust_tokens.specs.Runs.{behind, count, first_passes, is_digit_part, is_hash};
+ghost use Rattle.rust_tokens.specs.Runs.{is_hex_part, is_id_continue, is_id_start, is_punct, is_space};
+ghost use Rattle.rust_tokens.specs.Characters.{is_plain};
+ghost use Rattle.rust_tokens.specs.Texts.{split_first, strip};
+
+/// A class of characters.
+#[derive(Clone, Copy)]
+pub enum Class {
+    /// White space.
+    Space,
+    /// All characters but LF.
+    Line,
+    /// Characters that continue a word: `XID_Continue`.
+    Continue,
+    /// `#`
+    Hash,
+    /// All characters but apostrophes and LF.
+    Escape,
+    /// `'`
+    Apostrophe,
+    /// ASCII digits.
+    Digit,
+    /// ASCII digits and `_`.
+    DigitPart,
+    /// Hexadecimal digits and `_`.
+    HexPart,
+    /// `_`
+    Underscore,
+    /// `/`
+    Slash,
+    /// `*` and `/`
+    StarOrSlash,
+    /// What may not stand behind the point of a number: a point and what begins a word.
+    PointOrStart,
+}
+
+impl Class {
+    ghost use Rattle.rust_tokens.specs.Classes.{passes};
+
+    /// Returns whether the character is in the class.
+    pub fn passes(self, c: char) -> bool
+        ensures { result ≡ passes self c }
+    {
+        match self {
+            Class::Space => is_space(c),
+            Class::Line => c != '\n',
+            Class::Continue => is_id_continue(c),
+            Class::Hash => c == '#',
+            Class::Escape => c != '\'' && c != '\n',
+            Class::Apostrophe => c == '\'',
+            Class::Digit => c.is_ascii_digit(),
+            Class::DigitPart => c == '_' || c.is_ascii_digit(),
+            Class::HexPart => c == '_' || c.is_ascii_hexdigit(),
+            Class::Underscore => c == '_',
+            Class::Slash => c == '/',
+            Class::StarOrSlash => c == '*' || c == '/',
+            Class::PointOrStart => c == '.' || is_id_start(c),
+        }
+    }
+}
+
+/// Returns whether the character is white space.
+pub fn is_space(c: char) -> bool
+    ensures { result ≡ is_space c }
+{
+    c == '\t'
+        || c == '\n'
+        || c == '\u{b}'
+        || c == '\u{c}'
+        || c == '\r'
+        || c == ' '
+        || c == '\u{85}'
+        || c == '\u{200e}'
+        || c == '\u{200f}'
+        || c == '\u{2028}'
+        || c == '\u{2029}'
+}
+
+/// Returns whether the character begins a word.
+#[tactic(auto, using(crate::proofs::Classes::ascii_words))]
+#[inline(always)]
+pub fn is_id_start(c: char) -> bool
+    ensures { result ≡ is_id_start c }
+{
+    if c < '\u{80}' {
+        return c == '_' || c.is_ascii_alphabetic();
+    }
+    unicode_ident::is_xid_start(c)
+}
+
+/// Returns whether the character continues a word.
+#[tactic(auto, using(crate::proofs::Classes::ascii_words))]
+#[inline(always)]
+fn is_id_continue(c: char) -> bool
+    ensures { result ≡ is_id_continue c }
+{
+    if c < '\u{80}' {
+        return c.is_ascii_alphanumeric() || c == '_';
+    }
+    unicode_ident::is_xid_continue(c)
+}
+
+/// Returns whether the character is punctuation or a delimiter.
+pub fn is_punct(c: char) -> bool
+    ensures { result ≡ is_punct c }
+{
+    c == '!'
+        || (c >= '#' && c <= '&')
+        || (c >= '(' && c <= '/')
+        || (c >= ':' && c <= '@')
+        || c == '['
+        || (c >= ']' && c <= '^')
+        || (c >= '{' && c <= '~')
+}
+
+/// Returns whether the character stands for itself between two apostrophes.
+pub fn is_plain(c: char) -> bool
+    ensures { result ≡ is_plain c }
+{
+    !(c == '\'' || c == '\\' || c == '\n' || c == '\r' || c == '\t')
+}
+
+/// Returns the first character and what is left, or `None` if the text is empty.
+#[inline(always)]
+pub fn split_first(text: &str) -> Option<(char, &str)>
+    ensures value { option_map (λ x. (x.0, chars x.1.now)) result ≡ split_first (chars text.now) }
+    ensures shorter { IfSome result (λ x. length x.1.now < length text.now) }
+{
+    let mut rest = text.chars();
+    match rest.next() {
+        Some(first) => Some((first, rest.as_str())),
+        None => None,
+    }
+}
+
+/// Returns what is left after the character, or `None` if the text does not begin with it.
+pub fn strip(text: &str, first: char) -> Option<&str>
+    ensures { option_map (λ r. chars r.now) result ≡ strip first (chars text.now) }
+{
+    let Some((c, rest)) = split_first(text) else {
+        return None;
+    };
+    if c == first { Some(rest) } else { None }
+}
+
+/// Returns whether the text begins with a character of the class.
+pub fn begins(text: &str, class: Class) -> bool
+    ensures { result ≡ first_passes (passes class) (chars text.now) }
+{
+    match split_first(text) {
+        Some((c, _)) => class.passes(c),
+        None => false,
+    }
+}
+
+/// Returns what is left after the longest front of the text whose characters are in the class.
+pub fn behind_run(text: &str, class: Class) -> &str
+    ensures { chars result.now ≡ behind (passes class) (chars text.now) }
+{
+    let mut rest = text;
+    while let Some((c, more)) = split_first(rest) {
+        if !class.passes(c) {
+            return rest;
+        }
+        rest = more;
+    }
+    rest
+}
+
+/// Returns how many hashes the text begins with.
+pub fn count_hashes(text: &str) -> usize
+    ensures { result ≡ count is_hash (chars text.now) }
+{
+    let mut rest = text;
+    let mut hashes: usize = 0;
+    while let Some((c, more)) = split_first(rest) {
+        if c != '#' {
+            return hashes;
+        }
+        hashes += 1;
+        rest = more;
+    }
+    hashes
+}
