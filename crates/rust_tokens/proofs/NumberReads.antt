@@ -1,10 +1,10 @@
 -- What is found of a number is one by the grammar.
-use Rattle.std.proofs.Common.{◌≡◌, ℕ, Bool, true, false, ◌&&◌, ◌||◌, ◌++◌, cond, [], ◌∷◌, inl, inr}
+use Rattle.std.proofs.Common.{◌≡◌, ℕ, Bool, true, false, ◌&&◌, ◌++◌, cond, [], ◌∷◌, inl, inr}
 use Rattle.std.proofs.Common.{◌⊎◌}
 use Rattle.std.proofs.Common.{Option, Some, None, refl, ap, sym, ◌∙◌, append_assoc, subst}
 use Rattle.std.specs.Prelude.{◌==◌, codes, IsTrue}
 use Rattle.std.specs.List.{list_all}
-use Rattle.std.proofs.lemmas.Bool.{eqb-true, false≢true, and_parts, cond-true, cond_both}
+use Rattle.std.proofs.lemmas.Bool.{eqb-true, false≢true, cond-true, cond_both}
 use Rattle.std.proofs.lemmas.Option.{none-some, same_Some}
 use Rattle.rust_tokens.specs.Texts.{Text}
 use Rattle.rust_tokens.specs.Runs.{first_passes, stops, behind, is_digit, is_digit_part}
@@ -19,7 +19,7 @@ use Rattle.rust_tokens.specs.declared.kinds.Kind.TheVariants.{OctalInt}
 use Rattle.rust_tokens.specs.declared.kinds.Kind.TheVariants.{HexadecimalInt}
 use Rattle.rust_tokens.specs.Tokens.{Stands}
 use Rattle.rust_tokens.specs.First.{Body, first_number, first_zero, first_decimal, fraction_or}
-use Rattle.rust_tokens.specs.First.{behind_fraction, exponent_or}
+use Rattle.rust_tokens.specs.First.{exponent_or}
 use Rattle.rust_tokens.proofs.Classes.{digit-part}
 use Rattle.rust_tokens.proofs.Basics.{no_pass, front, front-behind, all-front, stops-behind}
 

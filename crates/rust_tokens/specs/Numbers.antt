@@ -7,8 +7,8 @@
 -- A digit that its base lacks, as in `0b2`, and no digit, as in `0x`, are faults of the content.
 -- Where no FLOAT_EXPONENT follows, as in `1e` or `1em`, the `e` begins a suffix.
 use Prim.Native.Char.{code}
-use Rattle.std.specs.Prelude.{◌≡◌, ℕ, Bool, false, not, ◌&&◌, ◌||◌, ◌==◌, ◌++◌, ◌⊎◌, IsTrue}
-use Rattle.std.specs.Prelude.{if◌then◌else◌, [], ◌∷◌, Option, Some, None, codes, is_some}
+use Rattle.std.specs.Prelude.{◌≡◌, ℕ, Bool, false, ◌&&◌, ◌||◌, ◌==◌, ◌++◌, ◌⊎◌, IsTrue}
+use Rattle.std.specs.Prelude.{if◌then◌else◌, [], ◌∷◌, Option, Some, None, codes}
 use Rattle.std.specs.List.{list_all}
 use Rattle.rust_tokens.specs.Texts.{Text}
 use Rattle.rust_tokens.specs.Runs.{first_passes, stops, behind, IsRun, is_id_start, is_digit}

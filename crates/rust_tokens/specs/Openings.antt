@@ -1,6 +1,6 @@
 -- What begins with letters and is no plain word: literals with a prefix, and raw identifiers.
 use Prim.Native.Char.{code}
-use Rattle.std.specs.Prelude.{ℕ, ◌&&◌, ◌==◌, if◌then◌else◌, [], ◌∷◌, Option, Some, None, option_map}
+use Rattle.std.specs.Prelude.{◌&&◌, ◌==◌, if◌then◌else◌, [], ◌∷◌, Option, Some, None, option_map}
 use Rattle.rust_tokens.specs.declared.kinds.Kind.{Kind}
 use Rattle.rust_tokens.specs.declared.kinds.Kind.TheVariants.{Str, ByteStr, CStr, RawStr}
 use Rattle.rust_tokens.specs.declared.kinds.Kind.TheVariants.{RawByteStr, RawCStr}
