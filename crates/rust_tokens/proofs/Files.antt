@@ -223,6 +223,16 @@ no-attribute f o t rest m x p b g e n a =
     false≢true (sym n ∙ (some-map f o ∙ (ap (λ z. is_some z) e ∙ (bracket-there rest
     ∙ (ap (λ u. first_passes is_bracket u) same ∙ a.4)))))
 
+pub attribute-there : {A : Type 0} (f : A → Text) (o : Option A) (t rest : Text) → Passed t rest
+    → option_map f o ≡ strip 91 rest → is_some o ≡ true → OpensAttribute t
+attribute-there f o t rest p e y = (
+  p.0,
+  rest,
+  p.1,
+  p.2,
+  sym (bracket-there rest) ∙ (ap (λ z. is_some z) (sym e) ∙ (sym (some-map f o) ∙ y)),
+)
+
 pub no-attribute-at-end : (t rest : Text) → Passed t rest → rest ≡ [] → OpensAttribute t → ⊥
 no-attribute-at-end t rest p e a =
     let same = gaps-once t rest a.1 p.0 a.0 p.1 a.2 p.2 a.3
