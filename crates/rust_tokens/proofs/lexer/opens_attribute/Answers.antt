@@ -1,6 +1,7 @@
 use Rattle.std.proofs.Common.{rules, chars, refl, ap, sym, ◌∙◌}
 use Rattle.rust_tokens.specs.Files.{is_gap}
-use Rattle.rust_tokens.proofs.Files.{attribute-there, no-attribute, no-attribute-at-end, passed-more}
+use Rattle.rust_tokens.proofs.Files.{attribute-there, no-attribute, no-attribute-at-end}
+use Rattle.rust_tokens.proofs.Files.{passed-more}
 use Rattle.rust_tokens.proofs.lexer.opens_attribute.Goals as goal
 
 pub returns-then-not-is_gap-clause-no : goal.returns-then-not-is_gap-clause-no
