@@ -1,12 +1,12 @@
 -- Small facts that several proofs share.
 use Rattle.std.proofs.Common.{◌≡◌, ℕ, suc, Bool, true, false, not, ◌&&◌, ◌||◌, ◌++◌, cond, [], ◌∷◌}
-use Rattle.std.proofs.Common.{Option, Some, None, refl, ap, sym, ◌∙◌}
+use Rattle.std.proofs.Common.{Option, Some, None, refl, ap, sym}
 use Rattle.std.specs.Prelude.{◌==◌, IsTrue, replicate}
 use Rattle.std.specs.List.{list_all}
 use Rattle.std.proofs.lemmas.Bool.{eqb-true, false≢true, and_from, cond_both}
 use Rattle.std.proofs.lemmas.Option.{none-some, same_Some}
 use Rattle.rust_tokens.specs.Texts.{Text, strip}
-use Rattle.rust_tokens.specs.Runs.{first_passes, stops, behind, count, is_hash}
+use Rattle.rust_tokens.specs.Runs.{stops, behind, count, is_hash}
 
 pub not_false : (b : Bool) → not b ≡ true → b ≡ false
 not_false false e = refl

@@ -1,5 +1,5 @@
 -- Where character literals and names of lifetimes end.
-use Rattle.std.proofs.Common.{◌≡◌, ℕ, Bool, true, false, ◌&&◌, ◌++◌, cond, [], ◌∷◌, inl, inr, ◌⊎◌}
+use Rattle.std.proofs.Common.{◌≡◌, ℕ, Bool, true, false, ◌&&◌, ◌++◌, cond, [], ◌∷◌, inl, inr}
 use Rattle.std.proofs.Common.{Option, Some, None, refl, ap, sym, ◌∙◌, append_assoc}
 use Rattle.std.specs.Prelude.{◌==◌, codes, IsTrue}
 use Rattle.std.specs.List.{list_all}
@@ -11,8 +11,10 @@ use Rattle.rust_tokens.specs.Runs.{is_apostrophe}
 use Rattle.rust_tokens.specs.Characters.{is_plain, is_in_escape, IsCharTail, behind_escape}
 use Rattle.rust_tokens.specs.Characters.{behind_char}
 use Rattle.rust_tokens.specs.Characters.{behind_name, behind_raw_name, unless_apostrophe}
+use Rattle.rust_tokens.specs.Characters.{BeginsName, BeginsRawName}
 use Rattle.rust_tokens.proofs.Classes.{starts-back, goes_on-tick, apart, behind-append}
-use Rattle.rust_tokens.proofs.Basics.{not_false, front, front-behind, all-front, stops-behind}
+use Rattle.rust_tokens.proofs.Basics.{none_if, not_false, front, front-behind, all-front}
+use Rattle.rust_tokens.proofs.Basics.{stops-behind}
 use Rattle.rust_tokens.proofs.Basics.{strip-reads}
 
 -- What is behind a character and an apostrophe is found.
@@ -122,3 +124,21 @@ raw-name-reads (c ∷ d ∷ t) m h = by_test (c == 114 && d == 35) refl h
         let y = and_parts (c == 114) (d == 35) e in
         (x.0, x.1, x.2, x.3, two c d t (x.0 ++ m) (eqb-true c 114 y.0) (eqb-true d 35 y.1) x.4)
     by_test false e h = absurd (none-some m h)
+
+-- Where no name begins, none is found, and the other way round.
+pub name-none : (t : Text) → (BeginsName t → ⊥) → behind_name t ≡ None
+name-none t f = none_if (behind_name t) (λ m h.
+    let x = name-reads t m h in
+    f (x.0, m, x.4, x.1, x.2, x.3))
+
+pub no-name : (t : Text) → behind_name t ≡ None → BeginsName t → ⊥
+no-name t e x =
+    none-some _ (sym e ∙ (ap (λ u. behind_name u) x.2 ∙ name-ends x.0 x.1 x.3 x.4 x.5))
+
+pub raw-name-none : (t : Text) → (BeginsRawName t → ⊥) → behind_raw_name t ≡ None
+raw-name-none t f = none_if (behind_raw_name t) (λ m h.
+    let x = raw-name-reads t m h in
+    f (x.0 ++ m, x.4, (x.0, m, refl, x.1, x.2, x.3)))
+
+pub no-raw-name : (t : Text) → behind_raw_name t ≡ None → BeginsRawName t → ⊥
+no-raw-name t e x = no-name x.0 (sym (ap (λ u. behind_raw_name u) x.1) ∙ e) x.2

@@ -1,14 +1,13 @@
 -- The tokens of a reading cover the text.
-use Rattle.std.proofs.Common.{◌≡◌, ℕ, ◌+◌, ◌<◌, ◌≤◌, ◌++◌, List, [], ◌∷◌, refl, ap, sym, ◌∙◌, inl}
+use Rattle.std.proofs.Common.{◌≡◌, ℕ, ◌<◌, ◌++◌, List, [], ◌∷◌, refl, ap, sym, ◌∙◌, inl}
 use Rattle.std.proofs.Common.{inr}
 use Rattle.std.proofs.Common.{subst, arith, chars, length, IsUtf8}
 use Rattle.std.specs.Prelude.{encode_utf8_all}
 use Rattle.std.proofs.lemmas.Str.{encodes-chars}
-use Rattle.rust_tokens.specs.declared.kinds.Kind.TheVariants.{Shebang, ByteOrderMark}
 use Rattle.rust_tokens.specs.declared.kinds.Token.{Token}
 use Rattle.rust_tokens.specs.Texts.{Text}
-use Rattle.rust_tokens.specs.Tokens.{Lexeme, Begins, ReadsTo}
-use Rattle.rust_tokens.specs.Files.{IsMarked, IsShebanged, mark, shebang}
+use Rattle.rust_tokens.specs.Tokens.{Lexeme, ReadsTo}
+use Rattle.rust_tokens.specs.Files.{IsMarked, IsShebanged}
 use Rattle.rust_tokens.specs.Placed.{byte_length, end_of, end_of_all, placed}
 use Rattle.rust_tokens.specs.Covers.{Covers}
 use Rattle.rust_tokens.proofs.Files.{Lexed}

@@ -1,13 +1,13 @@
 -- Each file reads as tokens, and in one way.
 use Rattle.std.proofs.Common.{◌≡◌, ℕ, zero, suc, ◌<◌, ◌≤◌, Bool, true, false, ◌&&◌, ◌++◌, List, []}
 use Rattle.std.proofs.Common.{◌∷◌}
-use Rattle.std.proofs.Common.{refl, ap, sym, ◌∙◌, inl, inr, subst, length, arith, cond}
+use Rattle.std.proofs.Common.{refl, ap, sym, ◌∙◌, inl, inr, subst, length, arith}
 use Rattle.std.specs.Prelude.{IsTrue, codes, ◌==◌}
 use Rattle.std.specs.List.{list_all}
 use Rattle.std.proofs.lemmas.Bool.{false≢true, and_from, eqb-true}
 use Rattle.std.proofs.lemmas.List.{append_cancel_right}
 use Rattle.rust_tokens.specs.Texts.{Text}
-use Rattle.rust_tokens.specs.Runs.{first_passes, stops, behind, is_in_line}
+use Rattle.rust_tokens.specs.Runs.{first_passes, behind, is_in_line}
 use Rattle.rust_tokens.specs.Tokens.{is_literal, Lexeme, Begins, ReadsTo, Reads}
 use Rattle.rust_tokens.specs.Files.{is_gap, is_bracket, is_mark, OpensAttribute, mark, shebang}
 use Rattle.rust_tokens.specs.Files.{IsMarked, IsShebanged, ReadsFile}
@@ -15,7 +15,7 @@ use Rattle.rust_tokens.specs.First.{Body, first_body, behind_suffix}
 use Rattle.rust_tokens.proofs.Basics.{not_false, no_pass, front, front-behind, all-front}
 use Rattle.rust_tokens.proofs.Basics.{stops-behind}
 use Rattle.rust_tokens.proofs.Classes.{behind-append}
-use Rattle.rust_tokens.proofs.Files.{Passed, gaps-once}
+use Rattle.rust_tokens.proofs.Files.{gaps-once}
 use Rattle.rust_tokens.proofs.NotEmpty.{less-left}
 use Rattle.rust_tokens.proofs.Readings.{not-at-end, reads-once, reads-some}
 use Rattle.rust_tokens.proofs.Suffixes.{begins-once, begins-lexeme}

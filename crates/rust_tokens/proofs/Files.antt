@@ -1,10 +1,10 @@
 -- The start of a file.
-use Rattle.std.proofs.Common.{◌≡◌, ℕ, zero, suc, ◌+◌, ◌-◌, ◌<◌, ◌≤◌, Bool, true, false, ◌++◌, List}
+use Rattle.std.proofs.Common.{◌≡◌, ℕ, ◌+◌, ◌-◌, ◌<◌, ◌≤◌, Bool, true, false, ◌++◌, List}
 use Rattle.std.proofs.Common.{[], ◌∷◌, cond}
 use Rattle.std.proofs.Common.{Some, None, Option, refl, ap, sym, ◌∙◌, inl, inr, subst, chars}
 use Rattle.std.proofs.Common.{length, arith}
 use Rattle.std.proofs.Common.{append_assoc, IsUtf8}
-use Rattle.std.specs.Prelude.{IsTrue, IsFalse, is_some, codes, nat_lt, ◌==◌, option_map}
+use Rattle.std.specs.Prelude.{IsTrue, is_some, codes, nat_lt, ◌==◌, option_map}
 use Rattle.std.specs.List.{list_all}
 use Rattle.std.proofs.lemmas.Bool.{false≢true, and_parts, and_from, eqb-true, cond-true, cond-false}
 use Rattle.std.proofs.lemmas.List.Folds.{list_all-append}
@@ -14,16 +14,15 @@ use Rattle.rust_tokens.specs.declared.kinds.Kind.TheVariants.{Punct, Shebang, By
 use Rattle.rust_tokens.specs.declared.kinds.Token.{Token}
 use Rattle.rust_tokens.specs.Texts.{Text, strip}
 use Rattle.rust_tokens.specs.Runs.{first_passes, stops, behind, is_id_start, is_in_line}
-use Rattle.rust_tokens.specs.Tokens.{Lexeme, Begins, ReadsTo, Reads}
-use Rattle.rust_tokens.specs.Files.{is_gap, is_bracket, is_mark, OpensAttribute, mark, shebang}
-use Rattle.rust_tokens.specs.Files.{IsMarked, IsShebanged, ReadsFile}
-use Rattle.rust_tokens.specs.First.{Body, first_body, first_of}
+use Rattle.rust_tokens.specs.Tokens.{Lexeme, Begins, ReadsTo}
+use Rattle.rust_tokens.specs.Files.{is_gap, is_bracket, OpensAttribute, mark, shebang}
+use Rattle.rust_tokens.specs.Files.{IsMarked, IsShebanged}
+use Rattle.rust_tokens.specs.First.{Body, first_of}
 use Rattle.rust_tokens.specs.Placed.{byte_length, end_of, end_of_all, token_at, placed, between}
 use Rattle.rust_tokens.proofs.Basics.{no_pass, front, front-behind, all-front, stops-behind}
 use Rattle.rust_tokens.proofs.Basics.{strip-reads}
 use Rattle.rust_tokens.proofs.Classes.{start_at}
-use Rattle.rust_tokens.proofs.NotEmpty.{body-bytes}
-use Rattle.rust_tokens.proofs.Readings.{reads-more, placed-more, end-more, bytes-join, reads-once}
+use Rattle.rust_tokens.proofs.Readings.{reads-more, placed-more, end-more, bytes-join}
 use Rattle.rust_tokens.proofs.Readings.{not-at-end}
 use Rattle.rust_tokens.proofs.Suffixes.{begins-once, begins-first}
 
@@ -223,6 +222,16 @@ no-attribute f o t rest m x p b g e n a =
     (λ y r d. ap (λ z. is_gap z.kind) (begins-once y x rest r m d b).0 ∙ g) a.4 in
     false≢true (sym n ∙ (some-map f o ∙ (ap (λ z. is_some z) e ∙ (bracket-there rest
     ∙ (ap (λ u. first_passes is_bracket u) same ∙ a.4)))))
+
+pub attribute-there : {A : Type 0} (f : A → Text) (o : Option A) (t rest : Text) → Passed t rest
+    → option_map f o ≡ strip 91 rest → is_some o ≡ true → OpensAttribute t
+attribute-there f o t rest p e y = (
+  p.0,
+  rest,
+  p.1,
+  p.2,
+  sym (bracket-there rest) ∙ (ap (λ z. is_some z) (sym e) ∙ (sym (some-map f o) ∙ y)),
+)
 
 pub no-attribute-at-end : (t rest : Text) → Passed t rest → rest ≡ [] → OpensAttribute t → ⊥
 no-attribute-at-end t rest p e a =

@@ -1,13 +1,10 @@
 -- An opening ends behind the word that it begins with.
-use Rattle.std.proofs.Common.{◌≡◌, ℕ, ◌+◌, ◌≤◌, Bool, true, false, ◌&&◌, ◌++◌, cond, [], ◌∷◌, ◌⊎◌}
-use Rattle.std.proofs.Common.{inl, inr}
+use Rattle.std.proofs.Common.{◌≡◌, ℕ, ◌+◌, ◌≤◌, Bool, true, false, ◌&&◌, ◌++◌, cond, [], ◌∷◌}
 use Rattle.std.proofs.Common.{Option, Some, None, refl, ap, sym, ◌∙◌, append_assoc, subst, length}
 use Rattle.std.proofs.Common.{length-append, arith}
 use Rattle.std.specs.Prelude.{◌==◌, codes, flat_map, replicate, option_map}
 use Rattle.std.specs.List.{list_all}
-use Rattle.std.proofs.lemmas.Bool.{eqb-true, false≢true, and_parts, cond_both, cond-true}
-use Rattle.std.proofs.lemmas.Bool.{cond-false}
-use Rattle.std.proofs.lemmas.Option.{none-some}
+use Rattle.std.proofs.lemmas.Bool.{eqb-true, false≢true, and_parts, cond_both}
 use Rattle.rust_tokens.specs.Texts.{Text, strip, or}
 use Rattle.rust_tokens.specs.Runs.{behind, count, is_id_start, is_id_continue, is_hash}
 use Rattle.rust_tokens.specs.Strings.{spelling, behind_string}
@@ -21,7 +18,7 @@ use Rattle.rust_tokens.specs.declared.kinds.Kind.TheVariants.{RawByteStr}
 use Rattle.rust_tokens.specs.declared.kinds.Kind.TheVariants.{RawCStr, Byte}
 use Rattle.rust_tokens.specs.declared.openings.Opening.{Opening}
 use Rattle.rust_tokens.specs.declared.openings.Opening.TheVariants.{Quote, Raw, ByteQuote, RawWord}
-use Rattle.rust_tokens.specs.First.{Body, closed, closed_or, by_opening}
+use Rattle.rust_tokens.specs.First.{closed, closed_or, by_opening}
 use Rattle.rust_tokens.proofs.Basics.{strip-reads}
 use Rattle.rust_tokens.proofs.CharEnds.{char-reads}
 use Rattle.rust_tokens.proofs.Classes.{goes_on-quote, goes_on-hash, goes_on-tick}

@@ -1,11 +1,10 @@
 -- Where numbers end.
 use Rattle.std.proofs.Common.{◌≡◌, ℕ, Bool, true, false, ◌&&◌, ◌||◌, ◌++◌, cond, [], ◌∷◌, inl, inr}
 use Rattle.std.proofs.Common.{◌⊎◌}
-use Rattle.std.proofs.Common.{Option, Some, None, refl, ap, sym, ◌∙◌, append_assoc}
+use Rattle.std.proofs.Common.{Some, None, refl, ap, sym, ◌∙◌, append_assoc}
 use Rattle.std.specs.Prelude.{◌==◌, codes, IsTrue}
 use Rattle.std.specs.List.{list_all}
-use Rattle.std.proofs.lemmas.Bool.{eqb-true, false≢true, and_parts, and_from, cond-true, cond-false}
-use Rattle.std.proofs.lemmas.Option.{none-some, same_Some}
+use Rattle.std.proofs.lemmas.Bool.{eqb-true, and_parts, and_from, cond-true, cond-false}
 use Rattle.rust_tokens.specs.Texts.{Text}
 use Rattle.rust_tokens.specs.Runs.{first_passes, stops, behind, is_space, is_id_start, is_digit}
 use Rattle.rust_tokens.specs.Runs.{is_digit_part, is_underscore}
@@ -21,6 +20,7 @@ use Rattle.rust_tokens.specs.First.{first_zero}
 use Rattle.rust_tokens.specs.First.{first_decimal, fraction_or, behind_fraction, exponent_or}
 use Rattle.rust_tokens.proofs.Classes.{apart, behind-append, behind-more, digit-starts}
 use Rattle.rust_tokens.proofs.Classes.{digit-space, digit-part}
+use Rattle.rust_tokens.proofs.Exponents.{exponent-ends, exponent-none}
 use Rattle.rust_tokens.proofs.Basics.{not_false, no_pass, neither, and_no}
 
 pub unspaced : (c : ℕ) (t : Text) → is_space c ≡ false
@@ -80,7 +80,8 @@ decimal-found b a x =
     let y = x.0 in
     ap (λ t. first_of (t ++ a)) y.4
     ∙ (at-decimal y.0 y.1 a y.2 y.3 (not_false _ x.1) (sym (ap (λ t. is_based (t ++ a)) y.4) ∙ x.4)
-    ∙ (ap (λ o. Some (fraction_or a o)) x.2 ∙ ap (λ o. Some (exponent_or DecimalInt a o)) x.3))
+    ∙ (ap (λ o. Some (fraction_or a o)) x.2 ∙ ap (λ o. Some (exponent_or DecimalInt a o))
+    (exponent-none a x.3)))
 
 -- Behind a point.
 pub at-point : (d : ℕ) (w u : Text) → is_digit d ≡ true → list_all is_digit_part w ≡ true
@@ -122,41 +123,7 @@ fractional-found b a x =
     ap (λ t. first_of (t ++ a)) (x.4 ∙ ap (λ t. t ++ (46 ∷ x.1)) y.4)
     ∙ (ap (λ t. first_of (y.0 ∷ t)) (append_assoc y.1 (46 ∷ x.1) a)
     ∙ (at-fractional y.0 y.1 x.1 a y.2 y.3 x.3 (not_false _ x.5)
-    ∙ ap (λ o. Some (exponent_or Float a o)) x.6))
-
-underscores-digit : (us : Text) (d : ℕ) (u : Text) → list_all is_underscore us ≡ true
-    → is_digit d ≡ true → behind is_underscore (us ++ d ∷ u) ≡ d ∷ u
-underscores-digit us d u a y =
-    behind-append is_underscore us (d ∷ u) a (apart is_digit d 95 refl y)
-
-no-sign : (us : Text) (d : ℕ) (u : Text) → list_all is_underscore us ≡ true
-    → is_digit d ≡ true → behind_sign (us ++ d ∷ u) ≡ us ++ d ∷ u
-no-sign [] d u a y = cond-false (is_sign d) _ _
-    (rw (apart is_digit d 43 refl y, apart is_digit d 45 refl y) refl)
-no-sign (c ∷ us) d u a y =
-    let h = (and_parts (is_underscore c) _ a).0 in
-    cond-false (is_sign c) _ _
-    (rw (apart is_underscore c 43 refl h, apart is_underscore c 45 refl h) refl)
-
--- What is behind an exponent, with all its digits, is found.
-exponent-ends : (x a : Text) → IsExponent x
-    → behind_exponent (x ++ a) ≡ Some (behind is_digit_part a)
-exponent-ends x a y =
-    ap (λ t. behind_exponent (t ++ a)) y.10 ∙ (cond-true (is_exponent_mark y.0) _ _ y.5
-    ∙ (ap (λ t. behind_digits (behind is_underscore (behind_sign t)))
-    (append_assoc y.1 (y.2 ++ y.3 ∷ y.4) a
-    ∙ ap (λ t. y.1 ++ t) (append_assoc y.2 (y.3 ∷ y.4) a))
-    ∙ (ap (λ t. behind_digits (behind is_underscore t)) (signed y.6)
-    ∙ (ap (λ t. behind_digits t) (underscores-digit y.2 y.3 (y.4 ++ a) y.7 y.8)
-    ∙ (cond-true (is_digit y.3) _ _ y.8
-    ∙ ap (λ t. Some t) (behind-more is_digit_part (y.3 ∷ y.4) a
-    (and_from _ _ (digit-part y.3 y.8) y.9)))))))
-  where
-    signed : (y.1 ≡ []) ⊎ ((m : ℕ) × IsTrue (is_sign m) × (y.1 ≡ m ∷ []))
-        → behind_sign (y.1 ++ (y.2 ++ y.3 ∷ (y.4 ++ a))) ≡ y.2 ++ y.3 ∷ (y.4 ++ a)
-    signed (inl e) = rw e (no-sign y.2 y.3 (y.4 ++ a) y.7 y.8)
-    signed (inr m) = ap (λ s. behind_sign (s ++ (y.2 ++ y.3 ∷ (y.4 ++ a)))) m.2
-        ∙ cond-true (is_sign m.0) _ _ m.1
+    ∙ ap (λ o. Some (exponent_or Float a o)) (exponent-none a x.6)))
 
 -- An exponent's mark is no digit, no point and no base's letter.
 mark-facts : (c : ℕ) → is_exponent_mark c ≡ true → (is_digit_part c ≡ false) × ((c == 46) ≡ false)

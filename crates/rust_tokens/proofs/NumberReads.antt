@@ -1,10 +1,10 @@
 -- What is found of a number is one by the grammar.
-use Rattle.std.proofs.Common.{◌≡◌, ℕ, Bool, true, false, ◌&&◌, ◌||◌, ◌++◌, cond, [], ◌∷◌, inl, inr}
+use Rattle.std.proofs.Common.{◌≡◌, ℕ, Bool, true, false, ◌&&◌, ◌++◌, cond, [], ◌∷◌, inl, inr}
 use Rattle.std.proofs.Common.{◌⊎◌}
 use Rattle.std.proofs.Common.{Option, Some, None, refl, ap, sym, ◌∙◌, append_assoc, subst}
 use Rattle.std.specs.Prelude.{◌==◌, codes, IsTrue}
 use Rattle.std.specs.List.{list_all}
-use Rattle.std.proofs.lemmas.Bool.{eqb-true, false≢true, and_parts, cond-true, cond_both}
+use Rattle.std.proofs.lemmas.Bool.{eqb-true, false≢true, cond-true, cond_both}
 use Rattle.std.proofs.lemmas.Option.{none-some, same_Some}
 use Rattle.rust_tokens.specs.Texts.{Text}
 use Rattle.rust_tokens.specs.Runs.{first_passes, stops, behind, is_digit, is_digit_part}
@@ -19,68 +19,14 @@ use Rattle.rust_tokens.specs.declared.kinds.Kind.TheVariants.{OctalInt}
 use Rattle.rust_tokens.specs.declared.kinds.Kind.TheVariants.{HexadecimalInt}
 use Rattle.rust_tokens.specs.Tokens.{Stands}
 use Rattle.rust_tokens.specs.First.{Body, first_number, first_zero, first_decimal, fraction_or}
-use Rattle.rust_tokens.specs.First.{behind_fraction, exponent_or}
+use Rattle.rust_tokens.specs.First.{exponent_or}
 use Rattle.rust_tokens.proofs.Classes.{digit-part}
+use Rattle.rust_tokens.proofs.Exponents.{exponent-reads, no-exponent}
 use Rattle.rust_tokens.proofs.Basics.{no_pass, front, front-behind, all-front, stops-behind}
 
 -- The text is a token without its suffix and what is left.
 abbrev pub Found : Text → Body → Type 0
 Found whole x = (b : Text) × (whole ≡ b ++ x.2) × Stands x.0 x.1 b x.2
-
-sign-reads : (t : Text) → (s : Text)
-    × ((s ≡ []) ⊎ ((m : ℕ) × IsTrue (is_sign m) × (s ≡ m ∷ []))) × (t ≡ s ++ behind_sign t)
-sign-reads [] = ([], inl refl, refl)
-sign-reads (c ∷ t) = by_test (is_sign c) refl
-  where
-    by_test : (b : Bool) → is_sign c ≡ b → (s : Text)
-        × ((s ≡ []) ⊎ ((m : ℕ) × IsTrue (is_sign m) × (s ≡ m ∷ [])))
-        × (c ∷ t ≡ s ++ cond b t (c ∷ t))
-    by_test true e = (c ∷ [], inr (c, e, refl), refl)
-    by_test false e = ([], inl refl, refl)
-
-digits-read : (t m : Text) → behind_digits t ≡ Some m → (d : ℕ) × (w : Text) × IsTrue (is_digit d)
-    × IsTrue (list_all is_digit_part w) × IsTrue (stops is_digit_part m) × (t ≡ d ∷ (w ++ m))
-digits-read [] m h = absurd (none-some m h)
-digits-read (d ∷ t) m h = by_test (is_digit d) refl h
-  where
-    by_test : (b : Bool) → is_digit d ≡ b
-        → cond b (Some (behind is_digit_part (d ∷ t))) None ≡ Some m
-        → (e : ℕ) × (w : Text) × IsTrue (is_digit e)
-        × IsTrue (list_all is_digit_part w) × IsTrue (stops is_digit_part m)
-        × (d ∷ t ≡ e ∷ (w ++ m))
-    by_test false e h = absurd (none-some m h)
-    by_test true e h =
-        let same : behind is_digit_part t ≡ m =
-        sym (cond-true (is_digit_part d) _ _ (digit-part d e)) ∙ same_Some _ m h in (
-          d,
-          front is_digit_part t,
-          e,
-          all-front is_digit_part t,
-          subst (λ u. IsTrue (stops is_digit_part u)) same (stops-behind is_digit_part t),
-          ap (λ u. d ∷ u) (front-behind is_digit_part t
-              ∙ ap (λ u. front is_digit_part t ++ u) same),
-        )
-
-pub exponent-reads : (t m : Text) → behind_exponent t ≡ Some m
-    → (x : Text) × IsExponent x × IsTrue (stops is_digit_part m) × (t ≡ x ++ m)
-exponent-reads [] m h = absurd (none-some m h)
-exponent-reads (c ∷ t) m h = by_test (is_exponent_mark c) refl h
-  where
-    by_test : (b : Bool) → is_exponent_mark c ≡ b
-        → cond b (behind_digits (behind is_underscore (behind_sign t))) None ≡ Some m
-        → (x : Text) × IsExponent x × IsTrue (stops is_digit_part m) × (c ∷ t ≡ x ++ m)
-    by_test false e h = absurd (none-some m h)
-    by_test true e h =
-        let s = sign-reads t in
-        let us : Text = front is_underscore (behind_sign t) in
-        let x = digits-read (behind is_underscore (behind_sign t)) m h in (
-          c ∷ (s.0 ++ (us ++ x.0 ∷ x.1)),
-          (c, s.0, us, x.0, x.1, e, s.1, all-front is_underscore (behind_sign t), x.2, x.3, refl),
-          x.4,
-          ap (λ u. c ∷ u) (s.2 ∙ (ap (λ u. s.0 ++ u) (front-behind is_underscore (behind_sign t)
-              ∙ (ap (λ u. us ++ u) x.5 ∙ sym (append_assoc us (x.0 ∷ x.1) m)))
-              ∙ sym (append_assoc s.0 (us ++ x.0 ∷ x.1) m))),
-        )
 
 pub point-reads : (t m : Text) → behind_point t ≡ Some m
     → (t ≡ 46 ∷ m) × IsTrue (stops is_point_or_start m)
@@ -144,7 +90,14 @@ decimal-read c t y based = by_point (behind_point u) refl
       joins,
       (
         refl,
-        (digits, stops-behind is_digit_part t, p, e, ap (λ v. is_based v) (sym joins) ∙ based),
+        (
+          digits,
+          stops-behind is_digit_part t,
+          p,
+          no-exponent u e,
+          ap (λ v. is_based v)
+              (sym joins) ∙ based,
+        ),
       ),
     )
     plain (Some m) e p = scientific ds [] (c ∷ t) u m digits (inl refl) joins e
@@ -155,7 +108,18 @@ decimal-read c t y based = by_point (behind_point u) refl
     fractional v fs f j None e = (
       ds ++ 46 ∷ fs,
       j ∙ sym (append_assoc ds (46 ∷ fs) (behind is_digit_part v)),
-      (refl, inr (inl (ds, fs, digits, f, refl, stops-behind is_digit_part v, e))),
+      (
+        refl,
+        inr (inl (
+          ds,
+          fs,
+          digits,
+          f,
+          refl,
+          stops-behind is_digit_part v,
+          no-exponent (behind is_digit_part v) e,
+        )),
+      ),
     )
     fractional v fs f j (Some m) e =
         scientific ds (46 ∷ fs) (c ∷ t) (behind is_digit_part v) m digits (inr (fs, f, refl)) j e

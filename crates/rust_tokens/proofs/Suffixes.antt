@@ -1,16 +1,14 @@
 -- Tokens with their suffixes: each text begins with exactly one.
-use Rattle.std.proofs.Common.{◌≡◌, ℕ, Bool, true, false, not, ◌&&◌, ◌++◌, cond, [], ◌∷◌, inl, inr}
-use Rattle.std.proofs.Common.{◌⊎◌}
-use Rattle.std.proofs.Common.{Option, Some, None, refl, ap, sym, ◌∙◌, append_assoc, subst}
-use Rattle.std.specs.Prelude.{IsTrue}
+use Rattle.std.proofs.Common.{◌≡◌, Bool, true, false, ◌&&◌, ◌++◌, cond, [], ◌∷◌, inl, inr}
+use Rattle.std.proofs.Common.{Some, refl, ap, sym, ◌∙◌, subst}
 use Rattle.std.proofs.lemmas.Bool.{cond-true, cond-false}
 use Rattle.std.proofs.lemmas.List.{append_cancel_right}
 use Rattle.std.proofs.lemmas.Option.{none-some, same_Some}
 use Rattle.rust_tokens.specs.declared.kinds.Kind.{Kind}
 use Rattle.rust_tokens.specs.Texts.{Text}
-use Rattle.rust_tokens.specs.Runs.{stops, behind, IsWord, is_id_start, is_id_continue}
+use Rattle.rust_tokens.specs.Runs.{behind, is_id_start, is_id_continue}
 use Rattle.rust_tokens.specs.Tokens.{Stands, is_literal, IsSuffix, Lexeme, Begins}
-use Rattle.rust_tokens.specs.First.{Body, first_body, first_of, behind_suffix}
+use Rattle.rust_tokens.specs.First.{Body, first_of, behind_suffix}
 use Rattle.rust_tokens.proofs.Basics.{not_false, no_pass, front, front-behind, all-front}
 use Rattle.rust_tokens.proofs.Basics.{stops-behind}
 use Rattle.rust_tokens.proofs.Classes.{behind-append}

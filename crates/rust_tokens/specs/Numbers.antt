@@ -7,10 +7,10 @@
 -- A digit that its base lacks, as in `0b2`, and no digit, as in `0x`, are faults of the content.
 -- Where no FLOAT_EXPONENT follows, as in `1e` or `1em`, the `e` begins a suffix.
 use Prim.Native.Char.{code}
-use Rattle.std.specs.Prelude.{◌≡◌, ℕ, Bool, false, not, ◌&&◌, ◌||◌, ◌==◌, ◌++◌, ◌⊎◌, IsTrue}
-use Rattle.std.specs.Prelude.{if◌then◌else◌, [], ◌∷◌, Option, Some, None, codes, is_some}
+use Rattle.std.specs.Prelude.{◌≡◌, ℕ, Bool, false, ◌&&◌, ◌||◌, ◌==◌, ◌++◌, ◌⊎◌, IsTrue}
+use Rattle.std.specs.Prelude.{if◌then◌else◌, [], ◌∷◌, Option, Some, None, codes}
 use Rattle.std.specs.List.{list_all}
-use Rattle.rust_tokens.specs.Texts.{Text}
+use Rattle.rust_tokens.specs.Texts.{Text, HasNoFront}
 use Rattle.rust_tokens.specs.Runs.{first_passes, stops, behind, IsRun, is_id_start, is_digit}
 use Rattle.rust_tokens.specs.Runs.{is_digit_part, is_underscore}
 
@@ -68,7 +68,7 @@ is_based (c ∷ d ∷ t) =
 -- The digits b, with the text a behind them, are a whole number.
 abbrev pub IsDecimal : Text → Text → Type 0
 IsDecimal b a = IsDigits b × IsTrue (stops is_digit_part a) × (behind_point a ≡ None)
-    × (behind_exponent a ≡ None) × (is_based (b ++ a) ≡ false)
+    × HasNoFront IsExponent a × (is_based (b ++ a) ≡ false)
 
 -- A base's letter, digits of a class with `_`, and no more of them in the text a behind.
 abbrev pub IsBased : ℕ → (ℕ → Bool) → Text → Text → Type 0
@@ -83,7 +83,7 @@ IsPointed b a = (ds : Text) × IsDigits ds × (b ≡ ds ++ codes ".")
 -- DEC_LITERAL `.` DEC_LITERAL
 abbrev pub IsFractional : Text → Text → Type 0
 IsFractional b a = (ds fs : Text) × IsDigits ds × IsDigits fs × (b ≡ ds ++ (codes "." ++ fs))
-    × IsTrue (stops is_digit_part a) × (behind_exponent a ≡ None)
+    × IsTrue (stops is_digit_part a) × HasNoFront IsExponent a
 
 -- DEC_LITERAL ( `.` DEC_LITERAL )? FLOAT_EXPONENT
 abbrev pub IsScientific : Text → Text → Type 0

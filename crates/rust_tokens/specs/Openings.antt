@@ -1,6 +1,7 @@
 -- What begins with letters and is no plain word: literals with a prefix, and raw identifiers.
 use Prim.Native.Char.{code}
-use Rattle.std.specs.Prelude.{ℕ, ◌&&◌, ◌==◌, if◌then◌else◌, [], ◌∷◌, Option, Some, None, option_map}
+use Rattle.std.specs.Prelude.{◌≡◌, ◌⊎◌, ◌++◌, ◌&&◌, ◌==◌, ℕ, if◌then◌else◌, IsTrue, [], ◌∷◌}
+use Rattle.std.specs.Prelude.{Option, Some, None, option_map, codes, replicate}
 use Rattle.rust_tokens.specs.declared.kinds.Kind.{Kind}
 use Rattle.rust_tokens.specs.declared.kinds.Kind.TheVariants.{Str, ByteStr, CStr, RawStr}
 use Rattle.rust_tokens.specs.declared.kinds.Kind.TheVariants.{RawByteStr, RawCStr}
@@ -8,6 +9,22 @@ use Rattle.rust_tokens.specs.declared.openings.Opening.{Opening}
 use Rattle.rust_tokens.specs.declared.openings.Opening.TheVariants.{Quote, Raw, ByteQuote, RawWord}
 use Rattle.rust_tokens.specs.Texts.{Text, strip, or}
 use Rattle.rust_tokens.specs.Runs.{behind, count, is_hash, is_id_start}
+
+-- The letters of a literal and its quote: `"`, `b"`, `c"`, `b'`.
+abbrev pub IsQuoteOpening : Text → Type 0
+IsQuoteOpening p = (p ≡ codes "\"") ⊎ ((p ≡ codes "b\"") ⊎ ((p ≡ codes "c\"") ⊎ (p ≡ codes "b'")))
+
+-- The letters of a raw literal, hashes and a quote: `r`, `br` or `cr`, any number of `#`, and `"`.
+abbrev pub IsRawOpening : Text → Type 0
+IsRawOpening p = (n : ℕ) × ((p ≡ codes "r" ++ (replicate n (code "#") ++ codes "\""))
+    ⊎ ((p ≡ codes "br" ++ (replicate n (code "#") ++ codes "\""))
+    ⊎ (p ≡ codes "cr" ++ (replicate n (code "#") ++ codes "\""))))
+
+-- What begins a literal in quotes or a raw identifier: an opening as above, or `r#` and the first
+-- character of a word.
+abbrev pub IsOpening : Text → Type 0
+IsOpening p = IsQuoteOpening p ⊎ (IsRawOpening p
+    ⊎ ((c : ℕ) × IsTrue (is_id_start c) × (p ≡ codes "r#" ++ (c ∷ []))))
 
 -- Hashes and a quote: the opening of a raw string of this kind, and what is left behind it.
 abbrev pub raw_opening : Kind → Text → Option (Opening × Text)

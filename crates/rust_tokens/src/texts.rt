@@ -3,7 +3,7 @@
 ghost use Rattle.std.specs.Prelude.{◌≡◌, ◌<◌, IfSome, chars, length, option_map};
 ghost use Rattle.rust_tokens.specs.Classes.{passes};
 ghost use Rattle.rust_tokens.specs.Runs.{behind, count, first_passes, is_digit_part, is_hash};
-ghost use Rattle.rust_tokens.specs.Runs.{is_hex_part, is_id_continue, is_id_start, is_punct, is_space};
+ghost use Rattle.rust_tokens.specs.Runs.{is_hex_part, is_id_start, is_punct, is_space};
 ghost use Rattle.rust_tokens.specs.Characters.{is_plain};
 ghost use Rattle.rust_tokens.specs.Texts.{split_first, strip};
 
@@ -48,7 +48,7 @@ impl Class {
         match self {
             Class::Space => is_space(c),
             Class::Line => c != '\n',
-            Class::Continue => is_id_continue(c),
+            Class::Continue => unicode_ident::is_xid_continue(c),
             Class::Hash => c == '#',
             Class::Escape => c != '\'' && c != '\n',
             Class::Apostrophe => c == '\'',
@@ -81,27 +81,10 @@ pub fn is_space(c: char) -> bool
 }
 
 /// Returns whether the character begins a word.
-#[tactic(auto, using(crate::proofs::Classes::ascii_words))]
-#[inline(always)]
 pub fn is_id_start(c: char) -> bool
     ensures { result ≡ is_id_start c }
 {
-    if c < '\u{80}' {
-        return c == '_' || c.is_ascii_alphabetic();
-    }
-    unicode_ident::is_xid_start(c)
-}
-
-/// Returns whether the character continues a word.
-#[tactic(auto, using(crate::proofs::Classes::ascii_words))]
-#[inline(always)]
-fn is_id_continue(c: char) -> bool
-    ensures { result ≡ is_id_continue c }
-{
-    if c < '\u{80}' {
-        return c.is_ascii_alphanumeric() || c == '_';
-    }
-    unicode_ident::is_xid_continue(c)
+    c == '_' || unicode_ident::is_xid_start(c)
 }
 
 /// Returns whether the character is punctuation or a delimiter.
@@ -125,7 +108,6 @@ pub fn is_plain(c: char) -> bool
 }
 
 /// Returns the first character and what is left, or `None` if the text is empty.
-#[inline(always)]
 pub fn split_first(text: &str) -> Option<(char, &str)>
     ensures value { option_map (λ x. (x.0, chars x.1.now)) result ≡ split_first (chars text.now) }
     ensures shorter { IfSome result (λ x. length x.1.now < length text.now) }

@@ -1,5 +1,5 @@
 use Rattle.std.proofs.Common.{rules, IsUtf8}
-use Rattle.rust_tokens.proofs.Readings.{step-begins, first-none, fewer}
+use Rattle.rust_tokens.proofs.Readings.{step-begins, fewer}
 use Rattle.rust_tokens.proofs.lexer.next_step.Goals as goal
 
 pub returns-clause-begins : goal.returns-clause-begins

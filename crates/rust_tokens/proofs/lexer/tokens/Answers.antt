@@ -1,4 +1,4 @@
-use Rattle.std.proofs.Common.{rules, arith, [], refl}
+use Rattle.std.proofs.Common.{rules, arith, refl}
 use Rattle.rust_tokens.proofs.Covering.{lexed-covers}
 use Rattle.rust_tokens.proofs.Files.{lexed-more, lexed-start}
 use Rattle.rust_tokens.proofs.Readings.{place-token}
