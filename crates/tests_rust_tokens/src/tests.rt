@@ -1,8 +1,8 @@
 //! The tokens of texts. Each expected value was worked out by hand from the rules of the Rust
 //! Reference.
 
-use crate::Kind::{self, *};
-use crate::{Token, first_token, tokens};
+use rust_tokens::Kind::{self, *};
+use rust_tokens::{Token, first_token, tokens};
 use std::alloc::Global;
 use std::io::Print;
 use std::process::Abort;
@@ -275,7 +275,7 @@ fn first_of_a_text(rt: HostRuntime) {
 
 /// The test passes whether or not an allocation fails: then the tokens are read again.
 #[test]
-fn an_allocation_fails(rt: HostRuntime) -> Result<(), Fail> {
+fn tokens_out_of_memory_are_read_again(rt: HostRuntime) -> Result<(), Fail> {
     let alloc = rt.alloc();
     let text = "\u{feff}#!a\nlet b = 1;";
     let found = match tokens(alloc, text) {
