@@ -1,5 +1,6 @@
 -- The state after each part of a call has been read, and recovery.
 pub mod Errors
+pub mod Marks
 pub mod Parts
 pub mod Placeholders
 pub mod RawWords

@@ -24,11 +24,14 @@ pub mod Bytes
 pub mod Classes
 pub mod SeenFaults
 pub mod Seen
+pub mod SeenSteps
 pub mod LiteralUnits
 pub mod Literal
 pub mod Source
 pub mod World
 pub mod Lines
+pub mod Marked
+pub mod Placing
 pub mod SeenSource
 pub mod Back
 pub mod Midway

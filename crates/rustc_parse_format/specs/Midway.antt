@@ -1,21 +1,21 @@
--- What contracts see in the middle of a call. Only private contracts use it.
+-- What contracts see in the middle of a call: what is left of the input, and what was found. Its
+-- places are marks: how many bytes of the input are left. Nothing here knows the source. Only
+-- private contracts use it.
 use Prim.Native.Char.{code}
-use Rattle.std.specs.Prelude.{chars, Bool, not, ◌&&◌, if◌then◌else◌, ◌≡◌, ◌<◌, ◌≤◌, ◌+◌, ◌-◌, ℕ}
-use Rattle.std.specs.Prelude.{◌++◌, true, List, [], ◌∷◌, length, Option, Some, None}
-use Rattle.std.specs.Char.{is_whitespace}
-use Rattle.rustc_parse_format.specs.declared.source.Source.{Source}
+use Rattle.std.specs.Prelude.{chars, Bool, not, ◌&&◌, if◌then◌else◌, ◌≡◌, ◌≤◌, ◌+◌, ◌-◌, ℕ}
+use Rattle.std.specs.Prelude.{◌++◌, List, [], ◌∷◌, length, Option, Some, None, option_map}
 use Rattle.rustc_parse_format.specs.Characters.{Text, front, behind, behind_first, begins_with}
 use Rattle.rustc_parse_format.specs.Characters.{is_no_brace}
 use Rattle.rustc_parse_format.specs.Back.{Back, IsPaid}
+use Rattle.rustc_parse_format.specs.Bytes.{IsLeft}
 use Rattle.rustc_parse_format.specs.Marks.{Span, marked, through}
+use Rattle.rustc_parse_format.specs.Marked.{mark_world}
 use Rattle.rustc_parse_format.specs.Faults.{Fault}
-use Rattle.rustc_parse_format.specs.World.{World, Place, StartBehind, faults_in, place_at}
+use Rattle.rustc_parse_format.specs.World.{World, Place, faults_in, place_of}
 use Rattle.rustc_parse_format.specs.Call.{Call, unclosed_fault}
 use Rattle.rustc_parse_format.specs.Recovery.{Recovery, recovery}
 use Rattle.rustc_parse_format.specs.Types.{Mode, Argument}
-use Rattle.rustc_parse_format.specs.SeenSource.{seen_world}
 use Rattle.rustc_parse_format.specs.Tries.{tried}
-use Rattle.rustc_parse_format.specs.Lines.{lines_in, closed_in, read_lines}
 
 -- What a cursor counts: how many characters it has read, also those that it gave back, and how many
 -- were left when it last went back.
@@ -34,9 +34,12 @@ pub record IsCounted (n t : Text) (p : Passed) : Type 0 where
   pub made : length n ≤ p.made + length t
   pub paid : IsPaid n t (back_at n t p)
 
--- What a cursor has left to read: a suffix of an input, in the world of its source.
+-- What is left is a suffix of the input, and the count of the steps up to there is right.
+abbrev pub IsAt : List ℕ → List ℕ → Passed → Type 0
+IsAt input rest p = IsLeft input rest × IsCounted (chars input) (chars rest) p
+
+-- What a cursor has left to read: a suffix of an input, in the world of its marks.
 pub record Unread : Type 0 where
-  pub source : Source
   pub world : World
   pub input : Text
   pub rest : Text
@@ -48,7 +51,6 @@ pub record Unread : Type 0 where
 -- The state of a parser in the middle of a call: what its cursor has left to read, the number that
 -- the next implicit argument takes, and what the call has found so far.
 pub record Midway : Type 0 where
-  pub source : Source
   pub world : World
   pub input : Text
   pub rest : Text
@@ -56,9 +58,8 @@ pub record Midway : Type 0 where
   pub undone : ℕ
   pub next : ℕ
   pub faults : List (Fault Place)
-  -- The byte offset where the current line starts, and the lines that ended in this call.
-  pub line_start : ℕ
-  pub lines : List Place
+  -- The characters that were read as text, each with how many characters are left from it on.
+  pub texts : List (ℕ × ℕ)
   -- The place of the placeholder that was closed.
   pub closed : Option Place
 
@@ -66,11 +67,9 @@ pub record Midway : Type 0 where
 abbrev pub opens_placeholder : Text → Bool
 opens_placeholder t = begins_with (code "{") t && not (begins_with (code "{") (behind_first t))
 
--- The state at this cursor, with this next number and this start of the current line, where the
--- call has found nothing yet.
-abbrev pub midway : Unread → ℕ → ℕ → Midway
-midway u n start = record {
-  source = u.source;
+-- The state at this cursor, with this next number, where the call has found nothing yet.
+abbrev pub midway : Unread → ℕ → Midway
+midway u n = record {
   world = u.world;
   input = u.input;
   rest = u.rest;
@@ -78,21 +77,19 @@ midway u n start = record {
   undone = u.undone;
   next = n;
   faults = [];
-  line_start = start;
-  lines = [];
+  texts = [];
   closed = None;
 }
 
 -- The call has found nothing yet.
 abbrev pub HasFoundNothing : Midway → Type 0
-HasFoundNothing s = (s.faults ≡ []) × (s.lines ≡ []) × (s.closed ≡ None)
+HasFoundNothing s = (s.faults ≡ []) × (s.texts ≡ []) × (s.closed ≡ None)
 
--- What a cursor has left to read that is at the start of the suffix `rest` of a source's input.
-abbrev pub unread_at : Source → List ℕ → Back → ℕ → Unread
-unread_at s rest b n = record {
-  source = s;
-  world = seen_world s;
-  input = chars s.input.now;
+-- What a cursor has left to read that is at the start of the suffix `rest` of an input.
+abbrev pub unread_at : List ℕ → List ℕ → Back → ℕ → Unread
+unread_at input rest b n = record {
+  world = mark_world (chars input);
+  input = chars input;
   rest = chars rest;
   back = b;
   undone = n;
@@ -108,11 +105,7 @@ read_tries s ts = record s { back = tried s.back ts }
 
 -- The state after reading these characters as text.
 abbrev pub read_texts : Midway → List (ℕ × ℕ) → Midway
-read_texts s cs =
-    record s {
-      line_start = (lines_in s.world s.line_start cs).0;
-      lines = s.lines ++ (lines_in s.world s.line_start cs).1;
-    }
+read_texts s cs = record s { texts = s.texts ++ cs }
 
 -- The state after reading the run of text at the start of what is left.
 abbrev pub read_run : Midway → Midway
@@ -121,30 +114,6 @@ read_run s =
       rest =
           behind is_no_brace s.rest;
     }
-
--- The state after the lines have taken the next character, c, of a source literal.
-abbrev pub noted_next : ℕ → Midway → Midway
-noted_next c s =
-    let next = read_lines s.line_start ((c, place_at s.world (length s.rest)) ∷ []) in
-    record s { line_start = next.0; lines = s.lines ++ next.1 }
-
--- The state after the next character, c, has been read.
-abbrev pub passed_next : ℕ → Midway → Midway
-passed_next c s = record (noted_next c s) { rest = behind_first s.rest }
-
--- The characters from c on are not white space at the start of the line: those after c start later
--- than the line, and so does c if it is white space.
-abbrev pub IsPastIndent : ℕ → ℕ → World → Text → Type 0
-IsPastIndent c start w t = (is_whitespace c ≡ true → start < (place_at w (length t)).0)
-    × StartBehind start w (length (behind_first t))
-
--- There are no faults among these, and reading these characters as text ends no line.
-abbrev pub FindsNothing : Midway → List (Fault Span) → List (ℕ × ℕ) → Type 0
-FindsNothing s fs cs = (fs ≡ []) × ((read_texts s cs).lines ≡ s.lines)
-
--- Reading the run of text at the start of what is left ends no line.
-abbrev pub IsInOneLine : Midway → Type 0
-IsInOneLine s = (read_run s).lines ≡ s.lines
 
 -- The place of the placeholder that was closed last, if any was.
 abbrev pub closed_then : Option Place → Option Place → Option Place
@@ -156,7 +125,7 @@ abbrev pub read_call : Midway → Call → Midway
 read_call s k =
     record (read_texts (read_tries (read_to s k.rest k.next k.faults) k.tries) k.texts) {
       closed =
-          closed_then s.closed (closed_in s.world k.closes);
+          closed_then s.closed (option_map (place_of s.world) k.closes);
     }
 
 -- The state after reading the character with this fault. Without a fault it is unchanged.
@@ -175,7 +144,7 @@ behind_closing mode o a s =
     if begins_with (code "}") s.rest
     then record s {
       rest = behind_first s.rest;
-      closed = closed_then s.closed (closed_in s.world (Some (through o s.rest)));
+      closed = Some (place_of s.world (through o s.rest));
     }
     else recovered (read_to s s.rest s.next (unclosed_fault o a.format s.rest ∷ []))
     (recovery mode s.next o a s.rest)

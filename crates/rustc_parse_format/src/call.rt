@@ -3,32 +3,47 @@
 
 use crate::faults::Fault;
 use crate::laws::default_of_spec;
-use crate::placeholder::blank_argument;
 use crate::reader::Reader;
-use crate::types::{Argument, ParseMode, Piece, Position, Taken};
-use std::alloc::{AllocError, Global};
+use crate::types::{Argument, ParseMode, Position};
+use std::alloc::AllocError;
 use std::ops::Range;
+
+/// What a call has read.
+#[derive(Clone, Copy)]
+pub enum Step<'input> {
+    /// Literal text, borrowed from the input. An escaped brace, `{{` or `}}`, is one brace.
+    Lit(&'input str),
+    /// A placeholder, which is in the argument of the caller.
+    NextArgument,
+    /// A closing brace that closes nothing.
+    Unmatched,
+    /// Nothing: no input is left.
+    End,
+}
 
 impl<'input> Reader<'input> {
     ghost use Rattle.std.specs.Prelude.{[], ◌++◌, ◌+◌, ◌<◌, ◌^◌, ◌∷◌, ◌≡◌, IfOk, chars};
-    ghost use Rattle.std.specs.Prelude.{if◌then◌else◌, IsOk, length, OnErr, OnOk, option_map, Some};
+    ghost use Rattle.std.specs.Prelude.{IsOk, length, OnOk, Option, option_map, Some};
     ghost use Rattle.std.specs.Prelude.{false, true};
     ghost use Rattle.rustc_parse_format.specs.Call.{call};
     ghost use Rattle.rustc_parse_format.specs.Characters.{Text, begins_with, behind_first, first};
+    ghost use Rattle.rustc_parse_format.specs.Characters.{front, is_nil, is_no_brace, with_first};
     ghost use Rattle.rustc_parse_format.specs.Faults.{brace_fill, no_brace};
+    ghost use Rattle.rustc_parse_format.specs.Identifiers.{is_identifier};
     ghost use Rattle.rustc_parse_format.specs.Marks.{End, Span, over_first, up_to};
     ghost use Rattle.rustc_parse_format.specs.Reads.{Reaches};
-    ghost use Rattle.rustc_parse_format.specs.Seen.{pair, seen, seen_argument, seen_mode};
-    ghost use Rattle.rustc_parse_format.specs.Seen.{seen_position, seen_spec, seen_taken};
-    ghost use Rattle.rustc_parse_format.specs.Midway.{FindsNothing, behind_closing};
-    ghost use Rattle.rustc_parse_format.specs.Midway.{opens_placeholder, read_call};
-    ghost use Rattle.rustc_parse_format.specs.Types.{Argument as ArgumentValue, Implicit, Lit};
+    ghost use Rattle.rustc_parse_format.specs.Seen.{pair, seen_argument, seen_mode};
+    ghost use Rattle.rustc_parse_format.specs.Seen.{seen_position, seen_spec};
+    ghost use Rattle.rustc_parse_format.specs.SeenSteps.{is_end, seen_step};
+    ghost use Rattle.rustc_parse_format.specs.Midway.{behind_closing};
+    ghost use Rattle.rustc_parse_format.specs.Midway.{opens_placeholder, read_call, read_run};
+    ghost use Rattle.rustc_parse_format.specs.Types.{Argument as ArgumentValue, Implicit};
     ghost use Rattle.rustc_parse_format.specs.Types.{Mode, NextArgument, default_spec};
     ghost use Rattle.rustc_parse_format.specs.Types.{map_argument};
-    ghost use Rattle.rustc_parse_format.specs.World.{number_of, piece_in, place_of};
+    ghost use Rattle.rustc_parse_format.specs.World.{Place, number_of, piece_in, place_of};
 
-    /// Adds the fault that no brace closes `argument`, whose opening brace has the byte range
-    /// `opening`. Returns `Err` if an allocation fails.
+    /// Adds the fault that no brace closes `argument`, whose opening brace has the marks `opening`.
+    /// Returns `Err` if an allocation fails.
     fn missing_closing_brace(
         &mut self,
         argument: &Argument<'input>,
@@ -41,9 +56,8 @@ impl<'input> Reader<'input> {
                   (place_of self.old.world (up_to self.old.rest self.old.rest)) (pair opening)
                   ∷ [];
             })) }
-        ensures err { OnErr result (self.new.source ≡ self.old.source) }
     {
-        let (next, at) = (self.cursor.peek(), self.cursor.start());
+        let (next, at) = (self.cursor.peek(), self.cursor.mark());
         match (&argument.format.fill, &argument.format.fill_span) {
             (Some('}'), Some(fill)) => {
                 self.note(Fault::FillBrace(next, at..at, fill.start..fill.end))
@@ -52,26 +66,21 @@ impl<'input> Reader<'input> {
         }
     }
 
-    /// Moves past the closing brace of the placeholder that starts at the byte offset `start`. In a
-    /// source literal, records the byte range of the placeholder.
+    /// Moves past the closing brace of the placeholder that starts at the mark `start`, and keeps
+    /// the marks of both.
     fn consume_closing_brace(&mut self, start: usize)
         ensures state { self.new ≡ record self.old {
           rest = behind_first self.old.rest;
-          closed = if self.old.world.has_source
-              then Some (start, number_of self.old.world (End (length self.old.rest)))
-              else self.old.closed;
+          closed = Some (start, number_of self.old.world (End (length self.old.rest)));
         } }
     {
-        if self.cursor.is_source_literal() {
-            let brace = self.cursor.consume_place();
-            self.closed = Some(start..brace.end);
-        } else {
-            self.cursor.skip_char();
-        }
+        let brace = self.cursor.mark();
+        self.cursor.skip_char();
+        self.closed = Some(start..brace);
     }
 
     /// Moves past the closing brace. If it is missing, adds that fault and recovers. The opening
-    /// brace has the byte range `opening`. Returns `Err` if an allocation fails.
+    /// brace has the marks `opening`. Returns `Err` if an allocation fails.
     #[tactic(auto, using(crate::proofs::Readers::Steps::part_le))]
     fn closing_brace(
         &mut self,
@@ -79,12 +88,12 @@ impl<'input> Reader<'input> {
         argument: &Argument<'input>,
         opening: Range<usize>,
     ) -> Result<(), AllocError>
+        requires texts { is_identifier (seen_argument argument.now) ≡ true → self.old.texts ≡ [] }
         requires numbers { self.old.next + length self.old.rest < 2 ^ 64 }
         ensures state { OnOk result ((o : Text) (a : ArgumentValue Span)
             → pair opening ≡ place_of self.old.world (over_first o)
             → seen_argument argument.now ≡ map_argument (place_of self.old.world) a
             → self.new ≡ behind_closing (seen_mode mode) o a self.old) }
-        ensures source { self.new.source ≡ self.old.source }
         ensures spare { begins_with 125 self.old.rest ≡ true → IsOk result }
     {
         if self.cursor.is_next('}') {
@@ -98,7 +107,7 @@ impl<'input> Reader<'input> {
     /// Reads a placeholder, with its opening brace, into `into`, whose position is still implicit
     /// and whose format is the default. Returns `Err` if an allocation fails.
     #[tactic(auto, using(crate::proofs::Readers::Steps::part_le, crate::proofs::Readers::Placeholders::placeholder_given))]
-    pub fn placeholder(
+    fn placeholder(
         &mut self,
         mode: ParseMode,
         into: &mut Argument<'input>,
@@ -106,107 +115,88 @@ impl<'input> Reader<'input> {
         requires implicit { seen_position into.old.position ≡ Implicit 0 }
         requires blank { seen_spec into.old.format ≡ default_spec }
         requires opens { opens_placeholder self.old.rest ≡ true }
+        requires texts { self.old.texts ≡ [] }
         requires numbers { self.old.next + length self.old.rest < 2 ^ 64 }
         ensures value { (let k = call (seen_mode mode) self.old.next self.old.rest in
             OnOk result (Some (NextArgument (seen_argument into.new))
             ≡ option_map (piece_in self.old.world) k.piece)) }
         ensures reads { let k = call (seen_mode mode) self.old.next self.old.rest in
-            Reaches self.old result self.new (read_call self.old k)
-            (FindsNothing self.old k.faults k.texts) }
+            Reaches result self.new (read_call self.old k) (k.faults ≡ []) }
     {
-        let opening = self.cursor.consume_place();
+        let opening = self.cursor.mark();
+        self.cursor.skip_char();
         self.argument(mode, into)?;
         self.cursor.ws();
-        self.closing_brace(mode, into, opening)?;
+        self.closing_brace(mode, into, opening..opening)?;
         Ok(())
     }
 
-    /// Reads what is not a placeholder. Returns the text, or `None` at the end of the input and
-    /// after a closing brace that closes nothing, which is a fault. Returns `Err` if an allocation
-    /// fails.
+    /// Reads the next character, and the longest prefix without braces after it, which alone counts
+    /// as text for the lines.
+    fn string_past_brace(&mut self) -> &'input str
+        requires { self.old.texts ≡ [] }
+        ensures value { chars result.now
+            ≡ with_first self.old.rest (front is_no_brace (behind_first self.old.rest)) }
+        ensures state { self.new ≡ read_run (record self.old { rest = behind_first self.old.rest }) }
+    {
+        let from = self.cursor.checkpoint();
+        self.cursor.skip_char();
+        self.string();
+        self.cursor.since(&from)
+    }
+
+    /// Reads what is not a placeholder. Returns `Err` if an allocation fails.
     #[tactic(auto, using(crate::proofs::Readers::Steps::part_le), unfolding(crate::specs::Call::call))]
-    pub fn text(&mut self) -> Result<Option<&'input str>, AllocError>
+    fn text(&mut self) -> Result<Step<'input>, AllocError>
         requires bare { opens_placeholder self.old.rest ≡ false }
-        ensures piece { IfOk result (λ p. (m : Mode) → option_map (λ t. Lit (chars t.now)) p
-            ≡ option_map (piece_in self.old.world) (call m self.old.next self.old.rest).piece) }
+        requires texts { self.old.texts ≡ [] }
+        ensures piece { IfOk result (λ p. (m : Mode) (a : Option (ArgumentValue Place))
+            → seen_step a p ≡ option_map (piece_in self.old.world) (call m self.old.next self.old.rest).piece) }
+        ensures end { IfOk result (λ p. is_end p ≡ is_nil self.old.rest) }
         ensures state { OnOk result ((m : Mode)
             → self.new ≡ read_call self.old (call m self.old.next self.old.rest)) }
-        ensures spare { (m : Mode) → (let k = call m self.old.next self.old.rest in
-            FindsNothing self.old k.faults k.texts → IsOk result) }
-        ensures source { self.new.source ≡ self.old.source }
+        ensures spare { (m : Mode)
+            → (call m self.old.next self.old.rest).faults ≡ [] → IsOk result }
     {
         let Some(c) = self.cursor.peek() else {
-            return Ok(None);
+            return Ok(Step::End);
         };
         if c != '{' && c != '}' {
-            let text = self.string()?;
-            return Ok(Some(text));
+            return Ok(Step::Lit(self.string()));
         }
         if c == '{' || self.cursor.is_ahead('}') {
             self.cursor.skip_char();
-            let text = self.string_past_brace()?;
-            return Ok(Some(text));
+            return Ok(Step::Lit(self.string_past_brace()));
         }
-        let span = self.cursor.consume_place();
-        self.note(Fault::UnmatchedBrace(span))?;
-        Ok(None)
+        let brace = self.cursor.mark();
+        self.cursor.skip_char();
+        self.note(Fault::UnmatchedBrace(brace..brace))?;
+        Ok(Step::Unmatched)
     }
 
-    /// Reads the next piece: a placeholder, whose argument is allocated first, or text. Returns
-    /// `None` at the end of the input and after a closing brace that closes nothing. Returns `Err`
-    /// if an allocation fails.
+    /// Makes one call, and reads a placeholder into `into`. Returns `Err` if an allocation fails;
+    /// allocates only for faults.
     #[inline(always)]
-    pub fn piece(
-        &mut self,
-        alloc: Global,
-        mode: ParseMode,
-    ) -> Result<Option<Piece<'input>>, AllocError>
-        requires numbers { self.old.next + length self.old.rest < 2 ^ 64 }
-        ensures piece { IfOk result (λ p. option_map seen p
-            ≡ option_map (piece_in self.old.world)
-            (call (seen_mode mode) self.old.next self.old.rest).piece) }
-        ensures reads { let k = call (seen_mode mode) self.old.next self.old.rest in
-            Reaches self.old result self.new (read_call self.old k)
-            (FindsNothing self.old k.faults k.texts × (opens_placeholder self.old.rest ≡ false)) }
-    {
-        if self.cursor.opens_placeholder() {
-            let mut argument = Box::new(alloc, blank_argument())?;
-            self.placeholder(mode, &mut argument)?;
-            return Ok(Some(Piece::NextArgument(argument)));
-        }
-        let text = self.text()?;
-        match text {
-            Some(text) => Ok(Some(Piece::Lit(text))),
-            None => Ok(None),
-        }
-    }
-
-    /// Reads the next piece, a placeholder into `into`. Returns `None` at the end of the input and
-    /// after a closing brace that closes nothing. Returns `Err` if an allocation fails.
-    #[inline(always)]
-    pub fn taken(
+    pub fn call(
         &mut self,
         mode: ParseMode,
         into: &mut Argument<'input>,
-    ) -> Result<Option<Taken<'input>>, AllocError>
+    ) -> Result<Step<'input>, AllocError>
+        requires texts { self.old.texts ≡ [] }
         requires numbers { self.old.next + length self.old.rest < 2 ^ 64 }
-        ensures piece { IfOk result (λ p. option_map (seen_taken into.new) p
+        ensures piece { IfOk result (λ p. seen_step (Some (seen_argument into.new)) p
             ≡ option_map (piece_in self.old.world)
             (call (seen_mode mode) self.old.next self.old.rest).piece) }
+        ensures end { IfOk result (λ p. is_end p ≡ is_nil self.old.rest) }
         ensures reads { let k = call (seen_mode mode) self.old.next self.old.rest in
-            Reaches self.old result self.new (read_call self.old k)
-            (FindsNothing self.old k.faults k.texts) }
+            Reaches result self.new (read_call self.old k) (k.faults ≡ []) }
     {
         if self.cursor.opens_placeholder() {
             into.position = Position::ArgumentImplicitlyIs(0);
             into.format = default_of_spec();
             self.placeholder(mode, into)?;
-            return Ok(Some(Taken::NextArgument));
+            return Ok(Step::NextArgument);
         }
-        let text = self.text()?;
-        match text {
-            Some(text) => Ok(Some(Taken::Lit(text))),
-            None => Ok(None),
-        }
+        self.text()
     }
 }

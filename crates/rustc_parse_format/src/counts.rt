@@ -1,6 +1,7 @@
 //! Reads integers, words and counts, and what is made of them: the width and the precision of a
 //! format specification.
 
+use crate::characters::is_underscore;
 use crate::faults::Fault;
 use crate::reader::Reader;
 use crate::types::{Count, FormatSpec};
@@ -35,9 +36,11 @@ impl<'input> Reader<'input> {
         ensures reads { ReadsTo self.old result self.new (behind_digits self.old.rest) self.old.next
             (number_faults self.old.rest) [] }
     {
-        let (number, over) = self.cursor.number();
-        if let Some((digits, span)) = over {
-            self.note(Fault::TooLarge(digits, span))?;
+        let start = self.cursor.mark();
+        let (number, is_over, digits) = self.cursor.number();
+        if is_over {
+            let end = self.cursor.mark();
+            self.note(Fault::TooLarge(digits, start..end))?;
         }
         Ok(number)
     }
@@ -51,9 +54,11 @@ impl<'input> Reader<'input> {
         ensures reads { ReadsTo self.old result self.new (behind_word self.old.rest) self.old.next
             (word_faults self.old.rest) [] }
     {
-        let (word, underscore) = self.cursor.word();
-        if let Some(span) = underscore {
-            self.note(Fault::Underscore(span))?;
+        let start = self.cursor.mark();
+        let word = self.cursor.word();
+        if is_underscore(word) {
+            let end = self.cursor.mark();
+            self.note(Fault::Underscore(start..end))?;
         }
         Ok(word)
     }
@@ -75,9 +80,9 @@ impl<'input> Reader<'input> {
             (count_tries t k.0)) }
     {
         let front = self.cursor.checkpoint();
-        let start = self.cursor.start();
+        let start = self.cursor.mark();
         let name = self.word()?;
-        let span = start..self.cursor.start();
+        let span = start..self.cursor.mark();
         if self.cursor.consume('$') {
             *into = Count::CountIsName(name, span);
             return Ok(());
@@ -132,12 +137,12 @@ impl<'input> Reader<'input> {
             ReadsTo self.old result self.new k.1 self.old.next (argument_faults self.old.rest)
             (count_tries self.old.rest k.0)) }
     {
-        let start = self.cursor.start();
+        let start = self.cursor.mark();
         self.count(&mut format.width)?;
         match format.width {
             Count::CountImplied => Ok(()),
             _ => {
-                format.width_span = Some(start..self.cursor.start());
+                format.width_span = Some(start..self.cursor.mark());
                 Ok(())
             }
         }
@@ -171,10 +176,10 @@ impl<'input> Reader<'input> {
             format.zero_pad = true;
             return self.counted(format);
         }
-        let start = self.cursor.start();
+        let start = self.cursor.mark();
         self.cursor.skip_char();
         format.width = Count::CountIsParam(0);
-        format.width_span = Some(start..self.cursor.stop());
+        format.width_span = Some(start..self.cursor.mark());
         self.cursor.skip_char();
         Ok(())
     }
@@ -202,17 +207,17 @@ impl<'input> Reader<'input> {
         if !self.cursor.is_next('.') {
             return Ok(());
         }
-        let start = self.cursor.start();
+        let start = self.cursor.mark();
         self.cursor.skip_char();
         if self.cursor.is_next('*') {
             let number = self.take_curarg();
             self.cursor.skip_char();
             format.precision = Count::CountIsStar(number);
-            format.precision_span = Some(start..self.cursor.start());
+            format.precision_span = Some(start..self.cursor.mark());
             return Ok(());
         }
         self.count(&mut format.precision)?;
-        format.precision_span = Some(start..self.cursor.start());
+        format.precision_span = Some(start..self.cursor.mark());
         Ok(())
     }
 }

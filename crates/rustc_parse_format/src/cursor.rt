@@ -1,20 +1,18 @@
-//! A cursor over the input, with the byte offset of its position in the source.
+//! A cursor over an input: what is left of it. It knows nothing of the source: where it is, it tells
+//! by a mark, which is how many bytes of the input are left.
 
 mod steps;
 mod words;
 
 use crate::characters::{before, begins, begins_digit, begins_word, behind_first, first};
-use crate::source::{Anchor, Source, first_anchor};
 use std::marker::Model;
-use std::ops::Range;
 use steps::{Steps, Tally, count_next};
 
-/// A position in the input: the text that is left, and where that starts in the source.
+/// A position in the input: the text that is left.
 #[derive(Drop)]
 pub struct Cursor<'input> {
-    source: Source<'input>,
+    input: &'input str,
     rest: &'input str,
-    anchor: Anchor<'input>,
     tally: Tally,
     undone: Steps,
 }
@@ -22,58 +20,58 @@ pub struct Cursor<'input> {
 /// An earlier position of a cursor, with the count of its steps there.
 #[derive(Drop)]
 pub struct Checkpoint<'input> {
+    input: &'input str,
     rest: &'input str,
-    anchor: Anchor<'input>,
     tally: Tally,
 }
 
 impl<'input> Model for Cursor<'input> {
-    ghost use Rattle.rustc_parse_format.specs.Midway.{IsCounted, Unread, back_at, unread_at};
-    ghost use Rattle.rustc_parse_format.specs.SeenSource.{IsAnchored};
+    ghost use Rattle.rustc_parse_format.specs.Midway.{IsAt, Unread, back_at, unread_at};
     ghost use Rattle.std.specs.Prelude.{chars};
 
     ghost Value = { Unread };
 
     // The view shows the number of characters passed plus that of those left, less the length of
     // the input. So a move that is not counted changes the view.
-    ghost view = { λ c. unread_at c.source c.rest.now
-        (back_at (chars c.source.input.now) (chars c.rest.now) c.tally) c.undone.made };
+    ghost view = { λ c. unread_at c.input.now c.rest.now
+        (back_at (chars c.input.now) (chars c.rest.now) c.tally) c.undone.made };
 
-    ghost invariant = { λ c. IsAnchored c.source c.rest.now c.anchor
-        × IsCounted (chars c.source.input.now) (chars c.rest.now) c.tally };
+    ghost invariant = { λ c. IsAt c.input.now c.rest.now c.tally };
+}
+
+impl<'input> Model for Checkpoint<'input> {
+    ghost use Rattle.rustc_parse_format.specs.Midway.{IsAt, Unread, back_at, unread_at};
+    ghost use Rattle.std.specs.Prelude.{chars};
+
+    ghost Value = { Unread };
+
+    ghost view = { λ c. unread_at c.input.now c.rest.now
+        (back_at (chars c.input.now) (chars c.rest.now) c.tally) 0 };
+
+    ghost invariant = { λ c. IsAt c.input.now c.rest.now c.tally };
 }
 
 impl<'input> Cursor<'input> {
-    ghost use Rattle.std.specs.Prelude.{◌≡◌, ◌+◌, ◌-◌, ◌≤◌, ◌<◌, ◌^◌, ◌++◌, chars, if◌then◌else◌};
-    ghost use Rattle.std.specs.Prelude.{IsTrue, length, option_map, Some};
+    ghost use Rattle.std.specs.Prelude.{◌≡◌, ◌+◌, ◌<◌, ◌≤◌, ◌++◌, chars, if◌then◌else◌, length};
     ghost use Rattle.rustc_parse_format.specs.Characters.{Text, byte_length, begins_prefix};
     ghost use Rattle.rustc_parse_format.specs.Characters.{begins_with, first, behind_first};
     ghost use Rattle.rustc_parse_format.specs.Characters.{is_id_start, first_passes};
     ghost use Rattle.std.specs.Char.{is_ascii_digit};
     ghost use Rattle.rustc_parse_format.specs.Marks.{Start, End};
-    ghost use Rattle.rustc_parse_format.specs.Seen.{pair};
-    ghost use Rattle.rustc_parse_format.specs.Midway.{IsCounted, IsPastIndent, back_at};
     ghost use Rattle.rustc_parse_format.specs.Midway.{opens_placeholder, unread_at};
-    ghost use Rattle.rustc_parse_format.specs.SeenSource.{IsKept, IsAnchored};
-    ghost use Rattle.rustc_parse_format.specs.State.{first_of};
+    ghost use Rattle.rustc_parse_format.specs.Steps.{AreFew};
+    ghost use Rattle.rustc_parse_format.specs.World.{number_of};
     ghost use Rattle.rustc_parse_format.specs.Back.{IsFurthest, behind_part, given_back};
     ghost use Rattle.rustc_parse_format.specs.Back.{nothing_back};
-    ghost use Rattle.rustc_parse_format.specs.Steps.{AreFew};
-    ghost use Rattle.rustc_parse_format.specs.World.{number_of, place_at};
 
-    /// Returns a cursor at the start of `input`, the input of `source`. Does not allocate.
+    /// Returns a cursor at the start of `input`. Does not allocate.
     #[inline(always)]
-    pub fn new(source: Source<'input>, input: &'input str) -> Cursor<'input>
-        requires input { source.input.now ≡ input.now }
-        requires kept { IsKept source }
-        requires fits { source.offset + length input.now < 2 ^ 64 }
-        ensures { result ≡ unread_at source.entry input.now (nothing_back (chars input.now)) 0 }
+    pub fn new(input: &'input str) -> Cursor<'input>
+        ensures { result ≡ unread_at input.now input.now (nothing_back (chars input.now)) 0 }
     {
-        let anchor = first_anchor(&source);
         Cursor {
-            source,
+            input,
             rest: input,
-            anchor,
             tally: Tally::new(input),
             undone: Steps::start(),
         }
@@ -82,16 +80,11 @@ impl<'input> Cursor<'input> {
     /// Returns the current position, for `since`, `rewind` and `undo`.
     #[inline(always)]
     pub fn checkpoint(&self) -> Checkpoint<'input>
-        ensures at { self.now ≡ unread_at self.now.source result.rest.now
-            (back_at (chars self.now.source.input.now) (chars result.rest.now) result.tally)
-            self.now.undone }
-        ensures anchored { IsAnchored self.now.source result.rest.now result.anchor }
-        ensures counted { IsCounted (chars self.now.source.input.now)
-            (chars result.rest.now) result.tally }
+        ensures { self.now ≡ record result { undone = self.now.undone } }
     {
         Checkpoint {
+            input: self.input,
             rest: self.rest,
-            anchor: self.anchor,
             tally: self.tally.same(),
         }
     }
@@ -105,11 +98,18 @@ impl<'input> Cursor<'input> {
         let _rest = self.rest;
     }
 
+    /// Proves that what is left is a suffix of the input. Does nothing when the program runs.
+    pub fn reads_its_input(&self)
+        ensures { (front : Text) × (self.now.input ≡ front ++ self.now.rest) }
+    {
+        let _rest = self.rest;
+    }
+
     /// Returns the text between `from` and the current position.
     #[inline(always)]
     pub fn since(&self, from: &Checkpoint<'input>) -> &'input str
-        requires { (read : Text) × (chars from.now.rest.now ≡ read ++ self.now.rest) }
-        ensures { (read : Text) → chars from.now.rest.now ≡ read ++ self.now.rest
+        requires { (read : Text) × (from.now.rest ≡ read ++ self.now.rest) }
+        ensures { (read : Text) → from.now.rest ≡ read ++ self.now.rest
             → chars result.now ≡ read }
     {
         before(from.rest, self.rest)
@@ -130,8 +130,8 @@ impl<'input> Cursor<'input> {
         first(behind_first(self.rest))
     }
 
-    /// Moves past the next character, if there is one. Only this function, `consume_place` and the
-    /// functions of `words` move forward.
+    /// Moves past the next character, if there is one. Only this function and the functions of
+    /// `words` move forward.
     pub fn skip_char(&mut self)
         ensures rest { self.new ≡ record self.old { rest = behind_first self.old.rest } }
     {
@@ -139,132 +139,42 @@ impl<'input> Cursor<'input> {
         self.rest = behind_first(self.rest);
     }
 
-    /// Moves past the next character, if there is one, and returns its byte range in the source. At
-    /// the end of the input, returns the empty range where the text ends.
-    #[inline(always)]
-    pub fn consume_place(&mut self) -> Range<usize>
-        ensures place { pair result ≡ place_at self.old.world (length self.old.rest) }
-        ensures rest { self.new ≡ record self.old { rest = behind_first self.old.rest } }
-    {
-        self.tally.pass(count_next(self.rest));
-        let (place, rest) = self.source.pass(self.rest, &mut self.anchor);
-        self.rest = rest;
-        place
-    }
-
     /// Goes back to the position `to`. The characters from there on can then be read again, which
     /// counts as new steps.
     pub fn rewind(&mut self, to: Checkpoint<'input>)
-        requires anchored { IsAnchored self.old.source to.rest.now to.anchor }
-        requires furthest { IsFurthest (chars to.rest.now) self.old.back }
-        requires earlier { length self.old.rest ≤ length (chars to.rest.now) }
-        requires word { behind_part (chars to.rest.now) ≤ length self.old.rest }
-        ensures { self.new ≡ unread_at self.old.source to.entry.rest.now (given_back self.old.rest
-            (chars to.entry.rest.now) self.old.back) self.old.undone }
+        requires input { to.input ≡ self.old.input }
+        requires furthest { IsFurthest to.rest self.old.back }
+        requires earlier { length self.old.rest ≤ length to.rest }
+        requires word { behind_part to.rest ≤ length self.old.rest }
+        ensures { self.new ≡ record self.old {
+          rest = to.entry.rest;
+          back = given_back self.old.rest to.entry.rest self.old.back;
+        } }
     {
         self.tally.rewind(self.rest);
+        self.input = to.input;
         self.rest = to.rest;
-        self.anchor = to.anchor;
     }
 
     /// Goes back to the position `to`, before a call in which an allocation failed. The steps of
     /// that call then do not count.
     pub fn undo(&mut self, to: Checkpoint<'input>)
-        requires anchored { IsAnchored self.old.source to.rest.now to.anchor }
-        requires counted { IsCounted (chars self.old.source.input.now)
-            (chars to.rest.now) to.tally }
-        ensures { self.new ≡ unread_at self.old.source to.entry.rest.now
-            (back_at (chars self.old.source.input.now) (chars to.entry.rest.now) to.entry.tally)
-            (self.old.undone + 1) }
+        ensures { self.new ≡ record to.entry { undone = self.old.undone + 1 } }
     {
+        self.input = to.input;
         self.rest = to.rest;
-        self.anchor = to.anchor;
         self.tally = to.tally;
         self.undone = Steps::more(&self.undone, &1);
     }
 
-    /// Proves that what is left is a suffix of the input. Does nothing when the program runs.
-    pub fn reads_its_input(&self)
-        ensures { (front : Text) × (self.now.input ≡ front ++ self.now.rest) }
-    {
-        let _rest = self.rest;
-    }
-
-    /// Returns the byte offset in the source at which the next character starts, or at the end of
-    /// the input the one at which the text ends.
+    /// Returns the mark of the next character: how many bytes of the input are left.
     #[inline(always)]
-    pub fn start(&self) -> usize
-        ensures { result ≡ number_of self.now.world (Start (length self.now.rest)) }
+    pub fn mark(&self) -> usize
+        ensures start { result ≡ number_of self.now.world (Start (length self.now.rest)) }
+        ensures stop { result ≡ number_of self.now.world (End (length self.now.rest)) }
+        ensures bytes { result ≡ byte_length self.now.rest }
     {
-        self.source.start(self.rest, &self.anchor)
-    }
-
-    /// Returns whether the next character `c` is past the indentation of a line that starts at the
-    /// byte offset `byte`: it starts after that, or it starts there and is not white space.
-    #[inline(always)]
-    pub fn is_past_indent(&self, c: char, byte: usize) -> bool
-        ensures { IsTrue result → first self.now.rest ≡ Some c
-            → IsPastIndent c byte self.now.world self.now.rest }
-    {
-        let start = self.source.start(self.rest, &self.anchor);
-        start > byte || start == byte && !c.is_whitespace()
-    }
-
-    /// Examines the snippet at the current position, from which byte offsets are then computed.
-    /// Nothing that contracts show changes.
-    #[inline(always)]
-    pub fn move_anchor(&mut self)
-        ensures { self.new ≡ self.old }
-    {
-        if let Some(snippet) = &self.source.kept {
-            self.anchor.move_anchor(snippet.as_str(), self.rest);
-        }
-    }
-
-    /// Returns the byte offset in the source at which the next character ends, or at the end of the
-    /// input the one at which the text ends.
-    #[inline(always)]
-    pub fn stop(&self) -> usize
-        ensures { result ≡ number_of self.now.world (End (length self.now.rest)) }
-    {
-        self.source.stop(self.rest, &self.anchor)
-    }
-
-    /// Returns whether the snippet is the source literal of the input.
-    pub fn is_source_literal(&self) -> bool
-        ensures { result ≡ self.now.world.has_source }
-    {
-        self.source.is_literal
-    }
-
-    /// Returns the byte range of the next character in the source, its byte offset in the input,
-    /// and the character itself, or `None` at the end of the input.
-    #[inline(always)]
-    pub fn peek_place(&self) -> Option<(Range<usize>, usize, char)>
-        ensures { option_map (λ x. (pair x.0, x.1, x.2)) result
-            ≡ first_of self.now.world self.now.input self.now.rest }
-    {
-        self.source.peek_place(self.rest, &self.anchor)
-    }
-
-    /// Returns, for the character after the next one, its byte range in the source, its byte offset
-    /// in the input, and the character itself, or `None` if there is none.
-    #[inline(always)]
-    pub fn peek_place_ahead(&self) -> Option<(Range<usize>, usize, char)>
-        ensures { option_map (λ x. (pair x.0, x.1, x.2)) result
-            ≡ first_of self.now.world self.now.input (behind_first self.now.rest) }
-    {
-        self.source
-            .peek_place(behind_first(self.rest), &self.anchor)
-    }
-
-    /// Returns the byte offset of the next character in the input, or at the end the length of the
-    /// input.
-    #[inline(always)]
-    pub fn position(&self) -> usize
-        ensures { result ≡ byte_length self.now.input - byte_length self.now.rest }
-    {
-        self.source.input.len() - self.rest.len()
+        self.rest.len()
     }
 
     /// Returns whether the next character is `c`, which is ASCII.

@@ -1,16 +1,17 @@
 //! The lists of what a parser has found in all its calls so far, and the errors that faults become.
 
 ghost use Rattle.std.specs.Prelude.{◌≡◌, ◌<◌, ◌^◌, ◌++◌, ◌∷◌, [], IfOk, IsOk, None, OnErr, OnOk};
-ghost use Rattle.std.specs.Prelude.{length, map, option_map, take};
+ghost use Rattle.std.specs.Prelude.{length, map, take};
 ghost use Rattle.std.specs.List.{filter};
 ghost use Rattle.rustc_parse_format.specs.Faults.{add_errors, is_front};
-ghost use Rattle.rustc_parse_format.specs.Lines.{ends_with, listed};
-ghost use Rattle.rustc_parse_format.specs.Midway.{HasFoundNothing};
+ghost use Rattle.rustc_parse_format.specs.Lines.{ends_with, lines_in};
+ghost use Rattle.rustc_parse_format.specs.Placing.{placed_closed, placed_faults};
 ghost use Rattle.rustc_parse_format.specs.Seen.{pair};
 ghost use Rattle.rustc_parse_format.specs.SeenFaults.{seen_fault};
 
 use crate::error_list::ErrorList;
 use crate::faults::{Fault, Faults};
+use crate::placing::Placer;
 use crate::range_list::RangeList;
 use crate::reader::Reader;
 use std::alloc::{AllocError, Global};
@@ -32,24 +33,27 @@ fn add_error(alloc: Global, errors: &mut ErrorList, fault: &Fault<'_>) -> Result
     }
 }
 
-/// Adds the errors of faults. Returns how many errors were added at the front. Returns `Err` if an
+/// Places faults and adds their errors. Returns how many errors were added at the front. Returns `Err` if an
 /// allocation fails, and `errors` is then unchanged.
 #[inline(never)]
-fn add_errors(
+fn add_errors<'input>(
     alloc: Global,
     errors: &mut ErrorList,
-    found: &Faults<'_>,
+    found: &Faults<'input>,
+    placer: &mut Placer<'_, 'input>,
 ) -> Result<usize, AllocError>
     requires { length found.now < 2 ^ 64 }
-    ensures ok { OnOk result (errors.new ≡ add_errors errors.old found.now) }
+    ensures ok { OnOk result (errors.new
+        ≡ add_errors errors.old (placed_faults placer.old found.now)) }
     ensures fronts { IfOk result (λ n. n ≡ length (filter is_front found.now)) }
     ensures err { OnErr result (errors.new ≡ errors.old) }
+    ensures placer { placer.new ≡ placer.old }
 {
     let count = errors.as_slice().len();
     let mut fronts = 0;
     let mut index = 0;
     while let Some(fault) = found.get(index) {
-        match add_error(alloc, errors, fault) {
+        match add_error(alloc, errors, &placer.fault(fault)) {
             Ok(added) => fronts += added,
             Err(refused) => {
                 errors.keep(fronts, count);
@@ -81,77 +85,93 @@ impl Lists {
         }
     }
 
-    /// Adds the errors of faults, the byte ranges of lines and that of a placeholder, and takes
-    /// them out of `found`, `lines` and `closed`. Returns how many errors were added at the front.
-    /// Returns `Err` if an allocation fails: the errors are then unchanged, and the other lists may
-    /// have new ranges at their ends.
+    /// Places and adds what a call has found, and moves `line_start` to the start of the line after
+    /// its text. Returns how many errors were added at the front. Returns `Err` if an allocation
+    /// fails: the errors and `line_start` are then unchanged, and the other lists may have new
+    /// ranges at their ends.
     #[inline(always)]
-    fn add(
+    fn add<'input>(
         &mut self,
         alloc: Global,
-        found: &mut Faults<'_>,
-        lines: &mut Vec<Range<usize>>,
-        closed: &mut Option<Range<usize>>,
+        reader: &Reader<'input>,
+        placer: &mut Placer<'_, 'input>,
+        line_start: &mut usize,
     ) -> Result<usize, AllocError>
-        ensures errors { OnOk result ((self.new.errors ≡ add_errors self.old.errors found.old)
-            × (found.new ≡ [])) }
-        ensures fronts { IfOk result (λ n. n ≡ length (filter is_front found.old)) }
-        ensures places { OnOk result ((self.new.arg_places
-            ≡ self.old.arg_places ++ listed (option_map pair closed.old)) × (closed.new ≡ None)) }
-        ensures lines { OnOk result ((self.new.line_spans
-            ≡ self.old.line_spans ++ map pair lines.old.items) × (lines.new.items ≡ [])) }
+        requires { reader.now.input ≡ placer.old.input }
+        ensures errors { OnOk result (self.new.errors
+            ≡ add_errors self.old.errors (placed_faults placer.old reader.now.faults)) }
+        ensures fronts { IfOk result (λ n. n ≡ length (filter is_front reader.now.faults)) }
+        ensures places { OnOk result (self.new.arg_places
+            ≡ self.old.arg_places ++ placed_closed placer.old reader.now.closed) }
+        ensures lines { (let ls = lines_in placer.old.world line_start.old reader.now.texts in
+            OnOk result ((self.new.line_spans ≡ self.old.line_spans ++ ls.1)
+            × (line_start.new ≡ ls.0))) }
+        ensures placer { placer.new ≡ placer.old }
         ensures err { OnErr result ((self.new.errors ≡ self.old.errors)
+            × (line_start.new ≡ line_start.old)
             × (take (length self.old.arg_places) self.new.arg_places ≡ self.old.arg_places)
             × (take (length self.old.line_spans) self.new.line_spans ≡ self.old.line_spans)) }
+        ensures none { reader.now.faults ≡ [] → placed_closed placer.old reader.now.closed ≡ []
+            → (lines_in placer.old.world line_start.old reader.now.texts).1 ≡ [] → IsOk result }
     {
-        if let Some(place) = closed.take() {
-            self.arg_places.push(place)?;
+        let mut next_line = *line_start;
+        if placer.is_literal() {
+            if let Some(braces) = &reader.closed {
+                let place = placer.over(braces);
+                self.arg_places.push(place)?;
+            }
+            let mut lines = placer.lines(alloc, reader.run, *line_start);
+            lines.read()?;
+            next_line = lines.line_start;
+            self.line_spans.append(&mut lines.spans)?;
         }
-        if !lines.is_empty() {
-            self.line_spans.append(lines)?;
+        let mut fronts = 0;
+        if !reader.found.is_empty() {
+            fronts = add_errors(alloc, &mut self.errors, &reader.found, placer)?;
         }
-        if found.is_empty() {
-            return Ok(0);
-        }
-        let fronts = add_errors(alloc, &mut self.errors, found)?;
-        found.clear();
+        *line_start = next_line;
         Ok(fronts)
     }
 
-    /// Takes all that a call has found out of `reader` and adds it. Returns how many errors were
-    /// added at the front. Returns `Err` if an allocation fails: the lists are then unchanged, and
-    /// `reader` is to be restored with `rewind`. Does not allocate if the call has found nothing.
+    /// Places what a call has found, takes it out of `reader` and adds it. Moves `line_start` to the
+    /// start of the line after the text of the call. Returns how many errors were added at the
+    /// front. Returns `Err` if an allocation fails: the lists and `line_start` are then unchanged,
+    /// and `reader` is to be restored with `rewind`. Does not allocate if there is nothing to add.
     #[inline(always)]
-    pub fn take_over(&mut self, alloc: Global, reader: &mut Reader<'_>) -> Result<usize, AllocError>
+    pub fn take_over<'input>(
+        &mut self,
+        alloc: Global,
+        reader: &mut Reader<'input>,
+        placer: &mut Placer<'_, 'input>,
+        line_start: &mut usize,
+    ) -> Result<usize, AllocError>
+        requires { reader.old.input ≡ placer.old.input }
         ensures errors { OnOk result (self.new.errors
-            ≡ add_errors self.old.errors reader.old.faults) }
-        ensures places { OnOk result (self.new.arg_places
-            ≡ self.old.arg_places ++ listed reader.old.closed) }
-        ensures lines { OnOk result (self.new.line_spans
-            ≡ self.old.line_spans ++ reader.old.lines) }
+            ≡ add_errors self.old.errors (placed_faults placer.old reader.old.faults)) }
         ensures fronts { IfOk result (λ n. n ≡ length (filter is_front reader.old.faults)) }
+        ensures places { OnOk result (self.new.arg_places
+            ≡ self.old.arg_places ++ placed_closed placer.old reader.old.closed) }
+        ensures lines { (let ls = lines_in placer.old.world line_start.old reader.old.texts in
+            OnOk result ((self.new.line_spans ≡ self.old.line_spans ++ ls.1)
+            × (line_start.new ≡ ls.0))) }
         ensures reader { OnOk result (reader.new
-            ≡ record reader.old { faults = []; lines = []; closed = None }) }
-        ensures source { OnErr result (reader.new.source ≡ reader.old.source) }
+            ≡ record reader.old { faults = []; texts = []; closed = None }) }
+        ensures placer { placer.new ≡ placer.old }
         ensures err { OnErr result ((self.new.errors ≡ self.old.errors)
+            × (line_start.new ≡ line_start.old)
             × (self.new.arg_places ≡ self.old.arg_places)
             × (self.new.line_spans ≡ self.old.line_spans)) }
-        ensures none { HasFoundNothing reader.old → IsOk result }
+        ensures none { reader.old.faults ≡ [] → placed_closed placer.old reader.old.closed ≡ []
+            → (lines_in placer.old.world line_start.old reader.old.texts).1 ≡ [] → IsOk result }
     {
-        if reader.has_found_nothing() {
-            return Ok(0);
-        }
         let places = self.arg_places.len();
         let lines = self.line_spans.len();
-        let added = self.add(
-            alloc,
-            &mut reader.found,
-            &mut reader.lines,
-            &mut reader.closed,
-        );
+        let added = self.add(alloc, reader, placer, line_start);
         if added.is_err() {
             self.arg_places.truncate(places);
             self.line_spans.truncate(lines);
+        } else {
+            reader.forget();
         }
         added
     }

@@ -2,10 +2,13 @@
 
 mod step;
 
+use crate::call::Step;
+use crate::characters::behind_first;
 use crate::cursor::Cursor;
 use crate::lists::Lists;
+use crate::placing::reach;
 use crate::reader::Reader;
-use crate::source::{quote_offset, source_of};
+use crate::source::{Anchor, Source, first_anchor, quote_offset, source_of};
 use crate::types::{Argument, ParseError, ParseMode, Piece, Taken};
 use std::alloc::{AllocError, Global};
 use std::marker::Model;
@@ -17,15 +20,21 @@ use std::ops::Range;
 pub struct Parser<'input> {
     alloc: Global,
     mode: ParseMode,
-    /// Between two calls it holds no faults, no lines and no closed placeholder: they are in
-    /// `lists`.
+    source: Source<'input>,
+    /// Where the last call ended, or before that in a source that was not read up to there.
+    anchor: Anchor<'input>,
+    /// Between two calls it has found nothing: all that was found is in `lists`.
     reader: Reader<'input>,
+    /// The byte offset in the source at which the current line starts.
+    line_start: usize,
     lists: Lists,
 }
 
 impl<'input> Model for Parser<'input> {
-    ghost use Rattle.std.specs.Prelude.{◌+◌, ◌<◌, ◌^◌, length};
+    ghost use Rattle.std.specs.Prelude.{◌≡◌, ◌+◌, ◌<◌, ◌^◌, chars, length};
     ghost use Rattle.rustc_parse_format.specs.Midway.{HasFoundNothing};
+    ghost use Rattle.rustc_parse_format.specs.Placing.{IsAnchoredThere};
+    ghost use Rattle.rustc_parse_format.specs.SeenSource.{IsKept, seen_world};
     ghost use Rattle.rustc_parse_format.specs.State.{State};
     ghost use Rattle.rustc_parse_format.specs.Seen.{seen_mode};
 
@@ -33,20 +42,21 @@ impl<'input> Model for Parser<'input> {
 
     ghost view = { λ p. record {
       mode = seen_mode p.mode;
-      world = p.reader.world;
-      input = p.reader.input;
+      world = seen_world p.source;
+      input = chars p.source.input.now;
       rest = p.reader.rest;
       back = p.reader.back;
       undone = p.reader.undone;
       next = p.reader.next;
       errors = p.lists.errors;
       arg_places = p.lists.arg_places;
-      line_start = p.reader.line_start;
+      line_start = p.line_start;
       line_spans = p.lists.line_spans;
     } };
 
     ghost invariant = { λ p. (p.reader.next + length p.reader.rest < 2 ^ 64)
-        × HasFoundNothing p.reader };
+        × HasFoundNothing p.reader × (p.reader.input ≡ chars p.source.input.now)
+        × IsKept p.source × IsAnchoredThere p.source p.anchor };
 }
 
 impl<'input> Parser<'input> {
@@ -115,11 +125,14 @@ impl<'input> Parser<'input> {
         ensures short { IfOk result (λ p. length p.rest ≤ length input.now) }
     {
         let source = source_of(input, style, snippet, appended_newline);
-        let cursor = Cursor::new(source, input);
+        let anchor = first_anchor(&source);
         Ok(Parser {
             alloc,
             mode,
-            reader: Reader::new(alloc, cursor, quote_offset(style)),
+            source,
+            anchor,
+            reader: Reader::new(alloc, Cursor::new(input)),
+            line_start: quote_offset(style),
             lists: Lists::new(alloc),
         })
     }
@@ -231,7 +244,7 @@ impl<'input> Parser<'input> {
         ensures few { AreFew self.new.input self.new.rest self.new.back }
     {
         self.reads_its_input();
-        self.step()
+        self.piece()
     }
 
     /// Returns the next piece as [`Parser::next`] does, but reads a placeholder into `argument`
@@ -255,20 +268,13 @@ impl<'input> Parser<'input> {
         ensures spare { AddsNothing self.old (next_call self.old) → IsOk result }
         ensures few { AreFew self.new.input self.new.rest self.new.back }
     {
-        self.steps_are_few();
-        if self.reader.is_at_end() {
-            self.end_line()?;
-            return Ok((None, 0));
-        }
-        let start = self.reader.call_start();
-        if let Ok(taken) = self.reader.taken(self.mode, argument) {
-            if let Ok(fronts) = self.lists.take_over(self.alloc, &mut self.reader) {
-                self.steps_are_few();
-                return Ok((taken, fronts));
-            }
-        }
-        self.reader.rewind(self.alloc, start);
-        Err(AllocError)
+        let (step, fronts) = self.step(argument)?;
+        let taken = match step {
+            Step::Lit(text) => Some(Taken::Lit(text)),
+            Step::NextArgument => Some(Taken::NextArgument),
+            Step::Unmatched | Step::End => None,
+        };
+        Ok((taken, fronts))
     }
 
     /// Returns the next character with its place in the source (a byte range) and its byte offset
@@ -279,7 +285,10 @@ impl<'input> Parser<'input> {
         ensures { option_map (λ x. (pair x.0, x.1, x.2)) result
             ≡ first_of self.now.world self.now.input self.now.rest }
     {
-        self.reader.cursor.peek_place()
+        let mut at = self.anchor;
+        let mark = self.reader.cursor.mark();
+        let rest = reach(&self.source, &self.anchor, &mut at, mark);
+        self.source.peek_place(rest, &at)
     }
 
     /// Returns the character after the next one with its place in the source (a byte range) and its
@@ -290,7 +299,10 @@ impl<'input> Parser<'input> {
         ensures { option_map (λ x. (pair x.0, x.1, x.2)) result
             ≡ first_of self.now.world self.now.input (behind_first self.now.rest) }
     {
-        self.reader.cursor.peek_place_ahead()
+        let mut at = self.anchor;
+        let mark = self.reader.cursor.mark();
+        let rest = reach(&self.source, &self.anchor, &mut at, mark);
+        self.source.peek_place(behind_first(rest), &at)
     }
 
     /// Returns how many bytes of the input were read: the byte offset of the next character, or the
@@ -299,7 +311,7 @@ impl<'input> Parser<'input> {
     pub fn position(&self) -> usize
         ensures { result ≡ byte_length self.now.input - byte_length self.now.rest }
     {
-        self.reader.cursor.position()
+        self.source.input.len() - self.reader.cursor.mark()
     }
 
     /// Returns the errors of all calls so far, in order. An error for a raw identifier, for a flag
@@ -336,7 +348,7 @@ impl<'input> Parser<'input> {
     pub fn is_source_literal(&self) -> bool
         ensures { result ≡ self.now.world.has_source }
     {
-        self.reader.cursor.is_source_literal()
+        self.source.is_literal
     }
 
     /// Moves the errors of all calls so far out of the parser and returns them, in order. The

@@ -1,20 +1,12 @@
 //! The state of a parser during one call: its cursor, the index of the next implicit argument, and
-//! what the call has found so far.
+//! what the call has found so far, at marks. It knows nothing of the source.
 
-ghost use Rattle.std.specs.Prelude.{◌≡◌, ◌≢◌, ◌++◌, ◌+◌, ◌<◌, ◌^◌, ◌∷◌, [], ◌↔◌};
-ghost use Rattle.std.specs.Prelude.{IfOk, IsOk, IsTrue, None, OnErr, OnOk, Some, chars, length};
-ghost use Rattle.std.specs.Prelude.{map, option_map};
-ghost use Rattle.rustc_parse_format.specs.Characters.{behind, behind_first, first, front};
-ghost use Rattle.rustc_parse_format.specs.Characters.{is_in_line, is_no_brace, with_first};
-ghost use Rattle.rustc_parse_format.specs.Midway.{HasFoundNothing, IsCounted, IsInOneLine};
-ghost use Rattle.rustc_parse_format.specs.Midway.{IsPastIndent, back_at, midway, passed_next};
-ghost use Rattle.rustc_parse_format.specs.Midway.{read_run, unread_at};
-ghost use Rattle.rustc_parse_format.specs.Marks.{Start};
-ghost use Rattle.rustc_parse_format.specs.Reads.{Reaches};
-ghost use Rattle.rustc_parse_format.specs.Seen.{pair};
+ghost use Rattle.std.specs.Prelude.{◌≡◌, ◌++◌, ◌+◌, ◌<◌, ◌^◌, ◌∷◌, [], ◌↔◌};
+ghost use Rattle.std.specs.Prelude.{IsOk, IsTrue, OnOk, chars};
+ghost use Rattle.rustc_parse_format.specs.Characters.{front};
+ghost use Rattle.rustc_parse_format.specs.Characters.{is_no_brace};
+ghost use Rattle.rustc_parse_format.specs.Midway.{midway, read_run};
 ghost use Rattle.rustc_parse_format.specs.SeenFaults.{seen_fault};
-ghost use Rattle.rustc_parse_format.specs.SeenSource.{IsAnchored};
-ghost use Rattle.rustc_parse_format.specs.World.{number_of};
 
 use crate::characters::Class;
 use crate::cursor::{Checkpoint, Cursor};
@@ -33,24 +25,23 @@ pub struct Reader<'input> {
     pub curarg: usize,
     /// The faults found in this call.
     pub found: Faults<'input>,
-    /// The byte offset in the source at which the current line starts.
-    pub line_start: usize,
-    /// The byte ranges of the lines that ended in this call.
-    pub lines: Vec<Range<usize>>,
-    /// The byte range of the placeholder that this call closed, if any.
+    /// The mark at which this call has read a run of text, or 0. It reads at most one.
+    pub run: usize,
+    /// The marks of the braces of the placeholder that this call closed, if any.
     pub closed: Option<Range<usize>>,
 }
 
 impl<'input> Model for Reader<'input> {
-    ghost use Rattle.std.specs.Prelude.{map, option_map};
+    ghost use Rattle.std.specs.Prelude.{option_map};
+    ghost use Rattle.rustc_parse_format.specs.Marked.{texts_at};
     ghost use Rattle.rustc_parse_format.specs.Midway.{Midway, midway};
     ghost use Rattle.rustc_parse_format.specs.Seen.{pair};
 
     ghost Value = { Midway };
 
-    ghost view = { λ r. record (midway r.cursor r.curarg r.line_start) {
+    ghost view = { λ r. record (midway r.cursor r.curarg) {
       faults = r.found;
-      lines = map pair r.lines.items;
+      texts = texts_at r.cursor.input r.run;
       closed = option_map pair r.closed;
     } };
 }
@@ -60,21 +51,22 @@ impl<'input> Model for Reader<'input> {
 pub struct CallStart<'input> {
     at: Checkpoint<'input>,
     curarg: usize,
-    line_start: usize,
 }
 
 impl<'input> Reader<'input> {
-    /// Returns a reader at `cursor`, whose next implicit argument has the index 0 and whose current
-    /// line starts at the byte offset `line_start`. Does not allocate.
-    pub fn new(alloc: Global, cursor: Cursor<'input>, line_start: usize) -> Reader<'input>
-        ensures { result ≡ midway cursor.entry 0 line_start }
+    ghost use Rattle.rustc_parse_format.specs.Midway.{HasFoundNothing};
+
+    /// Returns a reader at `cursor`, whose next implicit argument has the index 0. Does not
+    /// allocate.
+    #[tactic(auto, using(crate::proofs::Readers::Marks::no_texts))]
+    pub fn new(alloc: Global, cursor: Cursor<'input>) -> Reader<'input>
+        ensures { result ≡ midway cursor.entry 0 }
     {
         Reader {
             cursor,
             curarg: 0,
             found: Faults::new(alloc),
-            line_start,
-            lines: Vec::new(alloc),
+            run: 0,
             closed: None,
         }
     }
@@ -82,36 +74,33 @@ impl<'input> Reader<'input> {
     /// Returns the state before a call, for `rewind`.
     pub fn call_start(&self) -> CallStart<'input>
         requires { HasFoundNothing self.now }
-        ensures at { self.now ≡ midway (unread_at self.now.source result.at.rest.now
-            (back_at (chars self.now.source.input.now) (chars result.at.rest.now) result.at.tally)
-            self.now.undone) result.curarg result.line_start }
-        ensures counted { IsCounted (chars self.now.source.input.now)
-            (chars result.at.rest.now) result.at.tally }
-        ensures anchored { IsAnchored self.now.source result.at.rest.now result.at.anchor }
+        ensures { self.now
+            ≡ midway (record result.at { undone = self.now.undone }) result.curarg }
     {
         CallStart {
             at: self.cursor.checkpoint(),
             curarg: self.curarg,
-            line_start: self.line_start,
         }
     }
 
     /// Restores the state from before a call, and discards what the call has found. Does not
     /// allocate.
-    pub fn rewind(&mut self, alloc: Global, start: CallStart<'input>)
-        requires anchored { IsAnchored self.old.source start.at.rest.now start.at.anchor }
-        requires counted { IsCounted (chars self.old.source.input.now)
-            (chars start.at.rest.now) start.at.tally }
-        ensures { self.new ≡ midway (unread_at self.old.source start.entry.at.rest.now
-            (back_at (chars self.old.source.input.now)
-            (chars start.entry.at.rest.now) start.entry.at.tally) (self.old.undone + 1))
-            start.entry.curarg start.entry.line_start }
+    pub fn rewind(&mut self, start: CallStart<'input>)
+        ensures { self.new ≡ midway (record start.entry.at { undone = self.old.undone + 1 })
+            start.entry.curarg }
     {
         self.cursor.undo(start.at);
         self.curarg = start.curarg;
-        self.found = Faults::new(alloc);
-        self.line_start = start.line_start;
-        self.lines = Vec::new(alloc);
+        self.forget();
+    }
+
+    /// Discards what the call has found. Does not allocate.
+    #[tactic(auto, using(crate::proofs::Readers::Marks::no_texts))]
+    pub fn forget(&mut self)
+        ensures { self.new ≡ record self.old { faults = []; texts = []; closed = None } }
+    {
+        self.found.clear();
+        self.run = 0;
         self.closed = None;
     }
 
@@ -119,7 +108,6 @@ impl<'input> Reader<'input> {
     pub fn note(&mut self, fault: Fault<'input>) -> Result<(), AllocError>
         ensures state { OnOk result (self.new
             ≡ record self.old { faults = self.old.faults ++ seen_fault fault.entry ∷ [] }) }
-        ensures source { self.new.source ≡ self.old.source }
         ensures spare { self.old.faults ≡ [] → IsOk result }
     {
         self.found.push(fault)?;
@@ -133,13 +121,6 @@ impl<'input> Reader<'input> {
         self.cursor.peek().is_none()
     }
 
-    /// Returns whether this call has found no fault, no end of a line and no closed placeholder.
-    pub fn has_found_nothing(&self) -> bool
-        ensures { IsTrue result ↔ HasFoundNothing self.now }
-    {
-        self.found.is_empty() && self.lines.is_empty() && self.closed.is_none()
-    }
-
     /// Returns the index of the next implicit argument, and increments it.
     pub fn take_curarg(&mut self) -> usize
         requires { self.old.next + 1 < 2 ^ 64 }
@@ -151,111 +132,15 @@ impl<'input> Reader<'input> {
         number
     }
 
-    /// Returns the byte range of the current line, up to the next character.
-    pub fn line(&self) -> Range<usize>
-        ensures { pair result
-            ≡ (self.now.line_start, number_of self.now.world (Start (length self.now.rest))) }
+    /// Reads the longest prefix without braces, which may be empty. No text has been read yet in
+    /// this call.
+    pub fn string(&mut self) -> &'input str
+        requires { self.old.texts ≡ [] }
+        ensures value { chars result.now ≡ front is_no_brace self.old.rest }
+        ensures state { self.new ≡ read_run self.old }
     {
-        self.line_start..self.cursor.start()
-    }
-
-    /// Reads the longest prefix without braces, which may be empty. Returns `Err` if an allocation
-    /// fails; allocates only for lines that end in the prefix.
-    pub fn string(&mut self) -> Result<&'input str, AllocError>
-        ensures value { IfOk result (λ t. chars t.now ≡ front is_no_brace self.old.rest) }
-        ensures reads { Reaches self.old result self.new (read_run self.old)
-            (IsInOneLine self.old) }
-    {
-        let from = self.cursor.checkpoint();
-        self.skip_string()?;
-        Ok(self.cursor.since(&from))
-    }
-
-    /// Reads the next character, and the longest prefix without braces after it, which alone counts
-    /// as text for the lines. Returns `Err` if an allocation fails; allocates only for lines that
-    /// end in the prefix.
-    pub fn string_past_brace(&mut self) -> Result<&'input str, AllocError>
-        ensures value { IfOk result (λ t. chars t.now
-            ≡ with_first self.old.rest (front is_no_brace (behind_first self.old.rest))) }
-        ensures reads { let s = record self.old { rest = behind_first self.old.rest } in
-            Reaches self.old result self.new (read_run s) (IsInOneLine s) }
-    {
-        let from = self.cursor.checkpoint();
-        self.cursor.skip_char();
-        self.skip_string()?;
-        Ok(self.cursor.since(&from))
-    }
-
-    /// Moves past the longest prefix without braces. In a source literal it does so line by line,
-    /// and records the lines that end. Returns `Err` if an allocation fails.
-    #[inline(never)]
-    fn skip_string(&mut self) -> Result<(), AllocError>
-        ensures reads { Reaches self.old result self.new (read_run self.old)
-            (IsInOneLine self.old) }
-    {
-        if self.cursor.is_source_literal() {
-            return self.skip_lines();
-        }
-        self.cursor.skip_while(Class::Text);
-        Ok(())
-    }
-
-    /// Moves past the longest prefix without braces of a source literal, line by line, and records
-    /// the lines that end. Returns `Err` if an allocation fails.
-    #[inline(never)]
-    fn skip_lines(&mut self) -> Result<(), AllocError>
-        requires { IsTrue self.old.world.has_source }
-        ensures reads { Reaches self.old result self.new (read_run self.old)
-            (IsInOneLine self.old) }
-    {
-        while let Some(c) = self.cursor.peek() {
-            if !Class::Text.passes(c) {
-                break;
-            }
-            if c == '\n' {
-                self.consume_newline()?;
-            } else if self.is_past_indent(c) {
-                self.cursor.skip_while(Class::Line);
-            } else {
-                self.skip_in_line(c);
-            }
-        }
-        Ok(())
-    }
-
-    /// Returns whether the next character `c` is past the indentation of the current line. Moves
-    /// only the anchor, which no contract shows.
-    #[inline(always)]
-    fn is_past_indent(&mut self, c: char) -> bool
-        ensures state { self.new ≡ self.old }
-        ensures past { IsTrue result → first self.old.rest ≡ Some c
-            → IsPastIndent c self.old.line_start self.old.world self.old.rest }
-    {
-        self.cursor.move_anchor();
-        self.cursor.is_past_indent(c, self.line_start)
-    }
-
-    /// Moves past the newline that comes next in a source literal, and records the line that it
-    /// ends. Returns `Err` if an allocation fails.
-    fn consume_newline(&mut self) -> Result<(), AllocError>
-        ensures state { OnOk result (self.new ≡ passed_next 10 self.old) }
-        ensures err { OnErr result (self.new.source ≡ self.old.source) }
-    {
-        let newline = self.cursor.consume_place();
-        self.lines.push(self.line_start..newline.start)?;
-        self.line_start = newline.end;
-        Ok(())
-    }
-
-    /// Moves past the next character of a source literal, which is not a newline. White space at
-    /// the start of the line is left out of the line.
-    fn skip_in_line(&mut self, c: char)
-        requires { c ≢ 10 }
-        ensures state { self.new ≡ passed_next c self.old }
-    {
-        let place = self.cursor.consume_place();
-        if place.start == self.line_start && c.is_whitespace() {
-            self.line_start = place.end;
-        }
+        self.cursor.reads_its_input();
+        self.run = self.cursor.mark();
+        self.cursor.read_while(Class::Text)
     }
 }

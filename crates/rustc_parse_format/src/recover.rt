@@ -50,7 +50,7 @@ fn begins_late_debug(sign: char, next: char) -> bool
 }
 
 impl<'input> Reader<'input> {
-    ghost use Rattle.std.specs.Prelude.{[], ◌+◌, ◌<◌, ◌^◌, ◌≡◌, ◌≢◌, length, OnErr, OnOk};
+    ghost use Rattle.std.specs.Prelude.{[], ◌+◌, ◌<◌, ◌^◌, ◌≡◌, ◌≢◌, length, OnOk, true};
     ghost use Rattle.rustc_parse_format.specs.Characters.{Text};
     ghost use Rattle.rustc_parse_format.specs.Marks.{Mark, Span, over_first};
     ghost use Rattle.rustc_parse_format.specs.Midway.{behind_sign, recovered};
@@ -67,13 +67,12 @@ impl<'input> Reader<'input> {
         next: char,
         opening: Range<usize>,
     ) -> Result<(), AllocError>
-        ensures state { (let span = place_of self.old.world (over_first self.old.rest) in
+        ensures { (let span = place_of self.old.world (over_first self.old.rest) in
             OnOk result (self.new
             ≡ behind_sign self.old (sign_fault sign next span (pair opening)))) }
-        ensures err { OnErr result (self.new.source ≡ self.old.source) }
     {
-        let span = self.cursor.start()..self.cursor.stop();
-        let Some(fault) = sign_fault(sign, next, span, opening) else {
+        let at = self.cursor.mark();
+        let Some(fault) = sign_fault(sign, next, at..at, opening) else {
             return Ok(());
         };
         self.cursor.skip_char();
@@ -84,20 +83,19 @@ impl<'input> Reader<'input> {
     /// be empty, and adds a fault. Returns `Err` if an allocation fails.
     #[tactic(auto, using(crate::proofs::Readers::WordFronts::words_at_front), unfolding(crate::specs::Recovery::late_debug))]
     fn suggest_format_debug(&mut self) -> Result<(), AllocError>
-        ensures state { OnOk result (self.new
+        ensures { OnOk result (self.new
             ≡ recovered self.old (late_debug self.old.next self.old.rest)) }
-        ensures err { OnErr result (self.new.source ≡ self.old.source) }
     {
-        let span = self.cursor.start()..self.cursor.stop();
+        let at = self.cursor.mark();
         self.cursor.skip_char();
         if !self.cursor.consume(':') {
             return Ok(());
         }
         if !self.cursor.is_word_next() {
-            return self.note(Fault::LateDebug("", span));
+            return self.note(Fault::LateDebug("", at..at));
         }
         let word = self.word()?;
-        self.note(Fault::LateDebug(word, span))
+        self.note(Fault::LateDebug(word, at..at))
     }
 
     /// Moves past a `.`, the field after it, and a closing brace directly after that. With the
@@ -110,10 +108,10 @@ impl<'input> Reader<'input> {
         from: usize,
     ) -> Result<(), AllocError>
         requires here { self.old.rest ≢ [] }
+        requires texts { self.old.texts ≡ [] }
         requires numbers { self.old.next + length self.old.rest < 2 ^ 64 }
-        ensures state { OnOk result ((m : Mark) → from ≡ number_of self.old.world m → self.new
+        ensures { OnOk result ((m : Mark) → from ≡ number_of self.old.world m → self.new
             ≡ recovered self.old (field (seen_mode mode) self.old.next m self.old.rest)) }
-        ensures source { self.new.source ≡ self.old.source }
     {
         self.cursor.skip_char();
         let mut field = blank_argument();
@@ -139,12 +137,12 @@ impl<'input> Reader<'input> {
         argument: &Argument<'input>,
         opening: Range<usize>,
     ) -> Result<(), AllocError>
+        requires texts { is_identifier (seen_argument argument.now) ≡ true → self.old.texts ≡ [] }
         requires numbers { self.old.next + length self.old.rest < 2 ^ 64 }
-        ensures state { OnOk result ((o : Text) (a : ArgumentValue Span)
+        ensures { OnOk result ((o : Text) (a : ArgumentValue Span)
             → pair opening ≡ place_of self.old.world (over_first o)
             → seen_argument argument.now ≡ map_argument (place_of self.old.world) a → self.new
             ≡ recovered self.old (recovery (seen_mode mode) self.old.next o a self.old.rest)) }
-        ensures source { self.new.source ≡ self.old.source }
     {
         let Some(sign) = self.cursor.peek() else {
             return Ok(());

@@ -10,8 +10,6 @@ use Rattle.rustc_parse_format.specs.Characters.{Text}
 use Rattle.rustc_parse_format.specs.Call.{Call, call}
 use Rattle.rustc_parse_format.specs.Lines.{lines_in, closed_in, listed, ends_with, with_last}
 use Rattle.rustc_parse_format.specs.World.{World, Place, place_at}
-use Rattle.rustc_parse_format.specs.Midway.{FindsNothing, HasFoundNothing, Midway, closed_then}
-use Rattle.rustc_parse_format.specs.Midway.{read_call}
 use Rattle.rustc_parse_format.proofs.Sources.PlainPlaces.{place_end}
 use Rattle.rustc_parse_format.specs.State.{State, AddsNothing, after, last_lines, next_call}
 
@@ -80,10 +78,6 @@ pub ended_spare : (s : State) (last : Place) → s.rest ≡ [] → s.world.has_s
     → ends_with last s.line_spans ≡ false → last_lines s s.line_spans ≡ s.line_spans → ⊥
 ended_spare s last e h f b k = no_more s.line_spans last (ended_more s last _ e h f b refl ∙ k)
 
-then_none : (o : Option Place) → closed_then None o ≡ o
-then_none None = refl
-then_none (Some p) = refl
-
 pub not_last : (s : State) (t : Text) (ls : List Place) → s.rest ≡ t → t ≢ [] → last_lines s ls ≡ ls
 not_last s [] ls e h = absurd (h refl)
 not_last s (c ∷ t) ls e h = rw e (by_test s.world.has_source)
@@ -94,29 +88,9 @@ not_last s (c ∷ t) ls e h = rw e (by_test s.world.has_source)
     by_test false = refl
 
 -- where a call adds nothing, it ends no line
-no_line : (s : State) (k : Call) → s.rest ≢ [] → AddsNothing s k
+pub no_line : (s : State) (k : Call) → s.rest ≢ [] → AddsNothing s k
     → (lines_in s.world s.line_start k.texts).1 ≡ []
 no_line s k some n =
     let lines = (lines_in s.world s.line_start k.texts).1 in
     nothing_appended s.line_spans lines (sym (not_last s s.rest (s.line_spans ++ lines) refl some)
     ∙ n.2)
-
-none_listed : (p : Option Place) → listed p ≡ [] → p ≡ None
-none_listed None e = refl
-none_listed (Some p) e = cc
-
--- finds nothing on its way,
-pub finds_nothing : (s : State) (old : Midway) (k : Call) → s.rest ≢ [] → old.world ≡ s.world
-    → old.line_start ≡ s.line_start →
-    AddsNothing s k → FindsNothing old k.faults k.texts
-finds_nothing s old k some world start n =
-    (n.0, rw (world, start, no_line s k some n) (append-nil old.lines))
-
--- and has found nothing at its end
-pub nothing_found : (s : State) (old : Midway) (k : Call) → s.rest ≢ [] → HasFoundNothing old
-    → old.world ≡ s.world → old.line_start ≡ s.line_start →
-    AddsNothing s k → HasFoundNothing (read_call old k)
-nothing_found s old k some none world start n =
-    let closes : closed_in s.world k.closes
-    ≡ None = none_listed (closed_in s.world k.closes) (nothing_appended s.arg_places _ n.1) in
-    rw (none.0, none.1, none.2, world, start, n.0, no_line s k some n, closes) (refl, refl, refl)

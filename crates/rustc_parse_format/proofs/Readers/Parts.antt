@@ -46,6 +46,12 @@ pub tried-append : (b : Back) (ts us : List Text) → tried (tried b ts) us ≡ 
 tried-append b [] us = refl
 tried-append b (t ∷ ts) us = tried-append (given_back (behind_word t) t b) ts us
 
+-- texts read, and then others
+pub read_texts-append : (s : Midway) (cs ds : List (ℕ × ℕ))
+    → read_texts s (cs ++ ds) ≡ read_texts (read_texts s cs) ds
+read_texts-append s cs ds =
+    ap (λ (ts : List (ℕ × ℕ)). record s { texts = ts }) (sym (append_assoc s.texts cs ds))
+
 -- three parts, of which the first two try words
 pub read_three_tries : (s : Midway) (r q o : Text) (n m k : ℕ) (fs gs hs : List (Fault Span))
     (ts us : List Text) →

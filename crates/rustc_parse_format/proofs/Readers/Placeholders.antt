@@ -10,27 +10,28 @@ use Rattle.rustc_parse_format.specs.Characters.{Text, is_brace, behind_white, be
 use Rattle.rustc_parse_format.specs.Characters.{begins_with, first}
 use Rattle.rustc_parse_format.specs.Marks.{Span, Start, End, up_to, through, over_first}
 use Rattle.rustc_parse_format.specs.Types.{Mode, Spec, Argument, NextArgument, map_spec}
-use Rattle.rustc_parse_format.specs.Types.{map_argument}
-use Rattle.rustc_parse_format.specs.Placeholder.{cut}
+use Rattle.rustc_parse_format.specs.Types.{is_named, map_argument}
+use Rattle.rustc_parse_format.specs.Identifiers.{is_default, is_identifier}
+use Rattle.rustc_parse_format.specs.Syntax.{SpecText, Default, Formatting, Modifier, DiagnosticText}
+use Rattle.rustc_parse_format.specs.Placeholder.{cut, Cut}
 use Rattle.rustc_parse_format.specs.Values.{number_after_field}
-use Rattle.rustc_parse_format.specs.Meaning.{argument, spec_texts}
+use Rattle.rustc_parse_format.specs.Meaning.{argument, spec_of, spec_texts}
 use Rattle.rustc_parse_format.specs.Faults.{Fault, map_fault, brace_fill, no_brace}
 use Rattle.rustc_parse_format.specs.PartFaults.{cut_faults}
 use Rattle.rustc_parse_format.specs.Recovery.{recovery}
 use Rattle.rustc_parse_format.specs.Call.{Call, GivesNoArgument, GivesAtMostText, call, placeholder}
 use Rattle.rustc_parse_format.specs.Call.{unclosed_call, unclosed_fault}
 use Rattle.rustc_parse_format.specs.Back.{Back}
-use Rattle.rustc_parse_format.specs.Midway.{FindsNothing, Midway, behind_closing, closed_then}
+use Rattle.rustc_parse_format.specs.Midway.{Midway, behind_closing, closed_then}
 use Rattle.rustc_parse_format.specs.Midway.{opens_placeholder, read_call, read_texts, read_to}
 use Rattle.rustc_parse_format.specs.Midway.{read_tries, recovered}
-use Rattle.rustc_parse_format.specs.Lines.{closed_in}
 use Rattle.rustc_parse_format.specs.Tries.{spec_tries}
 use Rattle.rustc_parse_format.proofs.Grammar.Numbers.{number_after_field-le}
 use Rattle.rustc_parse_format.proofs.Grammar.Rests.{IsRest-le, behind_white_rest}
 use Rattle.rustc_parse_format.proofs.Readers.Recoveries.{Recovers}
 use Rattle.rustc_parse_format.proofs.Readers.Parts.{read_three, tried-append}
 use Rattle.rustc_parse_format.proofs.Grammar.CleanWords.{none_right}
-use Rattle.rustc_parse_format.proofs.Lines.LineLaws.{read_texts-append}
+use Rattle.rustc_parse_format.proofs.Readers.Parts.{read_texts-append}
 use Rattle.rustc_parse_format.proofs.Lines.StateLines.{closed_in-none}
 use Rattle.rustc_parse_format.specs.State.{State, AddsNothing, NeedsNoMemory, next_call}
 use Rattle.rustc_parse_format.specs.World.{World, Place, number_of, place_at, place_of}
@@ -49,28 +50,36 @@ placeholder-piece mode c o t = cond_both {A = Call} (begins_with 125 (ending mod
 -- One without fault has an argument without one and is closed by a brace,
 pub placeholder-faultless : (mode : Mode) (c : ℕ) (o t : Text)
     → (placeholder mode c o t).faults ≡ [] → (cut_faults mode (cut mode t) ≡ [])
-    × ((placeholder mode c o t).texts ≡ spec_texts (cut mode t).field.spec (cut mode t).rest)
     × (begins_with 125 (ending mode t) ≡ true)
 unfolding placeholder
 placeholder-faultless mode c o t =
     cond_both {A = Call} (begins_with 125 (ending mode t)) _ _ (λ k. k.faults ≡ [] →
-    (cut_faults mode (cut mode t) ≡ [])
-    × (k.texts ≡ spec_texts (cut mode t).field.spec (cut mode t).rest)
-    × (begins_with 125 (ending mode t) ≡ true))
-    (λ e h. (h, refl, e))
+    (cut_faults mode (cut mode t) ≡ []) × (begins_with 125 (ending mode t) ≡ true))
+    (λ e h. (h, e))
     (λ e h. absurd (no_faults (none_right (cut_faults mode (cut mode t)) _ h)))
   where
     no_faults : {f : Fault Span} {fs : List (Fault Span)} → f ∷ fs ≡ [] → ⊥
     no_faults e = cc
 
--- and where it finds nothing, so does its argument.
-pub argument-finds : (s : Midway) (mode : Mode) (o t : Text) →
-    FindsNothing s (placeholder mode s.next o t).faults (placeholder mode s.next o t).texts →
-    FindsNothing s (cut_faults mode (cut mode t))
-    (spec_texts (cut mode t).field.spec (cut mode t).rest)
-argument-finds s mode o t h =
-    let clean = placeholder-faultless mode s.next o t h.0 in
-    (clean.0, subst (λ (cs : List (ℕ × ℕ)). (read_texts s cs).lines ≡ s.lines) clean.1 h.1)
+-- A specification that asks for nothing has no text.
+default-no_texts : (f : Span → Place) (c : ℕ) (t : Text) (s : SpecText) (r : Text)
+    → is_default (map_spec f (spec_of c t s r)) ≡ true → spec_texts s r ≡ []
+unfolding is_default
+default-no_texts f c t Default r e = refl
+default-no_texts f c t (Formatting p) r e = refl
+default-no_texts f c t (Modifier w) r e = refl
+default-no_texts f c t (DiagnosticText []) r e = absurd (false≢true e)
+default-no_texts f c t (DiagnosticText (x ∷ u)) r e = absurd (false≢true e)
+
+-- So an argument that is only a name has none.
+pub identifier-no_texts : (f : Span → Place) (c : ℕ) (a : Cut) (seen : Argument Place)
+    → seen ≡ map_argument f (argument c a) → is_identifier seen ≡ true →
+    spec_texts a.field.spec a.rest ≡ []
+unfolding argument
+identifier-no_texts f c a seen e h =
+    let k = rw e at h in
+    default-no_texts f c a.spec_at a.field.spec a.rest
+    (and_parts (is_named (argument c a).position) _ k).1
 
 map-if : {A B : Type 0} (g : A → B) (b : Bool) (s : Option A)
     → option_map g (if b then s else None) ≡ (if b then option_map g s else None)
@@ -100,14 +109,6 @@ unclosed_fault_in w o f r seen e =
     ap (λ s. no_brace s (first r) (place_of w (up_to r r)) (place_of w (over_first o)))
     (brace_fill-map (place_of w) f.fill f.fill_span))
 
--- the place of what a brace closed
-pub closed_where : (h : Bool) (old : Option Place) (s : Span) (w : World) (p : Place)
-    → w.has_source ≡ h → p ≡ place_of w s →
-    (if h then Some p else old) ≡ closed_then old (closed_in w (Some s))
-unfolding place_at
-closed_where true old s w p e f = rw (e, f) refl
-closed_where false old s w p e f = rw e refl
-
 -- after the argument of a placeholder and white space
 abbrev pub behind_argument : Midway → Mode → Text → Midway
 behind_argument s mode t =
@@ -122,17 +123,15 @@ pub brace-closes : (s new : Midway) (mode : Mode) (opening : Place)
     → begins_with 125 s.rest ≡ true →
     new ≡ record s {
       rest = behind_first s.rest;
-      closed = if s.world.has_source then Some (opening.0, number_of s.world (End (length s.rest)))
-          else s.closed;
+      closed = Some (opening.0, number_of s.world (End (length s.rest)));
     } → (o : Text) (a : Argument Span) → opening ≡ place_of s.world (over_first o)
     → new ≡ behind_closing mode o a s
 brace-closes s new mode opening b e o a f =
     let at : opening.0 ≡ number_of s.world (Start (length o)) = ap (λ (p : Place). p.0) f in
-    let here : (opening.0, number_of s.world (End (length s.rest)))
-    ≡ place_of s.world (through o s.rest) =
-    ap (λ (n : ℕ). (n, number_of s.world (End (length s.rest)))) at in
-    e ∙ (ap (λ (p : Option Place). record s { rest = behind_first s.rest; closed = p })
-    (closed_where s.world.has_source s.closed (through o s.rest) s.world _ refl here)
+    e ∙ (ap (λ (n : ℕ). record s {
+      rest = behind_first s.rest;
+      closed = Some (n, number_of s.world (End (length s.rest)));
+    }) at
     ∙ sym (cond-true (begins_with 125 s.rest) _ _ b))
 
 -- and where it is missing, its fault is noted, and the recovery is read.
@@ -174,7 +173,6 @@ unclosed_read s mode o t =
     let k = recovery mode c o (argument s.next a) r in
     let ts = spec_texts a.field.spec a.rest in
     let us = spec_tries a.field.spec a.rest in
-    rw (closed_in-none s.world)
     (ap (λ (x : Midway). read_texts (read_texts (read_tries (read_tries x us) k.tries) ts) k.texts)
     (read_three s r r k.rest c c k.next (cut_faults mode a) (f ∷ []) k.faults)
     ∙ (ap (λ fs. read_texts

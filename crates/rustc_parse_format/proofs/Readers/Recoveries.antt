@@ -21,11 +21,10 @@ use Rattle.rustc_parse_format.proofs.Grammar.Identifiers.{identifier-map}
 use Rattle.rustc_parse_format.proofs.Grammar.Rests.{IsRest, IsRest-self, IsRest-trans, IsRest-le}
 use Rattle.rustc_parse_format.proofs.Grammar.Rests.{behind_first_rest, behind_word_rest, cut_rest}
 use Rattle.rustc_parse_format.proofs.Grammar.Numbers.{number_after_field-le}
-use Rattle.rustc_parse_format.proofs.Lines.StateLines.{lines_in-nil}
 
--- How it is read. Where nothing is read as text, there are no lines.
+-- How it is read.
 pub read_no_texts : (s : Midway) → read_texts s [] ≡ s
-read_no_texts s = rw (lines_in-nil s.world s.line_start, append-nil s.lines) refl
+read_no_texts s = ap (λ (cs : List (ℕ × ℕ)). record s { texts = cs }) (append-nil s.texts)
 
 -- where nothing is found and nothing is read
 recovered-nothing : (s : Midway) → recovered s (finds s.next [] s.rest) ≡ s

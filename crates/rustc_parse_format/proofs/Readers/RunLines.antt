@@ -9,21 +9,21 @@ use Rattle.rustc_parse_format.specs.Characters.{Text, front, behind, is_no_brace
 use Rattle.rustc_parse_format.specs.World.{Place, place_at}
 use Rattle.rustc_parse_format.specs.Marks.{marked}
 use Rattle.rustc_parse_format.specs.Lines.{Noted, read_lines}
-use Rattle.rustc_parse_format.specs.Midway.{Midway, read_texts, read_run, noted_next, passed_next}
-use Rattle.rustc_parse_format.specs.Midway.{IsInOneLine}
+use Rattle.rustc_parse_format.specs.Placing.{Lining, IsInOneLine, note_run, note_texts, noted_next}
+use Rattle.rustc_parse_format.specs.Placing.{passed_next}
 use Rattle.rustc_parse_format.proofs.Grammar.Fronts.{front-behind}
-use Rattle.rustc_parse_format.proofs.Lines.LineLaws.{Reading, lines_in-source, read_texts-append}
+use Rattle.rustc_parse_format.proofs.Lines.LineLaws.{Reading, lines_in-source, note_texts-append}
 use Rattle.rustc_parse_format.proofs.Lines.LineLaws.{note-newline, read_lines-step}
 
 -- read up to the rest r, with these characters as text
-abbrev pub read_up_to : Midway → List (ℕ × ℕ) → Text → Midway
-read_up_to s cs r = record (read_texts s cs) { rest = r }
+abbrev pub read_up_to : Lining → List (ℕ × ℕ) → Text → Lining
+read_up_to s cs r = record (note_texts s cs) { rest = r }
 
 -- A character that is no brace is noted, and then the run goes on behind it.
-step_here : (s : Midway) (c : ℕ) (t : Text) → s.world.has_source ≡ true → is_no_brace c ≡ true →
-    read_run (record s { rest = c ∷ t }) ≡ read_run (passed_next c (record s { rest = c ∷ t }))
+step_here : (s : Lining) (c : ℕ) (t : Text) → s.world.has_source ≡ true → is_no_brace c ≡ true →
+    note_run (record s { rest = c ∷ t }) ≡ note_run (passed_next c (record s { rest = c ∷ t }))
 step_here s c t source passes =
-    let here : Midway = record s { rest = c ∷ t } in
+    let here : Lining = record s { rest = c ∷ t } in
     let u : Text = front is_no_brace t in
     let r : Text = behind is_no_brace t in
     let first : ℕ × ℕ = (c, length (c ∷ t)) in
@@ -31,27 +31,27 @@ step_here s c t source passes =
     passes
     ∙ (ap (λ (v : Text). read_up_to here ((c, length (c ∷ v)) ∷ marked u r) r)
     (sym (front-behind is_no_brace t))
-    ∙ (ap (λ (m : Midway). record m { rest = r }) (read_texts-append here (first ∷ []) (marked u r))
+    ∙ (ap (λ (m : Lining). record m { rest = r }) (note_texts-append here (first ∷ []) (marked u r))
     ∙ ap (λ (q : Reading). read_up_to (record here { line_start = q.0; lines = s.lines ++ q.1 })
     (marked u r) r)
     (lines_in-source s.world s.line_start (first ∷ []) source)))
 
-step_at : (s : Midway) (c : ℕ) (t : Text) → s.world.has_source ≡ true → first t ≡ Some c
+step_at : (s : Lining) (c : ℕ) (t : Text) → s.world.has_source ≡ true → first t ≡ Some c
     → is_no_brace c ≡ true →
-    read_run (record s { rest = t }) ≡ read_run (passed_next c (record s { rest = t }))
+    note_run (record s { rest = t }) ≡ note_run (passed_next c (record s { rest = t }))
 step_at s c [] source e passes = absurd (none-some c e)
 step_at s c (d ∷ t) source e passes =
-    subst (λ d. read_run (record s { rest = d ∷ t })
-    ≡ read_run (passed_next c (record s { rest = d ∷ t })))
+    subst (λ d. note_run (record s { rest = d ∷ t })
+    ≡ note_run (passed_next c (record s { rest = d ∷ t })))
     (ap (λ (o : Option ℕ). unwrap_or o c) (sym e)) (step_here s c t source passes)
 
-pub run-step : (s : Midway) (c : ℕ) → s.world.has_source ≡ true → first s.rest ≡ Some c
+pub run-step : (s : Lining) (c : ℕ) → s.world.has_source ≡ true → first s.rest ≡ Some c
     → is_no_brace c ≡ true →
-    read_run (passed_next c s) ≡ read_run s
+    note_run (passed_next c s) ≡ note_run s
 run-step s c source e passes = sym (step_at s c s.rest source e passes)
 
 -- A run in one line begins with no newline, and goes on in that line behind any other character.
-noted_line : (s : Midway) (c : ℕ) → c ≢ code "\n" → (noted_next c s).lines ≡ s.lines
+noted_line : (s : Lining) (c : ℕ) → c ≢ code "\n" → (noted_next c s).lines ≡ s.lines
 noted_line s c other =
     let x : Noted = (c, place_at s.world (length s.rest)) in
     ap (λ (q : Reading). s.lines ++ q.1)
@@ -65,7 +65,7 @@ longer old line more e = omega (
   length-append old line,
 )
 
-pub one_line-no_newline : (s : Midway) (c : ℕ) → s.world.has_source ≡ true → first s.rest ≡ Some c
+pub one_line-no_newline : (s : Lining) (c : ℕ) → s.world.has_source ≡ true → first s.rest ≡ Some c
     → is_no_brace c ≡ true →
     IsInOneLine s → c ≢ code "\n"
 one_line-no_newline s c source e passes one is =
@@ -74,13 +74,13 @@ one_line-no_newline s c source e passes one is =
     let ended : line ≡ (s.line_start, (place_at s.world (length s.rest)).0) ∷ [] =
     ap (λ (q : Reading). q.1) (note-newline s.world s.line_start c (length s.rest) is) in
     let none : length line
-    ≡ 0 = longer s.lines line _ (ap (λ (m : Midway). m.lines) (run-step s c source e passes)
+    ≡ 0 = longer s.lines line _ (ap (λ (m : Lining). m.lines) (run-step s c source e passes)
     ∙ one) in
     absurd (omega (arith, none, ap length ended))
 
-pub one_line-step : (s : Midway) (c : ℕ) → s.world.has_source ≡ true → first s.rest ≡ Some c
+pub one_line-step : (s : Lining) (c : ℕ) → s.world.has_source ≡ true → first s.rest ≡ Some c
     → is_no_brace c ≡ true →
     IsInOneLine s → IsInOneLine (passed_next c s)
 one_line-step s c source e passes one =
-    ap (λ (m : Midway). m.lines) (run-step s c source e passes)
+    ap (λ (m : Lining). m.lines) (run-step s c source e passes)
     ∙ (one ∙ sym (noted_line s c (one_line-no_newline s c source e passes one)))

@@ -12,12 +12,12 @@ use Rattle.rustc_parse_format.specs.Characters.{is_in_line, first}
 use Rattle.rustc_parse_format.specs.World.{World, StartBehind, place_at}
 use Rattle.rustc_parse_format.specs.Marks.{marked}
 use Rattle.rustc_parse_format.specs.Lines.{noted}
-use Rattle.rustc_parse_format.specs.Midway.{Midway, read_texts, read_run, IsInOneLine, IsPastIndent}
+use Rattle.rustc_parse_format.specs.Placing.{Lining, IsInOneLine, IsPastIndent, note_run, note_texts}
 use Rattle.rustc_parse_format.proofs.Grammar.Fronts.{front-behind, list_all-front, list_all-weaker}
 use Rattle.rustc_parse_format.proofs.Readers.Steps.{behind-le}
 use Rattle.rustc_parse_format.proofs.Lines.LineLaws.{Reading, has_no_indent, indent-no}
 use Rattle.rustc_parse_format.proofs.Lines.LineLaws.{lines_in-source, marked-append}
-use Rattle.rustc_parse_format.proofs.Lines.LineLaws.{read_texts-append, read_lines-skip}
+use Rattle.rustc_parse_format.proofs.Lines.LineLaws.{note_texts-append, read_lines-skip}
 use Rattle.rustc_parse_format.proofs.Spans.PlaceOrder.{no_newline, noted-no_newline}
 use Rattle.rustc_parse_format.proofs.Spans.PlaceOrder.{behind-no_indent}
 use Rattle.rustc_parse_format.proofs.Readers.RunLines.{read_up_to}
@@ -74,8 +74,8 @@ past-no_indent w start c t (d ∷ u) r e past split =
     none : (w : World) (start k : ℕ) → (place_at w k).0 ≡ start → start < (place_at w k).0 → ⊥
     none w start k same more = omega arith
 
-read_nothing : (s : Midway) (u r : Text) → s.world.has_source ≡ true → no_newline u ≡ true →
-    has_no_indent s.line_start (noted s.world (marked u r)) ≡ true → read_texts s (marked u r) ≡ s
+read_nothing : (s : Lining) (u r : Text) → s.world.has_source ≡ true → no_newline u ≡ true →
+    has_no_indent s.line_start (noted s.world (marked u r)) ≡ true → note_texts s (marked u r) ≡ s
 read_nothing s u r source none past =
     ap (λ (q : Reading). record s { line_start = q.0; lines = s.lines ++ q.1 })
     (lines_in-source s.world s.line_start (marked u r) source
@@ -83,9 +83,9 @@ read_nothing s u r source none past =
     (noted-no_newline s.world u r none) past)
     ∙ ap (λ ls. record s { lines = ls }) (append-nil s.lines)
 
-pub run-skip : (s : Midway) (c : ℕ) → s.world.has_source ≡ true → first s.rest ≡ Some c
+pub run-skip : (s : Lining) (c : ℕ) → s.world.has_source ≡ true → first s.rest ≡ Some c
     → IsPastIndent c s.line_start s.world s.rest →
-    read_run (record s { rest = behind is_in_line s.rest }) ≡ read_run s
+    note_run (record s { rest = behind is_in_line s.rest }) ≡ note_run s
 run-skip s c source e past =
     let t : Text = s.rest in
     let u : Text = front is_in_line t in
@@ -94,7 +94,7 @@ run-skip s c source e past =
     let split : t ≡ u ++ (v ++ r) =
     front-behind is_in_line t
     ∙ ap (λ (x : Text). u ++ x) (front-behind is_no_brace (behind is_in_line t)) in
-    let none : read_texts s (marked u (v ++ r)) ≡ s =
+    let none : note_texts s (marked u (v ++ r)) ≡ s =
     read_nothing s u (v ++ r) source (in_line-no_newline t)
     (past-no_indent s.world s.line_start c t u (v ++ r) e past split) in
     sym (ap (λ (x : Text). read_up_to s (marked (front is_no_brace t) x) x)
@@ -102,14 +102,14 @@ run-skip s c source e past =
     ∙ (ap (λ (x : Text). read_up_to s (marked x r) r)
     (front-inside is_no_brace is_in_line t in_line-no_brace)
     ∙ (ap (λ cs. read_up_to s cs r) (marked-append u v r)
-    ∙ (ap (λ (m : Midway). record m { rest = r })
-    (read_texts-append s (marked u (v ++ r)) (marked v r))
-    ∙ ap (λ (m : Midway). read_up_to m (marked v r) r) none))))
+    ∙ (ap (λ (m : Lining). record m { rest = r })
+    (note_texts-append s (marked u (v ++ r)) (marked v r))
+    ∙ ap (λ (m : Lining). read_up_to m (marked v r) r) none))))
 
-pub one_line-skip : (s : Midway) (c : ℕ) → s.world.has_source ≡ true → first s.rest ≡ Some c
+pub one_line-skip : (s : Lining) (c : ℕ) → s.world.has_source ≡ true → first s.rest ≡ Some c
     → IsPastIndent c s.line_start s.world s.rest →
     IsInOneLine s → IsInOneLine (record s { rest = behind is_in_line s.rest })
-one_line-skip s c source e past one = ap (λ (m : Midway). m.lines) (run-skip s c source e past)
+one_line-skip s c source e past one = ap (λ (m : Lining). m.lines) (run-skip s c source e past)
     ∙ one
 
 -- Such a run that is not empty leaves less.

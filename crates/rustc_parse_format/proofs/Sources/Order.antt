@@ -17,7 +17,7 @@ use Rattle.rustc_parse_format.specs.Source.{between}
 use Rattle.rustc_parse_format.specs.Bytes.{IsLeft}
 use Rattle.rustc_parse_format.specs.SeenSource.{IsAnchorIn, IsAnchored, IsHere, seen_world}
 use Rattle.rustc_parse_format.specs.SeenSource.{world_with}
-use Rattle.rustc_parse_format.specs.Midway.{IsPastIndent}
+use Rattle.rustc_parse_format.specs.Placing.{IsPastIndent}
 use Rattle.rustc_parse_format.specs.World.{World, place_at, content_places, newline_places}
 use Rattle.rustc_parse_format.proofs.Sources.PlainPlaces.{left, length-plain_places}
 use Rattle.rustc_parse_format.proofs.Spans.PlaceOrder.{InOrder, plain-in_order, ordinary-in_order}

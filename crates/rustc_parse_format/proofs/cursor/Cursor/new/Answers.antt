@@ -1,11 +1,10 @@
-use Rattle.rustc_parse_format.proofs.Sources.Places.{first_anchored}
+use Rattle.std.proofs.lemmas.Str.{is_utf8-from_IsUtf8}
 use Rattle.rustc_parse_format.proofs.Readers.Steps.{counted_first}
+use Rattle.rustc_parse_format.proofs.Sources.Places.{left_self}
 use Rattle.rustc_parse_format.proofs.cursor.Cursor.new.Goals as goal
 
 pub invariant_of-result : goal.invariant_of-result
 invariant_of-result c = (
-  first_anchored c.args.source c.args.input.now c.first_anchor-anchor.result c.utf8.input
-      c.requires.input c.requires.fits
-      c.first_anchor-anchor.ensures.rest c.first_anchor-anchor.ensures.anchor c.requires.kept,
-  rw (c.new.ensures, c.requires.input) (counted_first _),
+  left_self c.args.input.now (is_utf8-from_IsUtf8 c.args.input.now c.utf8.input),
+  rw c.new.ensures (counted_first _),
 )

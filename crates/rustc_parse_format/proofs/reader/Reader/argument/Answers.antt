@@ -60,7 +60,6 @@ returns-clause-reads c =
     record {
       state = rw state at c.resolve.ensures.state _ a.value
           ∙ argument_read c.args.self.now (seen_mode c.args.mode);
-      err = tt;
       spare = λ none. refl;
     }
 
@@ -68,8 +67,7 @@ pub returns-in_err-spaced_position-clause-reads : goal.returns-in_err-spaced_pos
 unfolding cut cut_faults
 returns-in_err-spaced_position-clause-reads c = record {
   state = search rules;
-  err = search rules;
-  spare = λ h. let given = none_left _ _ h.0 in absurd
+  spare = λ h. let given = none_left _ _ h in absurd
       (false≢true
       (c.in_err-spaced_position.ensures.spare (none_left _ _ given) (none_right _ _ given)));
 }
@@ -82,6 +80,5 @@ returns-in_err-specification-clause-reads c =
     let spare = rw read at c.in_err-specification.ensures.reads.spare in
     record {
       state = search rules;
-      err = search rules;
-      spare = λ h. absurd (false≢true (spare (none_right _ _ h.0, h.1)));
+      spare = λ h. absurd (false≢true (spare (none_right _ _ h)));
     }

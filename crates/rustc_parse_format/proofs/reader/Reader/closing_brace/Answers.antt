@@ -17,7 +17,7 @@ returns-then-is_next-clause-state c =
 pub returns-clause-state : goal.returns-clause-state
 returns-clause-state c =
     let at = ap (λ (x : Midway). x.rest) c.self.view_is in
-    on_ok c.recover.result c.recover.ensures.state
+    on_ok c.recover.result c.recover.ensures
     (missing-closes c.args.self.now c.missing_closing_brace.new.self c.recover.new.self
     (seen_mode c.args.mode) (pair c.args.opening)
     (seen_argument c.args.argument.now)

@@ -103,7 +103,6 @@ returns-clause-reads c =
       state = on_ok c.type_part.result y.state (λ e. e
           ∙ read_three_tries s (precision_at t) (type_at t)
           (type (type_at t)).1 n m m ws ps ys us vs);
-      err = y.err;
       spare = λ none. y.spare (none_right (ws ++ ps) ys none);
     }
 
@@ -120,7 +119,6 @@ returns-in_err-width-clause-reads c =
     let w = rw k at c.in_err-width.ensures.reads in
     record {
       state = search rules;
-      err = search rules;
       spare = rw (format_faults-at t) (λ none.
           absurd (false≢true (w.spare (none_left ws ps (none_left (ws ++ ps) ys none)))));
     }
@@ -139,7 +137,6 @@ returns-in_err-precision-clause-reads c =
     let p = rw w at c.in_err-precision.ensures.reads in
     record {
       state = search rules;
-      err = search rules;
       spare = rw (format_faults-at t) (λ none.
           absurd (false≢true (p.spare (none_right ws ps (none_left (ws ++ ps) ys none)))));
     }

@@ -16,9 +16,9 @@ rewind-requires-clause-earlier c =
     (λ (u : Unread). u.rest) c.consume.ensures.rest
     ∙ ap (λ b. if b then behind_first c.self-2.inside.cursor.rest else c.self-2.inside.cursor.rest)
     none ∙ at in
-    let front : ◌≡◌ {A = Text} (chars c.checkpoint-front.result.rest.now)
+    let front : ◌≡◌ {A = Text} c.checkpoint-front.result.rest
     c.args.self.now.rest =
-    sym (ap (λ (u : Unread). u.rest) c.checkpoint-front.ensures.at)
+    sym (ap (λ (u : Unread). u.rest) c.checkpoint-front.ensures)
     ∙ ap (λ (s : Midway). s.rest) c.self.view_is in
     rw (behind, front) (IsRest-le (behind_word_rest c.args.self.now.rest))
 
@@ -33,8 +33,8 @@ rewind-requires-clause-word c =
     (λ (u : Unread). u.rest) c.consume.ensures.rest
     ∙ ap (λ b. if b then behind_first c.self-2.inside.cursor.rest else c.self-2.inside.cursor.rest)
     none ∙ at in
-    let front : ◌≡◌ {A = Text} (chars c.checkpoint-front.result.rest.now)
+    let front : ◌≡◌ {A = Text} c.checkpoint-front.result.rest
     c.args.self.now.rest =
-    sym (ap (λ (u : Unread). u.rest) c.checkpoint-front.ensures.at)
+    sym (ap (λ (u : Unread). u.rest) c.checkpoint-front.ensures)
     ∙ ap (λ (s : Midway). s.rest) c.self.view_is in
     rw (behind, front) (part_behind_word c.args.self.now.rest)

@@ -1,6 +1,7 @@
 use Rattle.std.proofs.Common.{◌≡◌, ◌∙◌, [], ◌∷◌, Some, ap, chars, map, refl, sym}
 use Rattle.std.specs.Prelude.{option_map}
 use Rattle.rustc_parse_format.specs.Seen.{pair}
+use Rattle.rustc_parse_format.specs.Marked.{texts_at}
 use Rattle.rustc_parse_format.specs.Midway.{Midway, Unread, midway}
 use Rattle.rustc_parse_format.specs.Characters.{Text, behind_first, first_passes, is_id_start}
 use Rattle.rustc_parse_format.specs.PartFaults.{position_faults}
@@ -19,10 +20,10 @@ left c = ap (λ (u : Unread). u.rest) c.skip_char.ensures.rest ∙ ap
     (λ (m : Midway). behind_first m.rest) c.self.view_is
 
 -- The `r`, and what is left after it.
-whole : (c : After-front-1) → ◌≡◌ {A = Text} (chars c.checkpoint-front.result.rest.now)
+whole : (c : After-front-1) → ◌≡◌ {A = Text} c.checkpoint-front.result.rest
     (114 ∷ c.skip_char.new.self.rest)
 whole c =
-    sym (ap (λ (u : Unread). u.rest) c.checkpoint-front.ensures.at)
+    sym (ap (λ (u : Unread). u.rest) c.checkpoint-front.ensures)
     ∙ (ap (λ (m : Midway). m.rest) c.self.view_is ∙
     (r-whole c.args.self.now.rest c.requires ∙ ap (λ (u : Text). 114 ∷ u) (sym (left c))))
 
@@ -48,9 +49,9 @@ returns-then-not-is_word_ahead-clause-reads c =
     let s = c.args.self.now in
     let r = c.self.inside in
     let here = alone c.before.before in
-    let moved = ap (λ (u : Unread). record (midway u r.curarg r.line_start) {
+    let moved = ap (λ (u : Unread). record (midway u r.curarg) {
       faults = r.found;
-      lines = map pair r.lines.items;
+      texts = texts_at u.input r.run;
       closed = option_map pair r.closed;
     }) c.skip_char.ensures.rest ∙ ap
     (λ (m : Midway). record m { rest = behind_first m.rest }) c.self.view_is in
@@ -60,6 +61,5 @@ returns-then-not-is_word_ahead-clause-reads c =
           (ap (λ (x : PositionText × Text). x.1) here)
           (ap (λ (x : PositionText × Text). position_faults s.rest x.0) here
           ∙ r-faultless s.rest c.requires);
-      err = tt;
       spare = λ none. refl;
     }

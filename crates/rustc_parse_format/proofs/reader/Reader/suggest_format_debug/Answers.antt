@@ -4,8 +4,8 @@ use Rattle.rustc_parse_format.specs.Characters.{is_id_start}
 use Rattle.rustc_parse_format.proofs.Readers.WordFronts.{late_nowhere}
 use Rattle.rustc_parse_format.proofs.reader.Reader.suggest_format_debug.Goals as goal
 
-pub returns-then-not-is_word_next-clause-state : goal.returns-then-not-is_word_next-clause-state
-returns-then-not-is_word_next-clause-state c =
+pub returns-then-not-is_word_next : goal.returns-then-not-is_word_next
+returns-then-not-is_word_next c =
     let t = c.args.self.now.rest in
     let colon : begins_with 58 (behind_first t) ≡ true = search rules in
     let none : first_passes is_id_start (behind_first (behind_first t)) ≡ false = search rules in
