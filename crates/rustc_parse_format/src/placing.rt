@@ -1,6 +1,6 @@
 //! Places what a call read: the marks become byte offsets in the source.
 
-ghost use Rattle.std.specs.Prelude.{◌≡◌, [], chars, map, option_map};
+ghost use Rattle.std.specs.Prelude.{◌≡◌, [], chars, option_map};
 ghost use Rattle.rustc_parse_format.specs.Faults.{map_fault};
 ghost use Rattle.rustc_parse_format.specs.Marked.{left_in, marked_argument, marked_fault};
 ghost use Rattle.rustc_parse_format.specs.Marked.{marked_spec, over, starts, width_marks};
@@ -13,7 +13,7 @@ ghost use Rattle.rustc_parse_format.specs.World.{place_of};
 
 use crate::faults::Fault;
 use crate::run_lines::RunLines;
-use crate::source::{Anchor, Source, first_anchor};
+use crate::source::{Anchor, Source, first_anchor, left};
 use crate::types::{Argument, Count, FormatSpec};
 use std::alloc::Global;
 use std::marker::Model;
@@ -35,7 +35,7 @@ pub fn reach<'input>(
     ensures anchored { IsAnchored source.now result.now at.new }
     ensures there { IsAnchoredThere source.now at.new }
 {
-    let rest = source.left(mark);
+    let rest = left(source.input, mark);
     if at.rest.len() < rest.len() {
         *at = if first.rest.len() < rest.len() {
             first_anchor(source)
@@ -106,7 +106,7 @@ impl<'a, 'input> Placer<'a, 'input> {
           world = self.old.world;
           rest = left_in self.old.input mark;
           line_start = line_start;
-          lines = map pair [];
+          lines = [];
         } }
         ensures state { self.new ≡ self.old }
     {
@@ -180,7 +180,7 @@ impl<'a, 'input> Placer<'a, 'input> {
     {
         if let Some(marks) = span {
             *marks = match width {
-                Count::CountIsParam(_) if marks.start - marks.end == 1 => self.over(marks),
+                Count::CountIsParam(_) if marks.start.saturating_sub(marks.end) == 1 => self.over(marks),
                 _ => self.starts(marks),
             };
         }

@@ -1,10 +1,9 @@
 //! The lines of a run of text, read character by character in its source literal.
 
-ghost use Rattle.std.specs.Prelude.{◌≡◌, ◌≢◌, IsOk, IsTrue, OnOk, Some, chars, map, true};
+ghost use Rattle.std.specs.Prelude.{◌≡◌, ◌≢◌, [], IsOk, IsTrue, OnOk, Some, chars};
 ghost use Rattle.rustc_parse_format.specs.Characters.{first};
 ghost use Rattle.rustc_parse_format.specs.Placing.{IsInOneLine, IsPastIndent, note_run};
 ghost use Rattle.rustc_parse_format.specs.Placing.{passed_next};
-ghost use Rattle.rustc_parse_format.specs.Seen.{pair};
 ghost use Rattle.rustc_parse_format.specs.SeenSource.{IsAnchored, seen_world};
 
 use crate::characters::{Class, behind_while, first};
@@ -43,6 +42,24 @@ impl<'a, 'input> Model for RunLines<'a, 'input> {
     ghost invariant = { λ l. IsAnchored l.source.now l.rest.now l.anchor };
 }
 
+/// Returns whether the first character `c` of `rest` is past the indentation of a line that starts
+/// at the byte offset `byte`: it starts after that, or it starts there and is not white space.
+#[inline(always)]
+fn is_past_indent<'input>(
+    source: &Source<'input>,
+    rest: &'input str,
+    anchor: &Anchor<'input>,
+    c: char,
+    byte: usize,
+) -> bool
+    requires { IsAnchored source.now rest.now anchor.now }
+    ensures { IsTrue result → first (chars rest.now) ≡ Some c
+        → IsPastIndent c byte (seen_world source.now) (chars rest.now) }
+{
+    let start = source.start(rest, anchor);
+    start > byte || start == byte && !c.is_whitespace()
+}
+
 impl<'a, 'input> RunLines<'a, 'input> {
     /// Returns the lines before `rest`: none. The current line starts at the byte offset
     /// `line_start`. Does not allocate.
@@ -58,7 +75,7 @@ impl<'a, 'input> RunLines<'a, 'input> {
           world = seen_world source.now;
           rest = chars rest.now;
           line_start = line_start;
-          lines = map pair [];
+          lines = [];
         } }
     {
         RunLines {
@@ -93,9 +110,8 @@ impl<'a, 'input> RunLines<'a, 'input> {
         Ok(())
     }
 
-    /// Returns whether the next character `c` is past the indentation of the current line: it
-    /// starts after that, or it starts there and is not white space. Moves only the anchor, which
-    /// no contract shows.
+    /// Returns whether the next character `c` is past the indentation of the current line. Moves
+    /// only the anchor, which no contract shows.
     #[inline(always)]
     fn is_past_indent(&mut self, c: char) -> bool
         ensures state { self.new ≡ self.old }
@@ -105,8 +121,7 @@ impl<'a, 'input> RunLines<'a, 'input> {
         if let Some(snippet) = &self.source.kept {
             self.anchor.move_anchor(snippet.as_str(), self.rest);
         }
-        let start = self.source.start(self.rest, &self.anchor);
-        start > self.line_start || start == self.line_start && !c.is_whitespace()
+        is_past_indent(self.source, self.rest, &self.anchor, c, self.line_start)
     }
 
     /// Moves past the newline that comes next, and records the line that it ends. Returns `Err` if

@@ -2,6 +2,8 @@
 
 ghost use Rattle.std.specs.Prelude.{◌≡◌, ◌+◌, ◌<◌, ◌^◌, chars, length, if◌then◌else◌, None};
 ghost use Rattle.rustc_parse_format.specs.Characters.{behind_first};
+ghost use Rattle.rustc_parse_format.specs.Bytes.{IsLeft};
+ghost use Rattle.rustc_parse_format.specs.Marked.{left_in};
 ghost use Rattle.rustc_parse_format.specs.LiteralReading.{IsFound, is_longer, plain_end};
 ghost use Rattle.rustc_parse_format.specs.Seen.{pair, seen_snippet};
 ghost use Rattle.rustc_parse_format.specs.SeenSource.{IsAnchorIn, IsKept, seen_world};
@@ -32,26 +34,30 @@ pub struct Source<'input> {
     pub appended: bool,
 }
 
+/// Returns what is left of `input` where `mark` bytes are left, or an empty text if no character
+/// starts there.
+#[inline(always)]
+pub fn left(input: &str, mark: usize) -> &str
+    ensures rest { chars result.now ≡ left_in (chars input.now) mark }
+    ensures left { IsLeft input.now result.now }
+{
+    if input.len() < mark {
+        return "";
+    }
+    let from = input.len() - mark;
+    if !input.is_char_boundary(from) {
+        return "";
+    }
+    &input[from..]
+}
+
 impl<'input> Source<'input> {
-    ghost use Rattle.rustc_parse_format.specs.Bytes.{IsLeft};
-    ghost use Rattle.rustc_parse_format.specs.Marked.{left_in};
     ghost use Rattle.std.specs.Prelude.{◌-◌, option_map};
     ghost use Rattle.rustc_parse_format.specs.Characters.{byte_length};
     ghost use Rattle.rustc_parse_format.specs.Marks.{End, Start};
     ghost use Rattle.rustc_parse_format.specs.SeenSource.{IsAnchored, seen_world};
     ghost use Rattle.rustc_parse_format.specs.State.{first_of};
     ghost use Rattle.rustc_parse_format.specs.World.{number_of};
-
-    /// Returns what is left of the input where `mark` bytes are left, or an empty text if no
-    /// character starts there.
-    #[inline(always)]
-    pub fn left(&self, mark: usize) -> &'input str
-        ensures rest { chars result.now ≡ left_in (chars self.now.input.now) mark }
-        ensures left { IsLeft self.now.input.now result.now }
-    {
-        let from = self.input.len().wrapping_sub(mark);
-        self.input.get(from..).unwrap_or("")
-    }
 
     /// Returns the byte offset in the source at which the first character of `rest` starts, or if
     /// `rest` is empty the one at which the text ends.

@@ -116,3 +116,14 @@ anchored-suffix s text rest a u w e h =
       fits = h.fits;
       ending = h.ending;
     }
+
+-- An anchor of a suffix of the input is one of what is left at it.
+pub anchored-there : (s : Source) (rest : List ℕ) (a : Anchor) → IsAnchored s rest a
+    → IsLeft s.input.now a.rest.now → IsAnchored s a.rest.now a
+anchored-there s rest a h l = record {
+  is_left = l;
+  is_after = left_self a.rest.now l.valid_rest;
+  is_anchor = h.is_anchor;
+  fits = h.fits;
+  ending = h.ending;
+}

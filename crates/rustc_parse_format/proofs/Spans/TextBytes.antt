@@ -47,7 +47,7 @@ pub record BytesAt (bytes : List ℕ) (from : ℕ) (w : Text) : Type 0 where
   pub starts : IsCharBoundary bytes from
   pub ends : IsCharBoundary bytes (from + byte_length w)
 
-utf8_past : (u : Text) (bytes rest : List ℕ) → IsUtf8 bytes → bytes ≡ encode_utf8_all u ++ rest
+pub utf8_past : (u : Text) (bytes rest : List ℕ) → IsUtf8 bytes → bytes ≡ encode_utf8_all u ++ rest
     → IsUtf8 rest
 utf8_past [] bytes rest v e = subst IsUtf8 e v
 utf8_past (c ∷ u) bytes rest v e =
