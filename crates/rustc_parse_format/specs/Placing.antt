@@ -25,9 +25,13 @@ pub record Placing : Type 0 where
 abbrev pub placing_in : Source → Placing
 placing_in s = record { source = s; world = seen_world s; input = chars s.input.now }
 
--- These faults, found at marks, as they are placed.
+-- A fault, found at marks, as it is placed.
+abbrev pub placed_fault : Placing → Fault Place → Fault Place
+placed_fault p f = map_fault (place_of p.world) (marked_fault p.input f)
+
+-- Faults, found at marks, as they are placed.
 abbrev pub placed_faults : Placing → List (Fault Place) → List (Fault Place)
-placed_faults p fs = map (λ f. map_fault (place_of p.world) (marked_fault p.input f)) fs
+placed_faults p fs = map (placed_fault p) fs
 
 -- An argument, read at marks, as it is placed.
 abbrev pub placed_argument : Placing → Argument Place → Argument Place

@@ -45,7 +45,8 @@ fn add_errors<'input>(
     requires { length found.now < 2 ^ 64 }
     ensures ok { OnOk result (errors.new
         ≡ add_errors errors.old (placed_faults placer.old found.now)) }
-    ensures fronts { IfOk result (λ n. n ≡ length (filter is_front found.now)) }
+    ensures fronts { IfOk result (λ n. n
+        ≡ length (filter is_front (placed_faults placer.old found.now))) }
     ensures err { OnErr result (errors.new ≡ errors.old) }
     ensures placer { placer.new ≡ placer.old }
 {
@@ -85,6 +86,45 @@ impl Lists {
         }
     }
 
+    /// Places and adds the placeholder that a call closed and the lines that ended in its text. The
+    /// current line starts at `line_start`. Returns where the next one starts. Returns `Err` if an
+    /// allocation fails: the lists may then have new ranges at their ends.
+    #[inline(always)]
+    fn add_places<'input>(
+        &mut self,
+        alloc: Global,
+        reader: &Reader<'input>,
+        placer: &mut Placer<'_, 'input>,
+        line_start: usize,
+    ) -> Result<usize, AllocError>
+        requires { reader.now.input ≡ placer.old.input }
+        ensures errors { self.new.errors ≡ self.old.errors }
+        ensures places { OnOk result (self.new.arg_places
+            ≡ self.old.arg_places ++ placed_closed placer.old reader.now.closed) }
+        ensures lines { (let ls = lines_in placer.old.world line_start reader.now.texts in
+            IfOk result (λ n. (self.new.line_spans ≡ self.old.line_spans ++ ls.1) × (n ≡ ls.0))) }
+        ensures placer { placer.new ≡ placer.old }
+        ensures err { OnErr result
+            ((take (length self.old.arg_places) self.new.arg_places ≡ self.old.arg_places)
+            × (take (length self.old.line_spans) self.new.line_spans ≡ self.old.line_spans)) }
+        ensures none { placed_closed placer.old reader.now.closed ≡ []
+            → (lines_in placer.old.world line_start reader.now.texts).1 ≡ [] → IsOk result }
+    {
+        if !placer.is_literal() {
+            return Ok(line_start);
+        }
+        if let Some(braces) = &reader.closed {
+            let place = placer.over(braces);
+            self.arg_places.push(place)?;
+        }
+        let mut lines = placer.lines(alloc, reader.run, line_start);
+        lines.read()?;
+        if !lines.spans.is_empty() {
+            self.line_spans.append(&mut lines.spans)?;
+        }
+        Ok(lines.line_start)
+    }
+
     /// Places and adds what a call has found, and moves `line_start` to the start of the line after
     /// its text. Returns how many errors were added at the front. Returns `Err` if an allocation
     /// fails: the errors and `line_start` are then unchanged, and the other lists may have new
@@ -100,7 +140,8 @@ impl Lists {
         requires { reader.now.input ≡ placer.old.input }
         ensures errors { OnOk result (self.new.errors
             ≡ add_errors self.old.errors (placed_faults placer.old reader.now.faults)) }
-        ensures fronts { IfOk result (λ n. n ≡ length (filter is_front reader.now.faults)) }
+        ensures fronts { IfOk result (λ n. n
+            ≡ length (filter is_front (placed_faults placer.old reader.now.faults))) }
         ensures places { OnOk result (self.new.arg_places
             ≡ self.old.arg_places ++ placed_closed placer.old reader.now.closed) }
         ensures lines { (let ls = lines_in placer.old.world line_start.old reader.now.texts in
@@ -114,21 +155,12 @@ impl Lists {
         ensures none { reader.now.faults ≡ [] → placed_closed placer.old reader.now.closed ≡ []
             → (lines_in placer.old.world line_start.old reader.now.texts).1 ≡ [] → IsOk result }
     {
-        let mut next_line = *line_start;
-        if placer.is_literal() {
-            if let Some(braces) = &reader.closed {
-                let place = placer.over(braces);
-                self.arg_places.push(place)?;
-            }
-            let mut lines = placer.lines(alloc, reader.run, *line_start);
-            lines.read()?;
-            next_line = lines.line_start;
-            self.line_spans.append(&mut lines.spans)?;
+        let next_line = self.add_places(alloc, reader, placer, *line_start)?;
+        if reader.found.is_empty() {
+            *line_start = next_line;
+            return Ok(0);
         }
-        let mut fronts = 0;
-        if !reader.found.is_empty() {
-            fronts = add_errors(alloc, &mut self.errors, &reader.found, placer)?;
-        }
+        let fronts = add_errors(alloc, &mut self.errors, &reader.found, placer)?;
         *line_start = next_line;
         Ok(fronts)
     }
@@ -148,7 +180,8 @@ impl Lists {
         requires { reader.old.input ≡ placer.old.input }
         ensures errors { OnOk result (self.new.errors
             ≡ add_errors self.old.errors (placed_faults placer.old reader.old.faults)) }
-        ensures fronts { IfOk result (λ n. n ≡ length (filter is_front reader.old.faults)) }
+        ensures fronts { IfOk result (λ n. n
+            ≡ length (filter is_front (placed_faults placer.old reader.old.faults))) }
         ensures places { OnOk result (self.new.arg_places
             ≡ self.old.arg_places ++ placed_closed placer.old reader.old.closed) }
         ensures lines { (let ls = lines_in placer.old.world line_start.old reader.old.texts in
