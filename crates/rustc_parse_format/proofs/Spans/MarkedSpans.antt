@@ -126,12 +126,12 @@ IsLong t (NameCount w) r = Unit {0}
 IsLong t NoCount r = Unit {0}
 
 -- more characters are more bytes
-wider : (u r : Text) → length u ≤ byte_length u
-wider [] r = omega arith
-wider (c ∷ u) r = omega (arith, wider u r, sum_by-cons len_utf8 c u, (len_utf8_bounds c).0)
+wider : (u : Text) → length u ≤ byte_length u
+wider [] = omega arith
+wider (c ∷ u) = omega (arith, wider u, sum_by-cons len_utf8 c u, (len_utf8_bounds c).0)
 
 far : (i : Text) (k j : ℕ) → k ≤ length i → suc j < k →
-    (place_at (mark_world i) k).0 ≢ suc (place_at (mark_world i) j).1
+    (place_at (mark_world i) k).0 ≢ suc (place_at (mark_world i) j).0
 far i k j h less same =
     let m = mark_at i k h in
     let n = mark_at m.0 j (omega (arith, m.2, less)) in
@@ -142,16 +142,20 @@ far i k j h less same =
       arith,
       same,
       ap (λ (x : Place). x.0) p,
-      ap (λ (x : Place). x.1) q,
+      ap (λ (x : Place). x.0) q,
       ap byte_length n.1.whole,
       ap length n.1.whole,
       width-append n.1.front n.0,
       length-append n.1.front n.0,
-      wider n.1.front [],
+      wider n.1.front,
       m.2,
       n.2,
       less,
     )
+
+apart : (i t r : Text) → length t ≤ length i → suc (length r) < length t →
+    (at_marks i (up_to t r)).0 ≢ suc (at_marks i (up_to t r)).1
+apart i t r h less = far i (length t) (length r) h less
 
 count_span_back : (i t : Text) (k : CountText) (r : Text) → IsLong t k r
     → AreForward (length i) (optional (count_span t k r)) →
@@ -159,8 +163,9 @@ count_span_back : (i t : Text) (k : CountText) (r : Text) → IsLong t k r
     (option_map (at_marks i) (count_span t k r)) ≡ count_span t k r
 count_span_back i t (NumberCount ds) r long h = ap Some (starts_back i (up_to t r) h.0 tt)
 count_span_back i t (IndexCount ds) r long h =
-    ap Some (cond-false _ _ _ (ne_eqb _ _ (far i (length t) (length r) h.0.within long))
-    ∙ starts_back i (up_to t r) h.0 tt)
+    let p = at_marks i (up_to t r) in
+    ap Some (cond-false {A = Span} (p.0 == suc p.1) (over i p) (starts i p)
+    (ne_eqb p.0 (suc p.1) (apart i t r h.0.within long)) ∙ starts_back i (up_to t r) h.0 tt)
 count_span_back i t (NameCount w) r long h = ap Some (starts_back i (up_to t r) h.0 tt)
 count_span_back i t NoCount r long h = refl
 
@@ -191,13 +196,15 @@ zero_back : (i q : Text) → IsRest i (48 ∷ 36 ∷ q)
 zero_back i q h f =
     let one = sum_by-cons len_utf8 48 (36 ∷ q) in
     let dollar = IsRest-trans h (behind_first_rest (48 ∷ 36 ∷ q)) in
-    let same = omega (
+    let p = at_marks i (through (48 ∷ 36 ∷ q) (36 ∷ q)) in
+    let same : p.0 ≡ suc p.1 = omega (
       arith,
       one,
       ap (λ (x : Place). x.0) (place_rest i (48 ∷ 36 ∷ q) h),
       ap (λ (x : Place). x.1) (place_rest i (36 ∷ q) dollar),
     ) in
-    cond-true _ _ _ (eq-eqb _ _ same) ∙ over_back i (through (48 ∷ 36 ∷ q) (36 ∷ q)) f tt
+    cond-true {A = Span} (p.0 == suc p.1) (over i p) (starts i p) (eq-eqb p.0 (suc p.1) same)
+    ∙ over_back i (through (48 ∷ 36 ∷ q) (36 ∷ q)) f tt
 
 width_span_back : (i : Text) (w : WidthText) (q : Text) → (width_part w).is_formed ≡ true →
     (let t = (width_part w).spelling ++ q in
@@ -294,19 +301,20 @@ unfolding format_of
 format_back i c t p r rest part h =
     let n = length i in
     let there = width_there t p r part in
-    let a = both n (optional (fill_span t p.fill)) _ h in
-    let b = both n (spans_of_count (width_of (from_width p r) p.width (from_precision p r))) _ a.1 in
-    let d = both n (optional (width_span (from_width p r) p.width (from_precision p r))) _ b.1 in
-    let e = both n (spans_of_count (precision_of c (from_precision p r) p.precision
-    (from_type p r))) _ d.1 in
-    let f = both n (optional (precision_span (from_precision p r) p.precision
-    (from_type p r))) _ e.1 in
+    let f = both n _ (optional (type_span (from_type p r) p.type r)) h in
+    let e = both n _ (optional (precision_span (from_precision p r) p.precision
+    (from_type p r))) f.0 in
+    let d = both n _ (spans_of_count (precision_of c (from_precision p r) p.precision
+    (from_type p r))) e.0 in
+    let b = both n _ (optional (width_span (from_width p r) p.width (from_precision p r))) d.0 in
+    let a = both n (optional (fill_span t p.fill))
+    (spans_of_count (width_of (from_width p r) p.width (from_precision p r))) b.0 in
     rw (
       fill_span_back i t p.fill a.0,
-      width_span_back i p.width (from_precision p r) there.formed (IsRest-trans rest there.rest) d.0,
-      width_back i p.width (from_precision p r) b.0,
-      precision_back i c (from_precision p r) p.precision (from_type p r) e.0,
-      precision_span_back i (from_precision p r) p.precision (from_type p r) f.0,
+      width_span_back i p.width (from_precision p r) there.formed (IsRest-trans rest there.rest) b.1,
+      width_back i p.width (from_precision p r) a.1,
+      precision_back i c (from_precision p r) p.precision (from_type p r) d.1,
+      precision_span_back i (from_precision p r) p.precision (from_type p r) e.1,
       type_span_back i (from_type p r) p.type r f.1,
     ) refl
 
