@@ -12,7 +12,7 @@ use Rattle.rustc_parse_format.specs.Lines.{closed_places, lines_in, read_lines}
 use Rattle.rustc_parse_format.specs.Marked.{marked_argument, marked_fault, over}
 use Rattle.rustc_parse_format.specs.Marks.{marked}
 use Rattle.rustc_parse_format.specs.SeenSource.{IsAnchored, seen_world}
-use Rattle.rustc_parse_format.specs.Types.{Argument, map_argument}
+use Rattle.rustc_parse_format.specs.Types.{Argument, Lit, NextArgument, Piece, map_argument}
 use Rattle.rustc_parse_format.specs.World.{Place, StartBehind, World, place_at, place_of}
 
 -- Where marks are placed: a source, with its world and its input.
@@ -36,6 +36,11 @@ placed_faults p fs = map (placed_fault p) fs
 -- An argument, read at marks, as it is placed.
 abbrev pub placed_argument : Placing → Argument Place → Argument Place
 placed_argument p a = map_argument (place_of p.world) (marked_argument p.input a)
+
+-- A piece, read at marks, as it is placed.
+abbrev pub placed_piece : Placing → Piece Place → Piece Place
+placed_piece p (Lit t) = Lit t
+placed_piece p (NextArgument a) = NextArgument (placed_argument p a)
 
 -- The place of a placeholder that was closed at these marks, as a list. Without a source literal it
 -- is empty.

@@ -30,6 +30,7 @@ impl<'input> Reader<'input> {
     ghost use Rattle.rustc_parse_format.specs.Characters.{front, is_nil, is_no_brace, with_first};
     ghost use Rattle.rustc_parse_format.specs.Faults.{brace_fill, no_brace};
     ghost use Rattle.rustc_parse_format.specs.Identifiers.{is_identifier};
+    ghost use Rattle.rustc_parse_format.specs.Marked.{mark_world};
     ghost use Rattle.rustc_parse_format.specs.Marks.{End, Span, over_first, up_to};
     ghost use Rattle.rustc_parse_format.specs.Reads.{Reaches};
     ghost use Rattle.rustc_parse_format.specs.Seen.{pair, seen_argument, seen_mode};
@@ -190,7 +191,12 @@ impl<'input> Reader<'input> {
         ensures end { IfOk result (λ p. is_end p ≡ is_nil self.old.rest) }
         ensures reads { let k = call (seen_mode mode) self.old.next self.old.rest in
             Reaches result self.new (read_call self.old k) (k.faults ≡ []) }
+
+        // What was left is a suffix of the input, and places are marks.
+        ensures input { (front : Text) × (self.old.input ≡ front ++ self.old.rest) }
+        ensures marks { self.old.world ≡ mark_world self.old.input }
     {
+        self.cursor.reads_its_input();
         if self.cursor.opens_placeholder() {
             into.position = Position::ArgumentImplicitlyIs(0);
             into.format = default_of_spec();

@@ -57,6 +57,7 @@ impl<'input> Cursor<'input> {
     ghost use Rattle.rustc_parse_format.specs.Characters.{begins_with, first, behind_first};
     ghost use Rattle.rustc_parse_format.specs.Characters.{is_id_start, first_passes};
     ghost use Rattle.std.specs.Char.{is_ascii_digit};
+    ghost use Rattle.rustc_parse_format.specs.Marked.{mark_world};
     ghost use Rattle.rustc_parse_format.specs.Marks.{Start, End};
     ghost use Rattle.rustc_parse_format.specs.Midway.{opens_placeholder, unread_at};
     ghost use Rattle.rustc_parse_format.specs.Steps.{AreFew};
@@ -98,9 +99,11 @@ impl<'input> Cursor<'input> {
         let _rest = self.rest;
     }
 
-    /// Proves that what is left is a suffix of the input. Does nothing when the program runs.
+    /// Proves that what is left is a suffix of the input, and that places are marks. Does nothing
+    /// when the program runs.
     pub fn reads_its_input(&self)
-        ensures { (front : Text) × (self.now.input ≡ front ++ self.now.rest) }
+        ensures input { (front : Text) × (self.now.input ≡ front ++ self.now.rest) }
+        ensures marks { self.now.world ≡ mark_world self.now.input }
     {
         let _rest = self.rest;
     }

@@ -1,19 +1,22 @@
 //! The lists of what a parser has found in all its calls so far, and the errors that faults become.
 
 ghost use Rattle.std.specs.Prelude.{◌≡◌, ◌<◌, ◌^◌, ◌++◌, ◌∷◌, [], IfOk, IsOk, None, OnErr, OnOk};
-ghost use Rattle.std.specs.Prelude.{length, map, take};
+ghost use Rattle.std.specs.Prelude.{chars, length, map, take};
 ghost use Rattle.std.specs.List.{filter};
 ghost use Rattle.rustc_parse_format.specs.Faults.{add_errors, is_front};
 ghost use Rattle.rustc_parse_format.specs.Lines.{ends_with, lines_in};
-ghost use Rattle.rustc_parse_format.specs.Placing.{placed_closed, placed_faults};
+ghost use Rattle.rustc_parse_format.specs.Placing.{IsAnchoredThere, placed_closed, placed_faults};
+ghost use Rattle.rustc_parse_format.specs.Placing.{placing_in};
 ghost use Rattle.rustc_parse_format.specs.Seen.{pair};
 ghost use Rattle.rustc_parse_format.specs.SeenFaults.{seen_fault};
+ghost use Rattle.rustc_parse_format.specs.SeenSource.{IsKept, seen_world};
 
 use crate::error_list::ErrorList;
 use crate::faults::{Fault, Faults};
 use crate::placing::Placer;
 use crate::range_list::RangeList;
 use crate::reader::Reader;
+use crate::source::{Anchor, Source};
 use std::alloc::{AllocError, Global};
 use std::ops::Range;
 
@@ -166,40 +169,48 @@ impl Lists {
     }
 
     /// Places what a call has found, takes it out of `reader` and adds it. Moves `line_start` to the
-    /// start of the line after the text of the call. Returns how many errors were added at the
-    /// front. Returns `Err` if an allocation fails: the lists and `line_start` are then unchanged,
-    /// and `reader` is to be restored with `rewind`. Does not allocate if there is nothing to add.
+    /// start of the line after the text of the call, which began at `first`. Returns how many errors
+    /// were added at the front. Returns `Err` if an allocation fails: the lists and `line_start` are
+    /// then unchanged, and `reader` is to be restored with `rewind`. Does not allocate if there is
+    /// nothing to add.
     #[inline(always)]
     pub fn take_over<'input>(
         &mut self,
         alloc: Global,
         reader: &mut Reader<'input>,
-        placer: &mut Placer<'_, 'input>,
+        source: &Source<'input>,
+        first: Anchor<'input>,
         line_start: &mut usize,
     ) -> Result<usize, AllocError>
-        requires { reader.old.input ≡ placer.old.input }
+        requires kept { IsKept source.now }
+        requires first { IsAnchoredThere source.now first }
+        requires input { reader.old.input ≡ chars source.now.input.now }
         ensures errors { OnOk result (self.new.errors
-            ≡ add_errors self.old.errors (placed_faults placer.old reader.old.faults)) }
-        ensures fronts { IfOk result (λ n. n
-            ≡ length (filter is_front (placed_faults placer.old reader.old.faults))) }
+            ≡ add_errors self.old.errors (placed_faults (placing_in source.now)
+            reader.old.faults)) }
+        ensures fronts { IfOk result (λ n. n ≡ length (filter is_front
+            (placed_faults (placing_in source.now) reader.old.faults))) }
         ensures places { OnOk result (self.new.arg_places
-            ≡ self.old.arg_places ++ placed_closed placer.old reader.old.closed) }
-        ensures lines { (let ls = lines_in placer.old.world line_start.old reader.old.texts in
+            ≡ self.old.arg_places ++ placed_closed (placing_in source.now) reader.old.closed) }
+        ensures lines { (let ls = lines_in (seen_world source.now) line_start.old
+            reader.old.texts in
             OnOk result ((self.new.line_spans ≡ self.old.line_spans ++ ls.1)
             × (line_start.new ≡ ls.0))) }
         ensures reader { OnOk result (reader.new
             ≡ record reader.old { faults = []; texts = []; closed = None }) }
-        ensures placer { placer.new ≡ placer.old }
         ensures err { OnErr result ((self.new.errors ≡ self.old.errors)
             × (line_start.new ≡ line_start.old)
             × (self.new.arg_places ≡ self.old.arg_places)
             × (self.new.line_spans ≡ self.old.line_spans)) }
-        ensures none { reader.old.faults ≡ [] → placed_closed placer.old reader.old.closed ≡ []
-            → (lines_in placer.old.world line_start.old reader.old.texts).1 ≡ [] → IsOk result }
+        ensures none { reader.old.faults ≡ []
+            → placed_closed (placing_in source.now) reader.old.closed ≡ []
+            → (lines_in (seen_world source.now) line_start.old reader.old.texts).1 ≡ []
+            → IsOk result }
     {
         let places = self.arg_places.len();
         let lines = self.line_spans.len();
-        let added = self.add(alloc, reader, placer, line_start);
+        let mut placer = Placer::new(source, first);
+        let added = self.add(alloc, reader, &mut placer, line_start);
         if added.is_err() {
             self.arg_places.truncate(places);
             self.line_spans.truncate(lines);

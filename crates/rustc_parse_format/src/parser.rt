@@ -8,11 +8,12 @@ use crate::cursor::Cursor;
 use crate::lists::Lists;
 use crate::placing::reach;
 use crate::reader::Reader;
-use crate::source::{Anchor, Source, first_anchor, quote_offset, source_of};
+use crate::source::{first_anchor, quote_offset, source_of};
 use crate::types::{Argument, ParseError, ParseMode, Piece, Taken};
 use std::alloc::{AllocError, Global};
 use std::marker::Model;
 use std::ops::Range;
+use step::Kept;
 
 /// A parser over an input, which reads one piece at a time. It borrows the input, and keeps the
 /// errors, places and lines found so far.
@@ -20,14 +21,9 @@ use std::ops::Range;
 pub struct Parser<'input> {
     alloc: Global,
     mode: ParseMode,
-    source: Source<'input>,
-    /// Where the last call ended, or before that in a source that was not read up to there.
-    anchor: Anchor<'input>,
-    /// Between two calls it has found nothing: all that was found is in `lists`.
+    /// Between two calls it has found nothing: all that was found is in `kept`.
     reader: Reader<'input>,
-    /// The byte offset in the source at which the current line starts.
-    line_start: usize,
-    lists: Lists,
+    kept: Kept<'input>,
 }
 
 impl<'input> Model for Parser<'input> {
@@ -42,21 +38,21 @@ impl<'input> Model for Parser<'input> {
 
     ghost view = { λ p. record {
       mode = seen_mode p.mode;
-      world = seen_world p.source;
-      input = chars p.source.input.now;
+      world = seen_world p.kept.source;
+      input = chars p.kept.source.input.now;
       rest = p.reader.rest;
       back = p.reader.back;
       undone = p.reader.undone;
       next = p.reader.next;
-      errors = p.lists.errors;
-      arg_places = p.lists.arg_places;
-      line_start = p.line_start;
-      line_spans = p.lists.line_spans;
+      errors = p.kept.lists.errors;
+      arg_places = p.kept.lists.arg_places;
+      line_start = p.kept.line_start;
+      line_spans = p.kept.lists.line_spans;
     } };
 
     ghost invariant = { λ p. (p.reader.next + length p.reader.rest < 2 ^ 64)
-        × HasFoundNothing p.reader × (p.reader.input ≡ chars p.source.input.now)
-        × IsKept p.source × IsAnchoredThere p.source p.anchor };
+        × HasFoundNothing p.reader × (p.reader.input ≡ chars p.kept.source.input.now)
+        × IsKept p.kept.source × IsAnchoredThere p.kept.source p.kept.anchor };
 }
 
 impl<'input> Parser<'input> {
@@ -129,11 +125,13 @@ impl<'input> Parser<'input> {
         Ok(Parser {
             alloc,
             mode,
-            source,
-            anchor,
             reader: Reader::new(alloc, Cursor::new(input)),
-            line_start: quote_offset(style),
-            lists: Lists::new(alloc),
+            kept: Kept {
+                source,
+                anchor,
+                line_start: quote_offset(style),
+                lists: Lists::new(alloc),
+            },
         })
     }
 
@@ -285,10 +283,11 @@ impl<'input> Parser<'input> {
         ensures { option_map (λ x. (pair x.0, x.1, x.2)) result
             ≡ first_of self.now.world self.now.input self.now.rest }
     {
-        let mut at = self.anchor;
+        let kept = &self.kept;
+        let mut at = kept.anchor;
         let mark = self.reader.cursor.mark();
-        let rest = reach(&self.source, &self.anchor, &mut at, mark);
-        self.source.peek_place(rest, &at)
+        let rest = reach(&kept.source, &kept.anchor, &mut at, mark);
+        kept.source.peek_place(rest, &at)
     }
 
     /// Returns the character after the next one with its place in the source (a byte range) and its
@@ -299,10 +298,11 @@ impl<'input> Parser<'input> {
         ensures { option_map (λ x. (pair x.0, x.1, x.2)) result
             ≡ first_of self.now.world self.now.input (behind_first self.now.rest) }
     {
-        let mut at = self.anchor;
+        let kept = &self.kept;
+        let mut at = kept.anchor;
         let mark = self.reader.cursor.mark();
-        let rest = reach(&self.source, &self.anchor, &mut at, mark);
-        self.source.peek_place(behind_first(rest), &at)
+        let rest = reach(&kept.source, &kept.anchor, &mut at, mark);
+        kept.source.peek_place(behind_first(rest), &at)
     }
 
     /// Returns how many bytes of the input were read: the byte offset of the next character, or the
@@ -311,7 +311,7 @@ impl<'input> Parser<'input> {
     pub fn position(&self) -> usize
         ensures { result ≡ byte_length self.now.input - byte_length self.now.rest }
     {
-        self.source.input.len() - self.reader.cursor.mark()
+        self.kept.source.input.len() - self.reader.cursor.mark()
     }
 
     /// Returns the errors of all calls so far, in order. An error for a raw identifier, for a flag
@@ -320,7 +320,7 @@ impl<'input> Parser<'input> {
     pub fn errors(&self) -> &[ParseError]
         ensures { map seen_error result.now ≡ self.now.errors }
     {
-        self.lists.errors.as_slice()
+        self.kept.lists.errors.as_slice()
     }
 
     /// Returns the places of the placeholders that a brace closed, in order, each from its opening
@@ -330,7 +330,7 @@ impl<'input> Parser<'input> {
     pub fn arg_places(&self) -> &[Range<usize>]
         ensures { map pair result.now ≡ self.now.arg_places }
     {
-        self.lists.arg_places.as_slice()
+        self.kept.lists.arg_places.as_slice()
     }
 
     /// Returns the lines of what was read as text, in order, as byte ranges of the snippet, each
@@ -340,7 +340,7 @@ impl<'input> Parser<'input> {
     pub fn line_spans(&self) -> &[Range<usize>]
         ensures { map pair result.now ≡ self.now.line_spans }
     {
-        self.lists.line_spans.as_slice()
+        self.kept.lists.line_spans.as_slice()
     }
 
     /// Returns whether the snippet is the source literal of the input, by the rule of
@@ -348,7 +348,7 @@ impl<'input> Parser<'input> {
     pub fn is_source_literal(&self) -> bool
         ensures { result ≡ self.now.world.has_source }
     {
-        self.source.is_literal
+        self.kept.source.is_literal
     }
 
     /// Moves the errors of all calls so far out of the parser and returns them, in order. The
@@ -359,7 +359,7 @@ impl<'input> Parser<'input> {
         ensures agrees { (other : State) → Agree self.old other
             → Agree self.new (record other { errors = [] }) }
     {
-        self.lists.errors.take(self.alloc)
+        self.kept.lists.errors.take(self.alloc)
     }
 
     /// Returns the index that the next implicit argument takes. It and the number of characters

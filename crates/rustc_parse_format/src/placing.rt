@@ -180,7 +180,9 @@ impl<'a, 'input> Placer<'a, 'input> {
     {
         if let Some(marks) = span {
             *marks = match width {
-                Count::CountIsParam(_) if marks.start.saturating_sub(marks.end) == 1 => self.over(marks),
+                Count::CountIsParam(_) if marks.start.saturating_sub(marks.end) == 1 => self.over(
+                    marks,
+                ),
                 _ => self.starts(marks),
             };
         }

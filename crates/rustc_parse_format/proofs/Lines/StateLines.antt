@@ -13,7 +13,7 @@ use Rattle.rustc_parse_format.specs.World.{World, Place, place_at}
 use Rattle.rustc_parse_format.proofs.Sources.PlainPlaces.{place_end}
 use Rattle.rustc_parse_format.specs.State.{State, AddsNothing, after, last_lines, next_call}
 
-nothing_appended : {A : Type 0} (xs ys : List A) → xs ++ ys ≡ xs → ys ≡ []
+pub nothing_appended : {A : Type 0} (xs ys : List A) → xs ++ ys ≡ xs → ys ≡ []
 nothing_appended xs ys e = nil_from_length ys (omega (arith, ap length e, length-append xs ys))
 
 same_either : {A : Type 0} (b : Bool) (x : A) → (if b then x else x) ≡ x
@@ -46,17 +46,15 @@ end_faults s e = rw e refl
 
 -- The last line at the end.
 last-kept : (s : State) (last : Place) → s.rest ≡ [] → s.world.has_source ≡ true
-    → last ≡ (s.line_start, (place_at s.world (length s.rest)).0) →
+    → last ≡ (s.line_start, s.world.end) →
     last_lines s s.line_spans
     ≡ (if ends_with last s.line_spans then s.line_spans else s.line_spans ++ last ∷ [])
 last-kept s last e h f =
-    let end : last ≡ (s.line_start, s.world.end) = f ∙ ap (λ (p : Place). (s.line_start, p.0))
-    (ap (λ (t : Text). place_at s.world (length t)) e ∙ place_end s.world) in
-    rw (e, h, end) refl
+    rw (e, h, f) refl
 
 pub ended_more : (s : State) (last : Place) (ls : List Place) → s.rest ≡ []
     → s.world.has_source ≡ true →
-    last ≡ (s.line_start, (place_at s.world (length s.rest)).0)
+    last ≡ (s.line_start, s.world.end)
     → ends_with last s.line_spans ≡ false → ls ≡ s.line_spans ++ last ∷ [] →
     ls ≡ last_lines s s.line_spans
 ended_more s last ls e h f b k = k
@@ -64,7 +62,7 @@ ended_more s last ls e h f b k = k
     ∙ cond-false (ends_with last s.line_spans) s.line_spans (s.line_spans ++ last ∷ []) b)
 
 pub ended_same : (s : State) (last : Place) → s.rest ≡ [] → s.world.has_source ≡ true →
-    last ≡ (s.line_start, (place_at s.world (length s.rest)).0) → ends_with last s.line_spans ≡ true
+    last ≡ (s.line_start, s.world.end) → ends_with last s.line_spans ≡ true
     → s.line_spans ≡ last_lines s s.line_spans
 ended_same s last e h f b =
     sym (last-kept s last e h f
@@ -74,7 +72,7 @@ no_more : {A : Type 0} (xs : List A) (x : A) → xs ++ x ∷ [] ≡ xs → ⊥
 no_more xs x e = omega (arith, ap length e, length-append xs (x ∷ []))
 
 pub ended_spare : (s : State) (last : Place) → s.rest ≡ [] → s.world.has_source ≡ true →
-    last ≡ (s.line_start, (place_at s.world (length s.rest)).0)
+    last ≡ (s.line_start, s.world.end)
     → ends_with last s.line_spans ≡ false → last_lines s s.line_spans ≡ s.line_spans → ⊥
 ended_spare s last e h f b k = no_more s.line_spans last (ended_more s last _ e h f b refl ∙ k)
 

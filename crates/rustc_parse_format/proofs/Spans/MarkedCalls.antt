@@ -25,6 +25,7 @@ use Rattle.rustc_parse_format.specs.PartFaults.{number_faults, position_faults, 
 use Rattle.rustc_parse_format.specs.PartFaults.{raw_faults, spec_faults, text_faults, type_faults}
 use Rattle.rustc_parse_format.specs.PartFaults.{width_faults, word_faults}
 use Rattle.rustc_parse_format.specs.Placeholder.{cut}
+use Rattle.rustc_parse_format.specs.Placing.{Placing, placed_piece}
 use Rattle.rustc_parse_format.specs.ReadBack.{AllSpans, IsForward, IsStart, optional, spans_of}
 use Rattle.rustc_parse_format.specs.ReadBack.{spans_of_fault}
 use Rattle.rustc_parse_format.specs.Recovery.{Recovery, field, field_fault, late_debug, recovery}
@@ -308,26 +309,21 @@ call-marked i mode c (b ∷ t) rest =
     (λ o. record { piece = tt; closes = tt; faults = (tt, tt) })))
     (λ e. plain-marked i (text_call c [] (b ∷ t)) tt refl refl)
 
--- What a call reads at marks is placed as it is defined: its argument,
-piece_here : (i : Text) (w : World) (a : Argument Place) (p : Option (Piece Span)) → PieceBack i p
-    → Some (NextArgument a) ≡ option_map (piece_in (mark_world i)) p →
-    Some (NextArgument (map_argument (place_of w) (marked_argument i a)))
-    ≡ option_map (piece_in w) p
-piece_here i w a None h e = cc e
-piece_here i w a (Some (Lit t)) h e = cc e
-piece_here i w a (Some (NextArgument b)) h e =
-    let same : a ≡ map_argument (at_marks i) b = cc e in
-    ap (λ (x : Argument Place). Some (NextArgument (map_argument (place_of w)
-    (marked_argument i x)))) same
-    ∙ ap (λ (x : Argument Span). Some (NextArgument (map_argument (place_of w) x))) h
+-- What a call reads at marks is placed as it is defined: its piece,
+piece_here : (q : Placing) (p : Option (Piece Span)) → PieceBack q.input p →
+    option_map (placed_piece q) (option_map (piece_in (mark_world q.input)) p)
+    ≡ option_map (piece_in q.world) p
+piece_here q None h = refl
+piece_here q (Some (Lit t)) h = refl
+piece_here q (Some (NextArgument a)) h =
+    ap (λ (x : Argument Span). Some (NextArgument (map_argument (place_of q.world) x))) h
 
-pub piece_placed : (i : Text) (w : World) (a : Argument Place) (mode : Mode) (c : ℕ) (t : Text)
-    → IsRest i t →
-    Some (NextArgument a) ≡ option_map (piece_in (mark_world i)) (call mode c t).piece →
-    Some (NextArgument (map_argument (place_of w) (marked_argument i a)))
-    ≡ option_map (piece_in w) (call mode c t).piece
-piece_placed i w a mode c t rest e =
-    piece_here i w a (call mode c t).piece (call-marked i mode c t rest).piece e
+pub piece_placed : (q : Placing) (mode : Mode) (c : ℕ) (t : Text) → IsRest q.input t →
+    option_map (placed_piece q)
+    (option_map (piece_in (mark_world q.input)) (call mode c t).piece)
+    ≡ option_map (piece_in q.world) (call mode c t).piece
+piece_placed q mode c t rest =
+    piece_here q (call mode c t).piece (call-marked q.input mode c t rest).piece
 
 -- its faults,
 pub call_faults-placed : (i : Text) (w : World) (mode : Mode) (c : ℕ) (t : Text) → IsRest i t →

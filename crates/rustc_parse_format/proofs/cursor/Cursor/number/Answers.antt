@@ -18,9 +18,11 @@ count_before-requires c =
 pub invariant_of-self : goal.invariant_of-self
 invariant_of-self c =
     let t = chars c.self.inside.rest.now in
-    let passed = rw c.behind_number-number.ensures.rest at c.count_before.ensures in
-    (search rules, rw (c.behind_number-number.ensures.rest, c.pass.ensures)
-    (counted_on _ _ _ _ _ passed (behind_digits-part t) c.self.invariant.1))
+    let passed = rw c.behind_number-number.ensures.rest at c.count_before.ensures in (
+      search rules,
+      rw (c.behind_number-number.ensures.rest, c.pass.ensures)
+          (counted_on _ _ _ _ _ passed (behind_digits-part t) c.self.invariant.1),
+    )
 
 pub returns-clause-digits : goal.returns-clause-digits
 returns-clause-digits c =

@@ -15,6 +15,8 @@ count_before-requires c =
 pub invariant_of-self : goal.invariant_of-self
 invariant_of-self c =
     let t = chars c.self.inside.rest.now in
-    let passed = rw c.behind_while-rest.ensures.rest at c.count_before.ensures in
-    (search rules, rw (c.behind_while-rest.ensures.rest, c.pass.ensures)
-    (counted_on _ _ _ _ _ passed (behind-part (passes c.args.class) t) c.self.invariant.1))
+    let passed = rw c.behind_while-rest.ensures.rest at c.count_before.ensures in (
+      search rules,
+      rw (c.behind_while-rest.ensures.rest, c.pass.ensures)
+          (counted_on _ _ _ _ _ passed (behind-part (passes c.args.class) t) c.self.invariant.1),
+    )

@@ -17,7 +17,7 @@ returns-clause-state c =
     let r = c.self.inside in
     let u = r.cursor in
     let k = c.mark-self-inside.result in
-    let whole = c.reads_its_input.ensures in
+    let whole = c.reads_its_input.ensures.input in
     let at : left_in u.input k ≡ u.rest =
     ap (left_in u.input) c.mark-self-inside.ensures.bytes
     ∙ ap (λ (t : Text). left_in t (byte_length u.rest)) whole.1 ∙ left_in-mark whole.0 u.rest in
