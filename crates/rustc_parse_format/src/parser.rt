@@ -122,10 +122,11 @@ impl<'input> Parser<'input> {
     {
         let source = source_of(input, style, snippet, appended_newline);
         let anchor = first_anchor(&source);
+        let cursor = Cursor::new(input);
         Ok(Parser {
             alloc,
             mode,
-            reader: Reader::new(alloc, Cursor::new(input)),
+            reader: Reader::new(alloc, cursor),
             kept: Kept {
                 source,
                 anchor,
@@ -283,9 +284,10 @@ impl<'input> Parser<'input> {
         ensures { option_map (λ x. (pair x.0, x.1, x.2)) result
             ≡ first_of self.now.world self.now.input self.now.rest }
     {
+        self.reads_its_input();
         let kept = &self.kept;
         let mut at = kept.anchor;
-        let mark = self.reader.cursor.mark();
+        let mark = self.reader.mark();
         let rest = reach(&kept.source, &kept.anchor, &mut at, mark);
         kept.source.peek_place(rest, &at)
     }
@@ -298,9 +300,10 @@ impl<'input> Parser<'input> {
         ensures { option_map (λ x. (pair x.0, x.1, x.2)) result
             ≡ first_of self.now.world self.now.input (behind_first self.now.rest) }
     {
+        self.reads_its_input();
         let kept = &self.kept;
         let mut at = kept.anchor;
-        let mark = self.reader.cursor.mark();
+        let mark = self.reader.mark();
         let rest = reach(&kept.source, &kept.anchor, &mut at, mark);
         kept.source.peek_place(behind_first(rest), &at)
     }
@@ -311,7 +314,10 @@ impl<'input> Parser<'input> {
     pub fn position(&self) -> usize
         ensures { result ≡ byte_length self.now.input - byte_length self.now.rest }
     {
-        self.kept.source.input.len() - self.reader.cursor.mark()
+        self.reads_its_input();
+        let input = self.kept.source.input;
+        let left = self.reader.mark();
+        input.len() - left
     }
 
     /// Returns the errors of all calls so far, in order. An error for a raw identifier, for a flag

@@ -3,7 +3,7 @@
 
 ghost use Rattle.std.specs.Prelude.{◌≡◌, ◌++◌, ◌+◌, ◌<◌, ◌^◌, ◌∷◌, [], ◌↔◌};
 ghost use Rattle.std.specs.Prelude.{IsOk, IsTrue, OnOk, chars};
-ghost use Rattle.rustc_parse_format.specs.Characters.{front};
+ghost use Rattle.rustc_parse_format.specs.Characters.{byte_length, front};
 ghost use Rattle.rustc_parse_format.specs.Characters.{is_no_brace};
 ghost use Rattle.rustc_parse_format.specs.Midway.{midway, read_run};
 ghost use Rattle.rustc_parse_format.specs.SeenFaults.{seen_fault};
@@ -119,6 +119,13 @@ impl<'input> Reader<'input> {
         ensures { IsTrue result ↔ (self.now.rest ≡ []) }
     {
         self.cursor.peek().is_none()
+    }
+
+    /// Returns the mark of the next character: how many bytes of the input are left.
+    pub fn mark(&self) -> usize
+        ensures { result ≡ byte_length self.now.rest }
+    {
+        self.cursor.mark()
     }
 
     /// Returns the index of the next implicit argument, and increments it.
