@@ -1,12 +1,18 @@
 //! The parser with public fields, as an iterator. Each call of `next` makes one call of the proved
-//! reader and adds what that found to the fields.
+//! reader, places what that read and adds what it found to the fields.
+use crate::proved::rustc_parse_format::call::Step;
+use crate::proved::rustc_parse_format::characters::behind_first;
 use crate::proved::rustc_parse_format::cursor::Cursor;
 use crate::proved::rustc_parse_format::error_list::empty_error;
 use crate::proved::rustc_parse_format::messages::tell;
+use crate::proved::rustc_parse_format::placeholder::blank_argument;
+use crate::proved::rustc_parse_format::placing::{reach, Placer};
 use crate::proved::rustc_parse_format::reader::Reader;
-use crate::proved::rustc_parse_format::source::{quote_offset, source_of};
+use crate::proved::rustc_parse_format::source::{
+    first_anchor, quote_offset, source_of, Anchor, Source,
+};
 use crate::shim::alloc::{answer, Global};
-use crate::{ParseError, ParseMode, Piece};
+use crate::{Argument, ParseError, ParseMode, Piece};
 use std::ops::Range;
 
 /// A parser of a format string: an iterator over its pieces.
@@ -21,9 +27,14 @@ use std::ops::Range;
 /// input, and otherwise in a literal that has the input, as it is, after its opening quote.
 pub struct Parser<'input> {
     mode: ParseMode,
-    /// The proved reader. Between two calls it holds nothing that it found. Its `curarg` and
-    /// whether it reads a source literal are set from the fields here before each call.
+    /// The proved reader. Between two calls it holds nothing that it found. Its `curarg` is set
+    /// from the field here before each call.
     reader: Reader<'input>,
+    source: Source<'input>,
+    /// Where the last call ended.
+    anchor: Anchor<'input>,
+    /// The byte offset in the source at which the current line starts.
+    line_start: usize,
     /// The errors in the input so far. An error about a raw identifier, a flag after the type `?`,
     /// or a known mistake where a closing brace is missing is put before all earlier ones; each
     /// other error is put after them.
@@ -59,7 +70,10 @@ impl<'input> Parser<'input> {
         let is_source_literal = source.is_literal;
         Parser {
             mode,
-            reader: Reader::new(Global, Cursor::new(source, input), quote_offset(style)),
+            reader: Reader::new(Global, Cursor::new(input)),
+            anchor: first_anchor(&source),
+            source,
+            line_start: quote_offset(style),
             errors: Vec::new(),
             curarg: 0,
             arg_places: Vec::new(),
@@ -71,37 +85,54 @@ impl<'input> Parser<'input> {
     /// Returns the next character without reading it: its byte range in the source, its byte offset
     /// in the input, and the character. Returns `None` at the end of the input.
     pub fn peek(&self) -> Option<(Range<usize>, usize, char)> {
-        self.reader.cursor.peek_place()
+        let mut at = self.anchor;
+        let rest = reach(&self.source, &self.anchor, &mut at, self.reader.mark());
+        self.source.peek_place(rest, &at)
     }
 
     /// Returns the character after the next one without reading it: its byte range in the source,
     /// its byte offset in the input, and the character. Returns `None` if there is none.
     pub fn peek_ahead(&self) -> Option<(Range<usize>, usize, char)> {
-        self.reader.cursor.peek_place_ahead()
+        let mut at = self.anchor;
+        let rest = reach(&self.source, &self.anchor, &mut at, self.reader.mark());
+        self.source.peek_place(behind_first(rest), &at)
     }
 
-    /// Moves what a call found from the reader to the fields.
+    /// Makes one call, places what it read, a placeholder in `argument`, and adds what it found to
+    /// the fields.
     #[inline(always)]
-    fn take_over(&mut self) {
-        if self.reader.closed.is_some() {
-            self.arg_places.extend(self.reader.closed.take());
-        }
-        if !self.reader.lines.is_empty() {
-            self.add_lines();
+    fn call(&mut self, argument: &mut Argument<'input>) -> Step<'input> {
+        let step = answer(self.reader.call(self.mode, argument));
+        self.curarg = self.reader.curarg;
+        if self.is_source_literal {
+            self.add_places();
         }
         if !self.reader.found.is_empty() {
             self.add_errors();
         }
+        self.reader.forget();
+        let mut placer = Placer::new(&self.source, self.anchor);
+        if let Step::NextArgument = step {
+            placer.argument(argument);
+        }
+        self.anchor = placer.anchor_at(self.reader.mark());
+        step
     }
 
-    /// Moves the lines that ended in a call to `line_spans`. If that is empty, the vectors are
-    /// swapped.
-    #[inline(never)]
-    fn add_lines(&mut self) {
+    /// Adds the place of the placeholder that a call closed, and the lines that ended in its text.
+    /// If there were no lines yet, the vectors are swapped.
+    fn add_places(&mut self) {
+        let mut placer = Placer::new(&self.source, self.anchor);
+        if let Some(braces) = &self.reader.closed {
+            self.arg_places.push(placer.over(braces));
+        }
+        let mut lines = placer.lines(Global, self.reader.run, self.line_start);
+        answer(lines.read());
+        self.line_start = lines.line_start;
         if self.line_spans.is_empty() {
-            std::mem::swap(&mut self.line_spans, &mut self.reader.lines);
+            std::mem::swap(&mut self.line_spans, &mut lines.spans);
         } else {
-            self.line_spans.append(&mut self.reader.lines);
+            self.line_spans.append(&mut lines.spans);
         }
     }
 
@@ -112,6 +143,7 @@ impl<'input> Parser<'input> {
         if self.errors.capacity() == 0 {
             self.errors = Vec::with_capacity(4);
         }
+        let mut placer = Placer::new(&self.source, self.anchor);
         let mut index = 0;
         while let Some(fault) = self.reader.found.get(index) {
             let at = if fault.is_front() {
@@ -120,16 +152,16 @@ impl<'input> Parser<'input> {
                 self.errors.len()
             };
             self.errors.insert(at, empty_error(Global));
-            answer(tell(Global, &mut self.errors[at], fault));
+            let fault = placer.fault(fault);
+            answer(tell(Global, &mut self.errors[at], &fault));
             index += 1;
         }
-        self.reader.found.clear();
     }
 
     /// Adds the last line of a source literal, unless it is already in the list.
     fn end_line(&mut self) {
         if self.is_source_literal {
-            let line = self.reader.line();
+            let line = self.line_start..self.source.end;
             if self.line_spans.last() != Some(&line) {
                 self.line_spans.push(line);
             }
@@ -141,16 +173,19 @@ impl<'input> Iterator for Parser<'input> {
     type Item = Piece<'input>;
 
     fn next(&mut self) -> Option<Piece<'input>> {
-        let reader = &mut self.reader;
-        reader.curarg = self.curarg;
-        reader.cursor.source.is_literal = self.is_source_literal;
-        if reader.is_at_end() {
+        self.reader.curarg = self.curarg;
+        if self.reader.is_at_end() {
             self.end_line();
             return None;
         }
-        let piece = answer(reader.piece(Global, self.mode));
-        self.curarg = reader.curarg;
-        self.take_over();
-        piece
+        if self.reader.cursor.opens_placeholder() {
+            let mut argument = Box::new(blank_argument());
+            self.call(&mut argument);
+            return Some(Piece::NextArgument(argument));
+        }
+        match self.call(&mut blank_argument()) {
+            Step::Lit(text) => Some(Piece::Lit(text)),
+            Step::NextArgument | Step::Unmatched | Step::End => None,
+        }
     }
 }

@@ -6,16 +6,28 @@
 // by results from outside, and beside what is proved (.ci/bindings) and the original (tools/agree).
 
 use crate::proved::rustc_parse_format::faults::Fault;
-use crate::proved::rustc_parse_format::placeholder::blank_argument;
+use crate::proved::rustc_parse_format::laws::default_of_spec;
 use crate::proved::rustc_parse_format::reader::Reader;
-use crate::proved::rustc_parse_format::types::{Argument, ParseMode, Piece};
-use crate::shim::alloc::{AllocError, Global};
-use crate::shim::prelude::*;
+use crate::proved::rustc_parse_format::types::{Argument, ParseMode, Position};
+use crate::shim::alloc::AllocError;
 use std::ops::Range;
 
+/// What a call has read.
+#[derive(Clone, Copy)]
+pub enum Step<'input> {
+    /// Literal text, borrowed from the input. An escaped brace, `{{` or `}}`, is one brace.
+    Lit(&'input str),
+    /// A placeholder, which is in the argument of the caller.
+    NextArgument,
+    /// A closing brace that closes nothing.
+    Unmatched,
+    /// Nothing: no input is left.
+    End,
+}
+
 impl<'input> Reader<'input> {
-    /// Adds the fault that no brace closes `argument`, whose opening brace has the byte range
-    /// `opening`. Returns `Err` if an allocation fails.
+    /// Adds the fault that no brace closes `argument`, whose opening brace has the marks `opening`.
+    /// Returns `Err` if an allocation fails.
     // ensures state { (let f = seen_spec argument.now.format in
     //     OnOk result (self.new ≡ record self.old {
     //       faults = self.old.faults ++ no_brace (brace_fill f.fill f.fill_span)
@@ -23,14 +35,13 @@ impl<'input> Reader<'input> {
     //           (place_of self.old.world (up_to self.old.rest self.old.rest)) (pair opening)
     //           ∷ [];
     //     })) }
-    // ensures err { OnErr result (self.new.source ≡ self.old.source) }
     #[inline]
     fn missing_closing_brace(
         &mut self,
         argument: &Argument<'input>,
         opening: Range<usize>,
     ) -> Result<(), AllocError> {
-        let (next, at) = (self.cursor.peek(), self.cursor.start());
+        let (next, at) = (self.cursor.peek(), self.cursor.mark());
         match (&argument.format.fill, &argument.format.fill_span) {
             (Some('}'), Some(fill)) => {
                 self.note(Fault::FillBrace(next, at..at, fill.start..fill.end))
@@ -39,32 +50,27 @@ impl<'input> Reader<'input> {
         }
     }
 
-    /// Moves past the closing brace of the placeholder that starts at the byte offset `start`. In a
-    /// source literal, records the byte range of the placeholder.
+    /// Moves past the closing brace of the placeholder that starts at the mark `start`, and keeps
+    /// the marks of both.
     // ensures state { self.new ≡ record self.old {
     //   rest = behind_first self.old.rest;
-    //   closed = if self.old.world.has_source
-    //       then Some (start, number_of self.old.world (End (length self.old.rest)))
-    //       else self.old.closed;
+    //   closed = Some (start, number_of self.old.world (End (length self.old.rest)));
     // } }
     #[inline]
     fn consume_closing_brace(&mut self, start: usize) {
-        if self.cursor.is_source_literal() {
-            let brace = self.cursor.consume_place();
-            self.closed = Some(start..brace.end);
-        } else {
-            self.cursor.skip_char();
-        }
+        let brace = self.cursor.mark();
+        self.cursor.skip_char();
+        self.closed = Some(start..brace);
     }
 
     /// Moves past the closing brace. If it is missing, adds that fault and recovers. The opening
-    /// brace has the byte range `opening`. Returns `Err` if an allocation fails.
+    /// brace has the marks `opening`. Returns `Err` if an allocation fails.
+    // requires texts { is_identifier (seen_argument argument.now) ≡ true → self.old.texts ≡ [] }
     // requires numbers { self.old.next + length self.old.rest < 2 ^ 64 }
     // ensures state { OnOk result ((o : Text) (a : ArgumentValue Span)
     //     → pair opening ≡ place_of self.old.world (over_first o)
     //     → seen_argument argument.now ≡ map_argument (place_of self.old.world) a
     //     → self.new ≡ behind_closing (seen_mode mode) o a self.old) }
-    // ensures source { self.new.source ≡ self.old.source }
     // ensures spare { begins_with 125 self.old.rest ≡ true → IsOk result }
     #[inline]
     fn closing_brace(
@@ -86,81 +92,95 @@ impl<'input> Reader<'input> {
     // requires implicit { seen_position into.old.position ≡ Implicit 0 }
     // requires blank { seen_spec into.old.format ≡ default_spec }
     // requires opens { opens_placeholder self.old.rest ≡ true }
+    // requires texts { self.old.texts ≡ [] }
     // requires numbers { self.old.next + length self.old.rest < 2 ^ 64 }
     // ensures value { (let k = call (seen_mode mode) self.old.next self.old.rest in
     //     OnOk result (Some (NextArgument (seen_argument into.new))
     //     ≡ option_map (piece_in self.old.world) k.piece)) }
     // ensures reads { let k = call (seen_mode mode) self.old.next self.old.rest in
-    //     Reaches self.old result self.new (read_call self.old k)
-    //     (FindsNothing self.old k.faults k.texts) }
+    //     Reaches result self.new (read_call self.old k) (k.faults ≡ []) }
     #[inline]
-    pub fn placeholder(
+    fn placeholder(
         &mut self,
         mode: ParseMode,
         into: &mut Argument<'input>,
     ) -> Result<(), AllocError> {
-        let opening = self.cursor.consume_place();
+        let opening = self.cursor.mark();
+        self.cursor.skip_char();
         self.argument(mode, into)?;
         self.cursor.ws();
-        self.closing_brace(mode, into, opening)?;
+        self.closing_brace(mode, into, opening..opening)?;
         Ok(())
     }
 
-    /// Reads what is not a placeholder. Returns the text, or `None` at the end of the input and
-    /// after a closing brace that closes nothing, which is a fault. Returns `Err` if an allocation
-    /// fails.
+    /// Reads the next character, and the longest prefix without braces after it, which alone counts
+    /// as text for the lines.
+    // requires { self.old.texts ≡ [] }
+    // ensures value { chars result.now
+    //     ≡ with_first self.old.rest (front is_no_brace (behind_first self.old.rest)) }
+    // ensures state { self.new ≡ read_run (record self.old { rest = behind_first self.old.rest }) }
+    #[inline]
+    fn string_past_brace(&mut self) -> &'input str {
+        let from = self.cursor.checkpoint();
+        self.cursor.skip_char();
+        self.string();
+        self.cursor.since(&from)
+    }
+
+    /// Reads what is not a placeholder. Returns `Err` if an allocation fails.
     // requires bare { opens_placeholder self.old.rest ≡ false }
-    // ensures piece { IfOk result (λ p. (m : Mode) → option_map (λ t. Lit (chars t.now)) p
-    //     ≡ option_map (piece_in self.old.world) (call m self.old.next self.old.rest).piece) }
+    // requires texts { self.old.texts ≡ [] }
+    // ensures piece { IfOk result (λ p. (m : Mode) (a : Option (ArgumentValue Place))
+    //     → seen_step a p ≡ option_map (piece_in self.old.world) (call m self.old.next self.old.rest).piece) }
+    // ensures end { IfOk result (λ p. is_end p ≡ is_nil self.old.rest) }
     // ensures state { OnOk result ((m : Mode)
     //     → self.new ≡ read_call self.old (call m self.old.next self.old.rest)) }
-    // ensures spare { (m : Mode) → (let k = call m self.old.next self.old.rest in
-    //     FindsNothing self.old k.faults k.texts → IsOk result) }
-    // ensures source { self.new.source ≡ self.old.source }
+    // ensures spare { (m : Mode)
+    //     → (call m self.old.next self.old.rest).faults ≡ [] → IsOk result }
     #[inline]
-    pub fn text(&mut self) -> Result<Option<&'input str>, AllocError> {
+    fn text(&mut self) -> Result<Step<'input>, AllocError> {
         let Some(c) = self.cursor.peek() else {
-            return Ok(None);
+            return Ok(Step::End);
         };
         if c != '{' && c != '}' {
-            let text = self.string()?;
-            return Ok(Some(text));
+            return Ok(Step::Lit(self.string()));
         }
         if c == '{' || self.cursor.is_ahead('}') {
             self.cursor.skip_char();
-            let text = self.string_past_brace()?;
-            return Ok(Some(text));
+            return Ok(Step::Lit(self.string_past_brace()));
         }
-        let span = self.cursor.consume_place();
-        self.note(Fault::UnmatchedBrace(span))?;
-        Ok(None)
+        let brace = self.cursor.mark();
+        self.cursor.skip_char();
+        self.note(Fault::UnmatchedBrace(brace..brace))?;
+        Ok(Step::Unmatched)
     }
 
-    /// Reads the next piece: a placeholder, whose argument is allocated first, or text. Returns
-    /// `None` at the end of the input and after a closing brace that closes nothing. Returns `Err`
-    /// if an allocation fails.
+    /// Makes one call, and reads a placeholder into `into`. Returns `Err` if an allocation fails;
+    /// allocates only for faults.
+    // requires texts { self.old.texts ≡ [] }
     // requires numbers { self.old.next + length self.old.rest < 2 ^ 64 }
-    // ensures piece { IfOk result (λ p. option_map seen p
+    // ensures piece { IfOk result (λ p. seen_step (Some (seen_argument into.new)) p
     //     ≡ option_map (piece_in self.old.world)
     //     (call (seen_mode mode) self.old.next self.old.rest).piece) }
+    // ensures end { IfOk result (λ p. is_end p ≡ is_nil self.old.rest) }
     // ensures reads { let k = call (seen_mode mode) self.old.next self.old.rest in
-    //     Reaches self.old result self.new (read_call self.old k)
-    //     (FindsNothing self.old k.faults k.texts × (opens_placeholder self.old.rest ≡ false)) }
+    //     Reaches result self.new (read_call self.old k) (k.faults ≡ []) }
+    // What was left is a suffix of the input, and places are marks.
+    // ensures input { (front : Text) × (self.old.input ≡ front ++ self.old.rest) }
+    // ensures marks { self.old.world ≡ mark_world self.old.input }
     #[inline(always)]
-    pub fn piece(
+    pub fn call(
         &mut self,
-        alloc: Global,
         mode: ParseMode,
-    ) -> Result<Option<Piece<'input>>, AllocError> {
+        into: &mut Argument<'input>,
+    ) -> Result<Step<'input>, AllocError> {
+        self.cursor.reads_its_input();
         if self.cursor.opens_placeholder() {
-            let mut argument = Box::made_in(alloc, blank_argument())?;
-            self.placeholder(mode, &mut argument)?;
-            return Ok(Some(Piece::NextArgument(argument)));
+            into.position = Position::ArgumentImplicitlyIs(0);
+            into.format = default_of_spec();
+            self.placeholder(mode, into)?;
+            return Ok(Step::NextArgument);
         }
-        let text = self.text()?;
-        match text {
-            Some(text) => Ok(Some(Piece::Lit(text))),
-            None => Ok(None),
-        }
+        self.text()
     }
 }

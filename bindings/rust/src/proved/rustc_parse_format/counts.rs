@@ -5,6 +5,7 @@
 // That source is proved, and each contract here is its. That this text means the same is tested:
 // by results from outside, and beside what is proved (.ci/bindings) and the original (tools/agree).
 
+use crate::proved::rustc_parse_format::characters::is_underscore;
 use crate::proved::rustc_parse_format::faults::Fault;
 use crate::proved::rustc_parse_format::reader::Reader;
 use crate::proved::rustc_parse_format::types::{Count, FormatSpec};
@@ -19,9 +20,11 @@ impl<'input> Reader<'input> {
     //     (number_faults self.old.rest) [] }
     #[inline(always)]
     pub fn integer(&mut self) -> Result<u16, AllocError> {
-        let (number, over) = self.cursor.number();
-        if let Some((digits, span)) = over {
-            self.note(Fault::TooLarge(digits, span))?;
+        let start = self.cursor.mark();
+        let (number, is_over, digits) = self.cursor.number();
+        if is_over {
+            let end = self.cursor.mark();
+            self.note(Fault::TooLarge(digits, start..end))?;
         }
         Ok(number)
     }
@@ -34,9 +37,11 @@ impl<'input> Reader<'input> {
     //     (word_faults self.old.rest) [] }
     #[inline(always)]
     pub fn word(&mut self) -> Result<&'input str, AllocError> {
-        let (word, underscore) = self.cursor.word();
-        if let Some(span) = underscore {
-            self.note(Fault::Underscore(span))?;
+        let start = self.cursor.mark();
+        let word = self.cursor.word();
+        if is_underscore(word) {
+            let end = self.cursor.mark();
+            self.note(Fault::Underscore(start..end))?;
         }
         Ok(word)
     }
@@ -56,9 +61,9 @@ impl<'input> Reader<'input> {
     #[inline(always)]
     fn named_count(&mut self, into: &mut Count<'input>) -> Result<(), AllocError> {
         let front = self.cursor.checkpoint();
-        let start = self.cursor.start();
+        let start = self.cursor.mark();
         let name = self.word()?;
-        let span = start..self.cursor.start();
+        let span = start..self.cursor.mark();
         if self.cursor.consume('$') {
             *into = Count::CountIsName(name, span);
             return Ok(());
@@ -109,12 +114,12 @@ impl<'input> Reader<'input> {
     //     (count_tries self.old.rest k.0)) }
     #[inline(always)]
     fn counted(&mut self, format: &mut FormatSpec<'input>) -> Result<(), AllocError> {
-        let start = self.cursor.start();
+        let start = self.cursor.mark();
         self.count(&mut format.width)?;
         match format.width {
             Count::CountImplied => Ok(()),
             _ => {
-                format.width_span = Some(start..self.cursor.start());
+                format.width_span = Some(start..self.cursor.mark());
                 Ok(())
             }
         }
@@ -146,10 +151,10 @@ impl<'input> Reader<'input> {
             format.zero_pad = true;
             return self.counted(format);
         }
-        let start = self.cursor.start();
+        let start = self.cursor.mark();
         self.cursor.skip_char();
         format.width = Count::CountIsParam(0);
-        format.width_span = Some(start..self.cursor.stop());
+        format.width_span = Some(start..self.cursor.mark());
         self.cursor.skip_char();
         Ok(())
     }
@@ -175,17 +180,17 @@ impl<'input> Reader<'input> {
         if !self.cursor.is_next('.') {
             return Ok(());
         }
-        let start = self.cursor.start();
+        let start = self.cursor.mark();
         self.cursor.skip_char();
         if self.cursor.is_next('*') {
             let number = self.take_curarg();
             self.cursor.skip_char();
             format.precision = Count::CountIsStar(number);
-            format.precision_span = Some(start..self.cursor.start());
+            format.precision_span = Some(start..self.cursor.mark());
             return Ok(());
         }
         self.count(&mut format.precision)?;
-        format.precision_span = Some(start..self.cursor.start());
+        format.precision_span = Some(start..self.cursor.mark());
         Ok(())
     }
 }

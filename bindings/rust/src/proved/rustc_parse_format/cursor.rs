@@ -1,4 +1,5 @@
-//! A cursor over the input, with the byte offset of its position in the source.
+//! A cursor over an input: what is left of it. It knows nothing of the source: where it is, it tells
+//! by a mark, which is how many bytes of the input are left.
 
 // Extracted from crates/rustc_parse_format/src/cursor.rt by tools/extract: not to be edited.
 // That source is proved, and each contract here is its. That this text means the same is tested:
@@ -9,50 +10,34 @@ pub(crate) mod words;
 use crate::proved::rustc_parse_format::characters::{
     before, begins, begins_digit, begins_word, behind_first, first,
 };
-use crate::proved::rustc_parse_format::source::{first_anchor, Anchor, Source};
-use std::ops::Range;
 
-/// A position in the input: the text that is left, and where that starts in the source.
+/// A position in the input: the text that is left.
 pub struct Cursor<'input> {
-    pub(crate) source: Source<'input>,
+    input: &'input str,
     rest: &'input str,
-    anchor: Anchor<'input>,
 }
 
 /// An earlier position of a cursor, with the count of its steps there.
 pub struct Checkpoint<'input> {
+    input: &'input str,
     rest: &'input str,
-    anchor: Anchor<'input>,
 }
 
 impl<'input> Cursor<'input> {
-    /// Returns a cursor at the start of `input`, the input of `source`. Does not allocate.
-    // requires input { source.input.now ≡ input.now }
-    // requires kept { IsKept source }
-    // requires fits { source.offset + length input.now < 2 ^ 64 }
-    // ensures { result ≡ unread_at source.entry input.now (nothing_back (chars input.now)) 0 }
+    /// Returns a cursor at the start of `input`. Does not allocate.
+    // ensures { result ≡ unread_at input.now input.now (nothing_back (chars input.now)) 0 }
     #[inline(always)]
-    pub fn new(source: Source<'input>, input: &'input str) -> Cursor<'input> {
-        let anchor = first_anchor(&source);
-        Cursor {
-            source,
-            rest: input,
-            anchor,
-        }
+    pub fn new(input: &'input str) -> Cursor<'input> {
+        Cursor { input, rest: input }
     }
 
     /// Returns the current position, for `since`, `rewind` and `undo`.
-    // ensures at { self.now ≡ unread_at self.now.source result.rest.now
-    //     (back_at (chars self.now.source.input.now) (chars result.rest.now) result.tally)
-    //     self.now.undone }
-    // ensures anchored { IsAnchored self.now.source result.rest.now result.anchor }
-    // ensures counted { IsCounted (chars self.now.source.input.now)
-    //     (chars result.rest.now) result.tally }
+    // ensures { self.now ≡ record result { undone = self.now.undone } }
     #[inline(always)]
     pub fn checkpoint(&self) -> Checkpoint<'input> {
         Checkpoint {
+            input: self.input,
             rest: self.rest,
-            anchor: self.anchor,
         }
     }
 
@@ -65,9 +50,18 @@ impl<'input> Cursor<'input> {
         let _rest = self.rest;
     }
 
+    /// Proves that what is left is a suffix of the input, and that places are marks. Does nothing
+    /// when the program runs.
+    // ensures input { (front : Text) × (self.now.input ≡ front ++ self.now.rest) }
+    // ensures marks { self.now.world ≡ mark_world self.now.input }
+    #[inline]
+    pub fn reads_its_input(&self) {
+        let _rest = self.rest;
+    }
+
     /// Returns the text between `from` and the current position.
-    // requires { (read : Text) × (chars from.now.rest.now ≡ read ++ self.now.rest) }
-    // ensures { (read : Text) → chars from.now.rest.now ≡ read ++ self.now.rest
+    // requires { (read : Text) × (from.now.rest ≡ read ++ self.now.rest) }
+    // ensures { (read : Text) → from.now.rest ≡ read ++ self.now.rest
     //     → chars result.now ≡ read }
     #[inline(always)]
     pub fn since(&self, from: &Checkpoint<'input>) -> &'input str {
@@ -88,107 +82,46 @@ impl<'input> Cursor<'input> {
         first(behind_first(self.rest))
     }
 
-    /// Moves past the next character, if there is one. Only this function, `consume_place` and the
-    /// functions of `words` move forward.
+    /// Moves past the next character, if there is one. Only this function and the functions of
+    /// `words` move forward.
     // ensures rest { self.new ≡ record self.old { rest = behind_first self.old.rest } }
     #[inline]
     pub fn skip_char(&mut self) {
         self.rest = behind_first(self.rest);
     }
 
-    /// Moves past the next character, if there is one, and returns its byte range in the source. At
-    /// the end of the input, returns the empty range where the text ends.
-    // ensures place { pair result ≡ place_at self.old.world (length self.old.rest) }
-    // ensures rest { self.new ≡ record self.old { rest = behind_first self.old.rest } }
-    #[inline(always)]
-    pub fn consume_place(&mut self) -> Range<usize> {
-        let (place, rest) = self.source.pass(self.rest, &mut self.anchor);
-        self.rest = rest;
-        place
-    }
-
     /// Goes back to the position `to`. The characters from there on can then be read again, which
     /// counts as new steps.
-    // requires anchored { IsAnchored self.old.source to.rest.now to.anchor }
-    // requires furthest { IsFurthest (chars to.rest.now) self.old.back }
-    // requires earlier { length self.old.rest ≤ length (chars to.rest.now) }
-    // requires word { behind_part (chars to.rest.now) ≤ length self.old.rest }
-    // ensures { self.new ≡ unread_at self.old.source to.entry.rest.now (given_back self.old.rest
-    //     (chars to.entry.rest.now) self.old.back) self.old.undone }
+    // requires input { to.input ≡ self.old.input }
+    // requires furthest { IsFurthest to.rest self.old.back }
+    // requires earlier { length self.old.rest ≤ length to.rest }
+    // requires word { behind_part to.rest ≤ length self.old.rest }
+    // ensures { self.new ≡ record self.old {
+    //   rest = to.entry.rest;
+    //   back = given_back self.old.rest to.entry.rest self.old.back;
+    // } }
     #[inline]
     pub fn rewind(&mut self, to: Checkpoint<'input>) {
+        self.input = to.input;
         self.rest = to.rest;
-        self.anchor = to.anchor;
     }
 
-    /// Returns the byte offset in the source at which the next character starts, or at the end of
-    /// the input the one at which the text ends.
-    // ensures { result ≡ number_of self.now.world (Start (length self.now.rest)) }
-    #[inline(always)]
-    pub fn start(&self) -> usize {
-        self.source.start(self.rest, &self.anchor)
-    }
-
-    /// Returns whether the next character `c` is past the indentation of a line that starts at the
-    /// byte offset `byte`: it starts after that, or it starts there and is not white space.
-    // ensures { IsTrue result → first self.now.rest ≡ Some c
-    //     → IsPastIndent c byte self.now.world self.now.rest }
-    #[inline(always)]
-    pub fn is_past_indent(&self, c: char, byte: usize) -> bool {
-        let start = self.source.start(self.rest, &self.anchor);
-        start > byte || start == byte && !c.is_whitespace()
-    }
-
-    /// Examines the snippet at the current position, from which byte offsets are then computed.
-    /// Nothing that contracts show changes.
-    // ensures { self.new ≡ self.old }
-    #[inline(always)]
-    pub fn move_anchor(&mut self) {
-        if let Some(snippet) = &self.source.kept {
-            self.anchor.move_anchor(snippet.as_str(), self.rest);
-        }
-    }
-
-    /// Returns the byte offset in the source at which the next character ends, or at the end of the
-    /// input the one at which the text ends.
-    // ensures { result ≡ number_of self.now.world (End (length self.now.rest)) }
-    #[inline(always)]
-    pub fn stop(&self) -> usize {
-        self.source.stop(self.rest, &self.anchor)
-    }
-
-    /// Returns whether the snippet is the source literal of the input.
-    // ensures { result ≡ self.now.world.has_source }
+    /// Goes back to the position `to`, before a call in which an allocation failed. The steps of
+    /// that call then do not count.
+    // ensures { self.new ≡ record to.entry { undone = self.old.undone + 1 } }
     #[inline]
-    pub fn is_source_literal(&self) -> bool {
-        self.source.is_literal
+    pub fn undo(&mut self, to: Checkpoint<'input>) {
+        self.input = to.input;
+        self.rest = to.rest;
     }
 
-    /// Returns the byte range of the next character in the source, its byte offset in the input,
-    /// and the character itself, or `None` at the end of the input.
-    // ensures { option_map (λ x. (pair x.0, x.1, x.2)) result
-    //     ≡ first_of self.now.world self.now.input self.now.rest }
+    /// Returns the mark of the next character: how many bytes of the input are left.
+    // ensures start { result ≡ number_of self.now.world (Start (length self.now.rest)) }
+    // ensures stop { result ≡ number_of self.now.world (End (length self.now.rest)) }
+    // ensures bytes { result ≡ byte_length self.now.rest }
     #[inline(always)]
-    pub fn peek_place(&self) -> Option<(Range<usize>, usize, char)> {
-        self.source.peek_place(self.rest, &self.anchor)
-    }
-
-    /// Returns, for the character after the next one, its byte range in the source, its byte offset
-    /// in the input, and the character itself, or `None` if there is none.
-    // ensures { option_map (λ x. (pair x.0, x.1, x.2)) result
-    //     ≡ first_of self.now.world self.now.input (behind_first self.now.rest) }
-    #[inline(always)]
-    pub fn peek_place_ahead(&self) -> Option<(Range<usize>, usize, char)> {
-        self.source
-            .peek_place(behind_first(self.rest), &self.anchor)
-    }
-
-    /// Returns the byte offset of the next character in the input, or at the end the length of the
-    /// input.
-    // ensures { result ≡ byte_length self.now.input - byte_length self.now.rest }
-    #[inline(always)]
-    pub fn position(&self) -> usize {
-        self.source.input.len() - self.rest.len()
+    pub fn mark(&self) -> usize {
+        self.rest.len()
     }
 
     /// Returns whether the next character is `c`, which is ASCII.

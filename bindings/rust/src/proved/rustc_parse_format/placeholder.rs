@@ -33,17 +33,17 @@ impl<'input> Reader<'input> {
     //     self.old.next (position_faults self.old.rest p.0) [] }
     #[inline]
     fn prefixed_word(&mut self) -> Result<&'input str, AllocError> {
-        let from = self.cursor.start();
+        let from = self.cursor.mark();
         let front = self.cursor.checkpoint();
         self.cursor.skip_char();
         if !self.cursor.is_word_ahead() {
             return Ok(self.cursor.since(&front));
         }
-        let prefix = from..self.cursor.stop();
+        let hash = self.cursor.mark();
         self.cursor.skip_char();
         let word = self.word()?;
-        let span = from..self.cursor.start();
-        self.note(Fault::RawIdentifier(span, prefix))?;
+        let span = from..self.cursor.mark();
+        self.note(Fault::RawIdentifier(span, from..hash))?;
         Ok(word)
     }
 
@@ -92,7 +92,6 @@ impl<'input> Reader<'input> {
     //       faults = (self.old.faults ++ faults_in self.old.world fs) ++ name_faults
     //           (seen_mode mode) (given_position p.0) (pair into.new.position_span);
     //     })) }
-    // ensures err { OnErr result (self.new.source ≡ self.old.source) }
     // ensures spare { (let p = position self.old.rest in
     //     let span = up_to self.old.rest (behind_white p.1) in
     //     position_faults self.old.rest p.0 ≡ []
@@ -103,12 +102,12 @@ impl<'input> Reader<'input> {
         mode: ParseMode,
         into: &mut Argument<'input>,
     ) -> Result<(), AllocError> {
-        let start = self.cursor.start();
+        let start = self.cursor.mark();
         let mut end = start;
         if !self.has_no_position() {
             self.position(&mut into.position)?;
             self.cursor.ws();
-            end = self.cursor.start();
+            end = self.cursor.mark();
         }
         into.position_span = start..end;
         if wants_names(mode) && !matches!(into.position, Position::ArgumentNamed(_)) {
@@ -134,6 +133,7 @@ impl<'input> Reader<'input> {
     /// implicit and whose format is the default. Returns `Err` if an allocation fails.
     // requires implicit { seen_position into.old.position ≡ Implicit 0 }
     // requires blank { seen_spec into.old.format ≡ default_spec }
+    // requires texts { self.old.texts ≡ [] }
     // requires numbers { self.old.next + 1 + length self.old.rest < 2 ^ 64 }
     // ensures value { (let a = cut (seen_mode mode) self.old.rest in
     //     OnOk result (seen_argument into.new
@@ -142,9 +142,9 @@ impl<'input> Reader<'input> {
     //     let fs = cut_faults (seen_mode mode) a in
     //     let read = read_to self.old a.rest (number_after_field self.old.next a.field) fs in
     //     let texts = spec_texts a.field.spec a.rest in
-    //     Reaches self.old result self.new
+    //     Reaches result self.new
     //     (read_texts (read_tries read (spec_tries a.field.spec a.rest)) texts)
-    //     (FindsNothing self.old fs texts) }
+    //     (fs ≡ []) }
     #[inline(always)]
     pub fn argument(
         &mut self,

@@ -1,12 +1,12 @@
 //! The state of a parser during one call: its cursor, the index of the next implicit argument, and
-//! what the call has found so far.
+//! what the call has found so far, at marks. It knows nothing of the source.
 
 // Extracted from crates/rustc_parse_format/src/reader.rt by tools/extract: not to be edited.
 // That source is proved, and each contract here is its. That this text means the same is tested:
 // by results from outside, and beside what is proved (.ci/bindings) and the original (tools/agree).
 
 use crate::proved::rustc_parse_format::characters::Class;
-use crate::proved::rustc_parse_format::cursor::Cursor;
+use crate::proved::rustc_parse_format::cursor::{Checkpoint, Cursor};
 use crate::proved::rustc_parse_format::faults::{Fault, Faults};
 use crate::shim::alloc::{AllocError, Global};
 use crate::shim::prelude::*;
@@ -21,34 +21,56 @@ pub struct Reader<'input> {
     pub curarg: usize,
     /// The faults found in this call.
     pub found: Faults<'input>,
-    /// The byte offset in the source at which the current line starts.
-    pub line_start: usize,
-    /// The byte ranges of the lines that ended in this call.
-    pub lines: Vec<Range<usize>>,
-    /// The byte range of the placeholder that this call closed, if any.
+    /// The mark at which this call has read a run of text, or 0. It reads at most one.
+    pub run: usize,
+    /// The marks of the braces of the placeholder that this call closed, if any.
     pub closed: Option<Range<usize>>,
 }
 
+/// The state of a reader before a call, for `Reader::rewind`.
+pub struct CallStart<'input> {
+    at: Checkpoint<'input>,
+    curarg: usize,
+}
+
 impl<'input> Reader<'input> {
-    /// Returns a reader at `cursor`, whose next implicit argument has the index 0 and whose current
-    /// line starts at the byte offset `line_start`. Does not allocate.
-    // ensures { result ≡ midway cursor.entry 0 line_start }
+    /// Returns a reader at `cursor`, whose next implicit argument has the index 0. Does not
+    /// allocate.
+    // ensures { result ≡ midway cursor.entry 0 }
     #[inline]
-    pub fn new(alloc: Global, cursor: Cursor<'input>, line_start: usize) -> Reader<'input> {
+    pub fn new(alloc: Global, cursor: Cursor<'input>) -> Reader<'input> {
         Reader {
             cursor,
             curarg: 0,
             found: Faults::new(alloc),
-            line_start,
-            lines: Vec::made_in(alloc),
+            run: 0,
             closed: None,
         }
+    }
+
+    /// Restores the state from before a call, and discards what the call has found. Does not
+    /// allocate.
+    // ensures { self.new ≡ midway (record start.entry.at { undone = self.old.undone + 1 })
+    //     start.entry.curarg }
+    #[inline]
+    pub fn rewind(&mut self, start: CallStart<'input>) {
+        self.cursor.undo(start.at);
+        self.curarg = start.curarg;
+        self.forget();
+    }
+
+    /// Discards what the call has found. Does not allocate.
+    // ensures { self.new ≡ record self.old { faults = []; texts = []; closed = None } }
+    #[inline]
+    pub fn forget(&mut self) {
+        self.found.clear();
+        self.run = 0;
+        self.closed = None;
     }
 
     /// Adds a fault. Returns `Err` if an allocation fails; the first fault of a call needs none.
     // ensures state { OnOk result (self.new
     //     ≡ record self.old { faults = self.old.faults ++ seen_fault fault.entry ∷ [] }) }
-    // ensures source { self.new.source ≡ self.old.source }
     // ensures spare { self.old.faults ≡ [] → IsOk result }
     #[inline]
     pub fn note(&mut self, fault: Fault<'input>) -> Result<(), AllocError> {
@@ -63,6 +85,13 @@ impl<'input> Reader<'input> {
         self.cursor.peek().is_none()
     }
 
+    /// Returns the mark of the next character: how many bytes of the input are left.
+    // ensures { result ≡ byte_length self.now.rest }
+    #[inline]
+    pub fn mark(&self) -> usize {
+        self.cursor.mark()
+    }
+
     /// Returns the index of the next implicit argument, and increments it.
     // requires { self.old.next + 1 < 2 ^ 64 }
     // ensures value { result ≡ self.old.next }
@@ -74,108 +103,15 @@ impl<'input> Reader<'input> {
         number
     }
 
-    /// Returns the byte range of the current line, up to the next character.
-    // ensures { pair result
-    //     ≡ (self.now.line_start, number_of self.now.world (Start (length self.now.rest))) }
+    /// Reads the longest prefix without braces, which may be empty. No text has been read yet in
+    /// this call.
+    // requires { self.old.texts ≡ [] }
+    // ensures value { chars result.now ≡ front is_no_brace self.old.rest }
+    // ensures state { self.new ≡ read_run self.old }
     #[inline]
-    pub fn line(&self) -> Range<usize> {
-        self.line_start..self.cursor.start()
-    }
-
-    /// Reads the longest prefix without braces, which may be empty. Returns `Err` if an allocation
-    /// fails; allocates only for lines that end in the prefix.
-    // ensures value { IfOk result (λ t. chars t.now ≡ front is_no_brace self.old.rest) }
-    // ensures reads { Reaches self.old result self.new (read_run self.old)
-    //     (IsInOneLine self.old) }
-    #[inline]
-    pub fn string(&mut self) -> Result<&'input str, AllocError> {
-        let from = self.cursor.checkpoint();
-        self.skip_string()?;
-        Ok(self.cursor.since(&from))
-    }
-
-    /// Reads the next character, and the longest prefix without braces after it, which alone counts
-    /// as text for the lines. Returns `Err` if an allocation fails; allocates only for lines that
-    /// end in the prefix.
-    // ensures value { IfOk result (λ t. chars t.now
-    //     ≡ with_first self.old.rest (front is_no_brace (behind_first self.old.rest))) }
-    // ensures reads { let s = record self.old { rest = behind_first self.old.rest } in
-    //     Reaches self.old result self.new (read_run s) (IsInOneLine s) }
-    #[inline]
-    pub fn string_past_brace(&mut self) -> Result<&'input str, AllocError> {
-        let from = self.cursor.checkpoint();
-        self.cursor.skip_char();
-        self.skip_string()?;
-        Ok(self.cursor.since(&from))
-    }
-
-    /// Moves past the longest prefix without braces. In a source literal it does so line by line,
-    /// and records the lines that end. Returns `Err` if an allocation fails.
-    // ensures reads { Reaches self.old result self.new (read_run self.old)
-    //     (IsInOneLine self.old) }
-    #[inline(never)]
-    fn skip_string(&mut self) -> Result<(), AllocError> {
-        if self.cursor.is_source_literal() {
-            return self.skip_lines();
-        }
-        self.cursor.skip_while(Class::Text);
-        Ok(())
-    }
-
-    /// Moves past the longest prefix without braces of a source literal, line by line, and records
-    /// the lines that end. Returns `Err` if an allocation fails.
-    // requires { IsTrue self.old.world.has_source }
-    // ensures reads { Reaches self.old result self.new (read_run self.old)
-    //     (IsInOneLine self.old) }
-    #[inline(never)]
-    fn skip_lines(&mut self) -> Result<(), AllocError> {
-        while let Some(c) = self.cursor.peek() {
-            if !Class::Text.passes(c) {
-                break;
-            }
-            if c == '\n' {
-                self.consume_newline()?;
-            } else if self.is_past_indent(c) {
-                self.cursor.skip_while(Class::Line);
-            } else {
-                self.skip_in_line(c);
-            }
-        }
-        Ok(())
-    }
-
-    /// Returns whether the next character `c` is past the indentation of the current line. Moves
-    /// only the anchor, which no contract shows.
-    // ensures state { self.new ≡ self.old }
-    // ensures past { IsTrue result → first self.old.rest ≡ Some c
-    //     → IsPastIndent c self.old.line_start self.old.world self.old.rest }
-    #[inline(always)]
-    fn is_past_indent(&mut self, c: char) -> bool {
-        self.cursor.move_anchor();
-        self.cursor.is_past_indent(c, self.line_start)
-    }
-
-    /// Moves past the newline that comes next in a source literal, and records the line that it
-    /// ends. Returns `Err` if an allocation fails.
-    // ensures state { OnOk result (self.new ≡ passed_next 10 self.old) }
-    // ensures err { OnErr result (self.new.source ≡ self.old.source) }
-    #[inline]
-    fn consume_newline(&mut self) -> Result<(), AllocError> {
-        let newline = self.cursor.consume_place();
-        self.lines.try_push(self.line_start..newline.start)?;
-        self.line_start = newline.end;
-        Ok(())
-    }
-
-    /// Moves past the next character of a source literal, which is not a newline. White space at
-    /// the start of the line is left out of the line.
-    // requires { c ≢ 10 }
-    // ensures state { self.new ≡ passed_next c self.old }
-    #[inline]
-    fn skip_in_line(&mut self, c: char) {
-        let place = self.cursor.consume_place();
-        if place.start == self.line_start && c.is_whitespace() {
-            self.line_start = place.end;
-        }
+    pub fn string(&mut self) -> &'input str {
+        self.cursor.reads_its_input();
+        self.run = self.cursor.mark();
+        self.cursor.read_while(Class::Text)
     }
 }

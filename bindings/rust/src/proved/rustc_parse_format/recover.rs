@@ -50,10 +50,9 @@ fn begins_late_debug(sign: char, next: char) -> bool {
 impl<'input> Reader<'input> {
     /// Moves past the next character, which is `sign`, and adds its fault. Changes nothing if it
     /// has none of its own. Returns `Err` if an allocation fails.
-    // ensures state { (let span = place_of self.old.world (over_first self.old.rest) in
+    // ensures { (let span = place_of self.old.world (over_first self.old.rest) in
     //     OnOk result (self.new
     //     ≡ behind_sign self.old (sign_fault sign next span (pair opening)))) }
-    // ensures err { OnErr result (self.new.source ≡ self.old.source) }
     #[inline]
     fn suggest_sign(
         &mut self,
@@ -61,8 +60,8 @@ impl<'input> Reader<'input> {
         next: char,
         opening: Range<usize>,
     ) -> Result<(), AllocError> {
-        let span = self.cursor.start()..self.cursor.stop();
-        let Some(fault) = sign_fault(sign, next, span, opening) else {
+        let at = self.cursor.mark();
+        let Some(fault) = sign_fault(sign, next, at..at, opening) else {
             return Ok(());
         };
         self.cursor.skip_char();
@@ -71,31 +70,30 @@ impl<'input> Reader<'input> {
 
     /// Moves past a `?`. If a colon follows, also moves past that and the word after it, which may
     /// be empty, and adds a fault. Returns `Err` if an allocation fails.
-    // ensures state { OnOk result (self.new
+    // ensures { OnOk result (self.new
     //     ≡ recovered self.old (late_debug self.old.next self.old.rest)) }
-    // ensures err { OnErr result (self.new.source ≡ self.old.source) }
     #[inline]
     fn suggest_format_debug(&mut self) -> Result<(), AllocError> {
-        let span = self.cursor.start()..self.cursor.stop();
+        let at = self.cursor.mark();
         self.cursor.skip_char();
         if !self.cursor.consume(':') {
             return Ok(());
         }
         if !self.cursor.is_word_next() {
-            return self.note(Fault::LateDebug("", span));
+            return self.note(Fault::LateDebug("", at..at));
         }
         let word = self.word()?;
-        self.note(Fault::LateDebug(word, span))
+        self.note(Fault::LateDebug(word, at..at))
     }
 
     /// Moves past a `.`, the field after it, and a closing brace directly after that. With the
     /// brace, a field that is a name or a number is a fault. The argument starts at the byte offset
     /// `from`. Returns `Err` if an allocation fails.
     // requires here { self.old.rest ≢ [] }
+    // requires texts { self.old.texts ≡ [] }
     // requires numbers { self.old.next + length self.old.rest < 2 ^ 64 }
-    // ensures state { OnOk result ((m : Mark) → from ≡ number_of self.old.world m → self.new
+    // ensures { OnOk result ((m : Mark) → from ≡ number_of self.old.world m → self.new
     //     ≡ recovered self.old (field (seen_mode mode) self.old.next m self.old.rest)) }
-    // ensures source { self.new.source ≡ self.old.source }
     #[inline]
     fn suggest_positional_arg_instead_of_captured_arg(
         &mut self,
@@ -118,12 +116,12 @@ impl<'input> Reader<'input> {
 
     /// Recovers from a missing closing brace of `argument`, by the next character. The opening
     /// brace has the byte range `opening`. Returns `Err` if an allocation fails.
+    // requires texts { is_identifier (seen_argument argument.now) ≡ true → self.old.texts ≡ [] }
     // requires numbers { self.old.next + length self.old.rest < 2 ^ 64 }
-    // ensures state { OnOk result ((o : Text) (a : ArgumentValue Span)
+    // ensures { OnOk result ((o : Text) (a : ArgumentValue Span)
     //     → pair opening ≡ place_of self.old.world (over_first o)
     //     → seen_argument argument.now ≡ map_argument (place_of self.old.world) a → self.new
     //     ≡ recovered self.old (recovery (seen_mode mode) self.old.next o a self.old.rest)) }
-    // ensures source { self.new.source ≡ self.old.source }
     #[inline(never)]
     pub fn recover(
         &mut self,

@@ -28,6 +28,22 @@ pub struct Source<'input> {
     pub appended: bool,
 }
 
+/// Returns what is left of `input` where `mark` bytes are left, or an empty text if no character
+/// starts there.
+// ensures rest { chars result.now ≡ left_in (chars input.now) mark }
+// ensures left { IsLeft input.now result.now }
+#[inline(always)]
+pub fn left(input: &str, mark: usize) -> &str {
+    if input.len() < mark {
+        return "";
+    }
+    let from = input.len() - mark;
+    if !input.is_char_boundary(from) {
+        return "";
+    }
+    &input[from..]
+}
+
 impl<'input> Source<'input> {
     /// Returns the byte offset in the source at which the first character of `rest` starts, or if
     /// `rest` is empty the one at which the text ends.

@@ -28,7 +28,8 @@ impl<'input> Reader<'input> {
     fn fill(&mut self, format: &mut FormatSpec<'input>) {
         if let (Some(c), Some('<' | '>' | '^')) = (self.cursor.peek(), self.cursor.peek_ahead()) {
             format.fill = Some(c);
-            format.fill_span = Some(self.cursor.start()..self.cursor.stop());
+            let at = self.cursor.mark();
+            format.fill_span = Some(at..at);
             self.cursor.skip_char();
         }
     }
@@ -91,10 +92,10 @@ impl<'input> Reader<'input> {
         if !self.cursor.is_word_next() {
             return Ok(());
         }
-        let start = self.cursor.start();
+        let start = self.cursor.mark();
         let word = self.word()?;
         format.ty = word;
-        format.ty_span = Some(start..self.cursor.start());
+        format.ty_span = Some(start..self.cursor.mark());
         Ok(())
     }
 
@@ -108,10 +109,10 @@ impl<'input> Reader<'input> {
             self.cursor.skip_char();
             return Ok(());
         };
-        let start = self.cursor.start();
+        let start = self.cursor.mark();
         self.cursor.skip_char();
-        let (from, to) = (self.cursor.start(), self.cursor.stop());
-        self.note(Fault::LateFlag(flag, from..to, start..to))
+        let at = self.cursor.mark();
+        self.note(Fault::LateFlag(flag, at..at, start..at))
     }
 
     /// Reads the type, as in the grammar of `std::fmt`, into `format`, whose type is still empty.
@@ -174,6 +175,7 @@ impl<'input> Reader<'input> {
     /// Reads a colon and the text of a diagnostic into `format`, which is still the default. The
     /// span of the text includes the colon. Text is a fault in a mode that allows only names.
     /// Returns `Err` if an allocation fails.
+    // requires { self.old.texts ≡ [] }
     // ensures value { OnOk result (seen_spec format.new ≡ record (seen_spec format.old) {
     //   ty = front is_no_brace (behind_first self.old.rest);
     //   ty_span = Some (place_of self.old.world
@@ -184,21 +186,19 @@ impl<'input> Reader<'input> {
     //       faults = self.old.faults ++ text_faults (seen_mode mode) (front is_no_brace t)
     //           (place_of self.old.world (up_to self.old.rest (behind is_no_brace t)));
     //     })) }
-    // ensures err { OnErr result (self.new.source ≡ self.old.source) }
     // ensures spare { (let t = behind_first self.old.rest in
     //     let span = up_to self.old.rest (behind is_no_brace t) in
-    //     text_faults (seen_mode mode) (front is_no_brace t) span ≡ []
-    //     → IsInOneLine (record self.old { rest = t }) → IsOk result) }
+    //     text_faults (seen_mode mode) (front is_no_brace t) span ≡ [] → IsOk result) }
     #[inline]
     fn diagnostic(
         &mut self,
         mode: ParseMode,
         format: &mut FormatSpec<'input>,
     ) -> Result<(), AllocError> {
-        let start = self.cursor.start();
+        let start = self.cursor.mark();
         self.cursor.skip_char();
-        let ty = self.string()?;
-        let end = self.cursor.start();
+        let ty = self.string();
+        let end = self.cursor.mark();
         format.ty = ty;
         format.ty_span = Some(start..end);
         if wants_names(mode) && first(ty).is_some() {
@@ -210,6 +210,7 @@ impl<'input> Reader<'input> {
     /// Reads a colon and what `mode` has after it into `format`, which is still the default. Reads
     /// nothing if the next character is not a colon. Returns `Err` if an allocation fails.
     // requires blank { seen_spec format.old ≡ default_spec }
+    // requires texts { self.old.texts ≡ [] }
     // requires numbers { self.old.next + length self.old.rest < 2 ^ 64 }
     // ensures value { (let s = specification (seen_mode mode) self.old.rest in
     //     OnOk result (seen_spec format.new ≡ map_spec (place_of self.old.world)
@@ -217,9 +218,9 @@ impl<'input> Reader<'input> {
     // ensures reads { let s = specification (seen_mode mode) self.old.rest in
     //     let fs = spec_faults (seen_mode mode) self.old.rest s.0 s.1 in
     //     let read = read_to self.old s.1 (number_after_spec self.old.next s.0) fs in
-    //     Reaches self.old result self.new
+    //     Reaches result self.new
     //     (read_texts (read_tries read (spec_tries s.0 s.1)) (spec_texts s.0 s.1))
-    //     (FindsNothing self.old fs (spec_texts s.0 s.1)) }
+    //     (fs ≡ []) }
     #[inline(always)]
     pub fn specification(
         &mut self,

@@ -6,9 +6,8 @@
 
 use super::Cursor;
 use crate::proved::rustc_parse_format::characters::{
-    before, begins_white, behind_number, behind_while, is_underscore, split_word, Class,
+    before, begins_white, behind_number, behind_while, split_word, Class,
 };
-use std::ops::Range;
 
 impl<'input> Cursor<'input> {
     /// Moves past the longest prefix of characters in the class.
@@ -18,6 +17,18 @@ impl<'input> Cursor<'input> {
         let rest = behind_while(self.rest, class);
 
         self.rest = rest;
+    }
+
+    /// Reads the longest prefix of characters in the class.
+    // ensures value { chars result.now ≡ front (passes class) self.old.rest }
+    // ensures rest { self.new ≡ record self.old { rest = behind (passes class) self.old.rest } }
+    #[inline(always)]
+    pub fn read_while(&mut self, class: Class) -> &'input str {
+        let rest = behind_while(self.rest, class);
+        let read = before(self.rest, rest);
+
+        self.rest = rest;
+        read
     }
 
     /// Moves past the white space at the cursor. Most often there is none.
@@ -36,74 +47,30 @@ impl<'input> Cursor<'input> {
         self.skip_while(Class::White);
     }
 
-    /// Returns the byte range in the source of what is before `rest`, a suffix of what is left. It
-    /// is not inlined, since few words are a fault.
-    // requires { (read : Text) × (self.now.rest ≡ read ++ chars rest.now) }
-    // ensures { pair result ≡ place_of self.now.world (up_to self.now.rest (chars rest.now)) }
-    #[cold]
-    #[inline(never)]
-    fn place_before(&self, rest: &'input str) -> Range<usize> {
-        self.start()..self.source.start(rest, &self.anchor)
-    }
-
-    /// Reads the word that begins at the cursor. If it is `_`, also returns its byte range in the
-    /// source.
+    /// Reads the word that begins at the cursor.
     // requires { first_passes is_id_start self.old.rest ≡ true }
-    // ensures value { chars result.0.now ≡ word self.old.rest }
+    // ensures value { chars result.now ≡ word self.old.rest }
     // ensures rest { self.new ≡ record self.old { rest = behind_word self.old.rest } }
-    // ensures underscore { option_map pair result.1
-    //     ≡ if bytes_eq (word self.old.rest) (codes "_")
-    //     then Some (place_of self.old.world (up_to self.old.rest (behind_word self.old.rest)))
-    //     else None }
     #[inline(always)]
-    pub fn word(&mut self) -> (&'input str, Option<Range<usize>>) {
+    pub fn word(&mut self) -> &'input str {
         let (word, rest) = split_word(self.rest);
-        let underscore = if is_underscore(word) {
-            Some(self.place_before(rest))
-        } else {
-            None
-        };
 
         self.rest = rest;
-        (word, underscore)
+        word
     }
 
-    /// Returns what is before `rest`, a suffix of what is left, and its byte range in the source
-    /// with that of the character after it. It is not inlined, since few numbers are a fault.
-    // requires { (read : Text) × (self.now.rest ≡ read ++ chars rest.now) }
-    // ensures text { (read : Text) → self.now.rest ≡ read ++ chars rest.now
-    //     → chars result.0.now ≡ read }
-    // ensures place { pair result.1
-    //     ≡ place_of self.now.world (through self.now.rest (chars rest.now)) }
-    #[cold]
-    #[inline(never)]
-    fn digits_before(&self, rest: &'input str) -> (&'input str, Range<usize>) {
-        let span = self.start()..self.source.stop(rest, &self.anchor);
-        (before(self.rest, rest), span)
-    }
-
-    /// Reads the ASCII digits at the cursor, and returns their value modulo 65536. If that value
-    /// exceeds 65535, also returns the digits, and their byte range in the source with that of the
-    /// character after them.
+    /// Reads the ASCII digits at the cursor, and returns their value modulo 65536, whether that
+    /// value exceeds 65535, and the digits.
     // ensures value { result.0 ≡ number (digits self.old.rest) }
+    // ensures over { result.1 ≡ is_over (digits self.old.rest) }
+    // ensures digits { chars result.2.now ≡ digits self.old.rest }
     // ensures rest { self.new ≡ record self.old { rest = behind_digits self.old.rest } }
-    // ensures over { option_map {U = Text × Place} (λ x. (chars x.0.now, pair x.1)) result.1
-    //     ≡ if is_over (digits self.old.rest)
-    //     then Some (
-    //       digits self.old.rest,
-    //       place_of self.old.world (through self.old.rest (behind_digits self.old.rest)),
-    //     )
-    //     else None }
     #[inline(always)]
-    pub fn number(&mut self) -> (u16, Option<(&'input str, Range<usize>)>) {
+    pub fn number(&mut self) -> (u16, bool, &'input str) {
         let (number, is_over, rest) = behind_number(self.rest);
-        let over = if is_over {
-            Some(self.digits_before(rest))
-        } else {
-            None
-        };
+        let digits = before(self.rest, rest);
 
         self.rest = rest;
-        (number, over)
+        (number, is_over, digits)
     }
 }

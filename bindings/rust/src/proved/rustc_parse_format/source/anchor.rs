@@ -196,6 +196,8 @@ impl<'input> Anchor<'input> {
     /// snippet.
     // requires { Leads snippet.now self.old rest.now }
     // ensures after { IsLeft self.new.rest.now rest.now }
+    // ensures left { (input : List ℕ) → IsLeft input self.old.rest.now → IsLeft input rest.now
+    //     → IsLeft input self.new.rest.now }
     // ensures here { (w : World) → IsAnchor snippet.now w self.old
     //     → IsAnchor snippet.now w self.new }
     #[inline(always)]
