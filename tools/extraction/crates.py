@@ -245,7 +245,8 @@ def rust_of(source, needs, crates, empty, cloned):
     body = body.strip("\n")
     if uses_shim:
         body = (
-            "use crate::shim::prelude::*;"
+            # (whether a method is of these traits depends on types)
+            "#[allow(unused_imports)]\nuse crate::shim::prelude::*;"
             + ("\n" if re.match(r"(pub(\(\w+\))? )?(use|mod) ", body) else "\n\n")
             + body
         )

@@ -34,18 +34,6 @@ pub fn write_to(out: &mut String, words: fmt::Arguments<'_>) -> Result<(), Alloc
     Ok(())
 }
 
-/// The method of `Box` that takes an allocator and may return an allocation failure.
-pub trait BoxIn<T>: Sized {
-    fn made_in(alloc: Global, value: T) -> Result<Self, AllocError>;
-}
-
-impl<T> BoxIn<T> for Box<T> {
-    #[inline(always)]
-    fn made_in(_: Global, value: T) -> Result<Box<T>, AllocError> {
-        Ok(Box::new(value))
-    }
-}
-
 /// The methods of `Vec` that take or keep an allocator, or return an allocation failure.
 pub trait VecIn<T>: Sized {
     fn made_in(alloc: Global) -> Self;

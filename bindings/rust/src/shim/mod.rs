@@ -11,7 +11,7 @@ mod xid;
 /// The traits that give the types of Rust's standard library the methods that the extracted modules
 /// call.
 pub mod prelude {
-    pub use super::alloc::{BoxIn, SetIn, StrIn, StringIn, VecIn};
+    pub use super::alloc::{SetIn, StrIn, StringIn, VecIn};
 }
 
 /// `format!(in alloc; ..)`: returns the text, or `Err` if an allocation fails.

@@ -13,6 +13,7 @@ use crate::proved::drawn_faults::places::{Picture, Spot};
 use crate::proved::drawn_faults::suggestions::{put_edit, put_parting};
 use crate::proved::rustc_parse_format::ParseError;
 use crate::shim::alloc::{AllocError, Global};
+#[allow(unused_imports)]
 use crate::shim::prelude::*;
 
 /// Adds what the error is.

@@ -11,6 +11,7 @@ use crate::proved::rustc_parse_format::{
 };
 use crate::shim::alloc::{AllocError, Global};
 use crate::shim::parser::Parser;
+#[allow(unused_imports)]
 use crate::shim::prelude::*;
 use std::ops::Range;
 

@@ -6,6 +6,7 @@
 // by results from outside, and beside what is proved (.ci/bindings) and the original (tools/agree).
 
 use crate::shim::alloc::AllocError;
+#[allow(unused_imports)]
 use crate::shim::prelude::*;
 use crate::shim::unicode_width::UnicodeWidthChar;
 

@@ -10,6 +10,7 @@ use crate::proved::drawn_faults::labels::Frame;
 use crate::proved::drawn_faults::places::line;
 use crate::proved::drawn_faults::rows::{put_both, put_one, Mark};
 use crate::shim::alloc::{AllocError, Global};
+#[allow(unused_imports)]
 use crate::shim::prelude::*;
 
 /// Adds the number of a line of the source, at the right of its gutter.

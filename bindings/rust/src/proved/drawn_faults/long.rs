@@ -11,6 +11,7 @@ use crate::proved::drawn_faults::lines::put_source;
 use crate::proved::drawn_faults::places::line;
 use crate::proved::drawn_faults::rows::put_gutter;
 use crate::shim::alloc::{AllocError, Global};
+#[allow(unused_imports)]
 use crate::shim::prelude::*;
 
 /// Returns whether a character is a bracket.

@@ -7,6 +7,7 @@
 
 use crate::proved::drawn_faults::glyphs::{put_run, put_texts};
 use crate::shim::alloc::AllocError;
+#[allow(unused_imports)]
 use crate::shim::prelude::*;
 
 /// A label in one line.

@@ -11,6 +11,7 @@ use crate::proved::drawn_faults::lines::put_number;
 use crate::proved::drawn_faults::places::{behind_line, behind_lines, first_line, line};
 use crate::proved::drawn_faults::rows::put_blank;
 use crate::shim::alloc::{AllocError, Global};
+#[allow(unused_imports)]
 use crate::shim::prelude::*;
 
 /// Adds the row between two parts of the drawing.

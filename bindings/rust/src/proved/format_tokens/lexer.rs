@@ -11,6 +11,7 @@ use crate::proved::format_tokens::walk::labels;
 use crate::proved::rustc_parse_format::literal::is_source_literal;
 use crate::proved::rustc_parse_format::ParseMode;
 use crate::shim::alloc::{AllocError, Global};
+#[allow(unused_imports)]
 use crate::shim::prelude::*;
 
 /// Returns the snippet if it is the source literal of the input.

@@ -11,6 +11,7 @@ use crate::proved::rustc_parse_format::{
     Alignment, Count, DebugHex, FormatSpec, ParseMode, Position, Sign,
 };
 use crate::shim::alloc::AllocError;
+#[allow(unused_imports)]
 use crate::shim::prelude::*;
 
 /// Returns the number of characters of a text.

@@ -7,6 +7,7 @@
 use crate::proved::format_tokens::kinds::{Kind, Token};
 use crate::proved::rustc_parse_format::literal::{between_quotes, read_content};
 use crate::shim::alloc::{AllocError, Global};
+#[allow(unused_imports)]
 use crate::shim::prelude::*;
 
 /// Returns the byte offsets where the characters of a text start, where it starts at `at` and each

@@ -11,6 +11,7 @@ use crate::proved::format_tokens::parts::{
 use crate::proved::rustc_parse_format::{Argument, FormatSpec, ParseMode, Position, Taken};
 use crate::shim::alloc::{AllocError, Global};
 use crate::shim::parser::Parser;
+#[allow(unused_imports)]
 use crate::shim::prelude::*;
 
 /// Adds the tokens of a placeholder at the start of a text, and returns what is left of the text

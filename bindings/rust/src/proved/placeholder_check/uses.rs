@@ -6,6 +6,7 @@
 
 use crate::proved::rustc_parse_format::{Argument, Count, Piece, Position};
 use crate::shim::alloc::{AllocError, Global};
+#[allow(unused_imports)]
 use crate::shim::prelude::*;
 use std::collections::BTreeSet;
 

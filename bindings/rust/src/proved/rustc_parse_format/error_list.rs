@@ -6,6 +6,7 @@
 
 use crate::proved::rustc_parse_format::types::{ParseError, Suggestion};
 use crate::shim::alloc::Global;
+#[allow(unused_imports)]
 use crate::shim::prelude::*;
 
 /// Returns an error whose texts are empty. Does not allocate.

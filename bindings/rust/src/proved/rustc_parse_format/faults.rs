@@ -5,6 +5,7 @@
 // by results from outside, and beside what is proved (.ci/bindings) and the original (tools/agree).
 
 use crate::shim::alloc::{AllocError, Global};
+#[allow(unused_imports)]
 use crate::shim::prelude::*;
 use std::ops::Range;
 

@@ -6,6 +6,7 @@
 // That source is proved, and each contract here is its. That this text means the same is tested:
 // by results from outside, and beside what is proved (.ci/bindings) and the original (tools/agree).
 
+#[allow(unused_imports)]
 use crate::shim::prelude::*;
 pub(crate) mod rest;
 pub(crate) mod unit;

@@ -8,6 +8,7 @@ use crate::proved::rustc_parse_format::faults::Fault;
 use crate::proved::rustc_parse_format::types::{ParseError, Suggestion};
 use crate::proved::rustc_parse_format::written::put_written;
 use crate::shim::alloc::{AllocError, Global};
+#[allow(unused_imports)]
 use crate::shim::prelude::*;
 use std::ops::Range;
 

@@ -9,6 +9,7 @@ use crate::proved::rustc_parse_format::characters::Class;
 use crate::proved::rustc_parse_format::cursor::{Checkpoint, Cursor};
 use crate::proved::rustc_parse_format::faults::{Fault, Faults};
 use crate::shim::alloc::{AllocError, Global};
+#[allow(unused_imports)]
 use crate::shim::prelude::*;
 use std::ops::Range;
 

@@ -7,6 +7,7 @@
 use crate::proved::rustc_parse_format::characters::{behind_while, first, Class};
 use crate::proved::rustc_parse_format::source::{Anchor, Source};
 use crate::shim::alloc::{AllocError, Global};
+#[allow(unused_imports)]
 use crate::shim::prelude::*;
 use std::ops::Range;
 

@@ -5,6 +5,7 @@
 // by results from outside, and beside what is proved (.ci/bindings) and the original (tools/agree).
 
 use crate::shim::alloc::AllocError;
+#[allow(unused_imports)]
 use crate::shim::prelude::*;
 
 /// Returns the short escape of a character, or `None` if it has none.

@@ -6,6 +6,7 @@
 
 use crate::proved::rustc_parse_format::blocks::plain_front;
 use crate::proved::rustc_parse_format::characters::{behind_first, first};
+#[allow(unused_imports)]
 use crate::shim::prelude::*;
 
 /// What is left of a text.

@@ -20,6 +20,7 @@
 
 use crate::proved::rustc_parse_format::characters::{behind_first, first, run_width, Class};
 use crate::proved::rustc_parse_format::literal::{is_newline_escape, read_unit, Rest};
+#[allow(unused_imports)]
 use crate::shim::prelude::*;
 use std::ops::Range;
 
