@@ -1,0 +1,369 @@
+//! Jobs over many short inputs: the string literals of a large project.
+
+use crate::digest::Digest;
+use crate::inputs::literal;
+use crate::random::Random;
+use flat_reading::read::read;
+use flat_reading::records::{Answer, CountRecord, Extent, Fault, MaybeExtent, Spec, Step};
+use flat_reading::task::Task as FlatTask;
+use format_lint::run::run;
+use format_lint::task::{Show, Task};
+use piece_listing::literal::literal_text;
+use placeholder_check::{Report, read_and_check};
+use rustc_parse_format::{
+    Argument, Count, FormatSpec, ParseError, ParseMode, Parser, Piece, Position,
+};
+use std::alloc::{AllocError, Global};
+use std::ops::Range;
+
+/// Adds a range that may be absent.
+fn add_optional(digest: &mut Digest, range: &Option<Range<usize>>) {
+    match range {
+        Some(range) => digest.add_range(range),
+        None => digest.add(1),
+    }
+}
+
+/// Adds a width or a precision.
+fn add_count(digest: &mut Digest, count: &Count<'_>) {
+    match count {
+        Count::CountIs(number) => digest.add(u64::from(*number) << 3),
+        Count::CountIsName(name, span) => {
+            digest.add_bytes(name.as_bytes());
+            digest.add_range(span);
+        }
+        Count::CountIsParam(index) => digest.add_size(*index),
+        Count::CountIsStar(index) => digest.add_size(*index),
+        Count::CountImplied => digest.add(2),
+    }
+}
+
+/// Adds a specification.
+fn add_spec(digest: &mut Digest, spec: &FormatSpec<'_>) {
+    match spec.fill {
+        Some(fill) => digest.add(u64::from(fill)),
+        None => digest.add(3),
+    }
+    add_optional(digest, &spec.fill_span);
+    digest.add(u64::from(spec.alternate));
+    digest.add(u64::from(spec.zero_pad));
+    add_count(digest, &spec.precision);
+    add_optional(digest, &spec.precision_span);
+    add_count(digest, &spec.width);
+    add_optional(digest, &spec.width_span);
+    digest.add_bytes(spec.ty.as_bytes());
+    add_optional(digest, &spec.ty_span);
+}
+
+/// Adds an argument.
+fn add_argument(digest: &mut Digest, argument: &Argument<'_>) {
+    match argument.position {
+        Position::ArgumentImplicitlyIs(index) => digest.add_size(index),
+        Position::ArgumentIs(index) => digest.add(!(index as u64)),
+        Position::ArgumentNamed(name) => digest.add_bytes(name.as_bytes()),
+    }
+    digest.add_range(&argument.position_span);
+    add_spec(digest, &argument.format);
+}
+
+/// Adds a piece.
+fn add_piece(digest: &mut Digest, piece: &Piece<'_>) {
+    match piece {
+        Piece::Lit(text) => digest.add_bytes(text.as_bytes()),
+        Piece::NextArgument(argument) => add_argument(digest, argument),
+    }
+}
+
+/// Adds an error.
+fn add_error(digest: &mut Digest, error: &ParseError) {
+    digest.add_bytes(error.description.as_bytes());
+    digest.add_bytes(error.label.as_bytes());
+    digest.add_range(&error.span);
+}
+
+/// Adds what a parser has at its end.
+fn add_parser(digest: &mut Digest, parser: &Parser<'_>) {
+    digest.add(u64::from(parser.is_source_literal()));
+    for error in parser.errors() {
+        add_error(digest, error);
+    }
+    for place in parser.arg_places() {
+        digest.add_range(place);
+    }
+    for line in parser.line_spans() {
+        digest.add_range(line);
+    }
+}
+
+/// Adds a report.
+fn add_report(digest: &mut Digest, report: &Report<'_>) {
+    for index in &report.missing_index {
+        digest.add_size(*index);
+    }
+    for name in &report.missing_name {
+        digest.add_bytes(name.as_bytes());
+    }
+    for index in &report.unused_index {
+        digest.add_size(*index);
+    }
+    for name in &report.unused_name {
+        digest.add_bytes(name.as_bytes());
+    }
+}
+
+/// Reads a literal and checks its arguments.
+fn check(alloc: Global, literal: String, digest: &mut Digest) -> Result<(), AllocError> {
+    let Some((text, style)) = literal_text(alloc, literal.as_str())? else {
+        digest.add(4);
+        return Ok(());
+    };
+    let (input, mode) = (text.as_str(), ParseMode::Format);
+    if input.len() > 100_000 || style.unwrap_or(0) > 100_000 {
+        return Ok(());
+    }
+    let names = ["name", "value", "err", "path"];
+    let (pieces, parser, report) = read_and_check(
+        alloc,
+        input,
+        style,
+        Some(literal),
+        false,
+        mode,
+        2,
+        &names,
+    )?;
+    for piece in &pieces {
+        add_piece(digest, piece);
+    }
+    add_parser(digest, &parser);
+    add_report(digest, &report);
+    Ok(())
+}
+
+/// Reads and checks as many literals.
+pub fn check_each(
+    alloc: Global,
+    count: usize,
+    random: &mut Random,
+    digest: &mut Digest,
+) -> Result<(), AllocError> {
+    for number in 0..count {
+        let literal = literal(alloc, random, number, 0)?;
+        check(alloc, literal, digest)?;
+    }
+    Ok(())
+}
+
+/// Draws the faults of as many literals, shows their tokens, in a list or in colours, and fixes
+/// them, by turns.
+pub fn lint_each(
+    alloc: Global,
+    count: usize,
+    random: &mut Random,
+    digest: &mut Digest,
+) -> Result<(), AllocError> {
+    for number in 0..count {
+        let literal = literal(alloc, random, number, 3)?;
+        let show = match number % 4 {
+            0 => Show::Tokens,
+            1 => Show::Colours,
+            2 => Show::Fix,
+            _ => Show::Faults,
+        };
+        let task = Task {
+            mode: ParseMode::Format,
+            is_literal: true,
+            path: "src/main.rs",
+            show,
+        };
+        let mut reader = literal.as_bytes();
+        let mut written = Vec::new(alloc);
+        let answer = run(alloc, &mut reader, &mut written, task);
+        digest.add(u64::from(answer == Ok(true)));
+        digest.add_bytes(written.as_slice());
+    }
+    Ok(())
+}
+
+const NO_EXTENT: Extent = Extent { from: 0, to: 0 };
+
+const NO_PLACE: MaybeExtent = MaybeExtent {
+    there: 0,
+    from: 0,
+    to: 0,
+};
+
+const NO_COUNT: CountRecord = CountRecord {
+    kind: 0,
+    number: 0,
+    name: NO_EXTENT,
+    name_span: NO_EXTENT,
+};
+
+const NO_SPEC: Spec = Spec {
+    fill: 0,
+    align: 0,
+    sign: 0,
+    debug_hex: 0,
+    alternate: 0,
+    zero_pad: 0,
+    type_kind: 0,
+    width: NO_COUNT,
+    precision: NO_COUNT,
+    ty: NO_EXTENT,
+    fill_span: NO_PLACE,
+    width_span: NO_PLACE,
+    precision_span: NO_PLACE,
+    ty_span: NO_PLACE,
+};
+
+const NO_STEP: Step = Step {
+    kind: 0,
+    position: 0,
+    number: 0,
+    text: NO_EXTENT,
+    position_span: NO_EXTENT,
+    spec: 0,
+    place: NO_PLACE,
+    read: 0,
+    next: 0,
+    lines: 0,
+    peek: NO_PLACE,
+    peek_ahead: NO_PLACE,
+};
+
+const NO_FAULT: Fault = Fault {
+    description: NO_EXTENT,
+    note: NO_PLACE,
+    label: NO_EXTENT,
+    span: NO_EXTENT,
+    second_label: NO_PLACE,
+    second_span: NO_EXTENT,
+    suggestion: 0,
+    suggestion_span: NO_EXTENT,
+    suggestion_text: NO_EXTENT,
+    step: 0,
+};
+
+const NO_ANSWER: Answer = Answer {
+    steps: 0,
+    specs: 0,
+    faults: 0,
+    texts: 0,
+    lines: 0,
+    fronts: 0,
+    is_source_literal: 0,
+    peek: NO_PLACE,
+    peek_ahead: NO_PLACE,
+};
+
+/// The buffers that a caller keeps from call to call.
+#[derive(Drop)]
+struct Buffers {
+    steps: Vec<Step>,
+    specs: Vec<Spec>,
+    faults: Vec<Fault>,
+    texts: Vec<u8>,
+    lines: Vec<Extent>,
+}
+
+/// Returns buffers that are long enough for a string of a program.
+fn make_buffers(alloc: Global) -> Result<Buffers, AllocError> {
+    Ok(Buffers {
+        steps: vec![in alloc; NO_STEP; 100]?,
+        specs: vec![in alloc; NO_SPEC; 100]?,
+        faults: vec![in alloc; NO_FAULT; 100]?,
+        texts: vec![in alloc; 0; 10_000]?,
+        lines: vec![in alloc; NO_EXTENT; 100]?,
+    })
+}
+
+/// Adds a byte range.
+fn add_extent(digest: &mut Digest, extent: &Extent) {
+    digest.add_size(extent.from);
+    digest.add_size(extent.to);
+}
+
+/// Adds the records that a call has written.
+fn add_records(digest: &mut Digest, buffers: &Buffers, answer: &Answer) {
+    digest.add_size(answer.texts);
+    digest.add(u64::from(answer.is_source_literal));
+    for step in buffers.steps.iter().take(answer.steps) {
+        digest.add(u64::from(step.kind));
+        digest.add_size(step.number);
+        add_extent(digest, &step.text);
+        add_extent(digest, &step.position_span);
+        digest.add_size(step.place.to);
+        digest.add_size(step.read);
+    }
+    for spec in buffers.specs.iter().take(answer.specs) {
+        digest.add(u64::from(spec.fill));
+        digest.add(u64::from(spec.align));
+        add_extent(digest, &spec.ty);
+        digest.add_size(spec.width.number);
+        add_extent(digest, &spec.width.name);
+        digest.add_size(spec.precision.number);
+        digest.add_size(spec.precision_span.to);
+    }
+    for fault in buffers.faults.iter().take(answer.faults) {
+        add_extent(digest, &fault.description);
+        add_extent(digest, &fault.span);
+        digest.add_size(fault.step);
+    }
+    for line in buffers.lines.iter().take(answer.lines) {
+        add_extent(digest, line);
+    }
+}
+
+/// Reads a literal into records.
+fn record(
+    alloc: Global,
+    literal: &str,
+    buffers: &mut Buffers,
+    digest: &mut Digest,
+) -> Result<(), AllocError> {
+    let Some((text, style)) = literal_text(alloc, literal)? else {
+        digest.add(5);
+        return Ok(());
+    };
+    let input = text.as_str();
+    if input.len() > 100_000 || style.unwrap_or(0) > 100_000 {
+        return Ok(());
+    }
+    let task = FlatTask {
+        mode: ParseMode::Format,
+        input,
+        style,
+        snippet: Some(literal),
+        appended_newline: false,
+        peeks: false,
+    };
+    let mut answer = NO_ANSWER;
+    read(
+        alloc,
+        task,
+        buffers.steps.as_mut_slice(),
+        buffers.specs.as_mut_slice(),
+        buffers.faults.as_mut_slice(),
+        buffers.texts.as_mut_slice(),
+        buffers.lines.as_mut_slice(),
+        &mut answer,
+    )?;
+    add_records(digest, buffers, &answer);
+    Ok(())
+}
+
+/// Reads as many literals into records, as a program in C does.
+pub fn record_each(
+    alloc: Global,
+    count: usize,
+    random: &mut Random,
+    digest: &mut Digest,
+) -> Result<(), AllocError> {
+    let mut buffers = make_buffers(alloc)?;
+    for number in 0..count {
+        let literal = literal(alloc, random, number, 30)?;
+        record(alloc, literal.as_str(), &mut buffers, digest)?;
+    }
+    Ok(())
+}
