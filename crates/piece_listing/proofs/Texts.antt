@@ -1,24 +1,14 @@
 -- Laws of texts that are written to the output.
 use Rattle.std.proofs.Common.{◌≡◌, ℕ, ◌++◌, ◌==◌, [], ◌∷◌, List, Option, Some, None, option_map}
-use Rattle.std.proofs.Common.{is_some, true, false, sym, ap, ◌∙◌, append_assoc, append-nil}
-use Rattle.std.proofs.Common.{encode_utf8_all, flat_map, chars, codes, length, refl, arith}
+use Rattle.std.proofs.Common.{is_some, true, false, sym, ap, ◌∙◌, append-nil}
+use Rattle.std.proofs.Common.{encode_utf8_all, chars, codes, length, refl, arith}
 use Rattle.std.specs.declared.ops.Range.{Range}
 use Rattle.std.specs.Str.{IsUtf8}
 use Rattle.std.proofs.lemmas.Bool.Decides.{nat_tests}
-use Rattle.std.proofs.lemmas.Grind.{flat_map-append}
 use Rattle.std.proofs.lemmas.Str.{encodes-chars, chars-nil}
 use Rattle.rustc_parse_format.specs.Characters.{Text}
-use Rattle.rustc_parse_format.specs.Written.{written}
 use Rattle.rustc_parse_format.specs.Seen.{pair}
 use Rattle.piece_listing.specs.Listing.{at_entry, quoted, type_entry}
-
--- one character more is written
-pub written-push : (out : List ℕ) (t : Text) (c : ℕ) → (out ++ flat_map written t) ++ written c
-    ≡ out ++ flat_map written (t ++ c ∷ [])
-written-push out t c =
-    append_assoc out _ _
-    ∙ ap (λ x. out ++ (flat_map written t ++ x)) (sym (append-nil (written c)))
-    ∙ ap (λ x. out ++ x) (sym (flat_map-append written t (c ∷ [])))
 
 -- a type that was not written leaves nothing
 pub type_entry-absent : (out : List ℕ) (s : Option (Range ℕ)) (bs : List ℕ) → is_some s ≡ false

@@ -20,28 +20,17 @@ use super::report_lines::put_report;
 use placeholder_check::Report;
 use rustc_parse_format::{
     Alignment, Argument, Count, DebugHex, FormatSpec, ParseError, Piece, Position, Sign,
-    put_written,
+    put_all_written, put_written,
 };
 use std::alloc::{AllocError, Global};
 use std::ops::Range;
-
-/// Adds the characters of a text, escaped as in a listing.
-fn put_characters(out: &mut String, text: &str) -> Result<(), AllocError>
-    ensures { OnOk result (string_bytes out.new ≡ string_bytes out.old ++
-        flat_map written (chars text.now)) }
-{
-    for c in text.chars() {
-        put_written(out, c)?;
-    }
-    Ok(())
-}
 
 /// Adds a text, escaped, between quotes.
 pub fn put_quoted(out: &mut String, text: &str) -> Result<(), AllocError>
     ensures { OnOk result (string_bytes out.new ≡ string_bytes out.old ++ quoted (chars text.now)) }
 {
     out.push_str("\"")?;
-    put_characters(out, text)?;
+    put_all_written(out, text)?;
     out.push_str("\"")?;
     Ok(())
 }

@@ -9,9 +9,8 @@ ghost use Rattle.rustc_parse_format.specs.Literal.{IsLiteral, IsOrdinaryLiteral,
 ghost use Rattle.rustc_parse_format.specs.Literal.{raw_closing, raw_frame, raw_opening};
 ghost use Rattle.rustc_parse_format.specs.World.{hashes};
 
-use rustc_parse_format::literal::{between_quotes, read_content};
+use rustc_parse_format::literal::{between_quotes, content_text};
 use std::alloc::{AllocError, Global};
-use std::ops::Range;
 
 /// Returns a text without the character `c` at its end, or `None` if it does not end in `c`.
 fn in_front_of(text: &str, c: char) -> Option<&str>
@@ -95,27 +94,6 @@ fn raw_text(literal: &str) -> Option<(usize, &str)>
     Some((hashes, text))
 }
 
-/// Appends a character to a text. Returns `Err` if an allocation fails.
-fn put(text: &mut String, c: char) -> Result<(), AllocError>
-    ensures { OnOk result (chars (string_bytes text.new) ≡ chars (string_bytes text.old)
-        ++ c ∷ []) }
-{
-    text.push(c)?;
-    Ok(())
-}
-
-/// Returns the text of these characters, whose byte ranges are ignored. Returns `Err` if an
-/// allocation fails.
-fn joined(alloc: Global, characters: &[(Range<usize>, char)]) -> Result<String, AllocError>
-    ensures { IfOk result (λ s. chars (string_bytes s) ≡ map (λ x. x.1) characters.now) }
-{
-    let mut text = String::new(alloc);
-    for (_, c) in characters {
-        put(&mut text, *c)?;
-    }
-    Ok(text)
-}
-
 /// Returns the text that an ordinary string literal stands for, or `None` if it is no ordinary
 /// string literal. Returns `Err` if an allocation fails.
 fn ordinary_text(alloc: Global, literal: &str) -> Result<Option<String>, AllocError>
@@ -127,10 +105,7 @@ fn ordinary_text(alloc: Global, literal: &str) -> Result<Option<String>, AllocEr
     let Some(content) = between_quotes(literal) else {
         return Ok(None);
     };
-    match read_content(alloc, content)? {
-        Some(characters) => Ok(Some(joined(alloc, characters.as_slice())?)),
-        None => Ok(None),
-    }
+    content_text(alloc, content)
 }
 
 /// Returns the text that a string literal stands for, and its style: the number of hashes of a raw

@@ -5,4 +5,5 @@ pub mod CharacterStarts
 pub mod Counting
 pub mod LaneBits
 pub mod Texts
+pub mod Unchanged
 pub mod WordBytes

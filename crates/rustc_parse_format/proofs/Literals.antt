@@ -8,6 +8,7 @@ pub mod Places
 pub mod Plain
 pub mod Prefixes
 pub mod Spelling
+pub mod Texts
 pub mod Unicode
 pub mod UnitLaws
 pub mod Widths

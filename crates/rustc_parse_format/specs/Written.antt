@@ -1,7 +1,8 @@
 -- How a character is written in a message and in a quoted text, as bytes. ASCII characters are
 -- escaped as by `char::escape_debug`.
 use Prim.Native.Char.{code}
-use Rattle.std.specs.Prelude.{ℕ, false, ◌++◌, ◌||◌, ◌==◌, if◌then◌else◌, nat_lt, List, Option, Some}
+use Rattle.std.specs.Prelude.{ℕ, Bool, false, not, ◌++◌, ◌&&◌, ◌||◌, ◌==◌, if◌then◌else◌, nat_lt}
+use Rattle.std.specs.Prelude.{List, Option, Some}
 use Rattle.std.specs.Prelude.{None, codes, encode_utf8}
 use Rattle.std.specs.Fmt.{digits}
 
@@ -24,3 +25,8 @@ plainly_written c = if nat_lt c (code " ") || c == code "\u{7f}"
 -- How a character is written in a message and in a quoted text.
 unfoldable pub written : ℕ → List ℕ
 written c = elim (short_escape c) [ Some s ↦ s | None ↦ plainly_written c ]
+
+-- The character is written as itself: it has no escape of its own and is no control character.
+abbrev pub is_unchanged : ℕ → Bool
+is_unchanged c = not (nat_lt c (code " ")) && (not (c == code "\u{7f}") && (not (c == code "\"")
+    && (not (c == code "'") && not (c == code "\\"))))

@@ -8,7 +8,7 @@ ghost use Rattle.std.specs.Prelude.{nat_lt, slice_index, true, ℕ, ◌↔◌};
 ghost use Rattle.rustc_parse_format.specs.Bytes.{IsFront, IsLeft, IsOfAscii, is_word_byte};
 ghost use Rattle.rustc_parse_format.specs.Characters.{Text, begins_with, behind, behind_digits};
 ghost use Rattle.rustc_parse_format.specs.Characters.{behind_first, behind_word, digits, first};
-ghost use Rattle.rustc_parse_format.specs.Characters.{first_passes};
+ghost use Rattle.rustc_parse_format.specs.Characters.{first_passes, front};
 ghost use Rattle.rustc_parse_format.specs.Characters.{is_id_start, is_over, number, word};
 ghost use Rattle.rustc_parse_format.specs.Classes.{passes};
 
@@ -29,6 +29,12 @@ pub enum Class {
     Line,
     /// All characters but backslashes.
     Unescaped,
+    /// Characters that stand for themselves in an ordinary literal: all but quotes, backslashes and
+    /// CRs.
+    Plain,
+    /// Characters that a quoted text has as they are: all but quotes of both kinds, backslashes and
+    /// ASCII control characters.
+    Unchanged,
 }
 
 impl Class {
@@ -45,6 +51,8 @@ impl Class {
             Class::Text => c != '{' && c != '}',
             Class::Line => c != '{' && c != '}' && c != '\n',
             Class::Unescaped => c != '\\',
+            Class::Plain => c != '"' && c != '\\' && c != '\r',
+            Class::Unchanged => { c >= ' ' && c != '\u{7f}' && c != '"' && c != '\'' && c != '\\' }
         }
     }
 }
@@ -159,6 +167,7 @@ pub fn run_width(bytes: &[u8], class: Class) -> usize
         Class::Text => calm_front(bytes, 1, b'{', b'}', b'}'),
         Class::Line => calm_front(bytes, 1, b'{', b'}', b'\n'),
         Class::Unescaped => calm_front(bytes, 1, b'\\', b'\\', b'\\'),
+        Class::Plain => calm_front(bytes, 1, b'"', b'\\', b'\r'),
         _ => 0,
     };
     for i in seen..bytes.len() {
@@ -179,6 +188,18 @@ pub fn behind_run(text: &str, class: Class) -> &str
 {
     let width = run_width(text.as_bytes(), class);
     &text[width..]
+}
+
+/// Splits a text behind the longest prefix of characters in the class. The class has all characters
+/// outside ASCII, so the bytes alone show where the prefix ends.
+#[inline(always)]
+pub fn split_run(text: &str, class: Class) -> (&str, &str)
+    requires { IsOfAscii (passes class) }
+    ensures front { chars result.0.now ≡ front (passes class) (chars text.now) }
+    ensures rest { chars result.1.now ≡ behind (passes class) (chars text.now) }
+{
+    let width = run_width(text.as_bytes(), class);
+    text.split_at(width)
 }
 
 /// Returns what is left after the longest prefix of characters in the class.

@@ -52,4 +52,4 @@ pub use types::{
     Suggestion, Taken,
 };
 #[doc(hidden)]
-pub use written::put_written;
+pub use written::{put_all_written, put_written};

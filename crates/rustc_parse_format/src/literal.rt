@@ -2,20 +2,23 @@
 //! their byte ranges, and whether a snippet is the source literal of an input. The content of a
 //! literal is what is between its quotes.
 
-ghost use Rattle.std.specs.Prelude.{◌≡◌, ◌↔◌, ◌++◌, ℕ, Bool, List, [], Some, None, IsTrue, IfOk};
-ghost use Rattle.std.specs.Prelude.{IsOk, IfSome, IfNone, MatchOption, chars, map, option_map};
-ghost use Rattle.std.specs.Prelude.{true, replicate};
-ghost use Rattle.rustc_parse_format.specs.Literal.{IsNoContent, IsOrdinaryLiteral, IsReadAs};
+ghost use Rattle.std.specs.Prelude.{◌≡◌, ◌↔◌, ◌++◌, ◌∷◌, ℕ, Bool, List, [], Some, None, IsTrue};
+ghost use Rattle.std.specs.Prelude.{IfOk, IsOk, IfSome, IfNone, MatchOption, chars, map};
+ghost use Rattle.std.specs.Prelude.{OnOk, option_map, length, string_bytes, true, replicate};
+ghost use Rattle.rustc_parse_format.specs.Literal.{IsNoContent, IsOnlyContent, IsOrdinaryLiteral};
+ghost use Rattle.rustc_parse_format.specs.Literal.{IsReadAs, content_value};
 ghost use Rattle.rustc_parse_format.specs.Literal.{IsSource, newline, ordinary_frame, raw_closing};
 ghost use Rattle.rustc_parse_format.specs.Literal.{raw_frame, raw_opening};
 ghost use Rattle.rustc_parse_format.specs.LiteralReading.{IsSourceTo, IsTaken, SameEnds, placed};
 ghost use Rattle.rustc_parse_format.specs.LiteralReading.{seen_characters, spelled_end};
-ghost use Rattle.rustc_parse_format.specs.Characters.{Text};
+ghost use Rattle.rustc_parse_format.specs.LiteralUnits.{LiteralUnit, is_plain};
+ghost use Rattle.rustc_parse_format.specs.Characters.{Text, behind, front};
 ghost use Rattle.rustc_parse_format.specs.World.{later, literal_end, newline_places, world};
 
 mod rest;
 mod unit;
 
+use crate::characters::Class;
 pub(crate) use rest::{Rest, plain_width};
 use std::alloc::{AllocError, Global};
 use std::ops::Range;
@@ -74,6 +77,58 @@ pub fn read_content(
     ensures empty { content.now ≡ [] → IsOk result }
 {
     read_characters(alloc, content)
+}
+
+/// Appends the plain characters that come next to a text. Returns `Err` if an allocation fails.
+#[inline(always)]
+fn put_plain(text: &mut String, rest: &mut Rest<'_>) -> Result<(), AllocError>
+    ensures text { OnOk result (chars (string_bytes text.new)
+        ≡ chars (string_bytes text.old) ++ front is_plain rest.old) }
+    ensures rest { rest.new ≡ behind is_plain rest.old }
+    ensures empty { rest.old ≡ [] → IsOk result }
+{
+    let plain = rest.take_run(Class::Plain);
+    if !plain.is_empty() {
+        text.push_str(plain)?;
+    }
+    Ok(())
+}
+
+/// Appends a character to a text. Returns `Err` if an allocation fails.
+#[inline(always)]
+fn put_char(text: &mut String, c: char) -> Result<(), AllocError>
+    ensures { OnOk result (chars (string_bytes text.new) ≡ chars (string_bytes text.old)
+        ++ c ∷ []) }
+{
+    text.push(c)?;
+    Ok(())
+}
+
+/// Returns the text that the content of an ordinary string literal stands for: the characters that
+/// [`read_content`] returns, without their byte ranges. Returns `None` if the text is not the
+/// content of such a literal.
+///
+/// The text is allocated with `alloc`: returns `Err` if an allocation fails. For an empty content
+/// it always returns `Ok`.
+pub fn content_text(alloc: Global, content: &str) -> Result<Option<String>, AllocError>
+    ensures found { IfOk result (λ o. IfSome o (λ s. (us : List LiteralUnit)
+        × IsOnlyContent (chars content.now) us × (content_value us ≡ chars (string_bytes s)))) }
+    ensures none { IfOk result (λ o. IfNone o (IsNoContent (chars content.now))) }
+    ensures empty { content.now ≡ [] → IsOk result }
+{
+    let mut text = String::new(alloc);
+    let mut rest = Rest::new(content);
+    put_plain(&mut text, &mut rest)?;
+    while !rest.is_empty() {
+        let Some(value) = read_unit(&mut rest) else {
+            return Ok(None);
+        };
+        if let Some(c) = value {
+            put_char(&mut text, c)?;
+        }
+        put_plain(&mut text, &mut rest)?;
+    }
+    Ok(Some(text))
 }
 
 /// Returns the text before the newline at its end, or `None` if the text does not end with one.

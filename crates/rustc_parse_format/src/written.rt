@@ -1,8 +1,11 @@
 //! How a character is written in an error message and in a quoted text.
 
-ghost use Rattle.std.specs.Prelude.{◌≡◌, ◌++◌, OnErr, OnOk, option_map, string_bytes};
+ghost use Rattle.std.specs.Prelude.{◌≡◌, ◌≤◌, ◌++◌, OnErr, OnOk, chars, flat_map, length};
+ghost use Rattle.std.specs.Prelude.{option_map, string_bytes};
 ghost use Rattle.rustc_parse_format.specs.Written.{plainly_written, short_escape, written};
 
+use crate::characters::Class;
+use crate::literal::Rest;
 use std::alloc::AllocError;
 
 /// Returns the short escape of a character, or `None` if it has none.
@@ -48,6 +51,33 @@ pub fn put_written(out: &mut String, c: char) -> Result<(), AllocError>
     match short_escape(c) {
         Some(escape) => out.push_str(escape)?,
         None => put_plain(out, c)?,
+    }
+    Ok(())
+}
+
+/// Appends the characters that come next and are written as they are. Returns `Err` if an
+/// allocation fails.
+#[inline(always)]
+fn put_unchanged(out: &mut String, rest: &mut Rest<'_>) -> Result<(), AllocError>
+    ensures written { OnOk result (string_bytes out.new ++ flat_map written rest.new
+        ≡ string_bytes out.old ++ flat_map written rest.old) }
+    ensures shorter { length rest.new ≤ length rest.old }
+{
+    out.push_str(rest.take_run(Class::Unchanged))?;
+    Ok(())
+}
+
+/// Appends the characters of a text, each as [`put_written`] does. Returns `Err` if an allocation
+/// fails, and `out` may then have a part of them.
+pub fn put_all_written(out: &mut String, text: &str) -> Result<(), AllocError>
+    ensures { OnOk result (string_bytes out.new
+        ≡ string_bytes out.old ++ flat_map written (chars text.now)) }
+{
+    let mut rest = Rest::new(text);
+    put_unchanged(out, &mut rest)?;
+    while let Some(c) = rest.next() {
+        put_written(out, c)?;
+        put_unchanged(out, &mut rest)?;
     }
     Ok(())
 }

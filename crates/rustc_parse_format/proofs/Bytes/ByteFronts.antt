@@ -17,9 +17,9 @@ use Rattle.std.proofs.lemmas.Str.{IsUtf8-from_is_utf8, is_utf8-from_IsUtf8}
 use Rattle.std.proofs.lemmas.Str.{IsCharBoundary-end, IsCharBoundary-before_ascii}
 use Rattle.std.proofs.lemmas.Str.{IsCharBoundary-from_take}
 use Rattle.std.proofs.Math.Utf8.{encodes}
-use Rattle.rustc_parse_format.specs.Characters.{Text, begins_with, behind, first_passes}
+use Rattle.rustc_parse_format.specs.Characters.{Text, begins_with, behind, first_passes, front}
 use Rattle.rustc_parse_format.specs.Bytes.{IsFront, IsLeft, IsOfAscii, IsSharedFront}
-use Rattle.rustc_parse_format.proofs.Grammar.Fronts.{behind-append}
+use Rattle.rustc_parse_format.proofs.Grammar.Fronts.{behind-append, front-append}
 
 encodes-pass : (p : ℕ → Bool) → IsOfAscii p → (t : Text) → list_all p (encodes t) ≡ true
     → list_all p t ≡ true
@@ -77,6 +77,17 @@ chars-behind p a s n u f =
     ap chars (sym (take-append-drop n s)) ∙ chars-append (take n s) (drop n s) v in
     sym (ap (behind p) whole
     ∙ behind-append p (chars (take n s)) (chars (drop n s)) (chars-pass p a (take n s) v f.pass)
+    (chars-next p a (drop n s) (IsUtf8-drop s n u b) f.next))
+
+pub chars-front : (p : ℕ → Bool) → IsOfAscii p → (s : List ℕ) (n : ℕ) → IsUtf8 s → IsFront p s n
+    → chars (take n s) ≡ front p (chars s)
+chars-front p a s n u f =
+    let b = front-boundary p a s n f in
+    let v = IsUtf8-take s n u b in
+    let whole : chars s ≡ chars (take n s) ++ chars (drop n s) =
+    ap chars (sym (take-append-drop n s)) ∙ chars-append (take n s) (drop n s) v in
+    sym (ap (front p) whole
+    ∙ front-append p (chars (take n s)) (chars (drop n s)) (chars-pass p a (take n s) v f.pass)
     (chars-next p a (drop n s) (IsUtf8-drop s n u b) f.next))
 
 pub left-behind : (input s : List ℕ) (n : ℕ) → IsCharBoundary s n → IsLeft input s

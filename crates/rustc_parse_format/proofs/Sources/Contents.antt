@@ -55,7 +55,7 @@ behind-narrower p (c ∷ t) = cond_both (p c) (behind p t) (c ∷ t)
     (λ s. byte_length s ≤ byte_length (c ∷ t))
     (λ yes. omega (arith, width-cons c t, behind-narrower p t)) (λ no. omega arith)
 
-behind-shorter : (p : ℕ → Bool) (t : Text) → length (behind p t) ≤ length t
+pub behind-shorter : (p : ℕ → Bool) (t : Text) → length (behind p t) ≤ length t
 behind-shorter p [] = omega arith
 behind-shorter p (c ∷ t) = cond_both (p c) (behind p t) (c ∷ t) (λ s. length s ≤ length (c ∷ t))
     (λ yes. omega (arith, behind-shorter p t)) (λ no. omega arith)

@@ -2,9 +2,10 @@
 
 ghost use Rattle.std.specs.Prelude.{◌≡◌, ◌↔◌, ◌∷◌, ◌<◌, ◌≤◌, List, ℕ, [], chars, IfSome, IsFalse};
 ghost use Rattle.std.specs.Prelude.{IsTrue};
-ghost use Rattle.rustc_parse_format.specs.Bytes.{IsSharedFront};
+ghost use Rattle.rustc_parse_format.specs.Bytes.{IsOfAscii, IsSharedFront};
+ghost use Rattle.rustc_parse_format.specs.Classes.{passes};
 ghost use Rattle.rustc_parse_format.specs.Characters.{Text, begins_with, behind, behind_first};
-ghost use Rattle.rustc_parse_format.specs.Characters.{first, byte_length};
+ghost use Rattle.rustc_parse_format.specs.Characters.{first, byte_length, front};
 ghost use Rattle.rustc_parse_format.specs.Literal.{IsContent};
 ghost use Rattle.rustc_parse_format.specs.LiteralReading.{SharePlain};
 ghost use Rattle.rustc_parse_format.specs.LiteralUnits.{LiteralUnit, is_plain, is_skipped};
@@ -12,7 +13,7 @@ ghost use Rattle.rustc_parse_format.specs.SeenSource.{after_continuations, begin
 ghost use Rattle.rustc_parse_format.specs.SeenSource.{closed_by_quote, spelled_units};
 
 use crate::blocks::plain_front;
-use crate::characters::{behind_first, first};
+use crate::characters::{Class, behind_first, first, split_run};
 use std::marker::Model;
 
 /// What is left of a text.
@@ -111,6 +112,19 @@ impl<'a> Rest<'a> {
             }
             None => false,
         }
+    }
+
+    /// Consumes and returns the characters in the class that come next. The class has all
+    /// characters outside ASCII.
+    #[inline(always)]
+    pub fn take_run(&mut self, class: Class) -> &'a str
+        requires { IsOfAscii (passes class) }
+        ensures run { chars result.now ≡ front (passes class) self.old }
+        ensures rest { self.new ≡ behind (passes class) self.old }
+    {
+        let (run, rest) = split_run(self.text, class);
+        self.text = rest;
+        run
     }
 
     /// Skips in both texts the plain characters with which they go on alike.

@@ -22,6 +22,12 @@ pub enum Class {
     Line,
     /// All characters but backslashes.
     Unescaped,
+    /// Characters that stand for themselves in an ordinary literal: all but quotes, backslashes and
+    /// CRs.
+    Plain,
+    /// Characters that a quoted text has as they are: all but quotes of both kinds, backslashes and
+    /// ASCII control characters.
+    Unchanged,
 }
 
 impl Class {
@@ -36,6 +42,8 @@ impl Class {
             Class::Text => c != '{' && c != '}',
             Class::Line => c != '{' && c != '}' && c != '\n',
             Class::Unescaped => c != '\\',
+            Class::Plain => c != '"' && c != '\\' && c != '\r',
+            Class::Unchanged => c >= ' ' && c != '\u{7f}' && c != '"' && c != '\'' && c != '\\',
         }
     }
 }
@@ -136,6 +144,7 @@ pub fn run_width(bytes: &[u8], class: Class) -> usize {
         Class::Text => calm_front(bytes, 1, b'{', b'}', b'}'),
         Class::Line => calm_front(bytes, 1, b'{', b'}', b'\n'),
         Class::Unescaped => calm_front(bytes, 1, b'\\', b'\\', b'\\'),
+        Class::Plain => calm_front(bytes, 1, b'"', b'\\', b'\r'),
         _ => 0,
     };
     for i in seen..bytes.len() {

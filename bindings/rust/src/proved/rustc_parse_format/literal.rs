@@ -9,7 +9,6 @@
 use crate::shim::prelude::*;
 pub(crate) mod rest;
 pub(crate) mod unit;
-
 use crate::shim::alloc::{AllocError, Global};
 pub(crate) use rest::Rest;
 use std::ops::Range;
