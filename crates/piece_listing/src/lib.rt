@@ -11,4 +11,4 @@ pub mod run;
 mod task;
 pub mod verdict;
 
-pub use listing::{put_piece, put_quoted};
+pub use listing::{put_number, put_piece, put_quoted};

@@ -17,6 +17,7 @@ ghost use Rattle.piece_listing.specs.Listing.{quoted, sign_entry, span_text, typ
 ghost use Rattle.piece_listing.specs.Listing.{value_entries, width_entry};
 
 use super::report_lines::put_report;
+use itoa::Buffer;
 use placeholder_check::Report;
 use rustc_parse_format::{
     Alignment, Argument, Count, DebugHex, FormatSpec, ParseError, Piece, Position, Sign,
@@ -56,12 +57,15 @@ fn put_name(out: &mut String, label: &str, name: &str) -> Result<(), AllocError>
     Ok(())
 }
 
-/// Adds a label and then a number.
-fn put_number(out: &mut String, label: &str, number: usize) -> Result<(), AllocError>
+/// Appends a label and then a number in decimal digits to `out`. Returns `Err` if an allocation
+/// fails; the label may then be in `out`.
+pub fn put_number(out: &mut String, label: &str, number: usize) -> Result<(), AllocError>
     ensures { OnOk result (string_bytes out.new ≡ string_bytes out.old
         ++ (label.now ++ decimal number)) }
 {
-    write!(out, "{label}{number}")?;
+    let mut digits = Buffer::new();
+    out.push_str(label)?;
+    out.push_str(digits.format(number))?;
     Ok(())
 }
 
@@ -70,7 +74,8 @@ fn put_span(out: &mut String, mark: &str, span: &Range<usize>) -> Result<(), All
     ensures { OnOk result (string_bytes out.new ≡ string_bytes out.old ++
         (mark.now ++ span_text (pair span.now))) }
 {
-    write!(out, "{mark}{}..{}", span.start, span.end)?;
+    put_number(out, mark, span.start)?;
+    put_number(out, "..", span.end)?;
     Ok(())
 }
 

@@ -9,7 +9,7 @@ ghost use Rattle.piece_listing.specs.Program.{IsReportFor, has_entries, no_entri
 ghost use Rattle.piece_listing.specs.SeenTask.{seen_given};
 
 use super::given::{Given, names};
-use super::listing::put_quoted;
+use super::listing::{put_number, put_quoted};
 use placeholder_check::{Report, check};
 use rustc_parse_format::Piece;
 use std::alloc::{AllocError, Global};
@@ -58,7 +58,8 @@ fn put_numbers(out: &mut String, label: &str, numbers: &[usize]) -> Result<(), A
     ensures empty { numbers.now ≡ [] → IsOk result }
 {
     for n in numbers {
-        write!(out, "{label}{n}\n")?;
+        put_number(out, label, *n)?;
+        out.push_str("\n")?;
     }
     Ok(())
 }
