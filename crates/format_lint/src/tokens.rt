@@ -8,7 +8,7 @@ ghost use Rattle.format_lint.specs.Colours.{behind, colour, in_colour, kind_name
 ghost use Rattle.format_lint.specs.Colours.{shown_token, shown_tokens};
 
 use format_tokens::{Kind, Token};
-use piece_listing::put_quoted;
+use piece_listing::{put_number, put_quoted};
 use std::alloc::AllocError;
 
 /// Returns the name of a kind in a list of tokens.
@@ -65,7 +65,13 @@ fn put_in_colour(out: &mut String, colour: Option<&str>, text: &str) -> Result<(
         ++ in_colour (option_map (λ s. s.now) colour.entry) text.now) }
 {
     match colour {
-        Some(number) => write!(out, "\u{1b}[{number}m{text}\u{1b}[0m")?,
+        Some(number) => {
+            out.push_str("\u{1b}[")?;
+            out.push_str(number)?;
+            out.push_str("m")?;
+            out.push_str(text)?;
+            out.push_str("\u{1b}[0m")?;
+        }
         None => out.push_str(text)?,
     }
     Ok(())
@@ -77,7 +83,9 @@ fn put_line(out: &mut String, token: &Token, text: &str) -> Result<(), AllocErro
         ++ shown_token false (seen_token token.now) (chars text.now)) }
 {
     out.push_str(kind_name(token.kind))?;
-    write!(out, " {}..{} ", token.span.start, token.span.end)?;
+    put_number(out, " ", token.span.start)?;
+    put_number(out, "..", token.span.end)?;
+    out.push_str(" ")?;
     put_quoted(out, text)?;
     out.push_str("\n")?;
     Ok(())
@@ -115,6 +123,9 @@ pub fn put_tokens(
     ensures { OnOk result (string_bytes out.new ≡ string_bytes out.old
         ++ shown_tokens colours (chars text.now) (map seen_token tokens.now)) }
 {
+    // most often enough for all of them, so that what was written is not moved again and again
+    let each = if colours { 9 } else { 24 };
+    out.reserve(text.len().saturating_add(tokens.len().saturating_mul(each)))?;
     let mut rest = text;
     for token in tokens {
         let width = token.span.end.saturating_sub(token.span.start);

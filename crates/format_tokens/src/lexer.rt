@@ -115,7 +115,7 @@ pub fn placed(
     let offsets = starts(alloc, input, style, snippet, source, appended_newline)?;
     let starts = offsets.as_slice();
     let kept = length_of(input).saturating_sub(usize::from(appended_newline));
-    let mut tokens = Vec::new(alloc);
+    let mut tokens = Vec::with_capacity(alloc, labels.len().saturating_add(2))?;
     match source {
         None => {
             place(&mut tokens, labels, starts, kept)?;

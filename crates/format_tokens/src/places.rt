@@ -10,6 +10,7 @@ ghost use Rattle.format_tokens.specs.Seen.{seen_token};
 ghost use Rattle.format_tokens.specs.Starts.{placed_sizes, starts_of};
 
 use crate::kinds::{Kind, Token};
+use crate::parts::length_of;
 use rustc_parse_format::literal::{between_quotes, read_content};
 use std::alloc::{AllocError, Global};
 
@@ -25,7 +26,7 @@ pub fn plain_starts(
     ensures { IfOk result (λ v. (b : Bool)
         → v.items ≡ starts_of (plain_world b at (chars text.now) end)) }
 {
-    let mut starts = Vec::new(alloc);
+    let mut starts = Vec::with_capacity(alloc, length_of(text).saturating_add(1))?;
     let mut next = at;
     let mut rest = text.chars();
     while let Some(c) = rest.next() {
@@ -47,13 +48,13 @@ pub fn ordinary_starts(
         → IsSource input None (chars snippet.now) appended_newline
         → v.items ≡ starts_of (world input None (Some (chars snippet.now)) appended_newline)) }
 {
-    let mut starts = Vec::new(alloc);
     let Some(content) = between_quotes(snippet) else {
-        return Ok(starts);
+        return Ok(Vec::new(alloc));
     };
     let Some(characters) = read_content(alloc, content)? else {
-        return Ok(starts);
+        return Ok(Vec::new(alloc));
     };
+    let mut starts = Vec::with_capacity(alloc, characters.len().saturating_add(2))?;
     let mut end = 1;
     for character in &characters {
         starts.push(character.0.start + 1)?;

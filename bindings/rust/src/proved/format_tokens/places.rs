@@ -5,6 +5,7 @@
 // by results from outside, and beside what is proved (.ci/bindings) and the original (tools/agree).
 
 use crate::proved::format_tokens::kinds::{Kind, Token};
+use crate::proved::format_tokens::parts::length_of;
 use crate::proved::rustc_parse_format::literal::{between_quotes, read_content};
 use crate::shim::alloc::{AllocError, Global};
 use crate::shim::prelude::*;
@@ -21,7 +22,7 @@ pub fn plain_starts(
     text: &str,
     end: usize,
 ) -> Result<Vec<usize>, AllocError> {
-    let mut starts = Vec::made_in(alloc);
+    let mut starts = Vec::made_for(alloc, length_of(text).saturating_add(1))?;
     let mut next = at;
     let mut rest = text.chars();
     while let Some(c) = rest.next() {
@@ -43,13 +44,13 @@ pub fn ordinary_starts(
     snippet: &str,
     appended_newline: bool,
 ) -> Result<Vec<usize>, AllocError> {
-    let mut starts = Vec::made_in(alloc);
     let Some(content) = between_quotes(snippet) else {
-        return Ok(starts);
+        return Ok(Vec::made_in(alloc));
     };
     let Some(characters) = read_content(alloc, content)? else {
-        return Ok(starts);
+        return Ok(Vec::made_in(alloc));
     };
+    let mut starts = Vec::made_for(alloc, characters.len().saturating_add(2))?;
     let mut end = 1;
     for character in &characters {
         starts.try_push(character.0.start + 1)?;
