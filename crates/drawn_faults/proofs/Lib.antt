@@ -1,4 +1,5 @@
 mod GlyphLemmas
+mod PrintableLemmas
 pub mod EditLaws
 pub mod FixLaws
 pub mod CallFaults

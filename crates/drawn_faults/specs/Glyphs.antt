@@ -1,6 +1,6 @@
 -- How characters are drawn in a terminal, and how many columns they take. The rules are those of
 -- rustc 1.95, but for the widths, which are those of the crate `unicode_width`.
-use Rattle.std.specs.Prelude.{ℕ, ◌+◌, Bool, false, ◌||◌, ◌==◌, if◌then◌else◌}
+use Rattle.std.specs.Prelude.{ℕ, ◌+◌, Bool, false, ◌&&◌, ◌||◌, ◌==◌, if◌then◌else◌}
 use Rattle.std.specs.Prelude.{nat_lt, List, [], ◌∷◌, Option, Some, None, unwrap_or}
 use Rattle.std.specs.Prelude.{replicate, flat_map}
 use Rattle.std.specs.Int.{is_in_range}
@@ -44,6 +44,10 @@ abbrev pub indent : ℕ → Text → Option ℕ
 indent n [] = None
 indent n (c ∷ t) =
     if is_whitespace c then indent (n + (if c == 9 then 4 else 1)) t else Some n
+
+-- The character is a printable one of ASCII.
+abbrev pub is_printable : ℕ → Bool
+is_printable c = nat_lt 31 c && nat_lt c 127
 
 -- A character again and again, as bytes.
 abbrev pub run : ℕ → ℕ → List ℕ

@@ -3,9 +3,10 @@
 
 ghost use Rattle.std.specs.Prelude.{◌≡◌, ◌∷◌, ◌++◌, ◌<◌, ◌≤◌, ◌^◌, [], chars, drop};
 ghost use Rattle.std.specs.Prelude.{◌*◌, length, take};
-ghost use Rattle.std.specs.Prelude.{IfSome, MatchOption, OnOk, encode_utf8_all, string_bytes};
+ghost use Rattle.std.specs.Prelude.{IfOk, IfSome, MatchOption, OnOk, encode_utf8_all, string_bytes};
 ghost use Rattle.drawn_faults.specs.Glyphs.{glyph, glyph_count, glyphs, indent, run, width};
 
+use crate::printable::split_printable;
 use std::alloc::AllocError;
 use unicode_width::UnicodeWidthChar;
 
@@ -99,6 +100,24 @@ pub fn put_texts(out: &mut String, a: &str, b: &str, c: &str) -> Result<(), Allo
     Ok(())
 }
 
+/// Adds the longest prefix of a text that is printable, as it is, without its first `skipped`
+/// characters. Returns what is after the prefix, and how many characters are still to skip.
+fn put_printable<'a>(
+    out: &mut String,
+    text: &'a str,
+    skipped: usize,
+) -> Result<(&'a str, usize), AllocError>
+    ensures whole { IfOk result (λ x. string_bytes out.new
+        ++ encode_utf8_all (drop x.1 (glyphs (chars x.0.now)))
+        ≡ string_bytes out.old ++ encode_utf8_all (drop skipped (glyphs (chars text.now)))) }
+    ensures short { IfOk result (λ x. length x.0.now ≤ length text.now) }
+{
+    let (front, rest) = split_printable(text, text.len());
+    let skip = skipped.min(front.len());
+    out.push_str(&front[skip..])?;
+    Ok((rest, skipped - skip))
+}
+
 /// Adds a text as it is drawn, without the first `skipped` characters of that.
 pub fn put_glyphs(out: &mut String, text: &str, skipped: usize) -> Result<(), AllocError>
     ensures { OnOk result (string_bytes out.new ≡ string_bytes out.old ++
@@ -109,8 +128,9 @@ pub fn put_glyphs(out: &mut String, text: &str, skipped: usize) -> Result<(), Al
     while let Some((c, tail)) = split_first(rest) {
         let count = glyph_count(c);
         put_run(out, glyph(c), count.saturating_sub(skip))?;
-        skip = skip.saturating_sub(count);
-        rest = tail;
+        let (behind, fewer) = put_printable(out, tail, skip.saturating_sub(count))?;
+        rest = behind;
+        skip = fewer;
     }
     Ok(())
 }

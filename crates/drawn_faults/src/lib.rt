@@ -10,6 +10,7 @@ pub mod laws;
 mod lines;
 mod long;
 mod places;
+mod printable;
 mod rows;
 mod suggestions;
 

@@ -1,12 +1,15 @@
 //! The source around a literal, its lines and places.
 
 ghost use Rattle.std.specs.Prelude.{◌≡◌, ◌+◌, ◌*◌, ◌<◌, ◌≤◌, ◌^◌, [], chars, length, ℕ};
-ghost use Rattle.std.specs.List.{fold};
+ghost use Rattle.std.specs.Prelude.{false, true};
+ghost use Rattle.std.specs.List.{fold, list_all};
 ghost use Rattle.rustc_parse_format.specs.Seen.{pair};
+ghost use Rattle.drawn_faults.specs.Glyphs.{is_printable};
 ghost use Rattle.drawn_faults.specs.Places.{behind_lines, extent, first_line, line, past};
 ghost use Rattle.drawn_faults.specs.Places.{seen_picture, within};
 
 use crate::glyphs::{split_first, width};
+use crate::printable::split_printable;
 use std::ops::Range;
 
 /// The source that a fault is drawn in: a whole file, or those lines of it that have the literal.
@@ -77,6 +80,46 @@ fn past(spot: Spot, c: char) -> Spot
     }
 }
 
+/// Returns the place behind printable characters.
+fn past_printable(spot: Spot, front: &str) -> Spot
+    requires printable { list_all is_printable front.now ≡ true }
+    requires behind_indent { spot.is_indent ≡ false }
+    requires small_chars { spot.chars + length front.now < 2 ^ 62 }
+    requires small_column { spot.column + length front.now < 2 ^ 62 }
+    ensures value { result ≡ fold past spot front.now }
+    ensures line { result.line ≡ spot.line }
+    ensures chars { result.chars ≡ spot.chars + length front.now }
+    ensures column { result.column ≡ spot.column + length front.now }
+{
+    Spot {
+        line: spot.line,
+        chars: spot.chars + front.len(),
+        column: spot.column + front.len(),
+        is_indent: false,
+    }
+}
+
+/// Passes the printable characters at the start of a text that end within `width` bytes. Returns
+/// the place behind them, what is left of the text, and how many of the bytes are left.
+fn pass_printable(from: Spot, text: &str, width: usize) -> (Spot, &str, usize)
+    requires behind_indent { from.is_indent ≡ false }
+    requires small_chars { from.chars + length text.now < 2 ^ 60 }
+    requires small_column { from.column + 4 * length text.now < 2 ^ 61 }
+    ensures value { fold past result.0 (within result.2 (chars result.1.now))
+        ≡ fold past from (within width (chars text.now)) }
+    ensures on { (more : ℕ) → fold past from (within (width + more) (chars text.now))
+        ≡ fold past result.0 (within (result.2 + more) (chars result.1.now)) }
+    ensures fewer { result.2 ≤ width }
+    ensures shorter { length result.1.now ≤ length text.now }
+    ensures lines { result.0.line + length result.1.now ≤ from.line + length text.now }
+    ensures chars { result.0.chars + length result.1.now ≤ from.chars + length text.now }
+    ensures columns { result.0.column + 4 * length result.1.now
+        ≤ from.column + 4 * length text.now }
+{
+    let (front, rest) = split_printable(text, width);
+    (past_printable(from, front), rest, width - front.len())
+}
+
 /// Passes the characters of a text that end within `width` bytes. Returns the place behind them,
 /// what is left of the text, and how many of the bytes are left.
 fn pass(from: Spot, text: &str, width: usize) -> (Spot, &str, usize)
@@ -102,6 +145,12 @@ fn pass(from: Spot, text: &str, width: usize) -> (Spot, &str, usize)
         left -= c.len_utf8();
         at = past(at, c);
         rest = tail;
+        if !at.is_indent {
+            let (spot, behind, fewer) = pass_printable(at, rest, left);
+            at = spot;
+            rest = behind;
+            left = fewer;
+        }
     }
     (at, rest, left)
 }

@@ -16,6 +16,11 @@ pub trait SimdPartialEq {
     fn simd_ne(self, other: Self) -> Mask;
 }
 
+/// Comparisons by size lane by lane.
+pub trait SimdPartialOrd {
+    fn simd_lt(self, other: Self) -> Mask;
+}
+
 const LOW: u64 = 0x7f7f_7f7f_7f7f_7f7f;
 const ONES: u64 = 0x0101_0101_0101_0101;
 
@@ -24,6 +29,14 @@ const ONES: u64 = 0x0101_0101_0101_0101;
 #[inline(always)]
 fn marked(word: u64) -> u64 {
     (((word & LOW) + LOW) | word) & !LOW
+}
+
+/// Returns a word with the highest bit of each byte set if that byte of `word` is less than that of
+/// `other`, and no other bit. No byte borrows from the next one.
+#[inline(always)]
+fn less(word: u64, other: u64) -> u64 {
+    let low_is_not_less = (word | !LOW) - (other & LOW);
+    ((!word & other) | (!(word ^ other) & !low_is_not_less)) & !LOW
 }
 
 /// Returns the highest bits of the bytes, that of the lowest byte as the lowest bit. The
@@ -68,6 +81,13 @@ impl SimdPartialEq for u8x16 {
     }
 }
 
+impl SimdPartialOrd for u8x16 {
+    #[inline(always)]
+    fn simd_lt(self, other: u8x16) -> Mask {
+        Mask([less(self.0[0], other.0[0]), less(self.0[1], other.0[1])])
+    }
+}
+
 impl BitOr for Mask {
     type Output = Mask;
 
@@ -102,6 +122,10 @@ mod tests {
                 let (lanes, splat) = (u8x16::from_slice(&bytes), u8x16::splat(b));
                 assert_eq!(lanes.simd_eq(splat).to_bitmask(), wanted);
                 assert_eq!(lanes.simd_ne(splat).to_bitmask(), wanted ^ 0xffff);
+                let less = (0..16).filter(|&i| bytes[i] < b).map(|i| 1 << i).sum();
+                assert_eq!(lanes.simd_lt(splat).to_bitmask(), less);
+                let more = (0..16).filter(|&i| b < bytes[i]).map(|i| 1 << i).sum();
+                assert_eq!(splat.simd_lt(lanes).to_bitmask(), more);
                 let either = lanes.simd_eq(splat) | lanes.simd_eq(u8x16::splat(others));
                 let other = (0..16).filter(|&i| bytes[i] == others).map(|i| 1 << i);
                 assert_eq!(either.to_bitmask(), wanted | other.sum::<u64>());

@@ -12,6 +12,7 @@ pub(crate) mod labels;
 pub(crate) mod lines;
 pub(crate) mod long;
 pub(crate) mod places;
+pub(crate) mod printable;
 pub(crate) mod rows;
 pub(crate) mod suggestions;
 
