@@ -1,10 +1,13 @@
 -- Lemmas on texts that are written character by character.
 use Rattle.std.proofs.Common.{◌≡◌, ℕ, ◌+◌, ◌-◌, ◌<◌, zero, suc, [], ◌∷◌, ◌++◌, drop, take}
 use Rattle.std.proofs.Common.{replicate, refl, ap, sym, ◌∙◌, append_assoc, add-one, arith}
-use Rattle.std.proofs.Common.{encode_utf8_all}
-use Rattle.std.specs.Prelude.{encode_utf8}
+use Rattle.std.proofs.Common.{encode_utf8_all, length, length-append, false}
+use Rattle.std.proofs.Common.{◌≤◌, ◌^◌, ◌/◌, ◌%◌}
+use Rattle.std.specs.Prelude.{decimal, encode_utf8, ◌==◌}
+use Rattle.std.proofs.lemmas.Fmt.{decimal_digit, decimal_step}
 use Rattle.std.proofs.Math.Nat.{suc-sub-suc}
-use Rattle.std.proofs.lemmas.Str.{encodes-append}
+use Rattle.std.proofs.lemmas.Bool.Decides.{nat_tests}
+use Rattle.std.proofs.lemmas.Str.{encodes-append, len_utf8_bounds, length-encode}
 use Rattle.std.proofs.lemmas.List.{append-nil}
 use Rattle.rustc_parse_format.specs.Characters.{Text}
 use Rattle.drawn_faults.specs.Glyphs.{run, glyphs, glyph, glyph_count}
@@ -50,3 +53,32 @@ take-step zero c t h = absurd (omega (arith, h))
 take-step (suc n) c t h =
     let a : suc n - 1 ≡ n = omega arith in
     rw a (encodes-append (replicate (glyph_count c) (glyph c)) (glyphs (take n t)))
+
+some-run : (n c : ℕ) → 0 < n → 0 < length (run n c)
+some-run zero c h = absurd (omega (arith, h))
+some-run (suc n) c h =
+    omega (arith, length-append (encode_utf8 c) (run n c), length-encode c, len_utf8_bounds c)
+
+-- Something is drawn of a text that begins with a character that is drawn.
+pub some-drawn : (c : ℕ) (t : Text) → 0 < glyph_count c
+    → (length (encode_utf8_all (glyphs (c ∷ t))) == 0) ≡ false
+some-drawn c t h =
+    let n = ap length (encodes-append (replicate (glyph_count c) (glyph c)) (glyphs t)) in
+    let some = some-run (glyph_count c) (glyph c) h in
+    let l : 0 < length (encode_utf8_all (glyphs (c ∷ t))) =
+    omega (arith, n, length-append (run (glyph_count c) (glyph c)) (encode_utf8_all (glyphs t))) in
+    grind (arith, nat_tests)
+
+-- what `draws_nothing` needs
+pub ruleset drawn_first = (some-drawn)
+
+pub digits-one : (n : ℕ) → n < 10 → length (decimal n) ≡ 1
+digits-one n h = ap length (decimal_digit n h)
+
+pub digits-step : (n : ℕ) → 10 ≤ n → n < 2 ^ 64 → length (decimal n) ≡ length (decimal (n / 10)) + 1
+digits-step n h l =
+    ap length (decimal_step n h l)
+    ∙ length-append (decimal (n / 10)) ((48 + n % 10) ∷ [])
+
+-- the digits of a number
+pub ruleset digit_steps = (digits-one, digits-step)

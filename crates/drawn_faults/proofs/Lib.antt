@@ -1,4 +1,4 @@
-mod GlyphLemmas
+pub mod GlyphLemmas
 mod PrintableLemmas
 pub mod EditLaws
 pub mod FixLaws

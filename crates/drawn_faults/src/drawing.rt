@@ -65,12 +65,7 @@ fn put_head(
 
 /// Adds the lines of a label that is alone.
 #[tactic(auto, unfolding(crate::specs::Drawing::labelled_rows))]
-fn put_label(
-    alloc: Global,
-    out: &mut String,
-    frame: &Frame<'_>,
-    label: &Label<'_>,
-) -> Result<(), AllocError>
+fn put_label(out: &mut String, frame: &Frame<'_>, label: &Label<'_>) -> Result<(), AllocError>
     requires number { label.now.extent.start.line < 2 ^ 59 }
     requires last { label.now.extent.end.line < 2 ^ 59 }
     requires column { label.now.extent.start.column < 2 ^ 61 }
@@ -79,9 +74,9 @@ fn put_label(
         ++ labelled_rows (seen_frame frame.now) (seen_label label.now) None) }
 {
     if label.extent.start.line == label.extent.end.line {
-        put_labelled(alloc, out, frame, &mark(label, frame.cut))?;
+        put_labelled(out, frame, &mark(label, frame.cut))?;
     } else {
-        put_long(alloc, out, frame, label)?;
+        put_long(out, frame, label)?;
     }
     Ok(())
 }
@@ -89,7 +84,6 @@ fn put_label(
 /// Adds the lines with labels.
 #[tactic(auto, unfolding(crate::specs::Drawing::labelled_rows))]
 fn put_labels(
-    alloc: Global,
     out: &mut String,
     frame: &Frame<'_>,
     label: &Label<'_>,
@@ -106,10 +100,10 @@ fn put_labels(
         (option_map seen_label second.now)) }
 {
     match second {
-        None => put_label(alloc, out, frame, label)?,
+        None => put_label(out, frame, label)?,
         Some(second) => {
             let (m, n) = (mark(label, frame.cut), mark(second, frame.cut));
-            put_two_labels(alloc, out, frame, &m, &n)?;
+            put_two_labels(out, frame, &m, &n)?;
         }
     }
     Ok(())
@@ -145,19 +139,14 @@ fn put_parting_before(
 }
 
 /// Adds the rows of an edit, if there is one.
-fn put_help(
-    alloc: Global,
-    out: &mut String,
-    frame: &Frame<'_>,
-    edit: &Option<Edit<'_>>,
-) -> Result<(), AllocError>
+fn put_help(out: &mut String, frame: &Frame<'_>, edit: &Option<Edit<'_>>) -> Result<(), AllocError>
     requires first { IfSome edit.now (λ e. e.extent.start.line < 2 ^ 59) }
     requires last { IfSome edit.now (λ e. e.extent.end.line < 2 ^ 59) }
     ensures { OnOk result (string_bytes out.new ≡ string_bytes out.old
         ++ help_rows (seen_frame frame.now) (option_map seen_edit edit.now)) }
 {
     if let Some(edit) = edit {
-        put_edit(alloc, out, frame, edit)?;
+        put_edit(out, frame, edit)?;
     }
     Ok(())
 }
@@ -165,7 +154,6 @@ fn put_help(
 /// Adds what is below the labels.
 #[tactic(auto, unfolding(crate::specs::Drawing::below))]
 fn put_below(
-    alloc: Global,
     out: &mut String,
     frame: &Frame<'_>,
     note: &Option<String>,
@@ -179,14 +167,13 @@ fn put_below(
 {
     put_parting_before(out, frame, note, edit)?;
     put_note(out, frame.gutter, note)?;
-    put_help(alloc, out, frame, edit)?;
+    put_help(out, frame, edit)?;
     Ok(())
 }
 
 /// Adds the drawing of an error with this label. Returns `Err` if an allocation fails.
 #[tactic(auto, unfolding(crate::specs::Drawing::drawing, crate::specs::Drawing::laid_out))]
 fn put_drawing(
-    alloc: Global,
     out: &mut String,
     picture: &Picture<'_>,
     error: &ParseError,
@@ -204,10 +191,10 @@ fn put_drawing(
 {
     let second = second(picture, error);
     let edit = edit_of(picture, &error.suggestion);
-    let frame = frame_for(alloc, picture, label, &second, &edit)?;
+    let frame = frame_for(picture, label, &second, &edit);
     put_head(out, &frame, error.description.as_str(), label.extent.start)?;
-    put_labels(alloc, out, &frame, label, &second)?;
-    put_below(alloc, out, &frame, &error.note, &edit)?;
+    put_labels(out, &frame, label, &second)?;
+    put_below(out, &frame, &error.note, &edit)?;
     out.push_str("\n")?;
     Ok(())
 }
@@ -237,13 +224,17 @@ pub fn draw(alloc: Global, picture: &Picture<'_>, error: &ParseError) -> Result<
     if picture.source.len() >= 1 << 59 {
         return Err(AllocError);
     }
-    let text = format!(in alloc; "{} in format string", error.label)?;
+    let mut text = String::with_capacity(alloc, error.label.len().saturating_add(17))?;
+    put_texts(&mut text, error.label.as_str(), " in format string", "")?;
     let label = Label {
         sign: '^',
         text: text.as_str(),
         extent: picture.extent(&error.span),
     };
-    let mut out = String::new(alloc);
-    put_drawing(alloc, &mut out, picture, error, &label)?;
+    // each drawing has these texts, and 58 bytes or more besides
+    let texts = picture.path.len().saturating_add(error.description.len());
+    let length = texts.saturating_add(text.len()).saturating_add(58);
+    let mut out = String::with_capacity(alloc, length)?;
+    put_drawing(&mut out, picture, error, &label)?;
     Ok(out)
 }

@@ -2,7 +2,7 @@
 //! to `out`, and returns `Err` if an allocation fails.
 
 ghost use Rattle.std.specs.Prelude.{◌≡◌, ◌∷◌, ◌++◌, ◌<◌, ◌≤◌, ◌^◌, [], chars, drop};
-ghost use Rattle.std.specs.Prelude.{◌*◌, length, take};
+ghost use Rattle.std.specs.Prelude.{◌*◌, ◌==◌, length, take};
 ghost use Rattle.std.specs.Prelude.{IfOk, IfSome, MatchOption, OnOk, encode_utf8_all, string_bytes};
 ghost use Rattle.drawn_faults.specs.Glyphs.{glyph, glyph_count, glyphs, indent, run, width};
 
@@ -77,6 +77,21 @@ pub fn indent(line: &str) -> Option<usize>
         rest = tail;
     }
     None
+}
+
+/// Returns whether nothing is drawn of a text.
+#[tactic(auto, using(crate::proofs::GlyphLemmas::drawn_first))]
+pub fn draws_nothing(text: &str) -> bool
+    ensures { result ≡ (length (encode_utf8_all (glyphs (chars text.now))) == 0) }
+{
+    let mut rest = text;
+    while let Some((c, tail)) = split_first(rest) {
+        if glyph_count(c) > 0 {
+            return false;
+        }
+        rest = tail;
+    }
+    true
 }
 
 /// Adds a character again and again.

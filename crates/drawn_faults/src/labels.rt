@@ -1,6 +1,6 @@
 //! What is drawn of an error: its labels and its edit, with their places in the source.
 
-ghost use Rattle.std.specs.Prelude.{◌≡◌, ◌+◌, ◌<◌, ◌≤◌, ◌^◌, IfOk, IfSome, length, option_map};
+ghost use Rattle.std.specs.Prelude.{◌≡◌, ◌+◌, ◌<◌, ◌≤◌, ◌^◌, IfSome, length, option_map};
 ghost use Rattle.std.specs.Prelude.{decimal};
 ghost use Rattle.rustc_parse_format.specs.Seen.{pair, seen_error, seen_suggestion};
 ghost use Rattle.drawn_faults.specs.Places.{extent, seen_picture};
@@ -13,7 +13,6 @@ use crate::glyphs::indent;
 use crate::places::{Extent, Picture, line};
 use crate::rows::Mark;
 use rustc_parse_format::{ParseError, Suggestion};
-use std::alloc::{AllocError, Global};
 use std::ops::Range;
 
 /// A label of a range of the source.
@@ -166,44 +165,49 @@ fn cut_of(indent: usize) -> usize
     if indent > 26 { indent - 22 } else { 0 }
 }
 
-/// Returns the number of digits of a number. Returns `Err` if an allocation fails.
-fn digits(alloc: Global, number: usize) -> Result<usize, AllocError>
-    ensures { IfOk result (λ n. n ≡ length (decimal number)) }
+/// Returns the number of digits of a number.
+#[tactic(auto, using(crate::proofs::GlyphLemmas::digit_steps))]
+pub fn digits(number: usize) -> usize
+    ensures { result ≡ length (decimal number) }
 {
-    let digits = format!(in alloc; "{number}")?;
-    Ok(digits.len())
+    let mut rest = number;
+    let mut count = 1;
+    while rest >= 10 {
+        rest /= 10;
+        count += 1;
+    }
+    count
 }
 
-/// Returns the layout for labels and an edit. Returns `Err` if an allocation fails.
+/// Returns the layout for labels and an edit.
 #[tactic(auto, unfolding(crate::specs::Labels::frame))]
 pub fn frame_for<'a>(
-    alloc: Global,
     picture: &'a Picture<'a>,
     label: &Label<'_>,
     second: &Option<Label<'_>>,
     edit: &Option<Edit<'_>>,
-) -> Result<Frame<'a>, AllocError>
+) -> Frame<'a>
     requires source { length picture.now.source.now < 2 ^ 59 }
     requires small { label.now.extent.end.line < 2 ^ 59 }
     requires small_second { IfSome second.now (λ l. l.extent.end.line < 2 ^ 59) }
     requires small_edit { IfSome edit.now (λ e. e.extent.end.line < 2 ^ 59) }
-    ensures value { IfOk result (λ f. seen_frame f ≡ frame (seen_picture picture.now)
-        (seen_label label.now) (option_map seen_label second.now) (option_map seen_edit edit.now)) }
-    ensures small_cut { IfOk result (λ f. f.cut < 2 ^ 62) }
+    ensures value { seen_frame result ≡ frame (seen_picture picture.now)
+        (seen_label label.now) (option_map seen_label second.now) (option_map seen_edit edit.now) }
+    ensures small_cut { result.cut < 2 ^ 62 }
 {
     let last = label
         .extent
         .end
         .line
         .max(last_line(second).max(edit_line(edit)));
-    let gutter = digits(alloc, picture.line_start as usize + last)?;
+    let gutter = digits(picture.line_start as usize + last);
     let first = line_indent(picture, label.extent.start.line);
     let other = line_indent(picture, other_line(label, second));
-    Ok(Frame {
+    Frame {
         picture,
         gutter,
         cut: cut_of(least(first, other)),
-    })
+    }
 }
 
 /// Returns a label in the line in which it begins.

@@ -7,28 +7,22 @@ ghost use Rattle.drawn_faults.specs.Labels.{seen_frame};
 ghost use Rattle.drawn_faults.specs.Lines.{apart, behind_bar, code_row, gap, labelled, numbered};
 ghost use Rattle.drawn_faults.specs.Lines.{shown, source_row, two_labels};
 
-use crate::glyphs::{put_glyphs, put_run};
-use crate::labels::Frame;
+use crate::glyphs::{draws_nothing, put_glyphs, put_run};
+use crate::labels::{Frame, digits};
 use crate::places::line;
 use crate::rows::{Mark, put_both, put_one};
-use std::alloc::{AllocError, Global};
+use std::alloc::AllocError;
 
 /// Adds the number of a line of the source, at the right of its gutter.
 #[tactic(auto, unfolding(crate::specs::Lines::numbered))]
-pub fn put_number(
-    alloc: Global,
-    out: &mut String,
-    frame: &Frame<'_>,
-    line: usize,
-) -> Result<(), AllocError>
+pub fn put_number(out: &mut String, frame: &Frame<'_>, line: usize) -> Result<(), AllocError>
     requires { line < 2 ^ 61 }
     ensures { OnOk result (string_bytes out.new ≡ string_bytes out.old
         ++ numbered (seen_frame frame.now) line) }
 {
     let number = frame.picture.line_start as usize + line;
-    let digits = format!(in alloc; "{number}")?;
-    put_run(out, ' ', frame.gutter.saturating_sub(digits.len()))?;
-    out.push_str(digits.as_str())?;
+    put_run(out, ' ', frame.gutter.saturating_sub(digits(number)))?;
+    write!(out, "{number}")?;
     Ok(())
 }
 
@@ -48,14 +42,16 @@ fn put_shown(out: &mut String, text: &str, cut: usize) -> Result<(), AllocError>
     Ok(())
 }
 
-/// Adds what is behind a bar.
-fn put_behind_bar(out: &mut String, front: &str, code: &str) -> Result<(), AllocError>
+/// Adds what is behind a bar: a line, and what is in front of it.
+#[tactic(auto, unfolding(crate::specs::Lines::shown))]
+fn put_behind_bar(out: &mut String, front: &str, text: &str, cut: usize) -> Result<(), AllocError>
+    requires { cut < 2 ^ 62 }
     ensures { OnOk result (string_bytes out.new
-        ≡ string_bytes out.old ++ behind_bar front.now code.now) }
+        ≡ string_bytes out.old ++ behind_bar front.now (shown cut (chars text.now))) }
 {
-    if !code.is_empty() {
+    if cut > 0 || !draws_nothing(text) {
         out.push_str(front)?;
-        out.push_str(code)?;
+        put_shown(out, text, cut)?;
     }
     Ok(())
 }
@@ -63,7 +59,6 @@ fn put_behind_bar(out: &mut String, front: &str, code: &str) -> Result<(), Alloc
 /// Adds a line of the source, with its number, a bar, and what is in front of it.
 #[tactic(auto, unfolding(crate::specs::Lines::source_row))]
 pub fn put_source(
-    alloc: Global,
     out: &mut String,
     frame: &Frame<'_>,
     bar: &str,
@@ -75,65 +70,47 @@ pub fn put_source(
     ensures { OnOk result (string_bytes out.new ≡ string_bytes out.old
         ++ source_row (seen_frame frame.now) bar.now front.now number) }
 {
-    let mut code = String::new(alloc);
-    put_shown(&mut code, line(frame.picture.source, number), frame.cut)?;
-    put_number(alloc, out, frame, number)?;
+    put_number(out, frame, number)?;
     out.push_str(bar)?;
-    put_behind_bar(out, front, code.as_str())?;
+    put_behind_bar(out, front, line(frame.picture.source, number), frame.cut)?;
     out.push_str("\n")?;
     Ok(())
 }
 
 /// Adds a line of the source.
-fn put_code(
-    alloc: Global,
-    out: &mut String,
-    frame: &Frame<'_>,
-    number: usize,
-) -> Result<(), AllocError>
+fn put_code(out: &mut String, frame: &Frame<'_>, number: usize) -> Result<(), AllocError>
     requires number { number < 2 ^ 61 }
     requires cut { frame.now.cut < 2 ^ 62 }
     ensures { OnOk result (string_bytes out.new ≡ string_bytes out.old
         ++ code_row (seen_frame frame.now) number) }
 {
-    put_source(alloc, out, frame, " |", " ", number)?;
+    put_source(out, frame, " |", " ", number)?;
     Ok(())
 }
 
 /// Adds a line of the source with a label.
 #[tactic(auto, unfolding(crate::specs::Lines::labelled))]
-pub fn put_labelled(
-    alloc: Global,
-    out: &mut String,
-    frame: &Frame<'_>,
-    mark: &Mark<'_>,
-) -> Result<(), AllocError>
+pub fn put_labelled(out: &mut String, frame: &Frame<'_>, mark: &Mark<'_>) -> Result<(), AllocError>
     requires number { mark.now.line < 2 ^ 61 }
     requires cut { frame.now.cut < 2 ^ 62 }
     ensures { OnOk result (string_bytes out.new ≡ string_bytes out.old
         ++ labelled (seen_frame frame.now) (seen_mark mark.now)) }
 {
-    put_code(alloc, out, frame, mark.line)?;
+    put_code(out, frame, mark.line)?;
     put_one(out, frame.gutter, mark)?;
     Ok(())
 }
 
 /// Adds what is between two lines with labels.
 #[tactic(auto, unfolding(crate::specs::Lines::gap))]
-fn put_gap(
-    alloc: Global,
-    out: &mut String,
-    frame: &Frame<'_>,
-    first: usize,
-    last: usize,
-) -> Result<(), AllocError>
+fn put_gap(out: &mut String, frame: &Frame<'_>, first: usize, last: usize) -> Result<(), AllocError>
     requires number { first < 2 ^ 60 }
     requires cut { frame.now.cut < 2 ^ 62 }
     ensures { OnOk result (string_bytes out.new ≡ string_bytes out.old
         ++ gap (seen_frame frame.now) first last) }
 {
     if last == first + 2 {
-        put_code(alloc, out, frame, first + 1)?;
+        put_code(out, frame, first + 1)?;
     } else if last > first + 2 {
         out.push_str("...\n")?;
     }
@@ -143,7 +120,6 @@ fn put_gap(
 /// Adds two lines with labels, of which `m` is the first one.
 #[tactic(auto, unfolding(crate::specs::Lines::apart))]
 fn put_apart(
-    alloc: Global,
     out: &mut String,
     frame: &Frame<'_>,
     m: &Mark<'_>,
@@ -155,16 +131,15 @@ fn put_apart(
     ensures { OnOk result (string_bytes out.new ≡ string_bytes out.old
         ++ apart (seen_frame frame.now) (seen_mark m.now) (seen_mark n.now)) }
 {
-    put_labelled(alloc, out, frame, m)?;
-    put_gap(alloc, out, frame, m.line, n.line)?;
-    put_labelled(alloc, out, frame, n)?;
+    put_labelled(out, frame, m)?;
+    put_gap(out, frame, m.line, n.line)?;
+    put_labelled(out, frame, n)?;
     Ok(())
 }
 
 /// Adds the lines with two labels.
 #[tactic(auto, unfolding(crate::specs::Lines::two_labels))]
 pub fn put_two_labels(
-    alloc: Global,
     out: &mut String,
     frame: &Frame<'_>,
     m: &Mark<'_>,
@@ -177,12 +152,12 @@ pub fn put_two_labels(
         ++ two_labels (seen_frame frame.now) (seen_mark m.now) (seen_mark n.now)) }
 {
     if m.line == n.line {
-        put_code(alloc, out, frame, m.line)?;
+        put_code(out, frame, m.line)?;
         put_both(out, frame.gutter, m, n)?;
     } else if m.line < n.line {
-        put_apart(alloc, out, frame, m, n)?;
+        put_apart(out, frame, m, n)?;
     } else {
-        put_apart(alloc, out, frame, n, m)?;
+        put_apart(out, frame, n, m)?;
     }
     Ok(())
 }

@@ -17,7 +17,7 @@ use crate::labels::{Frame, Label};
 use crate::lines::put_source;
 use crate::places::line;
 use crate::rows::put_gutter;
-use std::alloc::{AllocError, Global};
+use std::alloc::AllocError;
 
 /// Returns whether a character is a bracket.
 fn is_bracket(c: char) -> bool
@@ -98,24 +98,18 @@ fn without_bare(frame: &Frame<'_>, first: usize, count: usize) -> usize
 }
 
 /// Adds a line between the first and the last one.
-fn put_bar_row(
-    alloc: Global,
-    out: &mut String,
-    frame: &Frame<'_>,
-    number: usize,
-) -> Result<(), AllocError>
+fn put_bar_row(out: &mut String, frame: &Frame<'_>, number: usize) -> Result<(), AllocError>
     requires number { number < 2 ^ 61 }
     requires cut { frame.now.cut < 2 ^ 62 }
     ensures { OnOk result (string_bytes out.new ≡ string_bytes out.old
         ++ bar_row (seen_frame frame.now) number) }
 {
-    put_source(alloc, out, frame, " | |", " ", number)?;
+    put_source(out, frame, " | |", " ", number)?;
     Ok(())
 }
 
 /// Adds so many lines behind a line.
 fn put_bar_rows(
-    alloc: Global,
     out: &mut String,
     frame: &Frame<'_>,
     first: usize,
@@ -127,7 +121,7 @@ fn put_bar_rows(
         ++ bar_rows (seen_frame frame.now) first count) }
 {
     for behind in 0..count {
-        put_bar_row(alloc, out, frame, first + behind + 1)?;
+        put_bar_row(out, frame, first + behind + 1)?;
     }
     Ok(())
 }
@@ -135,7 +129,6 @@ fn put_bar_rows(
 /// Adds what is between two lines of the label that are drawn.
 #[tactic(auto, unfolding(crate::specs::Long::bar_gap))]
 fn put_bar_gap(
-    alloc: Global,
     out: &mut String,
     frame: &Frame<'_>,
     first: usize,
@@ -147,7 +140,7 @@ fn put_bar_gap(
         ++ bar_gap (seen_frame frame.now) first last) }
 {
     if last == first + 2 {
-        put_bar_row(alloc, out, frame, first + 1)?;
+        put_bar_row(out, frame, first + 1)?;
     } else if last > first + 2 {
         out.push_str("...")?;
         put_run(out, ' ', frame.gutter)?;
@@ -177,12 +170,7 @@ fn put_lead(
 
 /// Adds the first line of a label.
 #[tactic(auto, unfolding(crate::specs::Long::first_rows))]
-fn put_first_rows(
-    alloc: Global,
-    out: &mut String,
-    frame: &Frame<'_>,
-    label: &Label<'_>,
-) -> Result<(), AllocError>
+fn put_first_rows(out: &mut String, frame: &Frame<'_>, label: &Label<'_>) -> Result<(), AllocError>
     requires number { label.now.extent.start.line < 2 ^ 60 }
     requires column { label.now.extent.start.column < 2 ^ 62 }
     requires cut { frame.now.cut < 2 ^ 62 }
@@ -191,9 +179,9 @@ fn put_first_rows(
 {
     let start = label.extent.start;
     if start.is_indent {
-        put_source(alloc, out, frame, " | /", " ", start.line)?;
+        put_source(out, frame, " | /", " ", start.line)?;
     } else {
-        put_source(alloc, out, frame, " |", "   ", start.line)?;
+        put_source(out, frame, " |", "   ", start.line)?;
         let columns = start.column.saturating_sub(frame.cut) + 1;
         put_lead(out, frame.gutter, " ", columns, "^")?;
     }
@@ -214,19 +202,14 @@ fn put_end(out: &mut String, gutter: usize, columns: usize, text: &str) -> Resul
 
 /// Adds the last line of a label.
 #[tactic(auto, unfolding(crate::specs::Long::last_rows))]
-fn put_last_rows(
-    alloc: Global,
-    out: &mut String,
-    frame: &Frame<'_>,
-    label: &Label<'_>,
-) -> Result<(), AllocError>
+fn put_last_rows(out: &mut String, frame: &Frame<'_>, label: &Label<'_>) -> Result<(), AllocError>
     requires number { label.now.extent.end.line < 2 ^ 60 }
     requires cut { frame.now.cut < 2 ^ 62 }
     ensures { OnOk result (string_bytes out.new ≡ string_bytes out.old
         ++ last_rows (seen_frame frame.now) (seen_label label.now)) }
 {
     let end = label.extent.end;
-    put_bar_row(alloc, out, frame, end.line)?;
+    put_bar_row(out, frame, end.line)?;
     put_end(
         out,
         frame.gutter,
@@ -239,7 +222,6 @@ fn put_last_rows(
 /// Adds what is between the first and the last line of a label.
 #[tactic(auto, unfolding(crate::specs::Long::between))]
 fn put_between(
-    alloc: Global,
     out: &mut String,
     frame: &Frame<'_>,
     first: usize,
@@ -253,24 +235,19 @@ fn put_between(
 {
     let behind = last.saturating_sub(first).saturating_sub(1);
     let count = without_bare(frame, first, behind.min(3));
-    put_bar_rows(alloc, out, frame, first, count)?;
+    put_bar_rows(out, frame, first, count)?;
     if last > first + 5 && !is_bare_line(frame, last - 1) {
-        put_bar_gap(alloc, out, frame, first + count, last - 1)?;
-        put_bar_row(alloc, out, frame, last - 1)?;
+        put_bar_gap(out, frame, first + count, last - 1)?;
+        put_bar_row(out, frame, last - 1)?;
     } else {
-        put_bar_gap(alloc, out, frame, first + count, last)?;
+        put_bar_gap(out, frame, first + count, last)?;
     }
     Ok(())
 }
 
 /// Adds the lines of a label over several lines.
 #[tactic(auto, unfolding(crate::specs::Long::long_rows))]
-pub fn put_long(
-    alloc: Global,
-    out: &mut String,
-    frame: &Frame<'_>,
-    label: &Label<'_>,
-) -> Result<(), AllocError>
+pub fn put_long(out: &mut String, frame: &Frame<'_>, label: &Label<'_>) -> Result<(), AllocError>
     requires number { label.now.extent.start.line < 2 ^ 59 }
     requires last { label.now.extent.end.line < 2 ^ 59 }
     requires column { label.now.extent.start.column < 2 ^ 62 }
@@ -278,14 +255,8 @@ pub fn put_long(
     ensures { OnOk result (string_bytes out.new ≡ string_bytes out.old
         ++ long_rows (seen_frame frame.now) (seen_label label.now)) }
 {
-    put_first_rows(alloc, out, frame, label)?;
-    put_between(
-        alloc,
-        out,
-        frame,
-        label.extent.start.line,
-        label.extent.end.line,
-    )?;
-    put_last_rows(alloc, out, frame, label)?;
+    put_first_rows(out, frame, label)?;
+    put_between(out, frame, label.extent.start.line, label.extent.end.line)?;
+    put_last_rows(out, frame, label)?;
     Ok(())
 }

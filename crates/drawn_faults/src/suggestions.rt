@@ -12,7 +12,7 @@ use crate::labels::{Edit, Frame};
 use crate::lines::put_number;
 use crate::places::{behind_line, behind_lines, first_line, line};
 use crate::rows::put_blank;
-use std::alloc::{AllocError, Global};
+use std::alloc::AllocError;
 
 /// Adds the row between two parts of the drawing.
 #[tactic(auto, unfolding(crate::specs::Suggestions::parting))]
@@ -35,18 +35,12 @@ fn put_help_title(out: &mut String, text: &str) -> Result<(), AllocError>
 
 /// Adds a line of the source without its edit.
 #[tactic(auto, unfolding(crate::specs::Suggestions::old_row))]
-fn put_old(
-    alloc: Global,
-    out: &mut String,
-    frame: &Frame<'_>,
-    number: usize,
-    line: &str,
-) -> Result<(), AllocError>
+fn put_old(out: &mut String, frame: &Frame<'_>, number: usize, line: &str) -> Result<(), AllocError>
     requires { number < 2 ^ 60 }
     ensures { OnOk result (string_bytes out.new ≡ string_bytes out.old
         ++ old_row (seen_frame frame.now) number line.now) }
 {
-    put_number(alloc, out, frame, number)?;
+    put_number(out, frame, number)?;
     out.push_str(" - ")?;
     put_glyphs(out, line, 0)?;
     out.push_str("\n")?;
@@ -55,7 +49,6 @@ fn put_old(
 
 /// Adds the first lines of a text without the edit, from the line with the number `first` on.
 fn put_old_rows(
-    alloc: Global,
     out: &mut String,
     frame: &Frame<'_>,
     first: usize,
@@ -70,7 +63,7 @@ fn put_old_rows(
     let mut number = first;
     let mut left = count;
     while left > 0 {
-        put_old(alloc, out, frame, number, first_line(rest))?;
+        put_old(out, frame, number, first_line(rest))?;
         rest = behind_line(rest);
         number += 1;
         left -= 1;
@@ -92,19 +85,14 @@ fn put_edited(out: &mut String, edit: &Edit<'_>, first: &str, last: &str) -> Res
 
 /// Adds the row of the line that an edit makes.
 #[tactic(auto, unfolding(crate::specs::Suggestions::new_row))]
-fn put_new(
-    alloc: Global,
-    out: &mut String,
-    frame: &Frame<'_>,
-    edit: &Edit<'_>,
-) -> Result<(), AllocError>
+fn put_new(out: &mut String, frame: &Frame<'_>, edit: &Edit<'_>) -> Result<(), AllocError>
     requires { edit.now.extent.start.line < 2 ^ 60 }
     ensures { OnOk result (string_bytes out.new ≡ string_bytes out.old
         ++ new_row (seen_frame frame.now) (seen_edit edit.now)) }
 {
     let first = line(frame.picture.source, edit.extent.start.line);
     let last = line(frame.picture.source, edit.extent.end.line);
-    put_number(alloc, out, frame, edit.extent.start.line)?;
+    put_number(out, frame, edit.extent.start.line)?;
     out.push_str(" + ")?;
     put_edited(out, edit, first, last)?;
     out.push_str("\n")?;
@@ -113,12 +101,7 @@ fn put_new(
 
 /// Adds the rows of an edit.
 #[tactic(auto, unfolding(crate::specs::Suggestions::edit_rows))]
-pub fn put_edit(
-    alloc: Global,
-    out: &mut String,
-    frame: &Frame<'_>,
-    edit: &Edit<'_>,
-) -> Result<(), AllocError>
+pub fn put_edit(out: &mut String, frame: &Frame<'_>, edit: &Edit<'_>) -> Result<(), AllocError>
     requires first { edit.now.extent.start.line < 2 ^ 59 }
     requires last { edit.now.extent.end.line < 2 ^ 59 }
     ensures { OnOk result (string_bytes out.new ≡ string_bytes out.old
@@ -129,14 +112,13 @@ pub fn put_edit(
     put_help_title(out, edit.text)?;
     put_parting(out, frame)?;
     put_old_rows(
-        alloc,
         out,
         frame,
         first,
         count,
         behind_lines(frame.picture.source, first),
     )?;
-    put_new(alloc, out, frame, edit)?;
+    put_new(out, frame, edit)?;
     put_parting(out, frame)?;
     Ok(())
 }

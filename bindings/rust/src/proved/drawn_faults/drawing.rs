@@ -65,16 +65,11 @@ fn put_head(
 // ensures { OnOk result (string_bytes out.new ≡ string_bytes out.old
 //     ++ labelled_rows (seen_frame frame.now) (seen_label label.now) None) }
 #[inline]
-fn put_label(
-    alloc: Global,
-    out: &mut String,
-    frame: &Frame<'_>,
-    label: &Label<'_>,
-) -> Result<(), AllocError> {
+fn put_label(out: &mut String, frame: &Frame<'_>, label: &Label<'_>) -> Result<(), AllocError> {
     if label.extent.start.line == label.extent.end.line {
-        put_labelled(alloc, out, frame, &mark(label, frame.cut))?;
+        put_labelled(out, frame, &mark(label, frame.cut))?;
     } else {
-        put_long(alloc, out, frame, label)?;
+        put_long(out, frame, label)?;
     }
     Ok(())
 }
@@ -91,17 +86,16 @@ fn put_label(
 //     (option_map seen_label second.now)) }
 #[inline]
 fn put_labels(
-    alloc: Global,
     out: &mut String,
     frame: &Frame<'_>,
     label: &Label<'_>,
     second: &Option<Label<'_>>,
 ) -> Result<(), AllocError> {
     match second {
-        None => put_label(alloc, out, frame, label)?,
+        None => put_label(out, frame, label)?,
         Some(second) => {
             let (m, n) = (mark(label, frame.cut), mark(second, frame.cut));
-            put_two_labels(alloc, out, frame, &m, &n)?;
+            put_two_labels(out, frame, &m, &n)?;
         }
     }
     Ok(())
@@ -143,13 +137,12 @@ fn put_parting_before(
 //     ++ help_rows (seen_frame frame.now) (option_map seen_edit edit.now)) }
 #[inline]
 fn put_help(
-    alloc: Global,
     out: &mut String,
     frame: &Frame<'_>,
     edit: &Option<Edit<'_>>,
 ) -> Result<(), AllocError> {
     if let Some(edit) = edit {
-        put_edit(alloc, out, frame, edit)?;
+        put_edit(out, frame, edit)?;
     }
     Ok(())
 }
@@ -162,7 +155,6 @@ fn put_help(
 //     (option_map seen_edit edit.now)) }
 #[inline]
 fn put_below(
-    alloc: Global,
     out: &mut String,
     frame: &Frame<'_>,
     note: &Option<String>,
@@ -170,7 +162,7 @@ fn put_below(
 ) -> Result<(), AllocError> {
     put_parting_before(out, frame, note, edit)?;
     put_note(out, frame.gutter, note)?;
-    put_help(alloc, out, frame, edit)?;
+    put_help(out, frame, edit)?;
     Ok(())
 }
 
@@ -186,7 +178,6 @@ fn put_below(
 //     ++ drawing (seen_picture picture.now) (seen_error error.now)) }
 #[inline]
 fn put_drawing(
-    alloc: Global,
     out: &mut String,
     picture: &Picture<'_>,
     error: &ParseError,
@@ -194,10 +185,10 @@ fn put_drawing(
 ) -> Result<(), AllocError> {
     let second = second(picture, error);
     let edit = edit_of(picture, &error.suggestion);
-    let frame = frame_for(alloc, picture, label, &second, &edit)?;
+    let frame = frame_for(picture, label, &second, &edit);
     put_head(out, &frame, error.description.as_str(), label.extent.start)?;
-    put_labels(alloc, out, &frame, label, &second)?;
-    put_below(alloc, out, &frame, &error.note, &edit)?;
+    put_labels(out, &frame, label, &second)?;
+    put_below(out, &frame, &error.note, &edit)?;
     out.try_push_str("\n")?;
     Ok(())
 }
@@ -231,13 +222,17 @@ pub fn draw(
     if picture.source.len() >= 1 << (usize::BITS - 5) {
         return crate::shim::alloc::refuse();
     }
-    let text = crate::shim::format_in!( alloc; "{} in format string", error.label)?;
+    let mut text = String::made_for(alloc, error.label.len().saturating_add(17))?;
+    put_texts(&mut text, error.label.as_str(), " in format string", "")?;
     let label = Label {
         sign: '^',
         text: text.as_str(),
         extent: picture.extent(&error.span),
     };
-    let mut out = String::made_in(alloc);
-    put_drawing(alloc, &mut out, picture, error, &label)?;
+    // each drawing has these texts, and 58 bytes or more besides
+    let texts = picture.path.len().saturating_add(error.description.len());
+    let length = texts.saturating_add(text.len()).saturating_add(58);
+    let mut out = String::made_for(alloc, length)?;
+    put_drawing(&mut out, picture, error, &label)?;
     Ok(out)
 }

@@ -76,6 +76,20 @@ pub fn indent(line: &str) -> Option<usize> {
     None
 }
 
+/// Returns whether nothing is drawn of a text.
+// ensures { result ≡ (length (encode_utf8_all (glyphs (chars text.now))) == 0) }
+#[inline]
+pub fn draws_nothing(text: &str) -> bool {
+    let mut rest = text;
+    while let Some((c, tail)) = split_first(rest) {
+        if glyph_count(c) > 0 {
+            return false;
+        }
+        rest = tail;
+    }
+    true
+}
+
 /// Adds a character again and again.
 // ensures { OnOk result (string_bytes out.new ≡ string_bytes out.old ++ run count c) }
 #[inline]

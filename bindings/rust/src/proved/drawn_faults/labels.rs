@@ -8,7 +8,6 @@ use crate::proved::drawn_faults::glyphs::indent;
 use crate::proved::drawn_faults::places::{line, Extent, Picture};
 use crate::proved::drawn_faults::rows::Mark;
 use crate::proved::rustc_parse_format::{ParseError, Suggestion};
-use crate::shim::alloc::{AllocError, Global};
 use std::ops::Range;
 
 /// A label of a range of the source.
@@ -170,43 +169,47 @@ fn cut_of(indent: usize) -> usize {
     }
 }
 
-/// Returns the number of digits of a number. Returns `Err` if an allocation fails.
-// ensures { IfOk result (λ n. n ≡ length (decimal number)) }
+/// Returns the number of digits of a number.
+// ensures { result ≡ length (decimal number) }
 #[inline]
-fn digits(alloc: Global, number: usize) -> Result<usize, AllocError> {
-    let digits = crate::shim::format_in!( alloc; "{number}")?;
-    Ok(digits.len())
+pub fn digits(number: usize) -> usize {
+    let mut rest = number;
+    let mut count = 1;
+    while rest >= 10 {
+        rest /= 10;
+        count += 1;
+    }
+    count
 }
 
-/// Returns the layout for labels and an edit. Returns `Err` if an allocation fails.
+/// Returns the layout for labels and an edit.
 // requires source { length picture.now.source.now < 2 ^ 59 }
 // requires small { label.now.extent.end.line < 2 ^ 59 }
 // requires small_second { IfSome second.now (λ l. l.extent.end.line < 2 ^ 59) }
 // requires small_edit { IfSome edit.now (λ e. e.extent.end.line < 2 ^ 59) }
-// ensures value { IfOk result (λ f. seen_frame f ≡ frame (seen_picture picture.now)
-//     (seen_label label.now) (option_map seen_label second.now) (option_map seen_edit edit.now)) }
-// ensures small_cut { IfOk result (λ f. f.cut < 2 ^ 62) }
+// ensures value { seen_frame result ≡ frame (seen_picture picture.now)
+//     (seen_label label.now) (option_map seen_label second.now) (option_map seen_edit edit.now) }
+// ensures small_cut { result.cut < 2 ^ 62 }
 #[inline]
 pub fn frame_for<'a>(
-    alloc: Global,
     picture: &'a Picture<'a>,
     label: &Label<'_>,
     second: &Option<Label<'_>>,
     edit: &Option<Edit<'_>>,
-) -> Result<Frame<'a>, AllocError> {
+) -> Frame<'a> {
     let last = label
         .extent
         .end
         .line
         .max(last_line(second).max(edit_line(edit)));
-    let gutter = digits(alloc, picture.line_start as usize + last)?;
+    let gutter = digits(picture.line_start as usize + last);
     let first = line_indent(picture, label.extent.start.line);
     let other = line_indent(picture, other_line(label, second));
-    Ok(Frame {
+    Frame {
         picture,
         gutter,
         cut: cut_of(least(first, other)),
-    })
+    }
 }
 
 /// Returns a label in the line in which it begins.

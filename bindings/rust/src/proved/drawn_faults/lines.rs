@@ -5,11 +5,11 @@
 // That source is proved, and each contract here is its. That this text means the same is tested:
 // by results from outside, and beside what is proved (.ci/bindings) and the original (tools/agree).
 
-use crate::proved::drawn_faults::glyphs::{put_glyphs, put_run};
-use crate::proved::drawn_faults::labels::Frame;
+use crate::proved::drawn_faults::glyphs::{draws_nothing, put_glyphs, put_run};
+use crate::proved::drawn_faults::labels::{digits, Frame};
 use crate::proved::drawn_faults::places::line;
 use crate::proved::drawn_faults::rows::{put_both, put_one, Mark};
-use crate::shim::alloc::{AllocError, Global};
+use crate::shim::alloc::AllocError;
 use crate::shim::prelude::*;
 
 /// Adds the number of a line of the source, at the right of its gutter.
@@ -17,16 +17,10 @@ use crate::shim::prelude::*;
 // ensures { OnOk result (string_bytes out.new ≡ string_bytes out.old
 //     ++ numbered (seen_frame frame.now) line) }
 #[inline]
-pub fn put_number(
-    alloc: Global,
-    out: &mut String,
-    frame: &Frame<'_>,
-    line: usize,
-) -> Result<(), AllocError> {
+pub fn put_number(out: &mut String, frame: &Frame<'_>, line: usize) -> Result<(), AllocError> {
     let number = frame.picture.line_start as usize + line;
-    let digits = crate::shim::format_in!( alloc; "{number}")?;
-    put_run(out, ' ', frame.gutter.saturating_sub(digits.len()))?;
-    out.try_push_str(digits.as_str())?;
+    put_run(out, ' ', frame.gutter.saturating_sub(digits(number)))?;
+    crate::shim::write_in!(out, "{number}")?;
     Ok(())
 }
 
@@ -45,14 +39,15 @@ fn put_shown(out: &mut String, text: &str, cut: usize) -> Result<(), AllocError>
     Ok(())
 }
 
-/// Adds what is behind a bar.
+/// Adds what is behind a bar: a line, and what is in front of it.
+// requires { cut < 2 ^ 62 }
 // ensures { OnOk result (string_bytes out.new
-//     ≡ string_bytes out.old ++ behind_bar front.now code.now) }
+//     ≡ string_bytes out.old ++ behind_bar front.now (shown cut (chars text.now))) }
 #[inline]
-fn put_behind_bar(out: &mut String, front: &str, code: &str) -> Result<(), AllocError> {
-    if !code.is_empty() {
+fn put_behind_bar(out: &mut String, front: &str, text: &str, cut: usize) -> Result<(), AllocError> {
+    if cut > 0 || !draws_nothing(text) {
         out.try_push_str(front)?;
-        out.try_push_str(code)?;
+        put_shown(out, text, cut)?;
     }
     Ok(())
 }
@@ -64,18 +59,15 @@ fn put_behind_bar(out: &mut String, front: &str, code: &str) -> Result<(), Alloc
 //     ++ source_row (seen_frame frame.now) bar.now front.now number) }
 #[inline]
 pub fn put_source(
-    alloc: Global,
     out: &mut String,
     frame: &Frame<'_>,
     bar: &str,
     front: &str,
     number: usize,
 ) -> Result<(), AllocError> {
-    let mut code = String::made_in(alloc);
-    put_shown(&mut code, line(frame.picture.source, number), frame.cut)?;
-    put_number(alloc, out, frame, number)?;
+    put_number(out, frame, number)?;
     out.try_push_str(bar)?;
-    put_behind_bar(out, front, code.as_str())?;
+    put_behind_bar(out, front, line(frame.picture.source, number), frame.cut)?;
     out.try_push_str("\n")?;
     Ok(())
 }
@@ -86,13 +78,8 @@ pub fn put_source(
 // ensures { OnOk result (string_bytes out.new ≡ string_bytes out.old
 //     ++ code_row (seen_frame frame.now) number) }
 #[inline]
-fn put_code(
-    alloc: Global,
-    out: &mut String,
-    frame: &Frame<'_>,
-    number: usize,
-) -> Result<(), AllocError> {
-    put_source(alloc, out, frame, " |", " ", number)?;
+fn put_code(out: &mut String, frame: &Frame<'_>, number: usize) -> Result<(), AllocError> {
+    put_source(out, frame, " |", " ", number)?;
     Ok(())
 }
 
@@ -103,12 +90,11 @@ fn put_code(
 //     ++ labelled (seen_frame frame.now) (seen_mark mark.now)) }
 #[inline]
 pub fn put_labelled(
-    alloc: Global,
     out: &mut String,
     frame: &Frame<'_>,
     mark: &Mark<'_>,
 ) -> Result<(), AllocError> {
-    put_code(alloc, out, frame, mark.line)?;
+    put_code(out, frame, mark.line)?;
     put_one(out, frame.gutter, mark)?;
     Ok(())
 }
@@ -120,14 +106,13 @@ pub fn put_labelled(
 //     ++ gap (seen_frame frame.now) first last) }
 #[inline]
 fn put_gap(
-    alloc: Global,
     out: &mut String,
     frame: &Frame<'_>,
     first: usize,
     last: usize,
 ) -> Result<(), AllocError> {
     if last == first + 2 {
-        put_code(alloc, out, frame, first + 1)?;
+        put_code(out, frame, first + 1)?;
     } else if last > first + 2 {
         out.try_push_str("...\n")?;
     }
@@ -142,15 +127,14 @@ fn put_gap(
 //     ++ apart (seen_frame frame.now) (seen_mark m.now) (seen_mark n.now)) }
 #[inline]
 fn put_apart(
-    alloc: Global,
     out: &mut String,
     frame: &Frame<'_>,
     m: &Mark<'_>,
     n: &Mark<'_>,
 ) -> Result<(), AllocError> {
-    put_labelled(alloc, out, frame, m)?;
-    put_gap(alloc, out, frame, m.line, n.line)?;
-    put_labelled(alloc, out, frame, n)?;
+    put_labelled(out, frame, m)?;
+    put_gap(out, frame, m.line, n.line)?;
+    put_labelled(out, frame, n)?;
     Ok(())
 }
 
@@ -162,19 +146,18 @@ fn put_apart(
 //     ++ two_labels (seen_frame frame.now) (seen_mark m.now) (seen_mark n.now)) }
 #[inline]
 pub fn put_two_labels(
-    alloc: Global,
     out: &mut String,
     frame: &Frame<'_>,
     m: &Mark<'_>,
     n: &Mark<'_>,
 ) -> Result<(), AllocError> {
     if m.line == n.line {
-        put_code(alloc, out, frame, m.line)?;
+        put_code(out, frame, m.line)?;
         put_both(out, frame.gutter, m, n)?;
     } else if m.line < n.line {
-        put_apart(alloc, out, frame, m, n)?;
+        put_apart(out, frame, m, n)?;
     } else {
-        put_apart(alloc, out, frame, n, m)?;
+        put_apart(out, frame, n, m)?;
     }
     Ok(())
 }

@@ -10,7 +10,7 @@ use crate::proved::drawn_faults::labels::{Frame, Label};
 use crate::proved::drawn_faults::lines::put_source;
 use crate::proved::drawn_faults::places::line;
 use crate::proved::drawn_faults::rows::put_gutter;
-use crate::shim::alloc::{AllocError, Global};
+use crate::shim::alloc::AllocError;
 use crate::shim::prelude::*;
 
 /// Returns whether a character is a bracket.
@@ -97,13 +97,8 @@ fn without_bare(frame: &Frame<'_>, first: usize, count: usize) -> usize {
 // ensures { OnOk result (string_bytes out.new ≡ string_bytes out.old
 //     ++ bar_row (seen_frame frame.now) number) }
 #[inline]
-fn put_bar_row(
-    alloc: Global,
-    out: &mut String,
-    frame: &Frame<'_>,
-    number: usize,
-) -> Result<(), AllocError> {
-    put_source(alloc, out, frame, " | |", " ", number)?;
+fn put_bar_row(out: &mut String, frame: &Frame<'_>, number: usize) -> Result<(), AllocError> {
+    put_source(out, frame, " | |", " ", number)?;
     Ok(())
 }
 
@@ -114,14 +109,13 @@ fn put_bar_row(
 //     ++ bar_rows (seen_frame frame.now) first count) }
 #[inline]
 fn put_bar_rows(
-    alloc: Global,
     out: &mut String,
     frame: &Frame<'_>,
     first: usize,
     count: usize,
 ) -> Result<(), AllocError> {
     for behind in 0..count {
-        put_bar_row(alloc, out, frame, first + behind + 1)?;
+        put_bar_row(out, frame, first + behind + 1)?;
     }
     Ok(())
 }
@@ -133,14 +127,13 @@ fn put_bar_rows(
 //     ++ bar_gap (seen_frame frame.now) first last) }
 #[inline]
 fn put_bar_gap(
-    alloc: Global,
     out: &mut String,
     frame: &Frame<'_>,
     first: usize,
     last: usize,
 ) -> Result<(), AllocError> {
     if last == first + 2 {
-        put_bar_row(alloc, out, frame, first + 1)?;
+        put_bar_row(out, frame, first + 1)?;
     } else if last > first + 2 {
         out.try_push_str("...")?;
         put_run(out, ' ', frame.gutter)?;
@@ -176,16 +169,15 @@ fn put_lead(
 //     ++ first_rows (seen_frame frame.now) (seen_label label.now)) }
 #[inline]
 fn put_first_rows(
-    alloc: Global,
     out: &mut String,
     frame: &Frame<'_>,
     label: &Label<'_>,
 ) -> Result<(), AllocError> {
     let start = label.extent.start;
     if start.is_indent {
-        put_source(alloc, out, frame, " | /", " ", start.line)?;
+        put_source(out, frame, " | /", " ", start.line)?;
     } else {
-        put_source(alloc, out, frame, " |", "   ", start.line)?;
+        put_source(out, frame, " |", "   ", start.line)?;
         let columns = start.column.saturating_sub(frame.cut) + 1;
         put_lead(out, frame.gutter, " ", columns, "^")?;
     }
@@ -210,14 +202,9 @@ fn put_end(out: &mut String, gutter: usize, columns: usize, text: &str) -> Resul
 // ensures { OnOk result (string_bytes out.new ≡ string_bytes out.old
 //     ++ last_rows (seen_frame frame.now) (seen_label label.now)) }
 #[inline]
-fn put_last_rows(
-    alloc: Global,
-    out: &mut String,
-    frame: &Frame<'_>,
-    label: &Label<'_>,
-) -> Result<(), AllocError> {
+fn put_last_rows(out: &mut String, frame: &Frame<'_>, label: &Label<'_>) -> Result<(), AllocError> {
     let end = label.extent.end;
-    put_bar_row(alloc, out, frame, end.line)?;
+    put_bar_row(out, frame, end.line)?;
     put_end(
         out,
         frame.gutter,
@@ -235,7 +222,6 @@ fn put_last_rows(
 //     ++ between (seen_frame frame.now) first last) }
 #[inline]
 fn put_between(
-    alloc: Global,
     out: &mut String,
     frame: &Frame<'_>,
     first: usize,
@@ -243,12 +229,12 @@ fn put_between(
 ) -> Result<(), AllocError> {
     let behind = last.saturating_sub(first).saturating_sub(1);
     let count = without_bare(frame, first, behind.min(3));
-    put_bar_rows(alloc, out, frame, first, count)?;
+    put_bar_rows(out, frame, first, count)?;
     if last > first + 5 && !is_bare_line(frame, last - 1) {
-        put_bar_gap(alloc, out, frame, first + count, last - 1)?;
-        put_bar_row(alloc, out, frame, last - 1)?;
+        put_bar_gap(out, frame, first + count, last - 1)?;
+        put_bar_row(out, frame, last - 1)?;
     } else {
-        put_bar_gap(alloc, out, frame, first + count, last)?;
+        put_bar_gap(out, frame, first + count, last)?;
     }
     Ok(())
 }
@@ -261,20 +247,9 @@ fn put_between(
 // ensures { OnOk result (string_bytes out.new ≡ string_bytes out.old
 //     ++ long_rows (seen_frame frame.now) (seen_label label.now)) }
 #[inline]
-pub fn put_long(
-    alloc: Global,
-    out: &mut String,
-    frame: &Frame<'_>,
-    label: &Label<'_>,
-) -> Result<(), AllocError> {
-    put_first_rows(alloc, out, frame, label)?;
-    put_between(
-        alloc,
-        out,
-        frame,
-        label.extent.start.line,
-        label.extent.end.line,
-    )?;
-    put_last_rows(alloc, out, frame, label)?;
+pub fn put_long(out: &mut String, frame: &Frame<'_>, label: &Label<'_>) -> Result<(), AllocError> {
+    put_first_rows(out, frame, label)?;
+    put_between(out, frame, label.extent.start.line, label.extent.end.line)?;
+    put_last_rows(out, frame, label)?;
     Ok(())
 }

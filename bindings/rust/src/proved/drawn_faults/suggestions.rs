@@ -10,7 +10,7 @@ use crate::proved::drawn_faults::labels::{Edit, Frame};
 use crate::proved::drawn_faults::lines::put_number;
 use crate::proved::drawn_faults::places::{behind_line, behind_lines, first_line, line};
 use crate::proved::drawn_faults::rows::put_blank;
-use crate::shim::alloc::{AllocError, Global};
+use crate::shim::alloc::AllocError;
 use crate::shim::prelude::*;
 
 /// Adds the row between two parts of the drawing.
@@ -37,13 +37,12 @@ fn put_help_title(out: &mut String, text: &str) -> Result<(), AllocError> {
 //     ++ old_row (seen_frame frame.now) number line.now) }
 #[inline]
 fn put_old(
-    alloc: Global,
     out: &mut String,
     frame: &Frame<'_>,
     number: usize,
     line: &str,
 ) -> Result<(), AllocError> {
-    put_number(alloc, out, frame, number)?;
+    put_number(out, frame, number)?;
     out.try_push_str(" - ")?;
     put_glyphs(out, line, 0)?;
     out.try_push_str("\n")?;
@@ -56,7 +55,6 @@ fn put_old(
 //     ++ old_rows (seen_frame frame.now) first count text.now) }
 #[inline]
 fn put_old_rows(
-    alloc: Global,
     out: &mut String,
     frame: &Frame<'_>,
     first: usize,
@@ -67,7 +65,7 @@ fn put_old_rows(
     let mut number = first;
     let mut left = count;
     while left > 0 {
-        put_old(alloc, out, frame, number, first_line(rest))?;
+        put_old(out, frame, number, first_line(rest))?;
         rest = behind_line(rest);
         number += 1;
         left -= 1;
@@ -96,15 +94,10 @@ fn put_edited(
 // ensures { OnOk result (string_bytes out.new ≡ string_bytes out.old
 //     ++ new_row (seen_frame frame.now) (seen_edit edit.now)) }
 #[inline]
-fn put_new(
-    alloc: Global,
-    out: &mut String,
-    frame: &Frame<'_>,
-    edit: &Edit<'_>,
-) -> Result<(), AllocError> {
+fn put_new(out: &mut String, frame: &Frame<'_>, edit: &Edit<'_>) -> Result<(), AllocError> {
     let first = line(frame.picture.source, edit.extent.start.line);
     let last = line(frame.picture.source, edit.extent.end.line);
-    put_number(alloc, out, frame, edit.extent.start.line)?;
+    put_number(out, frame, edit.extent.start.line)?;
     out.try_push_str(" + ")?;
     put_edited(out, edit, first, last)?;
     out.try_push_str("\n")?;
@@ -117,25 +110,19 @@ fn put_new(
 // ensures { OnOk result (string_bytes out.new ≡ string_bytes out.old
 //     ++ edit_rows (seen_frame frame.now) (seen_edit edit.now)) }
 #[inline]
-pub fn put_edit(
-    alloc: Global,
-    out: &mut String,
-    frame: &Frame<'_>,
-    edit: &Edit<'_>,
-) -> Result<(), AllocError> {
+pub fn put_edit(out: &mut String, frame: &Frame<'_>, edit: &Edit<'_>) -> Result<(), AllocError> {
     let first = edit.extent.start.line;
     let count = edit.extent.end.line.saturating_sub(first) + 1;
     put_help_title(out, edit.text)?;
     put_parting(out, frame)?;
     put_old_rows(
-        alloc,
         out,
         frame,
         first,
         count,
         behind_lines(frame.picture.source, first),
     )?;
-    put_new(alloc, out, frame, edit)?;
+    put_new(out, frame, edit)?;
     put_parting(out, frame)?;
     Ok(())
 }
