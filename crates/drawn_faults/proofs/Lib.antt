@@ -1,5 +1,6 @@
 pub mod GlyphLemmas
 mod PrintableLemmas
+pub mod RowLemmas
 pub mod EditLaws
 pub mod FixLaws
 pub mod CallFaults

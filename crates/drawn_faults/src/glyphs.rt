@@ -94,10 +94,42 @@ pub fn draws_nothing(text: &str) -> bool
     true
 }
 
+/// Returns 64 spaces.
+fn row_of_spaces() -> &'static str
+    ensures { result.now ≡ run 64 32 }
+{
+    "                                                                "
+}
+
+/// Returns so many spaces.
+fn spaces(count: usize) -> &'static str
+    requires { count ≤ 64 }
+    ensures { result.now ≡ run count 32 }
+{
+    let row = row_of_spaces();
+    &row[..count]
+}
+
+/// Adds spaces.
+fn put_spaces(out: &mut String, count: usize) -> Result<(), AllocError>
+    ensures { OnOk result (string_bytes out.new ≡ string_bytes out.old ++ run count 32) }
+{
+    let mut left = count;
+    while left > 0 {
+        let piece = left.min(64);
+        out.push_str(spaces(piece))?;
+        left -= piece;
+    }
+    Ok(())
+}
+
 /// Adds a character again and again.
 pub fn put_run(out: &mut String, c: char, count: usize) -> Result<(), AllocError>
     ensures { OnOk result (string_bytes out.new ≡ string_bytes out.old ++ run count c) }
 {
+    if c == ' ' {
+        return Ok(put_spaces(out, count)?);
+    }
     for _ in 0..count {
         out.push(c)?;
     }

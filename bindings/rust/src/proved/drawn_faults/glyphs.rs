@@ -90,10 +90,42 @@ pub fn draws_nothing(text: &str) -> bool {
     true
 }
 
+/// Returns 64 spaces.
+// ensures { result.now ≡ run 64 32 }
+#[inline]
+fn row_of_spaces() -> &'static str {
+    "                                                                "
+}
+
+/// Returns so many spaces.
+// requires { count ≤ 64 }
+// ensures { result.now ≡ run count 32 }
+#[inline]
+fn spaces(count: usize) -> &'static str {
+    let row = row_of_spaces();
+    &row[..count]
+}
+
+/// Adds spaces.
+// ensures { OnOk result (string_bytes out.new ≡ string_bytes out.old ++ run count 32) }
+#[inline]
+fn put_spaces(out: &mut String, count: usize) -> Result<(), AllocError> {
+    let mut left = count;
+    while left > 0 {
+        let piece = left.min(64);
+        out.try_push_str(spaces(piece))?;
+        left -= piece;
+    }
+    Ok(())
+}
+
 /// Adds a character again and again.
 // ensures { OnOk result (string_bytes out.new ≡ string_bytes out.old ++ run count c) }
 #[inline]
 pub fn put_run(out: &mut String, c: char, count: usize) -> Result<(), AllocError> {
+    if c == ' ' {
+        return Ok(put_spaces(out, count)?);
+    }
     for _ in 0..count {
         out.try_push(c)?;
     }

@@ -47,7 +47,9 @@ fn put_signs(
     n: &Mark<'_>,
     columns: usize,
 ) -> Result<(), AllocError> {
-    for column in 0..columns {
+    let lead = m.from.min(n.from).min(columns);
+    put_run(out, ' ', lead)?;
+    for column in lead..columns {
         out.try_push(sign_at(m, n, column))?;
     }
     Ok(())
@@ -57,9 +59,12 @@ fn put_signs(
 // ensures { OnOk result (string_bytes out.new ≡ string_bytes out.old ++ bars at columns) }
 #[inline]
 fn put_bars(out: &mut String, at: usize, columns: usize) -> Result<(), AllocError> {
-    for column in 0..columns {
-        out.try_push(if column == at { '|' } else { ' ' })?;
+    if columns <= at {
+        return Ok(put_run(out, ' ', columns)?);
     }
+    put_run(out, ' ', at)?;
+    out.try_push_str("|")?;
+    put_run(out, ' ', columns - at - 1)?;
     Ok(())
 }
 

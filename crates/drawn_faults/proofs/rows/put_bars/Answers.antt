@@ -1,9 +1,18 @@
-use Rattle.std.proofs.Common.{arith}
-use Rattle.std.proofs.lemmas.Grind.{common_steps}
-use Rattle.drawn_faults.specs.Rows.{bars, bar_at}
-use Rattle.drawn_faults.proofs.GlyphLemmas.{columns-more}
+use Rattle.std.proofs.Common.{◌-◌, arith, string_bytes}
+use Rattle.drawn_faults.specs.Glyphs.{run}
+use Rattle.drawn_faults.specs.Rows.{bars}
+use Rattle.drawn_faults.proofs.RowLemmas.{bar-between, one-bar}
 use Rattle.drawn_faults.proofs.rows.put_bars.Goals as goal
 
-pub loop-column-preserved : goal.loop-column-preserved
+pub returns : goal.returns
 unfolding bars
-loop-column-preserved c = grind (arith, common_steps, columns-more (bar_at c.args.at))
+returns c =
+    let bar = one-bar c.args.at c.args.columns (omega arith) in
+    rw (
+      c.in_ok-put_run-3.ensures,
+      c.in_ok-push_str.ensures.bytes,
+      c.in_ok-put_run-2.ensures,
+      bar,
+    )
+    (bar-between (string_bytes c.args.out.now) (run c.args.at 32)
+    (run (c.args.columns - c.args.at - 1) 32))

@@ -1,7 +1,0 @@
-use Rattle.std.proofs.Common.{◌≡◌, ◌++◌, string_bytes}
-use Rattle.drawn_faults.specs.Rows.{bars}
-use Rattle.drawn_faults.proofs.rows.put_bars.Given as goal
-
--- The columns so far have been added.
-abbrev pub invariant-loop-column : goal.invariant-loop-column
-invariant-loop-column l = string_bytes l.out ≡ string_bytes l.fn.out ++ bars l.at l.column
