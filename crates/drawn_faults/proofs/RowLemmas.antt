@@ -66,7 +66,9 @@ columns-run f c (suc n) each =
 
 columns-more : (f : ℕ → ℕ) (c m n : ℕ) → ((k : ℕ) → k < n → f (m + k) ≡ c)
     → columns f (m + n) ≡ columns f m ++ replicate n c
-columns-more f c m zero each = let a : m + 0 ≡ m = omega arith in rw a (sym (append-nil (columns f m)))
+columns-more f c m zero each =
+    let a : m + 0 ≡ m = omega arith in
+    rw a (sym (append-nil (columns f m)))
 columns-more f c m (suc n) each =
     let a : m + suc n ≡ suc (m + n) = omega arith in
     rw a (ap (λ x. columns f (m + n) ++ x ∷ []) (each n (omega arith))
@@ -86,7 +88,8 @@ on-bar at = grind (arith, nat_tests)
 -- no bar is in the first columns,
 pub no-bar : (at n : ℕ) → n ≤ at → encode_utf8_all (columns (bar_at at) n) ≡ run n 32
 no-bar at n l =
-    ap encode_utf8_all (columns-run (bar_at at) 32 n (λ k m. other-column at k (omega (arith, l, m))))
+    ap encode_utf8_all
+    (columns-run (bar_at at) 32 n (λ k m. other-column at k (omega (arith, l, m))))
 
 -- and behind them there is one, and more spaces.
 pub one-bar : (at n : ℕ) → at < n
@@ -121,5 +124,6 @@ no-sign m n c l p =
 -- what `put_signs` needs
 pub ruleset no_signs = (no-sign)
 
+-- what is before the bar, the bar, and what is behind it
 pub bar-between : (o a r : List ℕ) → ((o ++ a) ++ (124 ∷ [])) ++ r ≡ o ++ (a ++ (124 ∷ r))
 bar-between o a r = append_assoc (o ++ a) (124 ∷ []) r ∙ append_assoc o a (124 ∷ r)

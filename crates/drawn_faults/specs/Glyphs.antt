@@ -1,7 +1,7 @@
 -- How characters are drawn in a terminal, and how many columns they take. The rules are those of
 -- rustc 1.95, but for the widths, which are those of the crate `unicode_width`.
 use Rattle.std.specs.Prelude.{ℕ, ◌+◌, Bool, false, ◌&&◌, ◌||◌, ◌==◌, if◌then◌else◌}
-use Rattle.std.specs.Prelude.{nat_lt, List, [], ◌∷◌, Option, Some, None, unwrap_or}
+use Rattle.std.specs.Prelude.{nat_le, nat_lt, not, List, [], ◌∷◌, Option, Some, None, unwrap_or}
 use Rattle.std.specs.Prelude.{replicate, flat_map}
 use Rattle.std.specs.Int.{is_in_range}
 use Rattle.std.specs.Char.{is_whitespace}
@@ -45,9 +45,14 @@ indent n [] = None
 indent n (c ∷ t) =
     if is_whitespace c then indent (n + (if c == 9 then 4 else 1)) t else Some n
 
+-- The byte is at most `high`, and one of a character that is drawn as it is: no control character
+-- of ASCII, and not the first byte of the characters from U+2000 to U+2FFF.
+abbrev pub is_plain : ℕ → ℕ → Bool
+is_plain high b = (nat_lt 31 b && nat_le b high) && not (b == 127 || b == 226)
+
 -- The character is a printable one of ASCII.
 abbrev pub is_printable : ℕ → Bool
-is_printable c = nat_lt 31 c && nat_lt c 127
+is_printable = is_plain 126
 
 -- A character again and again, as bytes.
 abbrev pub run : ℕ → ℕ → List ℕ

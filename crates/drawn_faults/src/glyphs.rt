@@ -6,7 +6,7 @@ ghost use Rattle.std.specs.Prelude.{◌*◌, ◌==◌, length, take};
 ghost use Rattle.std.specs.Prelude.{IfOk, IfSome, MatchOption, OnOk, encode_utf8_all, string_bytes};
 ghost use Rattle.drawn_faults.specs.Glyphs.{glyph, glyph_count, glyphs, indent, run, width};
 
-use crate::printable::split_printable;
+use crate::printable::{split_plain, split_printable};
 use std::alloc::AllocError;
 use unicode_width::UnicodeWidthChar;
 
@@ -147,9 +147,9 @@ pub fn put_texts(out: &mut String, a: &str, b: &str, c: &str) -> Result<(), Allo
     Ok(())
 }
 
-/// Adds the longest prefix of a text that is printable, as it is, without its first `skipped`
-/// characters. Returns what is after the prefix, and how many characters are still to skip.
-fn put_printable<'a>(
+/// Adds a prefix of a text that is drawn as it is, without its first `skipped` characters. Returns
+/// what is after the prefix, and how many characters are still to skip.
+fn put_plain<'a>(
     out: &mut String,
     text: &'a str,
     skipped: usize,
@@ -159,6 +159,11 @@ fn put_printable<'a>(
         ≡ string_bytes out.old ++ encode_utf8_all (drop skipped (glyphs (chars text.now)))) }
     ensures short { IfOk result (λ x. length x.0.now ≤ length text.now) }
 {
+    if skipped == 0 {
+        let (front, rest) = split_plain(text);
+        out.push_str(front)?;
+        return Ok((rest, 0));
+    }
     let (front, rest) = split_printable(text, text.len());
     let skip = skipped.min(front.len());
     out.push_str(&front[skip..])?;
@@ -175,7 +180,7 @@ pub fn put_glyphs(out: &mut String, text: &str, skipped: usize) -> Result<(), Al
     while let Some((c, tail)) = split_first(rest) {
         let count = glyph_count(c);
         put_run(out, glyph(c), count.saturating_sub(skip))?;
-        let (behind, fewer) = put_printable(out, tail, skip.saturating_sub(count))?;
+        let (behind, fewer) = put_plain(out, tail, skip.saturating_sub(count))?;
         rest = behind;
         skip = fewer;
     }

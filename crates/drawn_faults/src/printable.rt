@@ -1,11 +1,12 @@
-//! Prefixes of printable ASCII characters, found sixteen bytes at a time. Such a character is drawn
-//! as it is, and takes one column.
+//! Prefixes of characters that are drawn as they are, found sixteen bytes at a time. Of these, the
+//! printable ones of ASCII take one column.
 
 ghost use Rattle.std.specs.Int.{bit_at};
 ghost use Rattle.std.specs.List.{list_all};
 ghost use Rattle.std.specs.Prelude.{◌≡◌, ◌+◌, ◌++◌, ◌<◌, ◌≤◌, ℕ, chars, length, slice_index, take};
+ghost use Rattle.std.specs.Prelude.{encode_utf8_all};
 ghost use Rattle.std.specs.Prelude.{true};
-ghost use Rattle.drawn_faults.specs.Glyphs.{is_printable};
+ghost use Rattle.drawn_faults.specs.Glyphs.{glyphs, is_plain, is_printable};
 
 use std::simd::prelude::*;
 
@@ -26,56 +27,60 @@ fn clear_lanes(bits: u64) -> usize
     clear_bits(bits | 65536)
 }
 
-/// Returns the number of lanes before the first one that is not printable, or 16 if there is none.
+/// Returns the number of lanes before the first one that is not plain, or 16 if there is none.
 #[inline(always)]
-fn printable_lanes(lanes: u8x16) -> usize
+fn plain_lanes(lanes: u8x16, high: u8) -> usize
     ensures within { result ≤ 16 }
-    ensures pass { (k : ℕ) → k < result → is_printable (slice_index lanes k) ≡ true }
+    ensures pass { (k : ℕ) → k < result → is_plain high (slice_index lanes k) ≡ true }
 {
-    let found = lanes.simd_lt(u8x16::splat(b' ')) | u8x16::splat(b'~').simd_lt(lanes);
+    let found = lanes.simd_lt(u8x16::splat(b' '))
+        | u8x16::splat(high).simd_lt(lanes)
+        | lanes.simd_eq(u8x16::splat(127))
+        | lanes.simd_eq(u8x16::splat(226));
     clear_lanes(found.to_bitmask())
 }
 
-/// Returns whether a byte is a printable ASCII character.
+/// Returns whether a byte is at most `high`, and one of a character that is drawn as it is: no
+/// control character, and not the first byte of the characters from U+2000 to U+2FFF.
 #[inline(always)]
-fn is_printable(byte: u8) -> bool
-    ensures { result ≡ is_printable byte }
+fn is_plain(byte: u8, high: u8) -> bool
+    ensures { result ≡ is_plain high byte }
 {
-    b' ' <= byte && byte <= b'~'
+    b' ' <= byte && byte <= high && byte != 127 && byte != 226
 }
 
-/// Returns the length of the longest prefix of fewer than sixteen bytes that is printable.
-fn short_front(bytes: &[u8]) -> usize
+/// Returns the length of the longest prefix of fewer than sixteen bytes that is plain.
+fn short_front(bytes: &[u8], high: u8) -> usize
     ensures within { result ≤ length bytes.now }
-    ensures pass { list_all is_printable (take result bytes.now) ≡ true }
+    ensures pass { list_all (is_plain high) (take result bytes.now) ≡ true }
 {
     for at in 0..bytes.len() {
-        if !is_printable(bytes[at]) {
+        if !is_plain(bytes[at], high) {
             return at;
         }
     }
     bytes.len()
 }
 
-/// Returns the length of the longest prefix that is printable. The last block ends where the bytes
-/// end, so it may overlap the one before it.
-fn printable_front(bytes: &[u8]) -> usize
+/// Returns the length of the longest prefix that is plain. The last block ends where the bytes end,
+/// so it may overlap the one before it.
+fn plain_front(bytes: &[u8], high: u8) -> usize
     ensures within { result ≤ length bytes.now }
-    ensures pass { list_all is_printable (take result bytes.now) ≡ true }
+    ensures pass { list_all (is_plain high) (take result bytes.now) ≡ true }
 {
     if bytes.len() < 16 {
-        return short_front(bytes);
+        return short_front(bytes, high);
     }
     let last = bytes.len() - 16;
     let mut at = 0;
     while at < last {
-        let run = printable_lanes(u8x16::from_slice(&bytes[at..]));
+        let run = plain_lanes(u8x16::from_slice(&bytes[at..]), high);
         if run < 16 {
             return at + run;
         }
         at += 16;
     }
-    last + printable_lanes(u8x16::from_slice(&bytes[last..]))
+    last + plain_lanes(u8x16::from_slice(&bytes[last..]), high)
 }
 
 /// Returns the longest prefix of at most `most` characters that are printable, and what is after
@@ -87,6 +92,16 @@ pub fn split_printable(text: &str, most: usize) -> (&str, &str)
     ensures lengths { length result.0.now + length result.1.now ≡ length text.now }
 {
     let bytes = text.as_bytes();
-    let width = printable_front(&bytes[..bytes.len().min(most)]);
+    let width = plain_front(&bytes[..bytes.len().min(most)], b'~');
+    text.split_at(width)
+}
+
+/// Returns a prefix of a text that is drawn as it is, and what is after it.
+pub fn split_plain(text: &str) -> (&str, &str)
+    ensures drawn { encode_utf8_all (glyphs (chars text.now))
+        ≡ result.0.now ++ encode_utf8_all (glyphs (chars result.1.now)) }
+    ensures shorter { length result.1.now ≤ length text.now }
+{
+    let width = text.floor_char_boundary(plain_front(text.as_bytes(), 255));
     text.split_at(width)
 }

@@ -1,10 +1,11 @@
-//! Prefixes of printable ASCII characters, found sixteen bytes at a time. Such a character is drawn
-//! as it is, and takes one column.
+//! Prefixes of characters that are drawn as they are, found sixteen bytes at a time. Of these, the
+//! printable ones of ASCII take one column.
 
 // Extracted from crates/drawn_faults/src/printable.rt by tools/extract: not to be edited.
 // That source is proved, and each contract here is its. That this text means the same is tested:
 // by results from outside, and beside what is proved (.ci/bindings) and the original (tools/agree).
 
+use crate::shim::prelude::*;
 use crate::shim::simd::*;
 
 /// Returns the number of bits below the lowest one that is set, or 64 if there is none.
@@ -22,54 +23,58 @@ fn clear_lanes(bits: u64) -> usize {
     clear_bits(bits | 65536)
 }
 
-/// Returns the number of lanes before the first one that is not printable, or 16 if there is none.
+/// Returns the number of lanes before the first one that is not plain, or 16 if there is none.
 // ensures within { result ≤ 16 }
-// ensures pass { (k : ℕ) → k < result → is_printable (slice_index lanes k) ≡ true }
+// ensures pass { (k : ℕ) → k < result → is_plain high (slice_index lanes k) ≡ true }
 #[inline(always)]
-fn printable_lanes(lanes: u8x16) -> usize {
-    let found = lanes.simd_lt(u8x16::splat(b' ')) | u8x16::splat(b'~').simd_lt(lanes);
+fn plain_lanes(lanes: u8x16, high: u8) -> usize {
+    let found = lanes.simd_lt(u8x16::splat(b' '))
+        | u8x16::splat(high).simd_lt(lanes)
+        | lanes.simd_eq(u8x16::splat(127))
+        | lanes.simd_eq(u8x16::splat(226));
     clear_lanes(found.to_bitmask())
 }
 
-/// Returns whether a byte is a printable ASCII character.
-// ensures { result ≡ is_printable byte }
+/// Returns whether a byte is at most `high`, and one of a character that is drawn as it is: no
+/// control character, and not the first byte of the characters from U+2000 to U+2FFF.
+// ensures { result ≡ is_plain high byte }
 #[inline(always)]
-fn is_printable(byte: u8) -> bool {
-    b' ' <= byte && byte <= b'~'
+fn is_plain(byte: u8, high: u8) -> bool {
+    b' ' <= byte && byte <= high && byte != 127 && byte != 226
 }
 
-/// Returns the length of the longest prefix of fewer than sixteen bytes that is printable.
+/// Returns the length of the longest prefix of fewer than sixteen bytes that is plain.
 // ensures within { result ≤ length bytes.now }
-// ensures pass { list_all is_printable (take result bytes.now) ≡ true }
+// ensures pass { list_all (is_plain high) (take result bytes.now) ≡ true }
 #[inline]
-fn short_front(bytes: &[u8]) -> usize {
+fn short_front(bytes: &[u8], high: u8) -> usize {
     for at in 0..bytes.len() {
-        if !is_printable(bytes[at]) {
+        if !is_plain(bytes[at], high) {
             return at;
         }
     }
     bytes.len()
 }
 
-/// Returns the length of the longest prefix that is printable. The last block ends where the bytes
-/// end, so it may overlap the one before it.
+/// Returns the length of the longest prefix that is plain. The last block ends where the bytes end,
+/// so it may overlap the one before it.
 // ensures within { result ≤ length bytes.now }
-// ensures pass { list_all is_printable (take result bytes.now) ≡ true }
+// ensures pass { list_all (is_plain high) (take result bytes.now) ≡ true }
 #[inline]
-fn printable_front(bytes: &[u8]) -> usize {
+fn plain_front(bytes: &[u8], high: u8) -> usize {
     if bytes.len() < 16 {
-        return short_front(bytes);
+        return short_front(bytes, high);
     }
     let last = bytes.len() - 16;
     let mut at = 0;
     while at < last {
-        let run = printable_lanes(u8x16::from_slice(&bytes[at..]));
+        let run = plain_lanes(u8x16::from_slice(&bytes[at..]), high);
         if run < 16 {
             return at + run;
         }
         at += 16;
     }
-    last + printable_lanes(u8x16::from_slice(&bytes[last..]))
+    last + plain_lanes(u8x16::from_slice(&bytes[last..]), high)
 }
 
 /// Returns the longest prefix of at most `most` characters that are printable, and what is after
@@ -81,6 +86,16 @@ fn printable_front(bytes: &[u8]) -> usize {
 #[inline]
 pub fn split_printable(text: &str, most: usize) -> (&str, &str) {
     let bytes = text.as_bytes();
-    let width = printable_front(&bytes[..bytes.len().min(most)]);
+    let width = plain_front(&bytes[..bytes.len().min(most)], b'~');
+    text.split_at(width)
+}
+
+/// Returns a prefix of a text that is drawn as it is, and what is after it.
+// ensures drawn { encode_utf8_all (glyphs (chars text.now))
+//     ≡ result.0.now ++ encode_utf8_all (glyphs (chars result.1.now)) }
+// ensures shorter { length result.1.now ≤ length text.now }
+#[inline]
+pub fn split_plain(text: &str) -> (&str, &str) {
+    let width = text.boundary_at_most(plain_front(text.as_bytes(), 255));
     text.split_at(width)
 }

@@ -1,8 +1,0 @@
-use Rattle.std.proofs.Common.{arith}
-use Rattle.drawn_faults.proofs.PrintableLemmas.{lane-printable}
-use Rattle.drawn_faults.proofs.printable.printable_lanes.Goals as goal
-
-pub returns-clause-pass : goal.returns-clause-pass
-returns-clause-pass c k l =
-    let few = c.clear_lanes.ensures.within in
-    lane-printable c.args.lanes k c.fits-lanes.0 (omega arith) (c.clear_lanes.ensures.clear k l)
