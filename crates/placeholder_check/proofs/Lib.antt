@@ -1,6 +1,9 @@
 mod Numbers
 mod Firsts
-mod Noting
+mod Marked
+mod Naming
+pub mod Noting
+mod Lacked
 mod Reports
 pub mod Unique
 pub mod Deciding

@@ -1,29 +1,29 @@
 -- A report consists of its four lists.
-use Rattle.std.proofs.Common.{◌≡◌, ℕ, ◌<◌, ◌≤◌, Bool, true, false, nat_le, List, [], ◌∷◌, map, refl}
+use Rattle.std.proofs.Common.{◌≡◌, ℕ, ◌<◌, ◌≤◌, Bool, true, false, not, List, [], ◌∷◌, map, refl}
 use denote.Ref.{Bor}
 use Rattle.std.specs.Bool.{Decides}
-use Rattle.std.specs.BTreeSet.{IsOrdered, contains}
 use Rattle.std.specs.List.{Contains, filter}
-use Rattle.std.specs.Ordering.{nat_cmp}
 use Rattle.std.proofs.lemmas.Bool.Decides.{Decides-at, not_from_Decides}
+use Rattle.placeholder_check.specs.declared.names.Names.{Names}
 use Rattle.placeholder_check.specs.declared.uses.Uses.{Uses}
 use Rattle.rustc_parse_format.specs.Types.{Count, Is, Name, Param, Star, Implied, Piece, Lit}
 use Rattle.rustc_parse_format.specs.Types.{NextArgument, bare, bare_count}
-use Rattle.placeholder_check.specs.Uses.{Use, ByIndex, count_uses, uses}
-use Rattle.placeholder_check.specs.Entries.{AreFirsts, Lists}
+use Rattle.placeholder_check.specs.Uses.{Use, ByIndex, count_uses, used_names, uses}
+use Rattle.placeholder_check.specs.Entries.{Lists}
 use Rattle.placeholder_check.specs.Report.{IsReport}
-use Rattle.placeholder_check.specs.Noted.{Holds}
+use Rattle.placeholder_check.specs.Noted.{Follows, Holds, is_known, is_noted}
 use Rattle.placeholder_check.specs.Seen.{texts}
-use Rattle.placeholder_check.proofs.Numbers.{Lists-from, Lists-same}
+use Rattle.placeholder_check.proofs.Numbers.{Lists-same}
+use Rattle.placeholder_check.proofs.Lacked.{AreFirsts-lacked}
 use Rattle.placeholder_check.proofs.Noting.{has_index-Decides}
 
-pub reported : (us : List Use) (u : Uses) (positional : ℕ)
+pub reported : (us : List Use) (u : Uses) (given : Names) (positional : ℕ)
     (names missing_name unused_name : List (Bor (List ℕ))) (missing_index unused_index : List ℕ) →
-    Holds us u → IsOrdered nat_cmp u.indices →
-    missing_index ≡ filter (λ n. nat_le positional n) u.indices.keys →
-    Lists (λ n. (n < positional) × (contains nat_cmp u.indices n ≡ false)) unused_index →
-    AreFirsts (texts u.names.items) (texts names) (texts missing_name) →
-    AreFirsts (texts names) (texts u.names.items) (texts unused_name) →
+    Holds us u → Follows (texts names) given →
+    Lists (λ n. (positional ≤ n) × (is_noted u.indices n ≡ true)) missing_index →
+    Lists (λ n. (n < positional) × (is_noted u.indices n ≡ false)) unused_index →
+    texts missing_name ≡ filter (λ t. not (is_known given t)) (texts u.names.list.items) →
+    texts unused_name ≡ filter (λ t. not (is_known u.names t)) (texts given.list.items) →
     IsReport us positional (texts names)
     (record {
       missing_index = missing_index;
@@ -31,21 +31,22 @@ pub reported : (us : List Use) (u : Uses) (positional : ℕ)
       unused_index = unused_index;
       unused_name = texts unused_name;
     })
-reported us u positional names missing_name unused_name missing_index unused_index held ordered kept
-    lacked missing unused =
-    let used : (n : ℕ) → Decides (contains nat_cmp u.indices n) (Contains us (ByIndex n)) =
+reported us u given positional names missing_name unused_name missing_index unused_index held
+    follows kept lacked missing unused =
+    let used : (n : ℕ) → Decides (is_noted u.indices n) (Contains us (ByIndex n)) =
     λ n. Decides-at _ _ (held.indices n) (has_index-Decides n us) in
     record {
-      missing_index = rw kept (Lists-same _ (λ n. (positional ≤ n) × Contains us (ByIndex n)) _
-          (λ n. (λ h. (h.0, (used n).0 h.1), λ h. (h.0, (used n).1 h.1)))
-          (Lists-from u.indices positional ordered));
+      missing_index = Lists-same _ (λ n. (positional ≤ n) × Contains us (ByIndex n)) _
+          (λ n. (λ h. (h.0, (used n).0 h.1), λ h. (h.0, (used n).1 h.1))) kept;
       unused_index = Lists-same _ (λ n. (n < positional) × (¬ Contains us (ByIndex n))) _
           (λ n. (
             λ h. (h.0, not_from_Decides _ (used n) h.1),
             λ h. (h.0, false_from _ (used n) h.1),
           )) lacked;
-      missing_name = rw (← held.names) missing;
-      unused_name = rw (← held.names) unused;
+      missing_name = rw missing (AreFirsts-lacked (is_known given) (texts names) follows.same
+          (used_names us) (texts u.names.list.items) held.names.firsts);
+      unused_name = rw unused (AreFirsts-lacked (is_known u.names) (used_names us) held.names.same
+          (texts names) (texts given.list.items) follows.firsts);
     }
   where
     false_from : {P : Type 0} (r : Bool) → Decides r P → (¬ P) → r ≡ false

@@ -6,7 +6,8 @@ ghost use Rattle.placeholder_check.specs.Uses.{uses};
 ghost use Rattle.placeholder_check.specs.Report.{IsReport, Report as ReportOf};
 ghost use Rattle.placeholder_check.specs.Seen.{seen_report, texts};
 
-use crate::entries::{lacked_below, lacked_by, members_from};
+use crate::indices::{lacked_below, members_from};
+use crate::names::{lacked_by, names_of};
 use crate::uses::uses_of;
 use rustc_parse_format::Piece;
 use std::alloc::{AllocError, Global};
@@ -47,11 +48,12 @@ pub fn check<'a>(
 {
     let used = uses_of(alloc, pieces)?;
     let missing_index = members_from(alloc, &used.indices, positional)?;
-    let used_below = used.indices.len().saturating_sub(missing_index.len());
+    let used_below = used.indices.count.saturating_sub(missing_index.len());
     let room = positional.saturating_sub(used_below);
     let unused_index = lacked_below(alloc, &used.indices, positional, room)?;
-    let missing_name = lacked_by(alloc, &used.names, names)?;
-    let unused_name = lacked_by(alloc, names, &used.names)?;
+    let given = names_of(alloc, names)?;
+    let missing_name = lacked_by(alloc, &used.names.list, &given)?;
+    let unused_name = lacked_by(alloc, &given.list, &used.names)?;
     Ok(Report {
         missing_index,
         missing_name,

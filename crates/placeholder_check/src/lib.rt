@@ -3,8 +3,9 @@
 #![tactic(auto)]
 
 mod checker;
-mod entries;
+mod indices;
 pub mod laws;
+mod names;
 mod reading;
 mod uses;
 

@@ -6,24 +6,25 @@ ghost use Rattle.placeholder_check.specs.Uses.{ByIndex, ByName, argument_uses, c
 ghost use Rattle.placeholder_check.specs.Uses.{piece_uses, position_use, uses};
 ghost use Rattle.placeholder_check.specs.Noted.{Adds, Holds};
 
+use crate::indices::{Indices, insert_index, no_indices};
+use crate::names::{Names, insert_name, no_names};
 use rustc_parse_format::{Argument, Count, Piece, Position};
 use std::alloc::{AllocError, Global};
-use std::collections::BTreeSet;
 
 /// The arguments that pieces use.
 #[derive(Drop)]
 pub struct Uses<'a> {
     /// The indices that are used.
-    pub indices: BTreeSet<usize>,
-    /// The name of each use by name, in order.
-    pub names: Vec<&'a str>,
+    pub indices: Indices,
+    /// The names that are used.
+    pub names: Names<'a>,
 }
 
 /// Adds a use of an index. Returns `Err` if an allocation fails.
 fn add_index(uses: &mut Uses<'_>, index: usize) -> Result<(), AllocError>
     ensures { OnOk result (Adds (ByIndex index ∷ []) uses.old uses.new) }
 {
-    uses.indices.insert(index)?;
+    insert_index(&mut uses.indices, index)?;
     Ok(())
 }
 
@@ -31,7 +32,7 @@ fn add_index(uses: &mut Uses<'_>, index: usize) -> Result<(), AllocError>
 fn add_name<'a>(uses: &mut Uses<'a>, name: &'a str) -> Result<(), AllocError>
     ensures { OnOk result (Adds (ByName (chars name.now) ∷ []) uses.old uses.new) }
 {
-    uses.names.push(name)?;
+    insert_name(&mut uses.names, name)?;
     Ok(())
 }
 
@@ -60,6 +61,7 @@ fn add_count<'a>(uses: &mut Uses<'a>, count: &Count<'a>) -> Result<(), AllocErro
 
 /// Adds the arguments that a placeholder uses: by its position, its width and its precision, in
 /// this order. Returns `Err` if an allocation fails.
+#[tactic(auto, using(crate::proofs::Noting::adding))]
 fn add_argument<'a>(uses: &mut Uses<'a>, argument: &Argument<'a>) -> Result<(), AllocError>
     ensures { OnOk result (Adds (argument_uses (seen_argument argument.now)) uses.old uses.new) }
 {
@@ -83,11 +85,12 @@ fn add_piece<'a>(uses: &mut Uses<'a>, piece: &Piece<'a>) -> Result<(), AllocErro
 pub fn uses_of<'a>(alloc: Global, pieces: &[Piece<'a>]) -> Result<Uses<'a>, AllocError>
     ensures uses { IfOk result (λ u. Holds (uses (map seen pieces.now)) u) }
     ensures empty { pieces.now ≡ []
-        → IfOk result (λ u. (u.indices.keys ≡ []) × (u.names.items ≡ [])) × IsOk result }
+        → IfOk result (λ u. (u.indices.marks.items ≡ []) × (u.indices.others.keys ≡ [])
+        × (u.indices.count ≡ 0) × (u.names.list.items ≡ [])) × IsOk result }
 {
     let mut uses = Uses {
-        indices: BTreeSet::new(alloc),
-        names: Vec::new(alloc),
+        indices: no_indices(alloc),
+        names: no_names(alloc),
     };
     for piece in pieces {
         add_piece(&mut uses, piece)?;

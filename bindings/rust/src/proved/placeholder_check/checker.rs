@@ -4,7 +4,8 @@
 // That source is proved, and each contract here is its. That this text means the same is tested:
 // by results from outside, and beside what is proved (.ci/bindings) and the original (tools/agree).
 
-use crate::proved::placeholder_check::entries::{lacked_below, lacked_by, members_from};
+use crate::proved::placeholder_check::indices::{lacked_below, members_from};
+use crate::proved::placeholder_check::names::{lacked_by, names_of};
 use crate::proved::placeholder_check::uses::uses_of;
 use crate::proved::rustc_parse_format::Piece;
 use crate::shim::alloc::{AllocError, Global};
@@ -44,11 +45,12 @@ pub fn check<'a>(
 ) -> Result<Report<'a>, AllocError> {
     let used = uses_of(alloc, pieces)?;
     let missing_index = members_from(alloc, &used.indices, positional)?;
-    let used_below = used.indices.len().saturating_sub(missing_index.len());
+    let used_below = used.indices.count.saturating_sub(missing_index.len());
     let room = positional.saturating_sub(used_below);
     let unused_index = lacked_below(alloc, &used.indices, positional, room)?;
-    let missing_name = lacked_by(alloc, &used.names, names)?;
-    let unused_name = lacked_by(alloc, names, &used.names)?;
+    let given = names_of(alloc, names)?;
+    let missing_name = lacked_by(alloc, &used.names.list, &given)?;
+    let unused_name = lacked_by(alloc, &given.list, &used.names)?;
     Ok(Report {
         missing_index,
         missing_name,

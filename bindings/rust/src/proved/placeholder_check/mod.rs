@@ -6,7 +6,8 @@
 // by results from outside, and beside what is proved (.ci/bindings) and the original (tools/agree).
 
 pub(crate) mod checker;
-pub(crate) mod entries;
+pub(crate) mod indices;
+pub(crate) mod names;
 pub(crate) mod uses;
 
 pub use checker::{check, Report};

@@ -4,24 +4,24 @@
 // That source is proved, and each contract here is its. That this text means the same is tested:
 // by results from outside, and beside what is proved (.ci/bindings) and the original (tools/agree).
 
+use crate::proved::placeholder_check::indices::{insert_index, no_indices, Indices};
+use crate::proved::placeholder_check::names::{insert_name, no_names, Names};
 use crate::proved::rustc_parse_format::{Argument, Count, Piece, Position};
 use crate::shim::alloc::{AllocError, Global};
-use crate::shim::prelude::*;
-use std::collections::BTreeSet;
 
 /// The arguments that pieces use.
 pub struct Uses<'a> {
     /// The indices that are used.
-    pub indices: BTreeSet<usize>,
-    /// The name of each use by name, in order.
-    pub names: Vec<&'a str>,
+    pub indices: Indices,
+    /// The names that are used.
+    pub names: Names<'a>,
 }
 
 /// Adds a use of an index. Returns `Err` if an allocation fails.
 // ensures { OnOk result (Adds (ByIndex index ∷ []) uses.old uses.new) }
 #[inline]
 fn add_index(uses: &mut Uses<'_>, index: usize) -> Result<(), AllocError> {
-    uses.indices.try_insert(index)?;
+    insert_index(&mut uses.indices, index)?;
     Ok(())
 }
 
@@ -29,7 +29,7 @@ fn add_index(uses: &mut Uses<'_>, index: usize) -> Result<(), AllocError> {
 // ensures { OnOk result (Adds (ByName (chars name.now) ∷ []) uses.old uses.new) }
 #[inline]
 fn add_name<'a>(uses: &mut Uses<'a>, name: &'a str) -> Result<(), AllocError> {
-    uses.names.try_push(name)?;
+    insert_name(&mut uses.names, name)?;
     Ok(())
 }
 
@@ -80,12 +80,13 @@ fn add_piece<'a>(uses: &mut Uses<'a>, piece: &Piece<'a>) -> Result<(), AllocErro
 /// Returns the arguments that pieces use. Returns `Err` if an allocation fails.
 // ensures uses { IfOk result (λ u. Holds (uses (map seen pieces.now)) u) }
 // ensures empty { pieces.now ≡ []
-//     → IfOk result (λ u. (u.indices.keys ≡ []) × (u.names.items ≡ [])) × IsOk result }
+//     → IfOk result (λ u. (u.indices.marks.items ≡ []) × (u.indices.others.keys ≡ [])
+//     × (u.indices.count ≡ 0) × (u.names.list.items ≡ [])) × IsOk result }
 #[inline]
 pub fn uses_of<'a>(alloc: Global, pieces: &[Piece<'a>]) -> Result<Uses<'a>, AllocError> {
     let mut uses = Uses {
-        indices: BTreeSet::made_in(alloc),
-        names: Vec::made_in(alloc),
+        indices: no_indices(alloc),
+        names: no_names(alloc),
     };
     for piece in pieces {
         add_piece(&mut uses, piece)?;

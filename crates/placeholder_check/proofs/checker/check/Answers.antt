@@ -7,7 +7,7 @@ use Rattle.placeholder_check.proofs.Reports.{reported}
 use Rattle.placeholder_check.proofs.Unique.{one-report}
 use Rattle.placeholder_check.proofs.checker.check.Goals as goal
 
-is_report : (c : goal.After-drop-used-3)
+is_report : (c : goal.After-drop-used-5)
     → IsReport (uses (map seen c.args.pieces.now)) c.args.positional (texts c.args.names.now)
     (seen_report (record {
       missing_index = c.in_ok-missing_index.missing_index;
@@ -16,11 +16,11 @@ is_report : (c : goal.After-drop-used-3)
       unused_name = c.in_ok-unused_name.unused_name;
     }))
 is_report c =
-    reported _ c.in_ok-used.used c.args.positional c.args.names.now _ _ _ _
-    c.in_ok-used.ensures.uses c.in_ok-missing_index.ensures.ordered
-    c.in_ok-missing_index.ensures.kept c.in_ok-unused_index.ensures.lacked
-    (rw c.deref.ensures.value at c.in_ok-missing_name.ensures.firsts)
-    (rw c.deref-2.ensures.value at c.in_ok-unused_name.ensures.firsts)
+    reported _ c.in_ok-used.used c.in_ok-given.given c.args.positional c.args.names.now _ _ _ _
+    c.in_ok-used.ensures.uses c.in_ok-given.ensures.names
+    c.in_ok-missing_index.ensures.members c.in_ok-unused_index.ensures.lacked
+    (rw c.deref.ensures.value at c.in_ok-missing_name.ensures.lacked)
+    (rw c.deref-2.ensures.value at c.in_ok-unused_name.ensures.lacked)
 
 pub returns-clause-report : goal.returns-clause-report
 returns-clause-report c = is_report c

@@ -8,5 +8,7 @@ use Rattle.placeholder_check.proofs.uses.uses_of.Given as goal
 abbrev pub invariant-loop-piece : goal.invariant-loop-piece
 invariant-loop-piece l = record {
   held : Holds (uses (map seen (take l.piece-index l.pieces))) l.uses;
-  none : l.pieces ≡ [] → (l.uses.indices.keys ≡ []) × (l.uses.names.items ≡ []);
+  none : l.pieces ≡ [] → (l.uses.indices.marks.items ≡ [])
+      × (l.uses.indices.others.keys ≡ []) × (l.uses.indices.count ≡ 0)
+      × (l.uses.names.list.items ≡ []);
 }

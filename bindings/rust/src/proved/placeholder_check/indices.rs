@@ -1,0 +1,153 @@
+//! Sets of indices of arguments. Most indices rise from 0 with the placeholders, so that they are
+//! marked in a list; others are in a set.
+
+// Extracted from crates/placeholder_check/src/indices.rt by tools/extract: not to be edited.
+// That source is proved, and each contract here is its. That this text means the same is tested:
+// by results from outside, and beside what is proved (.ci/bindings) and the original (tools/agree).
+
+use crate::shim::alloc::{AllocError, Global};
+use crate::shim::prelude::*;
+use std::collections::BTreeSet;
+
+/// How many unmarked indices at most are put between the marked ones and the next.
+const GAP: usize = 16;
+
+/// A set of indices.
+pub struct Indices {
+    /// Whether each of the first indices was marked.
+    pub marks: Vec<bool>,
+    /// Those that were too far from the marked ones.
+    pub others: BTreeSet<usize>,
+    /// How many there are.
+    pub count: usize,
+}
+
+/// Returns the empty set. Allocates nothing.
+// ensures { (result.marks.items ≡ []) × (result.others.keys ≡ []) × (result.count ≡ 0) }
+#[inline]
+pub fn no_indices(alloc: Global) -> Indices {
+    Indices {
+        marks: Vec::made_in(alloc),
+        others: BTreeSet::made_in(alloc),
+        count: 0,
+    }
+}
+
+/// Returns whether a set has an index.
+// ensures { result ≡ is_noted set.now index }
+#[inline]
+pub fn has_index(set: &Indices, index: usize) -> bool {
+    match set.marks.get(index) {
+        Some(true) => true,
+        _ => set.others.contains(&index),
+    }
+}
+
+/// Marks an index that is not far from those in the list. Returns `Err` if an allocation fails.
+// ensures { OnOk result ((n : ℕ) → get_or marks.new.items n false
+//     ≡ (get_or marks.old.items n false || index == n)) }
+#[inline]
+fn mark(marks: &mut Vec<bool>, index: usize) -> Result<(), AllocError> {
+    for _ in marks.len()..index {
+        marks.try_push(false)?;
+    }
+    if index < marks.len() {
+        marks[index] = true;
+    } else {
+        marks.try_push(true)?;
+    }
+    Ok(())
+}
+
+/// Adds an index to a set. Returns `Err` if an allocation fails.
+// ensures noted { OnOk result
+//     ((n : ℕ) → is_noted set.new n ≡ (is_noted set.old n || index == n)) }
+// ensures counted { OnOk result (set.new.count
+//     ≡ cond (is_noted set.old index) set.old.count (min (set.old.count + 1) usize.MAX)) }
+#[inline]
+pub fn insert_index(set: &mut Indices, index: usize) -> Result<(), AllocError> {
+    let is_new = if index.saturating_sub(set.marks.len()) >= GAP {
+        set.others.try_insert(index)?
+    } else if has_index(set, index) {
+        false
+    } else {
+        mark(&mut set.marks, index)?;
+        true
+    };
+    if is_new {
+        set.count = set.count.saturating_add(1);
+    }
+    Ok(())
+}
+
+/// Appends the numbers of a set that are at least `first` to a list, in ascending order. Returns
+/// `Err` if an allocation fails.
+// ensures kept { OnOk result
+//     (list.new.items ≡ list.old.items ++ filter (λ n. nat_le first n) set.now.keys) }
+// ensures ordered { IsOrdered nat_cmp set.now }
+// ensures empty { set.now.keys ≡ [] → IsOk result }
+#[inline]
+fn push_from(list: &mut Vec<usize>, set: &BTreeSet<usize>, first: usize) -> Result<(), AllocError> {
+    for n in set.iter() {
+        if *n >= first {
+            list.try_push(*n)?;
+        }
+    }
+    Ok(())
+}
+
+/// Returns the indices of a set from `first` up to `end`, in ascending order. Returns `Err` if an
+/// allocation fails.
+// ensures members { IfOk result
+//     (λ v. Lists (λ n. (n < end) × ((first ≤ n) × (is_noted set.now n ≡ true))) v.items) }
+// ensures empty { end ≡ 0 → IsOk result }
+#[inline]
+fn members_between(
+    alloc: Global,
+    set: &Indices,
+    first: usize,
+    end: usize,
+) -> Result<Vec<usize>, AllocError> {
+    let mut members = Vec::made_in(alloc);
+    for n in first..end {
+        if has_index(set, n) {
+            members.try_push(n)?;
+        }
+    }
+    Ok(members)
+}
+
+/// Returns the indices of a set that are at least `first`, in ascending order. Returns `Err` if an
+/// allocation fails.
+// ensures members { IfOk result
+//     (λ v. Lists (λ n. (first ≤ n) × (is_noted set.now n ≡ true)) v.items) }
+// ensures empty { set.now.marks.items ≡ [] → set.now.others.keys ≡ [] → IsOk result }
+#[inline]
+pub fn members_from(alloc: Global, set: &Indices, first: usize) -> Result<Vec<usize>, AllocError> {
+    let end = set.marks.len();
+    let mut members = members_between(alloc, set, first, end)?;
+    push_from(&mut members, &set.others, first.max(end))?;
+    Ok(members)
+}
+
+/// Returns the indices below `end` that are not in a set, in ascending order. Allocates room for
+/// `room` indices first, since `end` may be the greatest `usize`, and filling the memory before the
+/// failure would take minutes. Returns `Err` if an allocation fails.
+// ensures lacked { IfOk result
+//     (λ v. Lists (λ n. (n < end) × (is_noted set.now n ≡ false)) v.items) }
+// ensures empty { end ≡ 0 → room ≡ 0 → IsOk result }
+#[inline]
+pub fn lacked_below(
+    alloc: Global,
+    set: &Indices,
+    end: usize,
+    room: usize,
+) -> Result<Vec<usize>, AllocError> {
+    let mut lacked = Vec::made_for(alloc, room)?;
+    for n in 0..end {
+        if !has_index(set, n) {
+            lacked.try_push(n)?;
+        }
+    }
+    Ok(lacked)
+}

@@ -1,0 +1,121 @@
+//! Sets of names, in the order in which they were added. Those behind the first few are in an
+//! ordered set too, since a text may be hostile and the kit's hash has a fixed seed.
+
+// Extracted from crates/placeholder_check/src/names.rt by tools/extract: not to be edited.
+// That source is proved, and each contract here is its. That this text means the same is tested:
+// by results from outside, and beside what is proved (.ci/bindings) and the original (tools/agree).
+
+use crate::shim::alloc::{AllocError, Global};
+use crate::shim::prelude::*;
+use std::collections::BTreeSet;
+
+/// How many names are looked for one after the other.
+const FEW: usize = 16;
+
+/// Names, each once, in the order in which they were first added.
+pub struct Names<'a> {
+    /// The names.
+    pub list: Vec<&'a str>,
+    /// Those behind the first [`FEW`].
+    pub later: BTreeSet<&'a str>,
+}
+
+/// Returns the empty set. Allocates nothing.
+// ensures empty { result.list.items ≡ [] }
+// ensures none { Follows [] result }
+#[inline]
+pub fn no_names<'a>(alloc: Global) -> Names<'a> {
+    Names {
+        list: Vec::made_in(alloc),
+        later: BTreeSet::made_in(alloc),
+    }
+}
+
+/// Returns whether two names are the same.
+// ensures { result ≡ bytes_eq (chars a.now) (chars b.now) }
+#[inline]
+fn is_same(a: &str, b: &str) -> bool {
+    a == b
+}
+
+/// Returns whether a name is among the first [`FEW`] of a list.
+// ensures { result ≡ list_any (bytes_eq (chars name.now)) (texts (take 16 names.now)) }
+#[inline]
+fn is_early(names: &[&str], name: &str) -> bool {
+    for i in 0..names.len().min(FEW) {
+        if is_same(name, names[i]) {
+            return true;
+        }
+    }
+    false
+}
+
+/// Returns whether a name is in a set of names.
+// ensures { result ≡ has_text later.now (chars name.now) }
+#[inline]
+fn is_later<'a>(later: &BTreeSet<&'a str>, name: &'a str) -> bool {
+    later.contains(&name)
+}
+
+/// Returns whether a name is among others.
+// ensures { result ≡ is_known names.now (chars name.now) }
+#[inline]
+pub fn has_name<'a>(names: &Names<'a>, name: &'a str) -> bool {
+    is_early(&names.list, name) || is_later(&names.later, name)
+}
+
+/// Inserts a name into a set. Returns `Err` if an allocation fails.
+// ensures { OnOk result ((t : Text) → has_text set.new t
+//     ≡ (bytes_eq t (chars name.now) || has_text set.old t)) }
+#[inline]
+fn insert_later<'a>(set: &mut BTreeSet<&'a str>, name: &'a str) -> Result<(), AllocError> {
+    set.try_insert(name)?;
+    Ok(())
+}
+
+/// Adds a name to others, if it is not yet there. Returns `Err` if an allocation fails.
+// ensures { OnOk result ((before : List Text) → Follows before names.old
+//     → Follows (before ++ chars name.now ∷ []) names.new) }
+#[inline]
+pub fn insert_name<'a>(names: &mut Names<'a>, name: &'a str) -> Result<(), AllocError> {
+    if has_name(names, name) {
+        return Ok(());
+    }
+    if names.list.len() >= FEW {
+        insert_later(&mut names.later, name)?;
+    }
+    names.list.try_push(name)?;
+    Ok(())
+}
+
+/// Returns the names of a list. Returns `Err` if an allocation fails.
+// ensures names { IfOk result (λ s. Follows (texts list.now) s) }
+// ensures empty { list.now ≡ [] → IfOk result (λ s. s.list.items ≡ []) × IsOk result }
+#[inline]
+pub fn names_of<'a>(alloc: Global, list: &[&'a str]) -> Result<Names<'a>, AllocError> {
+    let mut names = no_names(alloc);
+    for name in list {
+        insert_name(&mut names, name)?;
+    }
+    Ok(names)
+}
+
+/// Returns the names of a list that are not among others, in their order. Returns `Err` if an
+/// allocation fails.
+// ensures lacked { IfOk result
+//     (λ v. texts v.items ≡ filter (λ t. not (is_known others.now t)) (texts names.now)) }
+// ensures empty { names.now ≡ [] → IsOk result }
+#[inline]
+pub fn lacked_by<'a>(
+    alloc: Global,
+    names: &[&'a str],
+    others: &Names<'a>,
+) -> Result<Vec<&'a str>, AllocError> {
+    let mut lacked = Vec::made_in(alloc);
+    for name in names {
+        if !has_name(others, name) {
+            lacked.try_push(*name)?;
+        }
+    }
+    Ok(lacked)
+}

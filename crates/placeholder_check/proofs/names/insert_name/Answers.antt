@@ -1,0 +1,24 @@
+use Rattle.std.proofs.Common.{◌≡◌, false, chars, sym, arith}
+use Rattle.placeholder_check.specs.Noted.{has_text, is_known}
+use Rattle.placeholder_check.proofs.Naming.{Follows-had, Follows-new, known-early, known-late}
+use Rattle.placeholder_check.proofs.names.insert_name.Goals as goal
+use Rattle.placeholder_check.proofs.names.insert_name.Goals.{then-len-ge-FEW+in_ok-insert_later, else-len-ge-FEW}
+
+pub returns-then-has_name : goal.returns-then-has_name
+returns-then-has_name c = λ ts f.
+    Follows-had ts c.args.names.now (chars c.args.name.now) (sym c.if-has_name.ensures) f
+
+pub returns : goal.returns
+returns c = λ ts f.
+    let is_new : is_known c.args.names.now (chars c.args.name.now) ≡ false = cc in
+    Follows-new ts c.args.names.now _ c.args.name is_new
+    (elim c.if-len-ge-FEW.branch [
+      | then-len-ge-FEW+in_ok-insert_later w ↦ rw (w.names-is) at c.in_ok-push.ensures.items
+      | else-len-ge-FEW w ↦ rw (w.names-is) at c.in_ok-push.ensures.items
+    ])
+    (λ t. elim c.if-len-ge-FEW.branch [
+      | then-len-ge-FEW+in_ok-insert_later w ↦ rw (c.in_ok-push.ensures.items, w.names-is, w.in_ok-insert_later.ensures t)
+          (known-late t c.args.names.now.list.items c.args.name 16 (has_text c.args.names.now.later t) (omega arith))
+      | else-len-ge-FEW w ↦ rw (c.in_ok-push.ensures.items, w.names-is)
+          (known-early t c.args.names.now.list.items c.args.name 16 (has_text c.args.names.now.later t) (omega arith))
+    ]) f

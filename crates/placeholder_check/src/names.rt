@@ -1,0 +1,125 @@
+//! Sets of names, in the order in which they were added. Those behind the first few are in an
+//! ordered set too, since a text may be hostile and the kit's hash has a fixed seed.
+
+ghost use Rattle.std.specs.Prelude.{◌≡◌, ◌∷◌, ◌++◌, ◌<◌, ◌≤◌, ◌||◌, List, [], chars, filter, not};
+ghost use Rattle.std.specs.Prelude.{take, IfOk, IsOk, OnOk};
+ghost use Rattle.std.specs.List.{list_any};
+ghost use Rattle.std.specs.Str.{bytes_eq};
+ghost use Rattle.rustc_parse_format.specs.Characters.{Text};
+ghost use Rattle.placeholder_check.specs.Noted.{Follows, has_text, is_known};
+ghost use Rattle.placeholder_check.specs.Seen.{texts};
+
+use std::alloc::{AllocError, Global};
+use std::collections::BTreeSet;
+
+/// How many names are looked for one after the other.
+const FEW: usize = 16;
+
+/// Names, each once, in the order in which they were first added.
+#[derive(Drop)]
+pub struct Names<'a> {
+    /// The names.
+    pub list: Vec<&'a str>,
+    /// Those behind the first [`FEW`].
+    pub later: BTreeSet<&'a str>,
+}
+
+/// Returns the empty set. Allocates nothing.
+pub fn no_names<'a>(alloc: Global) -> Names<'a>
+    ensures empty { result.list.items ≡ [] }
+    ensures none { Follows [] result }
+{
+    Names {
+        list: Vec::new(alloc),
+        later: BTreeSet::new(alloc),
+    }
+}
+
+/// Returns whether two names are the same.
+fn is_same(a: &str, b: &str) -> bool
+    ensures { result ≡ bytes_eq (chars a.now) (chars b.now) }
+{
+    a == b
+}
+
+/// Returns whether a name is among the first [`FEW`] of a list.
+fn is_early(names: &[&str], name: &str) -> bool
+    ensures { result ≡ list_any (bytes_eq (chars name.now)) (texts (take 16 names.now)) }
+{
+    for i in 0..names.len().min(FEW) {
+        if is_same(name, names[i]) {
+            return true;
+        }
+    }
+    false
+}
+
+/// Returns whether a name is in a set of names.
+fn is_later<'a>(later: &BTreeSet<&'a str>, name: &'a str) -> bool
+    ensures { result ≡ has_text later.now (chars name.now) }
+{
+    later.contains(&name)
+}
+
+/// Returns whether a name is among others.
+pub fn has_name<'a>(names: &Names<'a>, name: &'a str) -> bool
+    ensures { result ≡ is_known names.now (chars name.now) }
+{
+    is_early(&names.list, name) || is_later(&names.later, name)
+}
+
+/// Inserts a name into a set. Returns `Err` if an allocation fails.
+fn insert_later<'a>(set: &mut BTreeSet<&'a str>, name: &'a str) -> Result<(), AllocError>
+    ensures { OnOk result ((t : Text) → has_text set.new t
+        ≡ (bytes_eq t (chars name.now) || has_text set.old t)) }
+{
+    set.insert(name)?;
+    Ok(())
+}
+
+/// Adds a name to others, if it is not yet there. Returns `Err` if an allocation fails.
+pub fn insert_name<'a>(names: &mut Names<'a>, name: &'a str) -> Result<(), AllocError>
+    ensures { OnOk result ((before : List Text) → Follows before names.old
+        → Follows (before ++ chars name.now ∷ []) names.new) }
+{
+    if has_name(names, name) {
+        return Ok(());
+    }
+    if names.list.len() >= FEW {
+        insert_later(&mut names.later, name)?;
+    }
+    names.list.push(name)?;
+    Ok(())
+}
+
+/// Returns the names of a list. Returns `Err` if an allocation fails.
+pub fn names_of<'a>(alloc: Global, list: &[&'a str]) -> Result<Names<'a>, AllocError>
+    ensures names { IfOk result (λ s. Follows (texts list.now) s) }
+    ensures empty { list.now ≡ [] → IfOk result (λ s. s.list.items ≡ []) × IsOk result }
+{
+    let mut names = no_names(alloc);
+    for name in list {
+        insert_name(&mut names, name)?;
+    }
+    Ok(names)
+}
+
+/// Returns the names of a list that are not among others, in their order. Returns `Err` if an
+/// allocation fails.
+pub fn lacked_by<'a>(
+    alloc: Global,
+    names: &[&'a str],
+    others: &Names<'a>,
+) -> Result<Vec<&'a str>, AllocError>
+    ensures lacked { IfOk result
+        (λ v. texts v.items ≡ filter (λ t. not (is_known others.now t)) (texts names.now)) }
+    ensures empty { names.now ≡ [] → IsOk result }
+{
+    let mut lacked = Vec::new(alloc);
+    for name in names {
+        if !has_name(others, name) {
+            lacked.push(*name)?;
+        }
+    }
+    Ok(lacked)
+}
