@@ -1,8 +1,8 @@
 //! The byte ranges of a piece's texts in the input.
 
 ghost use Rattle.std.specs.Prelude.{◌≡◌, ℕ, ◌-◌, IsFalse, IsTrue, List, chars, option_map};
-ghost use Rattle.rustc_parse_format.specs.Seen.{pair, seen, seen_argument, seen_count};
-ghost use Rattle.rustc_parse_format.specs.Seen.{seen_position, seen_spec};
+ghost use Rattle.rustc_parse_format.specs.Seen.{pair, seen_argument, seen_count};
+ghost use Rattle.rustc_parse_format.specs.Seen.{seen_position, seen_spec, seen_taken};
 ghost use Rattle.flat_reading.specs.declared.records.Extent.{Extent as ExtentRecord};
 ghost use Rattle.flat_reading.specs.Meant.{run_at, text_at, type_meant};
 ghost use Rattle.flat_reading.specs.Stand.{ArgumentStands, CountAt, CountStands, HasBytes, IsLast};
@@ -12,7 +12,7 @@ ghost use Rattle.flat_reading.specs.Stand.{StandsAt, StandsBehind, TypeStands};
 
 use crate::flat::NOWHERE;
 use crate::records::{Extent, TYPE_DEBUG, TYPE_LOWER_HEX, TYPE_NONE, TYPE_TEXT, TYPE_UPPER_HEX};
-use rustc_parse_format::{Argument, Count, FormatSpec, Piece, Position};
+use rustc_parse_format::{Argument, Count, FormatSpec, Position, Taken};
 
 /// The byte ranges of a piece's texts in the input, and the kind of its type.
 #[derive(Clone, Copy)]
@@ -173,18 +173,25 @@ pub fn run_extent(read: usize, text: &str) -> Extent
     }
 }
 
-/// Returns the byte ranges in the input of a piece's texts. The spans of the piece are `offset`
-/// bytes after these, and `read` is the byte offset up to which the input is read after the piece.
-pub fn texts_of(input: &str, offset: usize, read: usize, piece: &Option<Piece<'_>>) -> Texts
-    requires { PieceStands input.now offset read (option_map seen piece.now) }
-    ensures { PieceAt input.now read result (option_map seen piece.now) }
+/// Returns the byte ranges in the input of a piece's texts. A placeholder is in `argument`. The
+/// spans of the piece are `offset` bytes after these, and `read` is the byte offset up to which the
+/// input is read after the piece.
+pub fn texts_of(
+    input: &str,
+    offset: usize,
+    read: usize,
+    piece: &Option<Taken<'_>>,
+    argument: &Argument<'_>,
+) -> Texts
+    requires { PieceStands input.now offset read (option_map (seen_taken argument.now) piece.now) }
+    ensures { PieceAt input.now read result (option_map (seen_taken argument.now) piece.now) }
 {
     match piece {
         None => NO_TEXTS,
-        Some(Piece::Lit(text)) => Texts {
+        Some(Taken::Lit(text)) => Texts {
             text: run_extent(read, text),
             ..NO_TEXTS
         },
-        Some(Piece::NextArgument(argument)) => argument_texts(input, offset, argument),
+        Some(Taken::NextArgument) => argument_texts(input, offset, argument),
     }
 }

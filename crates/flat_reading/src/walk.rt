@@ -112,6 +112,16 @@ fn put_state(parser: &Parser<'_>, step: &mut Step)
     step.lines = parser.line_spans().len();
 }
 
+/// Returns an argument to read placeholders into.
+#[inline(always)]
+fn blank_argument<'a>() -> Argument<'a> {
+    Argument {
+        position: Position::ArgumentImplicitlyIs(0),
+        position_span: 0..0,
+        format: FormatSpec::default(),
+    }
+}
+
 /// Writes the piece that a call returned. The byte ranges of its texts come from the spans of the
 /// guide's next call, which this makes. Returns `Err` if an allocation fails.
 #[inline(never)]
@@ -137,20 +147,11 @@ fn put_guided(
     ensures others { OnOk result (SameBehind step.old step.new) }
     ensures state { OnOk result (guide.new ≡ after guide.old (next_call guide.old)) }
 {
-    let same = guide.next()?;
-    let texts = texts_of(input, 1, step.read, &same);
+    let mut same = blank_argument();
+    let (told, _) = guide.next_into(&mut same)?;
+    let texts = texts_of(input, 1, step.read, &told, &same);
     put_piece(given, argument, &texts, specs, step);
     Ok(())
-}
-
-/// Returns an argument to read placeholders into.
-#[inline(always)]
-fn blank_argument<'a>() -> Argument<'a> {
-    Argument {
-        position: Position::ArgumentImplicitlyIs(0),
-        position_span: 0..0,
-        format: FormatSpec::default(),
-    }
 }
 
 /// A parser whose calls are written as records.
