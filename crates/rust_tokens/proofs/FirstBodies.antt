@@ -1,13 +1,23 @@
 -- The first token of a text, by its first character.
-use Rattle.std.proofs.Common.{◌≡◌, ℕ, false, [], ◌∷◌, Some, None, refl, ap, sym, ◌∙◌}
-use Rattle.std.proofs.lemmas.Bool.{cond-false}
+use Rattle.std.proofs.Common.{◌≡◌, ◌<◌, ℕ, Bool, true, false, List, [], ◌∷◌, Some, None, refl, ap}
+use Rattle.std.proofs.Common.{sym, ◌∙◌, arith, length, get_or, drop, chars, IsUtf8}
+use Rattle.std.proofs.lemmas.Bool.{and_parts, cond-false, or_parts, false_from_ne_true}
+use Rattle.std.proofs.lemmas.Bool.Decides.{nat_tests}
 use Rattle.std.proofs.lemmas.Option.{none-some, some_pair_parts}
-use Rattle.std.specs.Prelude.{Option}
+use Rattle.std.specs.Prelude.{Option, ◌==◌, ◌||◌, nat_lt}
+use Rattle.std.specs.Char.{is_ascii_alphabetic}
+use Rattle.rust_tokens.specs.declared.kinds.Kind.TheVariants.{Whitespace, Ident, Punct}
 use Rattle.rust_tokens.specs.declared.openings.Opening.{Opening}
 use Rattle.rust_tokens.specs.Texts.{Text, split_first}
+use Rattle.rust_tokens.specs.Runs.{behind, is_digit, is_id_continue, is_id_start, is_punct}
 use Rattle.rust_tokens.specs.Runs.{is_space}
+use Rattle.rust_tokens.specs.Bytes.{is_ascii_in, is_plain_start, is_sign}
 use Rattle.rust_tokens.specs.Openings.{first_opening}
 use Rattle.rust_tokens.specs.First.{Body, by_opening, first_of, first_plain}
+use Rattle.rust_tokens.proofs.AsciiRuns.{ascii-first}
+use Rattle.rust_tokens.proofs.Basics.{not_false}
+use Rattle.rust_tokens.proofs.Classes.{apart, no_space, punct-no_digit, punct-space}
+use Rattle.rust_tokens.proofs.Classes.{punct-starts, start_at, starts-go_on, starts-quote}
 
 split-cons : (t r : Text) (c : ℕ) → Some (c, r) ≡ split_first t → t ≡ c ∷ r
 split-cons [] r c h = absurd (none-some (c, r) (sym h))
@@ -33,3 +43,71 @@ first-opened t r u c o b h s f g =
 pub first-unopened : (t r : Text) (c : ℕ) (b : Body) → Some (c, r) ≡ split_first t
     → is_space c ≡ false → None ≡ first_opening t → b ≡ first_plain c r → Some b ≡ first_of t
 first-unopened t r c b h s f g = ap (λ x. Some x) g ∙ by-opening t r c None h s f
+
+-- Tokens that their first byte shows: punctuation,
+pub sign-small : (c : ℕ) → is_sign c ≡ true → c < 128
+sign-small c y = grind arith
+
+sign-first : (c : ℕ) (t : Text) → is_sign c ≡ true → Some (Punct, true, t) ≡ first_of (c ∷ t)
+sign-first c t y =
+    let h = and_parts (is_punct c) _ y in
+    rw (
+      punct-space c h.0,
+      apart is_punct c 34 refl h.0,
+      apart is_punct c 98 refl h.0,
+      apart is_punct c 99 refl h.0,
+      apart is_punct c 114 refl h.0,
+      punct-starts c h.0,
+      false_from_ne_true (is_digit c) (punct-no_digit c h.0),
+      not_false (c == 47) h.1,
+      apart is_punct c 39 refl h.0,
+      h.0,
+    ) refl
+
+pub first-sign : (s : List ℕ) → IsUtf8 s → 0 < length s → is_sign (get_or s 0 0) ≡ true
+    → Some (Punct, true, chars (drop 1 s)) ≡ first_of (chars s)
+first-sign s u l y = sign-first (get_or s 0 0) _ y
+    ∙ sym (ap (λ x. first_of x) (ascii-first s u l (sign-small _ y)))
+
+-- white space,
+space-first : (c : ℕ) (t : Text) → is_space c ≡ true
+    → Some (Whitespace, true, behind is_space (c ∷ t)) ≡ first_of (c ∷ t)
+space-first c t y = rw y refl
+
+ascii-small : (p : ℕ → Bool) (c : ℕ) → is_ascii_in p c ≡ true → c < 128
+ascii-small p c y = let h = and_parts (nat_lt c 128) (p c) y in grind (arith, nat_tests)
+
+pub first-space : (s : List ℕ) → IsUtf8 s → 0 < length s
+    → is_ascii_in is_space (get_or s 0 0) ≡ true
+    → Some (Whitespace, true, behind is_space (chars s)) ≡ first_of (chars s)
+first-space s u l y =
+    let e = ascii-first s u l (ascii-small is_space _ y) in
+    let c = get_or s 0 0 in
+    rw e (space-first c (chars (drop 1 s)) (and_parts (nat_lt c 128) _ y).1)
+
+-- and words.
+plain-small : (c : ℕ) → is_plain_start c ≡ true → c < 128
+plain-small c y = let h = and_parts (c == 95 || is_ascii_alphabetic c) _ y in grind arith
+
+word-first : (c : ℕ) (t : Text) → is_plain_start c ≡ true
+    → Some (Ident, true, behind is_id_continue (c ∷ t)) ≡ first_of (c ∷ t)
+word-first c t y =
+    let h = and_parts (c == 95 || is_ascii_alphabetic c) _ y in
+    let start : is_id_start c ≡ true = start_at c (plain-small c y) ∙ h.0 in
+    let no = or_parts (c == 98) _ (not_false _ h.1) in
+    let others = or_parts (c == 99) _ no.1 in
+    rw (
+      no_space c start,
+      apart is_id_start c 34 starts-quote start,
+      no.0,
+      others.0,
+      others.1,
+      start,
+      starts-go_on c start,
+    ) refl
+
+pub first-word : (s : List ℕ) → IsUtf8 s → 0 < length s → is_plain_start (get_or s 0 0) ≡ true
+    → Some (Ident, true, behind is_id_continue (chars s)) ≡ first_of (chars s)
+first-word s u l y =
+    let e = ascii-first s u l (plain-small _ y) in
+    rw e (word-first (get_or s 0 0) (chars (drop 1 s)) y)

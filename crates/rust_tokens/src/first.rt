@@ -1,6 +1,6 @@
 //! The first token of a text.
 
-ghost use Rattle.std.specs.Prelude.{◌≡◌, ◌&&◌, ℕ, Some, chars, option_map};
+ghost use Rattle.std.specs.Prelude.{◌≡◌, ◌&&◌, ℕ, IfSome, Some, chars, false, option_map, true};
 ghost use Rattle.rust_tokens.specs.First.{behind_suffix, closed, first_of};
 ghost use Rattle.rust_tokens.specs.First.{first_plain, first_quoted, first_slashed, by_opening};
 ghost use Rattle.rust_tokens.specs.Seen.{seen};
@@ -8,6 +8,7 @@ ghost use Rattle.rust_tokens.specs.Texts.{Text};
 ghost use Rattle.rust_tokens.specs.Tokens.{is_literal};
 
 use crate::bodies::{Body, ended, unended};
+use crate::bytes::{is_plain_start, is_sign, is_space_byte};
 use crate::kinds::Kind;
 use crate::literals::{
     behind_char, behind_comment, behind_name, behind_raw, behind_raw_name, behind_string,
@@ -161,4 +162,29 @@ pub fn behind_suffix(body: Body<'_>) -> &str
     } else {
         body.rest
     }
+}
+
+/// Returns the kind of the first token and what is left after it if its first byte shows them:
+/// punctuation, white space and most words, which are no literals. Returns `None` of other tokens
+/// and of the empty text.
+#[inline(always)]
+pub fn plain_token(text: &str) -> Option<(Kind, &str)>
+    ensures first { IfSome result
+        (λ x. Some (x.0, true, chars x.1.now) ≡ first_of (chars text.now)) }
+    ensures bare { IfSome result (λ x. is_literal x.0 ≡ false) }
+{
+    let bytes = text.as_bytes();
+    if bytes.is_empty() {
+        return None;
+    }
+    if is_sign(bytes[0]) {
+        return Some((Kind::Punct, &text[1..]));
+    }
+    if is_space_byte(bytes[0]) {
+        return Some((Kind::Whitespace, behind_run(text, Class::Space)));
+    }
+    if is_plain_start(bytes[0]) {
+        return Some((Kind::Ident, behind_run(text, Class::Continue)));
+    }
+    None
 }

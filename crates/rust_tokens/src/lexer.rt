@@ -9,7 +9,7 @@ ghost use Rattle.rust_tokens.specs.Texts.{Text};
 ghost use Rattle.rust_tokens.specs.Tokens.{Begins, Lexeme};
 ghost use Rattle.rust_tokens.specs.declared.kinds.Kind.TheVariants.{ByteOrderMark, Shebang};
 
-use crate::first::{behind_suffix, first_body};
+use crate::first::{behind_suffix, first_body, plain_token};
 use crate::kinds::{Kind, Token};
 use crate::texts::{Class, behind_run, strip};
 use std::alloc::{AllocError, Global};
@@ -28,7 +28,8 @@ struct Step<'a> {
 }
 
 /// Returns the token at the start of a text, or `None` if the text is empty.
-fn next_step(text: &str) -> Option<Step<'_>>
+#[inline(never)]
+fn any_step(text: &str) -> Option<Step<'_>>
     ensures begins { IfSome result (λ s. (x : Lexeme) × Begins x (chars text.now) (chars s.rest.now)
         × (x.kind ≡ s.kind) × (x.is_ended ≡ s.is_ended)
         × (length text.now ≡ byte_length x.body + length s.suffix.now)
@@ -46,6 +47,27 @@ fn next_step(text: &str) -> Option<Step<'_>>
         suffix: body.rest,
         rest,
     })
+}
+
+/// Returns the token at the start of a text, or `None` if the text is empty.
+#[inline(always)]
+fn next_step(text: &str) -> Option<Step<'_>>
+    ensures begins { IfSome result (λ s. (x : Lexeme) × Begins x (chars text.now) (chars s.rest.now)
+        × (x.kind ≡ s.kind) × (x.is_ended ≡ s.is_ended)
+        × (length text.now ≡ byte_length x.body + length s.suffix.now)
+        × (length s.suffix.now ≡ byte_length x.suffix + length s.rest.now)) }
+    ensures fewer { IfSome result (λ s. length s.rest.now < length text.now) }
+    ensures none { IsNone result → chars text.now ≡ [] }
+{
+    if let Some((kind, rest)) = plain_token(text) {
+        return Some(Step {
+            kind,
+            is_ended: true,
+            suffix: rest,
+            rest,
+        });
+    }
+    any_step(text)
 }
 
 /// Returns the first token of a text that is not the start of a file, or `None` if the text is

@@ -1,11 +1,15 @@
 //! The first character of a text, and runs of characters of one class.
 
-ghost use Rattle.std.specs.Prelude.{◌≡◌, ◌<◌, IfSome, chars, length, option_map};
+ghost use Rattle.std.specs.Prelude.{◌≡◌, ◌<◌, IfSome, IsCharBoundary, IsFalse, chars, drop, false};
+ghost use Rattle.std.specs.Prelude.{length, option_map, slice_index};
+ghost use Rattle.rust_tokens.specs.Bytes.{is_ascii_in};
 ghost use Rattle.rust_tokens.specs.Classes.{passes};
 ghost use Rattle.rust_tokens.specs.Runs.{behind, count, first_passes, is_digit_part, is_hash};
 ghost use Rattle.rust_tokens.specs.Runs.{is_hex_part, is_id_start, is_punct, is_space};
 ghost use Rattle.rust_tokens.specs.Characters.{is_plain};
 ghost use Rattle.rust_tokens.specs.Texts.{split_first, strip};
+
+use crate::bytes::{is_space_byte, is_word_byte};
 
 /// A class of characters.
 #[derive(Clone, Copy)]
@@ -39,6 +43,7 @@ pub enum Class {
 }
 
 impl Class {
+    ghost use Rattle.rust_tokens.specs.Bytes.{is_ascii_in};
     ghost use Rattle.rust_tokens.specs.Classes.{passes};
 
     /// Returns whether the character is in the class.
@@ -59,6 +64,18 @@ impl Class {
             Class::Slash => c == '/',
             Class::StarOrSlash => c == '*' || c == '/',
             Class::PointOrStart => c == '.' || is_id_start(c),
+        }
+    }
+
+    /// Returns whether the byte is an ASCII character in the class.
+    #[inline(always)]
+    fn passes_byte(self, byte: u8) -> bool
+        ensures { result ≡ is_ascii_in (passes self) byte }
+    {
+        match self {
+            Class::Space => is_space_byte(byte),
+            Class::Continue => is_word_byte(byte),
+            _ => byte < 128 && self.passes(byte as char),
         }
     }
 }
@@ -139,8 +156,10 @@ pub fn begins(text: &str, class: Class) -> bool
     }
 }
 
-/// Returns what is left after the longest front of the text whose characters are in the class.
-pub fn behind_run(text: &str, class: Class) -> &str
+/// Returns what is left after the longest front of the text whose characters are in the class,
+/// which need not be ASCII.
+#[inline(never)]
+fn behind_wide_run(text: &str, class: Class) -> &str
     ensures { chars result.now ≡ behind (passes class) (chars text.now) }
 {
     let mut rest = text;
@@ -149,6 +168,45 @@ pub fn behind_run(text: &str, class: Class) -> &str
             return rest;
         }
         rest = more;
+    }
+    rest
+}
+
+/// Returns the number of ASCII characters in the class with which the text begins.
+#[inline(always)]
+fn ascii_width(text: &str, class: Class) -> usize
+    ensures at { IsCharBoundary text.now result }
+    ensures same { behind (passes class) (chars (drop result text.now))
+        ≡ behind (passes class) (chars text.now) }
+    ensures next { result < length text.now
+        → is_ascii_in (passes class) (slice_index text.now result) ≡ false }
+{
+    let bytes = text.as_bytes();
+    for i in 0..bytes.len() {
+        if !class.passes_byte(bytes[i]) {
+            return i;
+        }
+    }
+    bytes.len()
+}
+
+/// Returns whether there is a byte at the index `at` that is not ASCII.
+#[inline(always)]
+fn is_wide(bytes: &[u8], at: usize) -> bool
+    ensures { IsFalse result → at < length bytes.now → slice_index bytes.now at < 128 }
+{
+    at < bytes.len() && bytes[at] >= 128
+}
+
+/// Returns what is left after the longest front of the text whose characters are in the class.
+#[inline(always)]
+pub fn behind_run(text: &str, class: Class) -> &str
+    ensures { chars result.now ≡ behind (passes class) (chars text.now) }
+{
+    let width = ascii_width(text, class);
+    let rest = &text[width..];
+    if is_wide(text.as_bytes(), width) {
+        return behind_wide_run(rest, class);
     }
     rest
 }

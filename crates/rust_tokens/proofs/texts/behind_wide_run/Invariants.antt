@@ -3,7 +3,7 @@ use denote.Text.{Utf8}
 use Rattle.std.proofs.Common.{◌≡◌, length, chars}
 use Rattle.rust_tokens.specs.Runs.{behind}
 use Rattle.rust_tokens.specs.Classes.{passes}
-use Rattle.rust_tokens.proofs.texts.behind_run.Given as goal
+use Rattle.rust_tokens.proofs.texts.behind_wide_run.Given as goal
 
 abbrev pub invariant-loop-c : goal.invariant-loop-c
 invariant-loop-c l = record {

@@ -1,0 +1,49 @@
+//! Bytes that are ASCII characters of a class, by a table.
+
+ghost use Rattle.std.specs.Prelude.{◌≡◌};
+ghost use Rattle.rust_tokens.specs.Bytes.{is_ascii_in, is_plain_start, is_sign};
+ghost use Rattle.rust_tokens.specs.Runs.{is_id_continue, is_space};
+
+/// For each byte a digit: 1 for white space, 2 for punctuation but `/`, 3 for digits, 4 for the
+/// letters that a prefix can begin with, 5 for other letters and `_`, 0 for all else.
+static SORTS: [u8; 256] = *b"\
+    00000000011111000000000000000000\
+    12022220222222203333333333222222\
+    25555555555555555555555555520225\
+    05445555555555555545555555522220\
+    00000000000000000000000000000000\
+    00000000000000000000000000000000\
+    00000000000000000000000000000000\
+    00000000000000000000000000000000";
+
+/// Returns whether the byte is white space.
+#[inline(always)]
+pub fn is_space_byte(byte: u8) -> bool
+    ensures { result ≡ is_ascii_in is_space byte }
+{
+    SORTS[byte as usize] == b'1'
+}
+
+/// Returns whether the byte is a letter, a digit or `_`, which continue a word.
+#[inline(always)]
+pub fn is_word_byte(byte: u8) -> bool
+    ensures { result ≡ is_ascii_in is_id_continue byte }
+{
+    SORTS[byte as usize] >= b'3'
+}
+
+/// Returns whether the byte is punctuation that is a token by itself, whatever follows.
+#[inline(always)]
+pub fn is_sign(byte: u8) -> bool
+    ensures { result ≡ is_sign byte }
+{
+    SORTS[byte as usize] == b'2'
+}
+
+/// Returns whether the byte begins a word and no literal: a letter but `b`, `c` and `r`, or `_`.
+#[inline(always)]
+pub fn is_plain_start(byte: u8) -> bool
+    ensures { result ≡ is_plain_start byte }
+{
+    SORTS[byte as usize] == b'5'
+}
