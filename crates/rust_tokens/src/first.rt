@@ -11,8 +11,8 @@ use crate::bodies::{Body, ended, unended};
 use crate::bytes::{is_plain_start, is_sign, is_space_byte};
 use crate::kinds::Kind;
 use crate::literals::{
-    behind_char, behind_comment, behind_name, behind_raw, behind_raw_name, behind_string,
-    block_kind, line_kind,
+    behind_char, behind_comment, behind_line, behind_name, behind_raw, behind_raw_name,
+    behind_string, block_kind, line_kind,
 };
 use crate::numbers::first_number;
 use crate::openings::{Opening, first_opening};
@@ -37,7 +37,7 @@ fn first_slashed(text: &str) -> Body<'_>
     };
     if c == '/' {
         let kind = line_kind(rest);
-        return ended(kind, behind_run(rest, Class::Line));
+        return ended(kind, behind_line(rest));
     }
     if c == '*' {
         return closed(block_kind(rest), behind_comment(rest));

@@ -11,7 +11,8 @@ ghost use Rattle.rust_tokens.specs.declared.kinds.Kind.TheVariants.{ByteOrderMar
 
 use crate::first::{behind_suffix, first_body, plain_token};
 use crate::kinds::{Kind, Token};
-use crate::texts::{Class, behind_run, strip};
+use crate::literals::behind_line;
+use crate::texts::strip;
 use std::alloc::{AllocError, Global};
 
 /// A token at the start of a text.
@@ -143,7 +144,7 @@ fn behind_shebang(text: &str) -> &str
     if opens_attribute(line) {
         text
     } else {
-        behind_run(line, Class::Line)
+        behind_line(line)
     }
 }
 

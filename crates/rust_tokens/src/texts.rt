@@ -16,8 +16,6 @@ use crate::bytes::{is_space_byte, is_word_byte};
 pub enum Class {
     /// White space.
     Space,
-    /// All characters but LF.
-    Line,
     /// Characters that continue a word: `XID_Continue`.
     Continue,
     /// `#`
@@ -52,7 +50,6 @@ impl Class {
     {
         match self {
             Class::Space => is_space(c),
-            Class::Line => c != '\n',
             Class::Continue => unicode_ident::is_xid_continue(c),
             Class::Hash => c == '#',
             Class::Escape => c != '\'' && c != '\n',

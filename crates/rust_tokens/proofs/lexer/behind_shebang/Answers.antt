@@ -17,11 +17,11 @@ returns-then-opens_attribute-clause-shebanged c =
 
 pub returns-else-opens_attribute-clause-within : goal.returns-else-opens_attribute-clause-within
 returns-else-opens_attribute-clause-within c =
-    shebang-within _ _ _ _ c.utf8.text c.behind_run.utf8 c.in-Some.ensures c.in-Some-strip.ensures
-    c.behind_run.ensures
+    shebang-within _ _ _ _ c.utf8.text c.behind_line.utf8 c.in-Some.ensures c.in-Some-strip.ensures
+    c.behind_line.ensures
 
 pub returns-else-opens_attribute-clause-shebanged :
     goal.returns-else-opens_attribute-clause-shebanged
 returns-else-opens_attribute-clause-shebanged c =
-    shebanged _ _ _ _ c.utf8.text c.behind_run.utf8 c.in-Some.ensures c.in-Some-strip.ensures
-    c.behind_run.ensures (c.if-opens_attribute.ensures.no refl)
+    shebanged _ _ _ _ c.utf8.text c.behind_line.utf8 c.in-Some.ensures c.in-Some-strip.ensures
+    c.behind_line.ensures (c.if-opens_attribute.ensures.no refl)
