@@ -16,7 +16,9 @@ use crate::literals::{
 };
 use crate::numbers::first_number;
 use crate::openings::{Opening, first_opening};
-use crate::texts::{Class, behind_run, is_id_start, is_punct, is_space, split_first};
+use crate::texts::{
+    Class, behind_ascii_run, behind_run, is_id_start, is_punct, is_space, split_first,
+};
 
 /// Returns the token with this end, or the one that is not ended, which takes all.
 fn closed<'a>(kind: Kind, end: Option<&'a str>) -> Body<'a>
@@ -164,9 +166,9 @@ pub fn behind_suffix(body: Body<'_>) -> &str
     }
 }
 
-/// Returns the kind of the first token and what is left after it if its first byte shows them:
-/// punctuation, white space and most words, which are no literals. Returns `None` of other tokens
-/// and of the empty text.
+/// Returns the kind of the first token and what is left after it if it is one of those of which
+/// there are most, which are no literals: punctuation, and white space and words of ASCII. Returns
+/// `None` of other tokens, of words that begin as a prefix does, and of the empty text.
 #[inline(always)]
 pub fn plain_token(text: &str) -> Option<(Kind, &str)>
     ensures first { IfSome result
@@ -181,10 +183,12 @@ pub fn plain_token(text: &str) -> Option<(Kind, &str)>
         return Some((Kind::Punct, &text[1..]));
     }
     if is_space_byte(bytes[0]) {
-        return Some((Kind::Whitespace, behind_run(text, Class::Space)));
+        let rest = behind_ascii_run(text, Class::Space)?;
+        return Some((Kind::Whitespace, rest));
     }
     if is_plain_start(bytes[0]) {
-        return Some((Kind::Ident, behind_run(text, Class::Continue)));
+        let rest = behind_ascii_run(text, Class::Continue)?;
+        return Some((Kind::Ident, rest));
     }
     None
 }

@@ -155,7 +155,7 @@ pub fn begins(text: &str, class: Class) -> bool
 
 /// Returns what is left after the longest front of the text whose characters are in the class,
 /// which need not be ASCII.
-#[inline(never)]
+#[inline(always)]
 fn behind_wide_run(text: &str, class: Class) -> &str
     ensures { chars result.now ≡ behind (passes class) (chars text.now) }
 {
@@ -193,6 +193,19 @@ fn is_wide(bytes: &[u8], at: usize) -> bool
     ensures { IsFalse result → at < length bytes.now → slice_index bytes.now at < 128 }
 {
     at < bytes.len() && bytes[at] >= 128
+}
+
+/// Returns what is left after the longest front of the text whose characters are in the class, or
+/// `None` if a character that is not ASCII comes in it or after it.
+#[inline(always)]
+pub fn behind_ascii_run(text: &str, class: Class) -> Option<&str>
+    ensures { IfSome result (λ r. chars r.now ≡ behind (passes class) (chars text.now)) }
+{
+    let width = ascii_width(text, class);
+    if is_wide(text.as_bytes(), width) {
+        return None;
+    }
+    Some(&text[width..])
 }
 
 /// Returns what is left after the longest front of the text whose characters are in the class.

@@ -26,7 +26,7 @@ returns-then-is_space_byte-clause-first c =
     let size = rw c.as_bytes-bytes.ensures.value at c.is_empty.ensures in
     let some = not_empty _ (sym size ∙ c.if-is_empty.false) in
     let space = rw c.as_bytes-bytes.ensures.value at c.is_space_byte.ensures in
-    ap (λ r. Some (Whitespace, true, r)) c.behind_run.ensures
+    ap (λ r. Some (Whitespace, true, r)) c.in_ok-rest.ensures
     ∙ (first-space c.args.text.now c.utf8.text some (sym space ∙ c.if-is_space_byte.true))
 
 pub returns-then-is_plain_start-clause-first : goal.returns-then-is_plain_start-clause-first
@@ -34,5 +34,5 @@ returns-then-is_plain_start-clause-first c =
     let size = rw c.as_bytes-bytes.ensures.value at c.is_empty.ensures in
     let some = not_empty _ (sym size ∙ c.if-is_empty.false) in
     let start = rw c.as_bytes-bytes.ensures.value at c.is_plain_start.ensures in
-    ap (λ r. Some (Ident, true, r)) c.behind_run-then-is_plain_start.ensures
+    ap (λ r. Some (Ident, true, r)) c.in_ok-rest-2.ensures
     ∙ (first-word c.args.text.now c.utf8.text some (sym start ∙ c.if-is_plain_start.true))
