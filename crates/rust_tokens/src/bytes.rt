@@ -1,7 +1,8 @@
 //! Bytes that are ASCII characters of a class, by a table.
 
 ghost use Rattle.std.specs.Prelude.{◌≡◌};
-ghost use Rattle.rust_tokens.specs.Bytes.{is_ascii_in, is_plain_start, is_sign};
+ghost use Rattle.rust_tokens.specs.Bytes.{is_ascii_in, is_plain_start, is_prefix_letter};
+ghost use Rattle.rust_tokens.specs.Bytes.{is_sign};
 ghost use Rattle.rust_tokens.specs.Runs.{is_id_continue, is_space};
 
 /// For each byte a digit: 1 for white space, 2 for punctuation but `/`, 3 for digits, 4 for the
@@ -46,4 +47,12 @@ pub fn is_plain_start(byte: u8) -> bool
     ensures { result ≡ is_plain_start byte }
 {
     SORTS[byte as usize] == b'5'
+}
+
+/// Returns whether the byte is a letter with which a prefix can begin: `b`, `c` or `r`.
+#[inline(always)]
+pub fn is_prefix_letter(byte: u8) -> bool
+    ensures { result ≡ is_prefix_letter byte }
+{
+    SORTS[byte as usize] == b'4'
 }

@@ -1,5 +1,5 @@
-//! Where literals and comments have their end, by the bytes of the text. What marks an end is ASCII,
-//! and no byte of another character is.
+//! Where literals and comments have their end, by the bytes of the text. What marks an end is
+//! ASCII, and no byte of another character is.
 
 ghost use Rattle.std.specs.Prelude.{◌≡◌, false, option_map};
 ghost use Rattle.rust_tokens.specs.Comments.{behind_comment};

@@ -1,6 +1,8 @@
 //! The first token of a text.
 
-ghost use Rattle.std.specs.Prelude.{◌≡◌, ◌&&◌, ℕ, IfSome, Some, chars, false, option_map, true};
+ghost use Rattle.std.specs.Prelude.{◌≡◌, ◌<◌, ◌&&◌, ℕ, IfSome, Some, chars, false, length};
+ghost use Rattle.std.specs.Prelude.{option_map, slice_index, true};
+ghost use Rattle.rust_tokens.specs.Bytes.{begins_word};
 ghost use Rattle.rust_tokens.specs.First.{behind_suffix, closed, first_of};
 ghost use Rattle.rust_tokens.specs.First.{first_plain, first_quoted, first_slashed, by_opening};
 ghost use Rattle.rust_tokens.specs.Seen.{seen};
@@ -8,7 +10,7 @@ ghost use Rattle.rust_tokens.specs.Texts.{Text};
 ghost use Rattle.rust_tokens.specs.Tokens.{is_literal};
 
 use crate::bodies::{Body, ended, unended};
-use crate::bytes::{is_plain_start, is_sign, is_space_byte};
+use crate::bytes::{is_plain_start, is_prefix_letter, is_sign, is_space_byte, is_word_byte};
 use crate::kinds::Kind;
 use crate::literals::{
     behind_char, behind_comment, behind_line, behind_name, behind_raw, behind_raw_name,
@@ -166,9 +168,30 @@ pub fn behind_suffix(body: Body<'_>) -> &str
     }
 }
 
+/// Returns the second byte, or 0 if there is none.
+#[inline(always)]
+fn second(bytes: &[u8]) -> u8
+    ensures { result ≡ slice_index bytes.now 1 }
+{
+    if bytes.len() > 1 { bytes[1] } else { 0 }
+}
+
+/// Returns whether the first two bytes show that a word begins, and no literal.
+#[inline(always)]
+fn begins_word(bytes: &[u8]) -> bool
+    requires { 0 < length bytes.now }
+    ensures { result ≡ begins_word (slice_index bytes.now 0) (slice_index bytes.now 1) }
+{
+    if is_plain_start(bytes[0]) {
+        return true;
+    }
+    let second = second(bytes);
+    is_prefix_letter(bytes[0]) && is_word_byte(second) && second != b'r'
+}
+
 /// Returns the kind of the first token and what is left after it if it is one of those of which
 /// there are most, which are no literals: punctuation, and white space and words of ASCII. Returns
-/// `None` of other tokens, of words that begin as a prefix does, and of the empty text.
+/// `None` of other tokens, of some words that begin as a prefix does, and of the empty text.
 #[inline(always)]
 pub fn plain_token(text: &str) -> Option<(Kind, &str)>
     ensures first { IfSome result
@@ -186,7 +209,7 @@ pub fn plain_token(text: &str) -> Option<(Kind, &str)>
         let rest = behind_ascii_run(text, Class::Space)?;
         return Some((Kind::Whitespace, rest));
     }
-    if is_plain_start(bytes[0]) {
+    if begins_word(bytes) {
         let rest = behind_ascii_run(text, Class::Continue)?;
         return Some((Kind::Ident, rest));
     }

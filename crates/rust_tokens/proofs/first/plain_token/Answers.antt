@@ -29,10 +29,10 @@ returns-then-is_space_byte-clause-first c =
     ap (λ r. Some (Whitespace, true, r)) c.in_ok-rest.ensures
     ∙ (first-space c.args.text.now c.utf8.text some (sym space ∙ c.if-is_space_byte.true))
 
-pub returns-then-is_plain_start-clause-first : goal.returns-then-is_plain_start-clause-first
-returns-then-is_plain_start-clause-first c =
+pub returns-then-begins_word-clause-first : goal.returns-then-begins_word-clause-first
+returns-then-begins_word-clause-first c =
     let size = rw c.as_bytes-bytes.ensures.value at c.is_empty.ensures in
     let some = not_empty _ (sym size ∙ c.if-is_empty.false) in
-    let start = rw c.as_bytes-bytes.ensures.value at c.is_plain_start.ensures in
+    let start = rw c.as_bytes-bytes.ensures.value at c.begins_word.ensures in
     ap (λ r. Some (Ident, true, r)) c.in_ok-rest-2.ensures
-    ∙ (first-word c.args.text.now c.utf8.text some (sym start ∙ c.if-is_plain_start.true))
+    ∙ (first-word c.args.text.now c.utf8.text some (sym start ∙ c.if-begins_word.true))
