@@ -3,7 +3,7 @@ use Rattle.std.proofs.Common.{◌≡◌, ◌+◌, ◌<◌, List, ℕ, Bool, true
 use Rattle.std.proofs.Common.{inl, inr, length, chars, IsUtf8, IsCharBoundary, drop, get_or}
 use Rattle.std.proofs.Common.{ap, sym, ◌∙◌, arith}
 use Rattle.std.specs.Prelude.{◌⊎◌, ◌&&◌, ◌++◌, ◌≤◌, ◌==◌, ◌||◌, nat_lt}
-use Rattle.std.specs.Char.{is_ascii_alphanumeric}
+use Rattle.std.specs.Char.{is_ascii_alphabetic, is_ascii_alphanumeric}
 use Rattle.std.proofs.lemmas.Bool.{and_parts, cases_lt, cond-true, cond-false, false≢true}
 use Rattle.std.proofs.lemmas.Bool.Decides.{nat_tests}
 use Rattle.std.proofs.lemmas.List.{drop_more, drop_all}
@@ -11,7 +11,8 @@ use Rattle.std.proofs.lemmas.Str.{chars-nil, chars_past_char, encode_ascii, IsUt
 use Rattle.std.proofs.lemmas.Str.{IsCharBoundary-after_ascii, IsCharBoundary-start}
 use Rattle.unicode_ident.proofs.IdentLemmas.{is_xid_continue-ascii}
 use Rattle.rust_tokens.specs.Bytes.{is_ascii_in}
-use Rattle.rust_tokens.specs.Runs.{behind, is_id_continue}
+use Rattle.rust_tokens.specs.Runs.{behind, is_id_continue, is_id_start}
+use Rattle.rust_tokens.proofs.Classes.{start_at}
 
 -- The bytes that continue a word.
 pub word-byte : (b : ℕ) → (is_ascii_alphanumeric b || (b == 95)) ≡ is_ascii_in is_id_continue b
@@ -20,6 +21,14 @@ word-byte b = at (cases_lt b 128)
     at : (b < 128) ⊎ (128 ≤ b)
         → (is_ascii_alphanumeric b || (b == 95)) ≡ is_ascii_in is_id_continue b
     at (inl small) = let e = is_xid_continue-ascii b small in grind (arith, nat_tests)
+    at (inr big) = grind (arith, nat_tests)
+
+-- The bytes that begin one.
+pub start-byte : (b : ℕ) → ((b == 95) || is_ascii_alphabetic b) ≡ is_ascii_in is_id_start b
+start-byte b = at (cases_lt b 128)
+  where
+    at : (b < 128) ⊎ (128 ≤ b) → ((b == 95) || is_ascii_alphabetic b) ≡ is_ascii_in is_id_start b
+    at (inl small) = let e = start_at b small in grind (arith, nat_tests)
     at (inr big) = grind (arith, nat_tests)
 
 -- An ASCII byte between characters is the next character.

@@ -3,7 +3,7 @@
 ghost use Rattle.std.specs.Prelude.{◌≡◌};
 ghost use Rattle.rust_tokens.specs.Bytes.{is_ascii_in, is_plain_start, is_prefix_letter};
 ghost use Rattle.rust_tokens.specs.Bytes.{is_sign};
-ghost use Rattle.rust_tokens.specs.Runs.{is_id_continue, is_space};
+ghost use Rattle.rust_tokens.specs.Runs.{is_id_continue, is_id_start, is_space};
 
 /// For each byte a digit: 1 for white space, 2 for punctuation but `/`, 3 for digits, 4 for the
 /// letters that a prefix can begin with, 5 for other letters and `_`, 0 for all else.
@@ -31,6 +31,14 @@ pub fn is_word_byte(byte: u8) -> bool
     ensures { result ≡ is_ascii_in is_id_continue byte }
 {
     SORTS[byte as usize] >= b'3'
+}
+
+/// Returns whether the byte is a letter or `_`, which begin a word.
+#[inline(always)]
+pub fn is_start_byte(byte: u8) -> bool
+    ensures { result ≡ is_ascii_in is_id_start byte }
+{
+    SORTS[byte as usize] >= b'4'
 }
 
 /// Returns whether the byte is punctuation that is a token by itself, whatever follows.

@@ -9,7 +9,7 @@ ghost use Rattle.rust_tokens.specs.Runs.{is_hex_part, is_id_start, is_punct, is_
 ghost use Rattle.rust_tokens.specs.Characters.{is_plain};
 ghost use Rattle.rust_tokens.specs.Texts.{split_first, strip};
 
-use crate::bytes::{is_space_byte, is_word_byte};
+use crate::bytes::{is_space_byte, is_start_byte, is_word_byte};
 
 /// A class of characters.
 #[derive(Clone, Copy)]
@@ -98,7 +98,10 @@ pub fn is_space(c: char) -> bool
 pub fn is_id_start(c: char) -> bool
     ensures { result ≡ is_id_start c }
 {
-    c == '_' || unicode_ident::is_xid_start(c)
+    if c < '\u{80}' {
+        return is_start_byte(c as u8);
+    }
+    unicode_ident::is_xid_start(c)
 }
 
 /// Returns whether the character is punctuation or a delimiter.
