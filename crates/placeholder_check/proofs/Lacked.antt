@@ -1,5 +1,6 @@
 -- Of the members of a list, each once, those that another list does not have.
-use Rattle.std.proofs.Common.{◌≡◌, ◌↔◌, ℕ, ◌<◌, Bool, true, false, cond, not, ◌&&◌, List, [], ◌∷◌, map}
+use Rattle.std.proofs.Common.{◌≡◌, ◌↔◌, ℕ, ◌<◌, Bool, true, false, cond, not, ◌&&◌, List, [], ◌∷◌}
+use Rattle.std.proofs.Common.{map}
 use Rattle.std.proofs.Common.{filter, Option, Some, None, refl, sym, ap, ◌∙◌}
 use Rattle.std.specs.Bool.{Decides}
 use Rattle.std.specs.Cmp.{unsigned_Decides}
@@ -51,7 +52,8 @@ module _ (known : Text → Bool) (ys : List Text)
       rw f.is_there (Decides-like (not (known f.entry))
       (λ l. record { entry = f.entry; is_there = f.is_there; is_new = f.is_new; is_lacked = l })
       (λ g. rw (same_Some _ _ (sym f.is_there ∙ g.is_there)) g.is_lacked)
-      (Decides-not _ (Decides-at _ _ (same f.entry) (is_member-Decides bytes_eq-Decides ys f.entry))))
+      (Decides-not _ (Decides-at _ _ (same f.entry)
+      (is_member-Decides bytes_eq-Decides ys f.entry))))
 
   kept-has : (xs : List Text) (ks : List ℕ) → Lists (IsFirst xs []) ks → (k : ℕ)
       → Contains (filter (λ k. is_lacked (slice_get xs k)) ks) k ↔ IsFirst xs ys k

@@ -72,7 +72,8 @@ pub Lists-members : (s : Indices) (first end from : ℕ) (xs : List ℕ) → len
     (xs ++ filter (λ n. nat_le from n) s.others.keys)
 Lists-members s first end from xs h a b between ordered l =
     Lists-same _ (λ n. (first ≤ n) × (is_noted s n ≡ true)) _ same
-    (Lists-joined (λ n. (first ≤ n) × (is_noted s n ≡ true)) (λ n. contains nat_cmp s.others n ≡ true)
+    (Lists-joined (λ n. (first ≤ n) × (is_noted s n ≡ true))
+    (λ n. contains nat_cmp s.others n ≡ true)
     from xs _ (Lists-same _ _ xs below l) (Lists-from s.others from ordered))
   where
     below : (n : ℕ) → (n < end) × ((first ≤ n) × (is_noted s n ≡ true))

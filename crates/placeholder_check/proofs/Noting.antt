@@ -14,7 +14,8 @@ use Rattle.std.proofs.lemmas.List.Elements.{filter_map-append, Decides-contains}
 use Rattle.rustc_parse_format.specs.declared.types.Piece.{Piece}
 use Rattle.rustc_parse_format.specs.Seen.{seen}
 use Rattle.placeholder_check.specs.declared.uses.Uses.{Uses}
-use Rattle.placeholder_check.specs.Uses.{Use, ByIndex, ByName, piece_uses, used_name, used_names, uses}
+use Rattle.placeholder_check.specs.Uses.{Use, ByIndex, ByName, piece_uses, used_name, used_names}
+use Rattle.placeholder_check.specs.Uses.{uses}
 use Rattle.placeholder_check.specs.Noted.{Adds, Holds, is_index, has_index, is_noted}
 
 -- uses with others that are added
@@ -25,7 +26,8 @@ Holds-append us vs a b h r = record {
 }
 
 -- uses and then others
-pub Adds-append : (us vs : List Use) (a b d : Uses) → Adds us a b → Adds vs b d → Adds (us ++ vs) a d
+pub Adds-append : (us vs : List Use) (a b d : Uses) → Adds us a b → Adds vs b d
+    → Adds (us ++ vs) a d
 Adds-append us vs a b d r s = record {
   indices = λ n. s.indices n ∙ rw (r.indices n, list_any-append (is_index n) us vs)
       (or_assoc (is_noted a.indices n) (has_index us n) (has_index vs n));

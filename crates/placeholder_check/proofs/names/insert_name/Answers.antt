@@ -2,7 +2,8 @@ use Rattle.std.proofs.Common.{◌≡◌, false, chars, sym, arith}
 use Rattle.placeholder_check.specs.Noted.{has_text, is_known}
 use Rattle.placeholder_check.proofs.Naming.{Follows-had, Follows-new, known-early, known-late}
 use Rattle.placeholder_check.proofs.names.insert_name.Goals as goal
-use Rattle.placeholder_check.proofs.names.insert_name.Goals.{then-len-ge-FEW+in_ok-insert_later, else-len-ge-FEW}
+use Rattle.placeholder_check.proofs.names.insert_name.Goals.{then-len-ge-FEW+in_ok-insert_later}
+use Rattle.placeholder_check.proofs.names.insert_name.Goals.{else-len-ge-FEW}
 
 pub returns-then-has_name : goal.returns-then-has_name
 returns-then-has_name c = λ ts f.
@@ -17,8 +18,11 @@ returns c = λ ts f.
       | else-len-ge-FEW w ↦ rw (w.names-is) at c.in_ok-push.ensures.items
     ])
     (λ t. elim c.if-len-ge-FEW.branch [
-      | then-len-ge-FEW+in_ok-insert_later w ↦ rw (c.in_ok-push.ensures.items, w.names-is, w.in_ok-insert_later.ensures t)
-          (known-late t c.args.names.now.list.items c.args.name 16 (has_text c.args.names.now.later t) (omega arith))
+      | then-len-ge-FEW+in_ok-insert_later w ↦
+          rw (c.in_ok-push.ensures.items, w.names-is, w.in_ok-insert_later.ensures t)
+          (known-late t c.args.names.now.list.items c.args.name 16
+          (has_text c.args.names.now.later t) (omega arith))
       | else-len-ge-FEW w ↦ rw (c.in_ok-push.ensures.items, w.names-is)
-          (known-early t c.args.names.now.list.items c.args.name 16 (has_text c.args.names.now.later t) (omega arith))
+          (known-early t c.args.names.now.list.items c.args.name 16
+          (has_text c.args.names.now.later t) (omega arith))
     ]) f
