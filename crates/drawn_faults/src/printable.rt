@@ -62,12 +62,15 @@ fn short_front(bytes: &[u8], high: u8) -> usize
     bytes.len()
 }
 
-/// Returns the length of the longest prefix that is plain. The last block ends where the bytes end,
-/// so it may overlap the one before it.
+/// Returns the length of the longest prefix that is plain, and examines no block if there is none.
+/// The last block ends where the bytes end, so it may overlap the one before it.
 fn plain_front(bytes: &[u8], high: u8) -> usize
     ensures within { result ≤ length bytes.now }
     ensures pass { list_all (is_plain high) (take result bytes.now) ≡ true }
 {
+    if bytes.is_empty() || !is_plain(bytes[0], high) {
+        return 0;
+    }
     if bytes.len() < 16 {
         return short_front(bytes, high);
     }
