@@ -231,7 +231,7 @@ pub fn draw(alloc: Global, picture: &Picture<'_>, error: &ParseError) -> Result<
         text: text.as_str(),
         extent: picture.extent(&error.span),
     };
-    // each drawing has these texts, and 58 bytes or more besides
+    // each drawing has these texts, and some 58 bytes or more besides
     let texts = picture.path.len().saturating_add(error.description.len());
     let length = texts.saturating_add(text.len()).saturating_add(58);
     let mut out = String::with_capacity(alloc, length)?;

@@ -1,5 +1,6 @@
 //! Sets of indices of arguments. Most indices rise from 0 with the placeholders, so that they are
-//! marked in a list; others are in a set.
+//! marked in a list; others are in a set. Lists are filled by `push`: `collect` asks for more room
+//! first, and for less if that fails.
 
 ghost use Rattle.std.specs.Prelude.{◌≡◌, ℕ, ◌+◌, ◌<◌, ◌≤◌, ◌||◌, ◌==◌, ◌++◌, cond, nat_le, filter};
 ghost use Rattle.std.specs.Prelude.{false, true, length, min, get_or, [], IfOk, IsOk, OnOk};
@@ -11,7 +12,7 @@ ghost use Rattle.placeholder_check.specs.Noted.{is_noted};
 use std::alloc::{AllocError, Global};
 use std::collections::BTreeSet;
 
-/// How many unmarked indices at most are put between the marked ones and the next.
+/// An index that is this far behind the marks, or farther, is not marked.
 const GAP: usize = 16;
 
 /// A set of indices.

@@ -43,7 +43,7 @@ fn is_plain(byte: u8, high: u8) -> bool {
     b' ' <= byte && byte <= high && byte != 127 && byte != 226
 }
 
-/// Returns the length of the longest prefix of fewer than sixteen bytes that is plain.
+/// Returns the length of a prefix that is plain, the longest one, of fewer than sixteen bytes.
 // ensures within { result ≤ length bytes.now }
 // ensures pass { list_all (is_plain high) (take result bytes.now) ≡ true }
 #[inline]

@@ -105,13 +105,14 @@ pub fn placed(
     let offsets = starts(alloc, input, style, snippet, source, appended_newline)?;
     let starts = offsets.as_slice();
     let kept = length_of(input).saturating_sub(usize::from(appended_newline));
-    let mut tokens = Vec::made_for(alloc, labels.len().saturating_add(2))?;
     match source {
         None => {
+            let mut tokens = Vec::made_for(alloc, labels.len())?;
             place(&mut tokens, labels, starts, kept)?;
             Ok(tokens)
         }
         Some(literal) => {
+            let mut tokens = Vec::made_for(alloc, labels.len().saturating_add(2))?;
             tokens.try_push(Token {
                 kind: Kind::Quote,
                 span: 0..starts[0],

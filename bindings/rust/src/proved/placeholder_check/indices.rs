@@ -1,5 +1,6 @@
 //! Sets of indices of arguments. Most indices rise from 0 with the placeholders, so that they are
-//! marked in a list; others are in a set.
+//! marked in a list; others are in a set. Lists are filled by `push`: `collect` asks for more room
+//! first, and for less if that fails.
 
 // Extracted from crates/placeholder_check/src/indices.rt by tools/extract: not to be edited.
 // That source is proved, and each contract here is its. That this text means the same is tested:
@@ -9,7 +10,7 @@ use crate::shim::alloc::{AllocError, Global};
 use crate::shim::prelude::*;
 use std::collections::BTreeSet;
 
-/// How many unmarked indices at most are put between the marked ones and the next.
+/// An index that is this far behind the marks, or farther, is not marked.
 const GAP: usize = 16;
 
 /// A set of indices.

@@ -33,7 +33,7 @@ returns-in-None c mode labels =
     (c.in_ok-place-in-None.ensures w (c.as_slice-starts.ensures.value
     ∙ c.in_ok-offsets.ensures)
     ∙ (ap (λ l. map seen_token l ++ placed_sizes w (length w.places) c.saturating_sub-kept.result
-    c.args.labels.now) c.in_ok-tokens.ensures.items
+    c.args.labels.now) c.in_ok-tokens-in-None.ensures.items
     ∙ ap (placed_sizes w (length w.places) c.saturating_sub-kept.result) labels))
 
 pub returns : goal.returns
@@ -52,6 +52,6 @@ returns c mode labels =
     ++ placed_sizes w (length w.places) c.saturating_sub-kept.result l) labels in
     quoted-tokens mode input c.args.style literal c.args.appended_newline
     c.saturating_sub-kept.result _ _ _ kept source.1 starts c.width_of.ensures
-    (assembled _ _ _ _ _ _ _ c.in_ok-tokens.ensures.items
+    (assembled _ _ _ _ _ _ _ c.in_ok-tokens-in-Some.ensures.items
     c.in_ok-push-in-Some.ensures.items placed c.in_ok-push-in-Some-2.ensures.items)
     ∙ ap (λ s. tokens mode input c.args.style s c.args.appended_newline) (sym source.0)
