@@ -191,8 +191,8 @@ fn begins_word(bytes: &[u8]) -> bool
 
 /// Returns the kind of the first token and what is left after it if it is one of those of which
 /// there are most, which are no literals: punctuation, and white space and words of ASCII. Returns
-/// `None` of other tokens, of some words that begin as a prefix does, of a word or white space with a
-/// character outside ASCII right behind it, and of the empty text.
+/// `None` of other tokens, of some words that begin as a prefix does, of a word or white space with
+/// a character outside ASCII right behind it, and of the empty text.
 #[inline(always)]
 pub fn plain_token(text: &str) -> Option<(Kind, &str)>
     ensures first { IfSome result

@@ -28,8 +28,8 @@ struct Step<'a> {
     rest: &'a str,
 }
 
-/// Returns the token at the start of a text, or `None` if the text is empty: the slow way, for those
-/// that `plain_token` does not know.
+/// Returns the token at the start of a text, or `None` if the text is empty: the slow way, for what
+/// `plain_token` does not know.
 #[inline(never)]
 fn any_step(text: &str) -> Option<Step<'_>>
     ensures begins { IfSome result (λ s. (x : Lexeme) × Begins x (chars text.now) (chars s.rest.now)
