@@ -3,7 +3,6 @@ use Rattle.std.proofs.Common.{◌≡◌, ◌≢◌, ℕ, suc, zero, ◌+◌, ◌
 use Rattle.std.proofs.Common.{◌∷◌, length, drop, take, map, reverse, refl, sym, ap, ◌∙◌, arith}
 use Rattle.std.proofs.Common.{List, [], append-nil, append_assoc, length-append, min, nat_lt}
 use Rattle.std.specs.List.{filter}
-use Rattle.std.proofs.Math.Seq.{take-append_seam}
 use Rattle.std.proofs.lemmas.List.{drop-map, drop_at, length-map, length-reverse, length-take}
 use Rattle.std.proofs.lemmas.List.{length-take-le, map-append, take-map, take_all}
 use Rattle.std.proofs.lemmas.List.{take_at}
@@ -209,9 +208,3 @@ turned old added whole n k h w i =
     ) in
     ap (λ l. drop (n - k) l ++ take (n - k) l) parts
     ∙ rw (drop_at (old ++ back) front (n - k) count, take_at (old ++ back) front (n - k) count) refl
-
--- A full list stays as it is where nothing is put in front.
-pub full-kept : {X : Type 0} (most fronts : ℕ) (xs errors : List X) → fronts ≡ 0
-    → length xs ≡ most → xs ≡ take most (take fronts errors ++ (xs ++ drop fronts errors))
-full-kept most fronts xs errors none full =
-    rw (none, sym full) (sym (take-append_seam xs errors))

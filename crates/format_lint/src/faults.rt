@@ -36,18 +36,6 @@ pub struct Faults {
 }
 
 impl Faults {
-    /// Counts errors that are not drawn. Returns `Err` if there are more than a `usize` counts.
-    fn add_others(&mut self, count: usize) -> Result<(), AllocError>
-        ensures first { self.new.first ≡ self.old.first }
-        ensures others { OnOk result (self.new.others ≡ self.old.others + count) }
-    {
-        let Some(others) = self.others.checked_add(count) else {
-            return Err(AllocError);
-        };
-        self.others = others;
-        Ok(())
-    }
-
     /// Moves the errors of a call out of a parser that had none before the call, and adds them to
     /// those of the calls before: `fronts` of them before these, and the others after. Keeps only
     /// those that are drawn, so that hostile input does not fill the memory. Returns `Err` if an
@@ -67,17 +55,15 @@ impl Faults {
         if added.is_empty() {
             return Ok(());
         }
-        if fronts == 0 && self.first.len() == MOST_DRAWN {
-            self.add_others(added.len())?;
-            return Ok(());
-        }
         added.rotate_left(fronts);
         self.first.append(&mut added)?;
         self.first.rotate_right(fronts);
         let count = self.first.len();
         self.first.truncate(MOST_DRAWN);
-        let others = count - self.first.len();
-        self.add_others(others)?;
+        let Some(others) = self.others.checked_add(count - self.first.len()) else {
+            return Err(AllocError);
+        };
+        self.others = others;
         Ok(())
     }
 }
