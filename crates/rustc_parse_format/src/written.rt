@@ -55,6 +55,17 @@ pub fn put_written(out: &mut String, c: char) -> Result<(), AllocError>
     Ok(())
 }
 
+/// Appends a run of characters, which is often empty. Returns `Err` if an allocation fails.
+#[inline(always)]
+fn push_run(out: &mut String, run: &str) -> Result<(), AllocError>
+    ensures { OnOk result (string_bytes out.new ≡ string_bytes out.old ++ run.now) }
+{
+    if run.is_empty() {
+        return Ok(());
+    }
+    out.push_str(run)
+}
+
 /// Appends the characters that come next and are written as they are. Returns `Err` if an
 /// allocation fails.
 #[inline(always)]
@@ -63,7 +74,7 @@ fn put_unchanged(out: &mut String, rest: &mut Rest<'_>) -> Result<(), AllocError
         ≡ string_bytes out.old ++ flat_map written rest.old) }
     ensures shorter { length rest.new ≤ length rest.old }
 {
-    out.push_str(rest.take_run(Class::Unchanged))?;
+    push_run(out, rest.take_run(Class::Unchanged))?;
     Ok(())
 }
 

@@ -6,14 +6,14 @@ use Rattle.rustc_parse_format.proofs.written.put_unchanged.Goals as goal
 
 pub returns-clause-written : goal.returns-clause-written
 returns-clause-written c =
-    ap (λ x. x ++ flat_map written c.take_run.new.self) c.in_ok-push_str.ensures.bytes
+    ap (λ x. x ++ flat_map written c.take_run.new.self) c.in_ok-push_run.ensures
     ∙ (ap (λ x. (string_bytes c.args.out.now ++ c.take_run.result.now) ++ flat_map written x)
     c.take_run.ensures.rest
     ∙ unchanged-front (string_bytes c.args.out.now) c.take_run.result.now
     c.args.rest.now c.take_run.utf8 c.take_run.ensures.run)
 
-pub returns-in_err-push_str-clause-shorter : goal.returns-in_err-push_str-clause-shorter
-returns-in_err-push_str-clause-shorter c = omega (
+pub returns-in_err-push_run-clause-shorter : goal.returns-in_err-push_run-clause-shorter
+returns-in_err-push_run-clause-shorter c = omega (
   arith,
   ap length c.take_run.ensures.rest,
   behind-shorter is_unchanged c.args.rest.now,
