@@ -104,6 +104,15 @@ fn put_char(text: &mut String, c: char) -> Result<(), AllocError>
     Ok(())
 }
 
+/// Gives back the room that a text does not need, if it needs less than half of it.
+fn shrink(text: &mut String, room: usize)
+    ensures { string_bytes text.new ≡ string_bytes text.old }
+{
+    if text.len() < room / 2 {
+        text.shrink_to_fit();
+    }
+}
+
 /// Returns the text that the content of an ordinary string literal stands for: the characters that
 /// [`read_content`] returns, without their byte ranges. Returns `None` if the text is not the
 /// content of such a literal.
@@ -116,7 +125,8 @@ pub fn content_text(alloc: Global, content: &str) -> Result<Option<String>, Allo
     ensures none { IfOk result (λ o. IfNone o (IsNoContent (chars content.now))) }
     ensures empty { content.now ≡ [] → IsOk result }
 {
-    let mut text = String::new(alloc);
+    // no unit is shorter than what it stands for
+    let mut text = String::with_capacity(alloc, content.len())?;
     let mut rest = Rest::new(content);
     put_plain(&mut text, &mut rest)?;
     while !rest.is_empty() {
@@ -128,6 +138,7 @@ pub fn content_text(alloc: Global, content: &str) -> Result<Option<String>, Allo
         }
         put_plain(&mut text, &mut rest)?;
     }
+    shrink(&mut text, content.len());
     Ok(Some(text))
 }
 

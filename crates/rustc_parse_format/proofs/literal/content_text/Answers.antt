@@ -25,7 +25,7 @@ loop-rest-init c = record {
       (so_far-plain [] _ (chars c.args.content.now) (chars c.args.content.now)
       (so_far-none (chars c.args.content.now))
       (c.in_ok-put_plain.ensures.text
-      ∙ (ap (λ x. chars x ++ front is_plain c.new-rest.result) c.new-text.ensures.bytes
+      ∙ (ap (λ x. chars x ++ front is_plain c.new-rest.result) c.in_ok-text.ensures.bytes
       ∙ (ap (λ x. x ++ front is_plain c.new-rest.result) chars-nil
       ∙ ap (front is_plain) c.new-rest.ensures))));
   empty = λ e. c.in_ok-put_plain.ensures.rest ∙ ap (behind is_plain) (c.new-rest.ensures ∙ e);
@@ -85,5 +85,5 @@ loop-rest-preserved c =
 
 pub returns-clause-found : goal.returns-clause-found
 returns-clause-found c =
-    text-found _ c.loop-rest.rest (chars c.args.content.now) c.loop-rest.invariant.so_far
-    (c.is_empty.ensures.0 c.loop-rest-test.false)
+    rw c.shrink.ensures (text-found _ c.loop-rest.rest (chars c.args.content.now) c.loop-rest.invariant.so_far
+    (c.is_empty.ensures.0 c.loop-rest-test.false))
