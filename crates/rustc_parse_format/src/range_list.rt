@@ -31,13 +31,13 @@ impl Model for RangeList {
     ghost invariant = { λ l. (length l.few ≡ 2) × (l.held ≤ 2) × (l.held ≢ 0 → l.many.items ≡ []) };
 }
 
-/// Returns a list of the two ranges, with room for one more. Returns `Err` if an allocation fails.
+/// Returns a list of the two ranges, with room for six more. Returns `Err` if an allocation fails.
 #[inline(never)]
 fn list_of_two(alloc: Global, few: &[Range<usize>; 2]) -> Result<Vec<Range<usize>>, AllocError>
     ensures { IfOk result (λ many. map pair many.items ≡ map pair few.now) }
 {
     let mut many = Vec::new(alloc);
-    many.reserve(3)?;
+    many.reserve(8)?;
     let [first, second] = few;
     many.push_reserved(first.start..first.end);
     many.push_reserved(second.start..second.end);
