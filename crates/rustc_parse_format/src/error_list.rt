@@ -51,6 +51,23 @@ pub fn empty_error(alloc: Global) -> ParseError
     }
 }
 
+impl Fault<'_> {
+    ghost use Rattle.std.specs.Prelude.{◌≡◌, IfOk};
+    ghost use Rattle.rustc_parse_format.specs.Faults.{message};
+    ghost use Rattle.rustc_parse_format.specs.Seen.{seen_error};
+    ghost use Rattle.rustc_parse_format.specs.SeenFaults.{seen_fault};
+
+    /// Returns the error of the fault, as a parser has it in its list. Returns `Err` if an
+    /// allocation fails.
+    pub fn error(&self, alloc: Global) -> Result<ParseError, AllocError>
+        ensures { IfOk result (λ e. seen_error e ≡ message (seen_fault self.now)) }
+    {
+        let mut error = empty_error(alloc);
+        tell(alloc, &mut error, self)?;
+        Ok(error)
+    }
+}
+
 /// Inserts `count` empty errors before the entries. Returns `Err` if an allocation fails, and the
 /// entries are then unchanged.
 fn widen(alloc: Global, entries: &mut Vec<ParseError>, count: usize) -> Result<(), AllocError>

@@ -1,12 +1,13 @@
 //! The faults of an input, as they are found.
 
 ghost use Rattle.std.specs.Prelude.{◌≡◌, ◌↔◌, ◌<◌, ◌^◌, ◌++◌, ◌∷◌, [], IsOk, IsTrue, MatchOption};
-ghost use Rattle.std.specs.Prelude.{◌+◌, OnErr, OnOk, drop, length};
+ghost use Rattle.std.specs.Prelude.{◌+◌, OnErr, OnOk, drop, length, map, take};
 ghost use Rattle.rustc_parse_format.specs.Faults.{is_front};
 ghost use Rattle.rustc_parse_format.specs.SeenFaults.{seen_fault};
 
 use std::alloc::{AllocError, Global};
 use std::marker::Model;
+use std::mem;
 use std::ops::Range;
 
 /// A fault of an input. The ranges are byte ranges in the source.
@@ -149,6 +150,30 @@ impl<'input> Faults<'input> {
             return self.second.as_ref();
         }
         self.more.get(index - 2)
+    }
+
+    /// Moves all faults to the end of `list`. Returns `Err` if an allocation fails: the faults are
+    /// then dropped, except for some that are at the end of `list`.
+    pub fn move_to(&mut self, list: &mut Vec<Fault<'input>>) -> Result<(), AllocError>
+        ensures moved { OnOk result (map seen_fault list.new.items
+            ≡ map seen_fault list.old.items ++ self.old) }
+        ensures empty { self.new ≡ [] }
+        ensures kept { take (length list.old.items) list.new.items ≡ list.old.items }
+        ensures spare { self.old ≡ [] → IsOk result }
+    {
+        if self.is_empty() {
+            return Ok(());
+        }
+        let alloc = *self.more.allocator();
+        let mut faults = mem::replace(self, Faults::new(alloc));
+        if let Some(first) = faults.first.take() {
+            list.push(first)?;
+        }
+        if let Some(second) = faults.second.take() {
+            list.push(second)?;
+        }
+        list.append(&mut faults.more)?;
+        Ok(())
     }
 
     /// Removes all faults. Does not allocate.

@@ -41,6 +41,7 @@ mod specification;
 mod types;
 mod written;
 
+pub use faults::Fault;
 pub use parser::Parser;
 pub use pieces::Pieces;
 pub use reading::read_all;

@@ -1,6 +1,7 @@
 //! The parser: each call reads one piece, up to the end of the input.
 
 mod step;
+mod with_faults;
 
 use crate::cursor::Cursor;
 use crate::lists::Lists;

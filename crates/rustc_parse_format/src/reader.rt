@@ -3,7 +3,7 @@
 
 ghost use Rattle.std.specs.Prelude.{◌≡◌, ◌≢◌, ◌++◌, ◌+◌, ◌<◌, ◌^◌, ◌∷◌, [], ◌↔◌};
 ghost use Rattle.std.specs.Prelude.{IfOk, IsOk, IsTrue, None, OnErr, OnOk, Some, chars, length};
-ghost use Rattle.std.specs.Prelude.{map, option_map};
+ghost use Rattle.std.specs.Prelude.{map, option_map, take};
 ghost use Rattle.rustc_parse_format.specs.Characters.{behind, behind_first, first, front};
 ghost use Rattle.rustc_parse_format.specs.Characters.{is_in_line, is_no_brace, with_first};
 ghost use Rattle.rustc_parse_format.specs.Midway.{HasFoundNothing, IsCounted, IsInOneLine};
@@ -124,6 +124,19 @@ impl<'input> Reader<'input> {
     {
         self.found.push(fault)?;
         Ok(())
+    }
+
+    /// Moves the faults of this call to the end of `faults`. Returns `Err` if an allocation fails:
+    /// some of them may then be at the end of `faults`.
+    pub fn move_faults(&mut self, faults: &mut Vec<Fault<'input>>) -> Result<(), AllocError>
+        ensures moved { OnOk result (map seen_fault faults.new.items
+            ≡ map seen_fault faults.old.items ++ self.old.faults) }
+        ensures state { OnOk result (self.new ≡ record self.old { faults = [] }) }
+        ensures source { self.new.source ≡ self.old.source }
+        ensures kept { take (length faults.old.items) faults.new.items ≡ faults.old.items }
+        ensures spare { self.old.faults ≡ [] → IsOk result }
+    {
+        self.found.move_to(faults)
     }
 
     /// Returns whether no input is left.

@@ -1,0 +1,59 @@
+//! One call of a parser that leaves its faults to the caller.
+
+use crate::faults::Fault;
+use crate::parser::Parser;
+use crate::types::{Argument, Taken};
+use std::alloc::AllocError;
+
+impl<'input> Parser<'input> {
+    ghost use Rattle.std.specs.Prelude.{◌≡◌, ◌++◌, IfOk, IsOk, OnErr, OnOk, map, option_map};
+    ghost use Rattle.rustc_parse_format.specs.Seen.{seen_taken};
+    ghost use Rattle.rustc_parse_format.specs.SeenFaults.{seen_fault};
+    ghost use Rattle.rustc_parse_format.specs.State.{AddsNothing, IsPutBack, after, next_call};
+    ghost use Rattle.rustc_parse_format.specs.Steps.{AreFew};
+    ghost use Rattle.rustc_parse_format.specs.World.{faults_in, piece_in};
+
+    /// Returns the next piece as [`Parser::next_into`] does, but moves the faults of this call to the
+    /// end of `faults`, in the order in which they were found, and makes no errors of them:
+    /// [`Parser::errors`] stay as they are. The error of a fault is [`Fault::error`]; among those
+    /// of all calls it comes before all earlier ones if [`Fault::is_front`], and else after them.
+    ///
+    /// Returns `Err` if an allocation fails, and the parser and `faults` are then unchanged. A call
+    /// allocates only to keep a fault, the place of a placeholder or a line; any other call always
+    /// returns `Ok`. The value of `argument` has a meaning only if the call returns a placeholder.
+    pub fn next_with_faults(
+        &mut self,
+        argument: &mut Argument<'input>,
+        faults: &mut Vec<Fault<'input>>,
+    ) -> Result<Option<Taken<'input>>, AllocError>
+        ensures piece { IfOk result (λ t. option_map (seen_taken argument.new) t
+            ≡ option_map (piece_in self.old.world) (next_call self.old).piece) }
+        ensures faults { OnOk result (map seen_fault faults.new.items ≡ map seen_fault
+            faults.old.items ++ faults_in self.old.world (next_call self.old).faults) }
+        ensures state { OnOk result (self.new
+            ≡ record (after self.old (next_call self.old)) { errors = self.old.errors }) }
+        ensures err { OnErr result (IsPutBack self.old self.new) }
+        ensures kept { OnErr result (faults.new.items ≡ faults.old.items) }
+        ensures spare { AddsNothing self.old (next_call self.old) → IsOk result }
+        ensures few { AreFew self.new.input self.new.rest self.new.back }
+    {
+        self.steps_are_few();
+        if self.reader.is_at_end() {
+            self.end_line()?;
+            return Ok(None);
+        }
+        let start = self.reader.call_start();
+        let count = faults.len();
+        if let Ok(taken) = self.reader.taken(self.mode, argument) {
+            if let Ok(_) = self.reader.move_faults(faults) {
+                if let Ok(_) = self.lists.take_over(self.alloc, &mut self.reader) {
+                    self.steps_are_few();
+                    return Ok(taken);
+                }
+            }
+        }
+        faults.truncate(count);
+        self.reader.rewind(self.alloc, start);
+        Err(AllocError)
+    }
+}
