@@ -1,8 +1,8 @@
 //! What is shown of an input in UTF-8.
 
 ghost use Rattle.std.specs.Prelude.{◌≡◌, ◌≢◌, ◌≤◌, ◌++◌, List, [], IfErr, IfOk, IsErrOf, OnOk};
-ghost use Rattle.std.specs.Prelude.{flat_map, length, map, nat_lt, string_bytes};
-ghost use Rattle.rustc_parse_format.specs.Seen.{seen_error, seen_mode};
+ghost use Rattle.std.specs.Prelude.{flat_map, length, nat_lt, string_bytes};
+ghost use Rattle.rustc_parse_format.specs.Seen.{seen_mode};
 ghost use Rattle.rustc_parse_format.specs.World.{hashes};
 ghost use Rattle.piece_listing.specs.declared.verdict.RunFault.TheVariants.{Memory, NotLiteral};
 ghost use Rattle.piece_listing.specs.Program.{IsShort, limit};
@@ -11,7 +11,7 @@ ghost use Rattle.drawn_faults.specs.Places.{seen_picture};
 ghost use Rattle.format_lint.specs.Lint.{IsLiteralIn, IsMended, IsShown, IsSourceIn};
 ghost use Rattle.format_lint.specs.Lint.{Source as SourceValue};
 ghost use Rattle.format_lint.specs.Lint.{drawn, kept, lexed, more, picture};
-ghost use Rattle.format_lint.specs.SeenLint.{seen_source, seen_task};
+ghost use Rattle.format_lint.specs.SeenLint.{errors_of, seen_source, seen_task};
 
 use super::faults::{Faults, Source, faults_in, tokens_in};
 use super::task::{Show, Task};
@@ -19,21 +19,22 @@ use super::tokens::put_tokens;
 use drawn_faults::{Picture, draw, fix};
 use piece_listing::literal::{literal_text, without_newline};
 use piece_listing::verdict::RunFault;
-use rustc_parse_format::{ParseError, ParseMode};
+use rustc_parse_format::{Fault, ParseMode};
 use std::alloc::{AllocError, Global};
 
-/// Appends the drawings of errors to a text. Returns `Err` if an allocation fails.
+/// Appends the drawings of faults to a text. Returns `Err` if an allocation fails.
 fn put_each(
     alloc: Global,
     out: &mut String,
     picture: &Picture<'_>,
-    errors: &[ParseError],
+    faults: &[Fault<'_>],
 ) -> Result<(), AllocError>
     ensures { OnOk result (string_bytes out.new ≡ string_bytes out.old
-        ++ flat_map (drawing (seen_picture picture.now)) (map seen_error errors.now)) }
+        ++ flat_map (drawing (seen_picture picture.now)) (errors_of faults.now)) }
 {
-    for error in errors {
-        let text = draw(alloc, picture, error)?;
+    for fault in faults {
+        let error = fault.error(alloc)?;
+        let text = draw(alloc, picture, &error)?;
         out.push_str(text.as_str())?;
     }
     Ok(())
@@ -58,13 +59,13 @@ fn put_drawings(
     alloc: Global,
     out: &mut String,
     picture: &Picture<'_>,
-    faults: &Faults,
+    faults: &Faults<'_>,
 ) -> Result<bool, AllocError>
     ensures drawn { OnOk result (string_bytes out.new ≡ string_bytes out.old
-        ++ (flat_map (drawing (seen_picture picture.now)) (map seen_error faults.now.first.items)
+        ++ (flat_map (drawing (seen_picture picture.now)) (errors_of faults.now.first.items)
         ++ more faults.now.others)) }
     ensures told { IfOk result (λ told. told
-        ≡ nat_lt 0 (length (map seen_error faults.now.first.items))) }
+        ≡ nat_lt 0 (length (errors_of faults.now.first.items))) }
 {
     put_each(alloc, out, picture, faults.first.as_slice())?;
     put_more(alloc, out, faults.others)?;
@@ -78,13 +79,13 @@ fn put_faults(
     out: &mut String,
     path: &str,
     source: Source<'_>,
-    faults: &Faults,
+    faults: &Faults<'_>,
 ) -> Result<bool, AllocError>
     ensures drawn { OnOk result (string_bytes out.new ≡ string_bytes out.old
         ++ (flat_map (drawing (picture path.now (seen_source source.entry)))
-        (map seen_error faults.now.first.items) ++ more faults.now.others)) }
+        (errors_of faults.now.first.items) ++ more faults.now.others)) }
     ensures told { IfOk result (λ told. told
-        ≡ nat_lt 0 (length (map seen_error faults.now.first.items))) }
+        ≡ nat_lt 0 (length (errors_of faults.now.first.items))) }
 {
     if let Some(literal) = source.literal {
         let picture = Picture {

@@ -1,34 +1,49 @@
-use Rattle.std.proofs.Common.{◌≡◌, ◌∙◌, ap, false, true}
+use Rattle.std.proofs.Common.{◌≡◌, ◌∙◌, ◌++◌, ap, false, map, true}
 use Rattle.rustc_parse_format.specs.Characters.{is_nil}
+use Rattle.rustc_parse_format.specs.SeenFaults.{seen_fault}
+use Rattle.rustc_parse_format.specs.State.{next_call}
+use Rattle.rustc_parse_format.specs.World.{faults_in}
 use Rattle.drawn_faults.proofs.FixLaws.{left-shorter}
-use Rattle.format_tokens.proofs.Progress.{forgotten}
-use Rattle.format_lint.proofs.Firsts.{call-fits, first-end, first-next}
+use Rattle.format_lint.proofs.Firsts.{few-items, first-end, first-next, first-start, lengths}
+use Rattle.format_lint.proofs.Firsts.{no_errors}
 use Rattle.format_lint.proofs.faults.faults_of.Goals as goal
 
-pub add-requires-clause-fronts : goal.add-requires-clause-fronts
-add-requires-clause-fronts c =
-    call-fits c.loop-argument.parser c.next_into.new.self _ c.loop-argument.invariant.none
-    c.in_ok-fronts.ensures.state c.in_ok-fronts.ensures.fronts
+pub loop-argument-init : goal.loop-argument-init
+loop-argument-init c = record {
+  none_left = c.new-found.ensures.items;
+  faults = rw c.new.ensures.items (first-start c.args.parser.now c.requires);
+}
+
+pub add_all-requires : goal.add_all-requires
+add_all-requires c = few-items _ c.loop-argument.invariant.faults.few
 
 pub loop-argument-smaller : goal.loop-argument-smaller
 loop-argument-smaller c =
-    let h : is_nil c.loop-argument.parser.rest ≡ false = cc in
-    left-shorter c.loop-argument.parser c.add.new.parser
-    (c.in_ok-add.ensures.state ∙ ap forgotten c.in_ok-fronts.ensures.state) h
+    let s = c.loop-argument.parser in
+    let h : is_nil s.rest ≡ false = cc in
+    left-shorter s c.next_with_faults.new.self (no_errors s c.next_with_faults.new.self
+    c.loop-argument.invariant.faults.none c.in_ok-next_with_faults.ensures.state) h
 
 pub loop-argument-preserved : goal.loop-argument-preserved
 loop-argument-preserved c =
-    let h : is_nil c.loop-argument.parser.rest ≡ false = cc in
-    first-next c.loop-argument.parser c.next_into.new.self c.add.new.parser _ _ _ _ _ _
-    c.loop-argument.invariant c.in_ok-fronts.ensures.state c.in_ok-add.ensures.state h
-    c.in_ok-fronts.ensures.fronts c.in_ok-add.ensures.first c.in_ok-add.ensures.count
+    let s = c.loop-argument.parser in
+    let h : is_nil s.rest ≡ false = cc in
+    let fs = faults_in s.world (next_call s).faults in
+    record {
+      none_left = c.in_ok-add_all.ensures.moved;
+      faults = first-next s c.next_with_faults.new.self _ _ _ _ _ _
+          c.loop-argument.invariant.faults c.in_ok-next_with_faults.ensures.state h
+          (c.in_ok-next_with_faults.ensures.faults
+          ∙ ap (λ gs. map seen_fault gs ++ fs) c.loop-argument.invariant.none_left)
+          c.in_ok-add_all.ensures.first (lengths _ _ _ _ _ c.in_ok-add_all.ensures.count);
+    }
 
 pub returns-clause-first : goal.returns-clause-first
 returns-clause-first c =
     let h : is_nil c.loop-argument.parser.rest ≡ true = cc in
-    (first-end _ _ _ _ c.loop-argument.invariant h).first_are
+    (first-end _ _ _ _ c.loop-argument.invariant.faults h).first_are
 
 pub returns-clause-others : goal.returns-clause-others
 returns-clause-others c =
     let h : is_nil c.loop-argument.parser.rest ≡ true = cc in
-    (first-end _ _ _ _ c.loop-argument.invariant h).count
+    (first-end _ _ _ _ c.loop-argument.invariant.faults h).count

@@ -1,16 +1,19 @@
-use Rattle.std.proofs.Common.{◌≡◌, ◌-◌, IsUtf8, ap, ◌∙◌, sym, chars, length, nat_lt, rules}
+use Rattle.std.proofs.Common.{◌≡◌, ◌-◌, ◌++◌, IsUtf8, ap, ◌∙◌, sym, chars, length, map, nat_lt}
+use Rattle.std.proofs.Common.{rules}
 use Rattle.std.proofs.Common.{take, true}
 use Rattle.std.specs.Prelude.{option_map}
 use Rattle.rustc_parse_format.proofs.Sources.PlainPlaces.{width_chars}
 use Rattle.rustc_parse_format.specs.Call.{Call}
 use Rattle.rustc_parse_format.specs.Characters.{is_nil}
 use Rattle.rustc_parse_format.specs.Seen.{seen_mode}
-use Rattle.rustc_parse_format.specs.State.{State}
-use Rattle.rustc_parse_format.specs.World.{piece_in}
+use Rattle.rustc_parse_format.specs.SeenFaults.{seen_fault}
+use Rattle.rustc_parse_format.specs.State.{State, next_call}
+use Rattle.rustc_parse_format.specs.World.{faults_in, piece_in}
 use Rattle.drawn_faults.specs.Fixing.{all_errors}
-use Rattle.format_tokens.proofs.Progress.{forgotten, left_after, nil_chars, piece_so_far, smaller}
+use Rattle.format_tokens.proofs.Progress.{left_after, nil_chars, piece_so_far, smaller}
 use Rattle.format_tokens.proofs.Progress.{so_far-end, so_far-next, so_far-start, some_chars}
-use Rattle.format_lint.proofs.Firsts.{call-fits, first-end, first-next, first-start}
+use Rattle.format_lint.proofs.Firsts.{few-items, first-end, first-next, first-start}
+use Rattle.format_lint.proofs.Firsts.{lengths, no_errors}
 use Rattle.format_lint.proofs.Firsts.{some-first, some-left}
 use Rattle.format_lint.specs.Lint.{errors, most_drawn}
 use Rattle.format_lint.specs.SeenLint.{seen_source}
@@ -24,27 +27,29 @@ loop-text-init c =
           (so_far-start (seen_mode c.args.mode) (chars c.args.source.text.now) c.args.parser.now
           (ap (λ (s : State). s.mode) e) (ap (λ (s : State). s.input) e)
           (ap (λ (s : State). s.rest) e) (ap (λ (s : State). s.next) e));
+      none_left = c.new-found.ensures.items;
       faults = rw c.new.ensures.items (first-start c.args.parser.now
           (ap (λ (s : State). s.errors) e));
     }
 
-pub add-requires-clause-fronts : goal.add-requires-clause-fronts
-add-requires-clause-fronts c =
-    call-fits c.loop-text.parser c.next_into.new.self _ c.loop-text.invariant.faults.none
-    c.in_ok-taken.ensures.state c.in_ok-taken.ensures.fronts
+pub add_all-requires : goal.add_all-requires
+add_all-requires c = few-items _ c.loop-text.invariant.faults.few
 
 pub loop-text-smaller : goal.loop-text-smaller
 loop-text-smaller c =
     let some = some_chars _ c.loop-text.invariant.is_text
     (sym c.is_empty.ensures ∙ c.loop-text-test.true) in
-    smaller _ _ _ _ _ _ c.loop-text.invariant.labels
-    (c.in_ok-add.ensures.state ∙ ap forgotten c.in_ok-taken.ensures.state) some
+    smaller _ _ _ _ _ _ c.loop-text.invariant.labels (no_errors c.loop-text.parser
+    c.next_with_faults.new.self c.loop-text.invariant.faults.none c.in_ok-taken.ensures.state) some
 
 pub loop-text-preserved : goal.loop-text-preserved
 loop-text-preserved c =
     let u : IsUtf8 c.args.source.text.now = search rules in
     let h = c.loop-text.invariant.labels in
-    let new = c.in_ok-add.ensures.state ∙ ap forgotten c.in_ok-taken.ensures.state in
+    let s = c.loop-text.parser in
+    let fs = faults_in s.world (next_call s).faults in
+    let new = no_errors s c.next_with_faults.new.self c.loop-text.invariant.faults.none
+    c.in_ok-taken.ensures.state in
     let some = some_chars _ c.loop-text.invariant.is_text
     (sym c.is_empty.ensures ∙ c.loop-text-test.true) in
     let left = left_after _ _ _ _ _ _ _ _ _ h new c.saturating_sub-left.ensures
@@ -54,10 +59,13 @@ loop-text-preserved c =
           (c.in_ok-rest.ensures c.loop-text.parser.world c.loop-text.parser.next
           (c.in_ok-taken.ensures.piece ∙ ap (λ (k : Call). option_map
           (piece_in c.loop-text.parser.world) k.piece) (piece_so_far _ _ _ _ _ h)) left);
-      faults = first-next c.loop-text.parser c.next_into.new.self c.add.new.parser _ _ _ _ _ _
-          c.loop-text.invariant.faults c.in_ok-taken.ensures.state c.in_ok-add.ensures.state
+      none_left = c.in_ok-add_all.ensures.moved;
+      faults = first-next s c.next_with_faults.new.self _ _ _ _ _ _
+          c.loop-text.invariant.faults c.in_ok-taken.ensures.state
           (some-left _ (λ n. some (h.rest_is ∙ n)))
-          c.in_ok-taken.ensures.fronts c.in_ok-add.ensures.first c.in_ok-add.ensures.count;
+          (c.in_ok-taken.ensures.faults
+          ∙ ap (λ gs. map seen_fault gs ++ fs) c.loop-text.invariant.none_left)
+          c.in_ok-add_all.ensures.first (lengths _ _ _ _ _ c.in_ok-add_all.ensures.count);
     }
 
 pub returns-clause-labels : goal.returns-clause-labels
