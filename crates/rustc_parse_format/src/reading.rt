@@ -22,10 +22,23 @@ use crate::parser::Parser;
 use crate::types::{ParseMode, Piece};
 use std::alloc::{AllocError, Global};
 
+/// Makes room in an empty list for a piece and those that are likely to follow it in so many bytes:
+/// one in ten bytes, and at most sixteen. Returns `Err` if an allocation fails.
+#[inline(always)]
+fn make_room(pieces: &mut Vec<Piece<'_>>, bytes: usize) -> Result<(), AllocError>
+    ensures { pieces.new.items ≡ pieces.old.items }
+{
+    if pieces.is_empty() {
+        pieces.reserve(1 + (bytes / 10).min(16))?;
+    }
+    Ok(())
+}
+
 /// Returns the pieces of a parser up to the first call that returns `None`, or `Err` if an
-/// allocation fails.
+/// allocation fails. `size` is the length of the input.
 fn read_pieces<'input>(
     alloc: Global,
+    size: usize,
     parser: &mut Parser<'input>,
 ) -> Result<Vec<Piece<'input>>, AllocError>
     ensures pieces { IfOk result (λ ps. map seen ps.items
@@ -36,6 +49,7 @@ fn read_pieces<'input>(
 {
     let mut pieces = Vec::new(alloc);
     while let Some(piece) = parser.next()? {
+        make_room(&mut pieces, size.saturating_sub(parser.position()))?;
         pieces.push(piece)?;
     }
     parser.steps_are_few();
@@ -145,6 +159,6 @@ pub fn read_all<'input>(
         → IsOk result }
 {
     let mut parser = Parser::new(alloc, input, style, snippet, appended_newline, mode)?;
-    let pieces = read_pieces(alloc, &mut parser)?;
+    let pieces = read_pieces(alloc, input.len(), &mut parser)?;
     Ok((pieces, parser))
 }

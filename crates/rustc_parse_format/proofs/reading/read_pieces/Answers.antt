@@ -1,4 +1,4 @@
-use Rattle.std.proofs.Common.{◌≡◌, ◌∙◌, [], ◌∷◌, ap, map, Option, Some, None, sym}
+use Rattle.std.proofs.Common.{◌≡◌, ◌∙◌, ◌++◌, [], ◌∷◌, ap, map, Option, Some, None, sym}
 use Rattle.std.specs.Prelude.{option_map}
 use Rattle.std.proofs.lemmas.Bool.{false≢true}
 use Rattle.std.proofs.lemmas.List.{map-append}
@@ -18,6 +18,7 @@ loop-pieces-preserved c =
     ap (option_map seen) (sym c.in-Some.is)
     ∙ c.in_ok-piece.ensures.piece in
     let pushed = ap (map seen) c.in_ok-push.ensures.items
+    ∙ ap (λ ps. map seen (ps ++ c.in-Some.piece ∷ [])) c.make_room.ensures
     ∙ map-append seen c.loop-pieces.pieces.items (c.in-Some.piece ∷ []) in
     record {
       world = ap (λ (s : State). s.world) c.in_ok-piece.ensures.state
@@ -43,6 +44,14 @@ returns-in_err-piece-clause-empty c e h =
 
 pub returns-in_err-push-clause-empty : goal.returns-in_err-push-clause-empty
 returns-in_err-push-clause-empty c e h =
+    let none =
+    rw c.in-Some.is at (next_ends seen c.loop-pieces.parser c.next.new.self _
+    c.in_ok-piece.ensures.piece c.in_ok-piece.ensures.state
+    (c.loop-pieces.invariant.empty e)).0 in
+    absurd (false≢true (sym none))
+
+pub returns-in_err-make_room-clause-empty : goal.returns-in_err-make_room-clause-empty
+returns-in_err-make_room-clause-empty c e h =
     let none =
     rw c.in-Some.is at (next_ends seen c.loop-pieces.parser c.next.new.self _
     c.in_ok-piece.ensures.piece c.in_ok-piece.ensures.state
