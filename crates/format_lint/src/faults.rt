@@ -55,8 +55,8 @@ fn put<'a>(faults: &mut Vec<Fault<'a>>, fault: Fault<'a>) -> Result<(), AllocErr
 
 impl<'a> Faults<'a> {
     /// Adds a fault to those before it. Keeps only those that are drawn, so that hostile input does
-    /// not fill the memory. Returns `Err` if an allocation fails, or if there are more faults than a
-    /// `usize` counts.
+    /// not fill the memory. Returns `Err` if an allocation fails, or if there are more faults than
+    /// a `usize` counts.
     fn add(&mut self, fault: Fault<'a>) -> Result<(), AllocError>
         requires { length self.old.first.items ≤ most_drawn }
         ensures first { OnOk result (errors_of self.new.first.items ≡ take most_drawn

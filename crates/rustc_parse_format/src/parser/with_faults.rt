@@ -13,10 +13,11 @@ impl<'input> Parser<'input> {
     ghost use Rattle.rustc_parse_format.specs.Steps.{AreFew};
     ghost use Rattle.rustc_parse_format.specs.World.{faults_in, piece_in};
 
-    /// Returns the next piece as [`Parser::next_into`] does, but moves the faults of this call to the
-    /// end of `faults`, in the order in which they were found, and makes no errors of them:
-    /// [`Parser::errors`] stay as they are. The error of a fault is [`Fault::error`]; among those
-    /// of all calls it comes before all earlier ones if [`Fault::is_front`], and else after them.
+    /// Returns the next piece as [`Parser::next_into`] does, but moves the faults of this call to
+    /// the end of `faults`, in the order in which they were found, and makes no errors of them:
+    /// [`Parser::errors`] stay as they are. [`Fault::error`] makes the error of a fault; in the
+    /// list of a parser it comes before all earlier errors if [`Fault::is_front`] says so, and else
+    /// after them.
     ///
     /// Returns `Err` if an allocation fails, and the parser and `faults` are then unchanged. A call
     /// allocates only to keep a fault, the place of a placeholder or a line; any other call always

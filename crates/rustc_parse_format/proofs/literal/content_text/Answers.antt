@@ -85,5 +85,5 @@ loop-rest-preserved c =
 
 pub returns-clause-found : goal.returns-clause-found
 returns-clause-found c =
-    rw c.shrink.ensures (text-found _ c.loop-rest.rest (chars c.args.content.now) c.loop-rest.invariant.so_far
-    (c.is_empty.ensures.0 c.loop-rest-test.false))
+    rw c.shrink.ensures (text-found _ c.loop-rest.rest (chars c.args.content.now)
+    c.loop-rest.invariant.so_far (c.is_empty.ensures.0 c.loop-rest-test.false))

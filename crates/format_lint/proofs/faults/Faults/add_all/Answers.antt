@@ -21,5 +21,10 @@ loop-found-preserved c =
           (map seen_fault left)
           ∙ ap (λ fs. take most_drawn (add_errors first (map seen_fault fs))) (sym parts)
           ∙ c.loop-found.invariant.first;
-      count = omega (arith, c.in_ok-add.ensures.count, ap length parts, c.loop-found.invariant.count);
+      count = omega (
+        arith,
+        c.in_ok-add.ensures.count,
+        ap length parts,
+        c.loop-found.invariant.count,
+      );
     }
