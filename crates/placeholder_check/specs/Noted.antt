@@ -1,4 +1,4 @@
--- What is known of the uses while they are collected. Private definitions.
+-- What is known of the uses while they are collected.
 use Rattle.std.specs.Prelude.{◌≡◌, ℕ, Bool, false, ◌||◌, ◌==◌, List, [], ◌++◌, get_or, take}
 use Rattle.std.specs.BTreeSet.{BTreeSet, contains, contains_by}
 use Rattle.std.specs.Ordering.{nat_cmp}
@@ -39,6 +39,11 @@ is_known s t = list_any (bytes_eq t) (texts (take 16 s.list.items)) || has_text 
 pub record Follows (ts : List Text) (s : Names) : Type 0 where
   pub firsts : AreFirsts ts [] (texts s.list.items)
   pub same : (t : Text) → is_known s t ≡ list_any (bytes_eq t) ts
+
+-- The collection is as it was made: it has no use.
+abbrev pub IsNew : Uses → Type 0
+IsNew u = (u.indices.marks.items ≡ []) × (u.indices.others.keys ≡ [])
+    × (u.indices.count ≡ 0) × (u.names.list.items ≡ [])
 
 -- The collection has exactly these uses.
 pub record Holds (us : List Use) (u : Uses) : Type 0 where

@@ -9,5 +9,6 @@ mod names;
 mod reading;
 mod uses;
 
-pub use checker::{Report, check};
+pub use checker::{Report, check, check_uses};
 pub use reading::read_and_check;
+pub use uses::Uses;

@@ -4,20 +4,48 @@ ghost use Rattle.std.specs.Prelude.{[], ◌≡◌, ◌∷◌, IfOk, IsOk, OnOk, 
 ghost use Rattle.rustc_parse_format.specs.Seen.{seen, seen_argument, seen_count, seen_position};
 ghost use Rattle.placeholder_check.specs.Uses.{ByIndex, ByName, argument_uses, count_uses};
 ghost use Rattle.placeholder_check.specs.Uses.{piece_uses, position_use, uses};
-ghost use Rattle.placeholder_check.specs.Noted.{Adds, Holds};
+ghost use Rattle.placeholder_check.specs.Noted.{Adds, Holds, IsNew};
 
 use crate::indices::{Indices, insert_index, no_indices};
 use crate::names::{Names, insert_name, no_names};
 use rustc_parse_format::{Argument, Count, Piece, Position};
 use std::alloc::{AllocError, Global};
 
-/// The arguments that pieces use.
+/// The arguments that placeholders use, each index and each name once.
 #[derive(Drop)]
 pub struct Uses<'a> {
     /// The indices that are used.
-    pub indices: Indices,
+    pub(crate) indices: Indices,
     /// The names that are used.
-    pub names: Names<'a>,
+    pub(crate) names: Names<'a>,
+}
+
+impl<'a> Uses<'a> {
+    ghost use Rattle.std.specs.Prelude.{◌++◌, [], List, OnOk};
+    ghost use Rattle.rustc_parse_format.specs.Seen.{seen_argument};
+    ghost use Rattle.placeholder_check.specs.Uses.{Use, argument_uses};
+    ghost use Rattle.placeholder_check.specs.Noted.{Holds, IsNew};
+
+    /// Returns no uses. Does not allocate.
+    pub fn new(alloc: Global) -> Uses<'a>
+        ensures holds { Holds [] result }
+        ensures none { IsNew result }
+    {
+        Uses {
+            indices: no_indices(alloc),
+            names: no_names(alloc),
+        }
+    }
+
+    /// Adds the arguments that a placeholder uses: by its position, its width and its precision, in
+    /// this order. Returns `Err` if an allocation fails; some of them may then have been added.
+    pub fn add(&mut self, argument: &Argument<'a>) -> Result<(), AllocError>
+        ensures { OnOk result ((us : List Use) → Holds us self.old
+            → Holds (us ++ argument_uses (seen_argument argument.now)) self.new) }
+    {
+        add_argument(self, argument)?;
+        Ok(())
+    }
 }
 
 /// Adds a use of an index. Returns `Err` if an allocation fails.
@@ -84,14 +112,9 @@ fn add_piece<'a>(uses: &mut Uses<'a>, piece: &Piece<'a>) -> Result<(), AllocErro
 /// Returns the arguments that pieces use. Returns `Err` if an allocation fails.
 pub fn uses_of<'a>(alloc: Global, pieces: &[Piece<'a>]) -> Result<Uses<'a>, AllocError>
     ensures uses { IfOk result (λ u. Holds (uses (map seen pieces.now)) u) }
-    ensures empty { pieces.now ≡ []
-        → IfOk result (λ u. (u.indices.marks.items ≡ []) × (u.indices.others.keys ≡ [])
-        × (u.indices.count ≡ 0) × (u.names.list.items ≡ [])) × IsOk result }
+    ensures empty { pieces.now ≡ [] → IfOk result (λ u. IsNew u) × IsOk result }
 {
-    let mut uses = Uses {
-        indices: no_indices(alloc),
-        names: no_names(alloc),
-    };
+    let mut uses = Uses::new(alloc);
     for piece in pieces {
         add_piece(&mut uses, piece)?;
     }
