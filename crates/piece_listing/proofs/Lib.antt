@@ -1,6 +1,7 @@
 mod Texts
 mod Cuts
 mod ListNumbers
+mod Rows
 mod Literals
 pub mod OneLiteral
 mod OneAnswer

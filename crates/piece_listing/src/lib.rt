@@ -6,9 +6,11 @@ mod given;
 mod input;
 mod listing;
 pub mod literal;
+mod numbers;
 mod report_lines;
 pub mod run;
 mod task;
 pub mod verdict;
 
-pub use listing::{put_number, put_piece, put_quoted};
+pub use listing::{put_piece, put_quoted};
+pub use numbers::{put_number, put_span};

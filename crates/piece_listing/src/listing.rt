@@ -1,7 +1,7 @@
 //! The lines of pieces, of errors and of a report. Each function that returns a `Result` returns
 //! `Err` if an allocation fails; `put_` in a name means that it appends to `out`.
 
-ghost use Rattle.std.specs.Prelude.{◌≡◌, ◌++◌, [], IfOk, IsOk, OnOk, map, chars, codes, decimal};
+ghost use Rattle.std.specs.Prelude.{◌≡◌, ◌++◌, [], IfOk, IsOk, OnOk, map, chars, codes};
 ghost use Rattle.std.specs.Prelude.{encode_utf8_all, flat_map, option_map, string_bytes};
 ghost use Rattle.rustc_parse_format.specs.Written.{written};
 ghost use Rattle.rustc_parse_format.specs.Seen.{pair, seen, seen_alignment, seen_count};
@@ -16,8 +16,8 @@ ghost use Rattle.piece_listing.specs.Listing.{listing, piece_line, position_text
 ghost use Rattle.piece_listing.specs.Listing.{quoted, sign_entry, span_text, type_entry};
 ghost use Rattle.piece_listing.specs.Listing.{value_entries, width_entry};
 
+use super::numbers::{put_number, put_span};
 use super::report_lines::put_report;
-use itoa::Buffer;
 use placeholder_check::Report;
 use rustc_parse_format::{
     Alignment, Argument, Count, DebugHex, FormatSpec, ParseError, Piece, Position, Sign,
@@ -26,13 +26,16 @@ use rustc_parse_format::{
 use std::alloc::{AllocError, Global};
 use std::ops::Range;
 
+/// The bytes for each piece that a listing has room for at first: twice those of the shortest line.
+const ROOM_FOR_PIECE: usize = 16;
+
 /// Adds a text, escaped, between quotes.
 pub fn put_quoted(out: &mut String, text: &str) -> Result<(), AllocError>
     ensures { OnOk result (string_bytes out.new ≡ string_bytes out.old ++ quoted (chars text.now)) }
 {
-    out.push_str("\"")?;
+    out.push('"')?;
     put_all_written(out, text)?;
-    out.push_str("\"")?;
+    out.push('"')?;
     Ok(())
 }
 
@@ -43,11 +46,12 @@ fn put_literal(out: &mut String, text: &str) -> Result<(), AllocError>
 {
     out.push_str("lit ")?;
     put_quoted(out, text)?;
-    out.push_str("\n")?;
+    out.push('\n')?;
     Ok(())
 }
 
 /// Adds a label and then a name, neither of them escaped.
+#[inline(always)]
 fn put_name(out: &mut String, label: &str, name: &str) -> Result<(), AllocError>
     ensures { OnOk result (string_bytes out.new ≡ string_bytes out.old ++
         (label.now ++ encode_utf8_all (chars name.now))) }
@@ -57,35 +61,13 @@ fn put_name(out: &mut String, label: &str, name: &str) -> Result<(), AllocError>
     Ok(())
 }
 
-/// Appends a label and then a number in decimal digits to `out`. Returns `Err` if an allocation
-/// fails; the label may then be in `out`.
-pub fn put_number(out: &mut String, label: &str, number: usize) -> Result<(), AllocError>
-    ensures { OnOk result (string_bytes out.new ≡ string_bytes out.old
-        ++ (label.now ++ decimal number)) }
-{
-    let mut digits = Buffer::new();
-    out.push_str(label)?;
-    out.push_str(digits.format(number))?;
-    Ok(())
-}
-
-/// Adds a mark and then a span.
-fn put_span(out: &mut String, mark: &str, span: &Range<usize>) -> Result<(), AllocError>
-    ensures { OnOk result (string_bytes out.new ≡ string_bytes out.old ++
-        (mark.now ++ span_text (pair span.now))) }
-{
-    put_number(out, mark, span.start)?;
-    put_number(out, "..", span.end)?;
-    Ok(())
-}
-
 /// Adds the span of the part before it, if that has one.
 fn put_at(out: &mut String, span: &Option<Range<usize>>) -> Result<(), AllocError>
     ensures { OnOk result (string_bytes out.new ≡ string_bytes out.old ++
         at_entry (option_map pair span.now)) }
 {
     if let Some(span) = span {
-        put_span(out, "@", span)?;
+        put_span(out, '@', span)?;
     }
     Ok(())
 }
@@ -115,7 +97,7 @@ fn put_fill(
     if let Some(c) = fill {
         out.push_str(" fill=\"")?;
         put_written(out, c)?;
-        out.push_str("\"")?;
+        out.push('"')?;
         put_at(out, span)?;
     }
     Ok(())
@@ -126,13 +108,12 @@ fn put_alignment(out: &mut String, align: Alignment) -> Result<(), AllocError>
     ensures { OnOk result (string_bytes out.new ≡ string_bytes out.old ++
         align_entry (seen_alignment align)) }
 {
-    let text = match align {
-        Alignment::AlignLeft => " align=left",
-        Alignment::AlignRight => " align=right",
-        Alignment::AlignCenter => " align=center",
-        Alignment::AlignUnknown => "",
-    };
-    out.push_str(text)?;
+    match align {
+        Alignment::AlignLeft => out.push_str(" align=left")?,
+        Alignment::AlignRight => out.push_str(" align=right")?,
+        Alignment::AlignCenter => out.push_str(" align=center")?,
+        Alignment::AlignUnknown => {}
+    }
     Ok(())
 }
 
@@ -141,12 +122,11 @@ fn put_sign(out: &mut String, sign: Option<Sign>) -> Result<(), AllocError>
     ensures { OnOk result (string_bytes out.new ≡ string_bytes out.old ++
         sign_entry (option_map seen_sign sign)) }
 {
-    let text = match sign {
-        None => "",
-        Some(Sign::Plus) => " sign=+",
-        Some(Sign::Minus) => " sign=-",
-    };
-    out.push_str(text)?;
+    match sign {
+        None => {}
+        Some(Sign::Plus) => out.push_str(" sign=+")?,
+        Some(Sign::Minus) => out.push_str(" sign=-")?,
+    }
     Ok(())
 }
 
@@ -184,7 +164,7 @@ fn put_count(out: &mut String, count: &Count<'_>) -> Result<(), AllocError>
         Count::CountIs(n) => put_number(out, "is:", usize::from(*n))?,
         Count::CountIsName(name, span) => {
             put_name(out, "name:", name)?;
-            put_span(out, "@", span)?;
+            put_span(out, '@', span)?;
         }
         Count::CountIsParam(n) => put_number(out, "param:", *n)?,
         Count::CountIsStar(n) => put_number(out, "star:", *n)?,
@@ -194,6 +174,7 @@ fn put_count(out: &mut String, count: &Count<'_>) -> Result<(), AllocError>
 }
 
 /// Adds a part that is a width or a precision: its name, the count and its span.
+#[inline(always)]
 fn put_named_count(
     out: &mut String,
     name: &str,
@@ -245,12 +226,11 @@ fn put_hex(out: &mut String, hex: Option<DebugHex>) -> Result<(), AllocError>
     ensures { OnOk result (string_bytes out.new ≡ string_bytes out.old ++
         hex_entry (option_map seen_debug_hex hex)) }
 {
-    let text = match hex {
-        None => "",
-        Some(DebugHex::Lower) => " hex=lower",
-        Some(DebugHex::Upper) => " hex=upper",
-    };
-    out.push_str(text)?;
+    match hex {
+        None => {}
+        Some(DebugHex::Lower) => out.push_str(" hex=lower")?,
+        Some(DebugHex::Upper) => out.push_str(" hex=upper")?,
+    }
     Ok(())
 }
 
@@ -291,10 +271,10 @@ fn put_argument(out: &mut String, argument: &Argument<'_>) -> Result<(), AllocEr
 {
     out.push_str("arg ")?;
     put_position(out, &argument.position)?;
-    put_span(out, " ", &argument.position_span)?;
+    put_span(out, ' ', &argument.position_span)?;
     put_flags(out, &argument.format)?;
     put_values(out, &argument.format)?;
-    out.push_str("\n")?;
+    out.push('\n')?;
     Ok(())
 }
 
@@ -328,10 +308,11 @@ fn put_fault(out: &mut String, error: &ParseError) -> Result<(), AllocError>
     ensures { OnOk result (string_bytes out.new ≡ string_bytes out.old ++
         fault_line (seen_error error.now)) }
 {
-    put_span(out, "fault ", &error.span)?;
-    out.push_str(" ")?;
+    out.push_str("fault")?;
+    put_span(out, ' ', &error.span)?;
+    out.push(' ')?;
     out.push_str(error.description.as_str())?;
-    out.push_str("\n")?;
+    out.push('\n')?;
     Ok(())
 }
 
@@ -360,7 +341,7 @@ pub fn listing(
     ensures empty { pieces.now ≡ [] → errors.now ≡ [] → seen_report report.now ≡ no_entries
         → IsOk result }
 {
-    let mut out = String::new(alloc);
+    let mut out = String::with_capacity(alloc, pieces.len().saturating_mul(ROOM_FOR_PIECE))?;
     put_pieces(&mut out, pieces)?;
     put_faults(&mut out, errors)?;
     put_report(&mut out, report)?;

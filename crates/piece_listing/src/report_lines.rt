@@ -9,7 +9,8 @@ ghost use Rattle.piece_listing.specs.Program.{IsReportFor, has_entries, no_entri
 ghost use Rattle.piece_listing.specs.SeenTask.{seen_given};
 
 use super::given::{Given, names};
-use super::listing::{put_number, put_quoted};
+use super::listing::put_quoted;
+use super::numbers::put_number;
 use placeholder_check::{Report, check};
 use rustc_parse_format::Piece;
 use std::alloc::{AllocError, Global};
@@ -59,7 +60,7 @@ fn put_numbers(out: &mut String, label: &str, numbers: &[usize]) -> Result<(), A
 {
     for n in numbers {
         put_number(out, label, *n)?;
-        out.push_str("\n")?;
+        out.push('\n')?;
     }
     Ok(())
 }
@@ -71,7 +72,7 @@ fn put_name(out: &mut String, label: &str, name: &str) -> Result<(), AllocError>
 {
     out.push_str(label)?;
     put_quoted(out, name)?;
-    out.push_str("\n")?;
+    out.push('\n')?;
     Ok(())
 }
 
