@@ -34,8 +34,13 @@ listed-nil : (mode : Mode) → listed mode (bare_source []) no_entries ≡ ([], 
 unfolding pieces errors walk call report_lines
 listed-nil mode = refl
 
-chars-empty : (bs : List ℕ) → bs ≡ [] → chars bs ≡ []
+pub chars-empty : (bs : List ℕ) → bs ≡ [] → chars bs ≡ []
 chars-empty bs e = ap chars e ∙ chars-nil
+
+pub no_faults : (mode : Mode) (w : World) (start : ℕ) (text : List ℕ) → text ≡ []
+    → (after_all (fresh mode w (chars text) start) (calls (fresh mode w (chars text) start))).errors
+    ≡ []
+no_faults mode w start text e = rw (chars-empty text e) (errors-nil mode w start)
 
 pub no_errors : {A : Type 0} (f : A → Message Place) (es : List A) (mode : Mode) (w : World)
     (start : ℕ) (bs : List ℕ) → bs ≡ []

@@ -1,48 +1,77 @@
 //! The listing of an input in UTF-8.
 
 ghost use Rattle.std.specs.Prelude.{◌≡◌, ◌≢◌, ◌≤◌, ◌||◌, ℕ, Bool, List, [], Err, None, Some, IfOk};
-ghost use Rattle.std.specs.Prelude.{IfErr};
-ghost use Rattle.std.specs.Prelude.{IsErrOf, IsOk, false, length, map, nat_lt, option_map, chars};
+ghost use Rattle.std.specs.Prelude.{◌++◌, IfErr, OnOk, flat_map, map};
+ghost use Rattle.std.specs.Prelude.{IsErrOf, IsOk, false, length, nat_lt, option_map, chars};
 ghost use Rattle.std.specs.Prelude.{string_bytes, true};
-ghost use Rattle.rustc_parse_format.specs.Seen.{seen, seen_error, seen_snippet};
+ghost use Rattle.rustc_parse_format.specs.Call.{pieces_of};
+ghost use Rattle.rustc_parse_format.specs.Seen.{seen_error, seen_snippet};
 ghost use Rattle.rustc_parse_format.specs.Source.{HasSource};
-ghost use Rattle.rustc_parse_format.specs.World.{hashes};
-ghost use Rattle.placeholder_check.specs.Report.{Report};
+ghost use Rattle.rustc_parse_format.specs.State.{after_all, calls};
+ghost use Rattle.rustc_parse_format.specs.World.{hashes, pieces_in};
+ghost use Rattle.placeholder_check.specs.Report.{Report as ReportValue};
+ghost use Rattle.placeholder_check.specs.Seen.{seen_report};
 ghost use Rattle.piece_listing.specs.declared.verdict.RunFault.TheVariants.{Words, TooLong};
 ghost use Rattle.piece_listing.specs.declared.verdict.RunFault.TheVariants.{NotText, NotLiteral};
 ghost use Rattle.piece_listing.specs.Source.{IsInLiteral, IsSourceOf, Source, bare_source};
-ghost use Rattle.piece_listing.specs.Listing.{listing};
+ghost use Rattle.piece_listing.specs.Listing.{fault_line, listing, report_lines};
 ghost use Rattle.piece_listing.specs.Program.{IsListed, IsReportFor, IsShort, has_entries, limit};
+ghost use Rattle.piece_listing.specs.Program.{no_entries};
 ghost use Rattle.piece_listing.specs.SeenTask.{seen_given, seen_task};
 
+use super::calls::put_calls;
 use super::given::Given;
-use super::listing::listing;
+use super::listing::put_faults;
 use super::literal::{literal_text, without_newline};
-use super::report_lines::{has_entries, report_for};
+use super::report_lines::{has_entries, put_report, report_for};
 use super::task::Task;
 use super::verdict::RunFault;
-use rustc_parse_format::{ParseError, Piece, read_all};
+use placeholder_check::{Report, Uses};
+use rustc_parse_format::{ParseError, Parser};
 use std::alloc::{AllocError, Global};
 
-/// Returns the listing of pieces and errors, with the report on the arguments that are given, and
-/// whether there is a line that is not of a piece. Returns `Err` if an allocation fails.
-fn list_read<'a>(
-    alloc: Global,
-    pieces: &[Piece<'a>],
+/// Appends the lines of errors and of a report. Returns whether there are any, and `Err` if an
+/// allocation fails.
+fn put_told(
+    lines: &mut String,
     errors: &[ParseError],
+    report: &Report<'_>,
+) -> Result<bool, AllocError>
+    ensures lines { OnOk result (string_bytes lines.new ≡ string_bytes lines.old
+        ++ (flat_map fault_line (map seen_error errors.now)
+        ++ report_lines (seen_report report.now))) }
+    ensures told { IfOk result (λ told. told ≡ (nat_lt 0 (length (map seen_error errors.now))
+        || has_entries (seen_report report.now))) }
+    ensures empty { errors.now ≡ [] → seen_report report.now ≡ no_entries → IsOk result }
+{
+    put_faults(lines, errors)?;
+    put_report(lines, report)?;
+    Ok(errors.len() > 0 || has_entries(report))
+}
+
+/// Returns the listing of what a parser reads up to the first call that returns `None`, with the
+/// report on the arguments that are given, and whether there is a line that is not of a piece.
+/// Returns `Err` if an allocation fails.
+fn list_calls<'a>(
+    alloc: Global,
+    parser: &mut Parser<'a>,
     given: Option<Given<'a>>,
 ) -> Result<(String, bool), AllocError>
-    ensures lines { IfOk result (λ x. (r : Report)
-        × IsReportFor (option_map seen_given given.entry) (map seen pieces.now) r
-        × ◌≡◌ {A = List ℕ × Bool} (string_bytes x.0, x.1) (
-          listing (map seen pieces.now) (map seen_error errors.now) r,
-          nat_lt 0 (length (map seen_error errors.now)) || has_entries r,
-        )) }
-    ensures empty { pieces.now ≡ [] → errors.now ≡ [] → given.entry ≡ None → IsOk result }
+    ensures lines { IfOk result (λ x.
+        let ps = pieces_in parser.old.world (pieces_of (calls parser.old)) in
+        let es = (after_all parser.old (calls parser.old)).errors in
+        (r : ReportValue) × IsReportFor (option_map seen_given given.entry) ps r
+        × ◌≡◌ {A = List ℕ × Bool} (string_bytes x.0, x.1)
+        (listing ps es r, nat_lt 0 (length es) || has_entries r)) }
+    ensures empty { parser.old.rest ≡ [] → parser.old.world.has_source ≡ false
+        → (after_all parser.old (calls parser.old)).errors ≡ [] → given.entry ≡ None
+        → IsOk result }
 {
-    let report = report_for(alloc, pieces, given)?;
-    let lines = listing(alloc, pieces, errors, &report)?;
-    let told = errors.len() > 0 || has_entries(&report);
+    let mut lines = String::new(alloc);
+    let mut used = Uses::new(alloc);
+    put_calls(&mut lines, &mut used, given.is_some(), parser)?;
+    let report = report_for(alloc, &used, given)?;
+    let told = put_told(&mut lines, parser.errors(), &report)?;
     Ok((lines, told))
 }
 
@@ -65,8 +94,9 @@ fn list_source(
         → (HasSource (chars text.now) style (seen_snippet snippet) false → ⊥)
         → task.entry.given ≡ None → IsOk result }
 {
-    let (pieces, parser) = read_all(alloc, text, style, snippet, false, task.mode)?;
-    list_read(alloc, pieces.as_slice(), parser.errors(), task.given)
+    let mut parser = Parser::new(alloc, text, style, snippet, false, task.mode)?;
+    let listed = list_calls(alloc, &mut parser, task.given)?;
+    Ok(listed)
 }
 
 /// Returns the listing of the text that a literal stands for, and whether there is a line that is

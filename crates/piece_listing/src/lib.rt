@@ -2,6 +2,7 @@
 //! and exit status for each of its results (`verdict`).
 #![tactic(auto)]
 
+mod calls;
 mod given;
 mod input;
 mod listing;

@@ -1,33 +1,26 @@
-//! The lines of pieces, of errors and of a report. Each function that returns a `Result` returns
+//! The lines of pieces and of errors. Each function that returns a `Result` returns
 //! `Err` if an allocation fails; `put_` in a name means that it appends to `out`.
 
-ghost use Rattle.std.specs.Prelude.{◌≡◌, ◌++◌, [], IfOk, IsOk, OnOk, map, chars, codes};
+ghost use Rattle.std.specs.Prelude.{◌≡◌, ◌++◌, [], IsOk, OnOk, map, chars, codes};
 ghost use Rattle.std.specs.Prelude.{encode_utf8_all, flat_map, option_map, string_bytes};
 ghost use Rattle.rustc_parse_format.specs.Written.{written};
 ghost use Rattle.rustc_parse_format.specs.Seen.{pair, seen, seen_alignment, seen_count};
 ghost use Rattle.rustc_parse_format.specs.Seen.{seen_debug_hex, seen_error, seen_position};
 ghost use Rattle.rustc_parse_format.specs.Seen.{seen_sign, seen_spec};
-ghost use Rattle.placeholder_check.specs.Seen.{seen_report};
-ghost use Rattle.piece_listing.specs.Program.{no_entries};
 ghost use Rattle.piece_listing.specs.Listing.{align_entry, at_entry, count_entry, count_text};
 ghost use Rattle.piece_listing.specs.Listing.{fault_line, fill_entry, flag_entry, flag_entries};
 ghost use Rattle.piece_listing.specs.Listing.{hex_entry};
-ghost use Rattle.piece_listing.specs.Listing.{listing, piece_line, position_text, precision_entry};
+ghost use Rattle.piece_listing.specs.Listing.{piece_line, position_text, precision_entry};
 ghost use Rattle.piece_listing.specs.Listing.{quoted, sign_entry, span_text, type_entry};
 ghost use Rattle.piece_listing.specs.Listing.{value_entries, width_entry};
 
 use super::numbers::{put_number, put_span};
-use super::report_lines::put_report;
-use placeholder_check::Report;
 use rustc_parse_format::{
     Alignment, Argument, Count, DebugHex, FormatSpec, ParseError, Piece, Position, Sign,
     put_all_written, put_written,
 };
-use std::alloc::{AllocError, Global};
+use std::alloc::AllocError;
 use std::ops::Range;
-
-/// The bytes for each piece that a listing has room for at first: twice those of the shortest line.
-const ROOM_FOR_PIECE: usize = 16;
 
 /// Adds a text, escaped, between quotes.
 pub fn put_quoted(out: &mut String, text: &str) -> Result<(), AllocError>
@@ -40,7 +33,7 @@ pub fn put_quoted(out: &mut String, text: &str) -> Result<(), AllocError>
 }
 
 /// Adds the line of a piece of literal text.
-fn put_literal(out: &mut String, text: &str) -> Result<(), AllocError>
+pub(crate) fn put_literal(out: &mut String, text: &str) -> Result<(), AllocError>
     ensures { OnOk result (string_bytes out.new ≡ string_bytes out.old ++
         (codes "lit " ++ (quoted (chars text.now) ++ codes "\n"))) }
 {
@@ -262,7 +255,7 @@ fn put_values(out: &mut String, spec: &FormatSpec<'_>) -> Result<(), AllocError>
 }
 
 /// Adds the line of a placeholder.
-fn put_argument(out: &mut String, argument: &Argument<'_>) -> Result<(), AllocError>
+pub(crate) fn put_argument(out: &mut String, argument: &Argument<'_>) -> Result<(), AllocError>
     ensures { OnOk result (string_bytes out.new ≡ string_bytes out.old ++
         (codes "arg " ++ (position_text (seen_position argument.now.position)
         ++ (codes " " ++ (span_text (pair argument.now.position_span)
@@ -291,18 +284,6 @@ pub fn put_piece(out: &mut String, piece: &Piece<'_>) -> Result<(), AllocError>
     Ok(())
 }
 
-/// Adds a line for each piece.
-fn put_pieces(out: &mut String, pieces: &[Piece<'_>]) -> Result<(), AllocError>
-    ensures lines { OnOk result (string_bytes out.new ≡ string_bytes out.old ++
-        flat_map piece_line (map seen pieces.now)) }
-    ensures empty { pieces.now ≡ [] → IsOk result }
-{
-    for piece in pieces {
-        put_piece(out, piece)?;
-    }
-    Ok(())
-}
-
 /// Adds the line of an error.
 fn put_fault(out: &mut String, error: &ParseError) -> Result<(), AllocError>
     ensures { OnOk result (string_bytes out.new ≡ string_bytes out.old ++
@@ -317,7 +298,7 @@ fn put_fault(out: &mut String, error: &ParseError) -> Result<(), AllocError>
 }
 
 /// Adds a line for each error, in their order.
-fn put_faults(out: &mut String, errors: &[ParseError]) -> Result<(), AllocError>
+pub(crate) fn put_faults(out: &mut String, errors: &[ParseError]) -> Result<(), AllocError>
     ensures lines { OnOk result (string_bytes out.new ≡ string_bytes out.old ++
         flat_map fault_line (map seen_error errors.now)) }
     ensures empty { errors.now ≡ [] → IsOk result }
@@ -326,24 +307,4 @@ fn put_faults(out: &mut String, errors: &[ParseError]) -> Result<(), AllocError>
         put_fault(out, error)?;
     }
     Ok(())
-}
-
-/// Returns the listing of pieces, errors and a report: a line for each piece, each error and each
-/// entry of the report. Returns `Err` if an allocation fails.
-pub fn listing(
-    alloc: Global,
-    pieces: &[Piece<'_>],
-    errors: &[ParseError],
-    report: &Report<'_>,
-) -> Result<String, AllocError>
-    ensures lines { IfOk result (λ text. string_bytes text
-        ≡ listing (map seen pieces.now) (map seen_error errors.now) (seen_report report.now)) }
-    ensures empty { pieces.now ≡ [] → errors.now ≡ [] → seen_report report.now ≡ no_entries
-        → IsOk result }
-{
-    let mut out = String::with_capacity(alloc, pieces.len().saturating_mul(ROOM_FOR_PIECE))?;
-    put_pieces(&mut out, pieces)?;
-    put_faults(&mut out, errors)?;
-    put_report(&mut out, report)?;
-    Ok(out)
 }

@@ -1,9 +1,12 @@
 //! The report on missing and unused arguments, and its lines.
 
 ghost use Rattle.std.specs.Prelude.{◌≡◌, ◌++◌, [], None, IfOk, IsOk, OnOk, chars, codes, flat_map};
-ghost use Rattle.std.specs.Prelude.{map, option_map, string_bytes};
-ghost use Rattle.rustc_parse_format.specs.Seen.{seen};
+ghost use Rattle.std.specs.Prelude.{IsSome, List, option_map, string_bytes};
+ghost use Rattle.rustc_parse_format.specs.Types.{Piece};
+ghost use Rattle.rustc_parse_format.specs.World.{Place};
+ghost use Rattle.placeholder_check.specs.Noted.{Holds};
 ghost use Rattle.placeholder_check.specs.Seen.{seen_report, texts};
+ghost use Rattle.placeholder_check.specs.Uses.{uses};
 ghost use Rattle.piece_listing.specs.Listing.{index_line, name_line, report_lines};
 ghost use Rattle.piece_listing.specs.Program.{IsReportFor, has_entries, no_entries};
 ghost use Rattle.piece_listing.specs.SeenTask.{seen_given};
@@ -11,27 +14,26 @@ ghost use Rattle.piece_listing.specs.SeenTask.{seen_given};
 use super::given::{Given, names};
 use super::listing::put_quoted;
 use super::numbers::put_number;
-use placeholder_check::{Report, check};
-use rustc_parse_format::Piece;
+use placeholder_check::{Report, Uses, check_uses};
 use std::alloc::{AllocError, Global};
 
-/// Returns the report on pieces for which these arguments are given, or a report without entries
+/// Returns the report on the arguments that are used if these are given, or a report without entries
 /// for `None`. Returns `Err` if an allocation fails.
 pub fn report_for<'a>(
     alloc: Global,
-    pieces: &[Piece<'a>],
+    used: &Uses<'a>,
     given: Option<Given<'a>>,
 ) -> Result<Report<'a>, AllocError>
-    ensures report { IfOk result
-        (λ r. IsReportFor (option_map seen_given given.entry)
-        (map seen pieces.now) (seen_report r)) }
+    ensures report { IfOk result (λ r. (ps : List (Piece Place))
+        → (IsSome given.entry → Holds (uses ps) used.now)
+        → IsReportFor (option_map seen_given given.entry) ps (seen_report r)) }
     ensures none { given.entry ≡ None → IsOk result }
     ensures no_entries { given.entry ≡ None → IfOk result (λ r. seen_report r ≡ no_entries) }
 {
     match given {
         Some(given) => {
             let names = names(alloc, given.names)?;
-            check(alloc, pieces, given.positional, names.as_slice())
+            check_uses(alloc, used, given.positional, names.as_slice())
         }
         None => Ok(Report {
             missing_index: Vec::new(alloc),

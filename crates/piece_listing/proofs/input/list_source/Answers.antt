@@ -1,26 +1,27 @@
-use Rattle.std.proofs.Common.{◌∙◌, ap, false, chars, map}
-use Rattle.rustc_parse_format.specs.Seen.{seen, seen_error, seen_mode, seen_snippet}
-use Rattle.rustc_parse_format.specs.State.{State}
+use Rattle.std.proofs.Common.{◌∙◌, ap, chars, false, subst}
+use Rattle.std.specs.Prelude.{IsOk}
+use Rattle.std.proofs.lemmas.Bool.{false≢true}
+use Rattle.rustc_parse_format.proofs.Walking.ReadPieces.{no_source}
+use Rattle.rustc_parse_format.specs.Seen.{seen_mode, seen_snippet}
+use Rattle.rustc_parse_format.specs.State.{State, after_all, calls}
 use Rattle.rustc_parse_format.specs.World.{quote_offset, world}
-use Rattle.placeholder_check.proofs.Empty.{no_pieces}
-use Rattle.piece_listing.proofs.Empty.{no_errors}
+use Rattle.piece_listing.proofs.Empty.{chars-empty, no_faults}
 use Rattle.piece_listing.specs.Program.{errors, pieces}
 use Rattle.piece_listing.proofs.input.list_source.Goals as goal
 
 pub returns-clause-lines : goal.returns-clause-lines
 unfolding pieces errors
-returns-clause-lines c =
-    let walk = c.in_ok-pieces.ensures.walk in
-    let told = rw (ap (map seen) c.as_slice.ensures.value ∙ walk.0) at c.list_read.ensures.lines in
-    rw (c.errors.ensures ∙ ap (λ (s : State). s.errors) walk.1) at told
+returns-clause-lines c = rw c.in_ok-parser.ensures.start at c.in_ok-listed.ensures.lines
 
-pub returns-clause-empty : goal.returns-clause-empty
-returns-clause-empty c e without bare =
+pub returns-in_err-listed-clause-empty : goal.returns-in_err-listed-clause-empty
+returns-in_err-listed-clause-empty c e without bare =
     let mode = seen_mode c.args.task.mode in
-    let w = world (chars c.args.text.now) c.args.style (seen_snippet c.args.snippet) false in
-    let start = quote_offset c.args.style in
-    let walk = c.in_ok-pieces.ensures.walk in
-    let pieces = no_pieces seen c.in_ok-pieces.pieces.items mode w start c.args.text.now e walk.0 in
-    let errors = no_errors seen_error c.errors.result.now mode w start c.args.text.now e
-    (c.errors.ensures ∙ ap (λ (s : State). s.errors) walk.1) in
-    c.list_read.ensures.empty (c.as_slice.ensures.value ∙ pieces) errors bare
+    let text = chars c.args.text.now in
+    let w = world text c.args.style (seen_snippet c.args.snippet) false in
+    let start = c.in_ok-parser.ensures.start in
+    let rest = ap (λ (s : State). s.rest) start ∙ chars-empty c.args.text.now e in
+    let source = no_source _ _ c.in_ok-parser.ensures.source without in
+    let none = ap (λ (s : State). (after_all s (calls s)).errors) start
+    ∙ no_faults mode w (quote_offset c.args.style) c.args.text.now e in
+    absurd (false≢true (subst IsOk c.in_err-listed.was
+    (c.list_calls.ensures.empty rest source none bare)))
