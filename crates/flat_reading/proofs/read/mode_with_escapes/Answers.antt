@@ -2,19 +2,14 @@ use Rattle.std.proofs.Common.{chars, sym, ap, ◌∙◌, refl}
 use Rattle.rustc_parse_format.specs.Seen.{seen_mode}
 use Rattle.rustc_parse_format.specs.State.{State}
 use Rattle.flat_reading.proofs.Worlds.{sourceless_plain}
-use Rattle.flat_reading.proofs.read.guide_for.Goals as goal
+use Rattle.flat_reading.proofs.read.mode_with_escapes.Goals as goal
 
-pub returns-then-may_have_escapes : goal.returns-then-may_have_escapes
-returns-then-may_have_escapes c =
-    λ start. rw start
-    (c.in_ok-guide.ensures c.args.asked.now.style _ c.args.asked.now.appended_newline)
-
-pub returns-then-is_source_literal : goal.returns-then-is_source_literal
-returns-then-is_source_literal c =
+pub returns-then-is_source_literal-clause-plain : goal.returns-then-is_source_literal-clause-plain
+returns-then-is_source_literal-clause-plain c =
     λ start. rw start (c.may_have_escapes.ensures c.if-may_have_escapes.false)
 
-pub returns : goal.returns
-returns c = λ start.
+pub returns-clause-plain : goal.returns-clause-plain
+returns-clause-plain c = λ start.
     let a = c.args.asked.now in
     rw start
     (sourceless_plain (seen_mode a.mode) (chars a.input.now) a.style _ a.appended_newline _ refl
