@@ -14,8 +14,8 @@ ghost use Rattle.flat_reading.specs.Meant.{align_meant, count_meant, fill_meant,
 ghost use Rattle.flat_reading.specs.Meant.{maybe_place, piece_meant};
 ghost use Rattle.flat_reading.specs.Meant.{place as place_meant, position_meant, sign_meant};
 ghost use Rattle.flat_reading.specs.Meant.{spec_at, spec_meant, text_at};
-ghost use Rattle.flat_reading.specs.Stand.{Adds, ArgumentStands, CountAt};
-ghost use Rattle.flat_reading.specs.Stand.{PositionAt, SameBehind, SpecAt};
+ghost use Rattle.flat_reading.specs.Stand.{Adds, ArgumentStands, CountAt, PositionAt, SameBehind};
+ghost use Rattle.flat_reading.specs.Stand.{SpecAt};
 
 use crate::records::{
     ALIGN_CENTER, ALIGN_LEFT, ALIGN_RIGHT, ALIGN_UNKNOWN, COUNT_IMPLIED, COUNT_IS, COUNT_IS_NAME,

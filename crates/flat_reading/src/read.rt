@@ -68,21 +68,22 @@ fn may_have_escapes(asked: &Task<'_>) -> bool
     }
 }
 
-/// Returns the mode of a parser, if the input is of an ordinary source literal that may have
-/// escapes: byte offsets in the source and in the input then do not differ by a constant.
+/// Returns the mode of a parser, or `None` if byte offsets in the source and in the input differ by
+/// a constant. In an ordinary source literal with escapes they do not.
 fn mode_with_escapes(parser: &Parser<'_>, asked: &Task<'_>) -> Option<ParseMode>
     requires { length asked.now.input.now ≤ limit }
     ensures plain { parser.now ≡ asked_state asked.now
         → IfNone result (IsPlain parser.now (quote_offset asked.now.style)) }
     ensures mode { IfSome result (λ m. m ≡ asked.now.mode) }
 {
-    if parser.is_source_literal() {
-        if may_have_escapes(asked) {
-            return Some(asked.mode);
-        }
+    if !parser.is_source_literal() {
         return None;
     }
-    None
+    if may_have_escapes(asked) {
+        Some(asked.mode)
+    } else {
+        None
+    }
 }
 
 /// Writes the byte ranges of the lines, as far as they fit.

@@ -1,22 +1,21 @@
 //! Writes the calls of a parser, up to the end of the input, as records.
 
-ghost use Rattle.std.specs.Prelude.{◌≡◌, ℕ, ◌<◌, ◌≤◌, ◌^◌, ◌++◌, [], Bool, List, None, Option, Some};
-ghost use Rattle.std.specs.Prelude.{IfNone, IfOk, IfSome, OnOk, chars, drop, length, map};
-ghost use Rattle.std.specs.Prelude.{if◌then◌else◌};
-ghost use Rattle.std.specs.Prelude.{option_map, take};
+ghost use Rattle.std.specs.Prelude.{◌≡◌, ℕ, ◌<◌, ◌≤◌, ◌^◌, ◌++◌, if◌then◌else◌, [], Bool, List};
+ghost use Rattle.std.specs.Prelude.{None, Option, Some, IfNone, IfOk, IfSome, OnOk, chars, drop};
+ghost use Rattle.std.specs.Prelude.{length, map, option_map, take};
 ghost use Rattle.rustc_parse_format.specs.Characters.{behind_first};
 ghost use Rattle.rustc_parse_format.specs.Lines.{closed_in, listed};
 ghost use Rattle.rustc_parse_format.specs.Marks.{Span};
-ghost use Rattle.rustc_parse_format.specs.Seen.{pair, seen_argument, seen_mode};
-ghost use Rattle.rustc_parse_format.specs.Seen.{seen_spec, seen_taken};
+ghost use Rattle.rustc_parse_format.specs.Seen.{pair, seen_argument, seen_mode, seen_spec};
+ghost use Rattle.rustc_parse_format.specs.Seen.{seen_taken};
 ghost use Rattle.rustc_parse_format.specs.State.{after, next_call};
 ghost use Rattle.rustc_parse_format.specs.Types.{NextArgument};
 ghost use Rattle.rustc_parse_format.specs.World.{Place};
 ghost use Rattle.flat_reading.specs.declared.records.Spec.{Spec as SpecRecord};
 ghost use Rattle.flat_reading.specs.declared.records.Step.{Step as StepRecord};
 ghost use Rattle.flat_reading.specs.Events.{end_of, event, events, found_by, fronts_of};
-ghost use Rattle.flat_reading.specs.Events.{given, is_default, looked_for, place_of_first, position};
-ghost use Rattle.flat_reading.specs.Events.{spec_count, specs_in, states, step_meant};
+ghost use Rattle.flat_reading.specs.Events.{given, is_default, looked_for, place_of_first};
+ghost use Rattle.flat_reading.specs.Events.{position, spec_count, specs_in, states, step_meant};
 ghost use Rattle.flat_reading.specs.Meant.{maybe_place, piece_meant, spec_at};
 ghost use Rattle.flat_reading.specs.Stand.{Adds, IsAdded, IsOnItsWay, IsPlain, IsReadAt, MakesCall};
 ghost use Rattle.flat_reading.specs.Stand.{PlaceholderStands, RunStands, SameBehind};
