@@ -5,6 +5,7 @@ pub mod Widths
 pub mod Specs
 pub mod Finding
 pub mod Standing
+pub mod Escaped
 pub mod Worlds
 pub mod Walking
 pub mod Rows

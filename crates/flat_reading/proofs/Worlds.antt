@@ -15,12 +15,7 @@ use Rattle.rustc_parse_format.specs.World.{World, foreign_end, input_end, ordina
 use Rattle.rustc_parse_format.specs.World.{ordinary_world, plain_world, quote_offset, world}
 use Rattle.rustc_parse_format.specs.State.{first_state}
 use Rattle.rustc_parse_format.proofs.Spans.TextBytes.{no_source-plain, raw-plain}
-use Rattle.rustc_parse_format.specs.Agreement.{Agree}
 use Rattle.flat_reading.specs.Stand.{IsPlain}
-
-pub guide_plain : (mode : Mode) (input : Text) → IsPlain (first_state mode input None None false) 1
-unfolding world
-guide_plain mode input = (false, input_end input false, refl)
 
 pub sourceless_plain : (mode : Mode) (input : Text) (style : Option ℕ) (snippet : Option Text)
     (appended : Bool) (at : ℕ) → at ≡ quote_offset style →
@@ -35,12 +30,6 @@ pub raw_plain : (mode : Mode) (input : Text) (style : Option ℕ) (snippet : Opt
 raw_plain mode input None snippet appended at e h = cc
 raw_plain mode input (Some n) snippet appended at e h =
     let p = raw-plain input n snippet appended in rw e (p.literal, p.end, p.is)
-
-pub guide_agrees : (mode : Mode) (input : Text) (style : Option ℕ) (snippet : Option Text)
-    (appended : Bool) →
-    Agree (first_state mode input style snippet appended) (first_state mode input None None false)
-guide_agrees mode input style snippet appended =
-    record { mode = refl; input = refl; rest = refl; next = refl; errors = refl }
 
 pub bare_plain : (mode : Mode) (input : Text) (appended : Bool)
     → IsPlain (first_state mode input None None appended) 1

@@ -1,25 +1,26 @@
 -- Where the texts of a piece are in the input. Private definitions, for contracts of private
 -- functions.
-use Rattle.std.specs.Prelude.{◌≡◌, ◌≢◌, ℕ, ◌+◌, ◌-◌, ◌<◌, ◌≤◌, ◌⊎◌, List, [], ◌++◌, length, take}
-use Rattle.std.specs.Prelude.{drop, set, option_map, Bool, Option, Some, None, chars, codes}
-use Rattle.std.specs.Prelude.{encode_utf8_all, slice_range}
-use Rattle.std.specs.Str.{IsUtf8}
+use Rattle.std.specs.Prelude.{◌≡◌, ◌≢◌, ℕ, ◌+◌, ◌-◌, ◌<◌, ◌≤◌, ◌^◌, ◌⊎◌, ◌||◌, List, [], ◌++◌}
+use Rattle.std.specs.Prelude.{length, take, drop, set, option_map, Bool, true, false, Option, Some}
+use Rattle.std.specs.Prelude.{None, IfNone, IfSome, is_some, chars, codes, encode_utf8_all}
+use Rattle.std.specs.Prelude.{slice_range}
+use Rattle.std.specs.Str.{IsCharBoundary, IsUtf8}
 use Rattle.rustc_parse_format.specs.Characters.{Text}
 use Rattle.rustc_parse_format.specs.Characters.{byte_length}
 use Rattle.rustc_parse_format.specs.Types.{Position, Implicit, Index, Named, Count, Is, Name, Param}
 use Rattle.rustc_parse_format.specs.Types.{Star, Implied, Spec, Argument, Piece, Lit, NextArgument}
-use Rattle.rustc_parse_format.specs.World.{Place, piece_in, plain_world}
+use Rattle.rustc_parse_format.specs.Types.{Mode, is_named}
+use Rattle.rustc_parse_format.specs.Seen.{seen_mode}
+use Rattle.rustc_parse_format.specs.Call.{call}
+use Rattle.rustc_parse_format.specs.World.{World, Place, piece_in, plain_world}
 use Rattle.rustc_parse_format.specs.State.{State, after, next_call}
-use Rattle.rustc_parse_format.specs.Agreement.{Agree}
-use Rattle.std.specs.declared.alloc.Global.{Global}
-use Rattle.std.specs.declared.boxed.Box.{Box}
 use Rattle.flat_reading.specs.declared.flat.SpecBuffer.{SpecBuffer}
 use Rattle.flat_reading.specs.declared.records.Step.{Step}
 use Rattle.flat_reading.specs.declared.records.Spec.{Spec as SpecRecord}
 use Rattle.flat_reading.specs.declared.texts.Texts.{Texts}
 use Rattle.flat_reading.specs.declared.walk.Walker.{Walker}
-use Rattle.flat_reading.specs.Events.{Event, add_finders, fronts_in, position, step_meant}
-use Rattle.flat_reading.specs.Meant.{run_at, text_at, type_meant}
+use Rattle.flat_reading.specs.Events.{Event, add_finders, fronts_in, step_meant}
+use Rattle.flat_reading.specs.Meant.{text_at, type_meant}
 
 -- The input has these bytes from the offset `from` on.
 abbrev pub HasBytes : List ℕ → ℕ → List ℕ → Type 0
@@ -79,12 +80,40 @@ pub record ArgumentStands (input : List ℕ) (offset : ℕ) (a : Argument Place)
   pub position : PositionStands input (a.position_span.0 - offset) a.position
   pub format : SpecStands input offset a.format
 
--- The texts of a piece are in the input at the start of their spans, less the offset. A run of text
--- is what was read last.
-abbrev pub PieceStands : List ℕ → ℕ → ℕ → Option (Piece Place) → Type 0
-PieceStands input offset read None = Unit {0}
-PieceStands input offset read (Some (Lit t)) = IsLast input read t
-PieceStands input offset read (Some (NextArgument a)) = ArgumentStands input offset a
+-- A piece that is a run of text is what was read last.
+abbrev pub RunStands : List ℕ → ℕ → Option (Piece Place) → Type 0
+RunStands input read None = Unit {0}
+RunStands input read (Some (Lit t)) = IsLast input read t
+RunStands input read (Some (NextArgument a)) = Unit {0}
+
+-- The texts of a piece that is an argument are in the input at the start of their spans, less the
+-- offset.
+abbrev pub PlaceholderStands : List ℕ → ℕ → Option (Piece Place) → Type 0
+PlaceholderStands input offset None = Unit {0}
+PlaceholderStands input offset (Some (Lit t)) = Unit {0}
+PlaceholderStands input offset (Some (NextArgument a)) = ArgumentStands input offset a
+
+-- The count has a name.
+abbrev pub is_name : {A : Type 0} → Count A → Bool
+is_name (Is n) = false
+is_name (Name w s) = true
+is_name (Param n) = false
+is_name (Star n) = false
+is_name Implied = false
+
+-- The argument has a text that is found by a span: a name, or a type with a span.
+abbrev pub has_texts : {A : Type 0} → Argument A → Bool
+has_texts a = is_named a.position
+    || (is_name a.format.width || (is_name a.format.precision || is_some a.format.ty_span))
+
+-- A parser in this mode with this next number, which has the input from the byte `start` on left,
+-- returns this piece, whatever its world is.
+pub record IsReadAt (input : List ℕ) (mode : Mode) (next start : ℕ)
+    (o : Option (Piece Place)) : Type 0 where
+  pub starts : IsCharBoundary input start
+  pub fits : next + length (chars (drop start input)) < 2 ^ 64
+  pub world : World
+  pub gives : o ≡ option_map (piece_in world) (call mode next (chars (drop start input))).piece
 
 -- The text t is the name in a count, if it has one.
 abbrev pub CountAt : {A : Type 0} → Text → Count A → Type 0
@@ -106,38 +135,13 @@ PositionAt t (Implicit n) = Unit {0}
 PositionAt t (Index n) = Unit {0}
 PositionAt t (Named w) = t ≡ w
 
--- The ranges in x hold the texts of the piece, after which the parser is at the offset `read`.
-abbrev pub PieceAt : {A : Type 0} → List ℕ → ℕ → Texts → Option (Piece A) → Type 0
-PieceAt input read x None = Unit {0}
-PieceAt input read x (Some (Lit t)) = run_at input read x.text ≡ t
-PieceAt input read x (Some (NextArgument a)) = PositionAt (text_at input x.text) a.position
-    × SpecAt input x a.format
-
 -- Each place of the parser is that in the input, moved by `offset` bytes.
 abbrev pub IsPlain : State → ℕ → Type 0
 IsPlain s offset = (b : Bool) × (e : ℕ) × (s.world ≡ plain_world b offset s.input e)
 
--- The state of the second parser that goes along with the first, if there is one.
-abbrev pub guide_of : Option (Box State Global) → Option State
-guide_of g = option_map (λ b. b.value) g
-
--- The parser's places are those in the input, moved by `offset` bytes. Or a second parser agrees
--- with it, whose places are those in the input moved by one byte.
-abbrev pub IsGuided : State → ℕ → Option State → Type 0
-IsGuided s offset None = IsPlain s offset
-IsGuided s offset (Some o) = Agree s o × IsPlain o 1
-
 -- The second text is a suffix of the first.
 abbrev pub EndsWith : Text → Text → Type 0
 EndsWith input rest = (front : Text) × (input ≡ front ++ rest)
-
--- A parser over these bytes whose next call ends at the offset `read`, and whose places are those
--- in the input moved by one byte.
-pub record IsAlong (s : State) (input : List ℕ) (read : ℕ) : Type 0 where
-  pub is_plain : IsPlain s 1
-  pub input_is : chars input ≡ s.input
-  pub left : EndsWith s.input s.rest
-  pub reads : read ≡ position s.input (next_call s).rest
 
 -- The count of specifications grew by n. They are written after the others, as far as there is
 -- room, and nothing else is written.
@@ -148,13 +152,14 @@ pub record Adds (n : ℕ) (old new : SpecBuffer) : Type 0 where
   pub front : take old.used new.records.now ≡ take old.used old.records.now
   pub kept : drop new.used new.records.now ≡ drop new.used old.records.now
 
--- What is left of a walker's input is a suffix of the whole, and it is known where the texts of the
--- pieces are.
+-- What is left of a walker's input is a suffix of the whole, and the places of its parser are those
+-- in the input, moved by its offset, or its mode is known.
 pub record IsOnItsWay (w : Walker) : Type 0 where
   pub utf8 : IsUtf8 w.input.now
   pub input : chars w.input.now ≡ w.parser.input
   pub left : EndsWith w.parser.input w.parser.rest
-  pub guided : IsGuided w.parser w.offset (guide_of w.guide)
+  pub plain : IfNone w.escapes (IsPlain w.parser w.offset)
+  pub mode : IfSome w.escapes (λ m. seen_mode m ≡ w.parser.mode)
 
 -- The walker made the next call, which has this number, and recorded which errors it found.
 pub record MakesCall (number : ℕ) (old new : Walker) : Type 0 where
@@ -174,12 +179,6 @@ pub record IsAdded (input : List ℕ) (e : Event) (count used : ℕ) (old new : 
   pub put : (count < length old → new ≡ set old count step) × (length old ≤ count → new ≡ old)
   pub few : step.spec ≤ used
   pub told : used ≤ length specs → step_meant input specs step ≡ e
-
--- Ranges that hold the texts of the piece of the second parser also hold those of the piece o.
-abbrev pub StandsAlike : List ℕ → ℕ → State → Option (Piece Place) → Type 0
-StandsAlike input read g o = (x : Texts)
-    → PieceAt input read x (option_map (piece_in g.world) (next_call g).piece)
-    → PieceAt input read x o
 
 -- What the two steps say about the state after the call is the same.
 abbrev pub SameBehind : Step → Step → Type 0

@@ -4,27 +4,27 @@ ghost use Rattle.std.specs.Prelude.{◌≡◌, ℕ, ◌+◌, ◌<◌, ◌≤◌,
 ghost use Rattle.std.specs.Prelude.{length, option_map, take, true};
 ghost use Rattle.rustc_parse_format.specs.Seen.{pair, seen_alignment, seen_argument, seen_count};
 ghost use Rattle.rustc_parse_format.specs.Seen.{seen_debug_hex, seen_position, seen_sign};
-ghost use Rattle.rustc_parse_format.specs.Seen.{seen_spec, seen_taken};
+ghost use Rattle.rustc_parse_format.specs.Seen.{seen_spec};
 ghost use Rattle.rustc_parse_format.specs.Characters.{is_nil};
 ghost use Rattle.rustc_parse_format.specs.Types.{NextArgument};
 ghost use Rattle.flat_reading.specs.declared.records.Extent.{Extent as ExtentRecord};
 ghost use Rattle.flat_reading.specs.declared.records.Spec.{Spec as SpecRecord};
-ghost use Rattle.flat_reading.specs.Events.{has_no_counts, has_no_flags, is_default, specs_in};
+ghost use Rattle.flat_reading.specs.Events.{has_no_counts, has_no_flags, is_default};
 ghost use Rattle.flat_reading.specs.Meant.{align_meant, count_meant, fill_meant, hex_meant, is_set};
 ghost use Rattle.flat_reading.specs.Meant.{maybe_place, piece_meant};
 ghost use Rattle.flat_reading.specs.Meant.{place as place_meant, position_meant, sign_meant};
 ghost use Rattle.flat_reading.specs.Meant.{spec_at, spec_meant, text_at};
-ghost use Rattle.flat_reading.specs.Stand.{Adds, ArgumentStands, CountAt, PieceAt, PieceStands};
-ghost use Rattle.flat_reading.specs.Stand.{PositionAt, SameBehind, SpecAt};
+ghost use Rattle.flat_reading.specs.Stand.{Adds, ArgumentStands, CountAt, PositionAt, SameBehind};
+ghost use Rattle.flat_reading.specs.Stand.{SpecAt};
 
 use crate::records::{
     ALIGN_CENTER, ALIGN_LEFT, ALIGN_RIGHT, ALIGN_UNKNOWN, COUNT_IMPLIED, COUNT_IS, COUNT_IS_NAME,
     COUNT_IS_PARAM, COUNT_IS_STAR, CountRecord, Extent, HEX_LOWER, HEX_NONE, HEX_UPPER,
-    MaybeExtent, NO_FILL, PIECE_ARGUMENT, PIECE_NONE, PIECE_TEXT, POSITION_IMPLICIT,
-    POSITION_INDEX, POSITION_NAMED, SIGN_MINUS, SIGN_NONE, SIGN_PLUS, Spec, Step,
+    MaybeExtent, NO_FILL, PIECE_ARGUMENT, POSITION_IMPLICIT, POSITION_INDEX, POSITION_NAMED,
+    SIGN_MINUS, SIGN_NONE, SIGN_PLUS, Spec, Step,
 };
-use crate::texts::{Texts, argument_texts, name_extent, run_extent};
-use rustc_parse_format::{Alignment, Argument, Count, DebugHex, FormatSpec, Position, Sign, Taken};
+use crate::texts::{Texts, argument_texts, name_extent};
+use rustc_parse_format::{Alignment, Argument, Count, DebugHex, FormatSpec, Position, Sign};
 use std::ops::Range;
 
 /// The byte range in a record where none is meant.
@@ -312,7 +312,12 @@ fn position(position: &Position<'_>) -> (u32, usize)
 /// `texts` has the byte ranges of its texts in the input.
 #[tactic(auto, unfolding(crate::specs::Meant::piece_meant))]
 #[inline(never)]
-fn put_argument(argument: &Argument<'_>, texts: &Texts, specs: &mut SpecBuffer<'_>, step: &mut Step)
+pub fn put_argument(
+    argument: &Argument<'_>,
+    texts: &Texts,
+    specs: &mut SpecBuffer<'_>,
+    step: &mut Step,
+)
     requires room { specs.old.used < usize.MAX }
     ensures told { (input : List ℕ)
         → PositionAt (text_at input texts.now.text) (seen_position argument.now.position)
@@ -377,7 +382,7 @@ fn put_bare_argument(argument: &Argument<'_>, text: Extent, step: &mut Step)
 /// The byte ranges of its texts in the input are its spans, less an offset; those of the default
 /// specification are not computed.
 #[inline(always)]
-fn put_plain_argument(
+pub fn put_plain_argument(
     argument: &Argument<'_>,
     input: &str,
     offset: usize,
@@ -399,64 +404,5 @@ fn put_plain_argument(
     } else {
         let texts = argument_texts(input, offset, argument);
         put_argument(argument, &texts, specs, step);
-    }
-}
-
-/// Writes a piece into its step, and adds its specification unless that is the default one. A
-/// placeholder is in `argument`; `texts` has the byte ranges of the piece's texts in the input.
-#[tactic(auto, unfolding(crate::specs::Meant::piece_meant))]
-pub fn put_piece(
-    piece: &Option<Taken<'_>>,
-    argument: &Argument<'_>,
-    texts: &Texts,
-    specs: &mut SpecBuffer<'_>,
-    step: &mut Step,
-)
-    requires room { specs.old.used < usize.MAX }
-    ensures told { (input : List ℕ)
-        → PieceAt input step.old.read texts.now (option_map (seen_taken argument.now) piece.now)
-        → specs.new.used ≤ length specs.old.records.now
-        → piece_meant input (spec_at input specs.new.records.now step.new.spec) step.new
-        ≡ option_map (seen_taken argument.now) piece.now }
-    ensures number { step.new.spec ≤ specs.new.used }
-    ensures adds { Adds (specs_in (option_map (seen_taken argument.now) piece.now)) specs.old
-        specs.new }
-    ensures others { SameBehind step.old step.new }
-{
-    match piece {
-        None => bare(PIECE_NONE, NOWHERE, step),
-        Some(Taken::Lit(_)) => bare(PIECE_TEXT, texts.text, step),
-        Some(Taken::NextArgument) => put_argument(argument, texts, specs, step),
-    }
-}
-
-/// Writes a piece into its step, and adds its specification unless that is the default one. The
-/// byte ranges of its texts in the input are its spans, less an offset; literal text ends where the
-/// input is read up to.
-#[tactic(auto, unfolding(crate::specs::Meant::piece_meant))]
-#[inline(always)]
-pub fn put_plain(
-    piece: &Option<Taken<'_>>,
-    argument: &Argument<'_>,
-    input: &str,
-    offset: usize,
-    specs: &mut SpecBuffer<'_>,
-    step: &mut Step,
-)
-    requires stands { PieceStands input.now offset step.old.read
-        (option_map (seen_taken argument.now) piece.now) }
-    requires room { specs.old.used < usize.MAX }
-    ensures told { specs.new.used ≤ length specs.old.records.now
-        → piece_meant input.now (spec_at input.now specs.new.records.now step.new.spec) step.new
-        ≡ option_map (seen_taken argument.now) piece.now }
-    ensures number { step.new.spec ≤ specs.new.used }
-    ensures adds { Adds (specs_in (option_map (seen_taken argument.now) piece.now)) specs.old
-        specs.new }
-    ensures others { SameBehind step.old step.new }
-{
-    match piece {
-        None => bare(PIECE_NONE, NOWHERE, step),
-        Some(Taken::Lit(text)) => bare(PIECE_TEXT, run_extent(step.read, text), step),
-        Some(Taken::NextArgument) => { put_plain_argument(argument, input, offset, specs, step) }
     }
 }

@@ -1,18 +1,15 @@
 //! Reads a whole input at once.
 
-ghost use Rattle.std.specs.Prelude.{◌≡◌, ◌≤◌, ℕ, Bool, IfOk, IsFalse, None, OnErr, OnOk};
-ghost use Rattle.std.specs.Prelude.{Option, Some, chars, drop, length, map, option_map};
+ghost use Rattle.std.specs.Prelude.{◌≡◌, ◌≤◌, IfNone, IfOk, IfSome, IsFalse, None, OnErr, OnOk};
+ghost use Rattle.std.specs.Prelude.{Some, chars, drop, length, map, option_map};
 ghost use Rattle.std.specs.Prelude.{string_bytes, take};
-ghost use Rattle.rustc_parse_format.specs.Seen.{pair, seen_mode};
-ghost use Rattle.rustc_parse_format.specs.Characters.{Text};
+ghost use Rattle.rustc_parse_format.specs.Seen.{pair};
 ghost use Rattle.rustc_parse_format.specs.LiteralReading.{is_longer};
-ghost use Rattle.rustc_parse_format.specs.Types.{Mode};
-ghost use Rattle.rustc_parse_format.specs.State.{first_state};
 ghost use Rattle.rustc_parse_format.specs.World.{hashes, quote_offset};
 ghost use Rattle.flat_reading.specs.Asked.{Fits, IsCounted, IsKept, IsTold, asked_state, buffers};
 ghost use Rattle.flat_reading.specs.Asked.{limit};
 ghost use Rattle.flat_reading.specs.Meant.{place};
-ghost use Rattle.flat_reading.specs.Stand.{IsGuided, IsPlain, guide_of};
+ghost use Rattle.flat_reading.specs.Stand.{IsPlain};
 
 use crate::errors::put_errors;
 use crate::flat::{NO_EXTENT, SpecBuffer, extent, flag};
@@ -71,43 +68,22 @@ fn may_have_escapes(asked: &Task<'_>) -> bool
     }
 }
 
-/// Returns another parser over the input, whose spans are one byte after the byte ranges in the
-/// input. Returns `Err` if an allocation fails.
-#[inline(never)]
-fn new_guide<'a>(
-    alloc: Global,
-    mode: ParseMode,
-    input: &'a str,
-) -> Result<Option<Box<Parser<'a>>>, AllocError>
-    requires { length input.now ≤ limit }
-    ensures { IfOk result (λ g. (style : Option ℕ) (snippet : Option Text) (appended : Bool)
-        → IsGuided (first_state (seen_mode mode) (chars input.now) style snippet appended)
-        (quote_offset style) (guide_of g)) }
-{
-    let guide = Parser::new(alloc, input, None, None, false, mode)?;
-    Ok(Some(Box::new(alloc, guide)?))
-}
-
-/// Returns the guide of a parser, if it may need one: in an ordinary source literal with escapes,
-/// byte offsets in the source and in the input do not differ by a constant, so a second parser
-/// reads the input too. Returns `Err` if an allocation fails.
-fn guide_for<'a>(
-    alloc: Global,
-    parser: &Parser<'_>,
-    asked: &Task<'a>,
-) -> Result<Option<Box<Parser<'a>>>, AllocError>
+/// Returns the mode of a parser, or `None` if byte offsets in the source and in the input differ by
+/// a constant. In an ordinary source literal with escapes they do not.
+fn mode_with_escapes(parser: &Parser<'_>, asked: &Task<'_>) -> Option<ParseMode>
     requires { length asked.now.input.now ≤ limit }
-    ensures { IfOk result (λ g. parser.now ≡ asked_state asked.now
-        → IsGuided parser.now (quote_offset asked.now.style) (guide_of g)) }
+    ensures plain { parser.now ≡ asked_state asked.now
+        → IfNone result (IsPlain parser.now (quote_offset asked.now.style)) }
+    ensures mode { IfSome result (λ m. m ≡ asked.now.mode) }
 {
-    if parser.is_source_literal() {
-        if may_have_escapes(asked) {
-            let guide = new_guide(alloc, asked.mode, asked.input)?;
-            return Ok(guide);
-        }
-        return Ok(None);
+    if !parser.is_source_literal() {
+        return None;
     }
-    Ok(None)
+    if may_have_escapes(asked) {
+        Some(asked.mode)
+    } else {
+        None
+    }
 }
 
 /// Writes the byte ranges of the lines, as far as they fit.
@@ -155,13 +131,13 @@ fn read_by<'a>(
 {
     let mut peek = NO_EXTENT;
     let mut peek_ahead = NO_EXTENT;
-    let guide = guide_for(alloc, &start, &asked)?;
+    let escapes = mode_with_escapes(&start, &asked);
     let is_source_literal = flag(start.is_source_literal());
     if asked.peeks {
         look_ahead(&start, &mut peek, &mut peek_ahead);
     }
     let offset = offset_of(asked.style);
-    let mut walker = Walker::new(alloc, start, asked.input, offset, guide, asked.peeks);
+    let mut walker = Walker::new(alloc, start, asked.input, offset, escapes, asked.peeks);
     let mut specs = SpecBuffer::new(specs);
     let count = walker.walk(steps, &mut specs)?;
     let errors = walker.parser.errors();

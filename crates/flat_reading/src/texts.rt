@@ -1,23 +1,26 @@
 //! The byte ranges of a piece's texts in the input.
 
-ghost use Rattle.std.specs.Prelude.{◌≡◌, ℕ, ◌-◌, IsFalse, IsTrue, List, chars, option_map};
-ghost use Rattle.rustc_parse_format.specs.Seen.{pair, seen_argument, seen_count};
-ghost use Rattle.rustc_parse_format.specs.Seen.{seen_position, seen_spec, seen_taken};
+ghost use Rattle.std.specs.Prelude.{◌≡◌, ℕ, ◌-◌, IfOk, IsFalse, IsTrue, List, Some, chars};
+ghost use Rattle.std.specs.Prelude.{option_map};
+ghost use Rattle.rustc_parse_format.specs.Seen.{pair, seen_argument, seen_count, seen_mode};
+ghost use Rattle.rustc_parse_format.specs.Seen.{seen_position, seen_spec};
+ghost use Rattle.rustc_parse_format.specs.Types.{Argument as ReadArgument, NextArgument};
+ghost use Rattle.rustc_parse_format.specs.World.{Place};
 ghost use Rattle.flat_reading.specs.declared.records.Extent.{Extent as ExtentRecord};
 ghost use Rattle.flat_reading.specs.Meant.{run_at, text_at, type_meant};
 ghost use Rattle.flat_reading.specs.Stand.{ArgumentStands, CountAt, CountStands, HasBytes, IsLast};
-ghost use Rattle.flat_reading.specs.Stand.{IsListed, PieceAt};
-ghost use Rattle.flat_reading.specs.Stand.{PieceStands, PositionAt, PositionStands, SpecAt};
-ghost use Rattle.flat_reading.specs.Stand.{StandsAt, StandsBehind, TypeStands};
+ghost use Rattle.flat_reading.specs.Stand.{IsListed, IsReadAt, PositionAt, PositionStands, SpecAt};
+ghost use Rattle.flat_reading.specs.Stand.{StandsAt, StandsBehind, TypeStands, has_texts};
 
 use crate::flat::NOWHERE;
 use crate::records::{Extent, TYPE_DEBUG, TYPE_LOWER_HEX, TYPE_NONE, TYPE_TEXT, TYPE_UPPER_HEX};
-use rustc_parse_format::{Argument, Count, FormatSpec, Position, Taken};
+use rustc_parse_format::{Argument, Count, FormatSpec, ParseMode, Parser, Position};
+use std::alloc::{AllocError, Global};
 
-/// The byte ranges of a piece's texts in the input, and the kind of its type.
+/// The byte ranges of a placeholder's texts in the input, and the kind of its type.
 #[derive(Clone, Copy)]
 pub struct Texts {
-    /// The literal text, or the name of the argument.
+    /// The name of the argument.
     pub text: Extent,
     /// The name of the width.
     pub width: Extent,
@@ -29,14 +32,16 @@ pub struct Texts {
     pub ty: Extent,
 }
 
-/// The texts of a piece that has none.
-const NO_TEXTS: Texts = Texts {
-    text: NOWHERE,
-    width: NOWHERE,
-    precision: NOWHERE,
-    type_kind: TYPE_NONE,
-    ty: NOWHERE,
-};
+/// Returns whether a placeholder has a text that is found by its span: a name, or a type with a
+/// span.
+pub fn has_texts(argument: &Argument<'_>) -> bool
+    ensures { result ≡ has_texts (seen_argument argument.now) }
+{
+    matches!(argument.position, Position::ArgumentNamed(_))
+        || matches!(argument.format.width, Count::CountIsName(_, _))
+        || matches!(argument.format.precision, Count::CountIsName(_, _))
+        || argument.format.ty_span.is_some()
+}
 
 /// Returns the byte range of a text that begins at `from`. For an empty text this is 0..0, so that
 /// no offset is inside a character.
@@ -173,25 +178,40 @@ pub fn run_extent(read: usize, text: &str) -> Extent
     }
 }
 
-/// Returns the byte ranges in the input of a piece's texts. A placeholder is in `argument`. The
-/// spans of the piece are `offset` bytes after these, and `read` is the byte offset up to which the
-/// input is read after the piece.
-pub fn texts_of(
-    input: &str,
-    offset: usize,
-    read: usize,
-    piece: &Option<Taken<'_>>,
-    argument: &Argument<'_>,
-) -> Texts
-    requires { PieceStands input.now offset read (option_map (seen_taken argument.now) piece.now) }
-    ensures { PieceAt input.now read result (option_map (seen_taken argument.now) piece.now) }
-{
-    match piece {
-        None => NO_TEXTS,
-        Some(Taken::Lit(text)) => Texts {
-            text: run_extent(read, text),
-            ..NO_TEXTS
-        },
-        Some(Taken::NextArgument) => argument_texts(input, offset, argument),
+/// Returns an argument to read placeholders into.
+#[inline(always)]
+pub fn blank_argument<'a>() -> Argument<'a> {
+    Argument {
+        position: Position::ArgumentImplicitlyIs(0),
+        position_span: 0..0,
+        format: FormatSpec::default(),
     }
+}
+
+/// Returns the byte ranges in the input of the texts of the placeholder that begins at the byte
+/// `start`, where the next implicit argument has the index `next`. Returns `Err` if an allocation
+/// fails.
+///
+/// The placeholder is read by a parser that begins there. To this parser the rest of the input is
+/// from a raw literal with `start` hashes, so its spans are two bytes after the byte ranges in the
+/// whole input.
+#[inline(never)]
+pub fn texts_at(
+    alloc: Global,
+    mode: ParseMode,
+    input: &str,
+    start: usize,
+    next: usize,
+) -> Result<Texts, AllocError>
+    requires read { (a : ReadArgument Place)
+        × IsReadAt input.now (seen_mode mode) next start (Some (NextArgument a)) }
+    ensures { IfOk result (λ x. (a : ReadArgument Place)
+        → IsReadAt input.now (seen_mode mode) next start (Some (NextArgument a))
+        → PositionAt (text_at input.now x.text) a.position × SpecAt input.now x a.format) }
+{
+    let mut parser = Parser::new(alloc, &input[start..], Some(start), None, false, mode)?;
+    parser.set_curarg(next);
+    let mut argument = blank_argument();
+    let _taken = parser.next_into(&mut argument)?;
+    Ok(argument_texts(input, 2, &argument))
 }

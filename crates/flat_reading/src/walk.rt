@@ -1,28 +1,30 @@
 //! Writes the calls of a parser, up to the end of the input, as records.
 
-ghost use Rattle.std.specs.Prelude.{◌≡◌, ℕ, ◌<◌, ◌≤◌, ◌^◌, ◌++◌, [], Bool, List, None, Option};
-ghost use Rattle.std.specs.Prelude.{IfNone, IfOk, IfSome, OnOk, chars, drop, length, map};
-ghost use Rattle.std.specs.Prelude.{option_map, take};
+ghost use Rattle.std.specs.Prelude.{◌≡◌, ℕ, ◌<◌, ◌≤◌, ◌^◌, ◌++◌, if◌then◌else◌, [], Bool, List};
+ghost use Rattle.std.specs.Prelude.{None, Option, Some, IfNone, IfOk, IfSome, OnOk, chars, drop};
+ghost use Rattle.std.specs.Prelude.{length, map, option_map, take};
 ghost use Rattle.rustc_parse_format.specs.Characters.{behind_first};
 ghost use Rattle.rustc_parse_format.specs.Lines.{closed_in, listed};
 ghost use Rattle.rustc_parse_format.specs.Marks.{Span};
-ghost use Rattle.rustc_parse_format.specs.Seen.{pair, seen_taken};
+ghost use Rattle.rustc_parse_format.specs.Seen.{pair, seen_argument, seen_mode, seen_spec};
+ghost use Rattle.rustc_parse_format.specs.Seen.{seen_taken};
 ghost use Rattle.rustc_parse_format.specs.State.{after, next_call};
+ghost use Rattle.rustc_parse_format.specs.Types.{NextArgument};
 ghost use Rattle.rustc_parse_format.specs.World.{Place};
 ghost use Rattle.flat_reading.specs.declared.records.Spec.{Spec as SpecRecord};
 ghost use Rattle.flat_reading.specs.declared.records.Step.{Step as StepRecord};
 ghost use Rattle.flat_reading.specs.Events.{end_of, event, events, found_by, fronts_of};
-ghost use Rattle.flat_reading.specs.Events.{given, looked_for, place_of_first, position};
-ghost use Rattle.flat_reading.specs.Events.{spec_count, specs_in, states, step_meant};
+ghost use Rattle.flat_reading.specs.Events.{given, is_default, looked_for, place_of_first};
+ghost use Rattle.flat_reading.specs.Events.{position, spec_count, specs_in, states, step_meant};
 ghost use Rattle.flat_reading.specs.Meant.{maybe_place, piece_meant, spec_at};
-ghost use Rattle.flat_reading.specs.Stand.{Adds, IsAdded, IsAlong, IsGuided, IsOnItsWay, MakesCall};
-ghost use Rattle.flat_reading.specs.Stand.{PieceStands, SameBehind, StandsAlike, guide_of};
+ghost use Rattle.flat_reading.specs.Stand.{Adds, IsAdded, IsOnItsWay, IsPlain, IsReadAt, MakesCall};
+ghost use Rattle.flat_reading.specs.Stand.{PlaceholderStands, RunStands, SameBehind};
 
 use crate::finders::Finders;
-use crate::flat::{NO_EXTENT, NOWHERE, SpecBuffer, bare, put_piece, put_plain, there};
-use crate::records::{MaybeExtent, PIECE_NONE, POSITION_IMPLICIT, Step};
-use crate::texts::texts_of;
-use rustc_parse_format::{Argument, FormatSpec, Parser, Position, Taken};
+use crate::flat::{NO_EXTENT, NOWHERE, SpecBuffer, bare, put_argument, put_plain_argument, there};
+use crate::records::{MaybeExtent, PIECE_NONE, PIECE_TEXT, POSITION_IMPLICIT, Step};
+use crate::texts::{blank_argument, has_texts, run_extent, texts_at};
+use rustc_parse_format::{Argument, ParseMode, Parser, Taken};
 use std::alloc::{AllocError, Global};
 
 /// A step without a piece and without a state.
@@ -112,59 +114,17 @@ fn put_state(parser: &Parser<'_>, step: &mut Step)
     step.lines = parser.line_spans().len();
 }
 
-/// Returns an argument to read placeholders into.
-#[inline(always)]
-fn blank_argument<'a>() -> Argument<'a> {
-    Argument {
-        position: Position::ArgumentImplicitlyIs(0),
-        position_span: 0..0,
-        format: FormatSpec::default(),
-    }
-}
-
-/// Writes the piece that a call returned. The byte ranges of its texts come from the spans of the
-/// guide's next call, which this makes. Returns `Err` if an allocation fails.
-#[inline(never)]
-fn put_guided(
-    guide: &mut Parser<'_>,
-    input: &str,
-    given: &Option<Taken<'_>>,
-    argument: &Argument<'_>,
-    specs: &mut SpecBuffer<'_>,
-    step: &mut Step,
-) -> Result<(), AllocError>
-    requires along { IsAlong guide.old input.now step.old.read }
-    requires room { specs.old.used < usize.MAX }
-    ensures told { OnOk result
-        (StandsAlike input.now step.old.read guide.old
-        (option_map (seen_taken argument.now) given.now)
-        → specs.new.used ≤ length specs.old.records.now
-        → piece_meant input.now (spec_at input.now specs.new.records.now step.new.spec) step.new
-        ≡ option_map (seen_taken argument.now) given.now) }
-    ensures number { OnOk result (step.new.spec ≤ specs.new.used) }
-    ensures adds { OnOk result
-        (Adds (specs_in (option_map (seen_taken argument.now) given.now)) specs.old specs.new) }
-    ensures others { OnOk result (SameBehind step.old step.new) }
-    ensures state { OnOk result (guide.new ≡ after guide.old (next_call guide.old)) }
-{
-    let mut same = blank_argument();
-    let (told, _) = guide.next_into(&mut same)?;
-    let texts = texts_of(input, 1, step.read, &told, &same);
-    put_piece(given, argument, &texts, specs, step);
-    Ok(())
-}
-
 /// A parser whose calls are written as records.
 #[derive(Drop)]
 pub struct Walker<'a> {
+    alloc: Global,
     pub parser: Parser<'a>,
     pub input: &'a str,
-    /// The number of bytes by which the parser's spans are after the byte ranges in the input, if
-    /// there is no guide.
+    /// The number of bytes by which the parser's spans are after the byte ranges in the input,
+    /// unless the literal may have escapes.
     pub offset: usize,
-    /// A parser that makes the same calls, and whose spans are one byte after the byte ranges in
-    /// the input. It is there if those of the parser may differ by more than an offset.
-    pub guide: Option<Box<Parser<'a>>>,
+    /// The mode of the parser, if the literal may have escapes.
+    pub escapes: Option<ParseMode>,
     /// Whether the byte ranges of the next two characters are wanted.
     pub peeks: bool,
     /// The argument into which placeholders are read.
@@ -173,19 +133,20 @@ pub struct Walker<'a> {
 }
 
 impl<'a> Walker<'a> {
-    /// Creates a walker at the start of an input, perhaps with a guide. Does not allocate.
+    /// Creates a walker at the start of an input. Does not allocate.
     #[inline(always)]
     pub fn new(
         alloc: Global,
         parser: Parser<'a>,
         input: &'a str,
         offset: usize,
-        guide: Option<Box<Parser<'a>>>,
+        escapes: Option<ParseMode>,
         peeks: bool,
     ) -> Walker<'a>
         requires input { chars input.now ≡ parser.input }
         requires start { parser.rest ≡ parser.input }
-        requires guided { IsGuided parser offset (guide_of guide) }
+        requires plain { IfNone escapes (IsPlain parser offset) }
+        requires mode { IfSome escapes (λ m. seen_mode m ≡ parser.mode) }
         ensures ready { IsOnItsWay result }
         ensures parser { result.parser ≡ parser.entry }
         ensures input { result.input.now ≡ input.now }
@@ -193,59 +154,89 @@ impl<'a> Walker<'a> {
         ensures finders { result.finders ≡ record { calls = []; fronts = 0 } }
     {
         Walker {
+            alloc,
             parser,
             input,
             offset,
-            guide,
+            escapes,
             peeks,
             argument: blank_argument(),
             finders: Finders::new(alloc),
         }
     }
 
-    /// Writes the piece that a call returned. The byte ranges of its texts come from its own spans,
-    /// or from those of the guide's next call, which this makes. Returns `Err` if an allocation
-    /// fails.
-    #[inline(always)]
-    fn put_given(
-        &mut self,
-        given: &Option<Taken<'_>>,
+    /// Writes a placeholder of a literal that may have escapes, which begins at `start`, when the
+    /// next implicit argument had the index `next`. Returns `Err` if an allocation fails.
+    #[inline(never)]
+    fn put_escaped(
+        &self,
+        mode: ParseMode,
+        start: usize,
+        next: usize,
         specs: &mut SpecBuffer<'_>,
         step: &mut Step,
     ) -> Result<(), AllocError>
-        requires alone { IfNone (guide_of self.old.guide)
-            (PieceStands self.old.input.now self.old.offset step.old.read
-            (option_map (seen_taken self.old.argument) given.now)) }
-        requires along { IfSome (guide_of self.old.guide)
-            (λ g. IsAlong g self.old.input.now step.old.read) }
+        requires read { IsReadAt self.now.input.now (seen_mode mode) next start
+            (Some (NextArgument (seen_argument self.now.argument))) }
         requires room { specs.old.used < usize.MAX }
-        ensures told { OnOk result
-            (IfSome (guide_of self.old.guide)
-            (λ g. StandsAlike self.old.input.now step.old.read g
-            (option_map (seen_taken self.old.argument) given.now))
-            → specs.new.used ≤ length specs.old.records.now
-            → piece_meant self.old.input.now
-            (spec_at self.old.input.now specs.new.records.now step.new.spec) step.new
-            ≡ option_map (seen_taken self.old.argument) given.now) }
+        ensures told { OnOk result (specs.new.used ≤ length specs.old.records.now
+            → piece_meant self.now.input.now
+            (spec_at self.now.input.now specs.new.records.now step.new.spec) step.new
+            ≡ Some (NextArgument (seen_argument self.now.argument))) }
+        ensures number { OnOk result (step.new.spec ≤ specs.new.used) }
+        ensures adds { OnOk result (Adds (if is_default (seen_spec self.now.argument.format)
+            then 0 else 1) specs.old specs.new) }
+        ensures others { OnOk result (SameBehind step.old step.new) }
+    {
+        if !has_texts(&self.argument) {
+            put_plain_argument(&self.argument, self.input, self.offset, specs, step);
+            return Ok(());
+        }
+        let texts = texts_at(self.alloc, mode, self.input, start, next)?;
+        put_argument(&self.argument, &texts, specs, step);
+        Ok(())
+    }
+
+    /// Writes the piece that a call returned. The call began at `start`, when the next implicit
+    /// argument had the index `next`. Returns `Err` if an allocation fails.
+    #[tactic(auto, unfolding(crate::specs::Meant::piece_meant))]
+    #[inline(always)]
+    fn put_given(
+        &self,
+        given: &Option<Taken<'_>>,
+        start: usize,
+        next: usize,
+        specs: &mut SpecBuffer<'_>,
+        step: &mut Step,
+    ) -> Result<(), AllocError>
+        requires last { RunStands self.now.input.now step.old.read
+            (option_map (seen_taken self.now.argument) given.now) }
+        requires stands { IfNone self.now.escapes
+            (PlaceholderStands self.now.input.now self.now.offset
+            (option_map (seen_taken self.now.argument) given.now)) }
+        requires read { IfSome self.now.escapes
+            (λ m. IsReadAt self.now.input.now (seen_mode m) next start
+            (option_map (seen_taken self.now.argument) given.now)) }
+        requires room { specs.old.used < usize.MAX }
+        ensures told { OnOk result (specs.new.used ≤ length specs.old.records.now
+            → piece_meant self.now.input.now
+            (spec_at self.now.input.now specs.new.records.now step.new.spec) step.new
+            ≡ option_map (seen_taken self.now.argument) given.now) }
         ensures number { OnOk result (step.new.spec ≤ specs.new.used) }
         ensures adds { OnOk result
-            (Adds (specs_in (option_map (seen_taken self.old.argument) given.now)) specs.old
+            (Adds (specs_in (option_map (seen_taken self.now.argument) given.now)) specs.old
             specs.new) }
         ensures others { OnOk result (SameBehind step.old step.new) }
-        ensures guide { OnOk result (guide_of self.new.guide
-            ≡ option_map (λ g. after g (next_call g)) (guide_of self.old.guide)) }
-        ensures same { OnOk result (self.new ≡ record self.old { guide = self.new.guide }) }
     {
-        match &mut self.guide {
-            None => {
-                put_plain(given, &self.argument, self.input, self.offset, specs, step);
-                Ok(())
-            }
-            Some(guide) => {
-                put_guided(guide, self.input, given, &self.argument, specs, step)?;
-                Ok(())
-            }
+        match given {
+            None => bare(PIECE_NONE, NOWHERE, step),
+            Some(Taken::Lit(text)) => bare(PIECE_TEXT, run_extent(step.read, text), step),
+            Some(Taken::NextArgument) => match self.escapes {
+                Some(mode) => return self.put_escaped(mode, start, next, specs, step),
+                None => put_plain_argument(&self.argument, self.input, self.offset, specs, step),
+            },
         }
+        Ok(())
     }
 
     /// Makes the call with this number and writes it into its step. Returns `Err` if an allocation
@@ -268,6 +259,8 @@ impl<'a> Walker<'a> {
         ensures read { OnOk result (step.new.read
             ≡ position self.new.parser.input self.new.parser.rest) }
     {
+        let start = self.parser.position();
+        let next = self.parser.curarg();
         let faults = self.parser.errors().len();
         let places = self.parser.arg_places().len();
         let (given, fronts) = self.parser.next_into(&mut self.argument)?;
@@ -281,7 +274,7 @@ impl<'a> Walker<'a> {
         );
         self.finders
             .add(number, fronts, self.parser.errors().len() - faults)?;
-        self.put_given(&given, specs, step)?;
+        self.put_given(&given, start, next, specs, step)?;
         Ok(())
     }
 

@@ -6,5 +6,6 @@ returns-clause-ready c = record {
   utf8 = c.utf8.input;
   input = c.requires.input;
   left = ([], sym c.requires.start);
-  guided = c.requires.guided;
+  plain = c.requires.plain;
+  mode = c.requires.mode;
 }

@@ -1,25 +1,37 @@
 use Rattle.std.proofs.Common.{◌≡◌, ◌+◌, ◌-◌, length, refl, sym, ap, ◌∙◌, arith}
 use Rattle.std.proofs.lemmas.List.{length-map}
-use Rattle.rustc_parse_format.specs.Seen.{pair, seen_error, seen_taken}
+use Rattle.rustc_parse_format.specs.Seen.{pair, seen_error}
 use Rattle.rustc_parse_format.specs.State.{State, next_call}
-use Rattle.std.specs.Prelude.{option_map}
 use Rattle.flat_reading.specs.Meant.{maybe_place}
 use Rattle.flat_reading.proofs.Walking.{told}
 use Rattle.flat_reading.specs.Events.{fronts_in, position}
-use Rattle.flat_reading.proofs.Standing.{alike, alone, still_ends, still_guided}
+use Rattle.flat_reading.proofs.Escaped.{read_at}
+use Rattle.flat_reading.proofs.Standing.{last, stands, still_ends}
 use Rattle.flat_reading.proofs.Finding.{add_finders-is, few_fronts, length-after}
-use Rattle.flat_reading.specs.Stand.{guide_of}
 use Rattle.flat_reading.proofs.walk.Walker.step.Goals as goal
 
-pub put_given-requires-clause-alone : goal.put_given-requires-clause-alone
-put_given-requires-clause-alone c =
+pub put_given-requires-clause-last : goal.put_given-requires-clause-last
+put_given-requires-clause-last c =
     let read = c.put_state.ensures.read
     ∙ ap (λ (s : State). position s.input s.rest) c.in_ok-given.ensures.state in
     let w = c.args.self.now in
     let ready = c.requires.ready in
-    alone w.input.now w.parser w.offset _
-    (guide_of w.guide) _ ready.utf8 ready.input ready.left ready.guided read
+    last w.input.now w.parser _ _ ready.utf8 ready.input ready.left read c.in_ok-given.ensures.piece
+
+pub put_given-requires-clause-stands : goal.put_given-requires-clause-stands
+put_given-requires-clause-stands c =
+    let w = c.args.self.now in
+    let ready = c.requires.ready in
+    stands w.input.now w.parser w.offset w.escapes _ ready.utf8 ready.input ready.left ready.plain
     c.in_ok-given.ensures.piece
+
+pub put_given-requires-clause-read : goal.put_given-requires-clause-read
+put_given-requires-clause-read c =
+    let w = c.args.self.now in
+    let ready = c.requires.ready in
+    read_at w.input.now w.parser w.escapes _ _ _ ready.utf8 ready.input ready.left ready.mode
+    c.position-start.ensures c.curarg-next.ensures.value
+    c.curarg-next.ensures.fits c.in_ok-given.ensures.piece
 
 pub overflow_sub-errors : goal.overflow_sub-errors
 overflow_sub-errors c =
@@ -47,14 +59,11 @@ returns-clause-told c = λ room.
     let w = c.args.self.now in
     let s = w.parser in
     let state = c.in_ok-given.ensures.state in
-    let same = alike w.input.now _ s w.offset (guide_of w.guide)
-    (option_map (seen_taken c.next_into.new.argument) c.in_ok-given.given)
-    c.requires.ready.guided c.in_ok-given.ensures.piece in
     let kept = c.in_ok-put_given.ensures.others in
     let place = rw state at c.closed-step.ensures in
     let t = c.next_into.new.self in
     told w.peeks w.input.now c.put_given.new.specs.records.now c.put_given.new.step s t state
-    (c.in_ok-put_given.ensures.told same room ∙ c.in_ok-given.ensures.piece)
+    (c.in_ok-put_given.ensures.told room ∙ c.in_ok-given.ensures.piece)
     (ap maybe_place kept.0
     ∙ place s.arg_places (next_call s).closes (sym (length-map c.arg_places-places.result.now pair)
     ∙ ap length c.arg_places-places.ensures) refl)
@@ -80,19 +89,18 @@ returns-clause-call c =
     ≡ length fs = omega (arith, before, behind, grown) in
     let t = c.next_into.new.self in
     let state = c.in_ok-given.ensures.state in
-    let same = c.in_ok-put_given.ensures.same in
-    rw same (record {
+    record {
       state = state;
       ready = record {
         utf8 = ready.utf8;
         input = ready.input ∙ sym (ap (λ (s : State). s.input) state);
         left = still_ends old.parser t ready.left state;
-        guided = rw (state, c.in_ok-put_given.ensures.guide)
-            (still_guided old.parser old.offset (guide_of old.guide) ready.guided);
+        plain = rw state ready.plain;
+        mode = rw state ready.mode;
       };
       finders = rw (found, fronts) at c.in_ok-add.ensures.calls
           ∙ sym (add_finders-is c.args.number old.finders.calls fs);
       fronts = c.in_ok-add.ensures.fronts ∙ ap (λ n. old.finders.fronts + n) fronts;
       input = refl;
       peeks = refl;
-    })
+    }
