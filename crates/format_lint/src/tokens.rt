@@ -8,7 +8,7 @@ ghost use Rattle.format_lint.specs.Colours.{behind, colour, in_colour, kind_name
 ghost use Rattle.format_lint.specs.Colours.{shown_token, shown_tokens};
 
 use format_tokens::{Kind, Token};
-use piece_listing::{put_number, put_quoted};
+use piece_listing::{put_quoted, put_span};
 use std::alloc::AllocError;
 
 /// Returns the name of a kind in a list of tokens.
@@ -68,7 +68,7 @@ fn put_in_colour(out: &mut String, colour: Option<&str>, text: &str) -> Result<(
         Some(number) => {
             out.push_str("\u{1b}[")?;
             out.push_str(number)?;
-            out.push_str("m")?;
+            out.push('m')?;
             out.push_str(text)?;
             out.push_str("\u{1b}[0m")?;
         }
@@ -83,11 +83,10 @@ fn put_line(out: &mut String, token: &Token, text: &str) -> Result<(), AllocErro
         ++ shown_token false (seen_token token.now) (chars text.now)) }
 {
     out.push_str(kind_name(token.kind))?;
-    put_number(out, " ", token.span.start)?;
-    put_number(out, "..", token.span.end)?;
-    out.push_str(" ")?;
+    put_span(out, ' ', &token.span)?;
+    out.push(' ')?;
     put_quoted(out, text)?;
-    out.push_str("\n")?;
+    out.push('\n')?;
     Ok(())
 }
 

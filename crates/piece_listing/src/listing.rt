@@ -37,9 +37,9 @@ pub(crate) fn put_literal(out: &mut String, text: &str) -> Result<(), AllocError
     ensures { OnOk result (string_bytes out.new ≡ string_bytes out.old ++
         (codes "lit " ++ (quoted (chars text.now) ++ codes "\n"))) }
 {
-    out.push_str("lit ")?;
-    put_quoted(out, text)?;
-    out.push('\n')?;
+    out.push_str("lit \"")?;
+    put_all_written(out, text)?;
+    out.push_str("\"\n")?;
     Ok(())
 }
 
@@ -65,15 +65,15 @@ fn put_at(out: &mut String, span: &Option<Range<usize>>) -> Result<(), AllocErro
     Ok(())
 }
 
-/// Adds a position.
+/// Adds the first word of the line of a placeholder, and then its position.
 fn put_position(out: &mut String, position: &Position<'_>) -> Result<(), AllocError>
     ensures { OnOk result (string_bytes out.new ≡ string_bytes out.old ++
-        position_text (seen_position position.now)) }
+        (codes "arg " ++ position_text (seen_position position.now))) }
 {
     match position {
-        Position::ArgumentImplicitlyIs(n) => put_number(out, "implicit ", *n)?,
-        Position::ArgumentIs(n) => put_number(out, "index ", *n)?,
-        Position::ArgumentNamed(name) => put_name(out, "name ", name)?,
+        Position::ArgumentImplicitlyIs(n) => put_number(out, "arg implicit ", *n)?,
+        Position::ArgumentIs(n) => put_number(out, "arg index ", *n)?,
+        Position::ArgumentNamed(name) => put_name(out, "arg name ", name)?,
     }
     Ok(())
 }
@@ -262,7 +262,6 @@ pub(crate) fn put_argument(out: &mut String, argument: &Argument<'_>) -> Result<
         ++ (flag_entries (seen_spec argument.now.format)
         ++ (value_entries (seen_spec argument.now.format) ++ codes "\n"))))))) }
 {
-    out.push_str("arg ")?;
     put_position(out, &argument.position)?;
     put_span(out, ' ', &argument.position_span)?;
     put_flags(out, &argument.format)?;

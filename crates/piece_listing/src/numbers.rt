@@ -14,16 +14,11 @@ use std::ops::Range;
 const SPAN_BYTES: usize = 43;
 
 /// Adds a number in decimal digits.
-#[tactic(auto, using(std::proofs::lemmas::Fmt::decimal_digit))]
-fn put_decimal(out: &mut String, number: usize) -> Result<(), AllocError>
+#[inline(never)]
+fn put_digits(out: &mut String, number: usize) -> Result<(), AllocError>
     ensures { OnOk result (string_bytes out.new ≡ string_bytes out.old ++ decimal number) }
 {
-    if number < 10 {
-        out.push(char::from(b'0' + number as u8))?;
-    } else {
-        out.push_str(Buffer::new().format(number))?;
-    }
-    Ok(())
+    out.push_str(Buffer::new().format(number))
 }
 
 /// Appends a label and then a number in decimal digits to `out`. Returns `Err` if an allocation
@@ -34,7 +29,11 @@ pub fn put_number(out: &mut String, label: &str, number: usize) -> Result<(), Al
         ++ (label.now ++ decimal number)) }
 {
     out.push_str(label)?;
-    put_decimal(out, number)?;
+    if number < 10 {
+        out.push(char::from(b'0' + number as u8))?;
+    } else {
+        put_digits(out, number)?;
+    }
     Ok(())
 }
 
