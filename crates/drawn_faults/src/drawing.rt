@@ -173,7 +173,7 @@ fn put_below(
 
 /// Adds the drawing of an error with this label. Returns `Err` if an allocation fails.
 #[tactic(auto, unfolding(crate::specs::Drawing::drawing, crate::specs::Drawing::laid_out))]
-fn put_drawing(
+fn put_with_label(
     out: &mut String,
     picture: &Picture<'_>,
     error: &ParseError,
@@ -221,9 +221,25 @@ pub fn draw(alloc: Global, picture: &Picture<'_>, error: &ParseError) -> Result<
     ensures drawn { IfOk result (λ s. string_bytes s
         ≡ drawing (seen_picture picture.now) (seen_error error.now)) }
 {
+    let mut out = String::new(alloc);
+    put_drawing(&mut out, picture, error)?;
+    Ok(out)
+}
+
+/// Appends the text that [`draw`] returns to `out`. Returns `Err` if an allocation fails, or if the
+/// source has 2^59 bytes or more; a part of the text may then be in `out`.
+pub fn put_drawing(
+    out: &mut String,
+    picture: &Picture<'_>,
+    error: &ParseError,
+) -> Result<(), AllocError>
+    ensures { OnOk result (string_bytes out.new ≡ string_bytes out.old
+        ++ drawing (seen_picture picture.now) (seen_error error.now)) }
+{
     if picture.source.len() >= 1 << 59 {
         return Err(AllocError);
     }
+    let alloc = *out.allocator();
     let mut text = String::with_capacity(alloc, error.label.len().saturating_add(17))?;
     put_texts(&mut text, error.label.as_str(), " in format string", "")?;
     let label = Label {
@@ -233,8 +249,7 @@ pub fn draw(alloc: Global, picture: &Picture<'_>, error: &ParseError) -> Result<
     };
     // each drawing has these texts, and some 58 bytes or more besides
     let texts = picture.path.len().saturating_add(error.description.len());
-    let length = texts.saturating_add(text.len()).saturating_add(58);
-    let mut out = String::with_capacity(alloc, length)?;
-    put_drawing(&mut out, picture, error, &label)?;
-    Ok(out)
+    out.reserve(texts.saturating_add(text.len()).saturating_add(58))?;
+    put_with_label(out, picture, error, &label)?;
+    Ok(())
 }
