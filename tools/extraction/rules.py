@@ -30,6 +30,8 @@ METHODS = {
     "extend_from_slice": "try_extend_from_slice",
     "reserve": "try_reserve_more",
     "clone": "try_clone",
+    # of the standard library for some types, and not yet stable
+    "allocator": "own_allocator",
     # of the standard library only since Rust 1.91
     "floor_char_boundary": "boundary_at_most",
     # of the standard library only since Rust 1.80

@@ -51,9 +51,11 @@ pub trait VecIn<T>: Sized {
     fn made_in(alloc: Global) -> Self;
     fn made_for(alloc: Global, room: usize) -> Result<Self, AllocError>;
     fn try_push(&mut self, item: T) -> Result<(), AllocError>;
+    fn try_append(&mut self, items: &mut Self) -> Result<(), AllocError>;
     fn try_extend_from_slice(&mut self, items: &[T]) -> Result<(), AllocError>
     where
         T: Copy;
+    fn own_allocator(&self) -> &Global;
 }
 
 impl<T> VecIn<T> for Vec<T> {
@@ -74,12 +76,23 @@ impl<T> VecIn<T> for Vec<T> {
     }
 
     #[inline(always)]
+    fn try_append(&mut self, items: &mut Vec<T>) -> Result<(), AllocError> {
+        self.append(items);
+        Ok(())
+    }
+
+    #[inline(always)]
     fn try_extend_from_slice(&mut self, items: &[T]) -> Result<(), AllocError>
     where
         T: Copy,
     {
         self.extend_from_slice(items);
         Ok(())
+    }
+
+    #[inline(always)]
+    fn own_allocator(&self) -> &Global {
+        &Global
     }
 }
 
@@ -108,7 +121,8 @@ pub trait StringIn: Sized {
     fn made_from(alloc: Global, text: &str) -> Result<Self, AllocError>;
     fn try_push(&mut self, c: char) -> Result<(), AllocError>;
     fn try_push_str(&mut self, text: &str) -> Result<(), AllocError>;
-    fn allocator(&self) -> &Global;
+    fn try_reserve_more(&mut self, room: usize) -> Result<(), AllocError>;
+    fn own_allocator(&self) -> &Global;
 }
 
 impl StringIn for String {
@@ -140,7 +154,13 @@ impl StringIn for String {
     }
 
     #[inline(always)]
-    fn allocator(&self) -> &Global {
+    fn try_reserve_more(&mut self, room: usize) -> Result<(), AllocError> {
+        self.reserve(room);
+        Ok(())
+    }
+
+    #[inline(always)]
+    fn own_allocator(&self) -> &Global {
         &Global
     }
 }

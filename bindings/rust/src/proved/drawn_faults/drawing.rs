@@ -177,7 +177,7 @@ fn put_below(
 // ensures { OnOk result (string_bytes out.new ≡ string_bytes out.old
 //     ++ drawing (seen_picture picture.now) (seen_error error.now)) }
 #[inline]
-fn put_drawing(
+fn put_with_label(
     out: &mut String,
     picture: &Picture<'_>,
     error: &ParseError,
@@ -219,9 +219,25 @@ pub fn draw(
     picture: &Picture<'_>,
     error: &ParseError,
 ) -> Result<String, AllocError> {
+    let mut out = String::made_in(alloc);
+    put_drawing(&mut out, picture, error)?;
+    Ok(out)
+}
+
+/// Appends the text that [`draw`] returns to `out`. Returns `Err` if an allocation fails, or if the
+/// source has 2^59 bytes or more; a part of the text may then be in `out`.
+// ensures { OnOk result (string_bytes out.new ≡ string_bytes out.old
+//     ++ drawing (seen_picture picture.now) (seen_error error.now)) }
+#[inline]
+pub fn put_drawing(
+    out: &mut String,
+    picture: &Picture<'_>,
+    error: &ParseError,
+) -> Result<(), AllocError> {
     if picture.source.len() >= 1 << (usize::BITS - 5) {
         return crate::shim::alloc::refuse();
     }
+    let alloc = *out.own_allocator();
     let mut text = String::made_for(alloc, error.label.len().saturating_add(17))?;
     put_texts(&mut text, error.label.as_str(), " in format string", "")?;
     let label = Label {
@@ -231,8 +247,7 @@ pub fn draw(
     };
     // each drawing has these texts, and some 58 bytes or more besides
     let texts = picture.path.len().saturating_add(error.description.len());
-    let length = texts.saturating_add(text.len()).saturating_add(58);
-    let mut out = String::made_for(alloc, length)?;
-    put_drawing(&mut out, picture, error, &label)?;
-    Ok(out)
+    out.try_reserve_more(texts.saturating_add(text.len()).saturating_add(58))?;
+    put_with_label(out, picture, error, &label)?;
+    Ok(())
 }

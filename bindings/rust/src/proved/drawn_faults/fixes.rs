@@ -7,7 +7,7 @@
 
 use crate::proved::rustc_parse_format::literal::is_source_literal;
 use crate::proved::rustc_parse_format::{
-    Argument, FormatSpec, ParseError, ParseMode, Position, Suggestion,
+    Argument, Fault, FormatSpec, ParseError, ParseMode, Position, Suggestion,
 };
 use crate::shim::alloc::{AllocError, Global};
 use crate::shim::parser::Parser;
@@ -125,33 +125,72 @@ fn make(edited: &mut Edited<'_>, suggestion: &Suggestion) -> Result<(), AllocErr
     Ok(())
 }
 
-/// Makes the edits of errors, the last one first. Returns `Err` if an allocation fails.
-// ensures { OnOk result ((es : List EditValue) → with_edits edited.new es ≡ with_edits edited.old
-//     (filter_map edit_of (reverse (map seen_error errors.now)) ++ es)) }
+/// Returns whether the error of a fault has an edit. The texts of the others are never made.
+// ensures { result ≡ false → edit_of (message (seen_fault fault.now)) ≡ None }
 #[inline]
-fn make_each(edited: &mut Edited<'_>, errors: &[ParseError]) -> Result<(), AllocError> {
-    for error in errors.iter().rev() {
+fn has_edit(fault: &Fault<'_>) -> bool {
+    match fault {
+        Fault::RawIdentifier(..) | Fault::LateFlag(..) | Fault::MissingColon(_) => true,
+        Fault::UnmatchedBrace(_)
+        | Fault::MissingBrace(..)
+        | Fault::FillBrace(..)
+        | Fault::Underscore(_)
+        | Fault::TooLarge(..)
+        | Fault::Unnamed(_)
+        | Fault::TextAfterColon(_) => false,
+        Fault::LateDebug(..)
+        | Fault::LateAlign(..)
+        | Fault::Grouping(..)
+        | Fault::DebugPrint(..)
+        | Fault::LateSign(_)
+        | Fault::FieldAccess(_)
+        | Fault::TupleIndex(_) => false,
+    }
+}
+
+/// Makes the edit of a fault, if it has one that starts behind the end of the last one. Returns
+/// `Err` if an allocation fails.
+// ensures { OnOk result ((es : List EditValue) → with_edits edited.new es ≡ with_edits edited.old
+//     (cons_option (edit_of (message (seen_fault fault.now))) es)) }
+#[inline]
+fn make_fault(edited: &mut Edited<'_>, fault: &Fault<'_>) -> Result<(), AllocError> {
+    if has_edit(fault) {
+        let error = fault.error(*edited.bytes.own_allocator())?;
         make(edited, &error.suggestion)?;
     }
     Ok(())
 }
 
-/// Makes a call of a parser without errors, and the edits of its errors. Returns `Err` if an
-/// allocation fails.
-// requires { parser.old.errors ≡ [] }
+/// Makes the edits of faults, the first one first. Returns `Err` if an allocation fails.
+// ensures { OnOk result ((es : List EditValue) → with_edits edited.new es ≡ with_edits edited.old
+//     (fault_edits (map seen_fault faults.now) ++ es)) }
+#[inline]
+fn make_each(edited: &mut Edited<'_>, faults: &[Fault<'_>]) -> Result<(), AllocError> {
+    for fault in faults {
+        make_fault(edited, fault)?;
+    }
+    Ok(())
+}
+
+/// Makes a call of a parser, and the edits of its faults. `found` is empty before and after the
+/// call. Returns `Err` if an allocation fails.
+// requires none { parser.old.errors ≡ [] }
+// requires empty { found.old.items ≡ [] }
 // ensures state { OnOk result (parser.new
 //     ≡ record (after parser.old (next_call parser.old)) { errors = [] }) }
 // ensures edits { OnOk result ((es : List EditValue) → with_edits edited.new es ≡ with_edits
 //     edited.old (fault_edits (faults_in parser.old.world (next_call parser.old).faults) ++ es)) }
+// ensures made { OnOk result (found.new.items ≡ []) }
 #[inline]
 fn make_next<'a>(
     edited: &mut Edited<'_>,
     parser: &mut Parser<'a>,
     argument: &mut Argument<'a>,
+    found: &mut Vec<Fault<'a>>,
 ) -> Result<(), AllocError> {
-    parser.next_into(argument)?;
-    let errors = parser.take_errors();
-    make_each(edited, &errors)?;
+    parser.next_with_faults(argument, found)?;
+    make_each(edited, found.as_slice())?;
+    found.clear();
     Ok(())
 }
 
@@ -212,6 +251,7 @@ fn edit_all(
     at: usize,
 ) -> Result<(Vec<u8>, bool), AllocError> {
     let mut argument = blank_argument();
+    let mut found = Vec::made_in(alloc);
     let mut edited = Edited {
         bytes: Vec::made_in(alloc),
         rest: text.as_bytes(),
@@ -219,7 +259,7 @@ fn edit_all(
         end: 0,
     };
     while !parser.is_at_end() {
-        make_next(&mut edited, parser, &mut argument)?;
+        make_next(&mut edited, parser, &mut argument, &mut found)?;
     }
     let rest = edited.rest;
     edited.bytes.try_extend_from_slice(rest)?;
