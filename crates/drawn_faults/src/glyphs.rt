@@ -175,6 +175,8 @@ pub fn put_glyphs(out: &mut String, text: &str, skipped: usize) -> Result<(), Al
     ensures { OnOk result (string_bytes out.new ≡ string_bytes out.old ++
         encode_utf8_all (drop skipped (glyphs (chars text.now)))) }
 {
+    // each byte that is not skipped is drawn as one or more, but for those of zero-width joiners
+    out.reserve(text.len().saturating_sub(skipped))?;
     let mut rest = text;
     let mut skip = skipped;
     while let Some((c, tail)) = split_first(rest) {
@@ -199,8 +201,10 @@ pub fn put_front(out: &mut String, text: &str, count: usize) -> Result<(), Alloc
             break;
         };
         put_run(out, glyph(c), glyph_count(c))?;
-        rest = tail;
-        left -= 1;
+        let (front, behind) = split_printable(tail, left - 1);
+        out.push_str(front)?;
+        rest = behind;
+        left -= 1 + front.len();
     }
     Ok(())
 }
@@ -215,8 +219,9 @@ pub fn behind_chars(text: &str, count: usize) -> &str
         let Some((_, tail)) = split_first(rest) else {
             break;
         };
-        rest = tail;
-        left -= 1;
+        let (passed, behind) = split_printable(tail, left - 1);
+        rest = behind;
+        left -= 1 + passed.len();
     }
     rest
 }
