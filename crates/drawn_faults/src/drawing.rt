@@ -12,7 +12,7 @@ ghost use Rattle.drawn_faults.specs.Suggestions.{help_rows};
 
 use crate::glyphs::{put_run, put_texts};
 use crate::labels::{Edit, Frame, Label, edit_of, frame_for, mark, second};
-use crate::lines::{put_labelled, put_two_labels};
+use crate::lines::{put_decimal, put_labelled, put_two_labels};
 use crate::long::put_long;
 use crate::places::{Picture, Spot};
 use crate::suggestions::{put_edit, put_parting};
@@ -38,9 +38,11 @@ fn put_arrow(out: &mut String, frame: &Frame<'_>, at: Spot) -> Result<(), AllocE
     let line = frame.picture.line_start as usize + at.line;
     let column = at.chars + 1;
     put_run(out, ' ', frame.gutter)?;
-    out.push_str("--> ")?;
-    out.push_str(frame.picture.path)?;
-    write!(out, ":{line}:{column}\n")?;
+    put_texts(out, "--> ", frame.picture.path, ":")?;
+    put_decimal(out, line)?;
+    out.push_str(":")?;
+    put_decimal(out, column)?;
+    out.push_str("\n")?;
     Ok(())
 }
 

@@ -2,7 +2,6 @@
 //! `AllocError` has no value, a `Result` with it is always `Ok`, and each `?` on one compiles to
 //! nothing.
 use std::collections::BTreeSet;
-use std::fmt::{self, Write};
 
 /// The allocator that is passed to calls.
 #[derive(Clone, Copy)]
@@ -25,13 +24,6 @@ pub fn answer<T>(result: Result<T, AllocError>) -> T {
 #[cold]
 pub fn refuse<T>() -> Result<T, AllocError> {
     panic!("capacity overflow")
-}
-
-/// Appends formatted words to a text.
-pub fn write_to(out: &mut String, words: fmt::Arguments<'_>) -> Result<(), AllocError> {
-    // (writing to a `String` always succeeds)
-    let _ = out.write_fmt(words);
-    Ok(())
 }
 
 /// The method of `Box` that takes an allocator and may return an allocation failure.

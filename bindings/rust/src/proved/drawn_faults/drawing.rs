@@ -7,7 +7,7 @@
 
 use crate::proved::drawn_faults::glyphs::{put_run, put_texts};
 use crate::proved::drawn_faults::labels::{edit_of, frame_for, mark, second, Edit, Frame, Label};
-use crate::proved::drawn_faults::lines::{put_labelled, put_two_labels};
+use crate::proved::drawn_faults::lines::{put_decimal, put_labelled, put_two_labels};
 use crate::proved::drawn_faults::long::put_long;
 use crate::proved::drawn_faults::places::{Picture, Spot};
 use crate::proved::drawn_faults::suggestions::{put_edit, put_parting};
@@ -33,9 +33,11 @@ fn put_arrow(out: &mut String, frame: &Frame<'_>, at: Spot) -> Result<(), AllocE
     let line = frame.picture.line_start as usize + at.line;
     let column = at.chars + 1;
     put_run(out, ' ', frame.gutter)?;
-    out.try_push_str("--> ")?;
-    out.try_push_str(frame.picture.path)?;
-    crate::shim::write_in!(out, ":{line}:{column}\n")?;
+    put_texts(out, "--> ", frame.picture.path, ":")?;
+    put_decimal(out, line)?;
+    out.try_push_str(":")?;
+    put_decimal(out, column)?;
+    out.try_push_str("\n")?;
     Ok(())
 }
 

@@ -171,6 +171,8 @@ fn put_plain<'a>(
 //     encode_utf8_all (drop skipped (glyphs (chars text.now)))) }
 #[inline]
 pub fn put_glyphs(out: &mut String, text: &str, skipped: usize) -> Result<(), AllocError> {
+    // each byte that is not skipped is drawn as one or more, but for those of zero-width joiners
+    out.try_reserve_more(text.len().saturating_sub(skipped))?;
     let mut rest = text;
     let mut skip = skipped;
     while let Some((c, tail)) = split_first(rest) {
@@ -195,8 +197,10 @@ pub fn put_front(out: &mut String, text: &str, count: usize) -> Result<(), Alloc
             break;
         };
         put_run(out, glyph(c), glyph_count(c))?;
-        rest = tail;
-        left -= 1;
+        let (front, behind) = split_printable(tail, left - 1);
+        out.try_push_str(front)?;
+        rest = behind;
+        left -= 1 + front.len();
     }
     Ok(())
 }
@@ -211,8 +215,9 @@ pub fn behind_chars(text: &str, count: usize) -> &str {
         let Some((_, tail)) = split_first(rest) else {
             break;
         };
-        rest = tail;
-        left -= 1;
+        let (passed, behind) = split_printable(tail, left - 1);
+        rest = behind;
+        left -= 1 + passed.len();
     }
     rest
 }
