@@ -157,8 +157,8 @@ fn least(m: Option<usize>, n: Option<usize>) -> usize
     }
 }
 
-/// Returns the least indent of two lines of the source, where a blank line has none. They are mostly
-/// the same line, which is then looked for once.
+/// Returns the least indent of two lines of the source, where a blank line has none. Mostly they
+/// are the same line, which is then looked for once.
 fn least_indent(picture: &Picture<'_>, number: usize, other: usize) -> usize
     requires { length picture.now.source.now < 2 ^ 59 }
     ensures value { result ≡ least (line_indent (seen_picture picture.now) number)

@@ -29,7 +29,7 @@ impl Buffer {
 mod tests {
     use super::*;
 
-    /// On both sides of each power of ten, the digits are those of the standard library's formatter.
+    /// On both sides of each power of ten, the digits are those of the formatter.
     #[test]
     fn digits_are_those_of_the_formatter() {
         let mut buffer = Buffer::new();
