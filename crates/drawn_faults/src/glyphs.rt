@@ -5,6 +5,7 @@ ghost use Rattle.std.specs.Prelude.{◌≡◌, ◌∷◌, ◌++◌, ◌<◌, ◌
 ghost use Rattle.std.specs.Prelude.{◌*◌, ◌==◌, length, take};
 ghost use Rattle.std.specs.Prelude.{IfOk, IfSome, MatchOption, OnOk, encode_utf8_all, string_bytes};
 ghost use Rattle.drawn_faults.specs.Glyphs.{glyph, glyph_count, glyphs, indent, run, width};
+ghost use Rattle.drawn_faults.specs.Places.{first_line};
 
 use crate::printable::{split_plain, split_printable};
 use std::alloc::AllocError;
@@ -61,15 +62,19 @@ pub fn width(c: char) -> usize
     }
 }
 
-/// Returns how many columns of a line are its indent, or `None` if the line is blank.
-pub fn indent(line: &str) -> Option<usize>
-    requires { length line.now < 2 ^ 60 }
-    ensures value { result ≡ indent 0 (chars line.now) }
-    ensures few { IfSome result (λ n. n ≤ 4 * length line.now) }
+/// Returns how many columns of the first line of a text are its indent, or `None` if that line is
+/// blank. Reads no further than that line's first character that is no white space.
+pub fn indent(text: &str) -> Option<usize>
+    requires { length text.now < 2 ^ 60 }
+    ensures value { result ≡ indent 0 (chars (first_line text.now)) }
+    ensures few { IfSome result (λ n. n ≤ 4 * length text.now) }
 {
-    let mut rest = line;
+    let mut rest = text;
     let mut columns = 0;
     while let Some((c, tail)) = split_first(rest) {
+        if c == '\n' {
+            return None;
+        }
         if !c.is_whitespace() {
             return Some(columns);
         }

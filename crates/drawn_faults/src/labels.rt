@@ -10,7 +10,7 @@ ghost use Rattle.drawn_faults.specs.Labels.{last_number, least, line_indent, mar
 ghost use Rattle.drawn_faults.specs.Labels.{second, second_text, seen_edit, seen_frame, seen_label};
 
 use crate::glyphs::indent;
-use crate::places::{Extent, Picture, line};
+use crate::places::{Extent, Picture, behind_lines};
 use crate::rows::Mark;
 use rustc_parse_format::{ParseError, Suggestion};
 use std::ops::Range;
@@ -134,12 +134,13 @@ fn other_line(label: &Label<'_>, second: &Option<Label<'_>>) -> usize
 }
 
 /// Returns the indent of a line of the source, unless it is blank.
+#[tactic(auto, unfolding(crate::specs::Places::line))]
 fn line_indent(picture: &Picture<'_>, number: usize) -> Option<usize>
     requires { length picture.now.source.now < 2 ^ 59 }
     ensures value { result ≡ line_indent (seen_picture picture.now) number }
     ensures small { IfSome result (λ n. n < 2 ^ 62) }
 {
-    indent(line(picture.source, number))
+    indent(behind_lines(picture.source, number))
 }
 
 /// Returns the least indent, where a blank line has none.

@@ -58,15 +58,19 @@ pub fn width(c: char) -> usize {
     }
 }
 
-/// Returns how many columns of a line are its indent, or `None` if the line is blank.
-// requires { length line.now < 2 ^ 60 }
-// ensures value { result ≡ indent 0 (chars line.now) }
-// ensures few { IfSome result (λ n. n ≤ 4 * length line.now) }
+/// Returns how many columns of the first line of a text are its indent, or `None` if that line is
+/// blank. Reads no further than that line's first character that is no white space.
+// requires { length text.now < 2 ^ 60 }
+// ensures value { result ≡ indent 0 (chars (first_line text.now)) }
+// ensures few { IfSome result (λ n. n ≤ 4 * length text.now) }
 #[inline]
-pub fn indent(line: &str) -> Option<usize> {
-    let mut rest = line;
+pub fn indent(text: &str) -> Option<usize> {
+    let mut rest = text;
     let mut columns = 0;
     while let Some((c, tail)) = split_first(rest) {
+        if c == '\n' {
+            return None;
+        }
         if !c.is_whitespace() {
             return Some(columns);
         }

@@ -5,7 +5,7 @@
 // by results from outside, and beside what is proved (.ci/bindings) and the original (tools/agree).
 
 use crate::proved::drawn_faults::glyphs::indent;
-use crate::proved::drawn_faults::places::{line, Extent, Picture};
+use crate::proved::drawn_faults::places::{behind_lines, Extent, Picture};
 use crate::proved::drawn_faults::rows::Mark;
 use crate::proved::rustc_parse_format::{ParseError, Suggestion};
 use std::ops::Range;
@@ -133,7 +133,7 @@ fn other_line(label: &Label<'_>, second: &Option<Label<'_>>) -> usize {
 // ensures small { IfSome result (λ n. n < 2 ^ 62) }
 #[inline]
 fn line_indent(picture: &Picture<'_>, number: usize) -> Option<usize> {
-    indent(line(picture.source, number))
+    indent(behind_lines(picture.source, number))
 }
 
 /// Returns the least indent, where a blank line has none.
