@@ -3,7 +3,8 @@
 
 ghost use Rattle.std.specs.Prelude.{◌≡◌, ◌≢◌, ◌+◌, ◌<◌, ◌^◌, [], IfNone, IfOk, IfSome, IsOk};
 ghost use Rattle.std.specs.Prelude.{IsUtf8, None, OnOk, Some, chars, drop, false, length, map, not};
-ghost use Rattle.std.specs.Prelude.{List, ◌++◌, option_map, string_bytes, take};
+ghost use Rattle.std.specs.Prelude.{List, ◌∷◌, ◌++◌, codes, encode_utf8_all, option_map};
+ghost use Rattle.std.specs.Prelude.{string_bytes, take};
 ghost use Rattle.std.specs.List.{cons_option};
 ghost use Rattle.rustc_parse_format.specs.Faults.{message};
 ghost use Rattle.rustc_parse_format.specs.Seen.{seen_error, seen_mode, seen_snippet};
@@ -137,41 +138,47 @@ fn make(edited: &mut Edited<'_>, suggestion: &Suggestion) -> Result<(), AllocErr
     Ok(())
 }
 
-/// Returns whether the error of a fault has an edit. The texts of the others are never made.
+/// Returns a flag with the type `?` after it. Returns `Err` if an allocation fails.
+fn flagged_type(alloc: Global, flag: char) -> Result<String, AllocError>
+    ensures { IfOk result (λ s. string_bytes s ≡ encode_utf8_all (flag ∷ codes "?")) }
+{
+    let mut text = String::with_capacity(alloc, 1 + flag.len_utf8())?;
+    text.push(flag)?;
+    text.push('?')?;
+    Ok(text)
+}
+
+/// Returns what the error of a fault suggests if that has an edit, or else `Suggestion::None`.
+/// Makes none of the error's other texts. Returns `Err` if an allocation fails.
 #[tactic(auto, unfolding(rustc_parse_format::specs::Faults::message))]
-fn has_edit(fault: &Fault<'_>) -> bool
-    ensures { result ≡ false → edit_of (message (seen_fault fault.now)) ≡ None }
+fn suggestion_of(alloc: Global, fault: &Fault<'_>) -> Result<Suggestion, AllocError>
+    ensures { IfOk result (λ s. suggested (seen_suggestion s)
+        ≡ edit_of (message (seen_fault fault.now))) }
 {
     match fault {
-        Fault::RawIdentifier(..) | Fault::LateFlag(..) | Fault::MissingColon(_) => true,
+        Fault::RawIdentifier(_, prefix) => {
+            Ok(Suggestion::RemoveRawIdent(prefix.start..prefix.end))
+        }
+        Fault::LateFlag(flag, _, both) => {
+            let text = flagged_type(alloc, *flag)?;
+            Ok(Suggestion::ReorderFormatParameter(both.start..both.end, text))
+        }
+        Fault::MissingColon(span) => Ok(Suggestion::AddMissingColon(span.start..span.end)),
         Fault::UnmatchedBrace(_)
         | Fault::MissingBrace(..)
         | Fault::FillBrace(..)
         | Fault::Underscore(_)
         | Fault::TooLarge(..)
         | Fault::Unnamed(_)
-        | Fault::TextAfterColon(_) => false,
+        | Fault::TextAfterColon(_) => Ok(Suggestion::None),
         Fault::LateDebug(..)
         | Fault::LateAlign(..)
         | Fault::Grouping(..)
         | Fault::DebugPrint(..)
         | Fault::LateSign(_)
         | Fault::FieldAccess(_)
-        | Fault::TupleIndex(_) => false,
+        | Fault::TupleIndex(_) => Ok(Suggestion::None),
     }
-}
-
-/// Makes the edit of a fault, if it has one that starts behind the end of the last one. Returns
-/// `Err` if an allocation fails.
-fn make_fault(edited: &mut Edited<'_>, fault: &Fault<'_>) -> Result<(), AllocError>
-    ensures { OnOk result ((es : List EditValue) → with_edits edited.new es ≡ with_edits edited.old
-        (cons_option (edit_of (message (seen_fault fault.now))) es)) }
-{
-    if has_edit(fault) {
-        let error = fault.error(*edited.bytes.allocator())?;
-        make(edited, &error.suggestion)?;
-    }
-    Ok(())
 }
 
 /// Makes the edits of faults, the first one first. Returns `Err` if an allocation fails.
@@ -180,7 +187,8 @@ fn make_each(edited: &mut Edited<'_>, faults: &[Fault<'_>]) -> Result<(), AllocE
         (fault_edits (map seen_fault faults.now) ++ es)) }
 {
     for fault in faults {
-        make_fault(edited, fault)?;
+        let suggestion = suggestion_of(*edited.bytes.allocator(), fault)?;
+        make(edited, &suggestion)?;
     }
     Ok(())
 }
