@@ -201,6 +201,26 @@ fn put_with_label(
     Ok(())
 }
 
+/// Returns how many bytes a drawing has at least: it has these texts, and some 75 bytes or more
+/// besides.
+fn least_length(picture: &Picture<'_>, error: &ParseError) -> usize {
+    let note = match &error.note {
+        Some(note) => note.len(),
+        None => 0,
+    };
+    let second = match &error.secondary_label {
+        Some((text, _)) => text.len(),
+        None => 0,
+    };
+    let texts = error.description.len().saturating_add(error.label.len());
+    let others = picture
+        .path
+        .len()
+        .saturating_add(note)
+        .saturating_add(second);
+    texts.saturating_add(others).saturating_add(75)
+}
+
 /// Returns the text that shows an error of a literal under its source, as rustc 1.95 draws it
 /// without colours. The spans of the error are byte ranges of the literal: its parser had this
 /// literal as its snippet, and that was the source literal.
@@ -249,9 +269,7 @@ pub fn put_drawing(
         text: text.as_str(),
         extent: picture.extent(&error.span),
     };
-    // each drawing has these texts, and some 58 bytes or more besides
-    let texts = picture.path.len().saturating_add(error.description.len());
-    out.reserve(texts.saturating_add(text.len()).saturating_add(58))?;
+    out.reserve(least_length(picture, error))?;
     put_with_label(out, picture, error, &label)?;
     Ok(())
 }
