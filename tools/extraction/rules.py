@@ -5,6 +5,7 @@ from extraction.source import Import
 # What of the library may be named, and what replaces it. A path that is not here is refused. What
 # reads the parser by its calls reads that of the layer, so that there is one.
 LIBRARY = {
+    "itoa": "crate::shim::itoa",
     "rustc_parse_format::Parser": "crate::shim::parser::Parser",
     "std::alloc": "crate::shim::alloc",
     "std::collections::BTreeSet": None,
@@ -30,6 +31,8 @@ METHODS = {
     "extend_from_slice": "try_extend_from_slice",
     "reserve": "try_reserve_more",
     "clone": "try_clone",
+    # of the standard library for some types, and not yet stable
+    "allocator": "own_allocator",
     # of the standard library only since Rust 1.91
     "floor_char_boundary": "boundary_at_most",
     # of the standard library only since Rust 1.80
@@ -40,7 +43,6 @@ KNOWN = ("self", "super", "char", "str", "u8", "u8x16", "u16", "u32", "u64", "us
 MACROS = {
     "matches": "matches",
     "format": "crate::shim::format_in",
-    "write": "crate::shim::write_in",
 }
 # Traits that are named only where they are imported, by the calls of their methods.
 TRAITS = {(".", "width", 0): "UnicodeWidthChar"}

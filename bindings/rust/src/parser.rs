@@ -2,6 +2,7 @@
 //! reader and adds what that found to the fields.
 use crate::proved::rustc_parse_format::cursor::Cursor;
 use crate::proved::rustc_parse_format::error_list::empty_error;
+use crate::proved::rustc_parse_format::faults::Fault;
 use crate::proved::rustc_parse_format::messages::tell;
 use crate::proved::rustc_parse_format::reader::Reader;
 use crate::proved::rustc_parse_format::source::{quote_offset, source_of};
@@ -90,18 +91,36 @@ impl<'input> Parser<'input> {
         self.reader.cursor.position()
     }
 
-    /// Moves what a call found from the reader to the fields.
+    /// Makes a call, and moves what it found from the reader to the fields, except its faults.
     #[inline(always)]
-    fn take_over(&mut self) {
+    fn piece(&mut self) -> Option<Piece<'input>> {
+        let reader = &mut self.reader;
+        reader.curarg = self.curarg;
+        reader.cursor.source.is_literal = self.is_source_literal;
+        if reader.is_at_end() {
+            self.end_line();
+            return None;
+        }
+        let piece = answer(reader.piece(Global, self.mode));
+        self.curarg = reader.curarg;
         if self.reader.closed.is_some() {
             self.arg_places.extend(self.reader.closed.take());
         }
         if !self.reader.lines.is_empty() {
             self.add_lines();
         }
-        if !self.reader.found.is_empty() {
-            self.add_errors();
-        }
+        piece
+    }
+
+    /// Returns the next piece as `next` does, but moves the faults of this call to the end of
+    /// `faults`, and adds no errors.
+    pub(crate) fn next_with_faults(
+        &mut self,
+        faults: &mut Vec<Fault<'input>>,
+    ) -> Option<Piece<'input>> {
+        let piece = self.piece();
+        answer(self.reader.found.move_to(faults));
+        piece
     }
 
     /// Moves the lines that ended in a call to `line_spans`. If that is empty, the vectors are
@@ -151,16 +170,10 @@ impl<'input> Iterator for Parser<'input> {
     type Item = Piece<'input>;
 
     fn next(&mut self) -> Option<Piece<'input>> {
-        let reader = &mut self.reader;
-        reader.curarg = self.curarg;
-        reader.cursor.source.is_literal = self.is_source_literal;
-        if reader.is_at_end() {
-            self.end_line();
-            return None;
+        let piece = self.piece();
+        if !self.reader.found.is_empty() {
+            self.add_errors();
         }
-        let piece = answer(reader.piece(Global, self.mode));
-        self.curarg = reader.curarg;
-        self.take_over();
         piece
     }
 }

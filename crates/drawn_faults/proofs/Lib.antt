@@ -1,5 +1,6 @@
 pub mod GlyphLemmas
 mod PrintableLemmas
+pub mod LineLemmas
 pub mod RowLemmas
 pub mod EditLaws
 pub mod FixLaws

@@ -4,6 +4,7 @@ use Rattle.std.proofs.Common.{◌≡◌, ℕ, ◌+◌, ◌-◌, ◌<◌, ◌≤�
 use Rattle.std.proofs.Common.{List, [], ◌∷◌, ◌++◌, length, chars, drop, min, take, map, replicate}
 use Rattle.std.proofs.Common.{refl, ap, sym, subst, ◌∙◌, arith, true, false, Bool, cond, eqb, ltb}
 use Rattle.std.proofs.Common.{get_or, nat_lt, IsUtf8, IsCharBoundary, encode_utf8_all, bit_or}
+use Rattle.std.proofs.Common.{append_assoc}
 use Rattle.std.proofs.Math.Utf8.{encode}
 use Rattle.std.proofs.lemmas.Grind.{flat_map-append}
 use Rattle.std.proofs.lemmas.List.Folds.{list_all-append}
@@ -26,8 +27,10 @@ use Rattle.rustc_parse_format.proofs.Bytes.LaneBits.{compared, equal, long-equal
 use Rattle.unicode_width.specs.Width.{char_width}
 use Rattle.rustc_parse_format.specs.Characters.{Text}
 use Rattle.drawn_faults.specs.Glyphs.{glyph, glyph_count, glyphs, is_plain, is_printable, width}
+use Rattle.drawn_faults.specs.Glyphs.{run}
 use Rattle.drawn_faults.specs.Places.{past, within}
 use Rattle.drawn_faults.specs.declared.places.Spot.{Spot}
+use Rattle.drawn_faults.proofs.GlyphLemmas.{take-step}
 
 not-less : (a b : ℕ) → ltb a b ≡ false → b ≤ a
 not-less a b e = grind (arith, nat_tests)
@@ -141,6 +144,32 @@ drop-printable (c ∷ f) (suc n) t e =
     let a : min (suc n) (suc (length f)) ≡ suc (min n (length f)) = omega arith in
     let b : suc n - suc (min n (length f)) ≡ n - min n (length f) = omega arith in
     rw (a, b, count-printable c parts.0) (drop-printable f n t parts.1)
+
+-- a prefix of a text that begins with them
+take-printable : (f : List ℕ) (n : ℕ) (t : Text) → length f ≤ n
+    → take n (f ++ t) ≡ f ++ take (n - length f) t
+take-printable [] n t l = let a : n - 0 ≡ n = omega arith in rw a refl
+take-printable (c ∷ f) zero t l = absurd (omega arith)
+take-printable (c ∷ f) (suc n) t l =
+    let a : suc n - suc (length f) ≡ n - length f = omega arith in
+    rw a (ap (λ x. c ∷ x) (take-printable f n t (omega arith)))
+
+-- a character and then such a prefix
+pub front-step : (out : List ℕ) (n c : ℕ) (f : List ℕ) (tail t : Text) → 0 < n → tail ≡ f ++ t
+    → list_all is_printable f ≡ true → length f ≤ n - 1
+    → ((out ++ run (glyph_count c) (glyph c)) ++ f)
+    ++ encode_utf8_all (glyphs (take (n - (1 + length f)) t))
+    ≡ out ++ encode_utf8_all (glyphs (take n (c ∷ tail)))
+front-step out n c f tail t some parts e l =
+    let a : n - (1 + length f) ≡ (n - 1) - length f = omega arith in
+    let first = run (glyph_count c) (glyph c) in
+    let left = encode_utf8_all (glyphs (take ((n - 1) - length f) t)) in
+    let drawn : encode_utf8_all (glyphs (take (n - 1) tail)) ≡ f ++ left =
+    ap (λ x. encode_utf8_all (glyphs (take (n - 1) x))) parts
+    ∙ ap (λ x. encode_utf8_all (glyphs x)) (take-printable f (n - 1) t l)
+    ∙ glyphs-printable f (take ((n - 1) - length f) t) e in
+    rw a (append_assoc (out ++ first) f left ∙ append_assoc out first (f ++ left)
+    ∙ ap (λ x. out ++ x) (sym (take-step n c tail some ∙ ap (λ x. first ++ x) drawn)))
 
 width-printable : (c : ℕ) → is_printable c ≡ true → width c ≡ 1
 unfolding width char_width

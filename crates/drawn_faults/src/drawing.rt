@@ -12,7 +12,7 @@ ghost use Rattle.drawn_faults.specs.Suggestions.{help_rows};
 
 use crate::glyphs::{put_run, put_texts};
 use crate::labels::{Edit, Frame, Label, edit_of, frame_for, mark, second};
-use crate::lines::{put_labelled, put_two_labels};
+use crate::lines::{put_decimal, put_labelled, put_two_labels};
 use crate::long::put_long;
 use crate::places::{Picture, Spot};
 use crate::suggestions::{put_edit, put_parting};
@@ -38,9 +38,11 @@ fn put_arrow(out: &mut String, frame: &Frame<'_>, at: Spot) -> Result<(), AllocE
     let line = frame.picture.line_start as usize + at.line;
     let column = at.chars + 1;
     put_run(out, ' ', frame.gutter)?;
-    out.push_str("--> ")?;
-    out.push_str(frame.picture.path)?;
-    write!(out, ":{line}:{column}\n")?;
+    put_texts(out, "--> ", frame.picture.path, ":")?;
+    put_decimal(out, line)?;
+    out.push_str(":")?;
+    put_decimal(out, column)?;
+    out.push_str("\n")?;
     Ok(())
 }
 
@@ -173,7 +175,7 @@ fn put_below(
 
 /// Adds the drawing of an error with this label. Returns `Err` if an allocation fails.
 #[tactic(auto, unfolding(crate::specs::Drawing::drawing, crate::specs::Drawing::laid_out))]
-fn put_drawing(
+fn put_with_label(
     out: &mut String,
     picture: &Picture<'_>,
     error: &ParseError,
@@ -199,6 +201,26 @@ fn put_drawing(
     Ok(())
 }
 
+/// Returns how many bytes a drawing has at least: it has these texts, and some 75 bytes or more
+/// besides.
+fn least_length(picture: &Picture<'_>, error: &ParseError) -> usize {
+    let note = match &error.note {
+        Some(note) => note.len(),
+        None => 0,
+    };
+    let second = match &error.secondary_label {
+        Some((text, _)) => text.len(),
+        None => 0,
+    };
+    let texts = error.description.len().saturating_add(error.label.len());
+    let others = picture
+        .path
+        .len()
+        .saturating_add(note)
+        .saturating_add(second);
+    texts.saturating_add(others).saturating_add(75)
+}
+
 /// Returns the text that shows an error of a literal under its source, as rustc 1.95 draws it
 /// without colours. The spans of the error are byte ranges of the literal: its parser had this
 /// literal as its snippet, and that was the source literal.
@@ -221,9 +243,25 @@ pub fn draw(alloc: Global, picture: &Picture<'_>, error: &ParseError) -> Result<
     ensures drawn { IfOk result (λ s. string_bytes s
         ≡ drawing (seen_picture picture.now) (seen_error error.now)) }
 {
+    let mut out = String::new(alloc);
+    put_drawing(&mut out, picture, error)?;
+    Ok(out)
+}
+
+/// Appends the text that [`draw`] returns to `out`. Returns `Err` if an allocation fails, or if the
+/// source has 2^59 bytes or more; a part of the text may then be in `out`.
+pub fn put_drawing(
+    out: &mut String,
+    picture: &Picture<'_>,
+    error: &ParseError,
+) -> Result<(), AllocError>
+    ensures { OnOk result (string_bytes out.new ≡ string_bytes out.old
+        ++ drawing (seen_picture picture.now) (seen_error error.now)) }
+{
     if picture.source.len() >= 1 << 59 {
         return Err(AllocError);
     }
+    let alloc = *out.allocator();
     let mut text = String::with_capacity(alloc, error.label.len().saturating_add(17))?;
     put_texts(&mut text, error.label.as_str(), " in format string", "")?;
     let label = Label {
@@ -231,10 +269,7 @@ pub fn draw(alloc: Global, picture: &Picture<'_>, error: &ParseError) -> Result<
         text: text.as_str(),
         extent: picture.extent(&error.span),
     };
-    // each drawing has these texts, and some 58 bytes or more besides
-    let texts = picture.path.len().saturating_add(error.description.len());
-    let length = texts.saturating_add(text.len()).saturating_add(58);
-    let mut out = String::with_capacity(alloc, length)?;
-    put_drawing(&mut out, picture, error, &label)?;
-    Ok(out)
+    out.reserve(least_length(picture, error))?;
+    put_with_label(out, picture, error, &label)?;
+    Ok(())
 }

@@ -2,11 +2,14 @@
 //! literal with them applied.
 
 ghost use Rattle.std.specs.Prelude.{◌≡◌, ◌≢◌, ◌+◌, ◌<◌, ◌^◌, [], IfNone, IfOk, IfSome, IsOk};
-ghost use Rattle.std.specs.Prelude.{IsUtf8, OnOk, Some, chars, drop, false, length, map, not};
-ghost use Rattle.std.specs.Prelude.{List, ◌++◌, option_map, reverse, string_bytes, take};
-ghost use Rattle.std.specs.List.{cons_option, filter_map};
+ghost use Rattle.std.specs.Prelude.{IsUtf8, None, OnOk, Some, chars, drop, false, length, map, not};
+ghost use Rattle.std.specs.Prelude.{List, ◌∷◌, ◌++◌, codes, encode_utf8_all, option_map};
+ghost use Rattle.std.specs.Prelude.{string_bytes, take};
+ghost use Rattle.std.specs.List.{cons_option};
+ghost use Rattle.rustc_parse_format.specs.Faults.{message};
 ghost use Rattle.rustc_parse_format.specs.Seen.{seen_error, seen_mode, seen_snippet};
 ghost use Rattle.rustc_parse_format.specs.Seen.{seen_suggestion};
+ghost use Rattle.rustc_parse_format.specs.SeenFaults.{seen_fault};
 ghost use Rattle.rustc_parse_format.specs.Characters.{is_nil};
 ghost use Rattle.rustc_parse_format.specs.State.{after, first_state, next_call};
 ghost use Rattle.rustc_parse_format.specs.World.{faults_in, hashes};
@@ -19,7 +22,7 @@ ghost use Rattle.drawn_faults.specs.SeenEdits.{seen_edit, seen_fixed, with_edits
 
 use rustc_parse_format::literal::is_source_literal;
 use rustc_parse_format::{
-    Argument, FormatSpec, ParseError, ParseMode, Parser, Position, Suggestion,
+    Argument, Fault, FormatSpec, ParseError, ParseMode, Parser, Position, Suggestion,
 };
 use std::alloc::{AllocError, Global};
 use std::ops::Range;
@@ -135,33 +138,80 @@ fn make(edited: &mut Edited<'_>, suggestion: &Suggestion) -> Result<(), AllocErr
     Ok(())
 }
 
-/// Makes the edits of errors, the last one first. Returns `Err` if an allocation fails.
-fn make_each(edited: &mut Edited<'_>, errors: &[ParseError]) -> Result<(), AllocError>
-    ensures { OnOk result ((es : List EditValue) → with_edits edited.new es ≡ with_edits edited.old
-        (filter_map edit_of (reverse (map seen_error errors.now)) ++ es)) }
+/// Returns a flag with the type `?` after it. Returns `Err` if an allocation fails.
+fn flagged_type(alloc: Global, flag: char) -> Result<String, AllocError>
+    ensures { IfOk result (λ s. string_bytes s ≡ encode_utf8_all (flag ∷ codes "?")) }
 {
-    for error in errors.iter().rev() {
-        make(edited, &error.suggestion)?;
+    let mut text = String::with_capacity(alloc, 1 + flag.len_utf8())?;
+    text.push(flag)?;
+    text.push('?')?;
+    Ok(text)
+}
+
+/// Returns what the error of a fault suggests if that has an edit, or else `Suggestion::None`.
+/// Makes none of the error's other texts. Returns `Err` if an allocation fails.
+#[tactic(auto, unfolding(rustc_parse_format::specs::Faults::message))]
+fn suggestion_of(alloc: Global, fault: &Fault<'_>) -> Result<Suggestion, AllocError>
+    ensures { IfOk result (λ s. suggested (seen_suggestion s)
+        ≡ edit_of (message (seen_fault fault.now))) }
+{
+    match fault {
+        Fault::RawIdentifier(_, prefix) => {
+            Ok(Suggestion::RemoveRawIdent(prefix.start..prefix.end))
+        }
+        Fault::LateFlag(flag, _, both) => {
+            let text = flagged_type(alloc, *flag)?;
+            Ok(Suggestion::ReorderFormatParameter(both.start..both.end, text))
+        }
+        Fault::MissingColon(span) => Ok(Suggestion::AddMissingColon(span.start..span.end)),
+        Fault::UnmatchedBrace(_)
+        | Fault::MissingBrace(..)
+        | Fault::FillBrace(..)
+        | Fault::Underscore(_)
+        | Fault::TooLarge(..)
+        | Fault::Unnamed(_)
+        | Fault::TextAfterColon(_) => Ok(Suggestion::None),
+        Fault::LateDebug(..)
+        | Fault::LateAlign(..)
+        | Fault::Grouping(..)
+        | Fault::DebugPrint(..)
+        | Fault::LateSign(_)
+        | Fault::FieldAccess(_)
+        | Fault::TupleIndex(_) => Ok(Suggestion::None),
+    }
+}
+
+/// Makes the edits of faults, the first one first. Returns `Err` if an allocation fails.
+fn make_each(edited: &mut Edited<'_>, faults: &[Fault<'_>]) -> Result<(), AllocError>
+    ensures { OnOk result ((es : List EditValue) → with_edits edited.new es ≡ with_edits edited.old
+        (fault_edits (map seen_fault faults.now) ++ es)) }
+{
+    for fault in faults {
+        let suggestion = suggestion_of(*edited.bytes.allocator(), fault)?;
+        make(edited, &suggestion)?;
     }
     Ok(())
 }
 
-/// Makes a call of a parser without errors, and the edits of its errors. Returns `Err` if an
-/// allocation fails.
+/// Makes a call of a parser, and the edits of its faults. `found` is empty before and after the
+/// call. Returns `Err` if an allocation fails.
 fn make_next<'a>(
     edited: &mut Edited<'_>,
     parser: &mut Parser<'a>,
     argument: &mut Argument<'a>,
+    found: &mut Vec<Fault<'a>>,
 ) -> Result<(), AllocError>
-    requires { parser.old.errors ≡ [] }
+    requires none { parser.old.errors ≡ [] }
+    requires empty { found.old.items ≡ [] }
     ensures state { OnOk result (parser.new
         ≡ record (after parser.old (next_call parser.old)) { errors = [] }) }
     ensures edits { OnOk result ((es : List EditValue) → with_edits edited.new es ≡ with_edits
         edited.old (fault_edits (faults_in parser.old.world (next_call parser.old).faults) ++ es)) }
+    ensures made { OnOk result (found.new.items ≡ []) }
 {
-    parser.next_into(argument)?;
-    let errors = parser.take_errors();
-    make_each(edited, &errors)?;
+    parser.next_with_faults(argument, found)?;
+    make_each(edited, found.as_slice())?;
+    found.clear();
     Ok(())
 }
 
@@ -221,6 +271,7 @@ fn edit_all(
     ensures some { IfOk result (λ x. x.1 ≡ not (is_empty (edits (all_errors parser.old)))) }
 {
     let mut argument = blank_argument();
+    let mut found = Vec::new(alloc);
     let mut edited = Edited {
         bytes: Vec::new(alloc),
         rest: text.as_bytes(),
@@ -228,7 +279,7 @@ fn edit_all(
         end: 0,
     };
     while !parser.is_at_end() {
-        make_next(&mut edited, parser, &mut argument)?;
+        make_next(&mut edited, parser, &mut argument, &mut found)?;
     }
     let rest = edited.rest;
     edited.bytes.extend_from_slice(rest)?;

@@ -5,6 +5,7 @@ ghost use Rattle.std.specs.Prelude.{◌≡◌, ◌∷◌, ◌++◌, ◌<◌, ◌
 ghost use Rattle.std.specs.Prelude.{◌*◌, ◌==◌, length, take};
 ghost use Rattle.std.specs.Prelude.{IfOk, IfSome, MatchOption, OnOk, encode_utf8_all, string_bytes};
 ghost use Rattle.drawn_faults.specs.Glyphs.{glyph, glyph_count, glyphs, indent, run, width};
+ghost use Rattle.drawn_faults.specs.Places.{first_line};
 
 use crate::printable::{split_plain, split_printable};
 use std::alloc::AllocError;
@@ -61,15 +62,19 @@ pub fn width(c: char) -> usize
     }
 }
 
-/// Returns how many columns of a line are its indent, or `None` if the line is blank.
-pub fn indent(line: &str) -> Option<usize>
-    requires { length line.now < 2 ^ 60 }
-    ensures value { result ≡ indent 0 (chars line.now) }
-    ensures few { IfSome result (λ n. n ≤ 4 * length line.now) }
+/// Returns how many columns of the first line of a text are its indent, or `None` if that line is
+/// blank. Reads no further than that line's first character that is no white space.
+pub fn indent(text: &str) -> Option<usize>
+    requires { length text.now < 2 ^ 60 }
+    ensures value { result ≡ indent 0 (chars (first_line text.now)) }
+    ensures few { IfSome result (λ n. n ≤ 4 * length text.now) }
 {
-    let mut rest = line;
+    let mut rest = text;
     let mut columns = 0;
     while let Some((c, tail)) = split_first(rest) {
+        if c == '\n' {
+            return None;
+        }
         if !c.is_whitespace() {
             return Some(columns);
         }
@@ -175,6 +180,8 @@ pub fn put_glyphs(out: &mut String, text: &str, skipped: usize) -> Result<(), Al
     ensures { OnOk result (string_bytes out.new ≡ string_bytes out.old ++
         encode_utf8_all (drop skipped (glyphs (chars text.now)))) }
 {
+    // each byte that is not skipped is drawn as one or more, but for those of zero-width joiners
+    out.reserve(text.len().saturating_sub(skipped))?;
     let mut rest = text;
     let mut skip = skipped;
     while let Some((c, tail)) = split_first(rest) {
@@ -199,8 +206,10 @@ pub fn put_front(out: &mut String, text: &str, count: usize) -> Result<(), Alloc
             break;
         };
         put_run(out, glyph(c), glyph_count(c))?;
-        rest = tail;
-        left -= 1;
+        let (front, behind) = split_printable(tail, left - 1);
+        out.push_str(front)?;
+        rest = behind;
+        left -= 1 + front.len();
     }
     Ok(())
 }
@@ -215,8 +224,9 @@ pub fn behind_chars(text: &str, count: usize) -> &str
         let Some((_, tail)) = split_first(rest) else {
             break;
         };
-        rest = tail;
-        left -= 1;
+        let (passed, behind) = split_printable(tail, left - 1);
+        rest = behind;
+        left -= 1 + passed.len();
     }
     rest
 }

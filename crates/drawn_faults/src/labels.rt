@@ -10,7 +10,7 @@ ghost use Rattle.drawn_faults.specs.Labels.{last_number, least, line_indent, mar
 ghost use Rattle.drawn_faults.specs.Labels.{second, second_text, seen_edit, seen_frame, seen_label};
 
 use crate::glyphs::indent;
-use crate::places::{Extent, Picture, line};
+use crate::places::{Extent, Picture, behind_lines};
 use crate::rows::Mark;
 use rustc_parse_format::{ParseError, Suggestion};
 use std::ops::Range;
@@ -134,12 +134,13 @@ fn other_line(label: &Label<'_>, second: &Option<Label<'_>>) -> usize
 }
 
 /// Returns the indent of a line of the source, unless it is blank.
+#[tactic(auto, unfolding(crate::specs::Places::line))]
 fn line_indent(picture: &Picture<'_>, number: usize) -> Option<usize>
     requires { length picture.now.source.now < 2 ^ 59 }
     ensures value { result ≡ line_indent (seen_picture picture.now) number }
     ensures small { IfSome result (λ n. n < 2 ^ 62) }
 {
-    indent(line(picture.source, number))
+    indent(behind_lines(picture.source, number))
 }
 
 /// Returns the least indent, where a blank line has none.
@@ -155,6 +156,21 @@ fn least(m: Option<usize>, n: Option<usize>) -> usize
         (Some(m), None) => m,
         (Some(m), Some(n)) => { if n < m { n } else { m } }
     }
+}
+
+/// Returns the least indent of two lines of the source, where a blank line has none. Mostly they
+/// are the same line, which is then looked for once.
+fn least_indent(picture: &Picture<'_>, number: usize, other: usize) -> usize
+    requires { length picture.now.source.now < 2 ^ 59 }
+    ensures value { result ≡ least (line_indent (seen_picture picture.now) number)
+        (line_indent (seen_picture picture.now) other) }
+    ensures small { result < 2 ^ 62 }
+{
+    let indent = line_indent(picture, number);
+    if other == number {
+        return least(indent, indent);
+    }
+    least(indent, line_indent(picture, other))
 }
 
 /// Returns how many columns are cut of lines with an indent.
@@ -201,12 +217,11 @@ pub fn frame_for<'a>(
         .line
         .max(last_line(second).max(edit_line(edit)));
     let gutter = digits(picture.line_start as usize + last);
-    let first = line_indent(picture, label.extent.start.line);
-    let other = line_indent(picture, other_line(label, second));
+    let indent = least_indent(picture, label.extent.start.line, other_line(label, second));
     Frame {
         picture,
         gutter,
-        cut: cut_of(least(first, other)),
+        cut: cut_of(indent),
     }
 }
 

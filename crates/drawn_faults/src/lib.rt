@@ -14,6 +14,6 @@ mod printable;
 mod rows;
 mod suggestions;
 
-pub use drawing::draw;
+pub use drawing::{draw, put_drawing};
 pub use fixes::{Edit, Fixed, edits, errors_of, fix};
 pub use places::Picture;

@@ -1,7 +1,7 @@
 //! Lines of the source with labels in one line. What begins with `put_` appends to `out`, and
 //! returns `Err` if an allocation fails.
 
-ghost use Rattle.std.specs.Prelude.{◌≡◌, ◌++◌, ◌<◌, ◌^◌, OnOk, chars, codes, string_bytes};
+ghost use Rattle.std.specs.Prelude.{◌≡◌, ◌++◌, ◌<◌, ◌^◌, OnOk, chars, codes, decimal, string_bytes};
 ghost use Rattle.drawn_faults.specs.Rows.{seen_mark};
 ghost use Rattle.drawn_faults.specs.Labels.{seen_frame};
 ghost use Rattle.drawn_faults.specs.Lines.{apart, behind_bar, code_row, gap, labelled, numbered};
@@ -11,7 +11,17 @@ use crate::glyphs::{draws_nothing, put_glyphs, put_run};
 use crate::labels::{Frame, digits};
 use crate::places::line;
 use crate::rows::{Mark, put_both, put_one};
+use itoa::Buffer;
 use std::alloc::AllocError;
+
+/// Adds a number in decimal digits.
+pub fn put_decimal(out: &mut String, number: usize) -> Result<(), AllocError>
+    ensures { OnOk result (string_bytes out.new ≡ string_bytes out.old ++ decimal number) }
+{
+    let mut digits = Buffer::new();
+    out.push_str(digits.format(number))?;
+    Ok(())
+}
 
 /// Adds the number of a line of the source, at the right of its gutter.
 #[tactic(auto, unfolding(crate::specs::Lines::numbered))]
@@ -22,7 +32,7 @@ pub fn put_number(out: &mut String, frame: &Frame<'_>, line: usize) -> Result<()
 {
     let number = frame.picture.line_start as usize + line;
     put_run(out, ' ', frame.gutter.saturating_sub(digits(number)))?;
-    write!(out, "{number}")?;
+    put_decimal(out, number)?;
     Ok(())
 }
 

@@ -155,25 +155,16 @@ fn pass(from: Spot, text: &str, width: usize) -> (Spot, &str, usize)
     (at, rest, left)
 }
 
-/// Returns the first line of a text.
-pub fn first_line(text: &str) -> &str
-    ensures value { result.now ≡ first_line text.now }
-    ensures short { length result.now ≤ length text.now }
+/// Returns the first line of a text, and what is left of the text behind that line.
+pub fn split_line(text: &str) -> (&str, &str)
+    ensures line { result.0.now ≡ first_line text.now }
+    ensures rest { result.1.now ≡ behind_lines 1 text.now }
+    ensures short_line { length result.0.now ≤ length text.now }
+    ensures short { length result.1.now ≤ length text.now }
 {
     match text.split_once('\n') {
-        Some((line, _)) => line,
-        None => text,
-    }
-}
-
-/// Returns what is left of a text behind its first line.
-pub fn behind_line(text: &str) -> &str
-    ensures rest { result.now ≡ behind_lines 1 text.now }
-    ensures short { length result.now ≤ length text.now }
-{
-    match text.split_once('\n') {
-        Some((_, rest)) => rest,
-        None => "",
+        Some((line, rest)) => (line, rest),
+        None => (text, ""),
     }
 }
 
@@ -185,7 +176,8 @@ pub fn behind_lines(text: &str, count: usize) -> &str
     let mut rest = text;
     let mut left = count;
     while left > 0 {
-        rest = behind_line(rest);
+        let (_, behind) = split_line(rest);
+        rest = behind;
         left -= 1;
     }
     rest
@@ -197,7 +189,8 @@ pub fn line(text: &str, number: usize) -> &str
     ensures value { result.now ≡ line number text.now }
     ensures short { length result.now ≤ length text.now }
 {
-    first_line(behind_lines(text, number))
+    let (first, _) = split_line(behind_lines(text, number));
+    first
 }
 
 impl Picture<'_> {

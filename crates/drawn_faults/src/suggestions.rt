@@ -10,7 +10,7 @@ ghost use Rattle.drawn_faults.specs.Suggestions.{old_rows, parting};
 use crate::glyphs::{behind_chars, put_front, put_glyphs, put_texts};
 use crate::labels::{Edit, Frame};
 use crate::lines::put_number;
-use crate::places::{behind_line, behind_lines, first_line, line};
+use crate::places::{behind_lines, line, split_line};
 use crate::rows::put_blank;
 use std::alloc::AllocError;
 
@@ -63,8 +63,9 @@ fn put_old_rows(
     let mut number = first;
     let mut left = count;
     while left > 0 {
-        put_old(out, frame, number, first_line(rest))?;
-        rest = behind_line(rest);
+        let (line, behind) = split_line(rest);
+        put_old(out, frame, number, line)?;
+        rest = behind;
         number += 1;
         left -= 1;
     }
@@ -91,7 +92,11 @@ fn put_new(out: &mut String, frame: &Frame<'_>, edit: &Edit<'_>) -> Result<(), A
         ++ new_row (seen_frame frame.now) (seen_edit edit.now)) }
 {
     let first = line(frame.picture.source, edit.extent.start.line);
-    let last = line(frame.picture.source, edit.extent.end.line);
+    let last = if edit.extent.end.line == edit.extent.start.line {
+        first
+    } else {
+        line(frame.picture.source, edit.extent.end.line)
+    };
     put_number(out, frame, edit.extent.start.line)?;
     out.push_str(" + ")?;
     put_edited(out, edit, first, last)?;

@@ -16,7 +16,7 @@ ghost use Rattle.format_lint.specs.SeenLint.{errors_of, seen_source, seen_task};
 use super::faults::{Faults, Source, faults_in, tokens_in};
 use super::task::{Show, Task};
 use super::tokens::put_tokens;
-use drawn_faults::{Picture, draw, fix};
+use drawn_faults::{Picture, fix, put_drawing};
 use piece_listing::literal::{literal_text, without_newline};
 use piece_listing::verdict::RunFault;
 use rustc_parse_format::{Fault, ParseMode};
@@ -34,8 +34,7 @@ fn put_each(
 {
     for fault in faults {
         let error = fault.error(alloc)?;
-        let text = draw(alloc, picture, &error)?;
-        out.push_str(text.as_str())?;
+        put_drawing(out, picture, &error)?;
     }
     Ok(())
 }

@@ -2,7 +2,6 @@
 //! `AllocError` has no value, a `Result` with it is always `Ok`, and each `?` on one compiles to
 //! nothing.
 use std::collections::BTreeSet;
-use std::fmt::{self, Write};
 
 /// The allocator that is passed to calls.
 #[derive(Clone, Copy)]
@@ -27,13 +26,6 @@ pub fn refuse<T>() -> Result<T, AllocError> {
     panic!("capacity overflow")
 }
 
-/// Appends formatted words to a text.
-pub fn write_to(out: &mut String, words: fmt::Arguments<'_>) -> Result<(), AllocError> {
-    // (writing to a `String` always succeeds)
-    let _ = out.write_fmt(words);
-    Ok(())
-}
-
 /// The method of `Box` that takes an allocator and may return an allocation failure.
 pub trait BoxIn<T>: Sized {
     fn made_in(alloc: Global, value: T) -> Result<Self, AllocError>;
@@ -51,9 +43,11 @@ pub trait VecIn<T>: Sized {
     fn made_in(alloc: Global) -> Self;
     fn made_for(alloc: Global, room: usize) -> Result<Self, AllocError>;
     fn try_push(&mut self, item: T) -> Result<(), AllocError>;
+    fn try_append(&mut self, items: &mut Self) -> Result<(), AllocError>;
     fn try_extend_from_slice(&mut self, items: &[T]) -> Result<(), AllocError>
     where
         T: Copy;
+    fn own_allocator(&self) -> &Global;
 }
 
 impl<T> VecIn<T> for Vec<T> {
@@ -74,12 +68,23 @@ impl<T> VecIn<T> for Vec<T> {
     }
 
     #[inline(always)]
+    fn try_append(&mut self, items: &mut Vec<T>) -> Result<(), AllocError> {
+        self.append(items);
+        Ok(())
+    }
+
+    #[inline(always)]
     fn try_extend_from_slice(&mut self, items: &[T]) -> Result<(), AllocError>
     where
         T: Copy,
     {
         self.extend_from_slice(items);
         Ok(())
+    }
+
+    #[inline(always)]
+    fn own_allocator(&self) -> &Global {
+        &Global
     }
 }
 
@@ -108,7 +113,8 @@ pub trait StringIn: Sized {
     fn made_from(alloc: Global, text: &str) -> Result<Self, AllocError>;
     fn try_push(&mut self, c: char) -> Result<(), AllocError>;
     fn try_push_str(&mut self, text: &str) -> Result<(), AllocError>;
-    fn allocator(&self) -> &Global;
+    fn try_reserve_more(&mut self, room: usize) -> Result<(), AllocError>;
+    fn own_allocator(&self) -> &Global;
 }
 
 impl StringIn for String {
@@ -140,7 +146,13 @@ impl StringIn for String {
     }
 
     #[inline(always)]
-    fn allocator(&self) -> &Global {
+    fn try_reserve_more(&mut self, room: usize) -> Result<(), AllocError> {
+        self.reserve(room);
+        Ok(())
+    }
+
+    #[inline(always)]
+    fn own_allocator(&self) -> &Global {
         &Global
     }
 }

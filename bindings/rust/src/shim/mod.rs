@@ -1,6 +1,7 @@
 //! What the extracted modules use in place of the standard library of the language that they are
 //! proved in.
 pub mod alloc;
+pub mod itoa;
 pub mod parser;
 pub mod simd;
 pub mod unicode_ident;
@@ -22,14 +23,6 @@ macro_rules! format_in {
     }};
 }
 pub(crate) use format_in;
-
-/// `write!(out, ..)` to a `String`: returns `Err` if an allocation fails.
-macro_rules! write_in {
-    ($out:expr, $($words:tt)*) => {
-        $crate::shim::alloc::write_to($out, format_args!($($words)*))
-    };
-}
-pub(crate) use write_in;
 
 #[cfg(test)]
 mod tests {

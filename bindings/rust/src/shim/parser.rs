@@ -1,4 +1,5 @@
 //! The parser, with the calls by which other extracted modules read it.
+use crate::proved::rustc_parse_format::faults::Fault;
 use crate::proved::rustc_parse_format::types::Taken;
 use crate::shim::alloc::{AllocError, Global};
 use crate::{Argument, ParseError, ParseMode, Piece};
@@ -6,6 +7,17 @@ use crate::{Argument, ParseError, ParseMode, Piece};
 /// A parser over an input, which reads one piece at a time.
 pub struct Parser<'input> {
     parser: crate::Parser<'input>,
+}
+
+/// Moves a placeholder into `argument`.
+fn taken<'input>(piece: Piece<'input>, argument: &mut Argument<'input>) -> Taken<'input> {
+    match piece {
+        Piece::Lit(text) => Taken::Lit(text),
+        Piece::NextArgument(read) => {
+            *argument = *read;
+            Taken::NextArgument
+        }
+    }
 }
 
 impl<'input> Parser<'input> {
@@ -34,14 +46,19 @@ impl<'input> Parser<'input> {
         &mut self,
         argument: &mut Argument<'input>,
     ) -> Result<(Option<Taken<'input>>, ()), AllocError> {
-        let taken = self.parser.next().map(|piece| match piece {
-            Piece::Lit(text) => Taken::Lit(text),
-            Piece::NextArgument(read) => {
-                *argument = *read;
-                Taken::NextArgument
-            }
-        });
-        Ok((taken, ()))
+        let piece = self.parser.next();
+        Ok((piece.map(|piece| taken(piece, argument)), ()))
+    }
+
+    /// Returns the next piece as `next_into` does, but moves the faults of this call to the end of
+    /// `faults`, and makes no errors of them.
+    pub fn next_with_faults(
+        &mut self,
+        argument: &mut Argument<'input>,
+        faults: &mut Vec<Fault<'input>>,
+    ) -> Result<Option<Taken<'input>>, AllocError> {
+        let piece = self.parser.next_with_faults(faults);
+        Ok(piece.map(|piece| taken(piece, argument)))
     }
 
     /// Returns whether the whole input was read.

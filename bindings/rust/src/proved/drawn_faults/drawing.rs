@@ -7,7 +7,7 @@
 
 use crate::proved::drawn_faults::glyphs::{put_run, put_texts};
 use crate::proved::drawn_faults::labels::{edit_of, frame_for, mark, second, Edit, Frame, Label};
-use crate::proved::drawn_faults::lines::{put_labelled, put_two_labels};
+use crate::proved::drawn_faults::lines::{put_decimal, put_labelled, put_two_labels};
 use crate::proved::drawn_faults::long::put_long;
 use crate::proved::drawn_faults::places::{Picture, Spot};
 use crate::proved::drawn_faults::suggestions::{put_edit, put_parting};
@@ -33,9 +33,11 @@ fn put_arrow(out: &mut String, frame: &Frame<'_>, at: Spot) -> Result<(), AllocE
     let line = frame.picture.line_start as usize + at.line;
     let column = at.chars + 1;
     put_run(out, ' ', frame.gutter)?;
-    out.try_push_str("--> ")?;
-    out.try_push_str(frame.picture.path)?;
-    crate::shim::write_in!(out, ":{line}:{column}\n")?;
+    put_texts(out, "--> ", frame.picture.path, ":")?;
+    put_decimal(out, line)?;
+    out.try_push_str(":")?;
+    put_decimal(out, column)?;
+    out.try_push_str("\n")?;
     Ok(())
 }
 
@@ -177,7 +179,7 @@ fn put_below(
 // ensures { OnOk result (string_bytes out.new ≡ string_bytes out.old
 //     ++ drawing (seen_picture picture.now) (seen_error error.now)) }
 #[inline]
-fn put_drawing(
+fn put_with_label(
     out: &mut String,
     picture: &Picture<'_>,
     error: &ParseError,
@@ -191,6 +193,27 @@ fn put_drawing(
     put_below(out, &frame, &error.note, &edit)?;
     out.try_push_str("\n")?;
     Ok(())
+}
+
+/// Returns how many bytes a drawing has at least: it has these texts, and some 75 bytes or more
+/// besides.
+#[inline]
+fn least_length(picture: &Picture<'_>, error: &ParseError) -> usize {
+    let note = match &error.note {
+        Some(note) => note.len(),
+        None => 0,
+    };
+    let second = match &error.secondary_label {
+        Some((text, _)) => text.len(),
+        None => 0,
+    };
+    let texts = error.description.len().saturating_add(error.label.len());
+    let others = picture
+        .path
+        .len()
+        .saturating_add(note)
+        .saturating_add(second);
+    texts.saturating_add(others).saturating_add(75)
 }
 
 /// Returns the text that shows an error of a literal under its source, as rustc 1.95 draws it
@@ -219,9 +242,25 @@ pub fn draw(
     picture: &Picture<'_>,
     error: &ParseError,
 ) -> Result<String, AllocError> {
+    let mut out = String::made_in(alloc);
+    put_drawing(&mut out, picture, error)?;
+    Ok(out)
+}
+
+/// Appends the text that [`draw`] returns to `out`. Returns `Err` if an allocation fails, or if the
+/// source has 2^59 bytes or more; a part of the text may then be in `out`.
+// ensures { OnOk result (string_bytes out.new ≡ string_bytes out.old
+//     ++ drawing (seen_picture picture.now) (seen_error error.now)) }
+#[inline]
+pub fn put_drawing(
+    out: &mut String,
+    picture: &Picture<'_>,
+    error: &ParseError,
+) -> Result<(), AllocError> {
     if picture.source.len() >= 1 << (usize::BITS - 5) {
         return crate::shim::alloc::refuse();
     }
+    let alloc = *out.own_allocator();
     let mut text = String::made_for(alloc, error.label.len().saturating_add(17))?;
     put_texts(&mut text, error.label.as_str(), " in format string", "")?;
     let label = Label {
@@ -229,10 +268,7 @@ pub fn draw(
         text: text.as_str(),
         extent: picture.extent(&error.span),
     };
-    // each drawing has these texts, and some 58 bytes or more besides
-    let texts = picture.path.len().saturating_add(error.description.len());
-    let length = texts.saturating_add(text.len()).saturating_add(58);
-    let mut out = String::made_for(alloc, length)?;
-    put_drawing(&mut out, picture, error, &label)?;
-    Ok(out)
+    out.try_reserve_more(least_length(picture, error))?;
+    put_with_label(out, picture, error, &label)?;
+    Ok(())
 }

@@ -7,7 +7,7 @@
 
 use crate::proved::rustc_parse_format::literal::is_source_literal;
 use crate::proved::rustc_parse_format::{
-    Argument, FormatSpec, ParseError, ParseMode, Position, Suggestion,
+    Argument, Fault, FormatSpec, ParseError, ParseMode, Position, Suggestion,
 };
 use crate::shim::alloc::{AllocError, Global};
 use crate::shim::parser::Parser;
@@ -125,33 +125,80 @@ fn make(edited: &mut Edited<'_>, suggestion: &Suggestion) -> Result<(), AllocErr
     Ok(())
 }
 
-/// Makes the edits of errors, the last one first. Returns `Err` if an allocation fails.
-// ensures { OnOk result ((es : List EditValue) → with_edits edited.new es ≡ with_edits edited.old
-//     (filter_map edit_of (reverse (map seen_error errors.now)) ++ es)) }
+/// Returns a flag with the type `?` after it. Returns `Err` if an allocation fails.
+// ensures { IfOk result (λ s. string_bytes s ≡ encode_utf8_all (flag ∷ codes "?")) }
 #[inline]
-fn make_each(edited: &mut Edited<'_>, errors: &[ParseError]) -> Result<(), AllocError> {
-    for error in errors.iter().rev() {
-        make(edited, &error.suggestion)?;
+fn flagged_type(alloc: Global, flag: char) -> Result<String, AllocError> {
+    let mut text = String::made_for(alloc, 1 + flag.len_utf8())?;
+    text.try_push(flag)?;
+    text.try_push('?')?;
+    Ok(text)
+}
+
+/// Returns what the error of a fault suggests if that has an edit, or else `Suggestion::None`.
+/// Makes none of the error's other texts. Returns `Err` if an allocation fails.
+// ensures { IfOk result (λ s. suggested (seen_suggestion s)
+//     ≡ edit_of (message (seen_fault fault.now))) }
+#[inline]
+fn suggestion_of(alloc: Global, fault: &Fault<'_>) -> Result<Suggestion, AllocError> {
+    match fault {
+        Fault::RawIdentifier(_, prefix) => Ok(Suggestion::RemoveRawIdent(prefix.start..prefix.end)),
+        Fault::LateFlag(flag, _, both) => {
+            let text = flagged_type(alloc, *flag)?;
+            Ok(Suggestion::ReorderFormatParameter(
+                both.start..both.end,
+                text,
+            ))
+        }
+        Fault::MissingColon(span) => Ok(Suggestion::AddMissingColon(span.start..span.end)),
+        Fault::UnmatchedBrace(_)
+        | Fault::MissingBrace(..)
+        | Fault::FillBrace(..)
+        | Fault::Underscore(_)
+        | Fault::TooLarge(..)
+        | Fault::Unnamed(_)
+        | Fault::TextAfterColon(_) => Ok(Suggestion::None),
+        Fault::LateDebug(..)
+        | Fault::LateAlign(..)
+        | Fault::Grouping(..)
+        | Fault::DebugPrint(..)
+        | Fault::LateSign(_)
+        | Fault::FieldAccess(_)
+        | Fault::TupleIndex(_) => Ok(Suggestion::None),
+    }
+}
+
+/// Makes the edits of faults, the first one first. Returns `Err` if an allocation fails.
+// ensures { OnOk result ((es : List EditValue) → with_edits edited.new es ≡ with_edits edited.old
+//     (fault_edits (map seen_fault faults.now) ++ es)) }
+#[inline]
+fn make_each(edited: &mut Edited<'_>, faults: &[Fault<'_>]) -> Result<(), AllocError> {
+    for fault in faults {
+        let suggestion = suggestion_of(*edited.bytes.own_allocator(), fault)?;
+        make(edited, &suggestion)?;
     }
     Ok(())
 }
 
-/// Makes a call of a parser without errors, and the edits of its errors. Returns `Err` if an
-/// allocation fails.
-// requires { parser.old.errors ≡ [] }
+/// Makes a call of a parser, and the edits of its faults. `found` is empty before and after the
+/// call. Returns `Err` if an allocation fails.
+// requires none { parser.old.errors ≡ [] }
+// requires empty { found.old.items ≡ [] }
 // ensures state { OnOk result (parser.new
 //     ≡ record (after parser.old (next_call parser.old)) { errors = [] }) }
 // ensures edits { OnOk result ((es : List EditValue) → with_edits edited.new es ≡ with_edits
 //     edited.old (fault_edits (faults_in parser.old.world (next_call parser.old).faults) ++ es)) }
+// ensures made { OnOk result (found.new.items ≡ []) }
 #[inline]
 fn make_next<'a>(
     edited: &mut Edited<'_>,
     parser: &mut Parser<'a>,
     argument: &mut Argument<'a>,
+    found: &mut Vec<Fault<'a>>,
 ) -> Result<(), AllocError> {
-    parser.next_into(argument)?;
-    let errors = parser.take_errors();
-    make_each(edited, &errors)?;
+    parser.next_with_faults(argument, found)?;
+    make_each(edited, found.as_slice())?;
+    found.clear();
     Ok(())
 }
 
@@ -212,6 +259,7 @@ fn edit_all(
     at: usize,
 ) -> Result<(Vec<u8>, bool), AllocError> {
     let mut argument = blank_argument();
+    let mut found = Vec::made_in(alloc);
     let mut edited = Edited {
         bytes: Vec::made_in(alloc),
         rest: text.as_bytes(),
@@ -219,7 +267,7 @@ fn edit_all(
         end: 0,
     };
     while !parser.is_at_end() {
-        make_next(&mut edited, parser, &mut argument)?;
+        make_next(&mut edited, parser, &mut argument, &mut found)?;
     }
     let rest = edited.rest;
     edited.bytes.try_extend_from_slice(rest)?;

@@ -58,15 +58,19 @@ pub fn width(c: char) -> usize {
     }
 }
 
-/// Returns how many columns of a line are its indent, or `None` if the line is blank.
-// requires { length line.now < 2 ^ 60 }
-// ensures value { result ≡ indent 0 (chars line.now) }
-// ensures few { IfSome result (λ n. n ≤ 4 * length line.now) }
+/// Returns how many columns of the first line of a text are its indent, or `None` if that line is
+/// blank. Reads no further than that line's first character that is no white space.
+// requires { length text.now < 2 ^ 60 }
+// ensures value { result ≡ indent 0 (chars (first_line text.now)) }
+// ensures few { IfSome result (λ n. n ≤ 4 * length text.now) }
 #[inline]
-pub fn indent(line: &str) -> Option<usize> {
-    let mut rest = line;
+pub fn indent(text: &str) -> Option<usize> {
+    let mut rest = text;
     let mut columns = 0;
     while let Some((c, tail)) = split_first(rest) {
+        if c == '\n' {
+            return None;
+        }
         if !c.is_whitespace() {
             return Some(columns);
         }
@@ -171,6 +175,8 @@ fn put_plain<'a>(
 //     encode_utf8_all (drop skipped (glyphs (chars text.now)))) }
 #[inline]
 pub fn put_glyphs(out: &mut String, text: &str, skipped: usize) -> Result<(), AllocError> {
+    // each byte that is not skipped is drawn as one or more, but for those of zero-width joiners
+    out.try_reserve_more(text.len().saturating_sub(skipped))?;
     let mut rest = text;
     let mut skip = skipped;
     while let Some((c, tail)) = split_first(rest) {
@@ -195,8 +201,10 @@ pub fn put_front(out: &mut String, text: &str, count: usize) -> Result<(), Alloc
             break;
         };
         put_run(out, glyph(c), glyph_count(c))?;
-        rest = tail;
-        left -= 1;
+        let (front, behind) = split_printable(tail, left - 1);
+        out.try_push_str(front)?;
+        rest = behind;
+        left -= 1 + front.len();
     }
     Ok(())
 }
@@ -211,8 +219,9 @@ pub fn behind_chars(text: &str, count: usize) -> &str {
         let Some((_, tail)) = split_first(rest) else {
             break;
         };
-        rest = tail;
-        left -= 1;
+        let (passed, behind) = split_printable(tail, left - 1);
+        rest = behind;
+        left -= 1 + passed.len();
     }
     rest
 }

@@ -5,7 +5,7 @@
 // by results from outside, and beside what is proved (.ci/bindings) and the original (tools/agree).
 
 use crate::proved::drawn_faults::glyphs::indent;
-use crate::proved::drawn_faults::places::{line, Extent, Picture};
+use crate::proved::drawn_faults::places::{behind_lines, Extent, Picture};
 use crate::proved::drawn_faults::rows::Mark;
 use crate::proved::rustc_parse_format::{ParseError, Suggestion};
 use std::ops::Range;
@@ -133,7 +133,7 @@ fn other_line(label: &Label<'_>, second: &Option<Label<'_>>) -> usize {
 // ensures small { IfSome result (λ n. n < 2 ^ 62) }
 #[inline]
 fn line_indent(picture: &Picture<'_>, number: usize) -> Option<usize> {
-    indent(line(picture.source, number))
+    indent(behind_lines(picture.source, number))
 }
 
 /// Returns the least indent, where a blank line has none.
@@ -155,6 +155,21 @@ fn least(m: Option<usize>, n: Option<usize>) -> usize {
             }
         }
     }
+}
+
+/// Returns the least indent of two lines of the source, where a blank line has none. Mostly they
+/// are the same line, which is then looked for once.
+// requires { length picture.now.source.now < 2 ^ 59 }
+// ensures value { result ≡ least (line_indent (seen_picture picture.now) number)
+//     (line_indent (seen_picture picture.now) other) }
+// ensures small { result < 2 ^ 62 }
+#[inline]
+fn least_indent(picture: &Picture<'_>, number: usize, other: usize) -> usize {
+    let indent = line_indent(picture, number);
+    if other == number {
+        return least(indent, indent);
+    }
+    least(indent, line_indent(picture, other))
 }
 
 /// Returns how many columns are cut of lines with an indent.
@@ -203,12 +218,11 @@ pub fn frame_for<'a>(
         .line
         .max(last_line(second).max(edit_line(edit)));
     let gutter = digits(picture.line_start as usize + last);
-    let first = line_indent(picture, label.extent.start.line);
-    let other = line_indent(picture, other_line(label, second));
+    let indent = least_indent(picture, label.extent.start.line, other_line(label, second));
     Frame {
         picture,
         gutter,
-        cut: cut_of(least(first, other)),
+        cut: cut_of(indent),
     }
 }
 

@@ -10,7 +10,17 @@ use crate::proved::drawn_faults::labels::{digits, Frame};
 use crate::proved::drawn_faults::places::line;
 use crate::proved::drawn_faults::rows::{put_both, put_one, Mark};
 use crate::shim::alloc::AllocError;
+use crate::shim::itoa::Buffer;
 use crate::shim::prelude::*;
+
+/// Adds a number in decimal digits.
+// ensures { OnOk result (string_bytes out.new ≡ string_bytes out.old ++ decimal number) }
+#[inline]
+pub fn put_decimal(out: &mut String, number: usize) -> Result<(), AllocError> {
+    let mut digits = Buffer::new();
+    out.try_push_str(digits.format(number))?;
+    Ok(())
+}
 
 /// Adds the number of a line of the source, at the right of its gutter.
 // requires { line < 2 ^ 61 }
@@ -20,7 +30,7 @@ use crate::shim::prelude::*;
 pub fn put_number(out: &mut String, frame: &Frame<'_>, line: usize) -> Result<(), AllocError> {
     let number = frame.picture.line_start as usize + line;
     put_run(out, ' ', frame.gutter.saturating_sub(digits(number)))?;
-    crate::shim::write_in!(out, "{number}")?;
+    put_decimal(out, number)?;
     Ok(())
 }
 

@@ -8,7 +8,7 @@
 use crate::proved::drawn_faults::glyphs::{behind_chars, put_front, put_glyphs, put_texts};
 use crate::proved::drawn_faults::labels::{Edit, Frame};
 use crate::proved::drawn_faults::lines::put_number;
-use crate::proved::drawn_faults::places::{behind_line, behind_lines, first_line, line};
+use crate::proved::drawn_faults::places::{behind_lines, line, split_line};
 use crate::proved::drawn_faults::rows::put_blank;
 use crate::shim::alloc::AllocError;
 use crate::shim::prelude::*;
@@ -65,8 +65,9 @@ fn put_old_rows(
     let mut number = first;
     let mut left = count;
     while left > 0 {
-        put_old(out, frame, number, first_line(rest))?;
-        rest = behind_line(rest);
+        let (line, behind) = split_line(rest);
+        put_old(out, frame, number, line)?;
+        rest = behind;
         number += 1;
         left -= 1;
     }
@@ -96,7 +97,11 @@ fn put_edited(
 #[inline]
 fn put_new(out: &mut String, frame: &Frame<'_>, edit: &Edit<'_>) -> Result<(), AllocError> {
     let first = line(frame.picture.source, edit.extent.start.line);
-    let last = line(frame.picture.source, edit.extent.end.line);
+    let last = if edit.extent.end.line == edit.extent.start.line {
+        first
+    } else {
+        line(frame.picture.source, edit.extent.end.line)
+    };
     put_number(out, frame, edit.extent.start.line)?;
     out.try_push_str(" + ")?;
     put_edited(out, edit, first, last)?;

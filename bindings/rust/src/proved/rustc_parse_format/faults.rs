@@ -6,6 +6,7 @@
 
 use crate::shim::alloc::{AllocError, Global};
 use crate::shim::prelude::*;
+use std::mem;
 use std::ops::Range;
 
 /// A fault of an input. The ranges are byte ranges in the source.
@@ -132,6 +133,30 @@ impl<'input> Faults<'input> {
             return self.second.as_ref();
         }
         self.more.get(index - 2)
+    }
+
+    /// Moves all faults to the end of `list`. Returns `Err` if an allocation fails: the faults are
+    /// then dropped, except for some that are at the end of `list`.
+    // ensures moved { OnOk result (map seen_fault list.new.items
+    //     ≡ map seen_fault list.old.items ++ self.old) }
+    // ensures empty { self.new ≡ [] }
+    // ensures kept { take (length list.old.items) list.new.items ≡ list.old.items }
+    // ensures spare { self.old ≡ [] → IsOk result }
+    #[inline]
+    pub fn move_to(&mut self, list: &mut Vec<Fault<'input>>) -> Result<(), AllocError> {
+        if self.is_empty() {
+            return Ok(());
+        }
+        let alloc = *self.more.own_allocator();
+        let mut faults = mem::replace(self, Faults::new(alloc));
+        if let Some(first) = faults.first.take() {
+            list.try_push(first)?;
+        }
+        if let Some(second) = faults.second.take() {
+            list.try_push(second)?;
+        }
+        list.try_append(&mut faults.more)?;
+        Ok(())
     }
 
     /// Removes all faults. Does not allocate.

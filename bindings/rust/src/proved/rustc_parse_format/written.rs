@@ -32,7 +32,7 @@ fn put_plain(out: &mut String, c: char) -> Result<(), AllocError> {
     let code = u32::from(c);
     if code < 32 || code == 127 {
         // formatted on its own first: `write!` does not promise what it leaves in `out` if it fails
-        let escape = crate::shim::format_in!( *out.allocator(); "\\u{{{code:x}}}")?;
+        let escape = crate::shim::format_in!( *out.own_allocator(); "\\u{{{code:x}}}")?;
         out.try_push_str(&escape)?;
     } else {
         out.try_push(c)?;

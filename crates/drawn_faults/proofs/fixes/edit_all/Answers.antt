@@ -17,6 +17,7 @@ loop-argument-preserved c =
     let e = c.in_ok-make_next.ensures.state in
     record {
       none = ap (λ (t : State). t.errors) e;
+      made = c.in_ok-make_next.ensures.made;
       same = c.in_ok-make_next.ensures.edits (left_edits c.make_next.new.parser)
           ∙ ap (with_edits l.edited) (left_edits-step l.parser c.make_next.new.parser e h)
           ∙ l.invariant.same;

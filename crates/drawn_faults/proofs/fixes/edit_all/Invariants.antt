@@ -8,6 +8,7 @@ use Rattle.drawn_faults.proofs.fixes.edit_all.Given as goal
 abbrev pub invariant-loop-argument : goal.invariant-loop-argument
 invariant-loop-argument l = record {
   none : l.parser.errors ≡ [];
+  made : l.found.items ≡ [];
   same : with_edits l.edited (left_edits l.parser)
       ≡ joined [] l.fn.at 0 l.fn.text (left_edits l.fn.parser);
 }

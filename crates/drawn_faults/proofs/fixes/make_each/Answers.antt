@@ -1,21 +1,19 @@
-use Rattle.std.proofs.Common.{◌≡◌, ◌∙◌, ◌++◌, ◌∷◌, List, map, reverse, ap, sym, arith}
-use Rattle.std.proofs.lemmas.Grind.{common_steps}
-use Rattle.std.specs.List.{filter_map}
-use Rattle.rustc_parse_format.specs.Faults.{Message}
-use Rattle.rustc_parse_format.specs.Seen.{seen_error}
-use Rattle.rustc_parse_format.specs.World.{Place}
-use Rattle.drawn_faults.specs.Edits.{edit_of}
+use Rattle.std.proofs.Common.{◌∙◌, ◌+◌, ◌++◌, drop, map, ap, sym}
+use Rattle.std.proofs.lemmas.List.{at_drop_more}
+use Rattle.std.specs.List.{cons_option}
+use Rattle.rustc_parse_format.specs.SeenFaults.{seen_fault}
+use Rattle.drawn_faults.specs.Fixing.{fault_edits}
 use Rattle.drawn_faults.specs.SeenEdits.{with_edits}
 use Rattle.drawn_faults.proofs.FixLaws.{cons_option-more}
 use Rattle.drawn_faults.proofs.fixes.make_each.Goals as goal
 
-pub loop-error-preserved : goal.loop-error-preserved
-loop-error-preserved c = λ es.
-    let l = c.loop-error in
-    let m : Message Place = seen_error c.in-Some.error.now in
-    let left : List (Message Place) = reverse (map seen_error c.next.new.self.iter.rest.now) in
-    let r : reverse (map seen_error l.error-iterator.iter.rest.now) ≡ m ∷ left =
-    grind (arith, common_steps) in
-    c.in_ok-make.ensures (filter_map edit_of left ++ es)
-    ∙ ap (with_edits l.edited) (sym (cons_option-more (edit_of m) (filter_map edit_of left) es)
-    ∙ ap (λ ms. filter_map edit_of ms ++ es) (sym r)) ∙ l.invariant es
+pub loop-fault-preserved : goal.loop-fault-preserved
+loop-fault-preserved c = λ es.
+    let l = c.loop-fault in
+    let left = fault_edits (map seen_fault (drop (l.fault-index + 1) c.args.faults.now)) in
+    c.in_ok-make.ensures (left ++ es)
+    ∙ ap (λ o. with_edits l.edited (cons_option o (left ++ es))) c.in_ok-suggestion.ensures
+    ∙ ap (with_edits l.edited) (sym (cons_option-more _ left es))
+    ∙ sym (at_drop_more (λ fs. with_edits l.edited (fault_edits (map seen_fault fs) ++ es))
+    c.args.faults.now l.fault-index _ c.loop-fault-test.true)
+    ∙ l.invariant es

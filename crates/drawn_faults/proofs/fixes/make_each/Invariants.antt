@@ -1,13 +1,13 @@
-use Rattle.std.proofs.Common.{◌≡◌, ◌++◌, List, map, reverse}
-use Rattle.std.specs.List.{filter_map}
-use Rattle.rustc_parse_format.specs.Seen.{seen_error}
-use Rattle.drawn_faults.specs.Edits.{Edit, edit_of}
+use Rattle.std.proofs.Common.{◌≡◌, ◌++◌, List, drop, map}
+use Rattle.rustc_parse_format.specs.SeenFaults.{seen_fault}
+use Rattle.drawn_faults.specs.Edits.{Edit}
+use Rattle.drawn_faults.specs.Fixing.{fault_edits}
 use Rattle.drawn_faults.specs.SeenEdits.{with_edits}
 use Rattle.drawn_faults.proofs.fixes.make_each.Given as goal
 
--- With the edits of the errors that are left, and any others, the text becomes what it does with
+-- With the edits of the faults that are left, and any others, the text becomes what it does with
 -- those of all.
-abbrev pub invariant-loop-error : goal.invariant-loop-error
-invariant-loop-error l = (es : List Edit) → with_edits l.edited
-    (filter_map edit_of (reverse (map seen_error l.error-iterator.iter.rest.now)) ++ es)
-    ≡ with_edits l.fn.edited (filter_map edit_of (reverse (map seen_error l.errors)) ++ es)
+abbrev pub invariant-loop-fault : goal.invariant-loop-fault
+invariant-loop-fault l = (es : List Edit) → with_edits l.edited
+    (fault_edits (map seen_fault (drop l.fault-index l.faults)) ++ es)
+    ≡ with_edits l.fn.edited (fault_edits (map seen_fault l.faults) ++ es)

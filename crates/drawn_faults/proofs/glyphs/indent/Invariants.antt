@@ -1,15 +1,19 @@
 use Rattle.std.proofs.Common.{◌≡◌, ◌+◌, ◌*◌, ◌≤◌, chars, length}
 use denote.Text.{Utf8}
 use denote.Shadow.{shadow}
+use Rattle.rustc_parse_format.specs.Characters.{front}
 use Rattle.drawn_faults.specs.Glyphs.{indent}
+use Rattle.drawn_faults.specs.Places.{first_line}
+use Rattle.drawn_faults.proofs.LineLemmas.{goes_on}
 use Rattle.drawn_faults.proofs.glyphs.indent.Given as goal
 
--- The columns so far and the indent of what is left are the whole indent.
+-- The columns so far and the indent of what is left of the line are the whole indent.
 abbrev pub invariant-loop-c : goal.invariant-loop-c
 invariant-loop-c l = record {
   is_text : shadow (Utf8 l.rest);
-  whole : indent l.columns (chars l.rest) ≡ indent 0 (chars l.fn.line);
-  few : l.columns + 4 * length l.rest ≤ 4 * length l.fn.line;
+  whole : indent l.columns (front goes_on (chars l.rest))
+      ≡ indent 0 (chars (first_line l.fn.text));
+  few : l.columns + 4 * length l.rest ≤ 4 * length l.fn.text;
 }
 
 abbrev pub decreases-loop-c : goal.decreases-loop-c
