@@ -61,7 +61,8 @@ fn add_uses<'a>(
 }
 
 /// Appends the lines of the pieces of a parser up to the first call that returns `None`, and adds
-/// the arguments that they use to `used` if `compares` is set. Returns `Err` if an allocation fails.
+/// the arguments that they use to `used` if `compares` is set. Returns `Err` if an allocation
+/// fails.
 pub fn put_calls<'a>(
     out: &mut String,
     used: &mut Uses<'a>,

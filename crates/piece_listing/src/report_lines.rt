@@ -17,8 +17,8 @@ use super::numbers::put_number;
 use placeholder_check::{Report, Uses, check_uses};
 use std::alloc::{AllocError, Global};
 
-/// Returns the report on the arguments that are used if these are given, or a report without entries
-/// for `None`. Returns `Err` if an allocation fails.
+/// Returns the report on the arguments that are used if these are given, or a report without
+/// entries for `None`. Returns `Err` if an allocation fails.
 pub fn report_for<'a>(
     alloc: Global,
     used: &Uses<'a>,

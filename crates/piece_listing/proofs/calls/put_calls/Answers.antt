@@ -1,4 +1,5 @@
-use Rattle.std.proofs.Common.{◌≡◌, ◌∙◌, ◌++◌, [], ◌∷◌, ap, append-nil, append_assoc, flat_map, Option}
+use Rattle.std.proofs.Common.{◌≡◌, ◌∙◌, ◌++◌, [], ◌∷◌, ap, append-nil, append_assoc, flat_map}
+use Rattle.std.proofs.Common.{Option}
 use Rattle.std.proofs.Common.{List, Some, None, refl, subst, sym}
 use Rattle.std.specs.Prelude.{option_map, string_bytes}
 use Rattle.std.proofs.lemmas.Bool.{false≢true}
@@ -19,7 +20,8 @@ use Rattle.piece_listing.proofs.calls.put_calls.Goals as goal
 -- A function of each piece, with one piece more.
 one_more : {A : Type 0} (f : Piece Place → List A) (done : List (Piece Place)) (x : Piece Place)
     → flat_map f (done ++ x ∷ []) ≡ flat_map f done ++ f x
-one_more f done x = flat_map-append f done (x ∷ []) ∙ ap (λ l. flat_map f done ++ l) (append-nil (f x))
+one_more f done x =
+    flat_map-append f done (x ∷ []) ∙ ap (λ l. flat_map f done ++ l) (append-nil (f x))
 
 pub loop-taken-init : goal.loop-taken-init
 loop-taken-init c = record {
@@ -50,7 +52,8 @@ loop-taken-preserved c =
     ap (option_map seen) (sym c.in-Some.is) ∙ c.in_ok-taken.ensures.piece in
     record {
       done = done ++ x ∷ [];
-      world = ap (λ (u : State). u.world) c.in_ok-taken.ensures.state ∙ c.loop-taken.invariant.world;
+      world = ap (λ (u : State). u.world) c.in_ok-taken.ensures.state
+          ∙ c.loop-taken.invariant.world;
       pieces = pieces_more s new w x done _ c.loop-taken.invariant.world given
           c.in_ok-taken.ensures.state c.loop-taken.invariant.pieces;
       lines = c.in_ok-put_taken.ensures

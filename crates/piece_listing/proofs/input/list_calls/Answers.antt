@@ -1,5 +1,5 @@
 use Rattle.std.proofs.Common.{◌≡◌, ◌∙◌, ◌++◌, [], ap, flat_map, length, map, nat_lt, refl, rules}
-use Rattle.std.specs.Prelude.{◌||◌, IsTrue, string_bytes}
+use Rattle.std.specs.Prelude.{◌||◌, IsSome, IsTrue, string_bytes}
 use Rattle.rustc_parse_format.specs.Call.{pieces_of}
 use Rattle.rustc_parse_format.specs.Seen.{seen_error}
 use Rattle.rustc_parse_format.specs.State.{State, after_all, calls}
@@ -18,15 +18,16 @@ returns-clause-lines c =
     let errors : map seen_error c.errors.result.now ≡ es =
     c.errors.ensures ∙ ap (λ (u : State). u.errors) c.in_ok-put_calls.ensures.state in
     let front : string_bytes c.put_calls.new.out ≡ flat_map piece_line ps =
-    c.in_ok-put_calls.ensures.lines ∙ ap (λ l. l ++ flat_map piece_line ps) c.new-lines.ensures.bytes in
+    c.in_ok-put_calls.ensures.lines
+    ∙ ap (λ l. l ++ flat_map piece_line ps) c.new-lines.ensures.bytes in
     let lines : string_bytes c.put_told.new.lines ≡ listing ps es r =
     c.in_ok-told.ensures.lines
-    ∙ ap (λ l. l ++ (flat_map fault_line (map seen_error c.errors.result.now) ++ report_lines r)) front
+    ∙ ap (λ l. l ++ (flat_map fault_line (map seen_error c.errors.result.now)
+    ++ report_lines r)) front
     ∙ ap (λ ms. flat_map piece_line ps ++ (flat_map fault_line ms ++ report_lines r)) errors in
     let told : c.in_ok-told.told ≡ (nat_lt 0 (length es) || has_entries r) =
-    c.in_ok-told.ensures.told ∙ ap (λ ms. nat_lt 0 (length ms) || has_entries r) errors in (
-      r,
-      c.in_ok-report.ensures.report ps (λ some. let given : IsTrue c.is_some.result = search rules in
-          c.in_ok-put_calls.ensures.used given [] c.new-used.ensures.holds),
-      rw (lines, told) refl,
-    )
+    c.in_ok-told.ensures.told ∙ ap (λ ms. nat_lt 0 (length ms) || has_entries r) errors in
+    let held = λ (some : IsSome c.args.given).
+    let given : IsTrue c.is_some.result = search rules in
+    c.in_ok-put_calls.ensures.used given [] c.new-used.ensures.holds in
+    (r, c.in_ok-report.ensures.report ps held, rw (lines, told) refl)
