@@ -13,7 +13,6 @@ use Rattle.rustc_parse_format.specs.Faults.{Message}
 use Rattle.rustc_parse_format.specs.State.{after_all, calls, fresh}
 use Rattle.rustc_parse_format.specs.World.{Place, World}
 use Rattle.rustc_parse_format.specs.Seen.{seen_mode}
-use Rattle.placeholder_check.proofs.Empty.{no_items}
 use Rattle.piece_listing.specs.declared.given.Given.{Given as DeclaredGiven}
 use Rattle.piece_listing.specs.declared.task.Task.{Task as DeclaredTask}
 use Rattle.piece_listing.specs.declared.verdict.RunFault.{RunFault}
@@ -41,16 +40,6 @@ pub no_faults : (mode : Mode) (w : World) (start : ℕ) (text : List ℕ) → te
     → (after_all (fresh mode w (chars text) start) (calls (fresh mode w (chars text) start))).errors
     ≡ []
 no_faults mode w start text e = rw (chars-empty text e) (errors-nil mode w start)
-
-pub no_errors : {A : Type 0} (f : A → Message Place) (es : List A) (mode : Mode) (w : World)
-    (start : ℕ) (bs : List ℕ) → bs ≡ []
-    → map f es
-    ≡ (after_all (fresh mode w (chars bs) start) (calls (fresh mode w (chars bs) start))).errors
-    → es ≡ []
-no_errors f es mode w start bs e h =
-    no_items f es
-    (h ∙ ap (λ t. (after_all (fresh mode w t start) (calls (fresh mode w t start))).errors)
-    (chars-empty bs e) ∙ errors-nil mode w start)
 
 -- nor is it a literal
 pub empty-not_raw : (bs : List ℕ) → bs ≡ [] → (n : ℕ) (t : List ℕ) → chars bs ≡ raw_frame n t → ⊥

@@ -6,4 +6,5 @@ pub mod Counting
 pub mod LaneBits
 pub mod Texts
 pub mod Unchanged
+pub mod UnchangedLanes
 pub mod WordBytes

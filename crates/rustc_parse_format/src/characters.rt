@@ -12,7 +12,7 @@ ghost use Rattle.rustc_parse_format.specs.Characters.{first_passes, front};
 ghost use Rattle.rustc_parse_format.specs.Characters.{is_id_start, is_over, number, word};
 ghost use Rattle.rustc_parse_format.specs.Classes.{passes};
 
-use crate::blocks::calm_front;
+use crate::blocks::{calm_front, unchanged_front};
 
 /// A class of characters. The longest prefix of a text that is made of them can be read at once.
 #[derive(Clone, Copy)]
@@ -168,6 +168,7 @@ pub fn run_width(bytes: &[u8], class: Class) -> usize
         Class::Line => calm_front(bytes, 1, b'{', b'}', b'\n'),
         Class::Unescaped => calm_front(bytes, 1, b'\\', b'\\', b'\\'),
         Class::Plain => calm_front(bytes, 1, b'"', b'\\', b'\r'),
+        Class::Unchanged => unchanged_front(bytes),
         _ => 0,
     };
     for i in seen..bytes.len() {

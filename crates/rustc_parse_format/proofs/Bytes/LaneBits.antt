@@ -69,13 +69,13 @@ unequal xs ys = compared (λ a b. not (eqb a b)) xs ys
 abbrev pub equal : List ℕ → ℕ → List ℕ
 equal v b = compared eqb v (replicate 16 b)
 
-other : (v : List ℕ) (b k : ℕ) → length v ≡ 16 → k < 16 → IsClear (equal v b) k
+pub other : (v : List ℕ) (b k : ℕ) → length v ≡ 16 → k < 16 → IsClear (equal v b) k
     → eqb (get_or v k 0) b ≡ false
 other v b k n l clear =
     ap (eqb (get_or v k 0)) (sym (get_or-replicate 16 k b 0 l))
     ∙ clear-compared eqb v (replicate 16 b) k n (length-replicate 16 b) l clear
 
-long : (t : ℕ → ℕ → Bool) (xs ys : List ℕ) → length xs ≡ 16 → length ys ≡ 16
+pub long : (t : ℕ → ℕ → Bool) (xs ys : List ℕ) → length xs ≡ 16 → length ys ≡ 16
     → length (compared t xs ys) ≡ 16
 long t xs ys p q = length-zip2 (λ a b. cond (t a b) 255 0) xs ys (p ∙ sym q) ∙ p
 
