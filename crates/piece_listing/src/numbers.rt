@@ -52,8 +52,9 @@ fn write_span(row: &mut [u8; SPAN_BYTES], mark: char, start: usize, end: usize) 
     first
 }
 
-/// Appends a mark, which is an ASCII character, and then a span to `out`: its two offsets in decimal
-/// digits with `..` between them. Returns `Err` if an allocation fails, and `out` is then unchanged.
+/// Appends a mark, which is an ASCII character, and then a span to `out`: its two offsets in
+/// decimal digits with `..` between them. Returns `Err` if an allocation fails, and `out` is then
+/// unchanged.
 pub fn put_span(out: &mut String, mark: char, span: &Range<usize>) -> Result<(), AllocError>
     requires { mark < 128 }
     ensures ok { OnOk result (string_bytes out.new ≡ string_bytes out.old
