@@ -1,7 +1,8 @@
 //! How the tokens of a source are shown. What begins with `put_` appends to `out`, and returns
 //! `Err` if an allocation fails.
 
-ghost use Rattle.std.specs.Prelude.{◌≡◌, ◌++◌, OnOk, chars, false, map, option_map, string_bytes};
+ghost use Rattle.std.specs.Prelude.{◌≡◌, ◌++◌, ℕ, List, MatchOption, OnOk, chars, codes, false};
+ghost use Rattle.std.specs.Prelude.{map, string_bytes};
 ghost use Rattle.drawn_faults.specs.Places.{within};
 ghost use Rattle.format_tokens.specs.Seen.{seen_token};
 ghost use Rattle.format_lint.specs.Colours.{behind, colour, in_colour, kind_name};
@@ -42,33 +43,35 @@ fn kind_name(kind: Kind) -> &'static str
     }
 }
 
-/// Returns the colour of a kind, as a number of SGR, the escapes for a terminal, or `None` if it is
+/// Returns the escape of SGR that sets the colour of a kind on a terminal, or `None` if the kind is
 /// only text.
 #[tactic(auto, unfolding(crate::specs::Colours::colour))]
-fn colour(kind: Kind) -> Option<&'static str>
-    ensures { option_map (λ s. s.now) result ≡ colour kind }
+fn colour_escape(kind: Kind) -> Option<&'static str>
+    ensures { MatchOption result
+        ((u : List ℕ) → in_colour (colour kind) u ≡ u)
+        (λ s. (u : List ℕ) → in_colour (colour kind) u ≡ s.now ++ (u ++ codes "\u{1b}[0m")) }
 {
     match kind {
         Kind::Text | Kind::White | Kind::DiagnosticText | Kind::Quote => None,
-        Kind::Escape => Some("34"),
-        Kind::Open | Kind::Close | Kind::Colon | Kind::DollarSign | Kind::Dot => Some("35"),
-        Kind::Integer | Kind::Identifier | Kind::RawPrefix | Kind::Asterisk => Some("36"),
-        Kind::Fill | Kind::Align | Kind::Sign | Kind::NumberSign | Kind::Zero => Some("33"),
-        Kind::Type | Kind::Modifier => Some("32"),
-        Kind::Unexpected => Some("31"),
+        Kind::Escape => Some("\u{1b}[34m"),
+        Kind::Open | Kind::Close | Kind::Colon | Kind::DollarSign | Kind::Dot => Some("\u{1b}[35m"),
+        Kind::Integer | Kind::Identifier | Kind::RawPrefix | Kind::Asterisk => Some("\u{1b}[36m"),
+        Kind::Fill | Kind::Align | Kind::Sign | Kind::NumberSign | Kind::Zero => {
+            Some("\u{1b}[33m")
+        }
+        Kind::Type | Kind::Modifier => Some("\u{1b}[32m"),
+        Kind::Unexpected => Some("\u{1b}[31m"),
     }
 }
 
-/// Adds a text in a colour, if there is one.
-fn put_in_colour(out: &mut String, colour: Option<&str>, text: &str) -> Result<(), AllocError>
+/// Adds a text in the colour of a kind, if that has one.
+fn put_in_colour(out: &mut String, kind: Kind, text: &str) -> Result<(), AllocError>
     ensures { OnOk result (string_bytes out.new ≡ string_bytes out.old
-        ++ in_colour (option_map (λ s. s.now) colour.entry) text.now) }
+        ++ in_colour (colour kind) text.now) }
 {
-    match colour {
-        Some(number) => {
-            out.push_str("\u{1b}[")?;
-            out.push_str(number)?;
-            out.push('m')?;
+    match colour_escape(kind) {
+        Some(escape) => {
+            out.push_str(escape)?;
             out.push_str(text)?;
             out.push_str("\u{1b}[0m")?;
         }
@@ -96,7 +99,7 @@ fn put_token(out: &mut String, colours: bool, token: &Token, text: &str) -> Resu
         ++ shown_token colours (seen_token token.now) (chars text.now)) }
 {
     if colours {
-        put_in_colour(out, colour(token.kind), text)?;
+        put_in_colour(out, token.kind, text)?;
     } else {
         put_line(out, token, text)?;
     }

@@ -55,6 +55,7 @@ pub fn has_entries(report: &Report<'_>) -> bool
 }
 
 /// Adds a line for each number, which begins with `label`. Returns `Err` if an allocation fails.
+#[inline(always)]
 fn put_numbers(out: &mut String, label: &str, numbers: &[usize]) -> Result<(), AllocError>
     ensures lines { OnOk result (string_bytes out.new ≡ string_bytes out.old ++
         flat_map (index_line label.now) numbers.now) }

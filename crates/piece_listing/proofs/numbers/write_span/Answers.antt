@@ -21,5 +21,5 @@ returns-clause-written c =
 
 pub returns-clause-ascii : goal.returns-clause-ascii
 returns-clause-ascii c =
-    rw (returns-clause-written c)
-    (span-IsAscii _ _ _ c.requires c.ranges.start.fits c.ranges.end.fits)
+    let fits = c.ranges in
+    rw (returns-clause-written c) (span-IsAscii _ _ _ c.requires fits.start.fits fits.end.fits)
