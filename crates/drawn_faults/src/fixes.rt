@@ -138,16 +138,6 @@ fn make(edited: &mut Edited<'_>, suggestion: &Suggestion) -> Result<(), AllocErr
     Ok(())
 }
 
-/// Returns a flag with the type `?` after it. Returns `Err` if an allocation fails.
-fn flagged_type(alloc: Global, flag: char) -> Result<String, AllocError>
-    ensures { IfOk result (λ s. string_bytes s ≡ encode_utf8_all (flag ∷ codes "?")) }
-{
-    let mut text = String::with_capacity(alloc, 1 + flag.len_utf8())?;
-    text.push(flag)?;
-    text.push('?')?;
-    Ok(text)
-}
-
 /// Returns what the error of a fault suggests if that has an edit, or else `Suggestion::None`.
 /// Makes none of the error's other texts. Returns `Err` if an allocation fails.
 #[tactic(auto, unfolding(rustc_parse_format::specs::Faults::message))]
@@ -160,7 +150,7 @@ fn suggestion_of(alloc: Global, fault: &Fault<'_>) -> Result<Suggestion, AllocEr
             Ok(Suggestion::RemoveRawIdent(prefix.start..prefix.end))
         }
         Fault::LateFlag(flag, _, both) => {
-            let text = flagged_type(alloc, *flag)?;
+            let text = format!(in alloc; "{flag}?")?;
             Ok(Suggestion::ReorderFormatParameter(both.start..both.end, text))
         }
         Fault::MissingColon(span) => Ok(Suggestion::AddMissingColon(span.start..span.end)),

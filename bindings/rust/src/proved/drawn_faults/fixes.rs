@@ -125,16 +125,6 @@ fn make(edited: &mut Edited<'_>, suggestion: &Suggestion) -> Result<(), AllocErr
     Ok(())
 }
 
-/// Returns a flag with the type `?` after it. Returns `Err` if an allocation fails.
-// ensures { IfOk result (λ s. string_bytes s ≡ encode_utf8_all (flag ∷ codes "?")) }
-#[inline]
-fn flagged_type(alloc: Global, flag: char) -> Result<String, AllocError> {
-    let mut text = String::made_for(alloc, 1 + flag.len_utf8())?;
-    text.try_push(flag)?;
-    text.try_push('?')?;
-    Ok(text)
-}
-
 /// Returns what the error of a fault suggests if that has an edit, or else `Suggestion::None`.
 /// Makes none of the error's other texts. Returns `Err` if an allocation fails.
 // ensures { IfOk result (λ s. suggested (seen_suggestion s)
@@ -144,7 +134,7 @@ fn suggestion_of(alloc: Global, fault: &Fault<'_>) -> Result<Suggestion, AllocEr
     match fault {
         Fault::RawIdentifier(_, prefix) => Ok(Suggestion::RemoveRawIdent(prefix.start..prefix.end)),
         Fault::LateFlag(flag, _, both) => {
-            let text = flagged_type(alloc, *flag)?;
+            let text = crate::shim::format_in!( alloc; "{flag}?")?;
             Ok(Suggestion::ReorderFormatParameter(
                 both.start..both.end,
                 text,

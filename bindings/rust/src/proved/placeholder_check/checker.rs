@@ -6,7 +6,7 @@
 
 use crate::proved::placeholder_check::indices::{lacked_below, members_from};
 use crate::proved::placeholder_check::names::{lacked_by, names_of};
-use crate::proved::placeholder_check::uses::uses_of;
+use crate::proved::placeholder_check::uses::{uses_of, Uses};
 use crate::proved::rustc_parse_format::Piece;
 use crate::shim::alloc::{AllocError, Global};
 
@@ -20,6 +20,34 @@ pub struct Report<'a> {
     pub unused_index: Vec<usize>,
     /// The names that are given and not used, in the order in which they are first given.
     pub unused_name: Vec<&'a str>,
+}
+
+/// Compares the arguments that are used with those that are given, as [`check`] does with those
+/// that pieces use. Returns `Err` if an allocation fails; there is then no report.
+// ensures report { IfOk result (λ r. (us : List Use) → Holds us used.now
+//     → IsReport us positional (texts names.now) (seen_report r)) }
+// If there are no uses and no arguments, the call succeeds even if every allocation fails.
+// ensures empty { IsNew used.now → positional ≡ 0 → names.now ≡ [] → IsOk result }
+#[inline]
+pub fn check_uses<'a>(
+    alloc: Global,
+    used: &Uses<'a>,
+    positional: usize,
+    names: &[&'a str],
+) -> Result<Report<'a>, AllocError> {
+    let missing_index = members_from(alloc, &used.indices, positional)?;
+    let used_below = used.indices.count.saturating_sub(missing_index.len());
+    let room = positional.saturating_sub(used_below);
+    let unused_index = lacked_below(alloc, &used.indices, positional, room)?;
+    let given = names_of(alloc, names)?;
+    let missing_name = lacked_by(alloc, &used.names.list, &given)?;
+    let unused_name = lacked_by(alloc, &given.list, &used.names)?;
+    Ok(Report {
+        missing_index,
+        missing_name,
+        unused_index,
+        unused_name,
+    })
 }
 
 /// Compares the arguments that the pieces use with those that are given: `positional` many by
@@ -44,17 +72,6 @@ pub fn check<'a>(
     names: &[&'a str],
 ) -> Result<Report<'a>, AllocError> {
     let used = uses_of(alloc, pieces)?;
-    let missing_index = members_from(alloc, &used.indices, positional)?;
-    let used_below = used.indices.count.saturating_sub(missing_index.len());
-    let room = positional.saturating_sub(used_below);
-    let unused_index = lacked_below(alloc, &used.indices, positional, room)?;
-    let given = names_of(alloc, names)?;
-    let missing_name = lacked_by(alloc, &used.names.list, &given)?;
-    let unused_name = lacked_by(alloc, &given.list, &used.names)?;
-    Ok(Report {
-        missing_index,
-        missing_name,
-        unused_index,
-        unused_name,
-    })
+    let report = check_uses(alloc, &used, positional, names)?;
+    Ok(report)
 }

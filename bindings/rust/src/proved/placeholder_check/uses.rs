@@ -9,12 +9,25 @@ use crate::proved::placeholder_check::names::{insert_name, no_names, Names};
 use crate::proved::rustc_parse_format::{Argument, Count, Piece, Position};
 use crate::shim::alloc::{AllocError, Global};
 
-/// The arguments that pieces use.
+/// The arguments that placeholders use, each index and each name once.
 pub struct Uses<'a> {
     /// The indices that are used.
-    pub indices: Indices,
+    pub(crate) indices: Indices,
     /// The names that are used.
-    pub names: Names<'a>,
+    pub(crate) names: Names<'a>,
+}
+
+impl<'a> Uses<'a> {
+    /// Returns no uses. Does not allocate.
+    // ensures holds { Holds [] result }
+    // ensures none { IsNew result }
+    #[inline]
+    pub fn new(alloc: Global) -> Uses<'a> {
+        Uses {
+            indices: no_indices(alloc),
+            names: no_names(alloc),
+        }
+    }
 }
 
 /// Adds a use of an index. Returns `Err` if an allocation fails.
@@ -79,15 +92,10 @@ fn add_piece<'a>(uses: &mut Uses<'a>, piece: &Piece<'a>) -> Result<(), AllocErro
 
 /// Returns the arguments that pieces use. Returns `Err` if an allocation fails.
 // ensures uses { IfOk result (λ u. Holds (uses (map seen pieces.now)) u) }
-// ensures empty { pieces.now ≡ []
-//     → IfOk result (λ u. (u.indices.marks.items ≡ []) × (u.indices.others.keys ≡ [])
-//     × (u.indices.count ≡ 0) × (u.names.list.items ≡ [])) × IsOk result }
+// ensures empty { pieces.now ≡ [] → IfOk result (λ u. IsNew u) × IsOk result }
 #[inline]
 pub fn uses_of<'a>(alloc: Global, pieces: &[Piece<'a>]) -> Result<Uses<'a>, AllocError> {
-    let mut uses = Uses {
-        indices: no_indices(alloc),
-        names: no_names(alloc),
-    };
+    let mut uses = Uses::new(alloc);
     for piece in pieces {
         add_piece(&mut uses, piece)?;
     }

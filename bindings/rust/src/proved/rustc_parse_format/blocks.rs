@@ -50,6 +50,20 @@ fn plain_lanes(lanes: u8x16, others: u8x16) -> usize {
     clear_lanes(found.to_bitmask())
 }
 
+/// Returns the number of lanes before the first one that a quoted text does not have as it is, or
+/// 16 if there is none.
+// ensures within { result ≤ 16 }
+// ensures pass { (k : ℕ) → k < result → is_unchanged (slice_index lanes k) ≡ true }
+#[inline(always)]
+fn unchanged_lanes(lanes: u8x16) -> usize {
+    let found = lanes.simd_lt(u8x16::splat(b' '))
+        | lanes.simd_eq(u8x16::splat(127))
+        | lanes.simd_eq(u8x16::splat(b'"'))
+        | lanes.simd_eq(u8x16::splat(b'\''))
+        | lanes.simd_eq(u8x16::splat(b'\\'));
+    clear_lanes(found.to_bitmask())
+}
+
 /// Returns whether the byte is `a`, `b` or `c`.
 #[inline(always)]
 fn is_one_of(byte: u8, a: u8, b: u8, c: u8) -> bool {
@@ -77,6 +91,27 @@ pub fn calm_front(bytes: &[u8], probe: usize, a: u8, b: u8, c: u8) -> usize {
         at += 16;
     }
     last + calm_lanes(u8x16::from_slice(&bytes[last..]), a, b, c)
+}
+
+/// Returns the length of the longest prefix that a quoted text has as it is. Returns 0 without
+/// examining a block if there are fewer than 16 bytes.
+// ensures within { result ≤ length bytes.now }
+// ensures pass { list_all is_unchanged (take result bytes.now) ≡ true }
+#[inline(always)]
+pub fn unchanged_front(bytes: &[u8]) -> usize {
+    if bytes.len() < 16 {
+        return 0;
+    }
+    let last = bytes.len() - 16;
+    let mut at = 0;
+    while at < last {
+        let run = unchanged_lanes(u8x16::from_slice(&bytes[at..]));
+        if run < 16 {
+            return at + run;
+        }
+        at += 16;
+    }
+    last + unchanged_lanes(u8x16::from_slice(&bytes[last..]))
 }
 
 /// Returns the length of the longest prefix that both have and that is without quotes, backslashes

@@ -5,7 +5,7 @@
 // That source is proved, and each contract here is its. That this text means the same is tested:
 // by results from outside, and beside what is proved (.ci/bindings) and the original (tools/agree).
 
-use crate::proved::rustc_parse_format::blocks::calm_front;
+use crate::proved::rustc_parse_format::blocks::{calm_front, unchanged_front};
 
 /// A class of characters. The longest prefix of a text that is made of them can be read at once.
 #[derive(Clone, Copy)]
@@ -145,6 +145,7 @@ pub fn run_width(bytes: &[u8], class: Class) -> usize {
         Class::Line => calm_front(bytes, 1, b'{', b'}', b'\n'),
         Class::Unescaped => calm_front(bytes, 1, b'\\', b'\\', b'\\'),
         Class::Plain => calm_front(bytes, 1, b'"', b'\\', b'\r'),
+        Class::Unchanged => unchanged_front(bytes),
         _ => 0,
     };
     for i in seen..bytes.len() {
