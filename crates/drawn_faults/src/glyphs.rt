@@ -180,8 +180,6 @@ pub fn put_glyphs(out: &mut String, text: &str, skipped: usize) -> Result<(), Al
     ensures { OnOk result (string_bytes out.new ≡ string_bytes out.old ++
         encode_utf8_all (drop skipped (glyphs (chars text.now)))) }
 {
-    // each byte that is not skipped is drawn as one or more, but for those of zero-width joiners
-    out.reserve(text.len().saturating_sub(skipped))?;
     let mut rest = text;
     let mut skip = skipped;
     while let Some((c, tail)) = split_first(rest) {

@@ -379,8 +379,8 @@ fn put_bare_argument(argument: &Argument<'_>, text: Extent, step: &mut Step)
 }
 
 /// Writes an argument into its step, and adds its specification unless that is the default one.
-/// The byte ranges of its texts in the input are its spans, less an offset; those of the default
-/// specification are not computed.
+/// The byte ranges of its texts in the input, if it has any, are their spans, less an offset; those
+/// of the default specification are not computed.
 #[inline(always)]
 pub fn put_plain_argument(
     argument: &Argument<'_>,

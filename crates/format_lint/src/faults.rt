@@ -40,7 +40,7 @@ pub struct Faults<'a> {
 
 /// Adds a fault where its error comes: before all others or after them. Returns `Err` if an
 /// allocation fails.
-fn put<'a>(faults: &mut Vec<Fault<'a>>, fault: Fault<'a>) -> Result<(), AllocError>
+fn insert<'a>(faults: &mut Vec<Fault<'a>>, fault: Fault<'a>) -> Result<(), AllocError>
     ensures errors { OnOk result (errors_of faults.new.items
         ≡ add_errors (errors_of faults.old.items) (seen_fault fault.entry ∷ [])) }
     ensures count { OnOk result (length faults.new.items ≡ length faults.old.items + 1) }
@@ -65,7 +65,7 @@ impl<'a> Faults<'a> {
         ensures count { OnOk result (self.new.others + length self.new.first.items
             ≡ self.old.others + (length self.old.first.items + 1)) }
     {
-        put(&mut self.first, fault)?;
+        insert(&mut self.first, fault)?;
         let count = self.first.len();
         self.first.truncate(MOST_DRAWN);
         let Some(others) = self.others.checked_add(count - self.first.len()) else {

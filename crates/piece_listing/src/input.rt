@@ -32,7 +32,7 @@ use std::alloc::{AllocError, Global};
 
 /// Appends the lines of errors and of a report. Returns whether there are any, and `Err` if an
 /// allocation fails.
-fn put_told(
+fn put_ends(
     lines: &mut String,
     errors: &[ParseError],
     report: &Report<'_>,
@@ -71,7 +71,7 @@ fn list_calls<'a>(
     let mut used = Uses::new(alloc);
     put_calls(&mut lines, &mut used, given.is_some(), parser)?;
     let report = report_for(alloc, &used, given)?;
-    let told = put_told(&mut lines, parser.errors(), &report)?;
+    let told = put_ends(&mut lines, parser.errors(), &report)?;
     Ok((lines, told))
 }
 

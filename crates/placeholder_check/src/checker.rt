@@ -36,6 +36,9 @@ pub fn check_uses<'a>(
 ) -> Result<Report<'a>, AllocError>
     ensures report { IfOk result (λ r. (us : List Use) → Holds us used.now
         → IsReport us positional (texts names.now) (seen_report r)) }
+    // No other report satisfies this.
+    ensures only { IfOk result (λ r. (us : List Use) → Holds us used.now → (s : ReportOf)
+        → IsReport us positional (texts names.now) s → s ≡ seen_report r) }
     // If there are no uses and no arguments, the call succeeds even if every allocation fails.
     ensures empty { IsNew used.now → positional ≡ 0 → names.now ≡ [] → IsOk result }
 {

@@ -26,7 +26,7 @@ impl<'a> Uses<'a> {
     ghost use Rattle.placeholder_check.specs.Uses.{Use, argument_uses};
     ghost use Rattle.placeholder_check.specs.Noted.{Holds, IsNew};
 
-    /// Returns no uses. Does not allocate.
+    /// Returns an empty collection. Does not allocate.
     pub fn new(alloc: Global) -> Uses<'a>
         ensures holds { Holds [] result }
         ensures none { IsNew result }
@@ -38,7 +38,7 @@ impl<'a> Uses<'a> {
     }
 
     /// Adds the arguments that a placeholder uses: by its position, its width and its precision, in
-    /// this order. Returns `Err` if an allocation fails; some of them may then have been added.
+    /// this order. Returns `Err` if an allocation fails; the first of them may then be added.
     pub fn add(&mut self, argument: &Argument<'a>) -> Result<(), AllocError>
         ensures { OnOk result ((us : List Use) → Holds us self.old
             → Holds (us ++ argument_uses (seen_argument argument.now)) self.new) }

@@ -104,11 +104,14 @@ fn put_char(text: &mut String, c: char) -> Result<(), AllocError>
     Ok(())
 }
 
+/// The most bytes that a text gets room for before any of it is read.
+const FIRST_ROOM: usize = 4096;
+
 /// Gives back the room that a text does not need, if it needs less than half of it.
-fn shrink(text: &mut String, room: usize)
+fn shrink(text: &mut String)
     ensures { string_bytes text.new ≡ string_bytes text.old }
 {
-    if text.len() < room / 2 {
+    if text.len() < text.capacity() / 2 {
         text.shrink_to_fit();
     }
 }
@@ -125,8 +128,8 @@ pub fn content_text(alloc: Global, content: &str) -> Result<Option<String>, Allo
     ensures none { IfOk result (λ o. IfNone o (IsNoContent (chars content.now))) }
     ensures empty { content.now ≡ [] → IsOk result }
 {
-    // no unit is shorter than what it stands for
-    let mut text = String::with_capacity(alloc, content.len())?;
+    // no unit is shorter than what it stands for; a longer content may be refused at its start
+    let mut text = String::with_capacity(alloc, content.len().min(FIRST_ROOM))?;
     let mut rest = Rest::new(content);
     put_plain(&mut text, &mut rest)?;
     while !rest.is_empty() {
@@ -138,7 +141,7 @@ pub fn content_text(alloc: Global, content: &str) -> Result<Option<String>, Allo
         }
         put_plain(&mut text, &mut rest)?;
     }
-    shrink(&mut text, content.len());
+    shrink(&mut text);
     Ok(Some(text))
 }
 

@@ -20,7 +20,7 @@ returns-clause-lines c =
     let front : string_bytes c.put_calls.new.out ≡ flat_map piece_line ps =
     c.in_ok-put_calls.ensures.lines
     ∙ ap (λ l. l ++ flat_map piece_line ps) c.new-lines.ensures.bytes in
-    let lines : string_bytes c.put_told.new.lines ≡ listing ps es r =
+    let lines : string_bytes c.put_ends.new.lines ≡ listing ps es r =
     c.in_ok-told.ensures.lines
     ∙ ap (λ l. l ++ (flat_map fault_line (map seen_error c.errors.result.now)
     ++ report_lines r)) front

@@ -1,4 +1,5 @@
 use Rattle.placeholder_check.proofs.Reports.{reported}
+use Rattle.placeholder_check.proofs.Unique.{one-report}
 use Rattle.placeholder_check.proofs.checker.check_uses.Goals as goal
 
 pub returns-clause-report : goal.returns-clause-report
@@ -8,3 +9,6 @@ returns-clause-report c us held =
     c.in_ok-missing_index.ensures.members c.in_ok-unused_index.ensures.lacked
     (rw c.deref.ensures.value at c.in_ok-missing_name.ensures.lacked)
     (rw c.deref-2.ensures.value at c.in_ok-unused_name.ensures.lacked)
+
+pub returns-clause-only : goal.returns-clause-only
+returns-clause-only c us held s h = one-report _ _ _ s _ h (returns-clause-report c us held)
