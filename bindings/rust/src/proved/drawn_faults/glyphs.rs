@@ -175,8 +175,6 @@ fn put_plain<'a>(
 //     encode_utf8_all (drop skipped (glyphs (chars text.now)))) }
 #[inline]
 pub fn put_glyphs(out: &mut String, text: &str, skipped: usize) -> Result<(), AllocError> {
-    // each byte that is not skipped is drawn as one or more, but for those of zero-width joiners
-    out.try_reserve_more(text.len().saturating_sub(skipped))?;
     let mut rest = text;
     let mut skip = skipped;
     while let Some((c, tail)) = split_first(rest) {

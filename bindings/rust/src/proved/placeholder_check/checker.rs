@@ -26,6 +26,9 @@ pub struct Report<'a> {
 /// that pieces use. Returns `Err` if an allocation fails; there is then no report.
 // ensures report { IfOk result (λ r. (us : List Use) → Holds us used.now
 //     → IsReport us positional (texts names.now) (seen_report r)) }
+// No other report satisfies this.
+// ensures only { IfOk result (λ r. (us : List Use) → Holds us used.now → (s : ReportOf)
+//     → IsReport us positional (texts names.now) s → s ≡ seen_report r) }
 // If there are no uses and no arguments, the call succeeds even if every allocation fails.
 // ensures empty { IsNew used.now → positional ≡ 0 → names.now ≡ [] → IsOk result }
 #[inline]

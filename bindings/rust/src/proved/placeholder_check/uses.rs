@@ -18,7 +18,7 @@ pub struct Uses<'a> {
 }
 
 impl<'a> Uses<'a> {
-    /// Returns no uses. Does not allocate.
+    /// Returns an empty collection. Does not allocate.
     // ensures holds { Holds [] result }
     // ensures none { IsNew result }
     #[inline]

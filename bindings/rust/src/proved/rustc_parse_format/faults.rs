@@ -50,8 +50,8 @@ pub enum Fault<'input> {
 }
 
 impl Fault<'_> {
-    /// Returns whether the error of the fault is added at the front of the list of errors, not at
-    /// the back.
+    /// Returns whether the error of the fault comes before all earlier errors of a parser, and not
+    /// after them.
     // ensures { result ≡ is_front (seen_fault self.now) }
     #[inline]
     pub fn is_front(&self) -> bool {
