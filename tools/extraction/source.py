@@ -2,7 +2,7 @@
 from extraction.tokens import TRIVIA, Refused, closing, tokens_of
 
 KINDS = ("fn", "struct", "enum", "impl", "mod", "use", "const", "type", "ghost")
-TRAITS = ("FusedIterator", "Iterator", "Model")
+TRAITS = ("Default", "FusedIterator", "Iterator", "Model")
 
 
 class Item:
@@ -129,14 +129,18 @@ class Source:
         return at
 
     def parameters(self, at, refused):
-        """What comes after parameters in angles, if there are any; only lifetimes may be among
-        them."""
+        """What comes after parameters in angles, if there are any; only lifetimes and types of
+        closures that change nothing, as `F: Fn(usize) -> usize`, may be among them."""
         if self.text(at) != "<":
             return at
         while self.text(at) != ">":
             at = self.next(at)
-            if self.is_word(at):
+            if not self.is_word(at):
+                continue
+            if [self.text(self.next(at, n)) for n in (1, 2, 3)] != [":", "Fn", "("]:
                 self.refuse(at, refused)
+            # behind the arrow is the type of the result
+            at = self.next(self.close(self.next(at, 3)), 2)
         return self.next(at)
 
     def impl(self, item):

@@ -13,7 +13,7 @@
 use crate::listing::{put_error, put_line, put_range};
 use crate::names::names;
 use crate::{Row, read, start};
-use rustc_parse_format::{Argument, FormatSpec, ParseError, Parser, Piece, Position, Taken};
+use rustc_parse_format::{Argument, ParseError, Parser, Piece, Taken};
 use std::alloc::{AllocError, Global};
 use std::ops::Range;
 
@@ -96,22 +96,13 @@ fn put_pieces(out: &mut String, parser: &mut Parser<'_>) -> Result<(), AllocErro
     Ok(())
 }
 
-/// An argument before anything is read into it.
-fn blank_argument<'a>() -> Argument<'a> {
-    Argument {
-        position: Position::ArgumentImplicitlyIs(0),
-        position_span: 0..0,
-        format: FormatSpec::default(),
-    }
-}
-
 /// Adds the piece that the next call reads into an argument, and how many errors it puts in front.
 fn put_next_into(
     alloc: Global,
     out: &mut String,
     parser: &mut Parser<'_>,
 ) -> Result<(), AllocError> {
-    let mut argument = blank_argument();
+    let mut argument = Argument::default();
     let (taken, fronts) = parser.next_into(&mut argument)?;
     let piece = match taken {
         Some(Taken::Lit(text)) => Some(Piece::Lit(text)),
@@ -124,7 +115,7 @@ fn put_next_into(
 
 /// Adds how many errors the next call puts in front of how many.
 fn put_fronts(out: &mut String, parser: &mut Parser<'_>) -> Result<(), AllocError> {
-    let mut argument = blank_argument();
+    let mut argument = Argument::default();
     let (_, fronts) = parser.next_into(&mut argument)?;
     let errors = parser.errors().len();
     write!(out, "{fronts} of {errors}")

@@ -38,3 +38,7 @@ is_none_of a b c x = not ((x == a || x == b) || x == c)
 -- The byte is an ASCII character that can continue a word: a letter, a digit or `_`.
 abbrev pub is_word_byte : ℕ → Bool
 is_word_byte b = is_ascii_alphanumeric b || (b == code "_")
+
+-- What passes of the first n items, as a test of n, passes of fewer of them too.
+abbrev pub IsOfFronts : (ℕ → Bool) → Type 0
+IsOfFronts p = (m n : ℕ) → m ≤ n → p n ≡ true → p m ≡ true

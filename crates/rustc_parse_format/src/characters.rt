@@ -2,9 +2,10 @@
 //! this module, `source` and `cursor` work with bytes and UTF-8.
 
 ghost use Rattle.std.specs.Char.{digit_value, is_ascii_alphabetic, is_ascii_digit, is_whitespace};
-ghost use Rattle.std.specs.Prelude.{◌%◌, ◌*◌, ◌++◌, ◌+◌, ◌<◌, ◌≡◌, bytes_eq, chars, codes};
+ghost use Rattle.std.specs.List.{list_all};
+ghost use Rattle.std.specs.Prelude.{◌%◌, ◌*◌, ◌++◌, ◌+◌, ◌<◌, ◌≤◌, ◌≡◌, bytes_eq, chars, codes};
 ghost use Rattle.std.specs.Prelude.{IfSome, IsFalse, IsNone, IsTrue, length, List, Some, false};
-ghost use Rattle.std.specs.Prelude.{nat_lt, slice_index, true, ℕ, ◌↔◌};
+ghost use Rattle.std.specs.Prelude.{nat_lt, slice_index, take, true, ℕ, ◌↔◌};
 ghost use Rattle.rustc_parse_format.specs.Bytes.{IsFront, IsLeft, IsOfAscii, is_word_byte};
 ghost use Rattle.rustc_parse_format.specs.Characters.{Text, begins_with, behind, behind_digits};
 ghost use Rattle.rustc_parse_format.specs.Characters.{behind_first, behind_word, digits, first};
@@ -154,6 +155,24 @@ pub fn begins_white(text: &str) -> bool
     first(text).is_some_and(|c| c.is_whitespace())
 }
 
+/// Returns how many bytes are in the class, as found by blocks of sixteen, before the first one that
+/// is not. Returns 0 for a class that has no blocks. There are sixteen bytes or more.
+#[inline(always)]
+fn front_by_blocks(bytes: &[u8], class: Class) -> usize
+    requires { 16 ≤ length bytes.now }
+    ensures within { result ≤ length bytes.now }
+    ensures pass { list_all (passes class) (take result bytes.now) ≡ true }
+{
+    match class {
+        Class::Text => calm_front(bytes, b'{', b'}', b'}'),
+        Class::Line => calm_front(bytes, b'{', b'}', b'\n'),
+        Class::Unescaped => calm_front(bytes, b'\\', b'\\', b'\\'),
+        Class::Plain => calm_front(bytes, b'"', b'\\', b'\r'),
+        Class::Unchanged => unchanged_front(bytes),
+        _ => 0,
+    }
+}
+
 /// Returns the number of bytes before the first one that, taken as a character, is not in the
 /// class.
 #[inline(always)]
@@ -163,13 +182,11 @@ pub fn run_width(bytes: &[u8], class: Class) -> usize
     if bytes.is_empty() || !class.passes(bytes[0] as char) {
         return 0;
     }
-    let seen = match class {
-        Class::Text => calm_front(bytes, 1, b'{', b'}', b'}'),
-        Class::Line => calm_front(bytes, 1, b'{', b'}', b'\n'),
-        Class::Unescaped => calm_front(bytes, 1, b'\\', b'\\', b'\\'),
-        Class::Plain => calm_front(bytes, 1, b'"', b'\\', b'\r'),
-        Class::Unchanged => unchanged_front(bytes),
-        _ => 0,
+    let seen = if bytes.len() < 16 || !class.passes(bytes[1] as char) {
+        // a prefix of one byte is not worth a block
+        0
+    } else {
+        front_by_blocks(bytes, class)
     };
     for i in seen..bytes.len() {
         if !class.passes(bytes[i] as char) {

@@ -1,6 +1,5 @@
-//! Prefixes of bytes, found sixteen bytes at a time. The last block ends where the bytes end, so it
-//! may overlap the one before it. If there are fewer bytes than a block has, the callers examine
-//! each byte. The kit's crate memchr is slower up to some twenty bytes, faster from some thousands
+//! Prefixes of bytes, found sixteen bytes at a time. If there are fewer bytes than a block has, the
+//! callers examine each byte. The kit's crate memchr is slower up to some twenty bytes, faster from some thousands
 //! on, and does not compare two texts.
 
 // Extracted from crates/rustc_parse_format/src/blocks.rt by tools/extract: not to be edited.
@@ -64,54 +63,59 @@ fn unchanged_lanes(lanes: u8x16) -> usize {
     clear_lanes(found.to_bitmask())
 }
 
-/// Returns whether the byte is `a`, `b` or `c`.
+/// Returns the length of a prefix of both texts that is found sixteen bytes at a time: `front`
+/// returns how many lanes of a block of each the prefix goes on with. The last block ends where the
+/// shorter text ends, so it may overlap the one before it. Both have sixteen bytes or more.
+// requires callable { F.IsAlwaysCallable front }
+// requires long { (16 ≤ length bytes.now) × (16 ≤ length others.now) }
+// requires few { (v w : _) (n : ℕ) → F.post front v w n → n ≤ 16 }
+// ensures within { (result ≤ length bytes.now) × (result ≤ length others.now) }
+// ensures pass { (p : ℕ → Bool) → IsOfFronts p → p 0 ≡ true
+//     → ((at n : ℕ) → at + 16 ≤ length bytes.now → at + 16 ≤ length others.now → p at ≡ true
+//     → F.post front (chunk at 16 bytes.now) (chunk at 16 others.now) n → p (at + n) ≡ true)
+//     → p result ≡ true }
 #[inline(always)]
-fn is_one_of(byte: u8, a: u8, b: u8, c: u8) -> bool {
-    byte == a || byte == b || byte == c
-}
-
-/// Returns the length of the longest prefix without the bytes `a`, `b` and `c`. Returns 0 without
-/// examining a block if there are fewer than 16 bytes, or if the byte at the index `probe` is one
-/// of the three, because the prefix is then too short to be worth a block.
-// requires { probe < 16 }
-// ensures within { result ≤ length bytes.now }
-// ensures pass { list_all (is_none_of a b c) (take result bytes.now) ≡ true }
-#[inline(always)]
-pub fn calm_front(bytes: &[u8], probe: usize, a: u8, b: u8, c: u8) -> usize {
-    if bytes.len() < 16 || is_one_of(bytes[probe], a, b, c) {
-        return 0;
-    }
-    let last = bytes.len() - 16;
+pub fn front_by_blocks<F: Fn(u8x16, u8x16) -> usize>(
+    bytes: &[u8],
+    others: &[u8],
+    front: F,
+) -> usize {
+    let last = bytes.len().min(others.len()) - 16;
     let mut at = 0;
     while at < last {
-        let calm = calm_lanes(u8x16::from_slice(&bytes[at..]), a, b, c);
-        if calm < 16 {
-            return at + calm;
+        let more = front(
+            u8x16::from_slice(&bytes[at..]),
+            u8x16::from_slice(&others[at..]),
+        );
+        if more < 16 {
+            return at + more;
         }
         at += 16;
     }
-    last + calm_lanes(u8x16::from_slice(&bytes[last..]), a, b, c)
+    last + front(
+        u8x16::from_slice(&bytes[last..]),
+        u8x16::from_slice(&others[last..]),
+    )
 }
 
-/// Returns the length of the longest prefix that a quoted text has as it is. Returns 0 without
-/// examining a block if there are fewer than 16 bytes.
+/// Returns the length of the longest prefix without the bytes `a`, `b` and `c`. There are sixteen
+/// bytes or more.
+// requires { 16 ≤ length bytes.now }
+// ensures within { result ≤ length bytes.now }
+// ensures pass { list_all (is_none_of a b c) (take result bytes.now) ≡ true }
+#[inline(always)]
+pub fn calm_front(bytes: &[u8], a: u8, b: u8, c: u8) -> usize {
+    front_by_blocks(bytes, bytes, |lanes, _| calm_lanes(lanes, a, b, c))
+}
+
+/// Returns the length of the longest prefix that a quoted text has as it is. There are sixteen
+/// bytes or more.
+// requires { 16 ≤ length bytes.now }
 // ensures within { result ≤ length bytes.now }
 // ensures pass { list_all is_unchanged (take result bytes.now) ≡ true }
 #[inline(always)]
 pub fn unchanged_front(bytes: &[u8]) -> usize {
-    if bytes.len() < 16 {
-        return 0;
-    }
-    let last = bytes.len() - 16;
-    let mut at = 0;
-    while at < last {
-        let run = unchanged_lanes(u8x16::from_slice(&bytes[at..]));
-        if run < 16 {
-            return at + run;
-        }
-        at += 16;
-    }
-    last + unchanged_lanes(u8x16::from_slice(&bytes[last..]))
+    front_by_blocks(bytes, bytes, |lanes, _| unchanged_lanes(lanes))
 }
 
 /// Returns the length of the longest prefix that both have and that is without quotes, backslashes
@@ -120,24 +124,8 @@ pub fn unchanged_front(bytes: &[u8]) -> usize {
 // ensures { IsSharedFront is_plain bytes.now others.now result }
 #[inline(always)]
 pub fn plain_front(bytes: &[u8], others: &[u8]) -> usize {
-    let most = bytes.len().min(others.len());
-    if most < 16 || bytes[0] != others[0] {
+    if bytes.len().min(others.len()) < 16 || bytes[0] != others[0] {
         return 0;
     }
-    let last = most - 16;
-    let mut at = 0;
-    while at < last {
-        let plain = plain_lanes(
-            u8x16::from_slice(&bytes[at..]),
-            u8x16::from_slice(&others[at..]),
-        );
-        if plain < 16 {
-            return at + plain;
-        }
-        at += 16;
-    }
-    last + plain_lanes(
-        u8x16::from_slice(&bytes[last..]),
-        u8x16::from_slice(&others[last..]),
-    )
+    front_by_blocks(bytes, others, |lanes, others| plain_lanes(lanes, others))
 }

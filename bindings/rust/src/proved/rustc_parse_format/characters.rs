@@ -132,6 +132,23 @@ pub fn begins_white(text: &str) -> bool {
     first(text).map_or(false, |c| c.is_whitespace())
 }
 
+/// Returns how many bytes are in the class, as found by blocks of sixteen, before the first one that
+/// is not. Returns 0 for a class that has no blocks. There are sixteen bytes or more.
+// requires { 16 ≤ length bytes.now }
+// ensures within { result ≤ length bytes.now }
+// ensures pass { list_all (passes class) (take result bytes.now) ≡ true }
+#[inline(always)]
+fn front_by_blocks(bytes: &[u8], class: Class) -> usize {
+    match class {
+        Class::Text => calm_front(bytes, b'{', b'}', b'}'),
+        Class::Line => calm_front(bytes, b'{', b'}', b'\n'),
+        Class::Unescaped => calm_front(bytes, b'\\', b'\\', b'\\'),
+        Class::Plain => calm_front(bytes, b'"', b'\\', b'\r'),
+        Class::Unchanged => unchanged_front(bytes),
+        _ => 0,
+    }
+}
+
 /// Returns the number of bytes before the first one that, taken as a character, is not in the
 /// class.
 // ensures { IsFront (passes class) bytes.now result }
@@ -140,13 +157,11 @@ pub fn run_width(bytes: &[u8], class: Class) -> usize {
     if bytes.is_empty() || !class.passes(bytes[0] as char) {
         return 0;
     }
-    let seen = match class {
-        Class::Text => calm_front(bytes, 1, b'{', b'}', b'}'),
-        Class::Line => calm_front(bytes, 1, b'{', b'}', b'\n'),
-        Class::Unescaped => calm_front(bytes, 1, b'\\', b'\\', b'\\'),
-        Class::Plain => calm_front(bytes, 1, b'"', b'\\', b'\r'),
-        Class::Unchanged => unchanged_front(bytes),
-        _ => 0,
+    let seen = if bytes.len() < 16 || !class.passes(bytes[1] as char) {
+        // a prefix of one byte is not worth a block
+        0
+    } else {
+        front_by_blocks(bytes, class)
     };
     for i in seen..bytes.len() {
         if !class.passes(bytes[i] as char) {
