@@ -23,6 +23,7 @@ mod characters;
 mod counts;
 mod cursor;
 mod error_list;
+mod fault_ids;
 mod faults;
 pub mod laws;
 mod lists;

@@ -26,6 +26,7 @@ pub(crate) mod characters;
 pub(crate) mod counts;
 pub(crate) mod cursor;
 pub(crate) mod error_list;
+pub(crate) mod fault_ids;
 pub(crate) mod faults;
 pub mod laws;
 pub mod literal;
