@@ -1,5 +1,5 @@
--- Lemmas on characters that are drawn as they are: the lanes of a block that are plain, and texts
--- that begin with such characters, of which the printable ones of ASCII take one column.
+-- Lemmas on characters that are drawn as they are: the lanes of a block that have their bytes, and
+-- texts that begin with them, of which the printable ones of ASCII take one column.
 use Rattle.std.proofs.Common.{◌≡◌, ℕ, ◌+◌, ◌-◌, ◌<◌, ◌≤◌, ◌^◌, ◌%◌, ◌/◌, ◌⊎◌, inl, inr, zero, suc}
 use Rattle.std.proofs.Common.{List, [], ◌∷◌, ◌++◌, length, chars, drop, min, take, map, replicate}
 use Rattle.std.proofs.Common.{refl, ap, sym, subst, ◌∙◌, arith, true, false, Bool, cond, eqb, ltb}
@@ -26,8 +26,8 @@ use Rattle.rustc_parse_format.proofs.Bytes.LaneBits.{clear-compared, clear-join,
 use Rattle.rustc_parse_format.proofs.Bytes.LaneBits.{compared, equal, long-equal, long-join}
 use Rattle.unicode_width.specs.Width.{char_width}
 use Rattle.rustc_parse_format.specs.Characters.{Text}
-use Rattle.drawn_faults.specs.Glyphs.{glyph, glyph_count, glyphs, is_plain, is_printable, width}
-use Rattle.drawn_faults.specs.Glyphs.{run}
+use Rattle.drawn_faults.specs.Glyphs.{glyph, glyph_count, glyphs, is_drawn_as_is, is_printable}
+use Rattle.drawn_faults.specs.Glyphs.{run, width}
 use Rattle.drawn_faults.specs.Places.{past, within}
 use Rattle.drawn_faults.specs.declared.places.Spot.{Spot}
 use Rattle.drawn_faults.proofs.GlyphLemmas.{take-step}
@@ -35,9 +35,9 @@ use Rattle.drawn_faults.proofs.GlyphLemmas.{take-step}
 not-less : (a b : ℕ) → ltb a b ≡ false → b ≤ a
 not-less a b e = grind (arith, nat_tests)
 
-plain-byte : (high b : ℕ) → 32 ≤ b → b ≤ high → (b == 127) ≡ false → (b == 226) ≡ false
-    → is_plain high b ≡ true
-plain-byte high b l m p q = rw (p, q) (grind (arith, nat_tests))
+byte-as-is : (high b : ℕ) → 32 ≤ b → b ≤ high → (b == 127) ≡ false → (b == 226) ≡ false
+    → is_drawn_as_is high b ≡ true
+byte-as-is high b l m p q = rw (p, q) (grind (arith, nat_tests))
 
 long-less : (xs ys : List ℕ) → length xs ≡ 16 → length ys ≡ 16 → length (compared ltb xs ys) ≡ 16
 long-less xs ys p q = length-zip2 (λ a b. cond (ltb a b) 255 0) xs ys (p ∙ sym q) ∙ p
@@ -48,16 +48,16 @@ other-byte v b k n l clear =
     ap (λ x. get_or v k 0 == x) (sym (get_or-replicate 16 k b 0 l))
     ∙ clear-compared eqb v (replicate 16 b) k n (length-replicate 16 b) l clear
 
--- a lane whose bit is 0 is plain
-pub lane-plain : (v : List ℕ) (high k : ℕ) → length v ≡ 16 → k < 16
+-- a lane whose bit is 0 has a byte that is drawn as it is
+pub lane-as-is : (v : List ℕ) (high k : ℕ) → length v ≡ 16 → k < 16
     → bit_at
     (mask_l (map (top 7)
     (zip2 bit_or
     (zip2 bit_or
     (zip2 bit_or (compared ltb v (replicate 16 32)) (compared ltb (replicate 16 high) v))
     (equal v 127)) (equal v 226))) % 2 ^ 64) k ≡ 0
-    → is_plain high (get_or v k 0) ≡ true
-lane-plain v high k n l clear =
+    → is_drawn_as_is high (get_or v k 0) ≡ true
+lane-as-is v high k n l clear =
     let low = length-replicate {A = ℕ} 16 32 in
     let top = length-replicate {A = ℕ} 16 high in
     let a = long-less v (replicate 16 32) n low in
@@ -72,7 +72,7 @@ lane-plain v high k n l clear =
     let over = clear-compared ltb (replicate 16 high) v k top n l both.1 in
     let c : get_or (replicate {A = ℕ} 16 32) k 0 ≡ 32 = get_or-replicate 16 k 32 0 l in
     let d : get_or (replicate {A = ℕ} 16 high) k 0 ≡ high = get_or-replicate 16 k high 0 l in
-    plain-byte high (get_or v k 0) (subst (λ x. x ≤ get_or v k 0) c (not-less _ _ under))
+    byte-as-is high (get_or v k 0) (subst (λ x. x ≤ get_or v k 0) c (not-less _ _ under))
     (subst (λ x. get_or v k 0 ≤ x) d (not-less _ _ over)) (other-byte v 127 k n l next.1)
     (other-byte v 226 k n l last.1)
 
@@ -231,62 +231,63 @@ pass-printable f n t p e l =
     ap (fold past p) (within-printable f n t e l)
     ∙ fold-append past p f (within (n - length f) t)
 
-plain-ascii : (c : ℕ) → c < 128 → list_all (is_plain 255) (encode c) ≡ true
-    → is_plain 255 c ≡ true
-plain-ascii c l e =
-    (and_parts (is_plain 255 c) true (sym (ap (list_all (is_plain 255)) (encode_ascii c l)) ∙ e)).0
+ascii-as-is : (c : ℕ) → c < 128 → list_all (is_drawn_as_is 255) (encode c) ≡ true
+    → is_drawn_as_is 255 c ≡ true
+ascii-as-is c l e =
+    (and_parts (is_drawn_as_is 255 c) true
+    (sym (ap (list_all (is_drawn_as_is 255)) (encode_ascii c l)) ∙ e)).0
 
 -- the first byte of a character from U+2000 to U+2FFF
-not-plain : (c : ℕ) → 8192 ≤ c → c < 12288 → list_all (is_plain 255) (encode c) ≡ true → ⊥
+not-as-is : (c : ℕ) → 8192 ≤ c → c < 12288 → list_all (is_drawn_as_is 255) (encode c) ≡ true → ⊥
 unfolding encode
-not-plain c l m e =
+not-as-is c l m e =
     let a : nat_lt c 128 ≡ false = grind (arith, nat_tests) in
     let b : nat_lt c 2048 ≡ false = grind (arith, nat_tests) in
     let d : nat_lt c 65536 ≡ true = grind (arith, nat_tests) in
     let f : 224 + c / 4096 ≡ 226 = omega arith in
     let g = rw (a, b, d) at e in
-    let h = (and_parts (is_plain 255 (224 + c / 4096)) _ g).0 in
+    let h = (and_parts (is_drawn_as_is 255 (224 + c / 4096)) _ g).0 in
     let i = rw f at h in
     grind (arith, nat_tests)
 
-glyph-plain : (c : ℕ) → (is_plain 255 c ≡ true) ⊎ (128 ≤ c)
+glyph-as-is : (c : ℕ) → (is_drawn_as_is 255 c ≡ true) ⊎ (128 ≤ c)
     → (c < 8192) ⊎ (12288 ≤ c) → (glyph c ≡ c) × (glyph_count c ≡ 1)
 unfolding glyph glyph_count
-glyph-plain c (inl p) (inl l) = (grind (arith, nat_tests), grind (arith, nat_tests))
-glyph-plain c (inl p) (inr l) = (grind (arith, nat_tests), grind (arith, nat_tests))
-glyph-plain c (inr p) (inl l) = (grind (arith, nat_tests), grind (arith, nat_tests))
-glyph-plain c (inr p) (inr l) = (grind (arith, nat_tests), grind (arith, nat_tests))
+glyph-as-is c (inl p) (inl l) = (grind (arith, nat_tests), grind (arith, nat_tests))
+glyph-as-is c (inl p) (inr l) = (grind (arith, nat_tests), grind (arith, nat_tests))
+glyph-as-is c (inr p) (inl l) = (grind (arith, nat_tests), grind (arith, nat_tests))
+glyph-as-is c (inr p) (inr l) = (grind (arith, nat_tests), grind (arith, nat_tests))
 
--- a character whose bytes are plain is drawn as it is
-char-plain : (c : ℕ) → list_all (is_plain 255) (encode c) ≡ true
+-- a character whose bytes are drawn as they are is so too
+char-as-is : (c : ℕ) → list_all (is_drawn_as_is 255) (encode c) ≡ true
     → (glyph c ≡ c) × (glyph_count c ≡ 1)
-char-plain c e = glyph-plain c (small (cases_lt c 128)) (far (cases_lt c 8192) (cases_lt c 12288))
+char-as-is c e = glyph-as-is c (small (cases_lt c 128)) (far (cases_lt c 8192) (cases_lt c 12288))
   where
-    small : (c < 128) ⊎ (128 ≤ c) → (is_plain 255 c ≡ true) ⊎ (128 ≤ c)
-    small (inl l) = inl (plain-ascii c l e)
+    small : (c < 128) ⊎ (128 ≤ c) → (is_drawn_as_is 255 c ≡ true) ⊎ (128 ≤ c)
+    small (inl l) = inl (ascii-as-is c l e)
     small (inr l) = inr l
 
     far : (c < 8192) ⊎ (8192 ≤ c) → (c < 12288) ⊎ (12288 ≤ c) → (c < 8192) ⊎ (12288 ≤ c)
     far (inl l) m = inl l
     far (inr l) (inr m) = inr m
-    far (inr l) (inl m) = absurd (not-plain c l m e)
+    far (inr l) (inl m) = absurd (not-as-is c l m e)
 
-glyphs-plain : (t : Text) → list_all (is_plain 255) (encode_utf8_all t) ≡ true → glyphs t ≡ t
-glyphs-plain [] e = refl
-glyphs-plain (c ∷ t) e =
+glyphs-as-is : (t : Text) → list_all (is_drawn_as_is 255) (encode_utf8_all t) ≡ true → glyphs t ≡ t
+glyphs-as-is [] e = refl
+glyphs-as-is (c ∷ t) e =
     let parts = and_parts _ _
-    (sym (list_all-append (is_plain 255) (encode c) (encode_utf8_all t)) ∙ e) in
-    let one = char-plain c parts.0 in
-    rw (one.1, one.0) (ap (λ x. c ∷ x) (glyphs-plain t parts.1))
+    (sym (list_all-append (is_drawn_as_is 255) (encode c) (encode_utf8_all t)) ∙ e) in
+    let one = char-as-is c parts.0 in
+    rw (one.1, one.0) (ap (λ x. c ∷ x) (glyphs-as-is t parts.1))
 
 -- and so is a text of such characters
-pub drawn-plain : (s : List ℕ) (n : ℕ) → IsUtf8 s → IsCharBoundary s n
-    → list_all (is_plain 255) (take n s) ≡ true
+pub drawn-as-is : (s : List ℕ) (n : ℕ) → IsUtf8 s → IsCharBoundary s n
+    → list_all (is_drawn_as_is 255) (take n s) ≡ true
     → encode_utf8_all (glyphs (chars s)) ≡ take n s ++ encode_utf8_all (glyphs (chars (drop n s)))
-drawn-plain s n u b e =
+drawn-as-is s n u b e =
     let v = IsUtf8-take s n u b in
     let bytes = encodes-chars (take n s) v in
-    let same = glyphs-plain (chars (take n s)) (ap (list_all (is_plain 255)) bytes ∙ e) in
+    let same = glyphs-as-is (chars (take n s)) (ap (list_all (is_drawn_as_is 255)) bytes ∙ e) in
     let whole : chars s ≡ chars (take n s) ++ chars (drop n s) =
     ap chars (sym (take-append-drop n s)) ∙ chars-append (take n s) (drop n s) v in
     ap (λ t. encode_utf8_all (glyphs t)) whole

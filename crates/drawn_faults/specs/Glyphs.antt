@@ -47,12 +47,12 @@ indent n (c ∷ t) =
 
 -- The byte is at most `high`, and one of a character that is drawn as it is: no control character
 -- of ASCII, and not the first byte of the characters from U+2000 to U+2FFF.
-abbrev pub is_plain : ℕ → ℕ → Bool
-is_plain high b = (nat_lt 31 b && nat_le b high) && not (b == 127 || b == 226)
+abbrev pub is_drawn_as_is : ℕ → ℕ → Bool
+is_drawn_as_is high b = (nat_lt 31 b && nat_le b high) && not (b == 127 || b == 226)
 
 -- The character is a printable one of ASCII.
 abbrev pub is_printable : ℕ → Bool
-is_printable = is_plain 126
+is_printable = is_drawn_as_is 126
 
 -- A character again and again, as bytes.
 abbrev pub run : ℕ → ℕ → List ℕ

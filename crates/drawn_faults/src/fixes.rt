@@ -152,20 +152,7 @@ fn suggestion_of(alloc: Global, fault: &Fault<'_>) -> Result<Suggestion, AllocEr
             Ok(Suggestion::ReorderFormatParameter(both.start..both.end, text))
         }
         Fault::MissingColon(span) => Ok(Suggestion::AddMissingColon(span.start..span.end)),
-        Fault::UnmatchedBrace(_)
-        | Fault::MissingBrace(..)
-        | Fault::FillBrace(..)
-        | Fault::Underscore(_)
-        | Fault::TooLarge(..)
-        | Fault::Unnamed(_)
-        | Fault::TextAfterColon(_) => Ok(Suggestion::None),
-        Fault::LateDebug(..)
-        | Fault::LateAlign(..)
-        | Fault::Grouping(..)
-        | Fault::DebugPrint(..)
-        | Fault::LateSign(_)
-        | Fault::FieldAccess(_)
-        | Fault::TupleIndex(_) => Ok(Suggestion::None),
+        _ => Ok(Suggestion::None),
     }
 }
 

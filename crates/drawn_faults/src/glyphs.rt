@@ -7,7 +7,7 @@ ghost use Rattle.std.specs.Prelude.{IfOk, IfSome, MatchOption, OnOk, encode_utf8
 ghost use Rattle.drawn_faults.specs.Glyphs.{glyph, glyph_count, glyphs, indent, run, width};
 ghost use Rattle.drawn_faults.specs.Places.{first_line};
 
-use crate::printable::{split_plain, split_printable};
+use crate::printable::{split_as_is, split_printable};
 use std::alloc::AllocError;
 use unicode_width::UnicodeWidthChar;
 
@@ -154,7 +154,7 @@ pub fn put_texts(out: &mut String, a: &str, b: &str, c: &str) -> Result<(), Allo
 
 /// Adds a prefix of a text that is drawn as it is, without its first `skipped` characters. Returns
 /// what is after the prefix, and how many characters are still to skip.
-fn put_plain<'a>(
+fn put_as_is<'a>(
     out: &mut String,
     text: &'a str,
     skipped: usize,
@@ -165,7 +165,7 @@ fn put_plain<'a>(
     ensures short { IfOk result (λ x. length x.0.now ≤ length text.now) }
 {
     if skipped == 0 {
-        let (front, rest) = split_plain(text);
+        let (front, rest) = split_as_is(text);
         out.push_str(front)?;
         return Ok((rest, 0));
     }
@@ -185,7 +185,7 @@ pub fn put_glyphs(out: &mut String, text: &str, skipped: usize) -> Result<(), Al
     while let Some((c, tail)) = split_first(rest) {
         let count = glyph_count(c);
         put_run(out, glyph(c), count.saturating_sub(skip))?;
-        let (behind, fewer) = put_plain(out, tail, skip.saturating_sub(count))?;
+        let (behind, fewer) = put_as_is(out, tail, skip.saturating_sub(count))?;
         rest = behind;
         skip = fewer;
     }

@@ -25,7 +25,7 @@ pub fn put_decimal(out: &mut String, number: usize) -> Result<(), AllocError>
 
 /// Adds the number of a line of the source, at the right of its gutter.
 #[tactic(auto, unfolding(crate::specs::Lines::numbered))]
-pub fn put_number(out: &mut String, frame: &Frame<'_>, line: usize) -> Result<(), AllocError>
+pub fn put_line_number(out: &mut String, frame: &Frame<'_>, line: usize) -> Result<(), AllocError>
     requires { line < 2 ^ 61 }
     ensures { OnOk result (string_bytes out.new ≡ string_bytes out.old
         ++ numbered (seen_frame frame.now) line) }
@@ -80,7 +80,7 @@ pub fn put_source(
     ensures { OnOk result (string_bytes out.new ≡ string_bytes out.old
         ++ source_row (seen_frame frame.now) bar.now front.now number) }
 {
-    put_number(out, frame, number)?;
+    put_line_number(out, frame, number)?;
     out.push_str(bar)?;
     put_behind_bar(out, front, line(frame.picture.source, number), frame.cut)?;
     out.push_str("\n")?;

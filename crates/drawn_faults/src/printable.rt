@@ -6,9 +6,12 @@ ghost use Rattle.std.specs.List.{list_all};
 ghost use Rattle.std.specs.Prelude.{◌≡◌, ◌+◌, ◌++◌, ◌<◌, ◌≤◌, ℕ, chars, length, slice_index, take};
 ghost use Rattle.std.specs.Prelude.{encode_utf8_all};
 ghost use Rattle.std.specs.Prelude.{true};
-ghost use Rattle.drawn_faults.specs.Glyphs.{glyphs, is_plain, is_printable};
+ghost use Rattle.drawn_faults.specs.Glyphs.{glyphs, is_drawn_as_is, is_printable};
 
 use std::simd::prelude::*;
+
+/// The first byte of the characters from U+2000 to U+2FFF.
+const LEAD_OF_2000: u8 = 0xe2;
 
 /// Returns the number of bits below the lowest one that is set, or 64 if there is none.
 #[inline(always)]
@@ -27,48 +30,49 @@ fn clear_lanes(bits: u64) -> usize
     clear_bits(bits | 65536)
 }
 
-/// Returns the number of lanes before the first one that is not plain, or 16 if there is none.
+/// Returns the number of lanes before the first one that is not drawn as it is, or 16 if there is
+/// none.
 #[inline(always)]
-fn plain_lanes(lanes: u8x16, high: u8) -> usize
+fn as_is_lanes(lanes: u8x16, high: u8) -> usize
     ensures within { result ≤ 16 }
-    ensures pass { (k : ℕ) → k < result → is_plain high (slice_index lanes k) ≡ true }
+    ensures pass { (k : ℕ) → k < result → is_drawn_as_is high (slice_index lanes k) ≡ true }
 {
     let found = lanes.simd_lt(u8x16::splat(b' '))
         | u8x16::splat(high).simd_lt(lanes)
         | lanes.simd_eq(u8x16::splat(127))
-        | lanes.simd_eq(u8x16::splat(226));
+        | lanes.simd_eq(u8x16::splat(LEAD_OF_2000));
     clear_lanes(found.to_bitmask())
 }
 
 /// Returns whether a byte is at most `high`, and one of a character that is drawn as it is: no
-/// control character, and not the first byte of the characters from U+2000 to U+2FFF.
+/// control character of ASCII, and not the first byte of the characters from U+2000 to U+2FFF.
 #[inline(always)]
-fn is_plain(byte: u8, high: u8) -> bool
-    ensures { result ≡ is_plain high byte }
+fn is_drawn_as_is(byte: u8, high: u8) -> bool
+    ensures { result ≡ is_drawn_as_is high byte }
 {
-    b' ' <= byte && byte <= high && byte != 127 && byte != 226
+    b' ' <= byte && byte <= high && byte != 127 && byte != LEAD_OF_2000
 }
 
-/// Returns the length of a prefix that is plain, the longest one, of fewer than sixteen bytes.
+/// Returns the length of the longest prefix that is drawn as it is, of fewer than sixteen bytes.
 fn short_front(bytes: &[u8], high: u8) -> usize
     ensures within { result ≤ length bytes.now }
-    ensures pass { list_all (is_plain high) (take result bytes.now) ≡ true }
+    ensures pass { list_all (is_drawn_as_is high) (take result bytes.now) ≡ true }
 {
     for at in 0..bytes.len() {
-        if !is_plain(bytes[at], high) {
+        if !is_drawn_as_is(bytes[at], high) {
             return at;
         }
     }
     bytes.len()
 }
 
-/// Returns the length of the longest prefix that is plain, and examines no block if there is none.
-/// The last block ends where the bytes end, so it may overlap the one before it.
-fn plain_front(bytes: &[u8], high: u8) -> usize
+/// Returns the length of the longest prefix that is drawn as it is, and examines no block if there
+/// is none. The last block ends where the bytes end, so it may overlap the one before it.
+fn as_is_front(bytes: &[u8], high: u8) -> usize
     ensures within { result ≤ length bytes.now }
-    ensures pass { list_all (is_plain high) (take result bytes.now) ≡ true }
+    ensures pass { list_all (is_drawn_as_is high) (take result bytes.now) ≡ true }
 {
-    if bytes.is_empty() || !is_plain(bytes[0], high) {
+    if bytes.is_empty() || !is_drawn_as_is(bytes[0], high) {
         return 0;
     }
     if bytes.len() < 16 {
@@ -77,13 +81,13 @@ fn plain_front(bytes: &[u8], high: u8) -> usize
     let last = bytes.len() - 16;
     let mut at = 0;
     while at < last {
-        let run = plain_lanes(u8x16::from_slice(&bytes[at..]), high);
+        let run = as_is_lanes(u8x16::from_slice(&bytes[at..]), high);
         if run < 16 {
             return at + run;
         }
         at += 16;
     }
-    last + plain_lanes(u8x16::from_slice(&bytes[last..]), high)
+    last + as_is_lanes(u8x16::from_slice(&bytes[last..]), high)
 }
 
 /// Returns the longest prefix of at most `most` characters that are printable, and what is after
@@ -95,16 +99,16 @@ pub fn split_printable(text: &str, most: usize) -> (&str, &str)
     ensures lengths { length result.0.now + length result.1.now ≡ length text.now }
 {
     let bytes = text.as_bytes();
-    let width = plain_front(&bytes[..bytes.len().min(most)], b'~');
+    let width = as_is_front(&bytes[..bytes.len().min(most)], b'~');
     text.split_at(width)
 }
 
 /// Returns a prefix of a text that is drawn as it is, and what is after it.
-pub fn split_plain(text: &str) -> (&str, &str)
+pub fn split_as_is(text: &str) -> (&str, &str)
     ensures drawn { encode_utf8_all (glyphs (chars text.now))
         ≡ result.0.now ++ encode_utf8_all (glyphs (chars result.1.now)) }
     ensures shorter { length result.1.now ≤ length text.now }
 {
-    let width = text.floor_char_boundary(plain_front(text.as_bytes(), 255));
+    let width = text.floor_char_boundary(as_is_front(text.as_bytes(), 255));
     text.split_at(width)
 }

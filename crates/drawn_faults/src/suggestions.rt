@@ -9,7 +9,7 @@ ghost use Rattle.drawn_faults.specs.Suggestions.{old_rows, parting};
 
 use crate::glyphs::{behind_chars, put_front, put_glyphs, put_texts};
 use crate::labels::{Edit, Frame};
-use crate::lines::put_number;
+use crate::lines::put_line_number;
 use crate::places::{behind_lines, line, split_line};
 use crate::rows::put_blank;
 use std::alloc::AllocError;
@@ -40,7 +40,7 @@ fn put_old(out: &mut String, frame: &Frame<'_>, number: usize, line: &str) -> Re
     ensures { OnOk result (string_bytes out.new ≡ string_bytes out.old
         ++ old_row (seen_frame frame.now) number line.now) }
 {
-    put_number(out, frame, number)?;
+    put_line_number(out, frame, number)?;
     out.push_str(" - ")?;
     put_glyphs(out, line, 0)?;
     out.push_str("\n")?;
@@ -97,7 +97,7 @@ fn put_new(out: &mut String, frame: &Frame<'_>, edit: &Edit<'_>) -> Result<(), A
     } else {
         line(frame.picture.source, edit.extent.end.line)
     };
-    put_number(out, frame, edit.extent.start.line)?;
+    put_line_number(out, frame, edit.extent.start.line)?;
     out.push_str(" + ")?;
     put_edited(out, edit, first, last)?;
     out.push_str("\n")?;

@@ -195,8 +195,10 @@ fn put_with_label(
     Ok(())
 }
 
-/// Returns how many bytes a drawing has at least: it has these texts, and some 75 bytes or more
-/// besides.
+/// How many bytes a drawing has at least besides the texts of its error and its path.
+const LEAST_BESIDES: usize = 75;
+
+/// Returns how many bytes a drawing has at least.
 #[inline]
 fn least_length(picture: &Picture<'_>, error: &ParseError) -> usize {
     let note = match &error.note {
@@ -213,7 +215,7 @@ fn least_length(picture: &Picture<'_>, error: &ParseError) -> usize {
         .len()
         .saturating_add(note)
         .saturating_add(second);
-    texts.saturating_add(others).saturating_add(75)
+    texts.saturating_add(others).saturating_add(LEAST_BESIDES)
 }
 
 /// Returns the text that shows an error of a literal under its source, as rustc 1.95 draws it

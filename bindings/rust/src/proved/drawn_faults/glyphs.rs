@@ -5,7 +5,7 @@
 // That source is proved, and each contract here is its. That this text means the same is tested:
 // by results from outside, and beside what is proved (.ci/bindings) and the original (tools/agree).
 
-use crate::proved::drawn_faults::printable::{split_plain, split_printable};
+use crate::proved::drawn_faults::printable::{split_as_is, split_printable};
 use crate::shim::alloc::AllocError;
 use crate::shim::prelude::*;
 use crate::shim::unicode_width::UnicodeWidthChar;
@@ -154,13 +154,13 @@ pub fn put_texts(out: &mut String, a: &str, b: &str, c: &str) -> Result<(), Allo
 //     ≡ string_bytes out.old ++ encode_utf8_all (drop skipped (glyphs (chars text.now)))) }
 // ensures short { IfOk result (λ x. length x.0.now ≤ length text.now) }
 #[inline]
-fn put_plain<'a>(
+fn put_as_is<'a>(
     out: &mut String,
     text: &'a str,
     skipped: usize,
 ) -> Result<(&'a str, usize), AllocError> {
     if skipped == 0 {
-        let (front, rest) = split_plain(text);
+        let (front, rest) = split_as_is(text);
         out.try_push_str(front)?;
         return Ok((rest, 0));
     }
@@ -180,7 +180,7 @@ pub fn put_glyphs(out: &mut String, text: &str, skipped: usize) -> Result<(), Al
     while let Some((c, tail)) = split_first(rest) {
         let count = glyph_count(c);
         put_run(out, glyph(c), count.saturating_sub(skip))?;
-        let (behind, fewer) = put_plain(out, tail, skip.saturating_sub(count))?;
+        let (behind, fewer) = put_as_is(out, tail, skip.saturating_sub(count))?;
         rest = behind;
         skip = fewer;
     }

@@ -27,7 +27,7 @@ pub fn put_decimal(out: &mut String, number: usize) -> Result<(), AllocError> {
 // ensures { OnOk result (string_bytes out.new ≡ string_bytes out.old
 //     ++ numbered (seen_frame frame.now) line) }
 #[inline]
-pub fn put_number(out: &mut String, frame: &Frame<'_>, line: usize) -> Result<(), AllocError> {
+pub fn put_line_number(out: &mut String, frame: &Frame<'_>, line: usize) -> Result<(), AllocError> {
     let number = frame.picture.line_start as usize + line;
     put_run(out, ' ', frame.gutter.saturating_sub(digits(number)))?;
     put_decimal(out, number)?;
@@ -75,7 +75,7 @@ pub fn put_source(
     front: &str,
     number: usize,
 ) -> Result<(), AllocError> {
-    put_number(out, frame, number)?;
+    put_line_number(out, frame, number)?;
     out.try_push_str(bar)?;
     put_behind_bar(out, front, line(frame.picture.source, number), frame.cut)?;
     out.try_push_str("\n")?;

@@ -7,7 +7,7 @@
 
 use crate::proved::drawn_faults::glyphs::{behind_chars, put_front, put_glyphs, put_texts};
 use crate::proved::drawn_faults::labels::{Edit, Frame};
-use crate::proved::drawn_faults::lines::put_number;
+use crate::proved::drawn_faults::lines::put_line_number;
 use crate::proved::drawn_faults::places::{behind_lines, line, split_line};
 use crate::proved::drawn_faults::rows::put_blank;
 use crate::shim::alloc::AllocError;
@@ -42,7 +42,7 @@ fn put_old(
     number: usize,
     line: &str,
 ) -> Result<(), AllocError> {
-    put_number(out, frame, number)?;
+    put_line_number(out, frame, number)?;
     out.try_push_str(" - ")?;
     put_glyphs(out, line, 0)?;
     out.try_push_str("\n")?;
@@ -102,7 +102,7 @@ fn put_new(out: &mut String, frame: &Frame<'_>, edit: &Edit<'_>) -> Result<(), A
     } else {
         line(frame.picture.source, edit.extent.end.line)
     };
-    put_number(out, frame, edit.extent.start.line)?;
+    put_line_number(out, frame, edit.extent.start.line)?;
     out.try_push_str(" + ")?;
     put_edited(out, edit, first, last)?;
     out.try_push_str("\n")?;
