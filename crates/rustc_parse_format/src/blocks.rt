@@ -22,7 +22,7 @@ fn clear_bits(bits: u64) -> usize
 
 /// Returns the number of lanes before the first one whose bit is set, or 16 if there is none.
 #[inline(always)]
-fn clear_lanes(bits: u64) -> usize
+pub fn clear_lanes(bits: u64) -> usize
     ensures within { result ≤ 16 }
     ensures clear { (k : ℕ) → k < result → bit_at bits k ≡ 0 }
 {

@@ -54,4 +54,6 @@ pub use types::{
     Suggestion, Taken,
 };
 #[doc(hidden)]
+pub use blocks::{clear_lanes, front_by_blocks};
+#[doc(hidden)]
 pub use written::{put_all_written, put_written};
