@@ -7,7 +7,8 @@ use crate::proved::drawn_faults::{
 use crate::proved::rustc_parse_format::error_list::empty_error;
 use crate::proved::rustc_parse_format::messages::tell;
 use crate::shim::alloc::{answer, Global};
-use crate::{ParseError, ParseMode, Parser};
+use crate::shim::parser::Parser;
+use crate::{Argument, ParseError, ParseMode};
 
 pub use crate::proved::drawn_faults::{Edit, Fixed, Picture};
 pub use crate::proved::rustc_parse_format::Fault;
@@ -127,10 +128,11 @@ pub fn faults_of(
     appended_newline: bool,
     mode: ParseMode,
 ) -> Vec<Fault<'_>> {
-    let mut parser = Parser::new(input, style, snippet, appended_newline, mode);
-    let mut faults = Vec::new();
+    let parser = Parser::new(Global, input, style, snippet, appended_newline, mode);
+    let (mut parser, mut faults) = (answer(parser), Vec::new());
+    let mut argument = Argument::default();
     while !parser.is_at_end() {
-        parser.next_with_faults(&mut faults);
+        answer(parser.next_with_faults(&mut argument, &mut faults));
     }
     faults
 }

@@ -19,7 +19,7 @@ fn clear_bits(bits: u64) -> usize {
 // ensures within { result ≤ 16 }
 // ensures clear { (k : ℕ) → k < result → bit_at bits k ≡ 0 }
 #[inline(always)]
-fn clear_lanes(bits: u64) -> usize {
+pub fn clear_lanes(bits: u64) -> usize {
     clear_bits(bits | 65536)
 }
 
