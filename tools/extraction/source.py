@@ -129,18 +129,14 @@ class Source:
         return at
 
     def parameters(self, at, refused):
-        """What comes after parameters in angles, if there are any; only lifetimes and types of
-        closures that change nothing, as `F: Fn(usize) -> usize`, may be among them."""
+        """What comes after parameters in angles, if there are any; only lifetimes may be among
+        them."""
         if self.text(at) != "<":
             return at
         while self.text(at) != ">":
             at = self.next(at)
-            if not self.is_word(at):
-                continue
-            if [self.text(self.next(at, n)) for n in (1, 2, 3)] != [":", "Fn", "("]:
+            if self.is_word(at):
                 self.refuse(at, refused)
-            # behind the arrow is the type of the result
-            at = self.next(self.close(self.next(at, 3)), 2)
         return self.next(at)
 
     def impl(self, item):

@@ -1,17 +1,34 @@
 //! Prefixes of characters that are drawn as they are, found sixteen bytes at a time. Of these, the
 //! printable ones of ASCII take one column.
 
+ghost use Rattle.std.specs.Int.{bit_at};
 ghost use Rattle.std.specs.List.{list_all};
 ghost use Rattle.std.specs.Prelude.{◌≡◌, ◌+◌, ◌++◌, ◌<◌, ◌≤◌, ℕ, chars, length, slice_index, take};
 ghost use Rattle.std.specs.Prelude.{encode_utf8_all};
 ghost use Rattle.std.specs.Prelude.{true};
 ghost use Rattle.drawn_faults.specs.Glyphs.{glyphs, is_drawn_as_is, is_printable};
 
-use rustc_parse_format::{clear_lanes, front_by_blocks};
 use std::simd::prelude::*;
 
 /// The first byte of the characters from U+2000 to U+2FFF.
 const LEAD_OF_2000: u8 = 0xe2;
+
+/// Returns the number of bits below the lowest one that is set, or 64 if there is none.
+#[inline(always)]
+fn clear_bits(bits: u64) -> usize
+    ensures { (k : ℕ) → k < result → bit_at bits k ≡ 0 }
+{
+    bits.trailing_zeros() as usize
+}
+
+/// Returns the number of lanes before the first one whose bit is set, or 16 if there is none.
+#[inline(always)]
+fn clear_lanes(bits: u64) -> usize
+    ensures within { result ≤ 16 }
+    ensures clear { (k : ℕ) → k < result → bit_at bits k ≡ 0 }
+{
+    clear_bits(bits | 65536)
+}
 
 /// Returns the number of lanes before the first one that is not drawn as it is, or 16 if there is
 /// none.
@@ -50,7 +67,7 @@ fn short_front(bytes: &[u8], high: u8) -> usize
 }
 
 /// Returns the length of the longest prefix that is drawn as it is, and examines no block if there
-/// is none.
+/// is none. The last block ends where the bytes end, so it may overlap the one before it.
 fn as_is_front(bytes: &[u8], high: u8) -> usize
     ensures within { result ≤ length bytes.now }
     ensures pass { list_all (is_drawn_as_is high) (take result bytes.now) ≡ true }
@@ -61,7 +78,16 @@ fn as_is_front(bytes: &[u8], high: u8) -> usize
     if bytes.len() < 16 {
         return short_front(bytes, high);
     }
-    front_by_blocks(bytes, bytes, |lanes, _| as_is_lanes(lanes, high))
+    let last = bytes.len() - 16;
+    let mut at = 0;
+    while at < last {
+        let run = as_is_lanes(u8x16::from_slice(&bytes[at..]), high);
+        if run < 16 {
+            return at + run;
+        }
+        at += 16;
+    }
+    last + as_is_lanes(u8x16::from_slice(&bytes[last..]), high)
 }
 
 /// Returns the longest prefix of at most `most` characters that are printable, and what is after

@@ -4,13 +4,41 @@
 
 ghost use Rattle.std.specs.Int.{bit_at};
 ghost use Rattle.std.specs.List.{list_all};
-ghost use Rattle.std.specs.Simd.Lanes.{chunk};
-ghost use Rattle.std.specs.Prelude.{◌≡◌, ◌+◌, ◌<◌, ◌≤◌, ℕ, Bool, length, slice_index, take, true};
-ghost use Rattle.rustc_parse_format.specs.Bytes.{is_none_of, IsOfFronts, IsSharedFront};
+ghost use Rattle.std.specs.Prelude.{◌≡◌, ◌<◌, ◌≤◌, ℕ, length, slice_index, take, true};
+ghost use Rattle.rustc_parse_format.specs.Bytes.{IsFront, IsSharedFront, is_no_stop};
 ghost use Rattle.rustc_parse_format.specs.LiteralUnits.{is_plain};
-ghost use Rattle.rustc_parse_format.specs.Written.{is_unchanged};
 
 use std::simd::prelude::*;
+
+/// The bytes at which a run ends: those below `low`, those above `high`, and four others. Where
+/// fewer others are needed, one is there again.
+#[derive(Clone, Copy)]
+pub struct Stops {
+    pub low: u8,
+    pub high: u8,
+    pub first: u8,
+    pub second: u8,
+    pub third: u8,
+    pub fourth: u8,
+}
+
+impl Stops {
+    ghost use Rattle.std.specs.Prelude.{not};
+    ghost use Rattle.rustc_parse_format.specs.Bytes.{is_no_stop};
+
+    /// Returns whether a run ends at the byte.
+    #[inline(always)]
+    fn has(self, byte: u8) -> bool
+        ensures { result ≡ not (is_no_stop self byte) }
+    {
+        byte < self.low
+            || byte > self.high
+            || byte == self.first
+            || byte == self.second
+            || byte == self.third
+            || byte == self.fourth
+    }
+}
 
 /// Returns the number of bits below the lowest one that is set, or 64 if there is none.
 #[inline(always)]
@@ -22,23 +50,25 @@ fn clear_bits(bits: u64) -> usize
 
 /// Returns the number of lanes before the first one whose bit is set, or 16 if there is none.
 #[inline(always)]
-pub fn clear_lanes(bits: u64) -> usize
+fn clear_lanes(bits: u64) -> usize
     ensures within { result ≤ 16 }
     ensures clear { (k : ℕ) → k < result → bit_at bits k ≡ 0 }
 {
     clear_bits(bits | 65536)
 }
 
-/// Returns the number of lanes before the first one that is `a`, `b` or `c`, or 16 if there is
-/// none.
+/// Returns the number of lanes before the first one that is a stop, or 16 if there is none.
 #[inline(always)]
-fn calm_lanes(lanes: u8x16, a: u8, b: u8, c: u8) -> usize
+fn front_lanes(lanes: u8x16, stops: Stops) -> usize
     ensures within { result ≤ 16 }
-    ensures pass { (k : ℕ) → k < result → is_none_of a b c (slice_index lanes k) ≡ true }
+    ensures pass { (k : ℕ) → k < result → is_no_stop stops (slice_index lanes k) ≡ true }
 {
-    let found = lanes.simd_eq(u8x16::splat(a))
-        | lanes.simd_eq(u8x16::splat(b))
-        | lanes.simd_eq(u8x16::splat(c));
+    let found = lanes.simd_lt(u8x16::splat(stops.low))
+        | u8x16::splat(stops.high).simd_lt(lanes)
+        | lanes.simd_eq(u8x16::splat(stops.first))
+        | lanes.simd_eq(u8x16::splat(stops.second))
+        | lanes.simd_eq(u8x16::splat(stops.third))
+        | lanes.simd_eq(u8x16::splat(stops.fourth));
     clear_lanes(found.to_bitmask())
 }
 
@@ -57,73 +87,44 @@ fn plain_lanes(lanes: u8x16, others: u8x16) -> usize
     clear_lanes(found.to_bitmask())
 }
 
-/// Returns the number of lanes before the first one that a quoted text does not have as it is, or
-/// 16 if there is none.
+/// Returns the length of the longest prefix without stops, of sixteen bytes or more.
 #[inline(always)]
-fn unchanged_lanes(lanes: u8x16) -> usize
-    ensures within { result ≤ 16 }
-    ensures pass { (k : ℕ) → k < result → is_unchanged (slice_index lanes k) ≡ true }
+fn front_by_blocks(bytes: &[u8], stops: Stops) -> usize
+    requires { 16 ≤ length bytes.now }
+    ensures within { result ≤ length bytes.now }
+    ensures pass { list_all (is_no_stop stops) (take result bytes.now) ≡ true }
 {
-    let found = lanes.simd_lt(u8x16::splat(b' '))
-        | lanes.simd_eq(u8x16::splat(127))
-        | lanes.simd_eq(u8x16::splat(b'"'))
-        | lanes.simd_eq(u8x16::splat(b'\''))
-        | lanes.simd_eq(u8x16::splat(b'\\'));
-    clear_lanes(found.to_bitmask())
-}
-
-/// Returns the length of a prefix of both texts that is found sixteen bytes at a time: `front`
-/// returns how many lanes of a block of each the prefix goes on with. The last block ends where the
-/// shorter text ends, so it may overlap the one before it. Both have sixteen bytes or more.
-#[inline(always)]
-pub fn front_by_blocks<F: Fn(u8x16, u8x16) -> usize>(bytes: &[u8], others: &[u8], front: F) -> usize
-    requires callable { F.IsAlwaysCallable front }
-    requires long { (16 ≤ length bytes.now) × (16 ≤ length others.now) }
-    requires few { (v w : _) (n : ℕ) → F.post front v w n → n ≤ 16 }
-    ensures within { (result ≤ length bytes.now) × (result ≤ length others.now) }
-    ensures pass { (p : ℕ → Bool) → IsOfFronts p → p 0 ≡ true
-        → ((at n : ℕ) → at + 16 ≤ length bytes.now → at + 16 ≤ length others.now → p at ≡ true
-        → F.post front (chunk at 16 bytes.now) (chunk at 16 others.now) n → p (at + n) ≡ true)
-        → p result ≡ true }
-{
-    let last = bytes.len().min(others.len()) - 16;
+    let last = bytes.len() - 16;
     let mut at = 0;
     while at < last {
-        let more = front(
-            u8x16::from_slice(&bytes[at..]),
-            u8x16::from_slice(&others[at..]),
-        );
-        if more < 16 {
-            return at + more;
+        let run = front_lanes(u8x16::from_slice(&bytes[at..]), stops);
+        if run < 16 {
+            return at + run;
         }
         at += 16;
     }
-    last + front(
-        u8x16::from_slice(&bytes[last..]),
-        u8x16::from_slice(&others[last..]),
-    )
+    last + front_lanes(u8x16::from_slice(&bytes[last..]), stops)
 }
 
-/// Returns the length of the longest prefix without the bytes `a`, `b` and `c`. There are sixteen
-/// bytes or more.
+/// Returns the length of the longest prefix without stops. No block is read for one or two bytes.
 #[inline(always)]
-pub fn calm_front(bytes: &[u8], a: u8, b: u8, c: u8) -> usize
-    requires { 16 ≤ length bytes.now }
-    ensures within { result ≤ length bytes.now }
-    ensures pass { list_all (is_none_of a b c) (take result bytes.now) ≡ true }
+pub fn front_width(bytes: &[u8], stops: Stops) -> usize
+    ensures { IsFront (is_no_stop stops) bytes.now result }
 {
-    front_by_blocks(bytes, bytes, |lanes, _| calm_lanes(lanes, a, b, c))
-}
-
-/// Returns the length of the longest prefix that a quoted text has as it is. There are sixteen
-/// bytes or more.
-#[inline(always)]
-pub fn unchanged_front(bytes: &[u8]) -> usize
-    requires { 16 ≤ length bytes.now }
-    ensures within { result ≤ length bytes.now }
-    ensures pass { list_all is_unchanged (take result bytes.now) ≡ true }
-{
-    front_by_blocks(bytes, bytes, |lanes, _| unchanged_lanes(lanes))
+    if bytes.is_empty() || stops.has(bytes[0]) {
+        return 0;
+    }
+    let seen = if bytes.len() < 16 || stops.has(bytes[1]) {
+        0
+    } else {
+        front_by_blocks(bytes, stops)
+    };
+    for i in seen..bytes.len() {
+        if stops.has(bytes[i]) {
+            return i;
+        }
+    }
+    bytes.len()
 }
 
 /// Returns the length of the longest prefix that both have and that is without quotes, backslashes
@@ -133,8 +134,24 @@ pub fn unchanged_front(bytes: &[u8]) -> usize
 pub fn plain_front(bytes: &[u8], others: &[u8]) -> usize
     ensures { IsSharedFront is_plain bytes.now others.now result }
 {
-    if bytes.len().min(others.len()) < 16 || bytes[0] != others[0] {
+    let most = bytes.len().min(others.len());
+    if most < 16 || bytes[0] != others[0] {
         return 0;
     }
-    front_by_blocks(bytes, others, |lanes, others| plain_lanes(lanes, others))
+    let last = most - 16;
+    let mut at = 0;
+    while at < last {
+        let plain = plain_lanes(
+            u8x16::from_slice(&bytes[at..]),
+            u8x16::from_slice(&others[at..]),
+        );
+        if plain < 16 {
+            return at + plain;
+        }
+        at += 16;
+    }
+    last + plain_lanes(
+        u8x16::from_slice(&bytes[last..]),
+        u8x16::from_slice(&others[last..]),
+    )
 }

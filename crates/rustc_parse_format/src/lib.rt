@@ -42,6 +42,8 @@ mod specification;
 mod types;
 mod written;
 
+#[doc(hidden)]
+pub use blocks::{Stops, front_width};
 pub use faults::Fault;
 pub use parser::Parser;
 pub use pieces::Pieces;
@@ -53,7 +55,5 @@ pub use types::{
     Alignment, Argument, Count, DebugHex, FormatSpec, ParseError, ParseMode, Piece, Position, Sign,
     Suggestion, Taken,
 };
-#[doc(hidden)]
-pub use blocks::{clear_lanes, front_by_blocks};
 #[doc(hidden)]
 pub use written::{put_all_written, put_written};

@@ -1,18 +1,14 @@
 -- A prefix of bytes that is extended by a prefix of the next block of sixteen.
 use Rattle.std.proofs.Common.{◌≡◌, ◌+◌, ◌<◌, ◌≤◌, List, ℕ, zero, suc, Bool, true, length, take}
 use Rattle.std.proofs.Common.{get_or}
-use Rattle.std.proofs.Common.{ap, sym, subst, ◌∙◌, arith}
+use Rattle.std.proofs.Common.{sym, subst, ◌∙◌, arith}
 use Rattle.std.specs.List.{list_all}
-use Rattle.std.specs.Prelude.{◌&&◌}
-use Rattle.std.specs.Str.{bytes_eq}
 use Rattle.std.specs.Simd.Lanes.{chunk}
-use Rattle.std.proofs.lemmas.Bool.{and_from, and_parts}
-use Rattle.std.proofs.lemmas.List.{take_more_same, take-take}
+use Rattle.std.proofs.lemmas.Bool.{and_from}
+use Rattle.std.proofs.lemmas.List.{take_more_same}
 use Rattle.std.proofs.lemmas.List.Folds.{list_all_more}
 use Rattle.std.proofs.lemmas.Simd.{get_or-chunk}
-use Rattle.std.proofs.lemmas.Slice.Eq.{bytes_eq-Decides}
 use Rattle.rustc_parse_format.specs.Bytes.{IsSharedFront}
-use Rattle.rustc_parse_format.proofs.Bytes.ByteFronts.{pass-part}
 
 more-pass : (p : ℕ → Bool) (s : List ℕ) (i n : ℕ) → i + n ≤ length s → list_all p (take i s) ≡ true
     → ((k : ℕ) → k < n → p (get_or s (i + k) 0) ≡ true)
@@ -44,40 +40,16 @@ block-pass p s i n l few h each =
     more-pass p s i n (omega arith) h
     (λ k below. subst (λ x. p x ≡ true) (get_or-chunk i 16 s k 0 (omega arith)) (each k below))
 
--- The first n bytes of two texts are the same and pass the test, as a test of n.
-abbrev pub shares : (ℕ → Bool) → List ℕ → List ℕ → ℕ → Bool
-shares p s t n = list_all p (take n s) && bytes_eq (take n s) (take n t)
-
-pub shares-front : (p : ℕ → Bool) (s t : List ℕ) (n : ℕ) → n ≤ length s → n ≤ length t
-    → shares p s t n ≡ true → IsSharedFront p s t n
-shares-front p s t n l m e =
-    let parts = and_parts _ _ e in
-    record {
-      within = l;
-      within_others = m;
-      same = (bytes_eq-Decides (take n s) (take n t)).0 parts.1;
-      pass = parts.0;
-    }
-
-pub shares-part : (p : ℕ → Bool) (s t : List ℕ) (m n : ℕ) → m ≤ n → shares p s t n ≡ true
-    → shares p s t m ≡ true
-shares-part p s t m n l e =
-    let parts = and_parts _ _ e in
-    let same = (bytes_eq-Decides (take n s) (take n t)).0 parts.1 in
-    and_from _ _ (pass-part p s m n l parts.0)
-    ((bytes_eq-Decides (take m s) (take m t)).1
-    (sym (take-take m n s l) ∙ (ap (take m) same ∙ take-take m n t l)))
-
-pub block-shares : (p : ℕ → Bool) (s t : List ℕ) (i n : ℕ) → i + 16 ≤ length s → i + 16 ≤ length t
-    → n ≤ 16 → shares p s t i ≡ true
+pub block-shared : (p : ℕ → Bool) (s t : List ℕ) (i n : ℕ) → i + 16 ≤ length s → i + 16 ≤ length t
+    → n ≤ 16 → IsSharedFront p s t i
     → ((k : ℕ) → k < n → get_or (chunk i 16 s) k 0 ≡ get_or (chunk i 16 t) k 0)
     → ((k : ℕ) → k < n → p (get_or (chunk i 16 s) k 0) ≡ true)
-    → shares p s t (i + n) ≡ true
-block-shares p s t i n l m few e same each =
-    let parts = and_parts _ _ e in
-    and_from _ _ (block-pass p s i n l few parts.0 each)
-    ((bytes_eq-Decides (take (i + n) s) (take (i + n) t)).1
-    (more-same s t i n (omega arith) (omega arith)
-    ((bytes_eq-Decides (take i s) (take i t)).0 parts.1)
-    (λ k below. sym (get_or-chunk i 16 s k 0 (omega arith))
-    ∙ (same k below ∙ get_or-chunk i 16 t k 0 (omega arith)))))
+    → IsSharedFront p s t (i + n)
+block-shared p s t i n l m few f same each = record {
+  within = omega arith;
+  within_others = omega arith;
+  same = more-same s t i n (omega arith) (omega arith) f.same
+      (λ k below. sym (get_or-chunk i 16 s k 0 (omega arith))
+      ∙ (same k below ∙ get_or-chunk i 16 t k 0 (omega arith)));
+  pass = block-pass p s i n l few f.pass each;
+}

@@ -40,8 +40,6 @@ pub(crate) mod specification;
 pub(crate) mod types;
 pub(crate) mod written;
 
-#[doc(hidden)]
-pub use blocks::{clear_lanes, front_by_blocks};
 pub use faults::Fault;
 pub use types::{
     Alignment, Argument, Count, DebugHex, FormatSpec, ParseError, ParseMode, Piece, Position, Sign,

@@ -1,17 +1,31 @@
-use Rattle.std.proofs.Common.{rules, refl, take}
-use Rattle.std.specs.List.{list_all}
+use Rattle.std.proofs.Common.{◌-◌, length, arith}
 use Rattle.rustc_parse_format.proofs.Bytes.BlockFronts.{block-pass}
 use Rattle.rustc_parse_format.proofs.Bytes.ByteFronts.{pass-part}
 use Rattle.drawn_faults.specs.Glyphs.{is_drawn_as_is}
 use Rattle.drawn_faults.proofs.printable.as_is_front.Goals as goal
 
-pub front_by_blocks-requires-clause-few : goal.front_by_blocks-requires-clause-few
-front_by_blocks-requires-clause-few c v w n p = search rules
+pub returns-then-run-lt16-clause-pass : goal.returns-then-run-lt16-clause-pass
+returns-then-run-lt16-clause-pass c =
+    let run = c.as_is_lanes-run.ensures in
+    block-pass (is_drawn_as_is c.args.high) c.args.bytes.now c.loop-at.at c.as_is_lanes-run.result
+    (omega (arith, c.loop-at-test.true)) run.within c.loop-at.invariant.pass run.pass
+
+pub loop-at-preserved : goal.loop-at-preserved
+loop-at-preserved c =
+    let run = c.as_is_lanes-run.ensures in
+    let all = run.within in
+    record {
+      within = omega (arith, c.loop-at-test.true);
+      pass = block-pass (is_drawn_as_is c.args.high) c.args.bytes.now c.loop-at.at 16
+          (omega (arith, c.loop-at-test.true)) (omega arith) c.loop-at.invariant.pass
+          (λ k l. run.pass k (omega (arith, c.if-run-lt16.false)));
+    }
 
 pub returns-clause-pass : goal.returns-clause-pass
 returns-clause-pass c =
-    let test = is_drawn_as_is c.args.high in
-    c.front_by_blocks.ensures.pass (λ n. list_all test (take n c.args.bytes.now))
-    (λ m n l. pass-part test c.args.bytes.now m n l) refl
-    (λ at n inside others before post. block-pass test c.args.bytes.now at n inside
-    (search rules) before (λ k l. search rules))
+    let run = c.as_is_lanes.ensures in
+    block-pass (is_drawn_as_is c.args.high) c.args.bytes.now (length c.args.bytes.now - 16)
+    c.as_is_lanes.result
+    (omega arith) run.within
+    (pass-part (is_drawn_as_is c.args.high) c.args.bytes.now _ c.loop-at.at
+    (omega (arith, c.loop-at-test.false)) c.loop-at.invariant.pass) run.pass

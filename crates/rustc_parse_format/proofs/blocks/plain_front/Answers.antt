@@ -1,19 +1,35 @@
-use Rattle.std.proofs.Common.{rules, refl}
+use Rattle.std.proofs.Common.{◌-◌, arith}
 use Rattle.rustc_parse_format.specs.LiteralUnits.{is_plain}
-use Rattle.rustc_parse_format.proofs.Bytes.BlockFronts.{block-shares, shares, shares-front}
-use Rattle.rustc_parse_format.proofs.Bytes.BlockFronts.{shares-part}
+use Rattle.rustc_parse_format.proofs.Bytes.BlockFronts.{block-shared}
+use Rattle.rustc_parse_format.proofs.Bytes.ByteFronts.{shared-part}
 use Rattle.rustc_parse_format.proofs.blocks.plain_front.Goals as goal
 
-pub front_by_blocks-requires-clause-few : goal.front_by_blocks-requires-clause-few
-front_by_blocks-requires-clause-few c v w n p = search rules
+pub returns-then-plain-lt16 : goal.returns-then-plain-lt16
+returns-then-plain-lt16 c =
+    let plain = c.plain_lanes-plain.ensures in
+    block-shared is_plain c.args.bytes.now c.args.others.now c.loop-at.at c.plain_lanes-plain.result
+    (omega (arith, c.loop-at-test.true, c.min-most.ensures))
+    (omega (arith, c.loop-at-test.true, c.min-most.ensures)) plain.within
+    c.loop-at.invariant.front plain.same plain.pass
+
+pub loop-at-preserved : goal.loop-at-preserved
+loop-at-preserved c =
+    let plain = c.plain_lanes-plain.ensures in
+    record {
+      within = omega (arith, c.loop-at-test.true);
+      front = block-shared is_plain c.args.bytes.now c.args.others.now c.loop-at.at 16
+          (omega (arith, c.loop-at-test.true, c.min-most.ensures))
+          (omega (arith, c.loop-at-test.true, c.min-most.ensures)) (omega arith)
+          c.loop-at.invariant.front (λ k l. plain.same k (omega (arith, c.if-plain-lt16.false)))
+          (λ k l. plain.pass k (omega (arith, c.if-plain-lt16.false)));
+    }
 
 pub returns : goal.returns
 returns c =
-    let bytes = c.args.bytes.now in
-    let others = c.args.others.now in
-    let front = c.front_by_blocks.ensures in
-    shares-front is_plain bytes others c.front_by_blocks.result front.within.0 front.within.1
-    (front.pass (shares is_plain bytes others)
-    (λ m n l e. shares-part is_plain bytes others m n l e) refl
-    (λ at n inside beside before post. block-shares is_plain bytes others at n inside beside
-    (search rules) before (λ k l. search rules) (λ k l. search rules)))
+    let plain = c.plain_lanes.ensures in
+    let last = c.min-most.result - 16 in
+    block-shared is_plain c.args.bytes.now c.args.others.now last c.plain_lanes.result
+    (omega (arith, c.min-most.ensures)) (omega (arith, c.min-most.ensures)) plain.within
+    (shared-part is_plain c.args.bytes.now c.args.others.now last c.loop-at.at
+    (omega (arith, c.loop-at-test.false)) c.loop-at.invariant.front)
+    plain.same plain.pass
