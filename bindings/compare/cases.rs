@@ -46,6 +46,7 @@ const PARTS: &[&str] = &[
     "0$", "1$", "{x}", "{0}", "{:>8.3}", "{n:w$.p$x?}", "{a.b}", "{a.0}", "{a.b:?}", "{a?}",
     "{a?:b}", "{a<}", "{a,}", "{a=}", "{a+}", "{:?#}", "{:x?#}", "{:}>}", "{:}<", "}>", "{ }",
     "{a:x}", "{a:b c}", "{a }", "%", "{:{}>", "text of some words", "{a.b.c}", "{{{}}}",
+    "\n                              ", "\n\n",
 ];
 
 /// Snippets that are hardly ever the source literal of an input.

@@ -205,6 +205,20 @@ fn spans() {
             Some(1..3),
             " --> a.rs:7:1\n  |\n7 | abc\n  | ^^-\n  | ||\n  | |s\n  | l in format string\n\n",
         ),
+        // a label that begins first and is longer, around another one
+        (
+            "abcdef",
+            0..5,
+            Some(2..3),
+            " --> a.rs:7:1\n  |\n7 | abcdef\n  | ^^-^^\n  | | |\n  | | s\n  | l in format string\n\n",
+        ),
+        // no space before what is not drawn
+        (
+            "\u{200d}",
+            0..3,
+            None,
+            " --> a.rs:7:1\n  |\n7 |\n  | ^ l in format string\n\n",
+        ),
         // up to the start of a line
         (
             "a\nb",
