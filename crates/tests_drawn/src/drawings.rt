@@ -3,7 +3,7 @@
 use crate::line_rows::line_rows;
 use crate::row::Row;
 use crate::short_rows::short_rows;
-use drawn_faults::{Picture, draw, errors_of};
+use drawn_faults::{Picture, draw, errors_of, put_drawing};
 use rustc_parse_format::{ParseError, ParseMode};
 use std::alloc::{AllocError, Global};
 use std::process::Abort;
@@ -34,7 +34,7 @@ fn errors_in(rt: &impl Abort, alloc: Global, row: &Row) -> Result<Vec<ParseError
     )
 }
 
-/// The drawing of a fault of a row.
+/// The drawing of a fault of a row, and once more behind that text.
 fn drawn(alloc: Global, row: &Row, error: &ParseError) -> Result<String, AllocError> {
     let source = joined(alloc, &[row.before, row.literal, row.after], "")?;
     let picture = Picture {
@@ -43,18 +43,20 @@ fn drawn(alloc: Global, row: &Row, error: &ParseError) -> Result<String, AllocEr
         line_start: row.line,
         literal_start: row.before.len(),
     };
-    draw(alloc, &picture, error)
+    let mut drawing = draw(alloc, &picture, error)?;
+    put_drawing(&mut drawing, &picture, error)?;
+    Ok(drawing)
 }
 
-/// A drawing is as the row says, and an empty line ends it.
+/// A drawing is as the row says, with an empty line at its end, and stands there twice.
 fn check_drawing(
     rt: &impl Abort,
     alloc: Global,
     row: &Row,
     drawing: &str,
 ) -> Result<(), AllocError> {
-    let mut wanted = joined(alloc, row.lines, "\n")?;
-    wanted.push_str("\n")?;
+    let wanted = joined(alloc, row.lines, "\n")?;
+    let wanted = joined(alloc, &[wanted.as_str(), wanted.as_str()], "\n")?;
     assert_eq!(rt; drawing, wanted.as_str());
     Ok(())
 }
