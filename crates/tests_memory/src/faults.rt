@@ -3,7 +3,6 @@
 use crate::listing::{put_errors, put_read, shown};
 use crate::rows::{Row, rows};
 use crate::sheet::Sheet;
-use crate::spare::blank_argument;
 use crate::start::{check_row, start};
 use crate::walks::check_unchanged;
 use rustc_parse_format::{Argument, Fault, ParseError, Parser, Taken};
@@ -92,7 +91,7 @@ fn put_pieces<'input>(
     faults: &mut Vec<Fault<'input>>,
     out: &mut Sheet,
 ) -> Result<(), Fail> {
-    let mut argument = blank_argument();
+    let mut argument = Argument::default();
     for _ in 0..most {
         match call_again(rt, alloc, parser, &mut argument, faults)? {
             Some(taken) => put_read(out, &taken, &argument)?,
