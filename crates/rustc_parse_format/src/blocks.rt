@@ -1,5 +1,6 @@
-//! Prefixes of bytes, found sixteen bytes at a time. If there are fewer bytes than a block has, the
-//! callers examine each byte. The kit's crate memchr is slower up to some twenty bytes, faster from some thousands
+//! Prefixes of bytes, found sixteen bytes at a time. The last block ends where the bytes end, so it
+//! may overlap the one before it. Where there are fewer bytes than a block has, each byte is
+//! examined. The kit's crate memchr is slower up to some twenty bytes, faster from some thousands
 //! on, and does not compare two texts.
 
 ghost use Rattle.std.specs.Int.{bit_at};
@@ -10,15 +11,21 @@ ghost use Rattle.rustc_parse_format.specs.LiteralUnits.{is_plain};
 
 use std::simd::prelude::*;
 
-/// The bytes at which a run ends: those below `low`, those above `high`, and four others. Where
-/// fewer others are needed, one is there again.
+/// The bytes at which a run ends: those below `low`, those above `high`, and four others, which may
+/// be equal.
 #[derive(Clone, Copy)]
 pub struct Stops {
+    /// The lowest byte of a run.
     pub low: u8,
+    /// The highest byte of a run.
     pub high: u8,
+    /// A byte between them at which a run ends.
     pub first: u8,
+    /// Another such byte.
     pub second: u8,
+    /// Another such byte.
     pub third: u8,
+    /// Another such byte.
     pub fourth: u8,
 }
 

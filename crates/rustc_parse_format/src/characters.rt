@@ -2,10 +2,11 @@
 //! this module, `source` and `cursor` work with bytes and UTF-8.
 
 ghost use Rattle.std.specs.Char.{digit_value, is_ascii_alphabetic, is_ascii_digit, is_whitespace};
-ghost use Rattle.std.specs.Prelude.{◌%◌, ◌*◌, ◌++◌, ◌+◌, ◌<◌, ◌≡◌, ◌==◌, ◌&&◌, bytes_eq, chars, codes};
-ghost use Rattle.std.specs.Prelude.{IfSome, IsFalse, IsNone, IsTrue, length, List, Some, false};
-ghost use Rattle.std.specs.Prelude.{nat_lt, not, slice_index, true, ℕ, ◌↔◌};
-ghost use Rattle.rustc_parse_format.specs.Bytes.{IsFront, IsLeft, IsOfAscii, is_no_stop, is_word_byte};
+ghost use Rattle.std.specs.Prelude.{◌%◌, ◌*◌, ◌++◌, ◌+◌, ◌<◌, ◌≡◌, ◌==◌, ◌&&◌, bytes_eq, chars};
+ghost use Rattle.std.specs.Prelude.{codes, IfSome, IsFalse, IsNone, IsTrue, length, List, Some};
+ghost use Rattle.std.specs.Prelude.{false, nat_lt, not, slice_index, true, ℕ, ◌↔◌};
+ghost use Rattle.rustc_parse_format.specs.Bytes.{IsFront, IsLeft, IsOfAscii, is_no_stop};
+ghost use Rattle.rustc_parse_format.specs.Bytes.{is_word_byte};
 ghost use Rattle.rustc_parse_format.specs.Characters.{Text, begins_with, behind, behind_digits};
 ghost use Rattle.rustc_parse_format.specs.Characters.{behind_first, behind_word, digits, first};
 ghost use Rattle.rustc_parse_format.specs.Characters.{first_passes, front};
@@ -154,7 +155,7 @@ pub fn begins_white(text: &str) -> bool
     first(text).is_some_and(|c| c.is_whitespace())
 }
 
-/// Returns these stops, without an upper bound.
+/// Returns the stops below `low` and these four, without an upper bound.
 #[inline(always)]
 fn stops(low: u8, first: u8, second: u8, third: u8, fourth: u8) -> Stops
     ensures { (x : ℕ) → is_no_stop result x ≡ (not (nat_lt x low) && (not (x == first)

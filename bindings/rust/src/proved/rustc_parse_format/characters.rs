@@ -132,7 +132,7 @@ pub fn begins_white(text: &str) -> bool {
     first(text).map_or(false, |c| c.is_whitespace())
 }
 
-/// Returns these stops, without an upper bound.
+/// Returns the stops below `low` and these four, without an upper bound.
 // ensures { (x : ℕ) → is_no_stop result x ≡ (not (nat_lt x low) && (not (x == first)
 //     && (not (x == second) && (not (x == third) && not (x == fourth))))) }
 #[inline(always)]

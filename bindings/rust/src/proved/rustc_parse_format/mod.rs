@@ -39,7 +39,6 @@ pub(crate) mod source;
 pub(crate) mod specification;
 pub(crate) mod types;
 pub(crate) mod written;
-
 pub use faults::Fault;
 pub use types::{
     Alignment, Argument, Count, DebugHex, FormatSpec, ParseError, ParseMode, Piece, Position, Sign,
