@@ -222,7 +222,8 @@ def main(who, name):
 def gather(tree, folder):
     """Puts the programs and the static library of a tree in which the gate has proved all crates
     into a folder."""
-    made = [tree / "crates" / it / "out" / it for it in ("formatread", "formatlint")]
+    names = ("formatread", "formatlint", "benchmark")
+    made = [tree / "crates" / it / "out" / it for it in names]
     with tempfile.TemporaryDirectory() as room:
         for file in made + static_library("gather", "dephungo", tree, Path(room)):
             shutil.copy(file, folder)
