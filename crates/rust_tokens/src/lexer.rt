@@ -2,11 +2,13 @@
 
 ghost use Rattle.std.specs.Prelude.{◌≡◌, ◌+◌, ◌<◌, ◌≤◌, ◌-◌, ◌++◌, ℕ, [], IfOk, IfSome, IsFalse};
 ghost use Rattle.std.specs.Prelude.{IsNone, IsTrue, List, chars, length};
+ghost use Rattle.std.specs.List.{list_all};
 ghost use Rattle.rust_tokens.specs.Covers.{Covers};
 ghost use Rattle.rust_tokens.specs.Files.{IsMarked, IsShebanged, OpensAttribute, ReadsFile, is_gap};
+ghost use Rattle.rust_tokens.specs.Files.{is_head};
 ghost use Rattle.rust_tokens.specs.Placed.{between, byte_length, end_of_all, placed, token_at};
 ghost use Rattle.rust_tokens.specs.Texts.{Text};
-ghost use Rattle.rust_tokens.specs.Tokens.{Begins, Lexeme};
+ghost use Rattle.rust_tokens.specs.Tokens.{Begins, Lexeme, Reads};
 ghost use Rattle.rust_tokens.specs.declared.kinds.Kind.TheVariants.{ByteOrderMark, Shebang};
 
 use crate::ends::behind_line;
@@ -72,6 +74,26 @@ fn next_step(text: &str) -> Option<Step<'_>>
     any_step(text)
 }
 
+/// Returns the first token of a text that is not the start of a file, and what is left after it, or
+/// `None` if the text is empty.
+pub fn split_first_token(text: &str) -> Option<(Token, &str)>
+    ensures begins { IfSome result (λ t. (x : Lexeme) × Begins x (chars text.now) (chars t.1.now)
+        × (t.0 ≡ token_at 0 x)) }
+    ensures fewer { IfSome result (λ t. length t.1.now < length text.now) }
+    ensures none { IsNone result → chars text.now ≡ [] }
+{
+    let Some(step) = next_step(text) else {
+        return None;
+    };
+    let token = Token {
+        kind: step.kind,
+        span: 0..text.len() - step.rest.len(),
+        suffix_start: text.len() - step.suffix.len(),
+        is_ended: step.is_ended,
+    };
+    Some((token, step.rest))
+}
+
 /// Returns the first token of a text that is not the start of a file, or `None` if the text is
 /// empty.
 pub fn first_token(text: &str) -> Option<Token>
@@ -79,15 +101,10 @@ pub fn first_token(text: &str) -> Option<Token>
         × (t ≡ token_at 0 x)) }
     ensures none { IsNone result → chars text.now ≡ [] }
 {
-    let Some(step) = next_step(text) else {
-        return None;
-    };
-    Some(Token {
-        kind: step.kind,
-        span: 0..text.len() - step.rest.len(),
-        suffix_start: text.len() - step.suffix.len(),
-        is_ended: step.is_ended,
-    })
+    match split_first_token(text) {
+        Some((token, _)) => Some(token),
+        None => None,
+    }
 }
 
 /// Returns whether a token is white space or a comment that documents nothing.
@@ -147,6 +164,16 @@ fn behind_shebang(text: &str) -> &str
     } else {
         behind_line(line)
     }
+}
+
+/// Returns what is left of a file after its byte order mark and its shebang.
+pub fn behind_head(text: &str) -> &str
+    // The tokens hs are the mark and the shebang. With the tokens of the rest they are the file's.
+    ensures { (hs : List Lexeme) × IsTrue (list_all (λ x. is_head x.kind) hs)
+        × ((rs : List Lexeme) → Reads (chars result.now) rs → ReadsFile (chars text.now) (hs ++ rs))
+        × (end_of_all 0 hs + length result.now ≡ length text.now) }
+{
+    behind_shebang(behind_mark(text))
 }
 
 /// Adds a token of this kind unless it is empty. Returns `Err` if an allocation fails.
