@@ -1,9 +1,11 @@
 //! Tests of `drawn_faults`: the drawings of faults, against those of rustc 1.95.
 //!
-//! `short_rows` and `line_rows` are the tables, `drawings` draws each row, and `misfits` has spans
-//! that no parser gives. In `memory` an allocation fails.
+//! `short_rows`, `line_rows` and `asm_rows` are the tables, `drawings` draws each row, and
+//! `misfits` has spans that no parser gives. In `memory` an allocation fails.
 #![tactic(auto)]
 
+#[cfg(test)]
+mod asm_rows;
 #[cfg(test)]
 mod drawings;
 #[cfg(test)]
