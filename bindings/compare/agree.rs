@@ -1,6 +1,8 @@
 //! The crate of bindings/rust beside a build of the original, or of the crate itself: agree SEED
 //! COUNT. With `--cfg applied` the other has the differences of docs/DIFFERENCES.md and the fourth
 //! mode; then nothing is left out, and as many literals with right and wrong escapes are compared.
+//! With `--cfg itself` besides, it is a build of the crate, and tokens, fixes and drawings are
+//! compared too.
 mod cases;
 #[macro_use]
 mod seen;
@@ -148,6 +150,16 @@ fn compare(case: &Case, random: &mut Random, counts: &mut Counts) {
     }
     same_state(case, &a, &b, counts);
     counts.faulty += usize::from(!a.errors.is_empty());
+    #[cfg(itself)]
+    same_made(case, random);
+}
+
+/// Compares what both crates make of a case, and of its errors at random places.
+#[cfg(itself)]
+fn same_made(case: &Case, random: &mut Random) {
+    let length = case.snippet.as_ref().unwrap_or(&case.input).len();
+    let places = [0; 4].map(|_| random.below(length + 2));
+    assert_eq!(ours::made(case, places), theirs::made(case, places), "what is made of {case:?}");
 }
 
 fn main() {

@@ -1,4 +1,5 @@
-//! Random cases: an input, how it is read, and a snippet that is its source literal or is not.
+//! Random cases: an input, how it is read, and a snippet that is its source literal or is not. And
+//! the strings of a file, with their literals.
 #![allow(dead_code)]
 
 /// Random numbers, the same for the same seed.
@@ -45,6 +46,7 @@ const PARTS: &[&str] = &[
     "0$", "1$", "{x}", "{0}", "{:>8.3}", "{n:w$.p$x?}", "{a.b}", "{a.0}", "{a.b:?}", "{a?}",
     "{a?:b}", "{a<}", "{a,}", "{a=}", "{a+}", "{:?#}", "{:x?#}", "{:}>}", "{:}<", "}>", "{ }",
     "{a:x}", "{a:b c}", "{a }", "%", "{:{}>", "text of some words", "{a.b.c}", "{{{}}}",
+    "\n                              ", "\n\n",
 ];
 
 /// Snippets that are hardly ever the source literal of an input.
@@ -185,4 +187,26 @@ pub fn same_as_its_literal(case: &Case) {
         }
         parser.next();
     }
+}
+
+/// A column of a file: with \n, \t, \r and \\ for what they stand for.
+fn column(text: &str) -> String {
+    let (mut out, mut chars) = (String::new(), text.chars());
+    while let Some(c) = chars.next() {
+        out.push(match if c == '\\' { chars.next() } else { None } {
+            None => c,
+            Some('n') => '\n',
+            Some('t') => '\t',
+            Some('r') => '\r',
+            Some(other) => other,
+        });
+    }
+    out
+}
+
+/// The strings of a file, each with its literal: on a line, with a tab between them.
+pub fn strings(file: &str) -> Vec<(String, String)> {
+    let text = std::fs::read_to_string(file).expect("a file of strings");
+    let pairs = text.lines().filter_map(|line| line.split_once('\t'));
+    pairs.map(|(text, literal)| (column(text), column(literal))).collect()
 }

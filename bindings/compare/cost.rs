@@ -4,6 +4,7 @@
 //! `--cfg library` of the library's own walk and of the export into buffers that are kept. With
 //! `--cfg growth` there are only walks of the library, over kinds of input at growing sizes.
 #![allow(dead_code)]
+mod cases;
 #[cfg(library)]
 mod library;
 
@@ -127,21 +128,6 @@ fn row(name: &str, inputs: &[Input], times: usize) {
     println!("{name}{columns}");
 }
 
-/// A column of the file: with \n, \t, \r and \\ for what they stand for.
-fn column(text: &str) -> String {
-    let (mut out, mut chars) = (String::new(), text.chars());
-    while let Some(c) = chars.next() {
-        out.push(match if c == '\\' { chars.next() } else { None } {
-            None => c,
-            Some('n') => '\n',
-            Some('t') => '\t',
-            Some('r') => '\r',
-            Some(other) => other,
-        });
-    }
-    out
-}
-
 /// Short texts, each of which is read a thousand times, and parts of long ones.
 #[rustfmt::skip]
 const SHORT: &[&str] = &[
@@ -197,9 +183,8 @@ fn show_growth() {
 
 fn main() {
     let Some(file) = std::env::args().nth(1) else { return show_growth() };
-    let file = std::fs::read_to_string(file).expect("a file of strings");
-    let pairs = file.lines().filter_map(|line| line.split_once('\t'));
-    let with: Vec<Input> = pairs.map(|(text, it)| (column(text), Some(column(it)))).collect();
+    let strings = cases::strings(&file).into_iter();
+    let with: Vec<Input> = strings.map(|(text, literal)| (text, Some(literal))).collect();
     let without: Vec<Input> = with.iter().map(|(text, _)| (text.clone(), None)).collect();
     row(&format!("{} strings", with.len()), &without, 1);
     row("the same, with their literals", &with, 1);

@@ -11,17 +11,20 @@ macro_rules! seen_by {
             use std::ops::Range;
             use $of::*;
 
-            pub fn parser(case: &Case) -> Parser<'_> {
-                let mode = match case.mode {
+            fn mode(case: &Case) -> ParseMode {
+                match case.mode {
                     0 => ParseMode::Format,
                     1 => ParseMode::InlineAsm,
                     2 => ParseMode::Diagnostic,
                     #[cfg(applied)]
                     3 => ParseMode::DiagnosticNamed,
                     other => panic!("the mode {other}"),
-                };
+                }
+            }
+
+            pub fn parser(case: &Case) -> Parser<'_> {
                 let snippet = case.snippet.clone();
-                Parser::new(&case.input, case.style, snippet, case.newline, mode)
+                Parser::new(&case.input, case.style, snippet, case.newline, mode(case))
             }
 
             type Mend<'a> = (u8, Option<&'a Range<usize>>, Option<&'a String>);
@@ -76,6 +79,27 @@ macro_rules! seen_by {
                 };
                 let asks_nothing = a.format == FormatSpec::default();
                 (a.is_identifier(), a.position.index(), asks_nothing, same)
+            }
+
+            /// What is made of a case besides its pieces: the tokens, the edits, the literal with
+            /// them, and the drawings, with those of the same errors at other places.
+            #[cfg(itself)]
+            pub fn made(case: &Case, places: [usize; 4]) -> String {
+                use $of::{faults::*, tokens::tokens};
+                let Case { input, style, snippet, newline, .. } = case;
+                let (source, mode) = (snippet.as_ref().unwrap_or(input), mode(case));
+                let mut errors = errors_of(input, *style, snippet.clone(), *newline, mode);
+                let mut made = format!("{:?}", edits(&errors));
+                made += &format!("{:?}", fix(input, *style, source, *newline, mode));
+                made += &format!("{:?}", tokens(input, *style, snippet.clone(), *newline, mode));
+                let picture = Picture { path: "a.rs", source, line_start: 9, literal_start: 0 };
+                errors.iter().for_each(|error| made += &draw(&picture, error));
+                for error in &mut errors {
+                    error.span = places[0]..places[1];
+                    error.secondary_label = Some(("s".to_string(), places[2]..places[3]));
+                    made += &draw(&picture, error);
+                }
+                made
             }
         }
     };

@@ -100,7 +100,8 @@ class Needs:
 
     def add_caller(self, caller):
         """Adds what a file in Rust names: what it imports of what is extracted, and each method
-        that it calls. What it exports is shown: all public methods of that are needed."""
+        that it calls. What it exports is shown: all public methods of that are needed that take no
+        allocator."""
         self.methods |= {
             name for name in caller.names_in(0, len(caller.tokens) - 1) if isinstance(name, tuple)
         }
@@ -198,6 +199,7 @@ class Needs:
             or (item.name, part.name) in self.methods
             or part.is_public
             and of in self.shown
+            and not takes_allocator(source, part)
             or part.kind == "fn"
             and (".", part.name, source.count_of(source.next(part.head, 2)) - 1) in self.methods
         )
@@ -215,6 +217,11 @@ def clones_in(source, item):
         return False
     words = [source.text(at) for at in source.places(item.head, item.open)]
     return words[2:8] == ["(", "&", "self", ",", "alloc", ":"]
+
+
+def takes_allocator(source, item):
+    """Whether a function has an argument `alloc`."""
+    return "alloc" in [source.text(at) for at in source.places(item.head, item.open)]
 
 
 # ---------------------------------------------------------------------------------- what is written

@@ -2,7 +2,7 @@
 from extraction.tokens import TRIVIA, Refused, closing, tokens_of
 
 KINDS = ("fn", "struct", "enum", "impl", "mod", "use", "const", "type", "ghost")
-TRAITS = ("FusedIterator", "Iterator", "Model")
+TRAITS = ("Default", "FusedIterator", "Iterator", "Model")
 
 
 class Item:

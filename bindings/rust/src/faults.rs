@@ -1,12 +1,17 @@
 //! The faults of a string literal for the one who wrote it: [`draw`] draws a fault under its
-//! source, as rustc does, and [`fix`] applies the edits that the suggestions of faults have.
+//! source, as rustc does, and [`fix`] applies the edits that the suggestions of faults have. A
+//! [`Fault`] is what an error is made of, with the [`id`](Fault::id) of its kind.
 use crate::proved::drawn_faults::{
     draw as draw_in, edits as edits_in, errors_of as errors_of_in, fix as fix_in,
 };
+use crate::proved::rustc_parse_format::error_list::empty_error;
+use crate::proved::rustc_parse_format::messages::tell;
 use crate::shim::alloc::{answer, Global};
-use crate::{ParseError, ParseMode};
+use crate::shim::parser::Parser;
+use crate::{Argument, ParseError, ParseMode};
 
 pub use crate::proved::drawn_faults::{Edit, Fixed, Picture};
+pub use crate::proved::rustc_parse_format::Fault;
 
 /// Returns the text that shows an error of a literal of this mode under its source, as rustc 1.95
 /// draws it without colours. The spans of the error are byte ranges of the literal: its parser had
@@ -103,6 +108,53 @@ pub fn errors_of(
         appended_newline,
         mode,
     ))
+}
+
+/// Returns the faults of all calls of a parser up to the end of an input, in the order in which they
+/// are found. The arguments are those of [`Parser::new`](crate::Parser::new). An allocation failure
+/// aborts, as elsewhere in Rust.
+///
+/// In the list of [`errors_of`] the error of each fault comes before those of all earlier faults if
+/// [`Fault::is_front`] says so, and else after them.
+///
+/// ```
+/// use dephungo::faults::faults_of;
+/// use dephungo::ParseMode;
+///
+/// let faults = faults_of("{r#a} {b", None, None, false, ParseMode::Format);
+/// let ids: Vec<&str> = faults.iter().map(|fault| fault.id()).collect();
+/// assert_eq!(ids, ["raw-identifier", "missing-closing-brace"]);
+/// ```
+pub fn faults_of(
+    input: &str,
+    style: Option<usize>,
+    snippet: Option<String>,
+    appended_newline: bool,
+    mode: ParseMode,
+) -> Vec<Fault<'_>> {
+    let parser = Parser::new(Global, input, style, snippet, appended_newline, mode);
+    let (mut parser, mut faults) = (answer(parser), Vec::new());
+    let mut argument = Argument::default();
+    while !parser.is_at_end() {
+        answer(parser.next_with_faults(&mut argument, &mut faults));
+    }
+    faults
+}
+
+/// Returns the error of a fault, as a parser has it in its list. An allocation failure aborts, as
+/// elsewhere in Rust.
+///
+/// ```
+/// use dephungo::faults::{error_of, faults_of};
+/// use dephungo::ParseMode;
+///
+/// let faults = faults_of("{}}", None, None, false, ParseMode::Format);
+/// assert_eq!(error_of(&faults[0]).description, "unmatched `}` found");
+/// ```
+pub fn error_of(fault: &Fault<'_>) -> ParseError {
+    let mut error = empty_error(Global);
+    answer(tell(Global, &mut error, fault));
+    error
 }
 
 /// Returns the source literal of an input with the edits of all errors up to the end of the input,

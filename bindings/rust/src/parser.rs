@@ -2,7 +2,6 @@
 //! reader and adds what that found to the fields.
 use crate::proved::rustc_parse_format::cursor::Cursor;
 use crate::proved::rustc_parse_format::error_list::empty_error;
-use crate::proved::rustc_parse_format::faults::Fault;
 use crate::proved::rustc_parse_format::messages::tell;
 use crate::proved::rustc_parse_format::reader::Reader;
 use crate::proved::rustc_parse_format::source::{quote_offset, source_of};
@@ -24,7 +23,9 @@ pub struct Parser<'input> {
     mode: ParseMode,
     /// The proved reader. Between two calls it holds nothing that it found. Its `curarg` and
     /// whether it reads a source literal are set from the fields here before each call.
-    reader: Reader<'input>,
+    pub(crate) reader: Reader<'input>,
+    /// Whether the faults of a call stay in the reader, and no errors are made of them.
+    pub(crate) keeps_faults: bool,
     /// The errors in the input so far. An error about a raw identifier, a flag after the type `?`,
     /// or a known mistake where a closing brace is missing is put before all earlier ones; each
     /// other error is put after them.
@@ -61,6 +62,7 @@ impl<'input> Parser<'input> {
         Parser {
             mode,
             reader: Reader::new(Global, Cursor::new(source, input), quote_offset(style)),
+            keeps_faults: false,
             errors: Vec::new(),
             curarg: 0,
             arg_places: Vec::new(),
@@ -79,48 +81,6 @@ impl<'input> Parser<'input> {
     /// its byte offset in the input, and the character. Returns `None` if there is none.
     pub fn peek_ahead(&self) -> Option<(Range<usize>, usize, char)> {
         self.reader.cursor.peek_place_ahead()
-    }
-
-    /// Returns whether the whole input was read.
-    pub(crate) fn is_at_end(&self) -> bool {
-        self.reader.is_at_end()
-    }
-
-    /// Returns how many bytes of the input were read.
-    pub(crate) fn position(&self) -> usize {
-        self.reader.cursor.position()
-    }
-
-    /// Makes a call, and moves what it found from the reader to the fields, except its faults.
-    #[inline(always)]
-    fn piece(&mut self) -> Option<Piece<'input>> {
-        let reader = &mut self.reader;
-        reader.curarg = self.curarg;
-        reader.cursor.source.is_literal = self.is_source_literal;
-        if reader.is_at_end() {
-            self.end_line();
-            return None;
-        }
-        let piece = answer(reader.piece(Global, self.mode));
-        self.curarg = reader.curarg;
-        if self.reader.closed.is_some() {
-            self.arg_places.extend(self.reader.closed.take());
-        }
-        if !self.reader.lines.is_empty() {
-            self.add_lines();
-        }
-        piece
-    }
-
-    /// Returns the next piece as `next` does, but moves the faults of this call to the end of
-    /// `faults`, and adds no errors.
-    pub(crate) fn next_with_faults(
-        &mut self,
-        faults: &mut Vec<Fault<'input>>,
-    ) -> Option<Piece<'input>> {
-        let piece = self.piece();
-        answer(self.reader.found.move_to(faults));
-        piece
     }
 
     /// Moves the lines that ended in a call to `line_spans`. If that is empty, the vectors are
@@ -170,8 +130,22 @@ impl<'input> Iterator for Parser<'input> {
     type Item = Piece<'input>;
 
     fn next(&mut self) -> Option<Piece<'input>> {
-        let piece = self.piece();
-        if !self.reader.found.is_empty() {
+        let reader = &mut self.reader;
+        reader.curarg = self.curarg;
+        reader.cursor.source.is_literal = self.is_source_literal;
+        if reader.is_at_end() {
+            self.end_line();
+            return None;
+        }
+        let piece = answer(reader.piece(Global, self.mode));
+        self.curarg = reader.curarg;
+        if self.reader.closed.is_some() {
+            self.arg_places.extend(self.reader.closed.take());
+        }
+        if !self.reader.lines.is_empty() {
+            self.add_lines();
+        }
+        if !self.reader.found.is_empty() && !self.keeps_faults {
             self.add_errors();
         }
         piece

@@ -1,6 +1,6 @@
 //! What is made of faults: the fixes of literals, and the drawings of spans that no parser gives,
 //! or of which there is no drawing of rustc. The others are compared by bindings/compare.
-use dephungo::faults::{draw, edits, errors_of, fix, Picture};
+use dephungo::faults::{draw, edits, error_of, errors_of, faults_of, fix, Picture};
 use dephungo::ParseMode::{self, *};
 use dephungo::{ParseError, Suggestion};
 use std::ops::Range;
@@ -109,6 +109,47 @@ fn edits_are_in_order() {
     assert_eq!(found, [(2..4, ""), (6..8, "x?"), (11..11, ":")]);
 }
 
+/// A text with a fault of each kind, and the id of that.
+#[test]
+fn ids() {
+    for (mode, text, id) in [
+        (Format, "}", "unmatched-closing-brace"),
+        (Format, "{a!}", "missing-closing-brace"),
+        (Format, "{:}<", "closing-brace-as-fill"),
+        (Format, "{_}", "underscore-as-name"),
+        (Format, "{65536}", "integer-too-large"),
+        (DiagnosticNamed, "{0}", "unnamed-argument"),
+        (DiagnosticNamed, "{a:?}", "text-after-colon"),
+        (Format, "{r#a}", "raw-identifier"),
+        (Format, "{:?#}", "flag-after-type"),
+        (Format, "{a?}", "missing-colon"),
+        (Format, "{?:a}", "debug-before-colon"),
+        (Format, "{a<}", "alignment-before-colon"),
+        (Format, "{a,}", "numeric-grouping"),
+        (Format, "{a=}", "debug-equals"),
+        (Format, "{a+}", "sign-before-colon"),
+        (Format, "{a.b}", "field-access"),
+        (Format, "{a.0}", "tuple-index"),
+    ] {
+        let faults = faults_of(text, None, None, false, mode);
+        assert!(faults.iter().any(|fault| fault.id() == id), "{text}");
+    }
+}
+
+/// The errors of faults, in the order of a parser's list, are the parser's.
+#[test]
+fn errors_of_faults() {
+    let text = "{r#a.b} {c?} {_} } {r#d";
+    let mut made: Vec<ParseError> = Vec::new();
+    for fault in &faults_of(text, None, None, false, Format) {
+        let at = if fault.is_front() { 0 } else { made.len() };
+        made.insert(at, error_of(fault));
+    }
+    let parts = |error: &ParseError| (error.description.clone(), error.span.clone());
+    let wanted = errors_of(text, None, None, false, Format);
+    assert!(made.len() > 5 && made.iter().map(parts).eq(wanted.iter().map(parts)));
+}
+
 fn error(span: Range<usize>, second: Option<Range<usize>>, suggestion: Suggestion) -> ParseError {
     ParseError {
         description: "d".to_string(),
@@ -172,6 +213,20 @@ fn spans() {
             0..2,
             Some(1..3),
             " --> a.rs:7:1\n  |\n7 | abc\n  | ^^-\n  | ||\n  | |s\n  | l in format string\n\n",
+        ),
+        // a label that begins first and is longer, around another one
+        (
+            "abcdef",
+            0..5,
+            Some(2..3),
+            " --> a.rs:7:1\n  |\n7 | abcdef\n  | ^^-^^\n  | | |\n  | | s\n  | l in format string\n\n",
+        ),
+        // no space before what is not drawn
+        (
+            "\u{200d}",
+            0..3,
+            None,
+            " --> a.rs:7:1\n  |\n7 |\n  | ^ l in format string\n\n",
         ),
         // up to the start of a line
         (

@@ -21,9 +21,7 @@ ghost use Rattle.drawn_faults.specs.Fixing.{fault_edits, literal_edits, text_edi
 ghost use Rattle.drawn_faults.specs.SeenEdits.{seen_edit, seen_fixed, with_edits};
 
 use rustc_parse_format::literal::is_source_literal;
-use rustc_parse_format::{
-    Argument, Fault, FormatSpec, ParseError, ParseMode, Parser, Position, Suggestion,
-};
+use rustc_parse_format::{Argument, Fault, ParseError, ParseMode, Parser, Suggestion};
 use std::alloc::{AllocError, Global};
 use std::ops::Range;
 
@@ -270,15 +268,6 @@ pub fn errors_of(
     Ok(parser.take_errors())
 }
 
-/// Returns an argument to read placeholders into.
-fn blank_argument<'a>() -> Argument<'a> {
-    Argument {
-        position: Position::ArgumentImplicitlyIs(0),
-        position_span: 0..0,
-        format: FormatSpec::default(),
-    }
-}
-
 /// Returns a text with the edits of the errors of all calls of a parser without errors, in a mode,
 /// and whether there are any. The text starts at the byte offset `at`. Returns `Err` if an
 /// allocation fails.
@@ -295,7 +284,7 @@ fn edit_all(
     ensures some { IfOk result (λ x. x.1
         ≡ not (is_empty (edits (seen_mode mode) (all_errors parser.old)))) }
 {
-    let mut argument = blank_argument();
+    let mut argument = Argument::default();
     let mut found = Vec::new(alloc);
     let mut edited = Edited {
         bytes: Vec::new(alloc),

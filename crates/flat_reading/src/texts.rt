@@ -178,16 +178,6 @@ pub fn run_extent(read: usize, text: &str) -> Extent
     }
 }
 
-/// Returns an argument to read placeholders into.
-#[inline(always)]
-pub fn blank_argument<'a>() -> Argument<'a> {
-    Argument {
-        position: Position::ArgumentImplicitlyIs(0),
-        position_span: 0..0,
-        format: FormatSpec::default(),
-    }
-}
-
 /// Returns the byte ranges in the input of the texts of the placeholder that begins at the byte
 /// `start`, where the next implicit argument has the index `next`. Returns `Err` if an allocation
 /// fails.
@@ -211,7 +201,7 @@ pub fn texts_at(
 {
     let mut parser = Parser::new(alloc, &input[start..], Some(start), None, false, mode)?;
     parser.set_curarg(next);
-    let mut argument = blank_argument();
+    let mut argument = Argument::default();
     let _taken = parser.next_into(&mut argument)?;
     Ok(argument_texts(input, 2, &argument))
 }

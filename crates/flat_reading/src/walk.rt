@@ -23,7 +23,7 @@ ghost use Rattle.flat_reading.specs.Stand.{PlaceholderStands, RunStands, SameBeh
 use crate::finders::Finders;
 use crate::flat::{NO_EXTENT, NOWHERE, SpecBuffer, bare, put_argument, put_plain_argument, there};
 use crate::records::{MaybeExtent, PIECE_NONE, PIECE_TEXT, POSITION_IMPLICIT, Step};
-use crate::texts::{blank_argument, has_texts, run_extent, texts_at};
+use crate::texts::{has_texts, run_extent, texts_at};
 use rustc_parse_format::{Argument, ParseMode, Parser, Taken};
 use std::alloc::{AllocError, Global};
 
@@ -160,7 +160,7 @@ impl<'a> Walker<'a> {
             offset,
             escapes,
             peeks,
-            argument: blank_argument(),
+            argument: Argument::default(),
             finders: Finders::new(alloc),
         }
     }

@@ -16,7 +16,7 @@ ghost use Rattle.format_lint.specs.Lint.{errors, most_drawn, start};
 ghost use Rattle.format_lint.specs.SeenLint.{errors_of, seen_source};
 
 use format_tokens::{Kind, Token, label, placed};
-use rustc_parse_format::{Argument, Fault, FormatSpec, ParseMode, Parser, Position};
+use rustc_parse_format::{Argument, Fault, ParseMode, Parser};
 use std::alloc::{AllocError, Global};
 
 /// The most faults that are drawn. Each drawing has the whole line, which may be the whole input.
@@ -92,15 +92,6 @@ impl<'a> Faults<'a> {
     }
 }
 
-/// Returns an argument to read placeholders into.
-fn blank_argument<'a>() -> Argument<'a> {
-    Argument {
-        position: Position::ArgumentImplicitlyIs(0),
-        position_span: 0..0,
-        format: FormatSpec::default(),
-    }
-}
-
 /// Returns the faults of all calls of a parser without errors that are drawn, and how many others
 /// there are, which are not kept. Returns `Err` if an allocation fails, or if there are more faults
 /// than a `usize` counts.
@@ -110,7 +101,7 @@ fn faults_of<'a>(alloc: Global, parser: &mut Parser<'a>) -> Result<Faults<'a>, A
         ≡ take most_drawn (all_errors parser.old)) }
     ensures others { IfOk result (λ f. f.others ≡ length (all_errors parser.old) - most_drawn) }
 {
-    let mut argument = blank_argument();
+    let mut argument = Argument::default();
     let mut found = Vec::new(alloc);
     let mut faults = Faults {
         first: Vec::new(alloc),
@@ -142,7 +133,7 @@ fn labels_of<'a>(
         ≡ nat_lt 0 (length (errors (seen_mode mode) (seen_source source.entry)))) }
 {
     let text = source.text;
-    let mut argument = blank_argument();
+    let mut argument = Argument::default();
     let mut labels = Vec::new(alloc);
     let mut found = Vec::new(alloc);
     let mut faults = Faults {

@@ -15,7 +15,7 @@ ghost use Rattle.format_tokens.specs.Walk.{call_tokens, placeholder_tokens, toke
 
 use crate::kinds::Kind;
 use crate::parts::{Run, begins, position, run_width, specification, take, width_of};
-use rustc_parse_format::{Argument, FormatSpec, ParseMode, Parser, Position, Taken};
+use rustc_parse_format::{Argument, ParseMode, Parser, Taken};
 use std::alloc::{AllocError, Global};
 
 /// Adds the tokens of a placeholder at the start of a text, and returns what is left of the text
@@ -125,15 +125,6 @@ pub fn label<'a>(
     }
 }
 
-/// Returns an argument to read placeholders into.
-fn blank_argument<'a>() -> Argument<'a> {
-    Argument {
-        position: Position::ArgumentImplicitlyIs(0),
-        position_span: 0..0,
-        format: FormatSpec::default(),
-    }
-}
-
 /// Returns the labels of an input, by the calls of a parser at its start.
 fn labels_by<'a>(
     alloc: Global,
@@ -146,7 +137,7 @@ fn labels_by<'a>(
         ≡ map sized (tokens_of (seen_mode mode) (chars input.now))) }
 {
     let mut labels = Vec::new(alloc);
-    let mut argument = blank_argument();
+    let mut argument = Argument::default();
     let mut rest = input;
     while !rest.is_empty() {
         let (taken, _) = parser.next_into(&mut argument)?;

@@ -13,7 +13,8 @@
 use crate::listing::{put_error, put_line, put_range};
 use crate::names::names;
 use crate::{Row, read, start};
-use rustc_parse_format::{Argument, FormatSpec, ParseError, Parser, Piece, Position, Taken};
+use rustc_parse_format::literal::content_text;
+use rustc_parse_format::{Argument, ParseError, Parser, Piece, Taken, put_all_written};
 use std::alloc::{AllocError, Global};
 use std::ops::Range;
 
@@ -96,13 +97,19 @@ fn put_pieces(out: &mut String, parser: &mut Parser<'_>) -> Result<(), AllocErro
     Ok(())
 }
 
-/// An argument before anything is read into it.
-fn blank_argument<'a>() -> Argument<'a> {
-    Argument {
-        position: Position::ArgumentImplicitlyIs(0),
-        position_span: 0..0,
-        format: FormatSpec::default(),
-    }
+/// Adds the piece that a call returned, with the argument that it read a placeholder into.
+fn put_taken<'a>(
+    alloc: Global,
+    out: &mut String,
+    taken: Option<Taken<'a>>,
+    argument: Argument<'a>,
+) -> Result<(), AllocError> {
+    let piece = match taken {
+        Some(Taken::Lit(text)) => Some(Piece::Lit(text)),
+        Some(Taken::NextArgument) => { Some(Piece::NextArgument(Box::new(alloc, argument)?)) }
+        None => None,
+    };
+    put_piece(out, &piece)
 }
 
 /// Adds the piece that the next call reads into an argument, and how many errors it puts in front.
@@ -111,20 +118,30 @@ fn put_next_into(
     out: &mut String,
     parser: &mut Parser<'_>,
 ) -> Result<(), AllocError> {
-    let mut argument = blank_argument();
+    let mut argument = Argument::default();
     let (taken, fronts) = parser.next_into(&mut argument)?;
-    let piece = match taken {
-        Some(Taken::Lit(text)) => Some(Piece::Lit(text)),
-        Some(Taken::NextArgument) => { Some(Piece::NextArgument(Box::new(alloc, argument)?)) }
-        None => None,
-    };
-    put_piece(out, &piece)?;
+    put_taken(alloc, out, taken, argument)?;
     write!(out, "and {fronts}")
+}
+
+/// Adds the piece of the next call, which leaves its faults, and the error of each of them.
+fn put_next_with_faults(
+    alloc: Global,
+    out: &mut String,
+    parser: &mut Parser<'_>,
+) -> Result<(), AllocError> {
+    let (mut argument, mut faults) = (Argument::default(), Vec::new(alloc));
+    let taken = parser.next_with_faults(&mut argument, &mut faults)?;
+    put_taken(alloc, out, taken, argument)?;
+    for fault in &faults {
+        put_error(out, &fault.error(alloc)?)?;
+    }
+    Ok(())
 }
 
 /// Adds how many errors the next call puts in front of how many.
 fn put_fronts(out: &mut String, parser: &mut Parser<'_>) -> Result<(), AllocError> {
-    let mut argument = blank_argument();
+    let mut argument = Argument::default();
     let (_, fronts) = parser.next_into(&mut argument)?;
     let errors = parser.errors().len();
     write!(out, "{fronts} of {errors}")
@@ -141,6 +158,37 @@ fn put_names(alloc: Global, out: &mut String, text: &str) -> Result<(), AllocErr
         }
         None => out.push_str("a fault"),
     }
+}
+
+/// Adds the text that a content stands for.
+fn put_content_text(alloc: Global, out: &mut String, content: &str) -> Result<(), AllocError> {
+    match content_text(alloc, content)? {
+        Some(text) => {
+            let text = text.as_str();
+            write!(out, "\"{text}\"")
+        }
+        None => out.push_str("none"),
+    }
+}
+
+/// Adds what a call over the input returns that needs no parser, and returns whether it is one.
+fn put_of_input(
+    alloc: Global,
+    out: &mut String,
+    call: &str,
+    input: &str,
+) -> Result<bool, AllocError> {
+    match call {
+        "names" => put_names(alloc, out, input)?,
+        "content_text" => put_content_text(alloc, out, input)?,
+        "put_all_written" => {
+            out.push('"')?;
+            put_all_written(out, input)?;
+            out.push('"')?;
+        }
+        _ => return Ok(false),
+    }
+    Ok(true)
 }
 
 fn put_number(out: &mut String, number: usize) -> Result<(), AllocError> {
@@ -208,6 +256,7 @@ fn put_result(
     match call {
         "next" => put_piece(out, &parser.next()?),
         "next_into" => put_next_into(alloc, out, parser),
+        "next_with_faults" => put_next_with_faults(alloc, out, parser),
         "is_identifier" => put_identifier(out, parser),
         "fronts" => put_fronts(out, parser),
         "step" => step(parser),
@@ -248,13 +297,12 @@ fn put_calls(
 /// A script with what a row's input gives. Its first line may say how the parser begins: with
 /// another index, or after `read_all`.
 pub fn follow(alloc: Global, row: &Row<'_>) -> Result<String, AllocError> {
-    let mut out = String::new(alloc);
+    let (mut out, mut result) = (String::new(alloc), String::new(alloc));
     let script = row.wanted.as_str();
     let (first, others) = script.split_once('\n').unwrap_or((script, ""));
-    if first.starts_with("names ") {
-        let mut result = String::new(alloc);
-        put_names(alloc, &mut result, row.input.as_str())?;
-        put_call(&mut out, "names", result.as_str())?;
+    let call = first.split(' ').next().unwrap_or("");
+    if put_of_input(alloc, &mut result, call, row.input.as_str())? {
+        put_call(&mut out, call, result.as_str())?;
     } else if first.starts_with("read_all ") {
         if let Some((pieces, mut parser)) = read(alloc, row)? {
             let count = pieces.len();

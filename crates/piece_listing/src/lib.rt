@@ -14,4 +14,4 @@ mod task;
 pub mod verdict;
 
 pub use listing::{put_piece, put_quoted};
-pub use numbers::{put_number, put_span};
+pub use numbers::put_span;

@@ -13,18 +13,10 @@ use std::ops::Range;
 /// The most bytes of a span behind a mark: the mark, two dots and two numbers of up to 20 digits.
 const SPAN_BYTES: usize = 43;
 
-/// Adds a number in decimal digits.
-#[inline(never)]
-fn put_digits(out: &mut String, number: usize) -> Result<(), AllocError>
-    ensures { OnOk result (string_bytes out.new ≡ string_bytes out.old ++ decimal number) }
-{
-    out.push_str(Buffer::new().format(number))
-}
-
 /// Appends a label and then a number in decimal digits to `out`. Returns `Err` if an allocation
 /// fails; the label may then be in `out`.
 #[inline(always)]
-pub fn put_number(out: &mut String, label: &str, number: usize) -> Result<(), AllocError>
+pub(crate) fn put_number(out: &mut String, label: &str, number: usize) -> Result<(), AllocError>
     ensures { OnOk result (string_bytes out.new ≡ string_bytes out.old
         ++ (label.now ++ decimal number)) }
 {
@@ -32,7 +24,7 @@ pub fn put_number(out: &mut String, label: &str, number: usize) -> Result<(), Al
     if number < 10 {
         out.push(char::from(b'0' + number as u8))?;
     } else {
-        put_digits(out, number)?;
+        out.push_str(Buffer::new().format(number))?;
     }
     Ok(())
 }

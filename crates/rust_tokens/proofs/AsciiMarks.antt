@@ -14,7 +14,7 @@ use Rattle.std.proofs.lemmas.List.{drop_all}
 use Rattle.std.proofs.lemmas.Option.{same_Some}
 use Rattle.std.proofs.lemmas.Str.{chars-nil, IsCharBoundary-after_ascii, IsCharBoundary-end}
 use Rattle.std.proofs.lemmas.Str.{IsCharBoundary-before_ascii}
-use Rattle.rust_tokens.specs.Texts.{Text, or}
+use Rattle.rust_tokens.specs.Texts.{IsRest, Text, or}
 use Rattle.rust_tokens.specs.Runs.{behind, is_in_line, stops}
 use Rattle.rust_tokens.specs.Strings.{behind_string, spelling}
 use Rattle.rust_tokens.specs.Comments.{CommentTail, Close, Character, Nested, behind_comment}
@@ -93,13 +93,8 @@ map-or : (w x y z : Option Text) → option_map chars w ≡ x → option_map cha
 map-or None x y z e f = f ∙ ap (λ o. or o z) e
 map-or (Some r) x y z e f = ap (λ o. or o z) e
 
--- Where a text is cut behind an ASCII byte.
-pub record Cut (s r : List ℕ) : Type 0 where
-  pub within : length r ≤ length s
-  pub at : IsCharBoundary s (length s - length r)
-  pub rest : drop (length s - length r) s ≡ r
-
-pub cut : (s v r : List ℕ) (b : ℕ) → IsUtf8 s → b < 128 → s ≡ v ++ b ∷ r → Cut s r
+-- A text is cut behind an ASCII byte.
+cut : (s v r : List ℕ) (b : ℕ) → IsUtf8 s → b < 128 → s ≡ v ++ b ∷ r → IsRest s r
 cut s v r b u small e =
     let n : length s ≡ length v + suc (length r) = ap length e ∙ length-append v (b ∷ r) in
     let at : length v + 1 ≡ length s - length r = omega (arith, n) in
@@ -134,22 +129,35 @@ string-byte true c t w v more = more false
 string-byte false c t w v more =
     map-cond (c == 34) _ _ _ _ (chars-encodes t v) (more (c == 92))
 
-string-nil : (e : Bool) → option_map chars (behind_string e []) ≡ behind_string e []
+string-empty : (e : Bool) → option_map chars (behind_string e []) ≡ behind_string e []
 unfolding behind_string
-string-nil true = refl
-string-nil false = refl
+string-empty true = refl
+string-empty false = refl
 
 pub string-chars : (s : List ℕ) → IsUtf8 s
     → option_map chars (behind_string false s) ≡ behind_string false (chars s)
 string-chars = same-chars (behind_string false) (λ t v.
-    same behind_string (λ _. false) string-nil string-byte string-wide (λ _. string-wide false)
+    same behind_string (λ _. false) string-empty string-byte string-wide (λ _. string-wide false)
     t false v)
 
-pub string-cut : (s r : List ℕ) → IsUtf8 s → Some r ≡ behind_string false s → Cut s r
+pub string-cut : (s r : List ℕ) → IsUtf8 s → Some r ≡ behind_string false s → IsRest s r
 string-cut s r u h =
     let x = string-reads s r (sym h) in
     let units = flat_map spelling x.0 in
     cut s units r 34 u (omega arith) (x.2 ∙ append_assoc units (34 ∷ []) r)
+
+pub string-found : (s r : List ℕ) → IsUtf8 s → Some r ≡ behind_string false s
+    → Some (chars r) ≡ behind_string false (chars s)
+string-found s r u h = ap (option_map chars) h ∙ string-chars s u
+
+pub string-none : (e : Bool) (s t : List ℕ) → IsUtf8 s → length t ≡ 0
+    → behind_string e t ≡ behind_string false s → None ≡ behind_string false (chars s)
+unfolding behind_string
+string-none true s [] u n h = ap (option_map chars) h ∙ string-chars s u
+string-none false s [] u n h = ap (option_map chars) h ∙ string-chars s u
+string-none e s (c ∷ t) u n h = absurd (omega (arith, n))
+
+pub ruleset string_ends = (string-cut, string-found)
 
 -- Comments, by how many others one is in and the byte before.
 abbrev comment : ℕ × ℕ → Text → Option Text
@@ -180,14 +188,14 @@ comment-byte k c t w v more =
     (map-both (k.1 == 42 && c == 47) _ _ _ _
     (map-cond (k.0 == 0) _ _ _ _ (chars-encodes t v) (more (k.0 - 1, 0))) (more (k.0, c)))
 
-comment-nil : (k : ℕ × ℕ) → option_map chars (comment k []) ≡ comment k []
+comment-empty : (k : ℕ × ℕ) → option_map chars (comment k []) ≡ comment k []
 unfolding behind_comment
-comment-nil k = refl
+comment-empty k = refl
 
 pub comment-chars : (s : List ℕ) → IsUtf8 s
     → option_map chars (behind_comment 0 0 s) ≡ behind_comment 0 0 (chars s)
 comment-chars = same-chars (behind_comment 0 0) (λ t v.
-    same comment (λ k. (k.0, 0)) comment-nil comment-byte comment-wide
+    same comment (λ k. (k.0, 0)) comment-empty comment-byte comment-wide
     (λ k. comment-wide (k.0, 0)) t (0, 0) v)
 
 spelled-last : (b : CommentTail) → (v : Text) × (spelled b ≡ v ++ 47 ∷ [])
@@ -200,12 +208,24 @@ spelled-last (Nested a b) =
           (ap (λ t. spelled a ++ t) x.1 ∙ sym (append_assoc (spelled a) x.0 (47 ∷ []))),
     )
 
-pub comment-cut : (s r : List ℕ) → IsUtf8 s → Some r ≡ behind_comment 0 0 s → Cut s r
+pub comment-cut : (s r : List ℕ) → IsUtf8 s → Some r ≡ behind_comment 0 0 s → IsRest s r
 comment-cut s r u h =
     let x = comment-reads s r (sym h) in
     let y = spelled-last x.0 in
     cut s y.0 r 47 u (omega arith)
     (x.2 ∙ (ap (λ t. t ++ r) y.1 ∙ append_assoc y.0 (47 ∷ []) r))
+
+pub comment-found : (s r : List ℕ) → IsUtf8 s → Some r ≡ behind_comment 0 0 s
+    → Some (chars r) ≡ behind_comment 0 0 (chars s)
+comment-found s r u h = ap (option_map chars) h ∙ comment-chars s u
+
+pub comment-none : (k b : ℕ) (s t : List ℕ) → IsUtf8 s → length t ≡ 0
+    → behind_comment k b t ≡ behind_comment 0 0 s → None ≡ behind_comment 0 0 (chars s)
+unfolding behind_comment
+comment-none k b s [] u n h = ap (option_map chars) h ∙ comment-chars s u
+comment-none k b s (c ∷ t) u n h = absurd (omega (arith, n))
+
+pub ruleset comment_ends = (comment-cut, comment-found)
 
 -- Raw strings.
 no_hash : (n b : ℕ) (t : Text) → 128 ≤ b → behind_hashes (suc n) (b ∷ t) ≡ None
@@ -243,14 +263,14 @@ unfolding behind_raw
 raw-byte n c t w v more =
     map-both (c == 34) _ _ _ _ (map-or _ _ _ _ (hashes-same n t v) (more n)) (more n)
 
-raw-nil : (n : ℕ) → option_map chars (behind_raw n []) ≡ behind_raw n []
+raw-empty : (n : ℕ) → option_map chars (behind_raw n []) ≡ behind_raw n []
 unfolding behind_raw
-raw-nil n = refl
+raw-empty n = refl
 
 pub raw-chars : (n : ℕ) (s : List ℕ) → IsUtf8 s
     → option_map chars (behind_raw n s) ≡ behind_raw n (chars s)
 raw-chars n = same-chars (behind_raw n) (λ t v.
-    same behind_raw (λ k. k) raw-nil raw-byte raw-wide raw-wide t n v)
+    same behind_raw (λ k. k) raw-empty raw-byte raw-wide raw-wide t n v)
 
 raw-last : (n b : ℕ) (r : Text) → b < 128 → (v : Text) × (d : ℕ) × (d < 128)
     × (b ∷ (replicate n 35 ++ r) ≡ v ++ d ∷ r)
@@ -258,12 +278,24 @@ raw-last zero b r small = ([], b, small, refl)
 raw-last (suc n) b r small =
     let x = raw-last n 35 r (omega arith) in (b ∷ x.0, x.1, x.2, ap (λ t. b ∷ t) x.3)
 
-pub raw-cut : (n : ℕ) (s r : List ℕ) → IsUtf8 s → Some r ≡ behind_raw n s → Cut s r
+pub raw-cut : (n : ℕ) (s r : List ℕ) → IsUtf8 s → Some r ≡ behind_raw n s → IsRest s r
 raw-cut n s r u h =
     let x = raw-reads n s r (sym h) in
     let y = raw-last n 34 r (omega arith) in
     cut s (x.0 ++ y.0) r y.1 u y.2
     (x.2 ∙ (ap (λ t. x.0 ++ t) y.3 ∙ sym (append_assoc x.0 y.0 (y.1 ∷ r))))
+
+pub raw-found : (n : ℕ) (s r : List ℕ) → IsUtf8 s → Some r ≡ behind_raw n s
+    → Some (chars r) ≡ behind_raw n (chars s)
+raw-found n s r u h = ap (option_map chars) h ∙ raw-chars n s u
+
+pub raw-none : (n : ℕ) (s t : List ℕ) → IsUtf8 s → length t ≡ 0
+    → behind_raw n t ≡ behind_raw n s → None ≡ behind_raw n (chars s)
+unfolding behind_raw
+raw-none n s [] u m h = ap (option_map chars) h ∙ raw-chars n s u
+raw-none n s (c ∷ t) u m h = absurd (omega (arith, m))
+
+pub ruleset raw_ends = (raw-cut, raw-found)
 
 -- Lines.
 line-wide : (k : Unit {0}) (b : ℕ) (t : Text) → 128 ≤ b
@@ -292,7 +324,7 @@ line-chars s r u h =
     same (λ (k : Unit {0}) t. Some (behind is_in_line t)) (λ k. k) (λ k. ap (λ r. Some r) chars-nil)
     line-byte line-wide line-wide t tt v) s u)
 
-line-cut-at : (s v r : List ℕ) → IsUtf8 s → s ≡ v ++ r → stops is_in_line r ≡ true → Cut s r
+line-cut-at : (s v r : List ℕ) → IsUtf8 s → s ≡ v ++ r → stops is_in_line r ≡ true → IsRest s r
 line-cut-at s v [] u e stop =
     let size : length s ≡ length s - length {A = ℕ} [] = omega arith in
     record {
@@ -314,8 +346,14 @@ line-cut-at s v (b ∷ r) u e stop =
       rest = ap (λ k. drop k s) (sym at) ∙ (ap (drop (length v)) e ∙ drop-append_seam v (b ∷ r));
     }
 
-pub line-cut : (s r : List ℕ) → IsUtf8 s → r ≡ behind is_in_line s → Cut s r
+pub line-cut : (s r : List ℕ) → IsUtf8 s → r ≡ behind is_in_line s → IsRest s r
 line-cut s r u h =
     line-cut-at s (front is_in_line s) r u
     (front-behind is_in_line s ∙ ap (λ t. front is_in_line s ++ t) (sym h))
     (subst (λ t. stops is_in_line t ≡ true) (sym h) (stops-behind is_in_line s))
+
+pub line-nil : (t : Text) → length t ≡ 0 → behind is_in_line t ≡ t
+line-nil [] h = refl
+line-nil (c ∷ t) h = absurd (omega (arith, h))
+
+pub ruleset line_ends = (line-cut, line-chars, line-nil)

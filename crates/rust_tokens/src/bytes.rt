@@ -5,8 +5,22 @@ ghost use Rattle.rust_tokens.specs.Bytes.{is_ascii_in, is_plain_start, is_prefix
 ghost use Rattle.rust_tokens.specs.Bytes.{is_sign};
 ghost use Rattle.rust_tokens.specs.Runs.{is_id_continue, is_id_start, is_space};
 
-/// For each byte a digit: 1 for white space, 2 for punctuation but `/`, 3 for digits, 4 for the
-/// letters that a prefix can begin with, 5 for other letters and `_`, 0 for all else.
+/// White space.
+const SPACE: u8 = b'1';
+
+/// Punctuation but `/`.
+const SIGN: u8 = b'2';
+
+/// Digits. From this sort on a byte continues a word.
+const DIGIT: u8 = b'3';
+
+/// The letters that a prefix can begin with. From this sort on a byte begins a word.
+const PREFIX: u8 = b'4';
+
+/// Other letters and `_`.
+const START: u8 = b'5';
+
+/// The sort of each byte, or 0 if it is of none of these.
 static SORTS: [u8; 256] = *b"\
     00000000011111000000000000000000\
     12022220222222203333333333222222\
@@ -22,7 +36,7 @@ static SORTS: [u8; 256] = *b"\
 pub fn is_space_byte(byte: u8) -> bool
     ensures { result ≡ is_ascii_in is_space byte }
 {
-    SORTS[byte as usize] == b'1'
+    SORTS[byte as usize] == SPACE
 }
 
 /// Returns whether the byte is a letter, a digit or `_`, which continue a word.
@@ -30,7 +44,7 @@ pub fn is_space_byte(byte: u8) -> bool
 pub fn is_word_byte(byte: u8) -> bool
     ensures { result ≡ is_ascii_in is_id_continue byte }
 {
-    SORTS[byte as usize] >= b'3'
+    SORTS[byte as usize] >= DIGIT
 }
 
 /// Returns whether the byte is a letter or `_`, which begin a word.
@@ -38,7 +52,7 @@ pub fn is_word_byte(byte: u8) -> bool
 pub fn is_start_byte(byte: u8) -> bool
     ensures { result ≡ is_ascii_in is_id_start byte }
 {
-    SORTS[byte as usize] >= b'4'
+    SORTS[byte as usize] >= PREFIX
 }
 
 /// Returns whether the byte is punctuation that is a token by itself, whatever follows.
@@ -46,7 +60,7 @@ pub fn is_start_byte(byte: u8) -> bool
 pub fn is_sign(byte: u8) -> bool
     ensures { result ≡ is_sign byte }
 {
-    SORTS[byte as usize] == b'2'
+    SORTS[byte as usize] == SIGN
 }
 
 /// Returns whether the byte begins a word and no literal: a letter but `b`, `c` and `r`, or `_`.
@@ -54,7 +68,7 @@ pub fn is_sign(byte: u8) -> bool
 pub fn is_plain_start(byte: u8) -> bool
     ensures { result ≡ is_plain_start byte }
 {
-    SORTS[byte as usize] == b'5'
+    SORTS[byte as usize] == START
 }
 
 /// Returns whether the byte is a letter with which a prefix can begin: `b`, `c` or `r`.
@@ -62,5 +76,5 @@ pub fn is_plain_start(byte: u8) -> bool
 pub fn is_prefix_letter(byte: u8) -> bool
     ensures { result ≡ is_prefix_letter byte }
 {
-    SORTS[byte as usize] == b'4'
+    SORTS[byte as usize] == PREFIX
 }

@@ -1,25 +1,35 @@
-//! Where literals and comments have their end, by the bytes of the text. What marks an end is
+//! Where literals and comments have their end, found in the bytes of a text. What marks an end is
 //! ASCII, and no byte of another character is.
 
-ghost use Rattle.std.specs.Prelude.{◌≡◌, false, option_map};
+ghost use Rattle.std.specs.Prelude.{◌≡◌, chars, false, option_map};
 ghost use Rattle.rust_tokens.specs.Comments.{behind_comment};
 ghost use Rattle.rust_tokens.specs.RawStrings.{behind_hashes, behind_raw};
 ghost use Rattle.rust_tokens.specs.Runs.{behind, is_in_line};
 ghost use Rattle.rust_tokens.specs.Strings.{behind_string};
+ghost use Rattle.rust_tokens.specs.Texts.{IsRest};
 
-/// Returns the bytes after the closing quote of a string with escapes, from after its opening quote
-/// on, or `None` if it has no end.
-#[tactic(auto, unfolding(crate::specs::Strings::behind_string))]
-pub fn behind_string(bytes: &[u8]) -> Option<&[u8]>
-    ensures { option_map (λ r. r.now) result ≡ behind_string false bytes.now }
+/// Returns what is left of a text, where these bytes are left of its bytes.
+#[inline(always)]
+fn rest_of<'a>(text: &'a str, bytes: &[u8]) -> &'a str
+    requires { IsRest text.now bytes.now }
+    ensures { result.now ≡ bytes.now }
 {
-    let mut rest = bytes;
+    &text[text.len() - bytes.len()..]
+}
+
+/// Returns what is left after the closing quote of a string with escapes, from after its opening
+/// quote on, or `None` if it has no end.
+#[tactic(auto, unfolding(crate::specs::Strings::behind_string), using(crate::proofs::AsciiMarks::string_ends))]
+pub fn behind_string(text: &str) -> Option<&str>
+    ensures { option_map (λ r. chars r.now) result ≡ behind_string false (chars text.now) }
+{
+    let mut rest = text.as_bytes();
     let mut is_escaped = false;
     while let Some((byte, more)) = rest.split_first() {
         if is_escaped {
             is_escaped = false;
         } else if *byte == b'"' {
-            return Some(more);
+            return Some(rest_of(text, more));
         } else {
             is_escaped = *byte == b'\\';
         }
@@ -28,13 +38,13 @@ pub fn behind_string(bytes: &[u8]) -> Option<&[u8]>
     None
 }
 
-/// Returns the bytes after the end of a block comment, from after its `/*` on, or `None` if it has
-/// no end.
-#[tactic(auto, unfolding(crate::specs::Comments::behind_comment))]
-pub fn behind_comment(bytes: &[u8]) -> Option<&[u8]>
-    ensures { option_map (λ r. r.now) result ≡ behind_comment 0 0 bytes.now }
+/// Returns what is left after the end of a block comment, from after its `/*` on, or `None` if it
+/// has no end.
+#[tactic(auto, unfolding(crate::specs::Comments::behind_comment), using(crate::proofs::AsciiMarks::comment_ends))]
+pub fn behind_comment(text: &str) -> Option<&str>
+    ensures { option_map (λ r. chars r.now) result ≡ behind_comment 0 0 (chars text.now) }
 {
-    let mut rest = bytes;
+    let mut rest = text.as_bytes();
     let mut above: usize = 0;
     let mut before = 0;
     while let Some((byte, more)) = rest.split_first() {
@@ -43,7 +53,7 @@ pub fn behind_comment(bytes: &[u8]) -> Option<&[u8]>
             before = 0;
         } else if before == b'*' && *byte == b'/' {
             if above == 0 {
-                return Some(more);
+                return Some(rest_of(text, more));
             }
             above -= 1;
             before = 0;
@@ -75,17 +85,17 @@ fn behind_hashes(bytes: &[u8], hashes: usize) -> Option<&[u8]>
     Some(rest)
 }
 
-/// Returns the bytes after the end of a raw string with this many hashes, from after its opening
+/// Returns what is left after the end of a raw string with this many hashes, from after its opening
 /// quote on, or `None` if it has no end.
-#[tactic(auto, unfolding(crate::specs::RawStrings::behind_raw))]
-pub fn behind_raw(bytes: &[u8], hashes: usize) -> Option<&[u8]>
-    ensures { option_map (λ r. r.now) result ≡ behind_raw hashes bytes.now }
+#[tactic(auto, unfolding(crate::specs::RawStrings::behind_raw), using(crate::proofs::AsciiMarks::raw_ends))]
+pub fn behind_raw(text: &str, hashes: usize) -> Option<&str>
+    ensures { option_map (λ r. chars r.now) result ≡ behind_raw hashes (chars text.now) }
 {
-    let mut rest = bytes;
+    let mut rest = text.as_bytes();
     while let Some((byte, more)) = rest.split_first() {
         if *byte == b'"' {
             if let Some(end) = behind_hashes(more, hashes) {
-                return Some(end);
+                return Some(rest_of(text, end));
             }
         }
         rest = more;
@@ -93,16 +103,17 @@ pub fn behind_raw(bytes: &[u8], hashes: usize) -> Option<&[u8]>
     None
 }
 
-/// Returns the bytes from the first LF on.
-pub fn behind_line(bytes: &[u8]) -> &[u8]
-    ensures { result.now ≡ behind is_in_line bytes.now }
+/// Returns the text from its first LF on.
+#[tactic(auto, using(crate::proofs::AsciiMarks::line_ends))]
+pub fn behind_line(text: &str) -> &str
+    ensures { chars result.now ≡ behind is_in_line (chars text.now) }
 {
-    let mut rest = bytes;
+    let mut rest = text.as_bytes();
     while let Some((byte, more)) = rest.split_first() {
         if *byte == b'\n' {
-            return rest;
+            return rest_of(text, rest);
         }
         rest = more;
     }
-    rest
+    rest_of(text, rest)
 }

@@ -11,11 +11,9 @@ ghost use Rattle.rust_tokens.specs.Tokens.{is_literal};
 
 use crate::bodies::{Body, ended, unended};
 use crate::bytes::{is_plain_start, is_prefix_letter, is_sign, is_space_byte, is_word_byte};
+use crate::ends::{behind_comment, behind_line, behind_raw, behind_string};
 use crate::kinds::Kind;
-use crate::literals::{
-    behind_char, behind_comment, behind_line, behind_name, behind_raw, behind_raw_name,
-    behind_string, block_kind, line_kind,
-};
+use crate::literals::{behind_char, behind_name, behind_raw_name, block_kind, line_kind};
 use crate::numbers::first_number;
 use crate::openings::{Opening, first_opening};
 use crate::texts::{

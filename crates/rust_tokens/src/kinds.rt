@@ -69,12 +69,12 @@ pub enum Kind {
 /// A token of a text.
 #[derive(Clone, Debug, Eq, PartialEq, Drop)]
 pub struct Token {
-    /// The kind.
-    pub kind: Kind,
     /// The byte range of the text.
     pub span: Range<usize>,
     /// The byte offset where the suffix of a literal starts: the end of the token if there is none.
     pub suffix_start: usize,
+    /// The kind.
+    pub kind: Kind,
     /// Whether it has its end. Only comments in `/* */` and literals in quotes can lack one.
     pub is_ended: bool,
 }

@@ -9,9 +9,9 @@ ghost use Rattle.rust_tokens.specs.Texts.{Text};
 ghost use Rattle.rust_tokens.specs.Tokens.{Begins, Lexeme};
 ghost use Rattle.rust_tokens.specs.declared.kinds.Kind.TheVariants.{ByteOrderMark, Shebang};
 
+use crate::ends::behind_line;
 use crate::first::{behind_suffix, first_body, plain_token};
 use crate::kinds::{Kind, Token};
-use crate::literals::behind_line;
 use crate::texts::strip;
 use std::alloc::{AllocError, Global};
 

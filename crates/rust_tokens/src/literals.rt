@@ -1,57 +1,12 @@
-//! Where literals and comments end, and what a comment documents.
+//! Where characters and lifetimes end, and what a comment documents.
 
-ghost use Rattle.std.specs.Prelude.{◌≡◌, chars, option_map, false};
+ghost use Rattle.std.specs.Prelude.{◌≡◌, chars, option_map};
 ghost use Rattle.rust_tokens.specs.Characters.{behind_char, behind_escape, behind_name};
 ghost use Rattle.rust_tokens.specs.Characters.{behind_raw_name, unless_apostrophe};
-ghost use Rattle.rust_tokens.specs.Comments.{behind_comment, block_kind, line_kind};
-ghost use Rattle.rust_tokens.specs.RawStrings.{behind_raw};
-ghost use Rattle.rust_tokens.specs.Runs.{behind, is_in_line};
-ghost use Rattle.rust_tokens.specs.Strings.{behind_string};
+ghost use Rattle.rust_tokens.specs.Comments.{block_kind, line_kind};
 
-use crate::ends;
 use crate::kinds::Kind;
 use crate::texts::{Class, begins, behind_run, is_id_start, is_plain, split_first, strip};
-
-/// Returns what is left after the closing quote of a string with escapes, from after its opening
-/// quote on, or `None` if it has no end.
-pub fn behind_string(text: &str) -> Option<&str>
-    ensures { option_map (λ r. chars r.now) result ≡ behind_string false (chars text.now) }
-{
-    let Some(rest) = ends::behind_string(text.as_bytes()) else {
-        return None;
-    };
-    Some(&text[text.len() - rest.len()..])
-}
-
-/// Returns what is left after the end of a block comment, from after its `/*` on, or `None` if it
-/// has no end.
-pub fn behind_comment(text: &str) -> Option<&str>
-    ensures { option_map (λ r. chars r.now) result ≡ behind_comment 0 0 (chars text.now) }
-{
-    let Some(rest) = ends::behind_comment(text.as_bytes()) else {
-        return None;
-    };
-    Some(&text[text.len() - rest.len()..])
-}
-
-/// Returns what is left after the end of a raw string with this many hashes, from after its opening
-/// quote on, or `None` if it has no end.
-pub fn behind_raw(text: &str, hashes: usize) -> Option<&str>
-    ensures { option_map (λ r. chars r.now) result ≡ behind_raw hashes (chars text.now) }
-{
-    let Some(rest) = ends::behind_raw(text.as_bytes(), hashes) else {
-        return None;
-    };
-    Some(&text[text.len() - rest.len()..])
-}
-
-/// Returns the text from its first LF on.
-pub fn behind_line(text: &str) -> &str
-    ensures { chars result.now ≡ behind is_in_line (chars text.now) }
-{
-    let rest = ends::behind_line(text.as_bytes());
-    &text[text.len() - rest.len()..]
-}
 
 /// Returns the kind of a line comment, by what is behind its `//`.
 pub fn line_kind(text: &str) -> Kind

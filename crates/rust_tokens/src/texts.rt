@@ -216,12 +216,10 @@ pub fn behind_ascii_run(text: &str, class: Class) -> Option<&str>
 pub fn behind_run(text: &str, class: Class) -> &str
     ensures { chars result.now ≡ behind (passes class) (chars text.now) }
 {
-    let width = ascii_width(text, class);
-    let rest = &text[width..];
-    if is_wide(text.as_bytes(), width) {
-        return behind_wide_run(rest, class);
+    match behind_ascii_run(text, class) {
+        Some(rest) => rest,
+        None => behind_wide_run(text, class),
     }
-    rest
 }
 
 /// Returns how many hashes the text begins with.

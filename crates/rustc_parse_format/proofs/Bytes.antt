@@ -4,7 +4,7 @@ pub mod ByteFronts
 pub mod CharacterStarts
 pub mod Counting
 pub mod LaneBits
+pub mod StopLanes
 pub mod Texts
 pub mod Unchanged
-pub mod UnchangedLanes
 pub mod WordBytes

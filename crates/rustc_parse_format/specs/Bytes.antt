@@ -1,11 +1,12 @@
 -- The bytes of a text and of a suffix of it, and prefixes of a text found by its bytes.
 use Prim.Native.Char.{code}
-use Rattle.std.specs.Prelude.{◌≡◌, ◌-◌, ◌≤◌, ◌==◌, ◌||◌, ℕ, Bool, not, true, false, List, length}
-use Rattle.std.specs.Prelude.{take, drop}
+use Rattle.std.specs.Prelude.{◌≡◌, ◌-◌, ◌≤◌, ◌==◌, ◌||◌, ◌&&◌, ℕ, Bool, not, true, false, List}
+use Rattle.std.specs.Prelude.{length, nat_lt, take, drop}
 use Rattle.std.specs.Char.{is_ascii_alphanumeric}
 use Rattle.std.specs.List.{list_all}
 use Rattle.std.specs.Str.{is_utf8}
 use Rattle.rustc_parse_format.specs.Characters.{first_passes}
+use Rattle.rustc_parse_format.specs.declared.blocks.Stops.{Stops}
 
 -- The text `rest` is a suffix of the text `input`, and both are UTF-8.
 pub record IsLeft (input rest : List ℕ) : Type 0 where
@@ -31,9 +32,11 @@ pub record IsSharedFront (p : ℕ → Bool) (bytes others : List ℕ) (n : ℕ) 
   pub same : take n bytes ≡ take n others
   pub pass : list_all p (take n bytes) ≡ true
 
--- The byte x is none of the three.
-abbrev pub is_none_of : (a b c : ℕ) → ℕ → Bool
-is_none_of a b c x = not ((x == a || x == b) || x == c)
+-- The byte is none at which a run ends: it is at least `low` and at most `high`, where 255 is no
+-- bound, and none of the four others.
+abbrev pub is_no_stop : Stops → ℕ → Bool
+is_no_stop s x = not (nat_lt x s.low) && ((s.high == 255 || not (nat_lt s.high x))
+    && (not (x == s.first) && (not (x == s.second) && (not (x == s.third) && not (x == s.fourth)))))
 
 -- The byte is an ASCII character that can continue a word: a letter, a digit or `_`.
 abbrev pub is_word_byte : ℕ → Bool

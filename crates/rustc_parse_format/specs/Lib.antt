@@ -12,6 +12,7 @@ pub mod Placeholder
 pub mod Meaning
 pub mod Written
 pub mod Faults
+pub mod FaultIds
 pub mod PartFaults
 pub mod Identifiers
 pub mod Recovery

@@ -1,16 +1,51 @@
 //! Prefixes of bytes, found sixteen bytes at a time. The last block ends where the bytes end, so it
-//! may overlap the one before it. If there are fewer bytes than a block has, the callers examine
-//! each byte. The kit's crate memchr is slower up to some twenty bytes, faster from some thousands
+//! may overlap the one before it. Where there are fewer bytes than a block has, each byte is
+//! examined. The kit's crate memchr is slower up to some twenty bytes, faster from some thousands
 //! on, and does not compare two texts.
 
 ghost use Rattle.std.specs.Int.{bit_at};
 ghost use Rattle.std.specs.List.{list_all};
-ghost use Rattle.std.specs.Prelude.{◌≡◌, ◌<◌, ◌≤◌, ℕ, length, slice_index, take, true, false, ◌==◌};
-ghost use Rattle.rustc_parse_format.specs.Bytes.{is_none_of, IsSharedFront};
+ghost use Rattle.std.specs.Prelude.{◌≡◌, ◌<◌, ◌≤◌, ℕ, length, slice_index, take, true};
+ghost use Rattle.rustc_parse_format.specs.Bytes.{IsFront, IsSharedFront, is_no_stop};
 ghost use Rattle.rustc_parse_format.specs.LiteralUnits.{is_plain};
-ghost use Rattle.rustc_parse_format.specs.Written.{is_unchanged};
 
 use std::simd::prelude::*;
+
+/// The bytes at which a run ends: those below `low`, those above `high`, and four others, which may
+/// be equal.
+#[derive(Clone, Copy)]
+pub struct Stops {
+    /// The lowest byte of a run.
+    pub low: u8,
+    /// The highest byte of a run.
+    pub high: u8,
+    /// A byte between them at which a run ends.
+    pub first: u8,
+    /// Another such byte.
+    pub second: u8,
+    /// Another such byte.
+    pub third: u8,
+    /// Another such byte.
+    pub fourth: u8,
+}
+
+impl Stops {
+    ghost use Rattle.std.specs.Prelude.{not};
+    ghost use Rattle.rustc_parse_format.specs.Bytes.{is_no_stop};
+
+    /// Returns whether a run ends at the byte.
+    #[inline(always)]
+    fn has(self, byte: u8) -> bool
+        ensures { result ≡ not (is_no_stop self byte) }
+    {
+        byte < self.low
+            || byte > self.high
+            || byte == self.first
+            || byte == self.second
+            || byte == self.third
+            || byte == self.fourth
+    }
+}
 
 /// Returns the number of bits below the lowest one that is set, or 64 if there is none.
 #[inline(always)]
@@ -29,16 +64,18 @@ fn clear_lanes(bits: u64) -> usize
     clear_bits(bits | 65536)
 }
 
-/// Returns the number of lanes before the first one that is `a`, `b` or `c`, or 16 if there is
-/// none.
+/// Returns the number of lanes before the first one that is a stop, or 16 if there is none.
 #[inline(always)]
-fn calm_lanes(lanes: u8x16, a: u8, b: u8, c: u8) -> usize
+fn front_lanes(lanes: u8x16, stops: Stops) -> usize
     ensures within { result ≤ 16 }
-    ensures pass { (k : ℕ) → k < result → is_none_of a b c (slice_index lanes k) ≡ true }
+    ensures pass { (k : ℕ) → k < result → is_no_stop stops (slice_index lanes k) ≡ true }
 {
-    let found = lanes.simd_eq(u8x16::splat(a))
-        | lanes.simd_eq(u8x16::splat(b))
-        | lanes.simd_eq(u8x16::splat(c));
+    let found = lanes.simd_lt(u8x16::splat(stops.low))
+        | u8x16::splat(stops.high).simd_lt(lanes)
+        | lanes.simd_eq(u8x16::splat(stops.first))
+        | lanes.simd_eq(u8x16::splat(stops.second))
+        | lanes.simd_eq(u8x16::splat(stops.third))
+        | lanes.simd_eq(u8x16::splat(stops.fourth));
     clear_lanes(found.to_bitmask())
 }
 
@@ -57,71 +94,44 @@ fn plain_lanes(lanes: u8x16, others: u8x16) -> usize
     clear_lanes(found.to_bitmask())
 }
 
-/// Returns the number of lanes before the first one that a quoted text does not have as it is, or
-/// 16 if there is none.
+/// Returns the length of the longest prefix without stops, of sixteen bytes or more.
 #[inline(always)]
-fn unchanged_lanes(lanes: u8x16) -> usize
-    ensures within { result ≤ 16 }
-    ensures pass { (k : ℕ) → k < result → is_unchanged (slice_index lanes k) ≡ true }
-{
-    let found = lanes.simd_lt(u8x16::splat(b' '))
-        | lanes.simd_eq(u8x16::splat(127))
-        | lanes.simd_eq(u8x16::splat(b'"'))
-        | lanes.simd_eq(u8x16::splat(b'\''))
-        | lanes.simd_eq(u8x16::splat(b'\\'));
-    clear_lanes(found.to_bitmask())
-}
-
-/// Returns whether the byte is `a`, `b` or `c`.
-#[inline(always)]
-fn is_one_of(byte: u8, a: u8, b: u8, c: u8) -> bool {
-    byte == a || byte == b || byte == c
-}
-
-/// Returns the length of the longest prefix without the bytes `a`, `b` and `c`. Returns 0 without
-/// examining a block if there are fewer than 16 bytes, or if the byte at the index `probe` is one
-/// of the three, because the prefix is then too short to be worth a block.
-#[inline(always)]
-pub fn calm_front(bytes: &[u8], probe: usize, a: u8, b: u8, c: u8) -> usize
-    requires { probe < 16 }
+fn front_by_blocks(bytes: &[u8], stops: Stops) -> usize
+    requires { 16 ≤ length bytes.now }
     ensures within { result ≤ length bytes.now }
-    ensures pass { list_all (is_none_of a b c) (take result bytes.now) ≡ true }
+    ensures pass { list_all (is_no_stop stops) (take result bytes.now) ≡ true }
 {
-    if bytes.len() < 16 || is_one_of(bytes[probe], a, b, c) {
-        return 0;
-    }
     let last = bytes.len() - 16;
     let mut at = 0;
     while at < last {
-        let calm = calm_lanes(u8x16::from_slice(&bytes[at..]), a, b, c);
-        if calm < 16 {
-            return at + calm;
-        }
-        at += 16;
-    }
-    last + calm_lanes(u8x16::from_slice(&bytes[last..]), a, b, c)
-}
-
-/// Returns the length of the longest prefix that a quoted text has as it is. Returns 0 without
-/// examining a block if there are fewer than 16 bytes.
-#[inline(always)]
-pub fn unchanged_front(bytes: &[u8]) -> usize
-    ensures within { result ≤ length bytes.now }
-    ensures pass { list_all is_unchanged (take result bytes.now) ≡ true }
-{
-    if bytes.len() < 16 {
-        return 0;
-    }
-    let last = bytes.len() - 16;
-    let mut at = 0;
-    while at < last {
-        let run = unchanged_lanes(u8x16::from_slice(&bytes[at..]));
+        let run = front_lanes(u8x16::from_slice(&bytes[at..]), stops);
         if run < 16 {
             return at + run;
         }
         at += 16;
     }
-    last + unchanged_lanes(u8x16::from_slice(&bytes[last..]))
+    last + front_lanes(u8x16::from_slice(&bytes[last..]), stops)
+}
+
+/// Returns the length of the longest prefix without stops. No block is read for one or two bytes.
+#[inline(always)]
+pub fn front_width(bytes: &[u8], stops: Stops) -> usize
+    ensures { IsFront (is_no_stop stops) bytes.now result }
+{
+    if bytes.is_empty() || stops.has(bytes[0]) {
+        return 0;
+    }
+    let seen = if bytes.len() < 16 || stops.has(bytes[1]) {
+        0
+    } else {
+        front_by_blocks(bytes, stops)
+    };
+    for i in seen..bytes.len() {
+        if stops.has(bytes[i]) {
+            return i;
+        }
+    }
+    bytes.len()
 }
 
 /// Returns the length of the longest prefix that both have and that is without quotes, backslashes

@@ -3,7 +3,6 @@
 
 use crate::faults::Fault;
 use crate::laws::default_of_spec;
-use crate::placeholder::blank_argument;
 use crate::reader::Reader;
 use crate::types::{Argument, ParseMode, Piece, Position, Taken};
 use std::alloc::{AllocError, Global};
@@ -170,7 +169,7 @@ impl<'input> Reader<'input> {
             (FindsNothing self.old k.faults k.texts × (opens_placeholder self.old.rest ≡ false)) }
     {
         if self.cursor.opens_placeholder() {
-            let mut argument = Box::new(alloc, blank_argument())?;
+            let mut argument = Box::new(alloc, Argument::default())?;
             self.placeholder(mode, &mut argument)?;
             return Ok(Some(Piece::NextArgument(argument)));
         }

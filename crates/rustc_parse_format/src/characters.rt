@@ -2,17 +2,18 @@
 //! this module, `source` and `cursor` work with bytes and UTF-8.
 
 ghost use Rattle.std.specs.Char.{digit_value, is_ascii_alphabetic, is_ascii_digit, is_whitespace};
-ghost use Rattle.std.specs.Prelude.{◌%◌, ◌*◌, ◌++◌, ◌+◌, ◌<◌, ◌≡◌, bytes_eq, chars, codes};
-ghost use Rattle.std.specs.Prelude.{IfSome, IsFalse, IsNone, IsTrue, length, List, Some, false};
-ghost use Rattle.std.specs.Prelude.{nat_lt, slice_index, true, ℕ, ◌↔◌};
-ghost use Rattle.rustc_parse_format.specs.Bytes.{IsFront, IsLeft, IsOfAscii, is_word_byte};
+ghost use Rattle.std.specs.Prelude.{◌%◌, ◌*◌, ◌++◌, ◌+◌, ◌<◌, ◌≡◌, ◌==◌, ◌&&◌, bytes_eq, chars};
+ghost use Rattle.std.specs.Prelude.{codes, IfSome, IsFalse, IsNone, IsTrue, length, List, Some};
+ghost use Rattle.std.specs.Prelude.{false, nat_lt, not, slice_index, true, ℕ, ◌↔◌};
+ghost use Rattle.rustc_parse_format.specs.Bytes.{IsFront, IsLeft, IsOfAscii, is_no_stop};
+ghost use Rattle.rustc_parse_format.specs.Bytes.{is_word_byte};
 ghost use Rattle.rustc_parse_format.specs.Characters.{Text, begins_with, behind, behind_digits};
 ghost use Rattle.rustc_parse_format.specs.Characters.{behind_first, behind_word, digits, first};
 ghost use Rattle.rustc_parse_format.specs.Characters.{first_passes, front};
 ghost use Rattle.rustc_parse_format.specs.Characters.{is_id_start, is_over, number, word};
 ghost use Rattle.rustc_parse_format.specs.Classes.{passes};
 
-use crate::blocks::{calm_front, unchanged_front};
+use crate::blocks::{Stops, front_width};
 
 /// A class of characters. The longest prefix of a text that is made of them can be read at once.
 #[derive(Clone, Copy)]
@@ -154,29 +155,38 @@ pub fn begins_white(text: &str) -> bool
     first(text).is_some_and(|c| c.is_whitespace())
 }
 
+/// Returns the stops below `low` and these four, without an upper bound.
+#[inline(always)]
+fn stops(low: u8, first: u8, second: u8, third: u8, fourth: u8) -> Stops
+    ensures { (x : ℕ) → is_no_stop result x ≡ (not (nat_lt x low) && (not (x == first)
+        && (not (x == second) && (not (x == third) && not (x == fourth))))) }
+{
+    Stops {
+        low,
+        high: 255,
+        first,
+        second,
+        third,
+        fourth,
+    }
+}
+
 /// Returns the number of bytes before the first one that, taken as a character, is not in the
-/// class.
+/// class. The class has all characters outside ASCII.
 #[inline(always)]
 pub fn run_width(bytes: &[u8], class: Class) -> usize
+    requires { IsOfAscii (passes class) }
     ensures { IsFront (passes class) bytes.now result }
 {
-    if bytes.is_empty() || !class.passes(bytes[0] as char) {
-        return 0;
-    }
-    let seen = match class {
-        Class::Text => calm_front(bytes, 1, b'{', b'}', b'}'),
-        Class::Line => calm_front(bytes, 1, b'{', b'}', b'\n'),
-        Class::Unescaped => calm_front(bytes, 1, b'\\', b'\\', b'\\'),
-        Class::Plain => calm_front(bytes, 1, b'"', b'\\', b'\r'),
-        Class::Unchanged => unchanged_front(bytes),
-        _ => 0,
+    let stops = match class {
+        Class::Text => stops(0, b'{', b'}', b'}', b'}'),
+        Class::Line => stops(0, b'{', b'}', b'\n', b'\n'),
+        Class::Unescaped => stops(0, b'\\', b'\\', b'\\', b'\\'),
+        Class::Plain => stops(0, b'"', b'\\', b'\r', b'\r'),
+        Class::Unchanged => stops(b' ', b'\'', b'"', b'\\', 127),
+        _ => return 0,
     };
-    for i in seen..bytes.len() {
-        if !class.passes(bytes[i] as char) {
-            return i;
-        }
-    }
-    bytes.len()
+    front_width(bytes, stops)
 }
 
 /// Returns what is left after the longest prefix of characters in the class. The class has all

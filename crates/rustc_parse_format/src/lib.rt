@@ -23,6 +23,7 @@ mod characters;
 mod counts;
 mod cursor;
 mod error_list;
+mod fault_ids;
 mod faults;
 pub mod laws;
 mod lists;
@@ -41,6 +42,8 @@ mod specification;
 mod types;
 mod written;
 
+#[doc(hidden)]
+pub use blocks::{Stops, front_width};
 pub use faults::Fault;
 pub use parser::Parser;
 pub use pieces::Pieces;

@@ -1,8 +1,9 @@
-//! Methods of the public types: the clone of a piece, the index of a position, and whether an
-//! argument is an identifier.
+//! Methods of the public types: the clone of a piece, the index of a position, the default of an
+//! argument, and whether it is an identifier.
 
 ghost use Rattle.std.specs.Prelude.{◌≡◌};
-ghost use Rattle.rustc_parse_format.specs.Seen.{index_of};
+ghost use Rattle.rustc_parse_format.specs.Seen.{index_of, seen_position, seen_spec};
+ghost use Rattle.rustc_parse_format.specs.Types.{Implicit, default_spec};
 
 use crate::laws::{clone_of_argument, default_of_spec, specs_are_equal};
 use crate::types::{Argument, Piece, Position};
@@ -53,5 +54,20 @@ impl Argument<'_> {
     {
         matches!(self.position, Position::ArgumentNamed(_))
             && specs_are_equal(&self.format, &default_of_spec())
+    }
+}
+
+impl Default for Argument<'_> {
+    ghost is_default = { λ a. (seen_position a.position ≡ Implicit 0)
+        × (seen_spec a.format ≡ default_spec) };
+
+    /// Returns an argument to read a placeholder into, as `Parser::next_into` does: the implicit
+    /// argument 0 with an empty span and the default format.
+    fn default() -> Self {
+        Argument {
+            position: Position::ArgumentImplicitlyIs(0),
+            position_span: 0..0,
+            format: default_of_spec(),
+        }
     }
 }

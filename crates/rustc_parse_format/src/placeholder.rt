@@ -5,23 +5,10 @@ ghost use Rattle.rustc_parse_format.specs.Seen.{seen_position, seen_spec};
 ghost use Rattle.rustc_parse_format.specs.Types.{Implicit, default_spec};
 
 use crate::faults::Fault;
-use crate::laws::default_of_spec;
 use crate::reader::Reader;
 use crate::types::{Argument, ParseMode, Position, wants_names};
 use std::alloc::AllocError;
 use std::ops::Range;
-
-/// Returns an argument with the default format, into which one is then read.
-pub fn blank_argument<'input>() -> Argument<'input>
-    ensures position { seen_position result.position ≡ Implicit 0 }
-    ensures format { seen_spec result.format ≡ default_spec }
-{
-    Argument {
-        position: Position::ArgumentImplicitlyIs(0),
-        position_span: 0..0,
-        format: default_of_spec(),
-    }
-}
 
 impl<'input> Reader<'input> {
     ghost use Rattle.std.specs.Prelude.{[], ◌++◌, ◌+◌, ◌<◌, ◌^◌, ◌≡◌, chars, IfOk, if◌then◌else◌};

@@ -22,14 +22,20 @@ use crate::parser::Parser;
 use crate::types::{ParseMode, Piece};
 use std::alloc::{AllocError, Global};
 
-/// Makes room in an empty list for a piece and those that are likely to follow it in so many bytes:
-/// one in ten bytes, and at most sixteen. Returns `Err` if an allocation fails.
+/// How many bytes of an input are taken for one piece when a list makes room.
+const PIECE_BYTES: usize = 10;
+
+/// The most pieces behind the first one that a list makes room for.
+const MOST_ROOM: usize = 16;
+
+/// Makes room in an empty list for a piece and those that are likely to follow it in so many bytes.
+/// Returns `Err` if an allocation fails.
 #[inline(always)]
 fn make_room(pieces: &mut Vec<Piece<'_>>, bytes: usize) -> Result<(), AllocError>
     ensures { pieces.new.items ≡ pieces.old.items }
 {
     if pieces.is_empty() {
-        pieces.reserve(1 + (bytes / 10).min(16))?;
+        pieces.reserve(1 + (bytes / PIECE_BYTES).min(MOST_ROOM))?;
     }
     Ok(())
 }

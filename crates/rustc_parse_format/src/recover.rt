@@ -7,7 +7,6 @@ ghost use Rattle.rustc_parse_format.specs.Seen.{pair, seen_argument};
 ghost use Rattle.rustc_parse_format.specs.SeenFaults.{seen_fault};
 
 use crate::faults::Fault;
-use crate::placeholder::blank_argument;
 use crate::reader::Reader;
 use crate::types::{Argument, ParseMode, Position};
 use std::alloc::AllocError;
@@ -116,7 +115,7 @@ impl<'input> Reader<'input> {
         ensures source { self.new.source ≡ self.old.source }
     {
         self.cursor.skip_char();
-        let mut field = blank_argument();
+        let mut field = Argument::default();
         self.argument(mode, &mut field)?;
         let span = from..field.position_span.end;
         if !self.cursor.consume('}') {

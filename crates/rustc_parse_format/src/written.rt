@@ -26,7 +26,7 @@ fn short_escape(c: char) -> Option<&'static str>
 
 /// Appends a character that has no short escape: an ASCII control character as `\u{..}`, any other
 /// as it is. Returns `Err` if an allocation fails, and `out` is then unchanged.
-fn put_plain(out: &mut String, c: char) -> Result<(), AllocError>
+fn put_plainly_written(out: &mut String, c: char) -> Result<(), AllocError>
     ensures ok { OnOk result (string_bytes out.new ≡ string_bytes out.old ++ plainly_written c) }
     ensures err { OnErr result (string_bytes out.new ≡ string_bytes out.old) }
 {
@@ -50,7 +50,7 @@ pub fn put_written(out: &mut String, c: char) -> Result<(), AllocError>
 {
     match short_escape(c) {
         Some(escape) => out.push_str(escape)?,
-        None => put_plain(out, c)?,
+        None => put_plainly_written(out, c)?,
     }
     Ok(())
 }

@@ -4,7 +4,7 @@ use crate::asm_rows::asm_rows;
 use crate::line_rows::line_rows;
 use crate::row::Row;
 use crate::short_rows::short_rows;
-use drawn_faults::{Picture, draw, errors_of};
+use drawn_faults::{Picture, draw, errors_of, put_drawing};
 use rustc_parse_format::{ParseError, ParseMode};
 use std::alloc::{AllocError, Global};
 use std::process::Abort;
@@ -40,7 +40,7 @@ fn errors_in(
     )
 }
 
-/// The drawing of a fault of a row.
+/// The drawing of a fault of a row, and once more behind that text.
 fn drawn(
     alloc: Global,
     mode: ParseMode,
@@ -54,18 +54,20 @@ fn drawn(
         line_start: row.line,
         literal_start: row.before.len(),
     };
-    draw(alloc, mode, &picture, error)
+    let mut drawing = draw(alloc, mode, &picture, error)?;
+    put_drawing(&mut drawing, mode, &picture, error)?;
+    Ok(drawing)
 }
 
-/// A drawing is as the row says, and an empty line ends it.
+/// A drawing is as the row says, with an empty line at its end, and stands there twice.
 fn check_drawing(
     rt: &impl Abort,
     alloc: Global,
     row: &Row,
     drawing: &str,
 ) -> Result<(), AllocError> {
-    let mut wanted = joined(alloc, row.lines, "\n")?;
-    wanted.push_str("\n")?;
+    let wanted = joined(alloc, row.lines, "\n")?;
+    let wanted = joined(alloc, &[wanted.as_str(), wanted.as_str()], "\n")?;
     assert_eq!(rt; drawing, wanted.as_str());
     Ok(())
 }

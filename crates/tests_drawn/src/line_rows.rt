@@ -111,6 +111,48 @@ const NOT_DEEP: Row = Row {
     ],
 };
 
+/// The least indent of both lines with labels decides.
+const LESS_DEEP: Row = Row {
+    line: 1,
+    before: "fn f() { format!(",
+    literal: "\"\n                              {a\n  !\"",
+    after: "); }",
+    style: None,
+    text: "\n                              {a\n  !",
+    appended_newline: false,
+    lines: &[
+        "error: invalid format string: expected `}`, found `!`",
+        " --> a.rs:3:3",
+        "  |",
+        "2 |                               {a",
+        "  |                               - because of this opening brace",
+        "3 |   !\"); }",
+        "  |   ^ expected `}` in format string",
+        "  |",
+        "  = note: if you intended to print `{`, you can escape it using `{{`",
+    ],
+};
+
+/// A blank line has no indent, whatever is below it.
+const DEEP_BLANK: Row = Row {
+    line: 1,
+    before: "fn f() { format!(",
+    literal: "\"\n                              {65536\n\n  }\"",
+    after: "); }",
+    style: None,
+    text: "\n                              {65536\n\n  }",
+    appended_newline: false,
+    lines: &[
+        "error: invalid format string: integer `65536` does not fit into the type `u16` whose range is `0..=65535`",
+        " --> a.rs:2:32",
+        "  |",
+        "2 |   ...                   {65536",
+        "  |  ________________________^",
+        "3 | | ...",
+        "  | |_^ integer out of range for `u16` in format string",
+    ],
+};
+
 /// A tab is four columns of an indent.
 const DEEP_TABS: Row = Row {
     line: 1,
@@ -403,6 +445,8 @@ const LINE_ROWS: &[Row] = &[
     DOTS,
     DEEP,
     NOT_DEEP,
+    LESS_DEEP,
+    DEEP_BLANK,
     DEEP_TABS,
     LONG,
     LONG_SLASH,

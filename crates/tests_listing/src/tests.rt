@@ -4,6 +4,7 @@ mod fakes;
 mod listings;
 mod memory;
 mod programs;
+mod spans;
 mod streams;
 
 use fakes::{Endless, Faltering, Sheet, Stuck, Stumbling};

@@ -5,12 +5,12 @@
 //! row says. `.ci/refusals` runs each test with its first allocation failing, then with its second,
 //! and so on.
 //!
-//! `rows` is the table of what is read, and `walks`, `taken`, `items` and `whole` are the ways to
-//! read it. `spare` has the calls that do not allocate, which are made before each other call and
-//! after each allocation failure. `escape` is about the first allocation after that of a snippet,
-//! `contents` and `copies` about the calls that read nothing. The tests themselves do not allocate,
-//! except for snippets and for one allocation after calls that make none: `sheet` keeps text
-//! without any, and `listing` writes on it.
+//! `rows` is the table of what is read, and `walks`, `taken`, `faults`, `items` and `whole` are the
+//! ways to read it. `spare` has the calls that do not allocate, which are made before each other
+//! call and after each allocation failure. `escape` is about the first allocation after that of a
+//! snippet, `contents` and `copies` about the calls that read nothing. The tests themselves do not
+//! allocate, except for snippets, for the errors of faults and for one allocation after calls that
+//! make none: `sheet` keeps text without any, and `listing` writes on it.
 #![tactic(auto)]
 
 #[cfg(test)]
@@ -19,6 +19,8 @@ mod contents;
 mod copies;
 #[cfg(test)]
 mod escape;
+#[cfg(test)]
+mod faults;
 #[cfg(test)]
 mod items;
 #[cfg(test)]

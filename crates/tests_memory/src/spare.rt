@@ -92,18 +92,9 @@ fn named() -> Argument<'static> {
     }
 }
 
-/// An argument before a placeholder is read into it.
-pub fn blank_argument<'input>() -> Argument<'input> {
-    Argument {
-        position: Position::ArgumentImplicitlyIs(0),
-        position_span: 0..0,
-        format: FormatSpec::default(),
-    }
-}
-
 /// The next piece is a placeholder without a fault in front, which is read into an argument.
 pub fn next_is_read(parser: &mut Parser<'_>) -> Result<bool, AllocError> {
-    let (taken, fronts) = parser.next_into(&mut blank_argument())?;
+    let (taken, fronts) = parser.next_into(&mut Argument::default())?;
     Ok(matches!(taken, Some(Taken::NextArgument)) && fronts == 0)
 }
 

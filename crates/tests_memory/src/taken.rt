@@ -4,7 +4,7 @@
 use crate::listing::{put_read, shown};
 use crate::rows::{Row, rows};
 use crate::sheet::Sheet;
-use crate::spare::{blank_argument, next_is_read};
+use crate::spare::next_is_read;
 use crate::start::{check_row, start};
 use crate::walks::check_unchanged;
 use rustc_parse_format::{Argument, ParseMode, Parser, Taken};
@@ -61,7 +61,7 @@ fn put_pieces(
     most: usize,
     out: &mut Sheet,
 ) -> Result<(), Fail> {
-    let mut argument = blank_argument();
+    let mut argument = Argument::default();
     for _ in 0..most {
         match call_again(rt, alloc, parser, &mut argument)? {
             Some(taken) => put_read(out, &taken, &argument)?,

@@ -1,6 +1,6 @@
 //! Reports on texts: worked cases, allocation failures, and many uses.
 
-use placeholder_check::{Report, check, read_and_check};
+use placeholder_check::{Report, Uses, check, check_uses, read_and_check};
 use rustc_parse_format::{ParseMode, Parser, Piece, read_all};
 use std::alloc::{AllocError, Global};
 use std::io::Print;
@@ -56,7 +56,18 @@ fn pieces_of(alloc: Global, input: &'static str) -> Result<Vec<Piece<'static>>, 
     Ok(pieces)
 }
 
-/// What these pieces give is that of the row.
+/// What pieces use, added placeholder by placeholder.
+fn added(alloc: Global, pieces: &[Piece<'static>]) -> Result<Uses<'static>, AllocError> {
+    let mut uses = Uses::new(alloc);
+    for piece in pieces {
+        if let Piece::NextArgument(argument) = piece {
+            uses.add(argument)?;
+        }
+    }
+    Ok(uses)
+}
+
+/// What these pieces give is that of the row, and so is what their uses give.
 fn check_pieces(
     rt: &impl Abort,
     alloc: Global,
@@ -64,6 +75,8 @@ fn check_pieces(
     row: Row,
 ) -> Result<(), AllocError> {
     let report = check(alloc, pieces, row.positional, row.names)?;
+    check_report(rt, &report, row);
+    let report = check_uses(alloc, &added(alloc, pieces)?, row.positional, row.names)?;
     check_report(rt, &report, row);
     Ok(())
 }

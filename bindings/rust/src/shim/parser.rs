@@ -9,17 +9,6 @@ pub struct Parser<'input> {
     parser: crate::Parser<'input>,
 }
 
-/// Moves a placeholder into `argument`.
-fn taken<'input>(piece: Piece<'input>, argument: &mut Argument<'input>) -> Taken<'input> {
-    match piece {
-        Piece::Lit(text) => Taken::Lit(text),
-        Piece::NextArgument(read) => {
-            *argument = *read;
-            Taken::NextArgument
-        }
-    }
-}
-
 impl<'input> Parser<'input> {
     /// Creates a parser at the start of an input.
     pub fn new(
@@ -46,29 +35,39 @@ impl<'input> Parser<'input> {
         &mut self,
         argument: &mut Argument<'input>,
     ) -> Result<(Option<Taken<'input>>, ()), AllocError> {
-        let piece = self.parser.next();
-        Ok((piece.map(|piece| taken(piece, argument)), ()))
+        let taken = self.parser.next().map(|piece| match piece {
+            Piece::Lit(text) => Taken::Lit(text),
+            Piece::NextArgument(read) => {
+                *argument = *read;
+                Taken::NextArgument
+            }
+        });
+        Ok((taken, ()))
     }
 
     /// Returns the next piece as `next_into` does, but moves the faults of this call to the end of
     /// `faults`, and makes no errors of them.
+    #[inline]
     pub fn next_with_faults(
         &mut self,
         argument: &mut Argument<'input>,
         faults: &mut Vec<Fault<'input>>,
     ) -> Result<Option<Taken<'input>>, AllocError> {
-        let piece = self.parser.next_with_faults(faults);
-        Ok(piece.map(|piece| taken(piece, argument)))
+        self.parser.keeps_faults = true;
+        let (taken, _) = self.next_into(argument)?;
+        self.parser.keeps_faults = false;
+        self.parser.reader.found.move_to(faults)?;
+        Ok(taken)
     }
 
     /// Returns whether the whole input was read.
     pub fn is_at_end(&self) -> bool {
-        self.parser.is_at_end()
+        self.parser.reader.is_at_end()
     }
 
     /// Returns how many bytes of the input were read.
     pub fn position(&self) -> usize {
-        self.parser.position()
+        self.parser.reader.cursor.position()
     }
 
     /// Takes the errors of all calls so far out of the parser.

@@ -6,9 +6,7 @@
 // by results from outside, and beside what is proved (.ci/bindings) and the original (tools/agree).
 
 use crate::proved::rustc_parse_format::literal::is_source_literal;
-use crate::proved::rustc_parse_format::{
-    Argument, Fault, FormatSpec, ParseError, ParseMode, Position, Suggestion,
-};
+use crate::proved::rustc_parse_format::{Argument, Fault, ParseError, ParseMode, Suggestion};
 use crate::shim::alloc::{AllocError, Global};
 use crate::shim::parser::Parser;
 use crate::shim::prelude::*;
@@ -259,16 +257,6 @@ pub fn errors_of(
     Ok(parser.take_errors())
 }
 
-/// Returns an argument to read placeholders into.
-#[inline]
-fn blank_argument<'a>() -> Argument<'a> {
-    Argument {
-        position: Position::ArgumentImplicitlyIs(0),
-        position_span: 0..0,
-        format: FormatSpec::default(),
-    }
-}
-
 /// Returns a text with the edits of the errors of all calls of a parser without errors, in a mode,
 /// and whether there are any. The text starts at the byte offset `at`. Returns `Err` if an
 /// allocation fails.
@@ -285,7 +273,7 @@ fn edit_all(
     text: &str,
     at: usize,
 ) -> Result<(Vec<u8>, bool), AllocError> {
-    let mut argument = blank_argument();
+    let mut argument = Argument::default();
     let mut found = Vec::made_in(alloc);
     let mut edited = Edited {
         bytes: Vec::made_in(alloc),

@@ -8,7 +8,7 @@ use crate::proved::format_tokens::kinds::Kind;
 use crate::proved::format_tokens::parts::{
     begins, position, run_width, specification, take, width_of, Run,
 };
-use crate::proved::rustc_parse_format::{Argument, FormatSpec, ParseMode, Position, Taken};
+use crate::proved::rustc_parse_format::{Argument, ParseMode, Taken};
 use crate::shim::alloc::{AllocError, Global};
 use crate::shim::parser::Parser;
 use crate::shim::prelude::*;
@@ -120,16 +120,6 @@ pub fn label<'a>(
     }
 }
 
-/// Returns an argument to read placeholders into.
-#[inline]
-fn blank_argument<'a>() -> Argument<'a> {
-    Argument {
-        position: Position::ArgumentImplicitlyIs(0),
-        position_span: 0..0,
-        format: FormatSpec::default(),
-    }
-}
-
 /// Returns the labels of an input, by the calls of a parser at its start.
 // requires { parser.old ≡ first_state (seen_mode mode) (chars input.now) None None false }
 // ensures { IfOk result (λ v. v.items
@@ -142,7 +132,7 @@ fn labels_by<'a>(
     input: &'a str,
 ) -> Result<Vec<(Kind, usize)>, AllocError> {
     let mut labels = Vec::made_in(alloc);
-    let mut argument = blank_argument();
+    let mut argument = Argument::default();
     let mut rest = input;
     while !rest.is_empty() {
         let (taken, _) = parser.next_into(&mut argument)?;

@@ -6,7 +6,6 @@
 // by results from outside, and beside what is proved (.ci/bindings) and the original (tools/agree).
 
 use crate::proved::rustc_parse_format::faults::Fault;
-use crate::proved::rustc_parse_format::placeholder::blank_argument;
 use crate::proved::rustc_parse_format::reader::Reader;
 use crate::proved::rustc_parse_format::types::{Argument, ParseMode, Piece};
 use crate::shim::alloc::{AllocError, Global};
@@ -153,7 +152,7 @@ impl<'input> Reader<'input> {
         mode: ParseMode,
     ) -> Result<Option<Piece<'input>>, AllocError> {
         if self.cursor.opens_placeholder() {
-            let mut argument = Box::made_in(alloc, blank_argument())?;
+            let mut argument = Box::made_in(alloc, Argument::default())?;
             self.placeholder(mode, &mut argument)?;
             return Ok(Some(Piece::NextArgument(argument)));
         }

@@ -5,7 +5,7 @@
 // That source is proved, and each contract here is its. That this text means the same is tested:
 // by results from outside, and beside what is proved (.ci/bindings) and the original (tools/agree).
 
-use crate::proved::rustc_parse_format::blocks::{calm_front, unchanged_front};
+use crate::proved::rustc_parse_format::blocks::{front_width, Stops};
 
 /// A class of characters. The longest prefix of a text that is made of them can be read at once.
 #[derive(Clone, Copy)]
@@ -132,28 +132,36 @@ pub fn begins_white(text: &str) -> bool {
     first(text).map_or(false, |c| c.is_whitespace())
 }
 
+/// Returns the stops below `low` and these four, without an upper bound.
+// ensures { (x : ℕ) → is_no_stop result x ≡ (not (nat_lt x low) && (not (x == first)
+//     && (not (x == second) && (not (x == third) && not (x == fourth))))) }
+#[inline(always)]
+fn stops(low: u8, first: u8, second: u8, third: u8, fourth: u8) -> Stops {
+    Stops {
+        low,
+        high: 255,
+        first,
+        second,
+        third,
+        fourth,
+    }
+}
+
 /// Returns the number of bytes before the first one that, taken as a character, is not in the
-/// class.
+/// class. The class has all characters outside ASCII.
+// requires { IsOfAscii (passes class) }
 // ensures { IsFront (passes class) bytes.now result }
 #[inline(always)]
 pub fn run_width(bytes: &[u8], class: Class) -> usize {
-    if bytes.is_empty() || !class.passes(bytes[0] as char) {
-        return 0;
-    }
-    let seen = match class {
-        Class::Text => calm_front(bytes, 1, b'{', b'}', b'}'),
-        Class::Line => calm_front(bytes, 1, b'{', b'}', b'\n'),
-        Class::Unescaped => calm_front(bytes, 1, b'\\', b'\\', b'\\'),
-        Class::Plain => calm_front(bytes, 1, b'"', b'\\', b'\r'),
-        Class::Unchanged => unchanged_front(bytes),
-        _ => 0,
+    let stops = match class {
+        Class::Text => stops(0, b'{', b'}', b'}', b'}'),
+        Class::Line => stops(0, b'{', b'}', b'\n', b'\n'),
+        Class::Unescaped => stops(0, b'\\', b'\\', b'\\', b'\\'),
+        Class::Plain => stops(0, b'"', b'\\', b'\r', b'\r'),
+        Class::Unchanged => stops(b' ', b'\'', b'"', b'\\', 127),
+        _ => return 0,
     };
-    for i in seen..bytes.len() {
-        if !class.passes(bytes[i] as char) {
-            return i;
-        }
-    }
-    bytes.len()
+    front_width(bytes, stops)
 }
 
 /// Returns what is left after the longest prefix of characters in the class. The class has all

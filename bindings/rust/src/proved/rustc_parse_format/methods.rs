@@ -1,5 +1,5 @@
-//! Methods of the public types: the clone of a piece, the index of a position, and whether an
-//! argument is an identifier.
+//! Methods of the public types: the clone of a piece, the index of a position, the default of an
+//! argument, and whether it is an identifier.
 
 // Extracted from crates/rustc_parse_format/src/methods.rt by tools/extract: not to be edited.
 // That source is proved, and each contract here is its. That this text means the same is tested:
@@ -28,5 +28,18 @@ impl Argument<'_> {
     pub fn is_identifier(&self) -> bool {
         matches!(self.position, Position::ArgumentNamed(_))
             && specs_are_equal(&self.format, &default_of_spec())
+    }
+}
+
+impl Default for Argument<'_> {
+    /// Returns an argument to read a placeholder into, as `Parser::next_into` does: the implicit
+    /// argument 0 with an empty span and the default format.
+    #[inline]
+    fn default() -> Self {
+        Argument {
+            position: Position::ArgumentImplicitlyIs(0),
+            position_span: 0..0,
+            format: default_of_spec(),
+        }
     }
 }

@@ -26,6 +26,7 @@ pub(crate) mod characters;
 pub(crate) mod counts;
 pub(crate) mod cursor;
 pub(crate) mod error_list;
+pub(crate) mod fault_ids;
 pub(crate) mod faults;
 pub mod laws;
 pub mod literal;
@@ -38,7 +39,6 @@ pub(crate) mod source;
 pub(crate) mod specification;
 pub(crate) mod types;
 pub(crate) mod written;
-
 pub use faults::Fault;
 pub use types::{
     Alignment, Argument, Count, DebugHex, FormatSpec, ParseError, ParseMode, Piece, Position, Sign,

@@ -5,22 +5,9 @@
 // by results from outside, and beside what is proved (.ci/bindings) and the original (tools/agree).
 
 use crate::proved::rustc_parse_format::faults::Fault;
-use crate::proved::rustc_parse_format::laws::default_of_spec;
 use crate::proved::rustc_parse_format::reader::Reader;
 use crate::proved::rustc_parse_format::types::{wants_names, Argument, ParseMode, Position};
 use crate::shim::alloc::AllocError;
-
-/// Returns an argument with the default format, into which one is then read.
-// ensures position { seen_position result.position ≡ Implicit 0 }
-// ensures format { seen_spec result.format ≡ default_spec }
-#[inline]
-pub fn blank_argument<'input>() -> Argument<'input> {
-    Argument {
-        position: Position::ArgumentImplicitlyIs(0),
-        position_span: 0..0,
-        format: default_of_spec(),
-    }
-}
 
 impl<'input> Reader<'input> {
     /// Reads a word that begins with `r#`, and returns it without that prefix; such a raw

@@ -5,7 +5,6 @@
 // by results from outside, and beside what is proved (.ci/bindings) and the original (tools/agree).
 
 use crate::proved::rustc_parse_format::faults::Fault;
-use crate::proved::rustc_parse_format::placeholder::blank_argument;
 use crate::proved::rustc_parse_format::reader::Reader;
 use crate::proved::rustc_parse_format::types::{Argument, ParseMode, Position};
 use crate::shim::alloc::AllocError;
@@ -103,7 +102,7 @@ impl<'input> Reader<'input> {
         from: usize,
     ) -> Result<(), AllocError> {
         self.cursor.skip_char();
-        let mut field = blank_argument();
+        let mut field = Argument::default();
         self.argument(mode, &mut field)?;
         let span = from..field.position_span.end;
         if !self.cursor.consume('}') {

@@ -28,7 +28,7 @@ fn short_escape(c: char) -> Option<&'static str> {
 // ensures ok { OnOk result (string_bytes out.new ≡ string_bytes out.old ++ plainly_written c) }
 // ensures err { OnErr result (string_bytes out.new ≡ string_bytes out.old) }
 #[inline]
-fn put_plain(out: &mut String, c: char) -> Result<(), AllocError> {
+fn put_plainly_written(out: &mut String, c: char) -> Result<(), AllocError> {
     let code = u32::from(c);
     if code < 32 || code == 127 {
         // formatted on its own first: `write!` does not promise what it leaves in `out` if it fails
@@ -48,7 +48,7 @@ fn put_plain(out: &mut String, c: char) -> Result<(), AllocError> {
 pub fn put_written(out: &mut String, c: char) -> Result<(), AllocError> {
     match short_escape(c) {
         Some(escape) => out.try_push_str(escape)?,
-        None => put_plain(out, c)?,
+        None => put_plainly_written(out, c)?,
     }
     Ok(())
 }

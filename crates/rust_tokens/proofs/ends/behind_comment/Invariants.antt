@@ -4,8 +4,8 @@ use Rattle.rust_tokens.proofs.ends.behind_comment.Given as goal
 
 abbrev pub invariant-loop-byte : goal.invariant-loop-byte
 invariant-loop-byte l = record {
-  same : behind_comment l.above l.before l.rest ≡ behind_comment 0 0 l.bytes;
-  few : l.above + length l.rest ≤ length l.bytes;
+  same : behind_comment l.above l.before l.rest ≡ behind_comment 0 0 l.text;
+  few : l.above + length l.rest ≤ length l.text;
 }
 
 abbrev pub decreases-loop-byte : goal.decreases-loop-byte

@@ -3,7 +3,7 @@ use Rattle.rust_tokens.specs.Runs.{behind, is_in_line}
 use Rattle.rust_tokens.proofs.ends.behind_line.Given as goal
 
 abbrev pub invariant-loop-byte : goal.invariant-loop-byte
-invariant-loop-byte l = behind is_in_line l.rest ≡ behind is_in_line l.bytes
+invariant-loop-byte l = behind is_in_line l.rest ≡ behind is_in_line l.text
 
 abbrev pub decreases-loop-byte : goal.decreases-loop-byte
 decreases-loop-byte l = length l.rest
