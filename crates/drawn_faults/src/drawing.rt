@@ -24,8 +24,9 @@ fn put_title(out: &mut String, mode: ParseMode, description: &str) -> Result<(),
     ensures { OnOk result (string_bytes out.new ≡ string_bytes out.old
         ++ title (seen_mode mode) description.now) }
 {
-    put_texts(out, "error: invalid ", text_name(mode), ": ")?;
-    put_texts(out, description, "\n", "")?;
+    out.push_str("error: invalid ")?;
+    out.push_str(text_name(mode))?;
+    put_texts(out, ": ", description, "\n")?;
     Ok(())
 }
 

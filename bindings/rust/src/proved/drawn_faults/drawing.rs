@@ -22,8 +22,9 @@ use crate::shim::prelude::*;
 //     ++ title (seen_mode mode) description.now) }
 #[inline]
 fn put_title(out: &mut String, mode: ParseMode, description: &str) -> Result<(), AllocError> {
-    put_texts(out, "error: invalid ", text_name(mode), ": ")?;
-    put_texts(out, description, "\n", "")?;
+    out.try_push_str("error: invalid ")?;
+    out.try_push_str(text_name(mode))?;
+    put_texts(out, ": ", description, "\n")?;
     Ok(())
 }
 

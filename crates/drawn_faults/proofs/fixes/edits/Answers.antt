@@ -23,7 +23,7 @@ pub returns-in_err-push-clause-spare : goal.returns-in_err-push-clause-spare
 returns-in_err-push-clause-spare c = λ none.
     let l = c.loop-error in
     let m : Message Place = seen_error c.in-Some.error.now in
-    let e : Edit = seen_edit c.in-Some-edit_of.edit in
+    let e : Edit = seen_edit c.in-Some-offered_edit.edit in
     let rest : List (Message Place) = reverse (map seen_error l.error-iterator.iter.rest.now) in
     let left : List (Message Place) =
     reverse (map seen_error c.next.new.self.iter.rest.now) in
