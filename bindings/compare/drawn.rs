@@ -3,6 +3,8 @@
 use dephungo::faults::{draw, errors_of, Picture};
 use dephungo::ParseMode;
 
+#[path = "../../crates/tests_drawn/src/asm_rows.rt"]
+mod asm_rows;
 #[path = "../../crates/tests_drawn/src/line_rows.rt"]
 mod line_rows;
 #[path = "../../crates/tests_drawn/src/row.rt"]
@@ -10,21 +12,30 @@ mod row;
 #[path = "../../crates/tests_drawn/src/short_rows.rt"]
 mod short_rows;
 
+/// The first fault of a row is drawn as it says.
+fn check(mode: ParseMode, row: &row::Row) {
+    let snippet = Some(row.literal.to_string());
+    let errors = errors_of(row.text, row.style, snippet, row.appended_newline, mode);
+    let source = [row.before, row.literal, row.after].concat();
+    let picture = Picture {
+        path: "a.rs",
+        source: &source,
+        line_start: row.line,
+        literal_start: row.before.len(),
+    };
+    let wanted = row.lines.join("\n") + "\n\n";
+    assert_eq!(draw(mode, &picture, &errors[0]), wanted, "{}", row.literal);
+}
+
 fn main() {
-    let rows = [short_rows::short_rows(), line_rows::line_rows()].concat();
-    for row in &rows {
-        let snippet = Some(row.literal.to_string());
-        let newline = row.appended_newline;
-        let errors = errors_of(row.text, row.style, snippet, newline, ParseMode::Format);
-        let source = [row.before, row.literal, row.after].concat();
-        let picture = Picture {
-            path: "a.rs",
-            source: &source,
-            line_start: row.line,
-            literal_start: row.before.len(),
-        };
-        let wanted = row.lines.join("\n") + "\n\n";
-        assert_eq!(draw(&picture, &errors[0]), wanted, "{}", row.literal);
+    let tables = [
+        (ParseMode::Format, short_rows::short_rows()),
+        (ParseMode::Format, line_rows::line_rows()),
+        (ParseMode::InlineAsm, asm_rows::asm_rows()),
+    ];
+    for (mode, rows) in tables {
+        rows.iter().for_each(|row| check(mode, row));
     }
-    println!("{} drawings: all are those of rustc", rows.len());
+    let count: usize = tables.iter().map(|(_, rows)| rows.len()).sum();
+    println!("{count} drawings: all are those of rustc");
 }

@@ -43,7 +43,7 @@ fn literal(random: &mut Random) -> (String, String, Option<usize>) {
 fn drawings(snippet: &str, text: &str, style: Option<usize>, mode: ParseMode) -> String {
     let errors = errors_of(text, style, Some(snippet.to_string()), false, mode);
     let picture = Picture { path: "<stdin>", source: snippet, line_start: 1, literal_start: 0 };
-    let mut out: String = errors.iter().take(10).map(|it| draw(&picture, it)).collect();
+    let mut out: String = errors.iter().take(10).map(|it| draw(mode, &picture, it)).collect();
     if errors.len() > 10 {
         out += &format!("and {} more\n", errors.len() - 10);
     }

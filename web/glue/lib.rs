@@ -67,7 +67,7 @@ fn answer(input: &str, before: usize, start: usize, mode: usize, all: bool) -> O
     let lists = [
         format!("\"counts\":[{calls},{faults}]"),
         list("pieces", 200, shown.into_iter()),
-        list("faults", MOST, parser.errors.iter().map(|it| fault(it, &picture))),
+        list("faults", MOST, parser.errors.iter().map(|it| fault(mode, it, &picture))),
         list("tokens", 2000, found.iter().map(kind)),
         list("fixed", 1, fixed.iter().map(|it| part("fixed", &it.snippet, None))),
         list("missing argument", MOST, report.missing_index.iter().map(|n| part("", n, None))),
@@ -120,8 +120,8 @@ fn count(name: &str, count: &Count<'_>, span: Option<&Range<usize>>) -> String {
 }
 
 /// What a fault says, its drawing, its note, and what is suggested.
-fn fault(error: &ParseError, picture: &Picture<'_>) -> String {
-    let drawn = if picture.source.len() > SHORT { "".into() } else { draw(picture, error) };
+fn fault(mode: ParseMode, error: &ParseError, picture: &Picture<'_>) -> String {
+    let drawn = if picture.source.len() > SHORT { "".into() } else { draw(mode, picture, error) };
     let is_local = matches!(error.suggestion, Suggestion::UsePositional);
     let help = if is_local { "Pass the value as an argument by position." } else { "" };
     let mut parts = vec![
@@ -130,7 +130,8 @@ fn fault(error: &ParseError, picture: &Picture<'_>) -> String {
         part("note", error.note.as_deref().unwrap_or(""), None),
         part("help", help, None),
     ];
-    parts.extend(edits(from_ref(error)).iter().map(|it| part("edit", it.text, Some(&it.span))));
+    let edits = edits(mode, from_ref(error));
+    parts.extend(edits.iter().map(|it| part("edit", it.text, Some(&it.span))));
     format!("[{}]", parts.join(","))
 }
 

@@ -13,17 +13,18 @@ use crate::{Argument, ParseError, ParseMode};
 pub use crate::proved::drawn_faults::{Edit, Fixed, Picture};
 pub use crate::proved::rustc_parse_format::Fault;
 
-/// Returns the text that shows an error of a literal under its source, as rustc 1.95 draws it
-/// without colours. The spans of the error are byte ranges of the literal: its parser had this
-/// literal as its snippet, and that was the source literal.
+/// Returns the text that shows an error of a literal of this mode under its source, as rustc 1.95
+/// draws it without colours. The spans of the error are byte ranges of the literal: its parser had
+/// this literal as its snippet, and that was the source literal.
 ///
 /// From top to bottom: what the error is, and its path, line and column, which counts characters;
 /// the lines with labels, each with its number and the signs of the labels under it; the note; the
-/// suggestion; an empty line. A suggestion to remove or to insert something is a second label, one
-/// to replace a text shows the old and the new lines. Those for which the arguments of the call are
-/// needed, `UsePositional` and `UseRustDebugPrintingMacro`, are left out. Long lines are not cut at
-/// their right. Of two labels each is drawn in the line in which it begins. The columns that a
-/// character takes are those of the crate `unicode_width`, of Unicode 18.
+/// suggestion, if one is made in this mode (see [`edits`]); an empty line. A suggestion to remove or
+/// to insert something is a second label, one to replace a text shows the old and the new lines.
+/// Those for which the arguments of the call are needed, `UsePositional` and
+/// `UseRustDebugPrintingMacro`, are left out. Long lines are not cut at their right. Of two labels
+/// each is drawn in the line in which it begins. The columns that a character takes are those of the
+/// crate `unicode_width`, of Unicode 18.
 ///
 /// A span that does not fit is drawn too: an offset inside a character means the start of that
 /// character, one behind the source its end, and a range that ends before it begins is empty.
@@ -47,19 +48,22 @@ pub use crate::proved::rustc_parse_format::Fault;
 ///   = note: if you intended to print `{`, you can escape it using `{{`
 ///
 /// ";
-/// assert_eq!(draw(&picture, &errors[0]), wanted);
+/// assert_eq!(draw(ParseMode::Format, &picture, &errors[0]), wanted);
 /// ```
 ///
 /// # Panics
 ///
 /// If the source has 2^59 bytes or more, or on 32 bits 2^27 or more. There the numbers of its lines
 /// also have to fit `usize`. An allocation failure aborts, as elsewhere in Rust.
-pub fn draw(picture: &Picture<'_>, error: &ParseError) -> String {
-    answer(draw_in(Global, picture, error))
+pub fn draw(mode: ParseMode, picture: &Picture<'_>, error: &ParseError) -> String {
+    answer(draw_in(Global, mode, picture, error))
 }
 
-/// Returns the edits of these errors, in the order of the source, each behind the end of the one
-/// before it.
+/// Returns the edits of these errors of a text of this mode, in the order of the source, each
+/// behind the end of the one before it.
+///
+/// As from the compiler, there are none in a template of assembly; and where no placeholder may
+/// have a specification, none leads to one.
 ///
 /// The errors are in the order of a parser, in which each error that has an edit comes before those
 /// of earlier places. An edit that does not start behind the end of the one before it is left out.
@@ -70,12 +74,12 @@ pub fn draw(picture: &Picture<'_>, error: &ParseError) -> String {
 /// use dephungo::ParseMode;
 ///
 /// let errors = errors_of("{r#a}{b?}", None, None, false, ParseMode::Format);
-/// let found = edits(&errors);
+/// let found = edits(ParseMode::Format, &errors);
 /// assert_eq!((found[0].span.clone(), found[0].text), (2..4, ""));
 /// assert_eq!((found[1].span.clone(), found[1].text), (8..8, ":"));
 /// ```
-pub fn edits(errors: &[ParseError]) -> Vec<Edit<'_>> {
-    answer(edits_in(Global, errors))
+pub fn edits(mode: ParseMode, errors: &[ParseError]) -> Vec<Edit<'_>> {
+    answer(edits_in(Global, mode, errors))
 }
 
 /// Returns the errors of all calls of a parser up to the end of an input, in its order. The

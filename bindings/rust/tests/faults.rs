@@ -36,8 +36,7 @@ fn texts() {
         (Format, "{:05?#}", "{:05#?}"),
         (Format, "{:x??}", "{:x?:?}"),
         (Format, "{r#r#a}", "{r#a}"),
-        (InlineAsm, "{a?}", "{a:?}"),
-        (DiagnosticNamed, "{a?}", "{a:?}"),
+        (DiagnosticNamed, "{r#a} {a?}", "{a} {a?}"),
     ] {
         let quoted = |text: &str| format!("\"{text}\"");
         let found = fixed(mode, text, None, &quoted(text));
@@ -74,6 +73,16 @@ fn literals() {
 }
 
 #[test]
+fn what_is_not_offered_in_a_mode_stays() {
+    for (mode, text) in [
+        (InlineAsm, "{a?} {r#a}"),
+        (DiagnosticNamed, "{a?} {a:?#}"),
+    ] {
+        assert_eq!(fixed(mode, text, None, &format!("\"{text}\"")), None);
+    }
+}
+
+#[test]
 fn what_is_not_fixed() {
     for (input, style, literal) in [
         ("{}", None, "\"{}\""),
@@ -93,7 +102,7 @@ fn what_is_not_fixed() {
 #[test]
 fn edits_are_in_order() {
     let errors = errors_of("{r#a:?x}{b?}", None, None, false, Format);
-    let found: Vec<(Range<usize>, &str)> = edits(&errors)
+    let found: Vec<(Range<usize>, &str)> = edits(Format, &errors)
         .iter()
         .map(|edit| (edit.span.clone(), edit.text))
         .collect();
@@ -155,7 +164,7 @@ fn error(span: Range<usize>, second: Option<Range<usize>>, suggestion: Suggestio
 #[test]
 fn edits_do_not_overlap() {
     let errors = [4..6, 2..4, 1..3].map(|span| error(0..0, None, Suggestion::RemoveRawIdent(span)));
-    let spans: Vec<_> = edits(&errors)
+    let spans: Vec<_> = edits(Format, &errors)
         .iter()
         .map(|edit| edit.span.clone())
         .collect();
@@ -241,7 +250,7 @@ fn spans() {
             line_start: 7,
             literal_start: 0,
         };
-        let drawing = draw(&picture, &error(span, second, Suggestion::None));
+        let drawing = draw(Format, &picture, &error(span, second, Suggestion::None));
         assert_eq!(
             drawing,
             format!("error: invalid format string: d\n{wanted}")

@@ -3,6 +3,7 @@ use Rattle.std.proofs.Common.{◌≡◌, ◌≢◌, ℕ, ◌++◌, List, [], ◌
 use Rattle.std.proofs.Common.{IfNone, IfSome, ap, false, not, refl, sym, true}
 use Rattle.std.proofs.lemmas.Bool.{cond_both, cond-true, and_parts}
 use Rattle.std.specs.List.{filter_map, cons_option}
+use Rattle.rustc_parse_format.specs.Types.{Mode}
 use Rattle.rustc_parse_format.specs.World.{Place}
 use Rattle.rustc_parse_format.specs.Faults.{Message}
 use borrow.Author.Tests.{ltb-true, leb-true}
@@ -22,17 +23,17 @@ no_nil : (found : List Edit) (e : Edit) (es : List Edit) → found ++ e ∷ es �
 no_nil [] e es h = absurd (cc)
 no_nil (x ∷ xs) e es h = absurd (cc)
 
-pub some-made : (found : List Edit) (at : ℕ) (rest left : List (Message Place))
+pub some-made : (mode : Mode) (found : List Edit) (at : ℕ) (rest left : List (Message Place))
     (m : Message Place) (e : Edit) (all : List Edit)
-    → found ++ made at (filter_map edit_of rest) ≡ all → rest ≡ m ∷ left → edit_of m ≡ Some e
-    → is_behind at e ≡ true → all ≡ [] → ⊥
-some-made found at rest left m e all h r s b n =
-    let first : made at (filter_map edit_of rest)
-    ≡ e ∷ made e.span.1 (filter_map edit_of left) =
-    ap (λ ms. made at (filter_map edit_of ms)) r
-    ∙ ap (λ o. made at (cons_option o (filter_map edit_of left))) s
+    → found ++ made at (filter_map (edit_of mode) rest) ≡ all → rest ≡ m ∷ left
+    → edit_of mode m ≡ Some e → is_behind at e ≡ true → all ≡ [] → ⊥
+some-made mode found at rest left m e all h r s b n =
+    let first : made at (filter_map (edit_of mode) rest)
+    ≡ e ∷ made e.span.1 (filter_map (edit_of mode) left) =
+    ap (λ ms. made at (filter_map (edit_of mode) ms)) r
+    ∙ ap (λ o. made at (cons_option o (filter_map (edit_of mode) left))) s
     ∙ cond-true (is_behind at e) _ _ b in
-    no_nil found e (made e.span.1 (filter_map edit_of left))
+    no_nil found e (made e.span.1 (filter_map (edit_of mode) left))
     (ap (λ l. found ++ l) (sym first) ∙ h ∙ n)
 
 -- What is so for each value is so for that of an option.

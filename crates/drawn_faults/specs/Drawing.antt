@@ -4,29 +4,34 @@ use Rattle.std.specs.Prelude.{ℕ, ◌+◌, ◌==◌, ◌++◌, if◌then◌else
 use Rattle.std.specs.Prelude.{codes, decimal}
 use Rattle.rustc_parse_format.specs.World.{Place}
 use Rattle.rustc_parse_format.specs.Faults.{Message}
-use Rattle.drawn_faults.specs.Glyphs.{run}
+use Rattle.rustc_parse_format.specs.Types.{Mode}
+use Rattle.drawn_faults.specs.Edits.{offered}
+use Rattle.drawn_faults.specs.Glyphs.{glyph_bytes, run}
 use Rattle.drawn_faults.specs.Places.{Picture}
 use Rattle.drawn_faults.specs.Labels.{Label, Edit, Frame, primary, second, edit_of, frame, mark}
+use Rattle.drawn_faults.specs.Labels.{text_name}
 use Rattle.drawn_faults.specs.Lines.{labelled, two_labels}
 use Rattle.drawn_faults.specs.Long.{long_rows}
 use Rattle.drawn_faults.specs.Suggestions.{help_rows, parting}
 use Rattle.drawn_faults.specs.declared.places.Spot.{Spot}
 
 -- What the error is.
-abbrev pub title : List ℕ → List ℕ
-title description = codes "error: invalid format string: " ++ (description ++ codes "\n")
+abbrev pub title : Mode → List ℕ → List ℕ
+title mode description =
+    codes "error: invalid " ++ (text_name mode
+    ++ (codes ": " ++ (glyph_bytes description ++ codes "\n")))
 
 -- Where the text is that the error is about: the path, the line, and the column, which counts
 -- characters.
 unfoldable pub arrow : Frame → Spot → List ℕ
 arrow f at =
-    run f.gutter 32 ++ (codes "--> " ++ (f.picture.path ++ (codes ":"
+    run f.gutter 32 ++ (codes "--> " ++ (glyph_bytes f.picture.path ++ (codes ":"
     ++ (decimal (f.picture.line_start + at.line) ++ (codes ":" ++ (decimal (at.chars + 1)
     ++ codes "\n"))))))
 
 -- The lines above the source.
-unfoldable pub head : Frame → List ℕ → Spot → List ℕ
-head f description at = title description ++ (arrow f at ++ parting f)
+unfoldable pub head : Mode → Frame → List ℕ → Spot → List ℕ
+head mode f description at = title mode description ++ (arrow f at ++ parting f)
 
 -- The lines with labels. Of two labels each is drawn in the line in which it begins, and one over
 -- several lines has one sign there.
@@ -38,7 +43,7 @@ labelled_rows f l (Some s) = two_labels f (mark f.cut l) (mark f.cut s)
 -- The row of a note.
 abbrev pub note_row : ℕ → Option (List ℕ) → List ℕ
 note_row gutter None = []
-note_row gutter (Some t) = run gutter 32 ++ (codes " = note: " ++ (t ++ codes "\n"))
+note_row gutter (Some t) = run gutter 32 ++ (codes " = note: " ++ (glyph_bytes t ++ codes "\n"))
 
 -- The row between the labels and what is below them, if there is anything.
 abbrev pub parting_before : Frame → Option (List ℕ) → Option Edit → List ℕ
@@ -51,15 +56,16 @@ unfoldable pub below : Frame → Option (List ℕ) → Option Edit → List ℕ
 below f note e = parting_before f note e ++ (note_row f.gutter note ++ help_rows f e)
 
 -- The drawing of labels, an error's other texts and an edit in a layout. It ends in an empty line.
-unfoldable pub laid_out : Frame → Message Place → Label → Option Label → Option Edit → List ℕ
-laid_out f m l s e =
-    head f m.description l.extent.start
+unfoldable pub laid_out : Mode → Frame → Message Place → Label → Option Label → Option Edit
+    → List ℕ
+laid_out mode f m l s e =
+    head mode f m.description l.extent.start
     ++ (labelled_rows f l s ++ (below f m.note e ++ codes "\n"))
 
 -- The whole text.
-unfoldable pub drawing : Picture → Message Place → List ℕ
-drawing p m =
-    let l = primary p m in
-    let s = second p m in
-    let e = edit_of p m.suggestion in
-    laid_out (frame p l s e) m l s e
+unfoldable pub drawing : Mode → Picture → Message Place → List ℕ
+drawing mode p m =
+    let l = primary mode p m in
+    let s = second mode p m in
+    let e = edit_of p (offered mode m.suggestion) in
+    laid_out mode (frame p l s e) m l s e

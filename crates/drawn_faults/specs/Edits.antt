@@ -5,6 +5,7 @@ use Rattle.std.specs.Prelude.{if◌then◌else◌, List, [], ◌∷◌, take, dr
 use Rattle.std.specs.Prelude.{codes}
 use Rattle.std.specs.List.{filter_map}
 use Rattle.rustc_parse_format.specs.World.{Place}
+use Rattle.rustc_parse_format.specs.Types.{Mode, Format, InlineAsm, Diagnostic, DiagnosticNamed}
 use Rattle.rustc_parse_format.specs.Faults.{Message, Suggestion, Nothing, UsePositional}
 use Rattle.rustc_parse_format.specs.Faults.{RemoveRawIdent, ReorderFormatParameter, AddMissingColon}
 use Rattle.rustc_parse_format.specs.Faults.{UseRustDebugPrintingMacro}
@@ -24,9 +25,22 @@ suggested (ReorderFormatParameter s w) = Some (record { span = s; text = w })
 suggested (AddMissingColon s) = Some (record { span = (s.0, s.0); text = codes ":" })
 suggested UseRustDebugPrintingMacro = None
 
--- The edit of an error.
-abbrev pub edit_of : Message Place → Option Edit
-edit_of m = suggested m.suggestion
+-- The suggestion that is made in a mode. The compiler makes none for a template of assembly, and
+-- where no placeholder may have a specification, none leads to one.
+abbrev pub offered : Mode → Suggestion Place → Suggestion Place
+offered Format g = g
+offered Diagnostic g = g
+offered InlineAsm g = Nothing
+offered DiagnosticNamed Nothing = Nothing
+offered DiagnosticNamed UsePositional = Nothing
+offered DiagnosticNamed (RemoveRawIdent s) = RemoveRawIdent s
+offered DiagnosticNamed (ReorderFormatParameter s w) = Nothing
+offered DiagnosticNamed (AddMissingColon s) = Nothing
+offered DiagnosticNamed UseRustDebugPrintingMacro = Nothing
+
+-- The edit of an error in a mode.
+abbrev pub edit_of : Mode → Message Place → Option Edit
+edit_of mode m = suggested (offered mode m.suggestion)
 
 -- The edit starts behind the byte offset `at`, and does not end before it starts.
 abbrev pub is_behind : ℕ → Edit → Bool
@@ -38,10 +52,10 @@ abbrev pub made : ℕ → List Edit → List Edit
 made at [] = []
 made at (e ∷ es) = if is_behind at e then e ∷ made e.span.1 es else made at es
 
--- The edits of errors. A parser puts each error that has an edit before the errors of earlier
--- places, so the last error comes first here.
-abbrev pub edits : List (Message Place) → List Edit
-edits ms = made 0 (filter_map edit_of (reverse ms))
+-- The edits of errors in a mode. A parser puts each error that has an edit before the errors of
+-- earlier places, so the last error comes first here.
+abbrev pub edits : Mode → List (Message Place) → List Edit
+edits mode ms = made 0 (filter_map (edit_of mode) (reverse ms))
 
 -- Each edit starts behind the end of the one before it, and the first behind the byte offset `at`.
 abbrev pub AreInOrder : ℕ → List Edit → Type 0

@@ -30,17 +30,17 @@ abbrev pub all_errors : State → List (Message Place)
 all_errors s = add_errors s.errors (faults_in s.world (all_faults s.mode s.next s.rest))
 
 -- The edits of faults, in the order of these.
-abbrev pub fault_edits : List (Fault Place) → List Edit
-fault_edits fs = filter_map (λ f. edit_of (message f)) fs
+abbrev pub fault_edits : Mode → List (Fault Place) → List Edit
+fault_edits mode fs = filter_map (λ f. edit_of mode (message f)) fs
 
 -- The edits in the literal of an input.
 abbrev pub literal_edits : Mode → Text → Option ℕ → Text → Bool → List Edit
 literal_edits mode input style snippet appended =
-    edits (all_errors (first_state mode input style (Some snippet) appended))
+    edits mode (all_errors (first_state mode input style (Some snippet) appended))
 
 -- The same edits in the input itself. Without a snippet a byte offset is 1 more than in the input.
 abbrev pub text_edits : Mode → Text → List Edit
-text_edits mode input = edits (all_errors (first_state mode input None None false))
+text_edits mode input = edits mode (all_errors (first_state mode input None None false))
 
 -- A literal and the text that it stands for, as bytes. With an appended newline the text has it.
 pub record Fixed : Type 0 where

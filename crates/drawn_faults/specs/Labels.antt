@@ -3,9 +3,11 @@ use Rattle.std.specs.Prelude.{ℕ, ◌+◌, ◌-◌, Bool, ◌&&◌, ◌==◌, �
 use Rattle.std.specs.Prelude.{List, length, Option, None, Some, option_map, chars, codes}
 use Rattle.std.specs.Prelude.{decimal}
 use Rattle.rustc_parse_format.specs.World.{Place}
+use Rattle.rustc_parse_format.specs.Types.{Mode, Format, InlineAsm, Diagnostic, DiagnosticNamed}
 use Rattle.rustc_parse_format.specs.Faults.{Message, Suggestion, Nothing, UsePositional}
 use Rattle.rustc_parse_format.specs.Faults.{RemoveRawIdent, ReorderFormatParameter, AddMissingColon}
 use Rattle.rustc_parse_format.specs.Faults.{UseRustDebugPrintingMacro}
+use Rattle.drawn_faults.specs.Edits.{offered}
 use Rattle.drawn_faults.specs.Glyphs.{indent}
 use Rattle.drawn_faults.specs.Places.{Picture, seen_picture, extent, line}
 use Rattle.drawn_faults.specs.Rows.{Mark}
@@ -33,11 +35,18 @@ pub record Edit : Type 0 where
 abbrev pub seen_edit : DeclaredEdit → Edit
 seen_edit e = record { text = e.text.now; extent = e.extent }
 
+-- What the compiler calls the text of a literal in a mode.
+abbrev pub text_name : Mode → List ℕ
+text_name Format = codes "format string"
+text_name InlineAsm = codes "asm template string"
+text_name Diagnostic = codes "format string"
+text_name DiagnosticNamed = codes "format string"
+
 -- The label of the fault itself.
-abbrev pub primary : Picture → Message Place → Label
-primary p m = record {
+abbrev pub primary : Mode → Picture → Message Place → Label
+primary mode p m = record {
   sign = 94;
-  text = m.label ++ codes " in format string";
+  text = m.label ++ (codes " in " ++ text_name mode);
   extent = extent p m.span;
 }
 
@@ -61,12 +70,12 @@ abbrev pub is_same : Place → Place → Bool
 is_same s r = (s.0 == r.0) && (s.1 == r.1)
 
 -- The second label, if there is one. It has the sign of the first one if it has its range.
-unfoldable pub second : Picture → Message Place → Option Label
-second p m = option_map (λ x. record {
+unfoldable pub second : Mode → Picture → Message Place → Option Label
+second mode p m = option_map (λ x. record {
   sign = if is_same x.1 m.span then 94 else 45;
   text = x.0;
   extent = extent p x.1;
-}) (second_text m.second m.suggestion)
+}) (second_text m.second (offered mode m.suggestion))
 
 -- The edit that is drawn with its old and its new lines, if there is one.
 abbrev pub edit_of : Picture → Suggestion Place → Option Edit

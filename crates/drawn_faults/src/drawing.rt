@@ -3,27 +3,31 @@
 
 ghost use Rattle.std.specs.Prelude.{◌≡◌, ◌++◌, ◌<◌, ◌^◌, IfOk, IfSome, None, OnOk, length};
 ghost use Rattle.std.specs.Prelude.{option_map, string_bytes};
-ghost use Rattle.rustc_parse_format.specs.Seen.{seen_error};
+ghost use Rattle.rustc_parse_format.specs.Seen.{seen_error, seen_mode};
+ghost use Rattle.drawn_faults.specs.Glyphs.{IsHarmless};
 ghost use Rattle.drawn_faults.specs.Places.{seen_picture};
 ghost use Rattle.drawn_faults.specs.Labels.{primary, seen_edit, seen_frame, seen_label};
 ghost use Rattle.drawn_faults.specs.Drawing.{arrow, below, drawing, head, labelled_rows};
 ghost use Rattle.drawn_faults.specs.Drawing.{note_row, parting_before, title};
 ghost use Rattle.drawn_faults.specs.Suggestions.{help_rows};
 
-use crate::glyphs::{put_run, put_texts};
-use crate::labels::{Edit, Frame, Label, edit_of, frame_for, mark, second};
+use crate::glyphs::{put_glyphs_between, put_run};
+use crate::labels::{Edit, Frame, Label, edit_of, frame_for, mark, second, text_name};
 use crate::lines::{put_decimal, put_labelled, put_two_labels};
 use crate::long::put_long;
 use crate::places::{Picture, Spot};
 use crate::suggestions::{put_edit, put_parting};
-use rustc_parse_format::ParseError;
+use rustc_parse_format::{ParseError, ParseMode};
 use std::alloc::{AllocError, Global};
 
 /// Adds what the error is.
-fn put_title(out: &mut String, description: &str) -> Result<(), AllocError>
-    ensures { OnOk result (string_bytes out.new ≡ string_bytes out.old ++ title description.now) }
+fn put_title(out: &mut String, mode: ParseMode, description: &str) -> Result<(), AllocError>
+    ensures { OnOk result (string_bytes out.new ≡ string_bytes out.old
+        ++ title (seen_mode mode) description.now) }
 {
-    put_texts(out, "error: invalid format string: ", description, "\n")?;
+    out.push_str("error: invalid ")?;
+    out.push_str(text_name(mode))?;
+    put_glyphs_between(out, ": ", description, "\n")?;
     Ok(())
 }
 
@@ -38,7 +42,7 @@ fn put_arrow(out: &mut String, frame: &Frame<'_>, at: Spot) -> Result<(), AllocE
     let line = frame.picture.line_start as usize + at.line;
     let column = at.chars + 1;
     put_run(out, ' ', frame.gutter)?;
-    put_texts(out, "--> ", frame.picture.path, ":")?;
+    put_glyphs_between(out, "--> ", frame.picture.path, ":")?;
     put_decimal(out, line)?;
     out.push_str(":")?;
     put_decimal(out, column)?;
@@ -50,6 +54,7 @@ fn put_arrow(out: &mut String, frame: &Frame<'_>, at: Spot) -> Result<(), AllocE
 #[tactic(auto, unfolding(crate::specs::Drawing::head))]
 fn put_head(
     out: &mut String,
+    mode: ParseMode,
     frame: &Frame<'_>,
     description: &str,
     at: Spot,
@@ -57,9 +62,9 @@ fn put_head(
     requires line { at.line < 2 ^ 59 }
     requires chars { at.chars < 2 ^ 59 }
     ensures { OnOk result (string_bytes out.new ≡ string_bytes out.old
-        ++ head (seen_frame frame.now) description.now at) }
+        ++ head (seen_mode mode) (seen_frame frame.now) description.now at) }
 {
-    put_title(out, description)?;
+    put_title(out, mode, description)?;
     put_arrow(out, frame, at)?;
     put_parting(out, frame)?;
     Ok(())
@@ -118,7 +123,7 @@ fn put_note(out: &mut String, gutter: usize, note: &Option<String>) -> Result<()
 {
     if let Some(note) = note {
         put_run(out, ' ', gutter)?;
-        put_texts(out, " = note: ", note.as_str(), "\n")?;
+        put_glyphs_between(out, " = note: ", note.as_str(), "\n")?;
     }
     Ok(())
 }
@@ -177,24 +182,26 @@ fn put_below(
 #[tactic(auto, unfolding(crate::specs::Drawing::drawing, crate::specs::Drawing::laid_out))]
 fn put_with_label(
     out: &mut String,
+    mode: ParseMode,
     picture: &Picture<'_>,
     error: &ParseError,
     label: &Label<'_>,
 ) -> Result<(), AllocError>
     requires source { length picture.now.source.now < 2 ^ 59 }
     requires label { seen_label label.now
-        ≡ primary (seen_picture picture.now) (seen_error error.now) }
+        ≡ primary (seen_mode mode) (seen_picture picture.now) (seen_error error.now) }
     requires number { label.now.extent.start.line < 2 ^ 59 }
     requires last { label.now.extent.end.line < 2 ^ 59 }
     requires chars { label.now.extent.start.chars < 2 ^ 59 }
     requires column { label.now.extent.start.column < 2 ^ 61 }
     ensures { OnOk result (string_bytes out.new ≡ string_bytes out.old
-        ++ drawing (seen_picture picture.now) (seen_error error.now)) }
+        ++ drawing (seen_mode mode) (seen_picture picture.now) (seen_error error.now)) }
 {
-    let second = second(picture, error);
-    let edit = edit_of(picture, &error.suggestion);
+    let second = second(mode, picture, error);
+    let edit = edit_of(mode, picture, &error.suggestion);
     let frame = frame_for(picture, label, &second, &edit);
-    put_head(out, &frame, error.description.as_str(), label.extent.start)?;
+    let description = error.description.as_str();
+    put_head(out, mode, &frame, description, label.extent.start)?;
     put_labels(out, &frame, label, &second)?;
     put_below(out, &frame, &error.note, &edit)?;
     out.push_str("\n")?;
@@ -223,16 +230,17 @@ fn least_length(picture: &Picture<'_>, error: &ParseError) -> usize {
     texts.saturating_add(others).saturating_add(LEAST_BESIDES)
 }
 
-/// Returns the text that shows an error of a literal under its source, as rustc 1.95 draws it
-/// without colours. The spans of the error are byte ranges of the literal: its parser had this
-/// literal as its snippet, and that was the source literal.
+/// Returns the text that shows an error of a literal of this mode under its source, as rustc 1.95
+/// draws it without colours. The spans of the error are byte ranges of the literal: its parser had
+/// this literal as its snippet, and that was the source literal.
 ///
 /// From top to bottom: what the error is, and its path, line and column, which counts characters;
 /// the lines with labels, each with its number and the signs of the labels under it; the note; the
-/// suggestion; an empty line. A suggestion to remove or to insert something is a second label, one
-/// to replace a text shows the old and the new lines. Those for which the arguments of the call are
-/// needed, `UsePositional` and `UseRustDebugPrintingMacro`, are left out. Long lines are not cut at
-/// their right. Of two labels each is drawn in the line in which it begins.
+/// suggestion, if one is made in this mode (see [`edits`](crate::edits)); an empty line. A
+/// suggestion to remove or to insert something is a second label, one to replace a text shows the
+/// old and the new lines. Those for which the arguments of the call are needed, `UsePositional` and
+/// `UseRustDebugPrintingMacro`, are left out. Long lines are not cut at their right. Of two labels
+/// each is drawn in the line in which it begins.
 ///
 /// The width of a character is that of the crate `unicode_width`. Of all characters up to U+323FF,
 /// it differs from that of rustc 1.95 for U+FF9E and U+FF9F, and for 1,027 that are new in Unicode
@@ -241,37 +249,50 @@ fn least_length(picture: &Picture<'_>, error: &ParseError) -> usize {
 /// A span that does not fit is drawn too: an offset inside a character means the start of that
 /// character, one behind the source its end, and a range that ends before it begins is empty.
 /// Returns `Err` if an allocation fails, or if the source has 2^59 bytes or more.
-pub fn draw(alloc: Global, picture: &Picture<'_>, error: &ParseError) -> Result<String, AllocError>
+pub fn draw(
+    alloc: Global,
+    mode: ParseMode,
+    picture: &Picture<'_>,
+    error: &ParseError,
+) -> Result<String, AllocError>
     ensures drawn { IfOk result (λ s. string_bytes s
-        ≡ drawing (seen_picture picture.now) (seen_error error.now)) }
+        ≡ drawing (seen_mode mode) (seen_picture picture.now) (seen_error error.now)) }
+    ensures harmless { IfOk result (λ s. IsHarmless (string_bytes s)) }
 {
     let mut out = String::new(alloc);
-    put_drawing(&mut out, picture, error)?;
+    put_drawing(&mut out, mode, picture, error)?;
     Ok(out)
 }
 
 /// Appends the text that [`draw`] returns to `out`. Returns `Err` if an allocation fails, or if the
 /// source has 2^59 bytes or more; a part of the text may then be in `out`.
+#[tactic(auto, using(crate::proofs::HarmlessDrawings::harmless_drawing))]
 pub fn put_drawing(
     out: &mut String,
+    mode: ParseMode,
     picture: &Picture<'_>,
     error: &ParseError,
 ) -> Result<(), AllocError>
-    ensures { OnOk result (string_bytes out.new ≡ string_bytes out.old
-        ++ drawing (seen_picture picture.now) (seen_error error.now)) }
+    ensures drawn { OnOk result (string_bytes out.new ≡ string_bytes out.old
+        ++ drawing (seen_mode mode) (seen_picture picture.now) (seen_error error.now)) }
+    ensures harmless { IsHarmless
+        (drawing (seen_mode mode) (seen_picture picture.now) (seen_error error.now)) }
 {
     if picture.source.len() >= 1 << 59 {
         return Err(AllocError);
     }
     let alloc = *out.allocator();
-    let mut text = String::with_capacity(alloc, error.label.len().saturating_add(17))?;
-    put_texts(&mut text, error.label.as_str(), " in format string", "")?;
+    let name = text_name(mode);
+    let mut text = String::with_capacity(alloc, error.label.len().saturating_add(4 + name.len()))?;
+    text.push_str(error.label.as_str())?;
+    text.push_str(" in ")?;
+    text.push_str(name)?;
     let label = Label {
         sign: '^',
         text: text.as_str(),
         extent: picture.extent(&error.span),
     };
     out.reserve(least_length(picture, error))?;
-    put_with_label(out, picture, error, &label)?;
+    put_with_label(out, mode, picture, error, &label)?;
     Ok(())
 }

@@ -3,10 +3,10 @@
 
 ghost use Rattle.std.specs.Prelude.{◌≡◌, ◌≢◌, ◌+◌, ◌<◌, ◌^◌, [], IfNone, IfOk, IfSome, IsOk};
 ghost use Rattle.std.specs.Prelude.{IsUtf8, None, OnOk, Some, chars, drop, false, length, map, not};
-ghost use Rattle.std.specs.Prelude.{List, ◌∷◌, ◌++◌, codes, encode_utf8_all, option_map};
-ghost use Rattle.std.specs.Prelude.{string_bytes, take};
+ghost use Rattle.std.specs.Prelude.{List, if◌then◌else◌, ◌∷◌, ◌++◌, codes, encode_utf8_all};
+ghost use Rattle.std.specs.Prelude.{option_map, string_bytes, take};
 ghost use Rattle.std.specs.List.{cons_option};
-ghost use Rattle.rustc_parse_format.specs.Faults.{message};
+ghost use Rattle.rustc_parse_format.specs.Faults.{Nothing, message};
 ghost use Rattle.rustc_parse_format.specs.Seen.{seen_error, seen_mode, seen_snippet};
 ghost use Rattle.rustc_parse_format.specs.Seen.{seen_suggestion};
 ghost use Rattle.rustc_parse_format.specs.SeenFaults.{seen_fault};
@@ -15,7 +15,7 @@ ghost use Rattle.rustc_parse_format.specs.State.{after, first_state, next_call};
 ghost use Rattle.rustc_parse_format.specs.World.{faults_in, hashes};
 ghost use Rattle.rustc_parse_format.specs.Literal.{IsSource};
 ghost use Rattle.drawn_faults.specs.Edits.{AreInOrder, Edit as EditValue, applied, edit_of};
-ghost use Rattle.drawn_faults.specs.Edits.{edits, is_empty, suggested};
+ghost use Rattle.drawn_faults.specs.Edits.{edits, is_empty, offered, suggested};
 ghost use Rattle.drawn_faults.specs.Fixing.{Fixed as FixedLiteral, IsFixed, all_errors};
 ghost use Rattle.drawn_faults.specs.Fixing.{fault_edits, literal_edits, text_edits};
 ghost use Rattle.drawn_faults.specs.SeenEdits.{seen_edit, seen_fixed, with_edits};
@@ -43,6 +43,19 @@ pub struct Fixed {
     pub text: String,
 }
 
+/// Returns whether a suggestion is made in a mode. The compiler makes none for a template of
+/// assembly, and where no placeholder may have a specification, none leads to one.
+pub fn is_offered(mode: ParseMode, suggestion: &Suggestion) -> bool
+    ensures { (if result then seen_suggestion suggestion.now else Nothing)
+        ≡ offered (seen_mode mode) (seen_suggestion suggestion.now) }
+{
+    match mode {
+        ParseMode::Format | ParseMode::Diagnostic => true,
+        ParseMode::InlineAsm => false,
+        ParseMode::DiagnosticNamed => matches!(suggestion, Suggestion::RemoveRawIdent(_)),
+    }
+}
+
 /// Returns the edit of a suggestion, or `None` if it has none or needs the arguments of the call.
 fn edit_of(suggestion: &Suggestion) -> Option<Edit<'_>>
     ensures { option_map seen_edit result ≡ suggested (seen_suggestion suggestion.now) }
@@ -65,21 +78,41 @@ fn edit_of(suggestion: &Suggestion) -> Option<Edit<'_>>
     }
 }
 
-/// Returns the edits of these errors, in the order of the source, each behind the end of the one
-/// before it.
+/// Returns the edit of a suggestion that is made in a mode, or `None` if there is none or it needs
+/// the arguments of the call.
+fn offered_edit(mode: ParseMode, suggestion: &Suggestion) -> Option<Edit<'_>>
+    ensures { option_map seen_edit result
+        ≡ suggested (offered (seen_mode mode) (seen_suggestion suggestion.now)) }
+{
+    if !is_offered(mode, suggestion) {
+        return None;
+    }
+    edit_of(suggestion)
+}
+
+/// Returns the edits of these errors of a text of this mode, in the order of the source, each
+/// behind the end of the one before it.
+///
+/// As from the compiler, there are none in a template of assembly; and where no placeholder may
+/// have a specification, none leads to one.
 ///
 /// The errors are in the order of a parser, in which each error that has an edit comes before those
 /// of earlier places. An edit that does not start behind the end of the one before it is left out.
 /// Returns `Err` if an allocation fails.
-pub fn edits<'e>(alloc: Global, errors: &'e [ParseError]) -> Result<Vec<Edit<'e>>, AllocError>
-    ensures edits { IfOk result (λ v. map seen_edit v.items ≡ edits (map seen_error errors.now)) }
+pub fn edits<'e>(
+    alloc: Global,
+    mode: ParseMode,
+    errors: &'e [ParseError],
+) -> Result<Vec<Edit<'e>>, AllocError>
+    ensures edits { IfOk result (λ v. map seen_edit v.items
+        ≡ edits (seen_mode mode) (map seen_error errors.now)) }
     ensures order { IfOk result (λ v. AreInOrder 0 (map seen_edit v.items)) }
-    ensures spare { edits (map seen_error errors.now) ≡ [] → IsOk result }
+    ensures spare { edits (seen_mode mode) (map seen_error errors.now) ≡ [] → IsOk result }
 {
     let mut found = Vec::new(alloc);
     let mut end = 0;
     for error in errors.iter().rev() {
-        if let Some(edit) = edit_of(&error.suggestion) {
+        if let Some(edit) = offered_edit(mode, &error.suggestion) {
             if end < edit.span.start && edit.span.start <= edit.span.end {
                 end = edit.span.end;
                 found.push(edit)?;
@@ -136,42 +169,53 @@ fn make(edited: &mut Edited<'_>, suggestion: &Suggestion) -> Result<(), AllocErr
     Ok(())
 }
 
-/// Returns what the error of a fault suggests if that has an edit, or else `Suggestion::None`.
-/// Makes none of the error's other texts. Returns `Err` if an allocation fails.
+/// Returns what the error of a fault suggests in a mode if that has an edit, or else
+/// `Suggestion::None`. Makes none of the error's other texts. Returns `Err` if an allocation fails.
 #[tactic(auto, unfolding(rustc_parse_format::specs::Faults::message))]
-fn suggestion_of(alloc: Global, fault: &Fault<'_>) -> Result<Suggestion, AllocError>
+fn suggestion_of(
+    alloc: Global,
+    mode: ParseMode,
+    fault: &Fault<'_>,
+) -> Result<Suggestion, AllocError>
     ensures { IfOk result (λ s. suggested (seen_suggestion s)
-        ≡ edit_of (message (seen_fault fault.now))) }
+        ≡ edit_of (seen_mode mode) (message (seen_fault fault.now))) }
 {
-    match fault {
-        Fault::RawIdentifier(_, prefix) => {
+    match (mode, fault) {
+        (ParseMode::InlineAsm, _) => Ok(Suggestion::None),
+        (_, Fault::RawIdentifier(_, prefix)) => {
             Ok(Suggestion::RemoveRawIdent(prefix.start..prefix.end))
         }
-        Fault::LateFlag(flag, _, both) => {
+        (ParseMode::DiagnosticNamed, _) => Ok(Suggestion::None),
+        (_, Fault::LateFlag(flag, _, both)) => {
             let text = format!(in alloc; "{flag}?")?;
             Ok(Suggestion::ReorderFormatParameter(both.start..both.end, text))
         }
-        Fault::MissingColon(span) => Ok(Suggestion::AddMissingColon(span.start..span.end)),
+        (_, Fault::MissingColon(span)) => Ok(Suggestion::AddMissingColon(span.start..span.end)),
         _ => Ok(Suggestion::None),
     }
 }
 
-/// Makes the edits of faults, the first one first. Returns `Err` if an allocation fails.
-fn make_each(edited: &mut Edited<'_>, faults: &[Fault<'_>]) -> Result<(), AllocError>
+/// Makes the edits of faults in a mode, the first one first. Returns `Err` if an allocation fails.
+fn make_each(
+    edited: &mut Edited<'_>,
+    mode: ParseMode,
+    faults: &[Fault<'_>],
+) -> Result<(), AllocError>
     ensures { OnOk result ((es : List EditValue) → with_edits edited.new es ≡ with_edits edited.old
-        (fault_edits (map seen_fault faults.now) ++ es)) }
+        (fault_edits (seen_mode mode) (map seen_fault faults.now) ++ es)) }
 {
     for fault in faults {
-        let suggestion = suggestion_of(*edited.bytes.allocator(), fault)?;
+        let suggestion = suggestion_of(*edited.bytes.allocator(), mode, fault)?;
         make(edited, &suggestion)?;
     }
     Ok(())
 }
 
-/// Makes a call of a parser, and the edits of its faults. `found` is empty before and after the
-/// call. Returns `Err` if an allocation fails.
+/// Makes a call of a parser, and the edits of its faults in a mode. `found` is empty before and
+/// after the call. Returns `Err` if an allocation fails.
 fn make_next<'a>(
     edited: &mut Edited<'_>,
+    mode: ParseMode,
     parser: &mut Parser<'a>,
     argument: &mut Argument<'a>,
     found: &mut Vec<Fault<'a>>,
@@ -181,11 +225,12 @@ fn make_next<'a>(
     ensures state { OnOk result (parser.new
         ≡ record (after parser.old (next_call parser.old)) { errors = [] }) }
     ensures edits { OnOk result ((es : List EditValue) → with_edits edited.new es ≡ with_edits
-        edited.old (fault_edits (faults_in parser.old.world (next_call parser.old).faults) ++ es)) }
+        edited.old (fault_edits (seen_mode mode)
+        (faults_in parser.old.world (next_call parser.old).faults) ++ es)) }
     ensures made { OnOk result (found.new.items ≡ []) }
 {
     parser.next_with_faults(argument, found)?;
-    make_each(edited, found.as_slice())?;
+    make_each(edited, mode, found.as_slice())?;
     found.clear();
     Ok(())
 }
@@ -223,18 +268,21 @@ pub fn errors_of(
     Ok(parser.take_errors())
 }
 
-/// Returns a text with the edits of the errors of all calls of a parser without errors, and whether
-/// there are any. The text starts at the byte offset `at`. Returns `Err` if an allocation fails.
+/// Returns a text with the edits of the errors of all calls of a parser without errors, in a mode,
+/// and whether there are any. The text starts at the byte offset `at`. Returns `Err` if an
+/// allocation fails.
 fn edit_all(
     alloc: Global,
+    mode: ParseMode,
     parser: &mut Parser<'_>,
     text: &str,
     at: usize,
 ) -> Result<(Vec<u8>, bool), AllocError>
     requires { parser.old.errors ≡ [] }
     ensures bytes { IfOk result (λ x. x.0.items
-        ≡ applied at (edits (all_errors parser.old)) text.now) }
-    ensures some { IfOk result (λ x. x.1 ≡ not (is_empty (edits (all_errors parser.old)))) }
+        ≡ applied at (edits (seen_mode mode) (all_errors parser.old)) text.now) }
+    ensures some { IfOk result (λ x. x.1
+        ≡ not (is_empty (edits (seen_mode mode) (all_errors parser.old)))) }
 {
     let mut argument = Argument::default();
     let mut found = Vec::new(alloc);
@@ -245,7 +293,7 @@ fn edit_all(
         end: 0,
     };
     while !parser.is_at_end() {
-        make_next(&mut edited, parser, &mut argument, &mut found)?;
+        make_next(&mut edited, mode, parser, &mut argument, &mut found)?;
     }
     let rest = edited.rest;
     edited.bytes.extend_from_slice(rest)?;
@@ -283,7 +331,7 @@ fn edited_literal(
 {
     let owned = String::from_str(alloc, snippet)?;
     let mut parser = Parser::new(alloc, input, style, Some(owned), appended_newline, mode)?;
-    let (bytes, has_edits) = edit_all(alloc, &mut parser, snippet, 0)?;
+    let (bytes, has_edits) = edit_all(alloc, mode, &mut parser, snippet, 0)?;
     if !has_edits {
         return Ok(None);
     }
@@ -300,7 +348,7 @@ fn edited_text(alloc: Global, input: &str, mode: ParseMode) -> Result<Option<Str
         (IsUtf8 (applied 1 (text_edits (seen_mode mode) (chars input.now)) input.now) → ⊥)) }
 {
     let mut parser = Parser::new(alloc, input, None, None, false, mode)?;
-    let (bytes, _) = edit_all(alloc, &mut parser, input, 1)?;
+    let (bytes, _) = edit_all(alloc, mode, &mut parser, input, 1)?;
     Ok(text_of(bytes))
 }
 

@@ -2,17 +2,20 @@
 
 ghost use Rattle.std.specs.Prelude.{◌≡◌, ◌+◌, ◌<◌, ◌≤◌, ◌^◌, IfSome, length, option_map};
 ghost use Rattle.std.specs.Prelude.{decimal};
-ghost use Rattle.rustc_parse_format.specs.Seen.{pair, seen_error, seen_suggestion};
+ghost use Rattle.rustc_parse_format.specs.Seen.{pair, seen_error, seen_mode, seen_suggestion};
+ghost use Rattle.drawn_faults.specs.Edits.{offered};
 ghost use Rattle.drawn_faults.specs.Places.{extent, seen_picture};
 ghost use Rattle.drawn_faults.specs.Rows.{seen_mark};
 ghost use Rattle.drawn_faults.specs.Labels.{cut_of, edit_line, edit_of, frame, last_line};
 ghost use Rattle.drawn_faults.specs.Labels.{last_number, least, line_indent, mark, other_line};
 ghost use Rattle.drawn_faults.specs.Labels.{second, second_text, seen_edit, seen_frame, seen_label};
+ghost use Rattle.drawn_faults.specs.Labels.{text_name};
 
+use crate::fixes::is_offered;
 use crate::glyphs::indent;
 use crate::places::{Extent, Picture, behind_lines};
 use crate::rows::Mark;
-use rustc_parse_format::{ParseError, Suggestion};
+use rustc_parse_format::{ParseError, ParseMode, Suggestion};
 use std::ops::Range;
 
 /// A label of a range of the source.
@@ -46,13 +49,27 @@ pub struct Frame<'a> {
     pub cut: usize,
 }
 
+/// Returns what the compiler calls the text of a literal in a mode.
+pub fn text_name(mode: ParseMode) -> &'static str
+    ensures { result.now ≡ text_name (seen_mode mode) }
+{
+    match mode {
+        ParseMode::InlineAsm => "asm template string",
+        ParseMode::Format | ParseMode::Diagnostic | ParseMode::DiagnosticNamed => "format string",
+    }
+}
+
 /// Returns the text and the range of the second label, or `None` if there is none.
-fn second_text<'a>(error: &'a ParseError) -> Option<(&'a str, &'a Range<usize>)>
+fn second_text(mode: ParseMode, error: &ParseError) -> Option<(&str, &Range<usize>)>
     ensures { option_map (λ x. (x.0.now, pair x.1.now)) result
-        ≡ second_text (seen_error error.now).second (seen_error error.now).suggestion }
+        ≡ second_text (seen_error error.now).second
+        (offered (seen_mode mode) (seen_error error.now).suggestion) }
 {
     if let Some((text, span)) = &error.secondary_label {
         return Some((text.as_str(), span));
+    }
+    if !is_offered(mode, &error.suggestion) {
+        return None;
     }
     match &error.suggestion {
         Suggestion::RemoveRawIdent(span) => Some(("help: remove the `r#`", span)),
@@ -65,15 +82,19 @@ fn second_text<'a>(error: &'a ParseError) -> Option<(&'a str, &'a Range<usize>)>
 
 /// Returns the second label, or `None` if there is none.
 #[tactic(auto, unfolding(crate::specs::Labels::second))]
-pub fn second<'a>(picture: &Picture<'_>, error: &'a ParseError) -> Option<Label<'a>>
+pub fn second<'a>(
+    mode: ParseMode,
+    picture: &Picture<'_>,
+    error: &'a ParseError,
+) -> Option<Label<'a>>
     requires { length picture.now.source.now < 2 ^ 59 }
     ensures value { option_map seen_label result
-        ≡ second (seen_picture picture.now) (seen_error error.now) }
+        ≡ second (seen_mode mode) (seen_picture picture.now) (seen_error error.now) }
     ensures small { IfSome result (λ l. l.extent.end.line < 2 ^ 59) }
     ensures small_start { IfSome result (λ l. l.extent.start.line < 2 ^ 59) }
     ensures small_column { IfSome result (λ l. l.extent.start.column < 2 ^ 61) }
 {
-    let (text, span) = second_text(error)?;
+    let (text, span) = second_text(mode, error)?;
     let is_same = span.start == error.span.start && span.end == error.span.end;
     Some(Label {
         sign: if is_same { '^' } else { '-' },
@@ -83,13 +104,20 @@ pub fn second<'a>(picture: &Picture<'_>, error: &'a ParseError) -> Option<Label<
 }
 
 /// Returns the edit that is drawn, or `None` if there is none.
-pub fn edit_of<'a>(picture: &Picture<'_>, suggestion: &'a Suggestion) -> Option<Edit<'a>>
+pub fn edit_of<'a>(
+    mode: ParseMode,
+    picture: &Picture<'_>,
+    suggestion: &'a Suggestion,
+) -> Option<Edit<'a>>
     requires { length picture.now.source.now < 2 ^ 59 }
-    ensures value { option_map seen_edit result
-        ≡ edit_of (seen_picture picture.now) (seen_suggestion suggestion.now) }
+    ensures value { option_map seen_edit result ≡ edit_of (seen_picture picture.now)
+        (offered (seen_mode mode) (seen_suggestion suggestion.now)) }
     ensures small { IfSome result (λ e. e.extent.end.line < 2 ^ 59) }
     ensures small_start { IfSome result (λ e. e.extent.start.line < 2 ^ 59) }
 {
+    if !is_offered(mode, suggestion) {
+        return None;
+    }
     let Suggestion::ReorderFormatParameter(span, text) = suggestion else {
         return None;
     };

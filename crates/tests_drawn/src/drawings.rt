@@ -1,5 +1,6 @@
 //! The drawing of each row of the tables.
 
+use crate::asm_rows::asm_rows;
 use crate::line_rows::line_rows;
 use crate::row::Row;
 use crate::short_rows::short_rows;
@@ -20,7 +21,12 @@ fn joined(alloc: Global, texts: &[&str], end: &str) -> Result<String, AllocError
 }
 
 /// The faults of a row.
-fn errors_in(rt: &impl Abort, alloc: Global, row: &Row) -> Result<Vec<ParseError>, AllocError> {
+fn errors_in(
+    rt: &impl Abort,
+    alloc: Global,
+    mode: ParseMode,
+    row: &Row,
+) -> Result<Vec<ParseError>, AllocError> {
     let style = row.style.unwrap_or(0);
     assert!(rt; row.text.len() < 10000 && style < 10000);
     let snippet = String::from_str(alloc, row.literal)?;
@@ -30,12 +36,17 @@ fn errors_in(rt: &impl Abort, alloc: Global, row: &Row) -> Result<Vec<ParseError
         row.style,
         Some(snippet),
         row.appended_newline,
-        ParseMode::Format,
+        mode,
     )
 }
 
 /// The drawing of a fault of a row, and once more behind that text.
-fn drawn(alloc: Global, row: &Row, error: &ParseError) -> Result<String, AllocError> {
+fn drawn(
+    alloc: Global,
+    mode: ParseMode,
+    row: &Row,
+    error: &ParseError,
+) -> Result<String, AllocError> {
     let source = joined(alloc, &[row.before, row.literal, row.after], "")?;
     let picture = Picture {
         path: "a.rs",
@@ -43,8 +54,8 @@ fn drawn(alloc: Global, row: &Row, error: &ParseError) -> Result<String, AllocEr
         line_start: row.line,
         literal_start: row.before.len(),
     };
-    let mut drawing = draw(alloc, &picture, error)?;
-    put_drawing(&mut drawing, &picture, error)?;
+    let mut drawing = draw(alloc, mode, &picture, error)?;
+    put_drawing(&mut drawing, mode, &picture, error)?;
     Ok(drawing)
 }
 
@@ -62,17 +73,17 @@ fn check_drawing(
 }
 
 /// The row's first fault is drawn as it says.
-fn check(rt: &impl Abort, alloc: Global, row: &Row) -> Result<(), AllocError> {
-    let errors = errors_in(rt, alloc, row)?;
+fn check(rt: &impl Abort, alloc: Global, mode: ParseMode, row: &Row) -> Result<(), AllocError> {
+    let errors = errors_in(rt, alloc, mode, row)?;
     assert!(rt; !errors.is_empty(), "{}", row.literal);
-    let drawing = drawn(alloc, row, &errors[0])?;
+    let drawing = drawn(alloc, mode, row, &errors[0])?;
     check_drawing(rt, alloc, row, drawing.as_str())
 }
 
 #[test]
 fn one_line(rt: HostRuntime) -> Result<(), Fail> {
     for row in short_rows() {
-        check(&rt, rt.alloc(), row)?;
+        check(&rt, rt.alloc(), ParseMode::Format, row)?;
     }
     Ok(())
 }
@@ -80,7 +91,15 @@ fn one_line(rt: HostRuntime) -> Result<(), Fail> {
 #[test]
 fn several_lines(rt: HostRuntime) -> Result<(), Fail> {
     for row in line_rows() {
-        check(&rt, rt.alloc(), row)?;
+        check(&rt, rt.alloc(), ParseMode::Format, row)?;
+    }
+    Ok(())
+}
+
+#[test]
+fn assembly(rt: HostRuntime) -> Result<(), Fail> {
+    for row in asm_rows() {
+        check(&rt, rt.alloc(), ParseMode::InlineAsm, row)?;
     }
     Ok(())
 }

@@ -6,7 +6,7 @@
 
 use crate::misfits::error_at;
 use drawn_faults::{Picture, draw};
-use rustc_parse_format::ParseError;
+use rustc_parse_format::{ParseError, ParseMode};
 use std::alloc::Global;
 use std::io::Print;
 use std::process::Abort;
@@ -34,11 +34,11 @@ fn drawing_again(
     alloc: Global,
     error: &ParseError,
 ) -> Result<String, Fail> {
-    if let Ok(drawing) = draw(alloc, &PICTURE, error) {
+    if let Ok(drawing) = draw(alloc, ParseMode::Format, &PICTURE, error) {
         return Ok(drawing);
     }
     println!(rt; "refused")?;
-    Ok(draw(alloc, &PICTURE, error)?)
+    Ok(draw(alloc, ParseMode::Format, &PICTURE, error)?)
 }
 
 #[test]

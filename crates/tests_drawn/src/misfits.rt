@@ -1,7 +1,7 @@
 //! Spans that do not fit the source are drawn where they are cut.
 
 use drawn_faults::{Picture, draw};
-use rustc_parse_format::{ParseError, Suggestion};
+use rustc_parse_format::{ParseError, ParseMode, Suggestion};
 use std::alloc::{AllocError, Global};
 use std::ops::Range;
 use std::process::Abort;
@@ -38,7 +38,7 @@ fn check(
         literal_start: 0,
     };
     let error = error_at(alloc, span, second)?;
-    let drawing = draw(alloc, &picture, &error)?;
+    let drawing = draw(alloc, ParseMode::Format, &picture, &error)?;
     assert_eq!(rt; drawing.as_str(), wanted);
     Ok(())
 }

@@ -81,8 +81,21 @@ fn of_texts(rt: HostRuntime) -> Result<(), Fail> {
     for (text, wanted) in TEXTS {
         check_text(&rt, rt.alloc(), ParseMode::Format, text, wanted)?;
     }
-    for mode in [ParseMode::InlineAsm, ParseMode::DiagnosticNamed] {
-        check_text(&rt, rt.alloc(), mode, "{a?}", "{a:?}")?;
+    let mode = ParseMode::DiagnosticNamed;
+    check_text(&rt, rt.alloc(), mode, "{r#a} {a?}", "{a} {a?}")?;
+    Ok(())
+}
+
+/// In these modes nothing is suggested for these texts.
+#[test]
+fn texts_without_a_suggestion_stay(rt: HostRuntime) -> Result<(), Fail> {
+    for (mode, text) in [
+        (ParseMode::InlineAsm, "{a?} {r#a}"),
+        (ParseMode::DiagnosticNamed, "{a?} {a:?#}"),
+    ] {
+        let literal = format!(in rt.alloc(); "\"{text}\"")?;
+        let found = fix(rt.alloc(), text, None, &literal, false, mode)?;
+        assert!(rt; found.is_none());
     }
     Ok(())
 }
@@ -189,7 +202,7 @@ fn listed(alloc: Global, edits: &[Edit<'_>]) -> Result<String, AllocError> {
 fn of_edits_in_order(rt: HostRuntime) -> Result<(), Fail> {
     let alloc = rt.alloc();
     let errors = errors_of(alloc, "{r#a:?x}{b?}", None, None, false, ParseMode::Format)?;
-    let found = edits(alloc, &errors)?;
+    let found = edits(alloc, ParseMode::Format, &errors)?;
     let lines = listed(alloc, &found)?;
     assert!(rt; lines.as_str() == "2..4 ``\n6..8 `x?`\n11..11 `:`\n");
     Ok(())

@@ -5,21 +5,26 @@
 // That source is proved, and each contract here is its. That this text means the same is tested:
 // by results from outside, and beside what is proved (.ci/bindings) and the original (tools/agree).
 
-use crate::proved::drawn_faults::glyphs::{put_run, put_texts};
-use crate::proved::drawn_faults::labels::{edit_of, frame_for, mark, second, Edit, Frame, Label};
+use crate::proved::drawn_faults::glyphs::{put_glyphs_between, put_run};
+use crate::proved::drawn_faults::labels::{
+    edit_of, frame_for, mark, second, text_name, Edit, Frame, Label,
+};
 use crate::proved::drawn_faults::lines::{put_decimal, put_labelled, put_two_labels};
 use crate::proved::drawn_faults::long::put_long;
 use crate::proved::drawn_faults::places::{Picture, Spot};
 use crate::proved::drawn_faults::suggestions::{put_edit, put_parting};
-use crate::proved::rustc_parse_format::ParseError;
+use crate::proved::rustc_parse_format::{ParseError, ParseMode};
 use crate::shim::alloc::{AllocError, Global};
 use crate::shim::prelude::*;
 
 /// Adds what the error is.
-// ensures { OnOk result (string_bytes out.new ≡ string_bytes out.old ++ title description.now) }
+// ensures { OnOk result (string_bytes out.new ≡ string_bytes out.old
+//     ++ title (seen_mode mode) description.now) }
 #[inline]
-fn put_title(out: &mut String, description: &str) -> Result<(), AllocError> {
-    put_texts(out, "error: invalid format string: ", description, "\n")?;
+fn put_title(out: &mut String, mode: ParseMode, description: &str) -> Result<(), AllocError> {
+    out.try_push_str("error: invalid ")?;
+    out.try_push_str(text_name(mode))?;
+    put_glyphs_between(out, ": ", description, "\n")?;
     Ok(())
 }
 
@@ -33,7 +38,7 @@ fn put_arrow(out: &mut String, frame: &Frame<'_>, at: Spot) -> Result<(), AllocE
     let line = frame.picture.line_start as usize + at.line;
     let column = at.chars + 1;
     put_run(out, ' ', frame.gutter)?;
-    put_texts(out, "--> ", frame.picture.path, ":")?;
+    put_glyphs_between(out, "--> ", frame.picture.path, ":")?;
     put_decimal(out, line)?;
     out.try_push_str(":")?;
     put_decimal(out, column)?;
@@ -45,15 +50,16 @@ fn put_arrow(out: &mut String, frame: &Frame<'_>, at: Spot) -> Result<(), AllocE
 // requires line { at.line < 2 ^ 59 }
 // requires chars { at.chars < 2 ^ 59 }
 // ensures { OnOk result (string_bytes out.new ≡ string_bytes out.old
-//     ++ head (seen_frame frame.now) description.now at) }
+//     ++ head (seen_mode mode) (seen_frame frame.now) description.now at) }
 #[inline]
 fn put_head(
     out: &mut String,
+    mode: ParseMode,
     frame: &Frame<'_>,
     description: &str,
     at: Spot,
 ) -> Result<(), AllocError> {
-    put_title(out, description)?;
+    put_title(out, mode, description)?;
     put_arrow(out, frame, at)?;
     put_parting(out, frame)?;
     Ok(())
@@ -110,7 +116,7 @@ fn put_labels(
 fn put_note(out: &mut String, gutter: usize, note: &Option<String>) -> Result<(), AllocError> {
     if let Some(note) = note {
         put_run(out, ' ', gutter)?;
-        put_texts(out, " = note: ", note.as_str(), "\n")?;
+        put_glyphs_between(out, " = note: ", note.as_str(), "\n")?;
     }
     Ok(())
 }
@@ -171,24 +177,26 @@ fn put_below(
 /// Adds the drawing of an error with this label. Returns `Err` if an allocation fails.
 // requires source { length picture.now.source.now < 2 ^ 59 }
 // requires label { seen_label label.now
-//     ≡ primary (seen_picture picture.now) (seen_error error.now) }
+//     ≡ primary (seen_mode mode) (seen_picture picture.now) (seen_error error.now) }
 // requires number { label.now.extent.start.line < 2 ^ 59 }
 // requires last { label.now.extent.end.line < 2 ^ 59 }
 // requires chars { label.now.extent.start.chars < 2 ^ 59 }
 // requires column { label.now.extent.start.column < 2 ^ 61 }
 // ensures { OnOk result (string_bytes out.new ≡ string_bytes out.old
-//     ++ drawing (seen_picture picture.now) (seen_error error.now)) }
+//     ++ drawing (seen_mode mode) (seen_picture picture.now) (seen_error error.now)) }
 #[inline]
 fn put_with_label(
     out: &mut String,
+    mode: ParseMode,
     picture: &Picture<'_>,
     error: &ParseError,
     label: &Label<'_>,
 ) -> Result<(), AllocError> {
-    let second = second(picture, error);
-    let edit = edit_of(picture, &error.suggestion);
+    let second = second(mode, picture, error);
+    let edit = edit_of(mode, picture, &error.suggestion);
     let frame = frame_for(picture, label, &second, &edit);
-    put_head(out, &frame, error.description.as_str(), label.extent.start)?;
+    let description = error.description.as_str();
+    put_head(out, mode, &frame, description, label.extent.start)?;
     put_labels(out, &frame, label, &second)?;
     put_below(out, &frame, &error.note, &edit)?;
     out.try_push_str("\n")?;
@@ -218,16 +226,17 @@ fn least_length(picture: &Picture<'_>, error: &ParseError) -> usize {
     texts.saturating_add(others).saturating_add(LEAST_BESIDES)
 }
 
-/// Returns the text that shows an error of a literal under its source, as rustc 1.95 draws it
-/// without colours. The spans of the error are byte ranges of the literal: its parser had this
-/// literal as its snippet, and that was the source literal.
+/// Returns the text that shows an error of a literal of this mode under its source, as rustc 1.95
+/// draws it without colours. The spans of the error are byte ranges of the literal: its parser had
+/// this literal as its snippet, and that was the source literal.
 ///
 /// From top to bottom: what the error is, and its path, line and column, which counts characters;
 /// the lines with labels, each with its number and the signs of the labels under it; the note; the
-/// suggestion; an empty line. A suggestion to remove or to insert something is a second label, one
-/// to replace a text shows the old and the new lines. Those for which the arguments of the call are
-/// needed, `UsePositional` and `UseRustDebugPrintingMacro`, are left out. Long lines are not cut at
-/// their right. Of two labels each is drawn in the line in which it begins.
+/// suggestion, if one is made in this mode (see [`edits`](crate::edits)); an empty line. A
+/// suggestion to remove or to insert something is a second label, one to replace a text shows the
+/// old and the new lines. Those for which the arguments of the call are needed, `UsePositional` and
+/// `UseRustDebugPrintingMacro`, are left out. Long lines are not cut at their right. Of two labels
+/// each is drawn in the line in which it begins.
 ///
 /// The width of a character is that of the crate `unicode_width`. Of all characters up to U+323FF,
 /// it differs from that of rustc 1.95 for U+FF9E and U+FF9F, and for 1,027 that are new in Unicode
@@ -237,25 +246,30 @@ fn least_length(picture: &Picture<'_>, error: &ParseError) -> usize {
 /// character, one behind the source its end, and a range that ends before it begins is empty.
 /// Returns `Err` if an allocation fails, or if the source has 2^59 bytes or more.
 // ensures drawn { IfOk result (λ s. string_bytes s
-//     ≡ drawing (seen_picture picture.now) (seen_error error.now)) }
+//     ≡ drawing (seen_mode mode) (seen_picture picture.now) (seen_error error.now)) }
+// ensures harmless { IfOk result (λ s. IsHarmless (string_bytes s)) }
 #[inline]
 pub fn draw(
     alloc: Global,
+    mode: ParseMode,
     picture: &Picture<'_>,
     error: &ParseError,
 ) -> Result<String, AllocError> {
     let mut out = String::made_in(alloc);
-    put_drawing(&mut out, picture, error)?;
+    put_drawing(&mut out, mode, picture, error)?;
     Ok(out)
 }
 
 /// Appends the text that [`draw`] returns to `out`. Returns `Err` if an allocation fails, or if the
 /// source has 2^59 bytes or more; a part of the text may then be in `out`.
-// ensures { OnOk result (string_bytes out.new ≡ string_bytes out.old
-//     ++ drawing (seen_picture picture.now) (seen_error error.now)) }
+// ensures drawn { OnOk result (string_bytes out.new ≡ string_bytes out.old
+//     ++ drawing (seen_mode mode) (seen_picture picture.now) (seen_error error.now)) }
+// ensures harmless { IsHarmless
+//     (drawing (seen_mode mode) (seen_picture picture.now) (seen_error error.now)) }
 #[inline]
 pub fn put_drawing(
     out: &mut String,
+    mode: ParseMode,
     picture: &Picture<'_>,
     error: &ParseError,
 ) -> Result<(), AllocError> {
@@ -263,14 +277,17 @@ pub fn put_drawing(
         return crate::shim::alloc::refuse();
     }
     let alloc = *out.own_allocator();
-    let mut text = String::made_for(alloc, error.label.len().saturating_add(17))?;
-    put_texts(&mut text, error.label.as_str(), " in format string", "")?;
+    let name = text_name(mode);
+    let mut text = String::made_for(alloc, error.label.len().saturating_add(4 + name.len()))?;
+    text.try_push_str(error.label.as_str())?;
+    text.try_push_str(" in ")?;
+    text.try_push_str(name)?;
     let label = Label {
         sign: '^',
         text: text.as_str(),
         extent: picture.extent(&error.span),
     };
     out.try_reserve_more(least_length(picture, error))?;
-    put_with_label(out, picture, error, &label)?;
+    put_with_label(out, mode, picture, error, &label)?;
     Ok(())
 }

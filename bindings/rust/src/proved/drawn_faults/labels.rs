@@ -4,10 +4,11 @@
 // That source is proved, and each contract here is its. That this text means the same is tested:
 // by results from outside, and beside what is proved (.ci/bindings) and the original (tools/agree).
 
+use crate::proved::drawn_faults::fixes::is_offered;
 use crate::proved::drawn_faults::glyphs::indent;
 use crate::proved::drawn_faults::places::{behind_lines, Extent, Picture};
 use crate::proved::drawn_faults::rows::Mark;
-use crate::proved::rustc_parse_format::{ParseError, Suggestion};
+use crate::proved::rustc_parse_format::{ParseError, ParseMode, Suggestion};
 use std::ops::Range;
 
 /// A label of a range of the source.
@@ -41,13 +42,27 @@ pub struct Frame<'a> {
     pub cut: usize,
 }
 
+/// Returns what the compiler calls the text of a literal in a mode.
+// ensures { result.now ≡ text_name (seen_mode mode) }
+#[inline]
+pub fn text_name(mode: ParseMode) -> &'static str {
+    match mode {
+        ParseMode::InlineAsm => "asm template string",
+        ParseMode::Format | ParseMode::Diagnostic | ParseMode::DiagnosticNamed => "format string",
+    }
+}
+
 /// Returns the text and the range of the second label, or `None` if there is none.
 // ensures { option_map (λ x. (x.0.now, pair x.1.now)) result
-//     ≡ second_text (seen_error error.now).second (seen_error error.now).suggestion }
+//     ≡ second_text (seen_error error.now).second
+//     (offered (seen_mode mode) (seen_error error.now).suggestion) }
 #[inline]
-fn second_text<'a>(error: &'a ParseError) -> Option<(&'a str, &'a Range<usize>)> {
+fn second_text(mode: ParseMode, error: &ParseError) -> Option<(&str, &Range<usize>)> {
     if let Some((text, span)) = &error.secondary_label {
         return Some((text.as_str(), span));
+    }
+    if !is_offered(mode, &error.suggestion) {
+        return None;
     }
     match &error.suggestion {
         Suggestion::RemoveRawIdent(span) => Some(("help: remove the `r#`", span)),
@@ -61,13 +76,17 @@ fn second_text<'a>(error: &'a ParseError) -> Option<(&'a str, &'a Range<usize>)>
 /// Returns the second label, or `None` if there is none.
 // requires { length picture.now.source.now < 2 ^ 59 }
 // ensures value { option_map seen_label result
-//     ≡ second (seen_picture picture.now) (seen_error error.now) }
+//     ≡ second (seen_mode mode) (seen_picture picture.now) (seen_error error.now) }
 // ensures small { IfSome result (λ l. l.extent.end.line < 2 ^ 59) }
 // ensures small_start { IfSome result (λ l. l.extent.start.line < 2 ^ 59) }
 // ensures small_column { IfSome result (λ l. l.extent.start.column < 2 ^ 61) }
 #[inline]
-pub fn second<'a>(picture: &Picture<'_>, error: &'a ParseError) -> Option<Label<'a>> {
-    let (text, span) = second_text(error)?;
+pub fn second<'a>(
+    mode: ParseMode,
+    picture: &Picture<'_>,
+    error: &'a ParseError,
+) -> Option<Label<'a>> {
+    let (text, span) = second_text(mode, error)?;
     let is_same = span.start == error.span.start && span.end == error.span.end;
     Some(Label {
         sign: if is_same { '^' } else { '-' },
@@ -78,12 +97,19 @@ pub fn second<'a>(picture: &Picture<'_>, error: &'a ParseError) -> Option<Label<
 
 /// Returns the edit that is drawn, or `None` if there is none.
 // requires { length picture.now.source.now < 2 ^ 59 }
-// ensures value { option_map seen_edit result
-//     ≡ edit_of (seen_picture picture.now) (seen_suggestion suggestion.now) }
+// ensures value { option_map seen_edit result ≡ edit_of (seen_picture picture.now)
+//     (offered (seen_mode mode) (seen_suggestion suggestion.now)) }
 // ensures small { IfSome result (λ e. e.extent.end.line < 2 ^ 59) }
 // ensures small_start { IfSome result (λ e. e.extent.start.line < 2 ^ 59) }
 #[inline]
-pub fn edit_of<'a>(picture: &Picture<'_>, suggestion: &'a Suggestion) -> Option<Edit<'a>> {
+pub fn edit_of<'a>(
+    mode: ParseMode,
+    picture: &Picture<'_>,
+    suggestion: &'a Suggestion,
+) -> Option<Edit<'a>> {
+    if !is_offered(mode, suggestion) {
+        return None;
+    }
     let Suggestion::ReorderFormatParameter(span, text) = suggestion else {
         return None;
     };

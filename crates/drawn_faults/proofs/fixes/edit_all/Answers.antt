@@ -1,5 +1,6 @@
 use Rattle.std.proofs.Common.{◌≡◌, ◌∙◌, ap, false, true}
 use Rattle.rustc_parse_format.specs.Characters.{is_nil}
+use Rattle.rustc_parse_format.specs.Seen.{seen_mode}
 use Rattle.rustc_parse_format.specs.State.{State}
 use Rattle.drawn_faults.specs.SeenEdits.{with_edits}
 use Rattle.drawn_faults.proofs.FixLaws.{edited-end, left_edits, left_edits-step, left-shorter}
@@ -18,8 +19,10 @@ loop-argument-preserved c =
     record {
       none = ap (λ (t : State). t.errors) e;
       made = c.in_ok-make_next.ensures.made;
-      same = c.in_ok-make_next.ensures.edits (left_edits c.make_next.new.parser)
-          ∙ ap (with_edits l.edited) (left_edits-step l.parser c.make_next.new.parser e h)
+      same = c.in_ok-make_next.ensures.edits
+          (left_edits (seen_mode c.args.mode) c.make_next.new.parser)
+          ∙ ap (with_edits l.edited)
+          (left_edits-step (seen_mode c.args.mode) l.parser c.make_next.new.parser e h)
           ∙ l.invariant.same;
     }
 
@@ -27,7 +30,8 @@ pub returns-clause-bytes : goal.returns-clause-bytes
 returns-clause-bytes c =
     let l = c.loop-argument in
     let h : is_nil l.parser.rest ≡ true = cc in
-    c.in_ok-extend_from_slice.ensures.items ∙ (edited-end c.args.parser.now l.parser
+    c.in_ok-extend_from_slice.ensures.items
+    ∙ (edited-end (seen_mode c.args.mode) c.args.parser.now l.parser
     l.edited.bytes.items l.edited.start l.edited.end l.edited.rest.now c.args.at c.args.text.now
     c.requires h l.invariant.same).0
 
@@ -35,5 +39,6 @@ pub returns-clause-some : goal.returns-clause-some
 returns-clause-some c =
     let l = c.loop-argument in
     let h : is_nil l.parser.rest ≡ true = cc in
-    (edited-end c.args.parser.now l.parser l.edited.bytes.items l.edited.start l.edited.end
+    (edited-end (seen_mode c.args.mode) c.args.parser.now l.parser l.edited.bytes.items
+    l.edited.start l.edited.end
     l.edited.rest.now c.args.at c.args.text.now c.requires h l.invariant.same).1

@@ -1,4 +1,5 @@
 use Rattle.std.proofs.Common.{◌≡◌, [], length}
+use Rattle.rustc_parse_format.specs.Seen.{seen_mode}
 use Rattle.drawn_faults.specs.Edits.{joined}
 use Rattle.drawn_faults.specs.SeenEdits.{with_edits}
 use Rattle.drawn_faults.proofs.FixLaws.{left_edits}
@@ -9,8 +10,8 @@ abbrev pub invariant-loop-argument : goal.invariant-loop-argument
 invariant-loop-argument l = record {
   none : l.parser.errors ≡ [];
   made : l.found.items ≡ [];
-  same : with_edits l.edited (left_edits l.parser)
-      ≡ joined [] l.fn.at 0 l.fn.text (left_edits l.fn.parser);
+  same : with_edits l.edited (left_edits (seen_mode l.mode) l.parser)
+      ≡ joined [] l.fn.at 0 l.fn.text (left_edits (seen_mode l.mode) l.fn.parser);
 }
 
 abbrev pub decreases-loop-argument : goal.decreases-loop-argument

@@ -1,6 +1,6 @@
 use Rattle.std.proofs.Common.{◌≡◌, ◌++◌, map, reverse}
 use Rattle.std.specs.List.{filter_map}
-use Rattle.rustc_parse_format.specs.Seen.{seen_error}
+use Rattle.rustc_parse_format.specs.Seen.{seen_error, seen_mode}
 use Rattle.drawn_faults.specs.Edits.{made, edits, edit_of}
 use Rattle.drawn_faults.specs.SeenEdits.{seen_edit}
 use Rattle.drawn_faults.proofs.fixes.edits.Given as goal
@@ -9,5 +9,6 @@ use Rattle.drawn_faults.proofs.fixes.edits.Given as goal
 abbrev pub invariant-loop-error : goal.invariant-loop-error
 invariant-loop-error l =
     map seen_edit l.found.items
-    ++ made l.end (filter_map edit_of (reverse (map seen_error l.error-iterator.iter.rest.now)))
-    ≡ edits (map seen_error l.errors)
+    ++ made l.end (filter_map (edit_of (seen_mode l.mode)) (reverse (map seen_error
+    l.error-iterator.iter.rest.now)))
+    ≡ edits (seen_mode l.mode) (map seen_error l.errors)

@@ -1,4 +1,5 @@
 use Rattle.std.proofs.Common.{◌≡◌, ◌++◌, List, drop, map}
+use Rattle.rustc_parse_format.specs.Seen.{seen_mode}
 use Rattle.rustc_parse_format.specs.SeenFaults.{seen_fault}
 use Rattle.drawn_faults.specs.Edits.{Edit}
 use Rattle.drawn_faults.specs.Fixing.{fault_edits}
@@ -9,5 +10,5 @@ use Rattle.drawn_faults.proofs.fixes.make_each.Given as goal
 -- those of all.
 abbrev pub invariant-loop-fault : goal.invariant-loop-fault
 invariant-loop-fault l = (es : List Edit) → with_edits l.edited
-    (fault_edits (map seen_fault (drop l.fault-index l.faults)) ++ es)
-    ≡ with_edits l.fn.edited (fault_edits (map seen_fault l.faults) ++ es)
+    (fault_edits (seen_mode l.mode) (map seen_fault (drop l.fault-index l.faults)) ++ es)
+    ≡ with_edits l.fn.edited (fault_edits (seen_mode l.mode) (map seen_fault l.faults) ++ es)
