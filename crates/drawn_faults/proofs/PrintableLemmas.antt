@@ -1,111 +1,44 @@
--- Lemmas on characters that are drawn as they are: the lanes of a block that have their bytes, and
--- texts that begin with them, of which the printable ones of ASCII take one column.
-use Rattle.std.proofs.Common.{◌≡◌, ℕ, ◌+◌, ◌-◌, ◌<◌, ◌≤◌, ◌^◌, ◌%◌, ◌/◌, ◌⊎◌, inl, inr, zero, suc}
-use Rattle.std.proofs.Common.{List, [], ◌∷◌, ◌++◌, length, chars, drop, min, take, map, replicate}
-use Rattle.std.proofs.Common.{refl, ap, sym, subst, ◌∙◌, arith, true, false, Bool, cond, eqb, ltb}
-use Rattle.std.proofs.Common.{get_or, nat_lt, IsUtf8, IsCharBoundary, encode_utf8_all, bit_or}
+-- Lemmas on characters that are drawn as they are: their bytes, and texts that begin with them, of
+-- which the printable ones of ASCII take one column.
+use Rattle.std.proofs.Common.{◌≡◌, ℕ, ◌+◌, ◌-◌, ◌<◌, ◌≤◌, ◌/◌, ◌⊎◌, inl, inr, zero, suc}
+use Rattle.std.proofs.Common.{List, [], ◌∷◌, ◌++◌, length, chars, drop, min, take, replicate}
+use Rattle.std.proofs.Common.{refl, ap, sym, subst, ◌∙◌, arith, true, false, Bool}
+use Rattle.std.proofs.Common.{nat_lt, IsUtf8, IsCharBoundary, encode_utf8_all}
 use Rattle.std.proofs.Common.{append_assoc}
 use Rattle.std.proofs.Math.Utf8.{encode}
 use Rattle.std.proofs.lemmas.Grind.{flat_map-append}
 use Rattle.std.proofs.lemmas.List.Folds.{list_all-append}
-use Rattle.std.specs.Prelude.{◌==◌}
-use Rattle.std.specs.Int.{bit_at}
 use Rattle.std.specs.List.{fold, list_all}
 use Rattle.std.specs.Str.{IsAscii}
-use Rattle.std.specs.Simd.Lanes.{zip2, mask_l, top}
 use Rattle.std.proofs.lemmas.Bool.{and_parts, cases_lt, false≢true}
 use Rattle.std.proofs.lemmas.Bool.Decides.{nat_tests}
 use Rattle.std.proofs.lemmas.List.{take-append-drop, take-take, length-take}
 use Rattle.std.proofs.lemmas.List.Sums.{fold-append}
-use Rattle.std.proofs.lemmas.Simd.{length-replicate, length-zip2, get_or-replicate}
 use Rattle.std.proofs.lemmas.Str.{chars-append, chars-IsAscii, IsUtf8-from_ascii, IsUtf8-take}
 use Rattle.std.proofs.lemmas.Str.{encode_ascii, encodes-chars, encodes-append, len_utf8_ascii}
 use Rattle.std.proofs.lemmas.Str.{IsCharBoundary-from_take}
 use Rattle.std.proofs.lemmas.Str.Ascii.{IsAscii-nil, IsAscii-cons}
-use Rattle.rustc_parse_format.proofs.Bytes.LaneBits.{clear-compared, clear-join, clear-lane}
-use Rattle.rustc_parse_format.proofs.Bytes.LaneBits.{compared, equal, long-equal, long-join}
+use Rattle.rustc_parse_format.specs.Bytes.{is_no_stop}
+use Rattle.rustc_parse_format.proofs.Grammar.Fronts.{list_all-weaker}
 use Rattle.unicode_width.specs.Width.{char_width}
 use Rattle.rustc_parse_format.specs.Characters.{Text}
 use Rattle.drawn_faults.specs.Glyphs.{glyph, glyph_count, glyphs, is_drawn_as_is, is_printable}
 use Rattle.drawn_faults.specs.Glyphs.{is_bidi_control, run, width}
 use Rattle.drawn_faults.specs.Places.{past, within}
 use Rattle.drawn_faults.specs.declared.places.Spot.{Spot}
+use Rattle.drawn_faults.specs.declared.printable.TheConstants.{AS_IS, PRINTABLE}
 use Rattle.drawn_faults.proofs.GlyphLemmas.{take-step}
 
-not-less : (a b : ℕ) → ltb a b ≡ false → b ≤ a
-not-less a b e = grind (arith, nat_tests)
+-- the bytes before the first stop of each kind
+pub pass-as-is : (s : List ℕ) → list_all (is_no_stop AS_IS) s ≡ true
+    → list_all is_drawn_as_is s ≡ true
+pass-as-is s e =
+    list_all-weaker (is_no_stop AS_IS) is_drawn_as_is s (λ b h. grind (arith, nat_tests)) e
 
-byte-as-is : (high b : ℕ) → 32 ≤ b → b ≤ high → (b == 127) ≡ false → (b == 0xC2) ≡ false
-    → (b == 0xD8) ≡ false → (b == 0xE2) ≡ false → is_drawn_as_is high b ≡ true
-byte-as-is high b l m p q r s = rw (p, q, r, s) (grind (arith, nat_tests))
-
-long-less : (xs ys : List ℕ) → length xs ≡ 16 → length ys ≡ 16 → length (compared ltb xs ys) ≡ 16
-long-less xs ys p q = length-zip2 (λ a b. cond (ltb a b) 255 0) xs ys (p ∙ sym q) ∙ p
-
-other-byte : (v : List ℕ) (b k : ℕ) → length v ≡ 16 → k < 16
-    → bit_at (get_or (equal v b) k 0) 7 ≡ 0 → (get_or v k 0 == b) ≡ false
-other-byte v b k n l clear =
-    ap (λ x. get_or v k 0 == x) (sym (get_or-replicate 16 k b 0 l))
-    ∙ clear-compared eqb v (replicate 16 b) k n (length-replicate 16 b) l clear
-
--- the lanes that are less than a space or more than `high`
-abbrev outside : List ℕ → ℕ → List ℕ
-outside v high = zip2 bit_or (compared ltb v (replicate 16 32)) (compared ltb (replicate 16 high) v)
-
-long-outside : (v : List ℕ) (high : ℕ) → length v ≡ 16 → length (outside v high) ≡ 16
-long-outside v high n =
-    long-join _ _ (long-less v (replicate 16 32) n (length-replicate {A = ℕ} 16 32))
-    (long-less (replicate 16 high) v (length-replicate {A = ℕ} 16 high) n)
-
-lane-inside : (v : List ℕ) (high k : ℕ) → length v ≡ 16 → k < 16
-    → bit_at (get_or (outside v high) k 0) 7 ≡ 0
-    → (32 ≤ get_or v k 0) × (get_or v k 0 ≤ high)
-lane-inside v high k n l clear =
-    let low = length-replicate {A = ℕ} 16 32 in
-    let top = length-replicate {A = ℕ} 16 high in
-    let both = clear-join _ _ k (long-less v (replicate 16 32) n low)
-    (long-less (replicate 16 high) v top n) l clear in
-    let under = clear-compared ltb v (replicate 16 32) k n low l both.0 in
-    let over = clear-compared ltb (replicate 16 high) v k top n l both.1 in
-    let c : get_or (replicate {A = ℕ} 16 32) k 0 ≡ 32 = get_or-replicate 16 k 32 0 l in
-    let d : get_or (replicate {A = ℕ} 16 high) k 0 ≡ high = get_or-replicate 16 k high 0 l in (
-      subst (λ x. x ≤ get_or v k 0) c (not-less _ _ under),
-      subst (λ x. get_or v k 0 ≤ x) d (not-less _ _ over),
-    )
-
-byte-inside : (high b : ℕ) → high < 127 → 32 ≤ b → b ≤ high → is_drawn_as_is high b ≡ true
-byte-inside high b h l m = grind (arith, nat_tests)
-
--- a lane whose bit is 0 has a byte that is drawn as it is, in ASCII
-pub lane-printable : (v : List ℕ) (high k : ℕ) → high < 127 → length v ≡ 16 → k < 16
-    → bit_at (mask_l (map (top 7) (outside v high)) % 2 ^ 64) k ≡ 0
-    → is_drawn_as_is high (get_or v k 0) ≡ true
-lane-printable v high k h n l clear =
-    let inside = lane-inside v high k n l (clear-lane _ k (long-outside v high n) l clear) in
-    byte-inside high (get_or v k 0) h inside.0 inside.1
-
--- and in any text
-pub lane-as-is : (v : List ℕ) (high k : ℕ) → length v ≡ 16 → k < 16
-    → bit_at
-    (mask_l (map (top 7)
-    (zip2 bit_or
-    (zip2 bit_or
-    (zip2 bit_or (zip2 bit_or (outside v high) (equal v 127)) (equal v 0xC2)) (equal v 0xD8))
-    (equal v 0xE2))) % 2 ^ 64) k ≡ 0
-    → is_drawn_as_is high (get_or v k 0) ≡ true
-lane-as-is v high k n l clear =
-    let a = long-outside v high n in
-    let b = long-join _ (equal v 127) a (long-equal v 127 n) in
-    let c = long-join _ (equal v 0xC2) b (long-equal v 0xC2 n) in
-    let d = long-join _ (equal v 0xD8) c (long-equal v 0xD8 n) in
-    let all = clear-lane _ k (long-join _ (equal v 0xE2) d (long-equal v 0xE2 n)) l clear in
-    let e2 = clear-join _ (equal v 0xE2) k d (long-equal v 0xE2 n) l all in
-    let d8 = clear-join _ (equal v 0xD8) k c (long-equal v 0xD8 n) l e2.0 in
-    let c2 = clear-join _ (equal v 0xC2) k b (long-equal v 0xC2 n) l d8.0 in
-    let seven = clear-join _ (equal v 127) k a (long-equal v 127 n) l c2.0 in
-    let inside = lane-inside v high k n l seven.0 in
-    byte-as-is high (get_or v k 0) inside.0 inside.1 (other-byte v 127 k n l seven.1)
-    (other-byte v 0xC2 k n l c2.1) (other-byte v 0xD8 k n l d8.1) (other-byte v 0xE2 k n l e2.1)
+pub pass-printable_bytes : (s : List ℕ) → list_all (is_no_stop PRINTABLE) s ≡ true
+    → list_all is_printable s ≡ true
+pass-printable_bytes s e =
+    list_all-weaker (is_no_stop PRINTABLE) is_printable s (λ b h. grind (arith, nat_tests)) e
 
 small-printable : (c : ℕ) → is_printable c ≡ true → c < 128
 small-printable c e = grind (arith, nat_tests)
@@ -262,55 +195,55 @@ pass-printable f n t p e l =
     ap (fold past p) (within-printable f n t e l)
     ∙ fold-append past p f (within (n - length f) t)
 
-ascii-as-is : (c : ℕ) → c < 128 → list_all (is_drawn_as_is 255) (encode c) ≡ true
-    → is_drawn_as_is 255 c ≡ true
+ascii-as-is : (c : ℕ) → c < 128 → list_all is_drawn_as_is (encode c) ≡ true
+    → is_drawn_as_is c ≡ true
 ascii-as-is c l e =
-    (and_parts (is_drawn_as_is 255 c) true
-    (sym (ap (list_all (is_drawn_as_is 255)) (encode_ascii c l)) ∙ e)).0
+    (and_parts (is_drawn_as_is c) true
+    (sym (ap (list_all is_drawn_as_is) (encode_ascii c l)) ∙ e)).0
 
 -- the first byte of a character of two bytes, and of one of three
-first-of-two : (c : ℕ) → 128 ≤ c → c < 2048 → list_all (is_drawn_as_is 255) (encode c) ≡ true
-    → is_drawn_as_is 255 (192 + c / 64) ≡ true
+first-of-two : (c : ℕ) → 128 ≤ c → c < 2048 → list_all is_drawn_as_is (encode c) ≡ true
+    → is_drawn_as_is (192 + c / 64) ≡ true
 unfolding encode
 first-of-two c l m e =
     let a : nat_lt c 128 ≡ false = grind (arith, nat_tests) in
     let b : nat_lt c 2048 ≡ true = grind (arith, nat_tests) in
     let d = rw (a, b) at e in
-    (and_parts (is_drawn_as_is 255 (192 + c / 64)) _ d).0
+    (and_parts (is_drawn_as_is (192 + c / 64)) _ d).0
 
-first-of-three : (c : ℕ) → 2048 ≤ c → c < 65536 → list_all (is_drawn_as_is 255) (encode c) ≡ true
-    → is_drawn_as_is 255 (224 + c / 4096) ≡ true
+first-of-three : (c : ℕ) → 2048 ≤ c → c < 65536 → list_all is_drawn_as_is (encode c) ≡ true
+    → is_drawn_as_is (224 + c / 4096) ≡ true
 unfolding encode
 first-of-three c l m e =
     let a : nat_lt c 128 ≡ false = grind (arith, nat_tests) in
     let b : nat_lt c 2048 ≡ false = grind (arith, nat_tests) in
     let d : nat_lt c 65536 ≡ true = grind (arith, nat_tests) in
     let f = rw (a, b, d) at e in
-    (and_parts (is_drawn_as_is 255 (224 + c / 4096)) _ f).0
+    (and_parts (is_drawn_as_is (224 + c / 4096)) _ f).0
 
 -- the blocks of characters that are not drawn as they are
-not-80 : (c : ℕ) → 128 ≤ c → c < 192 → list_all (is_drawn_as_is 255) (encode c) ≡ true → ⊥
+not-80 : (c : ℕ) → 128 ≤ c → c < 192 → list_all is_drawn_as_is (encode c) ≡ true → ⊥
 not-80 c l m e =
     let a : 192 + c / 64 ≡ 0xC2 = omega arith in
     absurd (false≢true
-    (subst (λ b. is_drawn_as_is 255 b ≡ true) a (first-of-two c l (omega arith) e)))
+    (subst (λ b. is_drawn_as_is b ≡ true) a (first-of-two c l (omega arith) e)))
 
-not-600 : (c : ℕ) → 0x600 ≤ c → c < 0x640 → list_all (is_drawn_as_is 255) (encode c) ≡ true → ⊥
+not-600 : (c : ℕ) → 0x600 ≤ c → c < 0x640 → list_all is_drawn_as_is (encode c) ≡ true → ⊥
 not-600 c l m e =
     let a : 192 + c / 64 ≡ 0xD8 = omega arith in
     absurd (false≢true
-    (subst (λ b. is_drawn_as_is 255 b ≡ true) a (first-of-two c (omega arith) (omega arith) e)))
+    (subst (λ b. is_drawn_as_is b ≡ true) a (first-of-two c (omega arith) (omega arith) e)))
 
-not-2000 : (c : ℕ) → 0x2000 ≤ c → c < 0x3000 → list_all (is_drawn_as_is 255) (encode c) ≡ true
+not-2000 : (c : ℕ) → 0x2000 ≤ c → c < 0x3000 → list_all is_drawn_as_is (encode c) ≡ true
     → ⊥
 not-2000 c l m e =
     let a : 224 + c / 4096 ≡ 0xE2 = omega arith in
     absurd (false≢true
-    (subst (λ b. is_drawn_as_is 255 b ≡ true) a (first-of-three c (omega arith) (omega arith) e)))
+    (subst (λ b. is_drawn_as_is b ≡ true) a (first-of-three c (omega arith) (omega arith) e)))
 
 -- the character is between these blocks
 abbrev IsBetween : ℕ → Type 0
-IsBetween c = ((c < 128) × (is_drawn_as_is 255 c ≡ true))
+IsBetween c = ((c < 128) × (is_drawn_as_is c ≡ true))
     ⊎ (((192 ≤ c) × (c < 0x600)) ⊎ (((0x640 ≤ c) × (c < 0x2000)) ⊎ (0x3000 ≤ c)))
 
 glyph-as-is : (c : ℕ) → IsBetween c → (glyph c ≡ c) × (glyph_count c ≡ 1)
@@ -320,7 +253,7 @@ glyph-as-is c (inr (inl (l, m))) = (grind (arith, nat_tests), grind (arith, nat_
 glyph-as-is c (inr (inr (inl (l, m)))) = (grind (arith, nat_tests), grind (arith, nat_tests))
 glyph-as-is c (inr (inr (inr l))) = (grind (arith, nat_tests), grind (arith, nat_tests))
 
-between : (c : ℕ) → list_all (is_drawn_as_is 255) (encode c) ≡ true → IsBetween c
+between : (c : ℕ) → list_all is_drawn_as_is (encode c) ≡ true → IsBetween c
 between c e =
     by_block (cases_lt c 128) (cases_lt c 192) (cases_lt c 0x600) (cases_lt c 0x640)
     (cases_lt c 0x2000) (cases_lt c 0x3000)
@@ -337,26 +270,26 @@ between c e =
     by_block (inr l) (inr m) (inr n) (inr o) (inr p) (inr q) = inr (inr (inr q))
 
 -- a character whose bytes are drawn as they are is so too
-char-as-is : (c : ℕ) → list_all (is_drawn_as_is 255) (encode c) ≡ true
+char-as-is : (c : ℕ) → list_all is_drawn_as_is (encode c) ≡ true
     → (glyph c ≡ c) × (glyph_count c ≡ 1)
 char-as-is c e = glyph-as-is c (between c e)
 
-glyphs-as-is : (t : Text) → list_all (is_drawn_as_is 255) (encode_utf8_all t) ≡ true → glyphs t ≡ t
+glyphs-as-is : (t : Text) → list_all is_drawn_as_is (encode_utf8_all t) ≡ true → glyphs t ≡ t
 glyphs-as-is [] e = refl
 glyphs-as-is (c ∷ t) e =
     let parts = and_parts _ _
-    (sym (list_all-append (is_drawn_as_is 255) (encode c) (encode_utf8_all t)) ∙ e) in
+    (sym (list_all-append is_drawn_as_is (encode c) (encode_utf8_all t)) ∙ e) in
     let one = char-as-is c parts.0 in
     rw (one.1, one.0) (ap (λ x. c ∷ x) (glyphs-as-is t parts.1))
 
 -- and so is a text of such characters
 pub drawn-as-is : (s : List ℕ) (n : ℕ) → IsUtf8 s → IsCharBoundary s n
-    → list_all (is_drawn_as_is 255) (take n s) ≡ true
+    → list_all is_drawn_as_is (take n s) ≡ true
     → encode_utf8_all (glyphs (chars s)) ≡ take n s ++ encode_utf8_all (glyphs (chars (drop n s)))
 drawn-as-is s n u b e =
     let v = IsUtf8-take s n u b in
     let bytes = encodes-chars (take n s) v in
-    let same = glyphs-as-is (chars (take n s)) (ap (list_all (is_drawn_as_is 255)) bytes ∙ e) in
+    let same = glyphs-as-is (chars (take n s)) (ap (list_all is_drawn_as_is) bytes ∙ e) in
     let whole : chars s ≡ chars (take n s) ++ chars (drop n s) =
     ap chars (sym (take-append-drop n s)) ∙ chars-append (take n s) (drop n s) v in
     ap (λ t. encode_utf8_all (glyphs t)) whole

@@ -2,7 +2,7 @@
 -- rustc 1.95, but for the control characters from U+0080 on and for three marks of direction, which
 -- rustc writes as they are, and for the widths, which are those of the crate `unicode_width`.
 use Rattle.std.specs.Prelude.{ℕ, ◌+◌, Bool, false, ◌&&◌, ◌||◌, ◌==◌, if◌then◌else◌}
-use Rattle.std.specs.Prelude.{nat_le, nat_lt, not, List, [], ◌∷◌, Option, Some, None, unwrap_or}
+use Rattle.std.specs.Prelude.{nat_lt, not, List, [], ◌∷◌, Option, Some, None, unwrap_or}
 use Rattle.std.specs.Prelude.{chars, replicate, flat_map}
 use Rattle.std.specs.Int.{is_in_range}
 use Rattle.std.specs.Char.{is_whitespace}
@@ -64,17 +64,15 @@ indent n [] = None
 indent n (c ∷ t) =
     if is_whitespace c then indent (n + (if c == 9 then 4 else 1)) t else Some n
 
--- The byte is at most `high`, and one of a character that is drawn as it is: no control character
--- of ASCII, and not the first byte of the characters from U+0080 to U+00BF, from U+0600 to U+063F,
--- and from U+2000 to U+2FFF.
-abbrev pub is_drawn_as_is : ℕ → ℕ → Bool
-is_drawn_as_is high b =
-    (nat_lt 31 b && nat_le b high)
-    && not ((b == 127 || b == 0xC2) || (b == 0xD8 || b == 0xE2))
+-- The byte is one of a character that is drawn as it is: no control character of ASCII, and not the
+-- first byte of the characters from U+0080 to U+00BF, from U+0600 to U+063F, and from U+2000 to
+-- U+2FFF.
+abbrev pub is_drawn_as_is : ℕ → Bool
+is_drawn_as_is b = nat_lt 31 b && not ((b == 127 || b == 0xC2) || (b == 0xD8 || b == 0xE2))
 
 -- The character is a printable one of ASCII.
 abbrev pub is_printable : ℕ → Bool
-is_printable = is_drawn_as_is 126
+is_printable b = nat_lt 31 b && nat_lt b 127
 
 -- A character again and again, as bytes.
 abbrev pub run : ℕ → ℕ → List ℕ

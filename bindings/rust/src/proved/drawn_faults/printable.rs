@@ -5,8 +5,8 @@
 // That source is proved, and each contract here is its. That this text means the same is tested:
 // by results from outside, and beside what is proved (.ci/bindings) and the original (tools/agree).
 
+use crate::proved::rustc_parse_format::{front_width, Stops};
 use crate::shim::prelude::*;
-use crate::shim::simd::*;
 
 /// The first byte of the characters from U+0080 to U+00BF.
 const LEAD_OF_80: u8 = 0xc2;
@@ -17,83 +17,26 @@ const LEAD_OF_600: u8 = 0xd8;
 /// The first byte of the characters from U+2000 to U+2FFF.
 const LEAD_OF_2000: u8 = 0xe2;
 
-/// Returns the number of bits below the lowest one that is set, or 64 if there is none.
-// ensures { (k : ℕ) → k < result → bit_at bits k ≡ 0 }
-#[inline(always)]
-fn clear_bits(bits: u64) -> usize {
-    bits.trailing_zeros() as usize
-}
+/// The stops of a text that is drawn as it is: control characters of ASCII, and the first bytes
+/// above.
+const AS_IS: Stops = Stops {
+    low: b' ',
+    high: 255,
+    first: 127,
+    second: LEAD_OF_80,
+    third: LEAD_OF_600,
+    fourth: LEAD_OF_2000,
+};
 
-/// Returns the number of lanes before the first one whose bit is set, or 16 if there is none.
-// ensures within { result ≤ 16 }
-// ensures clear { (k : ℕ) → k < result → bit_at bits k ≡ 0 }
-#[inline(always)]
-fn clear_lanes(bits: u64) -> usize {
-    clear_bits(bits | 65536)
-}
-
-/// Returns the number of lanes before the first one that is not drawn as it is, or 16 if there is
-/// none.
-// ensures within { result ≤ 16 }
-// ensures pass { (k : ℕ) → k < result → is_drawn_as_is high (slice_index lanes k) ≡ true }
-#[inline(always)]
-fn as_is_lanes(lanes: u8x16, high: u8) -> usize {
-    let outside = lanes.simd_lt(u8x16::splat(b' ')) | u8x16::splat(high).simd_lt(lanes);
-    if high < 127 {
-        return clear_lanes(outside.to_bitmask());
-    }
-    let found = outside
-        | lanes.simd_eq(u8x16::splat(127))
-        | lanes.simd_eq(u8x16::splat(LEAD_OF_80))
-        | lanes.simd_eq(u8x16::splat(LEAD_OF_600))
-        | lanes.simd_eq(u8x16::splat(LEAD_OF_2000));
-    clear_lanes(found.to_bitmask())
-}
-
-/// Returns whether a byte is at most `high`, and one of a character that is drawn as it is: no
-/// control character of ASCII, and none of the first bytes above.
-// ensures { result ≡ is_drawn_as_is high byte }
-#[inline(always)]
-fn is_drawn_as_is(byte: u8, high: u8) -> bool {
-    b' ' <= byte && byte <= high && !matches!(byte, 127 | LEAD_OF_80 | LEAD_OF_600 | LEAD_OF_2000)
-}
-
-/// Returns the length of the longest prefix that is drawn as it is, of fewer than sixteen bytes.
-// ensures within { result ≤ length bytes.now }
-// ensures pass { list_all (is_drawn_as_is high) (take result bytes.now) ≡ true }
-#[inline]
-fn short_front(bytes: &[u8], high: u8) -> usize {
-    for at in 0..bytes.len() {
-        if !is_drawn_as_is(bytes[at], high) {
-            return at;
-        }
-    }
-    bytes.len()
-}
-
-/// Returns the length of the longest prefix that is drawn as it is, and examines no block if there
-/// is none. The last block ends where the bytes end, so it may overlap the one before it.
-// ensures within { result ≤ length bytes.now }
-// ensures pass { list_all (is_drawn_as_is high) (take result bytes.now) ≡ true }
-#[inline]
-fn as_is_front(bytes: &[u8], high: u8) -> usize {
-    if bytes.is_empty() || !is_drawn_as_is(bytes[0], high) {
-        return 0;
-    }
-    if bytes.len() < 16 {
-        return short_front(bytes, high);
-    }
-    let last = bytes.len() - 16;
-    let mut at = 0;
-    while at < last {
-        let run = as_is_lanes(u8x16::from_slice(&bytes[at..]), high);
-        if run < 16 {
-            return at + run;
-        }
-        at += 16;
-    }
-    last + as_is_lanes(u8x16::from_slice(&bytes[last..]), high)
-}
+/// The stops of a text of printable characters of ASCII.
+const PRINTABLE: Stops = Stops {
+    low: b' ',
+    high: b'~',
+    first: 127,
+    second: 127,
+    third: 127,
+    fourth: 127,
+};
 
 /// Returns the longest prefix of at most `most` characters that are printable, and what is after
 /// it.
@@ -104,7 +47,7 @@ fn as_is_front(bytes: &[u8], high: u8) -> usize {
 #[inline]
 pub fn split_printable(text: &str, most: usize) -> (&str, &str) {
     let bytes = text.as_bytes();
-    let width = as_is_front(&bytes[..bytes.len().min(most)], b'~');
+    let width = front_width(&bytes[..bytes.len().min(most)], PRINTABLE);
     text.split_at(width)
 }
 
@@ -114,6 +57,6 @@ pub fn split_printable(text: &str, most: usize) -> (&str, &str) {
 // ensures shorter { length result.1.now ≤ length text.now }
 #[inline]
 pub fn split_as_is(text: &str) -> (&str, &str) {
-    let width = text.boundary_at_most(as_is_front(text.as_bytes(), 255));
+    let width = text.boundary_at_most(front_width(text.as_bytes(), AS_IS));
     text.split_at(width)
 }

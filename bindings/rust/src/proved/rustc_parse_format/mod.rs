@@ -39,6 +39,9 @@ pub(crate) mod source;
 pub(crate) mod specification;
 pub(crate) mod types;
 pub(crate) mod written;
+
+#[doc(hidden)]
+pub use blocks::{front_width, Stops};
 pub use faults::Fault;
 pub use types::{
     Alignment, Argument, Count, DebugHex, FormatSpec, ParseError, ParseMode, Piece, Position, Sign,
