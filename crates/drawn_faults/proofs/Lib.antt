@@ -1,5 +1,7 @@
 pub mod GlyphLemmas
 mod PrintableLemmas
+pub mod Harmless
+pub mod HarmlessDrawings
 pub mod LineLemmas
 pub mod RowLemmas
 pub mod EditLaws

@@ -13,7 +13,7 @@ use Rattle.std.specs.Int.{bit_at}
 use Rattle.std.specs.List.{fold, list_all}
 use Rattle.std.specs.Str.{IsAscii}
 use Rattle.std.specs.Simd.Lanes.{zip2, mask_l, top}
-use Rattle.std.proofs.lemmas.Bool.{and_parts, cases_lt}
+use Rattle.std.proofs.lemmas.Bool.{and_parts, cases_lt, false≢true}
 use Rattle.std.proofs.lemmas.Bool.Decides.{nat_tests}
 use Rattle.std.proofs.lemmas.List.{take-append-drop, take-take, length-take}
 use Rattle.std.proofs.lemmas.List.Sums.{fold-append}
@@ -27,7 +27,7 @@ use Rattle.rustc_parse_format.proofs.Bytes.LaneBits.{compared, equal, long-equal
 use Rattle.unicode_width.specs.Width.{char_width}
 use Rattle.rustc_parse_format.specs.Characters.{Text}
 use Rattle.drawn_faults.specs.Glyphs.{glyph, glyph_count, glyphs, is_drawn_as_is, is_printable}
-use Rattle.drawn_faults.specs.Glyphs.{run, width}
+use Rattle.drawn_faults.specs.Glyphs.{is_bidi_control, run, width}
 use Rattle.drawn_faults.specs.Places.{past, within}
 use Rattle.drawn_faults.specs.declared.places.Spot.{Spot}
 use Rattle.drawn_faults.proofs.GlyphLemmas.{take-step}
@@ -35,9 +35,9 @@ use Rattle.drawn_faults.proofs.GlyphLemmas.{take-step}
 not-less : (a b : ℕ) → ltb a b ≡ false → b ≤ a
 not-less a b e = grind (arith, nat_tests)
 
-byte-as-is : (high b : ℕ) → 32 ≤ b → b ≤ high → (b == 127) ≡ false → (b == 226) ≡ false
-    → is_drawn_as_is high b ≡ true
-byte-as-is high b l m p q = rw (p, q) (grind (arith, nat_tests))
+byte-as-is : (high b : ℕ) → 32 ≤ b → b ≤ high → (b == 127) ≡ false → (b == 0xC2) ≡ false
+    → (b == 0xD8) ≡ false → (b == 0xE2) ≡ false → is_drawn_as_is high b ≡ true
+byte-as-is high b l m p q r s = rw (p, q, r, s) (grind (arith, nat_tests))
 
 long-less : (xs ys : List ℕ) → length xs ≡ 16 → length ys ≡ 16 → length (compared ltb xs ys) ≡ 16
 long-less xs ys p q = length-zip2 (λ a b. cond (ltb a b) 255 0) xs ys (p ∙ sym q) ∙ p
@@ -48,33 +48,64 @@ other-byte v b k n l clear =
     ap (λ x. get_or v k 0 == x) (sym (get_or-replicate 16 k b 0 l))
     ∙ clear-compared eqb v (replicate 16 b) k n (length-replicate 16 b) l clear
 
--- a lane whose bit is 0 has a byte that is drawn as it is
+-- the lanes that are less than a space or more than `high`
+abbrev outside : List ℕ → ℕ → List ℕ
+outside v high = zip2 bit_or (compared ltb v (replicate 16 32)) (compared ltb (replicate 16 high) v)
+
+long-outside : (v : List ℕ) (high : ℕ) → length v ≡ 16 → length (outside v high) ≡ 16
+long-outside v high n =
+    long-join _ _ (long-less v (replicate 16 32) n (length-replicate {A = ℕ} 16 32))
+    (long-less (replicate 16 high) v (length-replicate {A = ℕ} 16 high) n)
+
+lane-inside : (v : List ℕ) (high k : ℕ) → length v ≡ 16 → k < 16
+    → bit_at (get_or (outside v high) k 0) 7 ≡ 0
+    → (32 ≤ get_or v k 0) × (get_or v k 0 ≤ high)
+lane-inside v high k n l clear =
+    let low = length-replicate {A = ℕ} 16 32 in
+    let top = length-replicate {A = ℕ} 16 high in
+    let both = clear-join _ _ k (long-less v (replicate 16 32) n low)
+    (long-less (replicate 16 high) v top n) l clear in
+    let under = clear-compared ltb v (replicate 16 32) k n low l both.0 in
+    let over = clear-compared ltb (replicate 16 high) v k top n l both.1 in
+    let c : get_or (replicate {A = ℕ} 16 32) k 0 ≡ 32 = get_or-replicate 16 k 32 0 l in
+    let d : get_or (replicate {A = ℕ} 16 high) k 0 ≡ high = get_or-replicate 16 k high 0 l in (
+      subst (λ x. x ≤ get_or v k 0) c (not-less _ _ under),
+      subst (λ x. get_or v k 0 ≤ x) d (not-less _ _ over),
+    )
+
+byte-inside : (high b : ℕ) → high < 127 → 32 ≤ b → b ≤ high → is_drawn_as_is high b ≡ true
+byte-inside high b h l m = grind (arith, nat_tests)
+
+-- a lane whose bit is 0 has a byte that is drawn as it is, in ASCII
+pub lane-printable : (v : List ℕ) (high k : ℕ) → high < 127 → length v ≡ 16 → k < 16
+    → bit_at (mask_l (map (top 7) (outside v high)) % 2 ^ 64) k ≡ 0
+    → is_drawn_as_is high (get_or v k 0) ≡ true
+lane-printable v high k h n l clear =
+    let inside = lane-inside v high k n l (clear-lane _ k (long-outside v high n) l clear) in
+    byte-inside high (get_or v k 0) h inside.0 inside.1
+
+-- and in any text
 pub lane-as-is : (v : List ℕ) (high k : ℕ) → length v ≡ 16 → k < 16
     → bit_at
     (mask_l (map (top 7)
     (zip2 bit_or
     (zip2 bit_or
-    (zip2 bit_or (compared ltb v (replicate 16 32)) (compared ltb (replicate 16 high) v))
-    (equal v 127)) (equal v 226))) % 2 ^ 64) k ≡ 0
+    (zip2 bit_or (zip2 bit_or (outside v high) (equal v 127)) (equal v 0xC2)) (equal v 0xD8))
+    (equal v 0xE2))) % 2 ^ 64) k ≡ 0
     → is_drawn_as_is high (get_or v k 0) ≡ true
 lane-as-is v high k n l clear =
-    let low = length-replicate {A = ℕ} 16 32 in
-    let top = length-replicate {A = ℕ} 16 high in
-    let a = long-less v (replicate 16 32) n low in
-    let b = long-less (replicate 16 high) v top n in
-    let ab = long-join _ _ a b in
-    let abd = long-join _ (equal v 127) ab (long-equal v 127 n) in
-    let all = clear-lane _ k (long-join _ (equal v 226) abd (long-equal v 226 n)) l clear in
-    let last = clear-join _ (equal v 226) k abd (long-equal v 226 n) l all in
-    let next = clear-join _ (equal v 127) k ab (long-equal v 127 n) l last.0 in
-    let both = clear-join _ _ k a b l next.0 in
-    let under = clear-compared ltb v (replicate 16 32) k n low l both.0 in
-    let over = clear-compared ltb (replicate 16 high) v k top n l both.1 in
-    let c : get_or (replicate {A = ℕ} 16 32) k 0 ≡ 32 = get_or-replicate 16 k 32 0 l in
-    let d : get_or (replicate {A = ℕ} 16 high) k 0 ≡ high = get_or-replicate 16 k high 0 l in
-    byte-as-is high (get_or v k 0) (subst (λ x. x ≤ get_or v k 0) c (not-less _ _ under))
-    (subst (λ x. get_or v k 0 ≤ x) d (not-less _ _ over)) (other-byte v 127 k n l next.1)
-    (other-byte v 226 k n l last.1)
+    let a = long-outside v high n in
+    let b = long-join _ (equal v 127) a (long-equal v 127 n) in
+    let c = long-join _ (equal v 0xC2) b (long-equal v 0xC2 n) in
+    let d = long-join _ (equal v 0xD8) c (long-equal v 0xD8 n) in
+    let all = clear-lane _ k (long-join _ (equal v 0xE2) d (long-equal v 0xE2 n)) l clear in
+    let e2 = clear-join _ (equal v 0xE2) k d (long-equal v 0xE2 n) l all in
+    let d8 = clear-join _ (equal v 0xD8) k c (long-equal v 0xD8 n) l e2.0 in
+    let c2 = clear-join _ (equal v 0xC2) k b (long-equal v 0xC2 n) l d8.0 in
+    let seven = clear-join _ (equal v 127) k a (long-equal v 127 n) l c2.0 in
+    let inside = lane-inside v high k n l seven.0 in
+    byte-as-is high (get_or v k 0) inside.0 inside.1 (other-byte v 127 k n l seven.1)
+    (other-byte v 0xC2 k n l c2.1) (other-byte v 0xD8 k n l d8.1) (other-byte v 0xE2 k n l e2.1)
 
 small-printable : (c : ℕ) → is_printable c ≡ true → c < 128
 small-printable c e = grind (arith, nat_tests)
@@ -110,7 +141,7 @@ parts-printable s n e =
     ∙ ap (λ f. f ++ chars (drop n s)) (chars-IsAscii (take n s) a))
 
 glyph-printable : (c : ℕ) → is_printable c ≡ true → glyph c ≡ c
-unfolding glyph
+unfolding glyph is_bidi_control
 glyph-printable c e = grind (arith, nat_tests)
 
 count-printable : (c : ℕ) → is_printable c ≡ true → glyph_count c ≡ 1
@@ -172,7 +203,7 @@ front-step out n c f tail t some parts e l =
     ∙ ap (λ x. out ++ x) (sym (take-step n c tail some ∙ ap (λ x. first ++ x) drawn)))
 
 width-printable : (c : ℕ) → is_printable c ≡ true → width c ≡ 1
-unfolding width char_width
+unfolding width char_width is_bidi_control
 width-printable c e = grind (arith, nat_tests)
 
 -- and each takes one column
@@ -237,40 +268,78 @@ ascii-as-is c l e =
     (and_parts (is_drawn_as_is 255 c) true
     (sym (ap (list_all (is_drawn_as_is 255)) (encode_ascii c l)) ∙ e)).0
 
--- the first byte of a character from U+2000 to U+2FFF
-not-as-is : (c : ℕ) → 8192 ≤ c → c < 12288 → list_all (is_drawn_as_is 255) (encode c) ≡ true → ⊥
+-- the first byte of a character of two bytes, and of one of three
+first-of-two : (c : ℕ) → 128 ≤ c → c < 2048 → list_all (is_drawn_as_is 255) (encode c) ≡ true
+    → is_drawn_as_is 255 (192 + c / 64) ≡ true
 unfolding encode
-not-as-is c l m e =
+first-of-two c l m e =
+    let a : nat_lt c 128 ≡ false = grind (arith, nat_tests) in
+    let b : nat_lt c 2048 ≡ true = grind (arith, nat_tests) in
+    let d = rw (a, b) at e in
+    (and_parts (is_drawn_as_is 255 (192 + c / 64)) _ d).0
+
+first-of-three : (c : ℕ) → 2048 ≤ c → c < 65536 → list_all (is_drawn_as_is 255) (encode c) ≡ true
+    → is_drawn_as_is 255 (224 + c / 4096) ≡ true
+unfolding encode
+first-of-three c l m e =
     let a : nat_lt c 128 ≡ false = grind (arith, nat_tests) in
     let b : nat_lt c 2048 ≡ false = grind (arith, nat_tests) in
     let d : nat_lt c 65536 ≡ true = grind (arith, nat_tests) in
-    let f : 224 + c / 4096 ≡ 226 = omega arith in
-    let g = rw (a, b, d) at e in
-    let h = (and_parts (is_drawn_as_is 255 (224 + c / 4096)) _ g).0 in
-    let i = rw f at h in
-    grind (arith, nat_tests)
+    let f = rw (a, b, d) at e in
+    (and_parts (is_drawn_as_is 255 (224 + c / 4096)) _ f).0
 
-glyph-as-is : (c : ℕ) → (is_drawn_as_is 255 c ≡ true) ⊎ (128 ≤ c)
-    → (c < 8192) ⊎ (12288 ≤ c) → (glyph c ≡ c) × (glyph_count c ≡ 1)
-unfolding glyph glyph_count
-glyph-as-is c (inl p) (inl l) = (grind (arith, nat_tests), grind (arith, nat_tests))
-glyph-as-is c (inl p) (inr l) = (grind (arith, nat_tests), grind (arith, nat_tests))
-glyph-as-is c (inr p) (inl l) = (grind (arith, nat_tests), grind (arith, nat_tests))
-glyph-as-is c (inr p) (inr l) = (grind (arith, nat_tests), grind (arith, nat_tests))
+-- the blocks of characters that are not drawn as they are
+not-80 : (c : ℕ) → 128 ≤ c → c < 192 → list_all (is_drawn_as_is 255) (encode c) ≡ true → ⊥
+not-80 c l m e =
+    let a : 192 + c / 64 ≡ 0xC2 = omega arith in
+    absurd (false≢true
+    (subst (λ b. is_drawn_as_is 255 b ≡ true) a (first-of-two c l (omega arith) e)))
+
+not-600 : (c : ℕ) → 0x600 ≤ c → c < 0x640 → list_all (is_drawn_as_is 255) (encode c) ≡ true → ⊥
+not-600 c l m e =
+    let a : 192 + c / 64 ≡ 0xD8 = omega arith in
+    absurd (false≢true
+    (subst (λ b. is_drawn_as_is 255 b ≡ true) a (first-of-two c (omega arith) (omega arith) e)))
+
+not-2000 : (c : ℕ) → 0x2000 ≤ c → c < 0x3000 → list_all (is_drawn_as_is 255) (encode c) ≡ true
+    → ⊥
+not-2000 c l m e =
+    let a : 224 + c / 4096 ≡ 0xE2 = omega arith in
+    absurd (false≢true
+    (subst (λ b. is_drawn_as_is 255 b ≡ true) a (first-of-three c (omega arith) (omega arith) e)))
+
+-- the character is between these blocks
+abbrev IsBetween : ℕ → Type 0
+IsBetween c = ((c < 128) × (is_drawn_as_is 255 c ≡ true))
+    ⊎ (((192 ≤ c) × (c < 0x600)) ⊎ (((0x640 ≤ c) × (c < 0x2000)) ⊎ (0x3000 ≤ c)))
+
+glyph-as-is : (c : ℕ) → IsBetween c → (glyph c ≡ c) × (glyph_count c ≡ 1)
+unfolding glyph glyph_count is_bidi_control
+glyph-as-is c (inl (l, p)) = (grind (arith, nat_tests), grind (arith, nat_tests))
+glyph-as-is c (inr (inl (l, m))) = (grind (arith, nat_tests), grind (arith, nat_tests))
+glyph-as-is c (inr (inr (inl (l, m)))) = (grind (arith, nat_tests), grind (arith, nat_tests))
+glyph-as-is c (inr (inr (inr l))) = (grind (arith, nat_tests), grind (arith, nat_tests))
+
+between : (c : ℕ) → list_all (is_drawn_as_is 255) (encode c) ≡ true → IsBetween c
+between c e =
+    by_block (cases_lt c 128) (cases_lt c 192) (cases_lt c 0x600) (cases_lt c 0x640)
+    (cases_lt c 0x2000) (cases_lt c 0x3000)
+  where
+    by_block : (c < 128) ⊎ (128 ≤ c) → (c < 192) ⊎ (192 ≤ c) → (c < 0x600) ⊎ (0x600 ≤ c)
+        → (c < 0x640) ⊎ (0x640 ≤ c) → (c < 0x2000) ⊎ (0x2000 ≤ c)
+        → (c < 0x3000) ⊎ (0x3000 ≤ c) → IsBetween c
+    by_block (inl l) m n o p q = inl (l, ascii-as-is c l e)
+    by_block (inr l) (inl m) n o p q = absurd (not-80 c l m e)
+    by_block (inr l) (inr m) (inl n) o p q = inr (inl (m, n))
+    by_block (inr l) (inr m) (inr n) (inl o) p q = absurd (not-600 c n o e)
+    by_block (inr l) (inr m) (inr n) (inr o) (inl p) q = inr (inr (inl (o, p)))
+    by_block (inr l) (inr m) (inr n) (inr o) (inr p) (inl q) = absurd (not-2000 c p q e)
+    by_block (inr l) (inr m) (inr n) (inr o) (inr p) (inr q) = inr (inr (inr q))
 
 -- a character whose bytes are drawn as they are is so too
 char-as-is : (c : ℕ) → list_all (is_drawn_as_is 255) (encode c) ≡ true
     → (glyph c ≡ c) × (glyph_count c ≡ 1)
-char-as-is c e = glyph-as-is c (small (cases_lt c 128)) (far (cases_lt c 8192) (cases_lt c 12288))
-  where
-    small : (c < 128) ⊎ (128 ≤ c) → (is_drawn_as_is 255 c ≡ true) ⊎ (128 ≤ c)
-    small (inl l) = inl (ascii-as-is c l e)
-    small (inr l) = inr l
-
-    far : (c < 8192) ⊎ (8192 ≤ c) → (c < 12288) ⊎ (12288 ≤ c) → (c < 8192) ⊎ (12288 ≤ c)
-    far (inl l) m = inl l
-    far (inr l) (inr m) = inr m
-    far (inr l) (inl m) = absurd (not-as-is c l m e)
+char-as-is c e = glyph-as-is c (between c e)
 
 glyphs-as-is : (t : Text) → list_all (is_drawn_as_is 255) (encode_utf8_all t) ≡ true → glyphs t ≡ t
 glyphs-as-is [] e = refl

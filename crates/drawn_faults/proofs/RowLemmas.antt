@@ -1,16 +1,25 @@
--- Lemmas on rows of spaces, and on columns that are spaces.
+-- Lemmas on rows of spaces, on columns that are spaces, and on a bar.
 use Rattle.std.proofs.Common.{◌≡◌, ℕ, ◌+◌, ◌-◌, ◌<◌, ◌≤◌, zero, suc, List, [], ◌∷◌, ◌++◌, take}
 use Rattle.std.proofs.Common.{replicate, refl, ap, sym, ◌∙◌, append_assoc, arith}
-use Rattle.std.proofs.Common.{encode_utf8_all, length}
+use Rattle.std.proofs.Common.{codes, encode_utf8_all, length}
 use Rattle.std.specs.Prelude.{encode_utf8, slice_range, IsCharBoundary}
 use Rattle.std.proofs.lemmas.Bool.Decides.{nat_tests}
 use Rattle.std.proofs.lemmas.List.{append-nil}
 use Rattle.std.proofs.Math.Utf8.{encode}
 use Rattle.std.specs.Str.{IsAscii}
-use Rattle.std.proofs.lemmas.Str.{encodes-append, IsCharBoundary-from_ascii}
+use Rattle.std.proofs.lemmas.Str.{chars-IsAscii, encodes-append, IsCharBoundary-from_ascii}
 use Rattle.std.proofs.lemmas.Str.Ascii.{IsAscii-cons, IsAscii-nil}
+use Rattle.drawn_faults.specs.Glyphs.{glyph, glyph_bytes, glyph_count, glyphs, is_bidi_control}
 use Rattle.drawn_faults.specs.Glyphs.{run}
 use Rattle.drawn_faults.specs.Rows.{Mark, bar_at, columns, sign_at}
+
+-- a bar is drawn as it is
+pub bar-drawn : glyph_bytes (codes "|") ≡ codes "|"
+unfolding glyph glyph_count is_bidi_control encode
+bar-drawn =
+    let short : 124 < 128 = omega arith in
+    ap (λ t. encode_utf8_all (glyphs t))
+    (chars-IsAscii (codes "|") (IsAscii-cons 124 [] short IsAscii-nil))
 
 -- one more at the end
 replicate-end : (n c : ℕ) → replicate n c ++ c ∷ [] ≡ replicate (suc n) c

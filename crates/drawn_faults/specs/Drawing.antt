@@ -6,7 +6,7 @@ use Rattle.rustc_parse_format.specs.World.{Place}
 use Rattle.rustc_parse_format.specs.Faults.{Message}
 use Rattle.rustc_parse_format.specs.Types.{Mode}
 use Rattle.drawn_faults.specs.Edits.{offered}
-use Rattle.drawn_faults.specs.Glyphs.{run}
+use Rattle.drawn_faults.specs.Glyphs.{glyph_bytes, run}
 use Rattle.drawn_faults.specs.Places.{Picture}
 use Rattle.drawn_faults.specs.Labels.{Label, Edit, Frame, primary, second, edit_of, frame, mark}
 use Rattle.drawn_faults.specs.Labels.{text_name}
@@ -18,13 +18,14 @@ use Rattle.drawn_faults.specs.declared.places.Spot.{Spot}
 -- What the error is.
 abbrev pub title : Mode → List ℕ → List ℕ
 title mode description =
-    codes "error: invalid " ++ (text_name mode ++ (codes ": " ++ (description ++ codes "\n")))
+    codes "error: invalid " ++ (text_name mode
+    ++ (codes ": " ++ (glyph_bytes description ++ codes "\n")))
 
 -- Where the text is that the error is about: the path, the line, and the column, which counts
 -- characters.
 unfoldable pub arrow : Frame → Spot → List ℕ
 arrow f at =
-    run f.gutter 32 ++ (codes "--> " ++ (f.picture.path ++ (codes ":"
+    run f.gutter 32 ++ (codes "--> " ++ (glyph_bytes f.picture.path ++ (codes ":"
     ++ (decimal (f.picture.line_start + at.line) ++ (codes ":" ++ (decimal (at.chars + 1)
     ++ codes "\n"))))))
 
@@ -42,7 +43,7 @@ labelled_rows f l (Some s) = two_labels f (mark f.cut l) (mark f.cut s)
 -- The row of a note.
 abbrev pub note_row : ℕ → Option (List ℕ) → List ℕ
 note_row gutter None = []
-note_row gutter (Some t) = run gutter 32 ++ (codes " = note: " ++ (t ++ codes "\n"))
+note_row gutter (Some t) = run gutter 32 ++ (codes " = note: " ++ (glyph_bytes t ++ codes "\n"))
 
 -- The row between the labels and what is below them, if there is anything.
 abbrev pub parting_before : Frame → Option (List ℕ) → Option Edit → List ℕ

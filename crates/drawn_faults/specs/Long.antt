@@ -5,7 +5,7 @@ use Rattle.std.specs.Prelude.{[], ◌∷◌, chars, codes}
 use Rattle.std.specs.List.{list_all}
 use Rattle.std.specs.Char.{is_whitespace}
 use Rattle.rustc_parse_format.specs.Characters.{Text}
-use Rattle.drawn_faults.specs.Glyphs.{run}
+use Rattle.drawn_faults.specs.Glyphs.{glyph_bytes, run}
 use Rattle.drawn_faults.specs.Places.{line}
 use Rattle.drawn_faults.specs.Rows.{under}
 use Rattle.drawn_faults.specs.Labels.{Frame, Label}
@@ -77,7 +77,7 @@ unfoldable pub last_rows : Frame → Label → List ℕ
 last_rows f l =
     bar_row f l.extent.end.line
     ++ under f.gutter
-    (codes "|" ++ (run (max (l.extent.end.column - f.cut) 1) 95 ++ (codes "^ " ++ l.text)))
+    (codes "|" ++ (run (max (l.extent.end.column - f.cut) 1) 95 ++ (codes "^ " ++ glyph_bytes l.text)))
 
 -- What is between the first and the last line: at most three lines behind the first one, without
 -- bare ones at their end, and the line before the last one if it is far from these and not bare.

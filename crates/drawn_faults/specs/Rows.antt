@@ -4,7 +4,7 @@ use Rattle.std.specs.Prelude.{◌++◌, if◌then◌else◌, nat_lt, nat_le}
 use Rattle.std.specs.Prelude.{max, zero, suc, List, [], ◌∷◌, length, codes}
 use Rattle.std.specs.Str.{encode_utf8_all}
 use Rattle.rustc_parse_format.specs.Characters.{Text}
-use Rattle.drawn_faults.specs.Glyphs.{run}
+use Rattle.drawn_faults.specs.Glyphs.{glyph_bytes, run}
 use Rattle.drawn_faults.specs.declared.rows.Mark.{Mark as DeclaredMark}
 
 -- A label in one line: the number of the line, counted from 0, the columns that it has, up to the
@@ -55,7 +55,7 @@ under gutter row = blank gutter ++ (codes " " ++ (row ++ codes "\n"))
 
 -- The signs of a label and its text behind them.
 unfoldable pub pointed : Mark → List ℕ
-pointed m = run (m.to - m.from) m.sign ++ (codes " " ++ m.text)
+pointed m = run (m.to - m.from) m.sign ++ (codes " " ++ glyph_bytes m.text)
 
 -- The row of a label that is alone.
 unfoldable pub alone : Mark → List ℕ
@@ -79,16 +79,16 @@ unfoldable pub overlapping : ℕ → Mark → Mark → List ℕ
 overlapping g l r =
     under g (covering l r)
     ++ (under g (bars l.from r.from ++ codes "|")
-    ++ (under g (bars l.from r.from ++ r.text)
-    ++ under g (run l.from 32 ++ l.text)))
+    ++ (under g (bars l.from r.from ++ glyph_bytes r.text)
+    ++ under g (run l.from 32 ++ glyph_bytes l.text)))
 
 -- Two labels with no room for the text of the first one between them, where each of its bytes
 -- takes a column, as all texts of labels are ASCII: it hangs from a bar.
 unfoldable pub hanging : ℕ → Mark → Mark → List ℕ
 hanging g l r =
-    under g (signs l r r.to ++ (codes " " ++ r.text))
+    under g (signs l r r.to ++ (codes " " ++ glyph_bytes r.text))
     ++ (under g (run l.from 32 ++ codes "|")
-    ++ under g (run l.from 32 ++ l.text))
+    ++ under g (run l.from 32 ++ glyph_bytes l.text))
 
 -- Two labels beside each other.
 unfoldable pub beside : ℕ → Mark → Mark → List ℕ

@@ -3,7 +3,7 @@ use Rattle.std.specs.Prelude.{ℕ, ◌+◌, ◌-◌, ◌++◌, zero, suc, List, 
 use Rattle.std.specs.Prelude.{take, drop, Option, None, Some}
 use Rattle.std.specs.Prelude.{chars, codes}
 use Rattle.std.specs.Str.{encode_utf8_all}
-use Rattle.drawn_faults.specs.Glyphs.{glyphs}
+use Rattle.drawn_faults.specs.Glyphs.{glyph_bytes, glyphs}
 use Rattle.drawn_faults.specs.Places.{behind_lines, first_line, line}
 use Rattle.drawn_faults.specs.Rows.{blank}
 use Rattle.drawn_faults.specs.Labels.{Edit, Frame}
@@ -15,12 +15,12 @@ parting f = blank f.gutter ++ codes "\n"
 
 -- What a suggestion is.
 abbrev pub help_title : List ℕ → List ℕ
-help_title text = codes "help: did you mean `" ++ (text ++ codes "`?\n")
+help_title text = codes "help: did you mean `" ++ (glyph_bytes text ++ codes "`?\n")
 
 -- A line of the source without the edit. It is not cut.
 unfoldable pub old_row : Frame → ℕ → List ℕ → List ℕ
 old_row f n bs =
-    numbered f n ++ (codes " - " ++ (encode_utf8_all (glyphs (chars bs)) ++ codes "\n"))
+    numbered f n ++ (codes " - " ++ (glyph_bytes bs ++ codes "\n"))
 
 -- The first lines of a text without the edit, from the line with the number n on.
 abbrev pub old_rows : Frame → ℕ → ℕ → List ℕ → List ℕ
@@ -32,7 +32,7 @@ old_rows f n (suc k) bs = old_row f n (first_line bs) ++ old_rows f (n + 1) k (b
 unfoldable pub edited : Edit → List ℕ → List ℕ → List ℕ
 edited e first last =
     encode_utf8_all (glyphs (take e.extent.start.chars (chars first)))
-    ++ (encode_utf8_all (glyphs (chars e.text))
+    ++ (glyph_bytes e.text
     ++ encode_utf8_all (glyphs (drop e.extent.end.chars (chars last))))
 
 -- The row of that line.

@@ -4,13 +4,14 @@
 ghost use Rattle.std.specs.Prelude.{◌≡◌, ◌++◌, ◌<◌, ◌^◌, IfOk, IfSome, None, OnOk, length};
 ghost use Rattle.std.specs.Prelude.{option_map, string_bytes};
 ghost use Rattle.rustc_parse_format.specs.Seen.{seen_error, seen_mode};
+ghost use Rattle.drawn_faults.specs.Glyphs.{IsHarmless};
 ghost use Rattle.drawn_faults.specs.Places.{seen_picture};
 ghost use Rattle.drawn_faults.specs.Labels.{primary, seen_edit, seen_frame, seen_label};
 ghost use Rattle.drawn_faults.specs.Drawing.{arrow, below, drawing, head, labelled_rows};
 ghost use Rattle.drawn_faults.specs.Drawing.{note_row, parting_before, title};
 ghost use Rattle.drawn_faults.specs.Suggestions.{help_rows};
 
-use crate::glyphs::{put_run, put_texts};
+use crate::glyphs::{put_glyphs_between, put_run};
 use crate::labels::{Edit, Frame, Label, edit_of, frame_for, mark, second, text_name};
 use crate::lines::{put_decimal, put_labelled, put_two_labels};
 use crate::long::put_long;
@@ -26,7 +27,7 @@ fn put_title(out: &mut String, mode: ParseMode, description: &str) -> Result<(),
 {
     out.push_str("error: invalid ")?;
     out.push_str(text_name(mode))?;
-    put_texts(out, ": ", description, "\n")?;
+    put_glyphs_between(out, ": ", description, "\n")?;
     Ok(())
 }
 
@@ -41,7 +42,7 @@ fn put_arrow(out: &mut String, frame: &Frame<'_>, at: Spot) -> Result<(), AllocE
     let line = frame.picture.line_start as usize + at.line;
     let column = at.chars + 1;
     put_run(out, ' ', frame.gutter)?;
-    put_texts(out, "--> ", frame.picture.path, ":")?;
+    put_glyphs_between(out, "--> ", frame.picture.path, ":")?;
     put_decimal(out, line)?;
     out.push_str(":")?;
     put_decimal(out, column)?;
@@ -122,7 +123,7 @@ fn put_note(out: &mut String, gutter: usize, note: &Option<String>) -> Result<()
 {
     if let Some(note) = note {
         put_run(out, ' ', gutter)?;
-        put_texts(out, " = note: ", note.as_str(), "\n")?;
+        put_glyphs_between(out, " = note: ", note.as_str(), "\n")?;
     }
     Ok(())
 }
@@ -256,6 +257,7 @@ pub fn draw(
 ) -> Result<String, AllocError>
     ensures drawn { IfOk result (λ s. string_bytes s
         ≡ drawing (seen_mode mode) (seen_picture picture.now) (seen_error error.now)) }
+    ensures harmless { IfOk result (λ s. IsHarmless (string_bytes s)) }
 {
     let mut out = String::new(alloc);
     put_drawing(&mut out, mode, picture, error)?;
@@ -264,14 +266,17 @@ pub fn draw(
 
 /// Appends the text that [`draw`] returns to `out`. Returns `Err` if an allocation fails, or if the
 /// source has 2^59 bytes or more; a part of the text may then be in `out`.
+#[tactic(auto, using(crate::proofs::HarmlessDrawings::harmless_drawing))]
 pub fn put_drawing(
     out: &mut String,
     mode: ParseMode,
     picture: &Picture<'_>,
     error: &ParseError,
 ) -> Result<(), AllocError>
-    ensures { OnOk result (string_bytes out.new ≡ string_bytes out.old
+    ensures drawn { OnOk result (string_bytes out.new ≡ string_bytes out.old
         ++ drawing (seen_mode mode) (seen_picture picture.now) (seen_error error.now)) }
+    ensures harmless { IsHarmless
+        (drawing (seen_mode mode) (seen_picture picture.now) (seen_error error.now)) }
 {
     if picture.source.len() >= 1 << 59 {
         return Err(AllocError);
@@ -279,7 +284,9 @@ pub fn put_drawing(
     let alloc = *out.allocator();
     let name = text_name(mode);
     let mut text = String::with_capacity(alloc, error.label.len().saturating_add(4 + name.len()))?;
-    put_texts(&mut text, error.label.as_str(), " in ", name)?;
+    text.push_str(error.label.as_str())?;
+    text.push_str(" in ")?;
+    text.push_str(name)?;
     let label = Label {
         sign: '^',
         text: text.as_str(),

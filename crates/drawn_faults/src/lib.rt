@@ -16,4 +16,5 @@ mod suggestions;
 
 pub use drawing::{draw, put_drawing};
 pub use fixes::{Edit, Fixed, edits, errors_of, fix};
+pub use glyphs::put_glyphs;
 pub use places::Picture;

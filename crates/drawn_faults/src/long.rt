@@ -5,14 +5,14 @@ ghost use Rattle.std.specs.Prelude.{◌≡◌, ◌+◌, ◌-◌, ◌++◌, ◌<�
 ghost use Rattle.std.specs.Prelude.{string_bytes};
 ghost use Rattle.std.specs.Char.{is_whitespace};
 ghost use Rattle.std.specs.List.{list_all};
-ghost use Rattle.drawn_faults.specs.Glyphs.{run};
+ghost use Rattle.drawn_faults.specs.Glyphs.{glyph_bytes, run};
 ghost use Rattle.drawn_faults.specs.Rows.{under};
 ghost use Rattle.drawn_faults.specs.Labels.{seen_frame, seen_label};
 ghost use Rattle.drawn_faults.specs.Long.{bar_gap, bar_row, bar_rows, between, first_rows};
 ghost use Rattle.drawn_faults.specs.Long.{is_bare, is_bare_line, is_bracket, is_comment};
 ghost use Rattle.drawn_faults.specs.Long.{is_plain_comment, last_rows, long_rows, without_bare};
 
-use crate::glyphs::{put_run, put_texts, split_first};
+use crate::glyphs::{put_glyphs_between, put_run, split_first};
 use crate::labels::{Frame, Label};
 use crate::lines::put_source;
 use crate::places::line;
@@ -191,12 +191,12 @@ fn put_first_rows(out: &mut String, frame: &Frame<'_>, label: &Label<'_>) -> Res
 /// Adds the row under the last line of a label.
 fn put_end(out: &mut String, gutter: usize, columns: usize, text: &str) -> Result<(), AllocError>
     ensures { OnOk result (string_bytes out.new ≡ string_bytes out.old
-        ++ under gutter (codes "|" ++ (run columns 95 ++ (codes "^ " ++ text.now)))) }
+        ++ under gutter (codes "|" ++ (run columns 95 ++ (codes "^ " ++ glyph_bytes text.now)))) }
 {
     put_gutter(out, gutter)?;
     out.push_str("|")?;
     put_run(out, '_', columns)?;
-    put_texts(out, "^ ", text, "\n")?;
+    put_glyphs_between(out, "^ ", text, "\n")?;
     Ok(())
 }
 

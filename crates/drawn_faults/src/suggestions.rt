@@ -7,7 +7,7 @@ ghost use Rattle.drawn_faults.specs.Places.{behind_lines};
 ghost use Rattle.drawn_faults.specs.Suggestions.{edit_rows, edited, help_title, new_row, old_row};
 ghost use Rattle.drawn_faults.specs.Suggestions.{old_rows, parting};
 
-use crate::glyphs::{behind_chars, put_front, put_glyphs, put_texts};
+use crate::glyphs::{behind_chars, put_front, put_glyphs, put_glyphs_between};
 use crate::labels::{Edit, Frame};
 use crate::lines::put_line_number;
 use crate::places::{behind_lines, line, split_line};
@@ -29,7 +29,7 @@ pub fn put_parting(out: &mut String, frame: &Frame<'_>) -> Result<(), AllocError
 fn put_help_title(out: &mut String, text: &str) -> Result<(), AllocError>
     ensures { OnOk result (string_bytes out.new ≡ string_bytes out.old ++ help_title text.now) }
 {
-    put_texts(out, "help: did you mean `", text, "`?\n")?;
+    put_glyphs_between(out, "help: did you mean `", text, "`?\n")?;
     Ok(())
 }
 

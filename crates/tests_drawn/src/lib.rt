@@ -1,13 +1,16 @@
 //! Tests of `drawn_faults`: the drawings of faults, against those of rustc 1.95.
 //!
 //! `short_rows`, `line_rows` and `asm_rows` are the tables, `drawings` draws each row, and
-//! `misfits` has spans that no parser gives. In `memory` an allocation fails.
+//! `misfits` has spans that no parser gives, and `harmless` characters that a terminal obeys. In
+//! `memory` an allocation fails.
 #![tactic(auto)]
 
 #[cfg(test)]
 mod asm_rows;
 #[cfg(test)]
 mod drawings;
+#[cfg(test)]
+mod harmless;
 #[cfg(test)]
 mod line_rows;
 #[cfg(test)]

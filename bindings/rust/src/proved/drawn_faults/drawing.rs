@@ -5,7 +5,7 @@
 // That source is proved, and each contract here is its. That this text means the same is tested:
 // by results from outside, and beside what is proved (.ci/bindings) and the original (tools/agree).
 
-use crate::proved::drawn_faults::glyphs::{put_run, put_texts};
+use crate::proved::drawn_faults::glyphs::{put_glyphs_between, put_run};
 use crate::proved::drawn_faults::labels::{
     edit_of, frame_for, mark, second, text_name, Edit, Frame, Label,
 };
@@ -24,7 +24,7 @@ use crate::shim::prelude::*;
 fn put_title(out: &mut String, mode: ParseMode, description: &str) -> Result<(), AllocError> {
     out.try_push_str("error: invalid ")?;
     out.try_push_str(text_name(mode))?;
-    put_texts(out, ": ", description, "\n")?;
+    put_glyphs_between(out, ": ", description, "\n")?;
     Ok(())
 }
 
@@ -38,7 +38,7 @@ fn put_arrow(out: &mut String, frame: &Frame<'_>, at: Spot) -> Result<(), AllocE
     let line = frame.picture.line_start as usize + at.line;
     let column = at.chars + 1;
     put_run(out, ' ', frame.gutter)?;
-    put_texts(out, "--> ", frame.picture.path, ":")?;
+    put_glyphs_between(out, "--> ", frame.picture.path, ":")?;
     put_decimal(out, line)?;
     out.try_push_str(":")?;
     put_decimal(out, column)?;
@@ -116,7 +116,7 @@ fn put_labels(
 fn put_note(out: &mut String, gutter: usize, note: &Option<String>) -> Result<(), AllocError> {
     if let Some(note) = note {
         put_run(out, ' ', gutter)?;
-        put_texts(out, " = note: ", note.as_str(), "\n")?;
+        put_glyphs_between(out, " = note: ", note.as_str(), "\n")?;
     }
     Ok(())
 }
@@ -247,6 +247,7 @@ fn least_length(picture: &Picture<'_>, error: &ParseError) -> usize {
 /// Returns `Err` if an allocation fails, or if the source has 2^59 bytes or more.
 // ensures drawn { IfOk result (λ s. string_bytes s
 //     ≡ drawing (seen_mode mode) (seen_picture picture.now) (seen_error error.now)) }
+// ensures harmless { IfOk result (λ s. IsHarmless (string_bytes s)) }
 #[inline]
 pub fn draw(
     alloc: Global,
@@ -261,8 +262,10 @@ pub fn draw(
 
 /// Appends the text that [`draw`] returns to `out`. Returns `Err` if an allocation fails, or if the
 /// source has 2^59 bytes or more; a part of the text may then be in `out`.
-// ensures { OnOk result (string_bytes out.new ≡ string_bytes out.old
+// ensures drawn { OnOk result (string_bytes out.new ≡ string_bytes out.old
 //     ++ drawing (seen_mode mode) (seen_picture picture.now) (seen_error error.now)) }
+// ensures harmless { IsHarmless
+//     (drawing (seen_mode mode) (seen_picture picture.now) (seen_error error.now)) }
 #[inline]
 pub fn put_drawing(
     out: &mut String,
@@ -276,7 +279,9 @@ pub fn put_drawing(
     let alloc = *out.own_allocator();
     let name = text_name(mode);
     let mut text = String::made_for(alloc, error.label.len().saturating_add(4 + name.len()))?;
-    put_texts(&mut text, error.label.as_str(), " in ", name)?;
+    text.try_push_str(error.label.as_str())?;
+    text.try_push_str(" in ")?;
+    text.try_push_str(name)?;
     let label = Label {
         sign: '^',
         text: text.as_str(),

@@ -21,15 +21,27 @@ pub fn split_first(text: &str) -> Option<(char, &str)> {
     Some((c, rest.as_str()))
 }
 
+/// Returns whether a character has Unicode's property `Bidi_Control`.
+// ensures { result ≡ is_bidi_control c }
+#[inline]
+fn is_bidi_control(c: char) -> bool {
+    matches!(
+        c,
+        '\u{61c}' | '\u{200e}'..='\u{200f}' | '\u{202a}'..='\u{202e}' | '\u{2066}'..='\u{2069}'
+    )
+}
+
 /// Returns the character that is drawn for a character.
 // ensures { result ≡ glyph c }
 #[inline]
 fn glyph(c: char) -> char {
     match c {
         '\t' => ' ',
+        '\n' => '\n',
         '\0'..='\u{1f}' => char::from_u32(0x2400 + c as u32).unwrap_or(c),
         '\u{7f}' => '\u{2421}',
-        '\u{202a}'..='\u{202e}' | '\u{2066}'..='\u{2069}' => '\u{fffd}',
+        '\u{80}'..='\u{9f}' => '\u{fffd}',
+        _ if is_bidi_control(c) => '\u{fffd}',
         _ => c,
     }
 }
@@ -53,7 +65,7 @@ fn glyph_count(c: char) -> usize {
 pub fn width(c: char) -> usize {
     match c {
         '\t' => 4,
-        '\u{202a}'..='\u{202e}' | '\u{2066}'..='\u{2069}' => 1,
+        _ if is_bidi_control(c) => 1,
         _ => c.width().unwrap_or(1),
     }
 }
@@ -136,15 +148,22 @@ pub fn put_run(out: &mut String, c: char, count: usize) -> Result<(), AllocError
     Ok(())
 }
 
-/// Adds three texts.
-// ensures { OnOk result (string_bytes out.new
-//     ≡ string_bytes out.old ++ (a.now ++ (b.now ++ c.now))) }
+/// Adds the printable prefix of a text, without its first `skipped` characters. Returns what is
+/// after the prefix, and how many characters are still to skip.
+// ensures whole { IfOk result (λ x. string_bytes out.new
+//     ++ encode_utf8_all (drop x.1 (glyphs (chars x.0.now)))
+//     ≡ string_bytes out.old ++ encode_utf8_all (drop skipped (glyphs (chars text.now)))) }
+// ensures short { IfOk result (λ x. length x.0.now ≤ length text.now) }
 #[inline]
-pub fn put_texts(out: &mut String, a: &str, b: &str, c: &str) -> Result<(), AllocError> {
-    out.try_push_str(a)?;
-    out.try_push_str(b)?;
-    out.try_push_str(c)?;
-    Ok(())
+fn put_printable<'a>(
+    out: &mut String,
+    text: &'a str,
+    skipped: usize,
+) -> Result<(&'a str, usize), AllocError> {
+    let (front, rest) = split_printable(text, text.len());
+    let skip = skipped.min(front.len());
+    out.try_push_str(&front[skip..])?;
+    Ok((rest, skipped - skip))
 }
 
 /// Adds a prefix of a text that is drawn as it is, without its first `skipped` characters. Returns
@@ -159,24 +178,25 @@ fn put_as_is<'a>(
     text: &'a str,
     skipped: usize,
 ) -> Result<(&'a str, usize), AllocError> {
-    if skipped == 0 {
-        let (front, rest) = split_as_is(text);
-        out.try_push_str(front)?;
-        return Ok((rest, 0));
+    if skipped > 0 {
+        return Ok(put_printable(out, text, skipped)?);
     }
-    let (front, rest) = split_printable(text, text.len());
-    let skip = skipped.min(front.len());
-    out.try_push_str(&front[skip..])?;
-    Ok((rest, skipped - skip))
+    let (front, rest) = split_as_is(text);
+    out.try_push_str(front)?;
+    Ok((rest, 0))
 }
 
-/// Adds a text as it is drawn, without the first `skipped` characters of that.
-// ensures { OnOk result (string_bytes out.new ≡ string_bytes out.old ++
+/// Appends a text as it is drawn in a terminal, without the first `skipped` characters of that, to
+/// `out`: a tab becomes four spaces, another control character of ASCII but the line feed its
+/// picture, U+200D nothing, and a control character from U+0080 on and one that changes the
+/// direction of text U+FFFD. Returns `Err` if an allocation fails; a part of the text may then be
+/// in `out`.
+// ensures drawn { OnOk result (string_bytes out.new ≡ string_bytes out.old ++
 //     encode_utf8_all (drop skipped (glyphs (chars text.now)))) }
+// ensures harmless { IsHarmless (encode_utf8_all (drop skipped (glyphs (chars text.now)))) }
 #[inline]
 pub fn put_glyphs(out: &mut String, text: &str, skipped: usize) -> Result<(), AllocError> {
-    let mut rest = text;
-    let mut skip = skipped;
+    let (mut rest, mut skip) = put_printable(out, text, skipped)?;
     while let Some((c, tail)) = split_first(rest) {
         let count = glyph_count(c);
         put_run(out, glyph(c), count.saturating_sub(skip))?;
@@ -184,6 +204,22 @@ pub fn put_glyphs(out: &mut String, text: &str, skipped: usize) -> Result<(), Al
         rest = behind;
         skip = fewer;
     }
+    Ok(())
+}
+
+/// Adds a text as it is drawn, between two others.
+// ensures { OnOk result (string_bytes out.new
+//     ≡ string_bytes out.old ++ (a.now ++ (glyph_bytes text.now ++ b.now))) }
+#[inline]
+pub fn put_glyphs_between(
+    out: &mut String,
+    a: &str,
+    text: &str,
+    b: &str,
+) -> Result<(), AllocError> {
+    out.try_push_str(a)?;
+    put_glyphs(out, text, 0)?;
+    out.try_push_str(b)?;
     Ok(())
 }
 

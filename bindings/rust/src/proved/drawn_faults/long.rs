@@ -5,7 +5,7 @@
 // That source is proved, and each contract here is its. That this text means the same is tested:
 // by results from outside, and beside what is proved (.ci/bindings) and the original (tools/agree).
 
-use crate::proved::drawn_faults::glyphs::{put_run, put_texts, split_first};
+use crate::proved::drawn_faults::glyphs::{put_glyphs_between, put_run, split_first};
 use crate::proved::drawn_faults::labels::{Frame, Label};
 use crate::proved::drawn_faults::lines::put_source;
 use crate::proved::drawn_faults::places::line;
@@ -186,13 +186,13 @@ fn put_first_rows(
 
 /// Adds the row under the last line of a label.
 // ensures { OnOk result (string_bytes out.new ≡ string_bytes out.old
-//     ++ under gutter (codes "|" ++ (run columns 95 ++ (codes "^ " ++ text.now)))) }
+//     ++ under gutter (codes "|" ++ (run columns 95 ++ (codes "^ " ++ glyph_bytes text.now)))) }
 #[inline]
 fn put_end(out: &mut String, gutter: usize, columns: usize, text: &str) -> Result<(), AllocError> {
     put_gutter(out, gutter)?;
     out.try_push_str("|")?;
     put_run(out, '_', columns)?;
-    put_texts(out, "^ ", text, "\n")?;
+    put_glyphs_between(out, "^ ", text, "\n")?;
     Ok(())
 }
 

@@ -8,6 +8,12 @@
 use crate::shim::prelude::*;
 use crate::shim::simd::*;
 
+/// The first byte of the characters from U+0080 to U+00BF.
+const LEAD_OF_80: u8 = 0xc2;
+
+/// The first byte of the characters from U+0600 to U+063F.
+const LEAD_OF_600: u8 = 0xd8;
+
 /// The first byte of the characters from U+2000 to U+2FFF.
 const LEAD_OF_2000: u8 = 0xe2;
 
@@ -32,19 +38,24 @@ fn clear_lanes(bits: u64) -> usize {
 // ensures pass { (k : ℕ) → k < result → is_drawn_as_is high (slice_index lanes k) ≡ true }
 #[inline(always)]
 fn as_is_lanes(lanes: u8x16, high: u8) -> usize {
-    let found = lanes.simd_lt(u8x16::splat(b' '))
-        | u8x16::splat(high).simd_lt(lanes)
+    let outside = lanes.simd_lt(u8x16::splat(b' ')) | u8x16::splat(high).simd_lt(lanes);
+    if high < 127 {
+        return clear_lanes(outside.to_bitmask());
+    }
+    let found = outside
         | lanes.simd_eq(u8x16::splat(127))
+        | lanes.simd_eq(u8x16::splat(LEAD_OF_80))
+        | lanes.simd_eq(u8x16::splat(LEAD_OF_600))
         | lanes.simd_eq(u8x16::splat(LEAD_OF_2000));
     clear_lanes(found.to_bitmask())
 }
 
 /// Returns whether a byte is at most `high`, and one of a character that is drawn as it is: no
-/// control character of ASCII, and not the first byte of the characters from U+2000 to U+2FFF.
+/// control character of ASCII, and none of the first bytes above.
 // ensures { result ≡ is_drawn_as_is high byte }
 #[inline(always)]
 fn is_drawn_as_is(byte: u8, high: u8) -> bool {
-    b' ' <= byte && byte <= high && byte != 127 && byte != LEAD_OF_2000
+    b' ' <= byte && byte <= high && !matches!(byte, 127 | LEAD_OF_80 | LEAD_OF_600 | LEAD_OF_2000)
 }
 
 /// Returns the length of the longest prefix that is drawn as it is, of fewer than sixteen bytes.

@@ -5,7 +5,7 @@
 // That source is proved, and each contract here is its. That this text means the same is tested:
 // by results from outside, and beside what is proved (.ci/bindings) and the original (tools/agree).
 
-use crate::proved::drawn_faults::glyphs::{put_run, put_texts};
+use crate::proved::drawn_faults::glyphs::{put_glyphs, put_glyphs_between, put_run};
 use crate::shim::alloc::AllocError;
 use crate::shim::prelude::*;
 
@@ -93,8 +93,7 @@ pub fn put_gutter(out: &mut String, gutter: usize) -> Result<(), AllocError> {
 #[inline]
 fn put_pointed(out: &mut String, m: &Mark<'_>) -> Result<(), AllocError> {
     put_run(out, m.sign, m.to.saturating_sub(m.from))?;
-    out.try_push_str(" ")?;
-    out.try_push_str(m.text)?;
+    put_glyphs_between(out, " ", m.text, "")?;
     Ok(())
 }
 
@@ -121,7 +120,7 @@ pub fn put_one(out: &mut String, gutter: usize, m: &Mark<'_>) -> Result<(), Allo
 
 /// Adds a row with a text in a column.
 // ensures { OnOk result (string_bytes out.new
-//     ≡ string_bytes out.old ++ under gutter (run column 32 ++ text.now)) }
+//     ≡ string_bytes out.old ++ under gutter (run column 32 ++ glyph_bytes text.now)) }
 #[inline]
 fn put_text_at(
     out: &mut String,
@@ -131,14 +130,14 @@ fn put_text_at(
 ) -> Result<(), AllocError> {
     put_gutter(out, gutter)?;
     put_run(out, ' ', column)?;
-    out.try_push_str(text)?;
+    put_glyphs(out, text, 0)?;
     out.try_push_str("\n")?;
     Ok(())
 }
 
 /// Adds a row with a bar, and a text in a column.
 // ensures { OnOk result (string_bytes out.new
-//     ≡ string_bytes out.old ++ under gutter (bars bar column ++ text.now)) }
+//     ≡ string_bytes out.old ++ under gutter (bars bar column ++ glyph_bytes text.now)) }
 #[inline]
 fn put_bar_and_text(
     out: &mut String,
@@ -149,7 +148,7 @@ fn put_bar_and_text(
 ) -> Result<(), AllocError> {
     put_gutter(out, gutter)?;
     put_bars(out, bar, column)?;
-    out.try_push_str(text)?;
+    put_glyphs(out, text, 0)?;
     out.try_push_str("\n")?;
     Ok(())
 }
@@ -211,7 +210,8 @@ fn put_overlapping(
 
 /// Adds the row of the signs of two labels beside each other, with the text of the second one.
 // ensures { OnOk result (string_bytes out.new ≡ string_bytes out.old ++ under gutter
-//     (signs (seen_mark l.now) (seen_mark r.now) r.now.to ++ (codes " " ++ r.now.text.now))) }
+//     (signs (seen_mark l.now) (seen_mark r.now) r.now.to
+//     ++ (codes " " ++ glyph_bytes r.now.text.now))) }
 #[inline]
 fn put_signs_and_text(
     out: &mut String,
@@ -221,7 +221,7 @@ fn put_signs_and_text(
 ) -> Result<(), AllocError> {
     put_gutter(out, gutter)?;
     put_signs(out, l, r, r.to)?;
-    put_texts(out, " ", r.text, "\n")?;
+    put_glyphs_between(out, " ", r.text, "\n")?;
     Ok(())
 }
 

@@ -5,7 +5,9 @@
 // That source is proved, and each contract here is its. That this text means the same is tested:
 // by results from outside, and beside what is proved (.ci/bindings) and the original (tools/agree).
 
-use crate::proved::drawn_faults::glyphs::{behind_chars, put_front, put_glyphs, put_texts};
+use crate::proved::drawn_faults::glyphs::{
+    behind_chars, put_front, put_glyphs, put_glyphs_between,
+};
 use crate::proved::drawn_faults::labels::{Edit, Frame};
 use crate::proved::drawn_faults::lines::put_line_number;
 use crate::proved::drawn_faults::places::{behind_lines, line, split_line};
@@ -27,7 +29,7 @@ pub fn put_parting(out: &mut String, frame: &Frame<'_>) -> Result<(), AllocError
 // ensures { OnOk result (string_bytes out.new ≡ string_bytes out.old ++ help_title text.now) }
 #[inline]
 fn put_help_title(out: &mut String, text: &str) -> Result<(), AllocError> {
-    put_texts(out, "help: did you mean `", text, "`?\n")?;
+    put_glyphs_between(out, "help: did you mean `", text, "`?\n")?;
     Ok(())
 }
 

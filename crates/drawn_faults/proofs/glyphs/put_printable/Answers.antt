@@ -1,7 +1,7 @@
 use Rattle.std.proofs.Common.{arith, chars}
 use Rattle.std.proofs.lemmas.Grind.{common_steps}
 use Rattle.drawn_faults.proofs.PrintableLemmas.{drop-printable}
-use Rattle.drawn_faults.proofs.glyphs.put_as_is.Goals as goal
+use Rattle.drawn_faults.proofs.glyphs.put_printable.Goals as goal
 
 pub returns-clause-whole : goal.returns-clause-whole
 returns-clause-whole c =
