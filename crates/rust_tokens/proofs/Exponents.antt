@@ -1,12 +1,12 @@
 -- Where the exponent of a number ends.
-use Rattle.std.proofs.Common.{◌≡◌, ℕ, Bool, true, false, ◌&&◌, ◌||◌, ◌++◌, cond, [], ◌∷◌, inl, inr}
-use Rattle.std.proofs.Common.{◌⊎◌, Option, Some, None, refl, ap, sym, ◌∙◌, append_assoc, subst}
-use Rattle.std.specs.Prelude.{◌==◌, IsTrue}
+use Rattle.std.proofs.Common.{◌≡◌, ℕ, Bool, true, false, ◌++◌, cond, [], ◌∷◌, inl, inr}
+use Rattle.std.proofs.Common.{◌⊎◌, Some, None, refl, ap, sym, ◌∙◌, append_assoc, subst}
+use Rattle.std.specs.Prelude.{IsTrue}
 use Rattle.std.specs.List.{list_all}
 use Rattle.std.proofs.lemmas.Bool.{and_parts, and_from, cond-true, cond-false}
 use Rattle.std.proofs.lemmas.Option.{none-some, same_Some}
 use Rattle.rust_tokens.specs.Texts.{Text, HasNoFront}
-use Rattle.rust_tokens.specs.Runs.{first_passes, stops, behind, is_digit, is_digit_part}
+use Rattle.rust_tokens.specs.Runs.{stops, behind, is_digit, is_digit_part}
 use Rattle.rust_tokens.specs.Runs.{is_underscore}
 use Rattle.rust_tokens.specs.Numbers.{is_exponent_mark, is_sign, IsExponent, behind_sign}
 use Rattle.rust_tokens.specs.Numbers.{behind_digits, behind_exponent}

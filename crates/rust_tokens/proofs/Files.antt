@@ -70,7 +70,7 @@ placed-append : (at : ℕ) (xs ys : List Lexeme)
 placed-append at [] ys = refl
 placed-append at (x ∷ xs) ys = ap (λ r. token_at at x ∷ r) (placed-append (end_of at x) xs ys)
 
-end-append : (at : ℕ) (xs ys : List Lexeme)
+pub end-append : (at : ℕ) (xs ys : List Lexeme)
     → end_of_all at (xs ++ ys) ≡ end_of_all (end_of_all at xs) ys
 end-append at [] ys = refl
 end-append at (x ∷ xs) ys = end-append (end_of at x) xs ys

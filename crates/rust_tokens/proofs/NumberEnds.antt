@@ -7,10 +7,10 @@ use Rattle.std.specs.List.{list_all}
 use Rattle.std.proofs.lemmas.Bool.{eqb-true, and_parts, and_from, cond-true, cond-false}
 use Rattle.rust_tokens.specs.Texts.{Text}
 use Rattle.rust_tokens.specs.Runs.{first_passes, stops, behind, is_space, is_id_start, is_digit}
-use Rattle.rust_tokens.specs.Runs.{is_digit_part, is_underscore}
-use Rattle.rust_tokens.specs.Numbers.{is_exponent_mark, is_sign, is_point_or_start, IsDigits}
+use Rattle.rust_tokens.specs.Runs.{is_digit_part}
+use Rattle.rust_tokens.specs.Numbers.{is_exponent_mark, is_point_or_start, IsDigits}
 use Rattle.rust_tokens.specs.Numbers.{IsExponent}
-use Rattle.rust_tokens.specs.Numbers.{behind_sign, behind_digits, behind_exponent, behind_point}
+use Rattle.rust_tokens.specs.Numbers.{behind_exponent, behind_point}
 use Rattle.rust_tokens.specs.Numbers.{is_based}
 use Rattle.rust_tokens.specs.Numbers.{IsDecimal, IsPointed, IsFractional, IsScientific}
 use Rattle.rust_tokens.specs.Openings.{first_opening}
@@ -18,7 +18,7 @@ use Rattle.rust_tokens.specs.declared.kinds.Kind.TheVariants.{DecimalInt, Float}
 use Rattle.rust_tokens.specs.First.{Body, first_of, first_body, by_opening, first_number}
 use Rattle.rust_tokens.specs.First.{first_zero}
 use Rattle.rust_tokens.specs.First.{first_decimal, fraction_or, behind_fraction, exponent_or}
-use Rattle.rust_tokens.proofs.Classes.{apart, behind-append, behind-more, digit-starts}
+use Rattle.rust_tokens.proofs.Classes.{apart, behind-append, digit-starts}
 use Rattle.rust_tokens.proofs.Classes.{digit-space, digit-part}
 use Rattle.rust_tokens.proofs.Exponents.{exponent-ends, exponent-none}
 use Rattle.rust_tokens.proofs.Basics.{not_false, no_pass, neither, and_no}

@@ -3,16 +3,13 @@ use Rattle.std.proofs.Common.{◌≡◌, ℕ, Bool, true, false, ◌&&◌, ◌++
 use Rattle.std.proofs.Common.{◌⊎◌}
 use Rattle.std.proofs.Common.{Option, Some, None, refl, ap, sym, ◌∙◌, append_assoc, subst}
 use Rattle.std.specs.Prelude.{◌==◌, codes, IsTrue}
-use Rattle.std.specs.List.{list_all}
 use Rattle.std.proofs.lemmas.Bool.{eqb-true, false≢true, cond-true, cond_both}
 use Rattle.std.proofs.lemmas.Option.{none-some, same_Some}
 use Rattle.rust_tokens.specs.Texts.{Text}
 use Rattle.rust_tokens.specs.Runs.{first_passes, stops, behind, is_digit, is_digit_part}
 use Rattle.rust_tokens.specs.Runs.{is_hex_part}
-use Rattle.rust_tokens.specs.Runs.{is_underscore}
-use Rattle.rust_tokens.specs.Numbers.{is_exponent_mark, is_sign, is_point_or_start, IsDigits}
-use Rattle.rust_tokens.specs.Numbers.{IsExponent}
-use Rattle.rust_tokens.specs.Numbers.{behind_sign, behind_digits, behind_exponent, behind_point}
+use Rattle.rust_tokens.specs.Numbers.{is_point_or_start, IsDigits}
+use Rattle.rust_tokens.specs.Numbers.{behind_exponent, behind_point}
 use Rattle.rust_tokens.specs.Numbers.{is_based}
 use Rattle.rust_tokens.specs.declared.kinds.Kind.TheVariants.{DecimalInt, Float, BinaryInt}
 use Rattle.rust_tokens.specs.declared.kinds.Kind.TheVariants.{OctalInt}

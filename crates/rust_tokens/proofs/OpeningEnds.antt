@@ -1,9 +1,8 @@
 -- Where a text begins with an opening, it is found.
-use Rattle.std.proofs.Common.{◌≡◌, ℕ, Bool, true, false, ◌&&◌, ◌++◌, cond, [], ◌∷◌, inl, inr, ◌⊎◌}
+use Rattle.std.proofs.Common.{◌≡◌, ℕ, Bool, true, false, ◌&&◌, ◌++◌, cond, [], ◌∷◌, inl, inr}
 use Rattle.std.proofs.Common.{Option, Some, None, refl, ap, sym, ◌∙◌, append_assoc, subst}
-use Rattle.std.specs.Prelude.{◌==◌, codes, IsTrue, is_some, replicate, option_map}
+use Rattle.std.specs.Prelude.{◌==◌, codes, is_some, replicate, option_map}
 use Rattle.std.proofs.lemmas.Bool.{eqb-true, false≢true, and_parts, cond_both, cond-true}
-use Rattle.std.proofs.lemmas.Option.{none-some}
 use Rattle.rust_tokens.specs.declared.kinds.Kind.{Kind}
 use Rattle.rust_tokens.specs.declared.kinds.Kind.TheVariants.{Str, ByteStr, CStr, RawStr}
 use Rattle.rust_tokens.specs.declared.kinds.Kind.TheVariants.{RawByteStr, RawCStr}
@@ -11,7 +10,7 @@ use Rattle.rust_tokens.specs.declared.openings.Opening.{Opening}
 use Rattle.rust_tokens.specs.declared.openings.Opening.TheVariants.{Quote, Raw, ByteQuote, RawWord}
 use Rattle.rust_tokens.specs.Texts.{Text, strip, or, HasNoFront}
 use Rattle.rust_tokens.specs.Runs.{behind, count, is_hash, is_id_start}
-use Rattle.rust_tokens.specs.Openings.{IsOpening, IsRawOpening, first_opening, raw_opening}
+use Rattle.rust_tokens.specs.Openings.{IsOpening, first_opening, raw_opening}
 use Rattle.rust_tokens.specs.Openings.{word_opening, byte_opening, c_opening}
 use Rattle.rust_tokens.proofs.Basics.{front-behind, hash-front, strip-reads}
 use Rattle.rust_tokens.proofs.Classes.{apart, behind-hashes, count-hashes, starts-hash}

@@ -19,6 +19,12 @@ is_gap LineComment = true
 is_gap BlockComment = true
 is_gap k = false
 
+-- What stands in front of the tokens of a file.
+abbrev pub is_head : Kind → Bool
+is_head ByteOrderMark = true
+is_head Shebang = true
+is_head k = false
+
 -- `[`
 abbrev pub is_bracket : ℕ → Bool
 is_bracket c = c == code "["

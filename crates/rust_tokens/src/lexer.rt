@@ -2,11 +2,13 @@
 
 ghost use Rattle.std.specs.Prelude.{◌≡◌, ◌+◌, ◌<◌, ◌≤◌, ◌-◌, ◌++◌, ℕ, [], IfOk, IfSome, IsFalse};
 ghost use Rattle.std.specs.Prelude.{IsNone, IsTrue, List, chars, length};
+ghost use Rattle.std.specs.List.{list_all};
 ghost use Rattle.rust_tokens.specs.Covers.{Covers};
 ghost use Rattle.rust_tokens.specs.Files.{IsMarked, IsShebanged, OpensAttribute, ReadsFile, is_gap};
+ghost use Rattle.rust_tokens.specs.Files.{is_head};
 ghost use Rattle.rust_tokens.specs.Placed.{between, byte_length, end_of_all, placed, token_at};
 ghost use Rattle.rust_tokens.specs.Texts.{Text};
-ghost use Rattle.rust_tokens.specs.Tokens.{Begins, Lexeme};
+ghost use Rattle.rust_tokens.specs.Tokens.{Begins, Lexeme, Reads};
 ghost use Rattle.rust_tokens.specs.declared.kinds.Kind.TheVariants.{ByteOrderMark, Shebang};
 
 use crate::ends::behind_line;
@@ -147,6 +149,16 @@ fn behind_shebang(text: &str) -> &str
     } else {
         behind_line(line)
     }
+}
+
+/// Returns what is left of a file after its byte order mark and its shebang.
+pub fn behind_head(text: &str) -> &str
+    // The tokens hs are the mark and the shebang. With the tokens of the rest they are the file's.
+    ensures { (hs : List Lexeme) × IsTrue (list_all (λ x. is_head x.kind) hs)
+        × ((rs : List Lexeme) → Reads (chars result.now) rs → ReadsFile (chars text.now) (hs ++ rs))
+        × (end_of_all 0 hs + length result.now ≡ length text.now) }
+{
+    behind_shebang(behind_mark(text))
 }
 
 /// Adds a token of this kind unless it is empty. Returns `Err` if an allocation fails.

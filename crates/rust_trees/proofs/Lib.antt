@@ -1,0 +1,10 @@
+pub mod Growing
+pub mod LeavesRead
+pub mod Lists
+pub mod Matches
+pub mod Nested
+pub mod Once
+pub mod Partners
+pub mod PlaceSteps
+pub mod Scanning
+pub mod Stacks

@@ -1,0 +1,61 @@
+use Rattle.std.proofs.Common.{◌≡◌, ◌∙◌, ap, sym, refl, subst, map, ◌∷◌, [], ◌-◌, length}
+use Rattle.std.specs.Prelude.{if◌then◌else◌, true, false, drop}
+use Rattle.std.specs.Str.{IsCharBoundary}
+use Rattle.std.proofs.lemmas.List.{append-nil}
+use Rattle.rust_tokens.specs.Placed.{end_of}
+use Rattle.rust_trees.specs.Leaves.{Leaf, leaf, leaf_at, is_leaf}
+use Rattle.rust_trees.proofs.LeavesRead.{cut-boundary, back-utf8, read-all}
+use Rattle.rust_trees.proofs.LeavesRead.{read-none, read-more, leaf-of, map-push, IsRead}
+use Rattle.rust_trees.proofs.leaves.leaves.Goals as goal
+
+pub loop-token-init : goal.loop-token-init
+loop-token-init c =
+    let h = c.behind_head-rest.ensures in
+    record {
+      is_read = subst (λ v. IsRead c.args.text.now (map leaf v) c.behind_head-rest.result.now)
+          (sym c.new-found.ensures.items) (read-none _ _ h.0 h.1 h.2 h.3);
+      utf8 = c.behind_head-rest.utf8;
+    }
+
+pub split_at-requires : goal.split_at-requires
+split_at-requires c =
+    let b = c.in-Some.ensures.begins in
+    subst (λ n. IsCharBoundary c.loop-token.rest.now n) (sym (ap (λ t. t.span.end) b.3))
+    (cut-boundary c.loop-token.rest.now b.0 b.1 c.loop-token.invariant.utf8 b.2)
+
+pub loop-token-preserved-in_ok-push : goal.loop-token-preserved-in_ok-push
+loop-token-preserved-in_ok-push c =
+    let b = c.in-Some.ensures.begins in
+    let d : c.split_at.result.1.now ≡ drop (end_of 0 b.0) c.loop-token.rest.now =
+    c.split_at.ensures.back ∙ ap (λ t. drop t.span.end c.loop-token.rest.now) b.3 in
+    let yes : is_leaf b.0.kind b.0.is_ended ≡ true =
+    ap (λ t. is_leaf t.kind t.is_ended) (sym b.3) ∙ sym c.if-is_leaf.ensures in
+    let x : Leaf = leaf_at (length c.args.text.now - length c.loop-token.rest.now) b.0 in
+    record {
+      is_read = subst (λ v. IsRead c.args.text.now v c.split_at.result.1.now)
+          (sym (map-push leaf _ _ _ x c.in_ok-push.ensures.items
+          (leaf-of _ b.0 _ _ b.1 _ c.loop-token.invariant.utf8 b.2 b.3 c.split_at.ensures.front)))
+          (read-more _ _ _ _ (x ∷ []) b.0 b.1 c.loop-token.invariant.utf8 b.2 d
+          c.loop-token.invariant.is_read (sym (ap (λ t. if t then x ∷ [] else []) yes)));
+      utf8 = back-utf8 _ _ b.0 b.1 c.loop-token.invariant.utf8 b.2 d;
+    }
+
+pub loop-token-preserved : goal.loop-token-preserved
+loop-token-preserved c =
+    let b = c.in-Some.ensures.begins in
+    let d : c.split_at.result.1.now ≡ drop (end_of 0 b.0) c.loop-token.rest.now =
+    c.split_at.ensures.back ∙ ap (λ t. drop t.span.end c.loop-token.rest.now) b.3 in
+    let no : is_leaf b.0.kind b.0.is_ended ≡ false =
+    ap (λ t. is_leaf t.kind t.is_ended) (sym b.3) ∙ sym c.if-is_leaf.ensures in
+    record {
+      is_read = subst (λ v. IsRead c.args.text.now v c.split_at.result.1.now)
+          (append-nil (map leaf c.loop-token.found.items))
+          (read-more _ _ _ _ [] b.0 b.1 c.loop-token.invariant.utf8 b.2 d
+          c.loop-token.invariant.is_read
+          (sym (ap (λ t. if t then leaf_at
+          (length c.args.text.now - length c.loop-token.rest.now) b.0 ∷ [] else []) no)));
+      utf8 = back-utf8 _ _ b.0 b.1 c.loop-token.invariant.utf8 b.2 d;
+    }
+
+pub returns : goal.returns
+returns c = read-all _ _ _ c.loop-token.invariant.is_read (c.in_default.ensures.none refl)

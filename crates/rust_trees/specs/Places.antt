@@ -1,0 +1,35 @@
+-- Places in a text as an editor shows them: lines, and in them characters, both from 1. An LF ends
+-- a line. A CR in front of an LF and a byte order mark at the start are no characters of a line.
+use Rattle.std.specs.Prelude.{ℕ, Bool, ◌+◌, ◌==◌, ◌&&◌, ◌++◌, [], ◌∷◌}
+use Rattle.std.specs.Prelude.{if◌then◌else◌}
+use Rattle.rust_tokens.specs.Texts.{Text}
+use Rattle.rust_tokens.specs.Runs.{first_passes}
+use Rattle.rust_trees.specs.declared.places.Place.{Place}
+
+-- LF
+abbrev pub is_lf : ℕ → Bool
+is_lf c = c == 10
+
+-- The place behind a character at this place. The test says whether an LF follows.
+abbrev pub behind_char : Place → ℕ → Bool → Place
+behind_char p c b = if is_lf c then record { line = p.line + 1; column = 1 }
+    else (if c == 13 && b then p else record { line = p.line; column = p.column + 1 })
+
+-- The place behind the text front at this place, where the text back follows.
+abbrev pub place_after : Place → Text → Text → Place
+place_after p [] back = p
+place_after p (c ∷ front) back =
+    place_after (behind_char p c (first_passes is_lf (front ++ back))) front back
+
+-- The start of a file.
+abbrev pub start : Place
+start = record { line = 1; column = 1 }
+
+-- The text without the byte order mark at its start.
+abbrev pub without_mark : Text → Text
+without_mark [] = []
+without_mark (c ∷ t) = if c == 0xFEFF then t else c ∷ t
+
+-- The place in a file that is between these two texts.
+abbrev pub place_between : Text → Text → Place
+place_between front back = place_after start (without_mark front) back

@@ -1,0 +1,16 @@
+//! Token trees of Rust source text: the tokens of a file without white space and comments, and the
+//! pairs of delimiters among them.
+#![tactic(auto)]
+
+pub mod laws;
+mod leaves;
+mod matching;
+mod places;
+mod sides;
+mod source;
+
+pub use leaves::Token;
+pub use matching::Break;
+pub use places::{Place, place_after, place_at};
+pub use sides::{Delimiter, Side};
+pub use source::Source;

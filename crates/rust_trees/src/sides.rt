@@ -1,0 +1,58 @@
+//! What a token is among pairs of delimiters.
+
+ghost use Rattle.std.specs.Prelude.{◌≡◌};
+ghost use Rattle.rust_trees.specs.Sides.{is_same, side_of};
+
+use rust_tokens::Kind;
+
+/// A kind of delimiters.
+#[derive(Clone, Copy)]
+pub enum Delimiter {
+    /// `(` and `)`
+    Parenthesis,
+    /// `[` and `]`
+    Bracket,
+    /// `{` and `}`
+    Brace,
+}
+
+/// What a token is among pairs of delimiters.
+#[derive(Clone, Copy)]
+pub enum Side {
+    /// It opens a pair.
+    Opens(Delimiter),
+    /// It closes a pair.
+    Closes(Delimiter),
+    /// It is no delimiter.
+    Neither,
+}
+
+/// Returns what a token of this kind with this text is.
+pub fn side_of(kind: Kind, text: &str) -> Side
+    ensures { result ≡ side_of kind text.now }
+{
+    if !matches!(kind, Kind::Punct) {
+        return Side::Neither;
+    }
+    match text.as_bytes().first() {
+        Some(b'(') => Side::Opens(Delimiter::Parenthesis),
+        Some(b')') => Side::Closes(Delimiter::Parenthesis),
+        Some(b'[') => Side::Opens(Delimiter::Bracket),
+        Some(b']') => Side::Closes(Delimiter::Bracket),
+        Some(b'{') => Side::Opens(Delimiter::Brace),
+        Some(b'}') => Side::Closes(Delimiter::Brace),
+        _ => Side::Neither,
+    }
+}
+
+/// Returns whether two delimiters are of one kind.
+pub fn is_same(opening: Delimiter, closing: Delimiter) -> bool
+    ensures { result ≡ is_same opening closing }
+{
+    matches!(
+        (opening, closing),
+        (Delimiter::Parenthesis, Delimiter::Parenthesis)
+            | (Delimiter::Bracket, Delimiter::Bracket)
+            | (Delimiter::Brace, Delimiter::Brace)
+    )
+}
