@@ -1,0 +1,3 @@
+pub mod CallSteps
+pub mod Places
+pub mod Walking

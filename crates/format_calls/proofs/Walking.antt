@@ -1,0 +1,99 @@
+-- Walks over trees.
+use Rattle.std.proofs.Common.{◌≡◌, ◌<◌, ◌≤◌, ◌+◌, ◌++◌, ◌⊎◌, ℕ, false, List, [], ◌∷◌}
+use Rattle.std.proofs.Common.{Some, None}
+use Rattle.std.proofs.Common.{inl, inr, refl, sym, subst, arith, Option}
+use Rattle.std.specs.Prelude.{IsTrue, not, nat_lt, ◌==◌, ◌&&◌}
+use Rattle.std.proofs.lemmas.Bool.{and_parts, cond_both}
+use Rattle.std.proofs.lemmas.List.{append-nil}
+use Rattle.std.proofs.lemmas.Option.{none-some, same_Some}
+use Rattle.rust_trees.specs.Leaves.{Leaf}
+use Rattle.rust_trees.specs.Forests.{IsPair, ArePartners}
+use Rattle.rust_trees.proofs.Nested.{nested}
+use Rattle.format_calls.specs.declared.modes.Mode.{Mode}
+use Rattle.format_calls.specs.declared.modes.Mode.TheVariants.{Plain, Angles, Parameters}
+use Rattle.format_calls.specs.Marks.{is_mark}
+use Rattle.format_calls.specs.Modes.{closes_list, depth_of, mode_after, opens_list}
+use Rattle.format_calls.specs.Arguments.{AreArguments, IsArgument, IsTree, Walks, is_end}
+use Rattle.format_calls.specs.Arguments.{is_plain_mode}
+use Rattle.format_calls.specs.declared.split.Argument.{Argument}
+
+pub tree-in-front : (xs : List Leaf) (i j : ℕ)
+    → ((k : ℕ) → ArePartners xs i k → ◌≡◌ {A = Option ℕ} (Some j) (Some k)) → j ≤ i
+    → IsTree xs i (i + 1)
+tree-in-front xs i j each h =
+    inr (λ k p. let e = same_Some j k (each k (inl p)) in omega (arith, e, h, p.ends), refl)
+
+pub tree-alone : (xs : List Leaf) (i : ℕ)
+    → ((k : ℕ) → ArePartners xs i k → ◌≡◌ {A = Option ℕ} None (Some k)) → IsTree xs i (i + 1)
+tree-alone xs i each = inr (λ k p. none-some k (each k (inl p)), refl)
+
+-- A tree within a pair ends there.
+pub tree-within : (xs : List Leaf) (o c i j : ℕ) → IsPair xs o c → IsTree xs i j → o < i → i < c
+    → (i < j) × (j ≤ c)
+tree-within xs o c i j p (inl t) h k =
+    let l = nested xs o c i t.0 p t.1 h k in
+    let e = t.1.ends in
+    (omega (arith, t.2, e), omega (arith, t.2, l))
+tree-within xs o c i j p (inr t) h k = (omega (arith, t.1), omega (arith, t.1, k))
+
+pub walks-more : (xs : List Leaf) (from i k j : ℕ) (m n : Mode) (js : List ℕ)
+    → Walks xs from i m js k n → IsTree xs k j → is_end xs k n ≡ false
+    → Walks xs from i m (js ++ j ∷ []) j (mode_after xs from k n)
+walks-more xs from i k j m n [] w t e =
+    (subst (λ v. IsTree xs v j) (sym w.0) t, rw (w.0, w.1) e, (refl, rw (w.0, w.1) refl))
+walks-more xs from i k j m n (l ∷ js) w t e =
+    (w.0, w.1, walks-more xs from l k j (mode_after xs from i m) n js w.2 t e)
+
+pub depth-grows : (xs : List Leaf) (from i : ℕ) (m : Mode)
+    → depth_of (mode_after xs from i m) ≤ depth_of m + 1
+depth-grows xs from i (Plain t) =
+    cond_both {A = Mode} (opens_list xs from i t) _ _ (λ n. depth_of n ≤ 0 + 1)
+    (λ e. omega arith)
+    (λ e. cond_both {A = Mode} (i == from && is_mark 124 xs i) _ _ (λ n. depth_of n ≤ 0 + 1)
+    (λ f. omega arith) (λ f. omega arith))
+depth-grows xs from i (Angles d) =
+    cond_both {A = Mode} (is_mark 60 xs i) _ _ (λ n. depth_of n ≤ d + 1)
+    (λ e. omega arith)
+    (λ e. cond_both {A = Mode} (not (closes_list xs i)) _ _ (λ n. depth_of n ≤ d + 1)
+    (λ f. omega arith)
+    (λ f. cond_both {A = Mode} (nat_lt 1 d) _ _ (λ n. depth_of n ≤ d + 1)
+    (λ g. omega arith) (λ g. omega arith)))
+depth-grows xs from i Parameters =
+    cond_both {A = Mode} (is_mark 124 xs i) _ _ (λ n. depth_of n ≤ 0 + 1)
+    (λ e. omega arith) (λ e. omega arith)
+
+-- A comma ends an argument that does not end with its list.
+pub ends-at-comma : (xs : List Leaf) (from end to : ℕ) → IsArgument xs from end to
+    → (end ≡ to → ⊥) → IsTrue (is_mark 44 xs end)
+ends-at-comma xs from end to a f = by_end a.ends
+  where
+    by_end : IsTrue (is_end xs end a.mode) ⊎ (end ≡ to) → IsTrue (is_mark 44 xs end)
+    by_end (inl e) = (and_parts (is_plain_mode a.mode) (is_mark 44 xs end) e).1
+    by_end (inr e) = absurd (f e)
+
+-- The arguments so far, and all that may follow them.
+abbrev pub SoFar : List Leaf → ℕ → List Argument → ℕ → ℕ → Type 0
+SoFar xs first found at to = (more : List Argument) → AreArguments xs at more to
+    → AreArguments xs first (found ++ more) to
+
+pub so-far-end : (xs : List Leaf) (first at to : ℕ) (found : List Argument) → at ≡ to
+    → SoFar xs first found at to → AreArguments xs first found to
+so-far-end xs first at to found e h =
+    subst (λ v. AreArguments xs first v to) (append-nil found) (h [] e)
+
+-- A partner in front of a token opens its pair.
+pub opens-front : (xs : List Leaf) (i j : ℕ) → ArePartners xs j i → i < j → IsPair xs i j
+opens-front xs i j (inl p) h = absurd (omega (arith, p.ends, h))
+opens-front xs i j (inr p) h = p
+
+pub closes-none : (xs : List Leaf) (j : ℕ)
+    → ((k : ℕ) → ArePartners xs j k → ◌≡◌ {A = Option ℕ} None (Some k)) → (i : ℕ) → IsPair xs i j
+    → ⊥
+closes-none xs j each i p = none-some i (each i (inr p))
+
+pub closes-before : (xs : List Leaf) (j k : ℕ)
+    → ((i : ℕ) → ArePartners xs j i → ◌≡◌ {A = Option ℕ} (Some k) (Some i)) → j ≤ k → (i : ℕ)
+    → IsPair xs i j → ⊥
+closes-before xs j k each h i p =
+    let e = same_Some k i (each i (inr p)) in
+    omega (arith, e, h, p.ends)

@@ -1,0 +1,7 @@
+pub mod Arguments
+pub mod Calls
+pub mod Marks
+pub mod Modes
+pub mod Rows
+pub mod Standard
+pub mod Strings

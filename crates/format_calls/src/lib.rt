@@ -1,0 +1,14 @@
+//! Calls of macros that take a format string, in Rust source text.
+#![tactic(auto)]
+
+mod listing;
+mod marks;
+mod modes;
+mod split;
+mod strings;
+mod table;
+
+pub use listing::{Call, calls};
+pub use split::{Argument, arguments};
+pub use strings::{Reason, format_string};
+pub use table::{Form, Lone, Row, Rule, Table};

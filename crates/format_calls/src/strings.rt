@@ -1,0 +1,108 @@
+//! Which argument of a call is its format string, and why none is read.
+
+ghost use Rattle.std.specs.Prelude.{◌≡◌, map};
+ghost use Rattle.rust_trees.specs.Leaves.{leaf};
+ghost use Rattle.format_calls.specs.Strings.{first_text, format_string, is_text};
+ghost use Rattle.format_calls.specs.Strings.{is_text_leaf, reason_of};
+
+use crate::marks::{is_mark, is_word, token_at};
+use crate::split::Argument;
+use crate::table::{Form, Lone, Rule};
+use rust_tokens::Kind;
+use rust_trees::{Source, Token};
+
+/// Why no format string of a call is read.
+#[derive(Clone, Copy)]
+pub enum Reason {
+    /// There are too few arguments for one.
+    Missing,
+    /// Before the edition 2021 a lone argument is none.
+    Edition,
+    /// It is a variable of a macro, which `$` begins, or `#` in `quote!`.
+    Variable,
+    /// It is a literal with a suffix.
+    Suffix,
+    /// It is the call of a macro, as `concat!("a", "b")`.
+    Macro,
+    /// It is another expression, or there is more than a literal.
+    Expression,
+}
+
+/// Returns whether a token is a string literal that has its end and no suffix.
+fn is_text_leaf(token: &Token<'_>) -> bool
+    ensures { result ≡ is_text_leaf (leaf token.now) }
+{
+    matches!(token.kind, Kind::Str | Kind::RawStr) && token.is_ended && !token.has_suffix
+}
+
+/// Returns whether an argument is one string literal.
+fn is_text(tokens: &[Token<'_>], argument: &Argument) -> bool
+    ensures { result ≡ is_text (map leaf tokens.now) argument.now }
+{
+    match token_at(tokens, argument.start) {
+        Some(token) => {
+            argument.start < argument.end
+                && argument.end - argument.start == 1
+                && is_text_leaf(&token)
+        }
+        None => false,
+    }
+}
+
+/// Returns why an argument that is no string literal is none.
+fn reason_of(tokens: &[Token<'_>], argument: &Argument) -> Reason
+    ensures { result ≡ reason_of (map leaf tokens.now) argument.now }
+{
+    let start = argument.start;
+    let Some(token) = token_at(tokens, start) else {
+        return Reason::Expression;
+    };
+    if is_mark(tokens, start, b'$') || is_mark(tokens, start, b'#') {
+        Reason::Variable
+    } else if matches!(token.kind, Kind::Str | Kind::RawStr) && token.has_suffix {
+        Reason::Suffix
+    } else if is_word(&token) && is_mark(tokens, start + 1, b'!') {
+        Reason::Macro
+    } else {
+        Reason::Expression
+    }
+}
+
+/// Returns the index of the first argument that is a string literal, or `None` if there is none.
+fn first_text(tokens: &[Token<'_>], arguments: &[Argument]) -> Option<usize>
+    ensures { result ≡ first_text (map leaf tokens.now) arguments.now }
+{
+    arguments
+        .iter()
+        .position(|argument| is_text(tokens, argument))
+}
+
+/// Returns the index of the argument that is the format string of a call, or why none is read.
+pub fn format_string(
+    source: &Source<'_>,
+    rule: Rule,
+    arguments: &[Argument],
+    is_from_2021: bool,
+) -> Result<usize, Reason>
+    ensures { result ≡ format_string source.now rule arguments.now is_from_2021 }
+{
+    let tokens = source.tokens();
+    let Form::At(index) = rule.form else {
+        return match first_text(tokens, arguments) {
+            Some(index) => Ok(index),
+            None => Err(Reason::Expression),
+        };
+    };
+    if index >= arguments.len() {
+        return Err(Reason::Missing);
+    }
+    let argument = &arguments[index];
+    let is_lone = index + 1 == arguments.len();
+    if is_lone && matches!(rule.lone, Lone::ByEdition) && !is_from_2021 {
+        Err(Reason::Edition)
+    } else if is_text(tokens, argument) {
+        Ok(index)
+    } else {
+        Err(reason_of(tokens, argument))
+    }
+}
