@@ -7,7 +7,8 @@ use Rattle.rust_trees.specs.Leaves.{Leaf}
 use Rattle.rust_trees.specs.Forests.{IsPair}
 use Rattle.format_calls.specs.declared.split.Argument.{Argument}
 use Rattle.format_calls.specs.declared.modes.Mode.{Mode}
-use Rattle.format_calls.specs.declared.modes.Mode.TheVariants.{Plain, Angles, Parameters}
+use Rattle.format_calls.specs.declared.modes.Mode.TheVariants.{Start, Within, Operator, Angles}
+use Rattle.format_calls.specs.declared.modes.Mode.TheVariants.{Parameters}
 use Rattle.format_calls.specs.Marks.{is_mark, is_word}
 use Rattle.format_calls.specs.Modes.{is_followed, mode_after}
 
@@ -19,7 +20,9 @@ IsTree xs i j = ((n : ℕ) × IsPair xs i n × (j ≡ n + 1))
 
 -- Commas are read as such.
 abbrev pub is_plain_mode : Mode → Bool
-is_plain_mode (Plain t) = true
+is_plain_mode (Start t) = true
+is_plain_mode (Within t) = true
+is_plain_mode Operator = true
 is_plain_mode (Angles n) = false
 is_plain_mode Parameters = false
 
@@ -28,18 +31,18 @@ abbrev pub is_end : List Leaf → ℕ → Mode → Bool
 is_end xs i m = is_plain_mode m && is_mark (code ",") xs i
 
 -- From the token i, where m is read, there are trees up to these tokens, then k, where n is read.
--- No comma among them ends the argument, which starts at the token from.
-abbrev pub Walks : List Leaf → ℕ → ℕ → Mode → List ℕ → ℕ → Mode → Type 0
-Walks xs from i m [] k n = (i ≡ k) × (m ≡ n)
-Walks xs from i m (j ∷ js) k n = IsTree xs i j × (is_end xs i m ≡ false)
-    × Walks xs from j (mode_after xs from i m) js k n
+-- No comma among them ends the argument.
+abbrev pub Walks : List Leaf → ℕ → Mode → List ℕ → ℕ → Mode → Type 0
+Walks xs i m [] k n = (i ≡ k) × (m ≡ n)
+Walks xs i m (j ∷ js) k n = IsTree xs i j × (is_end xs i m ≡ false)
+    × Walks xs j (mode_after xs i m) js k n
 
 -- The tokens from one to the one before end are an argument: a comma ends it, or `to`, where its
 -- list ends.
 pub record IsArgument (xs : List Leaf) (from end to : ℕ) : Type 0 where
   pub trees : List ℕ
   pub mode : Mode
-  pub walks : Walks xs from from (Plain false) trees end mode
+  pub walks : Walks xs from (Start false) trees end mode
   pub ends : IsTrue (is_end xs end mode) ⊎ (end ≡ to)
 
 -- The word at the start has `=` behind it, and that is neither `==` nor `=>`: it is the name.

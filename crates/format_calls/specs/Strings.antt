@@ -11,11 +11,8 @@ use Rattle.format_calls.specs.declared.strings.Reason.{Reason}
 use Rattle.format_calls.specs.declared.strings.Reason.TheVariants.{Missing, Edition, Variable}
 use Rattle.format_calls.specs.declared.strings.Reason.TheVariants.{Suffix}
 use Rattle.format_calls.specs.declared.strings.Reason.TheVariants.{Macro, Expression}
-use Rattle.format_calls.specs.declared.table.Form.{Form}
-use Rattle.format_calls.specs.declared.table.Form.TheVariants.{At, AfterFields}
-use Rattle.format_calls.specs.declared.table.Lone.{Lone}
-use Rattle.format_calls.specs.declared.table.Lone.TheVariants.{ByEdition}
 use Rattle.format_calls.specs.declared.table.Rule.{Rule}
+use Rattle.format_calls.specs.declared.table.Rule.TheVariants.{At, ByEdition, AfterFields}
 use Rattle.format_calls.specs.Marks.{is_mark, is_word}
 
 abbrev pub is_string : Kind → Bool
@@ -50,10 +47,6 @@ reason_of xs a = reason_at xs (slice_get xs a.start) a.start
 abbrev pub first_text : List Leaf → List Argument → Option ℕ
 first_text xs bs = position (λ a. is_text xs a) bs
 
-abbrev pub is_by_edition : Lone → Bool
-is_by_edition ByEdition = true
-is_by_edition l = false
-
 abbrev pub text_or : Option ℕ → Result ℕ Reason
 text_or None = Err Expression
 text_or (Some n) = Ok n
@@ -63,11 +56,10 @@ argument_or xs n None b = Err Missing
 argument_or xs n (Some a) b = if b then Err Edition else
     (if is_text xs a then Ok n else Err (reason_of xs a))
 
--- The index of the argument that is the format string, where a lone argument is one only from the
--- edition 2021 on, if the rule says so.
-abbrev pub format_by : List Leaf → Form → Bool → List Argument → Result ℕ Reason
-format_by xs (At n) b bs = argument_or xs n (slice_get bs n) ((n + 1) == length bs && b)
-format_by xs AfterFields b bs = text_or (first_text xs bs)
-
+-- The index of the argument that is the format string, by the rule. Before the edition 2021, where
+-- `is_new` is false, the last argument is none for some.
 abbrev pub format_string : List Leaf → Rule → List Argument → Bool → Result ℕ Reason
-format_string xs r bs is_new = format_by xs r.form (is_by_edition r.lone && not is_new) bs
+format_string xs (At n) bs is_new = argument_or xs n (slice_get bs n) false
+format_string xs (ByEdition n) bs is_new =
+    argument_or xs n (slice_get bs n) (not is_new && (n + 1) == length bs)
+format_string xs AfterFields bs is_new = text_or (first_text xs bs)

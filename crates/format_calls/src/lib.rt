@@ -11,4 +11,4 @@ mod table;
 pub use listing::{Call, calls};
 pub use split::{Argument, arguments};
 pub use strings::{Reason, format_string};
-pub use table::{Form, Lone, Row, Rule, Table};
+pub use table::{Row, Rule, Table};

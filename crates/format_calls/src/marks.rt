@@ -21,7 +21,7 @@ pub fn token_at<'a>(tokens: &[Token<'a>], index: usize) -> Option<Token<'a>>
 }
 
 /// Returns whether the token is this character of punctuation.
-fn is_mark_of(token: &Token<'_>, mark: u8) -> bool
+pub fn is_mark_of(token: &Token<'_>, mark: u8) -> bool
     ensures { result ≡ is_mark_of mark (Some (leaf token.now)) }
 {
     if !matches!(token.kind, Kind::Punct) {

@@ -1,20 +1,25 @@
 //! Where a comma ends an argument.
 
-ghost use Rattle.std.specs.Prelude.{◌≡◌, ◌+◌, ◌<◌, ◌^◌, map};
+ghost use Rattle.std.specs.Prelude.{◌≡◌, ◌+◌, ◌<◌, ◌^◌, map, slice_get};
 ghost use Rattle.rust_trees.specs.Leaves.{leaf};
-ghost use Rattle.format_calls.specs.Modes.{closes_list, depth_of, is_as, is_followed, is_joint};
-ghost use Rattle.format_calls.specs.Modes.{is_type_after, is_type_after_leaf, mode_after};
-ghost use Rattle.format_calls.specs.Modes.{opens_list};
+ghost use Rattle.format_calls.specs.Modes.{closes_list, depth_of, is_arrow, is_double, is_followed};
+ghost use Rattle.format_calls.specs.Modes.{is_joint, is_keyword, is_operator, is_prefix, is_text};
+ghost use Rattle.format_calls.specs.Modes.{mode_after, mode_behind, opens_list};
 
-use crate::marks::{is_behind, is_mark, is_word, token_at};
+use crate::marks::{is_behind, is_mark, is_mark_of, is_word, token_at};
 use rust_tokens::Kind;
-use rust_trees::Token;
+use rust_trees::{Side, Token};
 
 /// What is read at a token of an argument.
 #[derive(Clone, Copy)]
 pub enum Mode {
-    /// An expression. In a type behind `as`, `<` opens a list in angles.
-    Plain(bool),
+    /// The start of an expression, or of a type, where `true` stands: `<` opens a list in angles,
+    /// and `|` the parameters of a closure.
+    Start(bool),
+    /// An expression or a type goes on. Only in a type `<` opens a list in angles.
+    Within(bool),
+    /// The second character of `||` or `<<`.
+    Operator,
     /// A list in this many angles.
     Angles(usize),
     /// The parameters of a closure.
@@ -41,64 +46,131 @@ pub fn is_followed(tokens: &[Token<'_>], index: usize, mark: u8) -> bool
     }
 }
 
-/// Returns whether `<` opens a list in angles.
-fn opens_list(tokens: &[Token<'_>], from: usize, index: usize, is_type: bool) -> bool
-    ensures { result ≡ opens_list (map leaf tokens.now) from index is_type }
+/// Returns whether `<` opens a list in angles where one may stand: it does not begin `<=`.
+fn opens_list(tokens: &[Token<'_>], index: usize) -> bool
+    ensures { result ≡ opens_list (map leaf tokens.now) index }
 {
-    is_mark(tokens, index, b'<')
-        && !is_followed(tokens, index, b'=')
-        && (index == from
-            || is_type
-            || index > 0 && is_behind(tokens, index, b':') && is_behind(tokens, index - 1, b':'))
+    is_mark(tokens, index, b'<') && !is_followed(tokens, index, b'=')
+}
+
+/// Returns whether the token is the `>` of `->`.
+fn is_arrow(tokens: &[Token<'_>], index: usize) -> bool
+    ensures { result ≡ is_arrow (map leaf tokens.now) index }
+{
+    is_mark(tokens, index, b'>')
+        && is_behind(tokens, index, b'-')
+        && is_followed(tokens, index - 1, b'>')
 }
 
 /// Returns whether `>` closes a list in angles: it is not the end of `->`.
 fn closes_list(tokens: &[Token<'_>], index: usize) -> bool
     ensures { result ≡ closes_list (map leaf tokens.now) index }
 {
-    is_mark(tokens, index, b'>')
-        && !(is_behind(tokens, index, b'-') && is_followed(tokens, index - 1, b'>'))
+    is_mark(tokens, index, b'>') && !is_arrow(tokens, index)
 }
 
-/// Returns whether the token is `as`.
-fn is_as(token: &Token<'_>) -> bool
-    ensures { result ≡ is_as (leaf token.now) }
+/// Returns whether the token is the first character of `||` or `<<`.
+fn is_double(tokens: &[Token<'_>], index: usize) -> bool
+    ensures { result ≡ is_double (map leaf tokens.now) index }
 {
-    matches!(token.kind, Kind::Ident) && token.text == "as"
+    is_mark(tokens, index, b'|') && is_followed(tokens, index, b'|')
+        || is_mark(tokens, index, b'<') && is_followed(tokens, index, b'<')
 }
 
-/// Returns whether a type goes on behind a token.
-fn is_type_after(tokens: &[Token<'_>], index: usize, is_type: bool) -> bool
-    ensures { result ≡ is_type_after (map leaf tokens.now) index is_type }
+/// Returns whether the token is this word, and no raw one.
+fn is_text(token: &Token<'_>, word: &str) -> bool
+    ensures { result ≡ is_text (leaf token.now) word.now }
 {
-    match token_at(tokens, index) {
-        Some(token) => {
-            is_as(&token)
-                || is_type
-                    && (is_word(&token)
-                        || is_mark(tokens, index, b':')
-                        || is_mark(tokens, index, b'&')
-                        || is_mark(tokens, index, b'*'))
-        }
-        None => false,
+    matches!(token.kind, Kind::Ident) && token.text == word
+}
+
+/// Returns whether the token is a keyword behind which an expression starts, or behind which a type
+/// goes on to start.
+fn is_keyword(token: &Token<'_>) -> bool
+    ensures { result ≡ is_keyword (leaf token.now) }
+{
+    is_text(token, "async")
+        || is_text(token, "break")
+        || is_text(token, "const")
+        || is_text(token, "if")
+        || is_text(token, "in")
+        || is_text(token, "match")
+        || is_text(token, "move")
+        || is_text(token, "mut")
+        || is_text(token, "return")
+        || is_text(token, "static")
+        || is_text(token, "while")
+        || is_text(token, "yield")
+}
+
+/// Returns whether a type that starts at this token still starts behind it: it is `&`, `*`, a
+/// lifetime or a keyword.
+fn is_prefix(token: &Token<'_>) -> bool
+    ensures { result ≡ is_prefix (leaf token.now) }
+{
+    is_mark_of(token, b'&')
+        || is_mark_of(token, b'*')
+        || matches!(token.kind, Kind::Lifetime)
+        || is_keyword(token)
+}
+
+/// Returns whether an expression starts behind the token: it is punctuation, but no delimiter and
+/// no `?`.
+fn is_operator(token: &Token<'_>) -> bool
+    ensures { result ≡ is_operator (leaf token.now) }
+{
+    matches!(token.kind, Kind::Punct)
+        && matches!(token.side(), Side::Neither)
+        && !is_mark_of(token, b'?')
+}
+
+/// Returns what is read behind a token, at the start of an expression or of a type or not, and in a
+/// type or not.
+fn mode_behind(tokens: &[Token<'_>], index: usize, is_start: bool, is_type: bool) -> Mode
+    ensures { result ≡ mode_behind (map leaf tokens.now) index
+        (slice_get (map leaf tokens.now) index) is_start is_type }
+{
+    let Some(token) = token_at(tokens, index) else {
+        return Mode::Within(false);
+    };
+    if is_double(tokens, index) {
+        Mode::Operator
+    } else if is_text(&token, "as") || is_arrow(tokens, index) {
+        Mode::Start(true)
+    } else if is_mark_of(&token, b':') {
+        Mode::Start(is_type)
+    } else if is_prefix(&token) {
+        Mode::Start(is_start && is_type)
+    } else if is_operator(&token) {
+        Mode::Start(false)
+    } else {
+        Mode::Within(is_type && is_word(&token))
     }
 }
 
-/// Returns what is read behind the tree at a token of an argument that starts at `from`.
-pub fn mode_after(tokens: &[Token<'_>], from: usize, index: usize, mode: Mode) -> Mode
+/// Returns what is read behind the tree at a token.
+pub fn mode_after(tokens: &[Token<'_>], index: usize, mode: Mode) -> Mode
     requires { depth_of mode + 1 < 2 ^ 64 }
-    ensures { result ≡ mode_after (map leaf tokens.now) from index mode }
+    ensures { result ≡ mode_after (map leaf tokens.now) index mode }
 {
     match mode {
-        Mode::Plain(is_type) => {
-            if opens_list(tokens, from, index, is_type) {
+        Mode::Start(is_type) => {
+            if opens_list(tokens, index) {
                 Mode::Angles(1)
-            } else if index == from && is_mark(tokens, index, b'|') {
+            } else if is_mark(tokens, index, b'|') {
                 Mode::Parameters
             } else {
-                Mode::Plain(is_type_after(tokens, index, is_type))
+                mode_behind(tokens, index, true, is_type)
             }
         }
+        Mode::Within(is_type) => {
+            if is_type && opens_list(tokens, index) {
+                Mode::Angles(1)
+            } else {
+                mode_behind(tokens, index, false, is_type)
+            }
+        }
+        Mode::Operator => Mode::Start(false),
         Mode::Angles(depth) => {
             if is_mark(tokens, index, b'<') {
                 Mode::Angles(depth + 1)
@@ -107,12 +179,12 @@ pub fn mode_after(tokens: &[Token<'_>], from: usize, index: usize, mode: Mode) -
             } else if depth > 1 {
                 Mode::Angles(depth - 1)
             } else {
-                Mode::Plain(false)
+                Mode::Within(false)
             }
         }
         Mode::Parameters => {
             if is_mark(tokens, index, b'|') {
-                Mode::Plain(false)
+                Mode::Start(false)
             } else {
                 Mode::Parameters
             }

@@ -26,7 +26,7 @@ pub struct Argument {
 fn is_end(tokens: &[Token<'_>], index: usize, mode: Mode) -> bool
     ensures { result ≡ is_end (map leaf tokens.now) index mode }
 {
-    matches!(mode, Mode::Plain(_)) && is_mark(tokens, index, b',')
+    !matches!(mode, Mode::Angles(_) | Mode::Parameters) && is_mark(tokens, index, b',')
 }
 
 /// Returns whether an argument that starts at this token has a name.
@@ -64,10 +64,10 @@ fn argument_end(source: &Source<'_>, opening: usize, from: usize, to: usize) -> 
     ensures within { (from ≤ result) × (result ≤ to) }
 {
     let tokens = source.tokens();
-    let mut mode = Mode::Plain(false);
+    let mut mode = Mode::Start(false);
     let mut end = from;
     while end < to && !is_end(tokens, end, mode) {
-        mode = mode_after(tokens, from, end, mode);
+        mode = mode_after(tokens, end, mode);
         end = behind_tree(source, end);
     }
     end

@@ -1,13 +1,13 @@
 //! Which argument of a call is its format string, and why none is read.
 
-ghost use Rattle.std.specs.Prelude.{◌≡◌, map};
+ghost use Rattle.std.specs.Prelude.{◌≡◌, ◌+◌, ◌&&◌, ◌==◌, length, map, slice_get};
 ghost use Rattle.rust_trees.specs.Leaves.{leaf};
-ghost use Rattle.format_calls.specs.Strings.{first_text, format_string, is_text};
+ghost use Rattle.format_calls.specs.Strings.{argument_or, first_text, format_string, is_text};
 ghost use Rattle.format_calls.specs.Strings.{is_text_leaf, reason_of};
 
 use crate::marks::{is_mark, is_word, token_at};
 use crate::split::Argument;
-use crate::table::{Form, Lone, Rule};
+use crate::table::Rule;
 use rust_tokens::Kind;
 use rust_trees::{Source, Token};
 
@@ -16,7 +16,7 @@ use rust_trees::{Source, Token};
 pub enum Reason {
     /// There are too few arguments for one.
     Missing,
-    /// Before the edition 2021 a lone argument is none.
+    /// Before the edition 2021 the last argument of some macros is any expression.
     Edition,
     /// It is a variable of a macro, which `$` begins, or `#` in `quote!`.
     Variable,
@@ -77,6 +77,30 @@ fn first_text(tokens: &[Token<'_>], arguments: &[Argument]) -> Option<usize>
         .position(|argument| is_text(tokens, argument))
 }
 
+/// Returns the index again if the argument there is the format string, or why none is read. A last
+/// argument can be none.
+fn string_at(
+    tokens: &[Token<'_>],
+    arguments: &[Argument],
+    index: usize,
+    is_last_none: bool,
+) -> Result<usize, Reason>
+    ensures { result ≡ argument_or (map leaf tokens.now) index (slice_get arguments.now index)
+        (is_last_none && (index + 1) == length arguments.now) }
+{
+    if index >= arguments.len() {
+        return Err(Reason::Missing);
+    }
+    let argument = &arguments[index];
+    if is_last_none && index + 1 == arguments.len() {
+        Err(Reason::Edition)
+    } else if is_text(tokens, argument) {
+        Ok(index)
+    } else {
+        Err(reason_of(tokens, argument))
+    }
+}
+
 /// Returns the index of the argument that is the format string of a call, or why none is read.
 pub fn format_string(
     source: &Source<'_>,
@@ -87,22 +111,12 @@ pub fn format_string(
     ensures { result ≡ format_string source.now rule arguments.now is_from_2021 }
 {
     let tokens = source.tokens();
-    let Form::At(index) = rule.form else {
-        return match first_text(tokens, arguments) {
+    match rule {
+        Rule::At(index) => string_at(tokens, arguments, index, false),
+        Rule::ByEdition(index) => string_at(tokens, arguments, index, !is_from_2021),
+        Rule::AfterFields => match first_text(tokens, arguments) {
             Some(index) => Ok(index),
             None => Err(Reason::Expression),
-        };
-    };
-    if index >= arguments.len() {
-        return Err(Reason::Missing);
-    }
-    let argument = &arguments[index];
-    let is_lone = index + 1 == arguments.len();
-    if is_lone && matches!(rule.lone, Lone::ByEdition) && !is_from_2021 {
-        Err(Reason::Edition)
-    } else if is_text(tokens, argument) {
-        Ok(index)
-    } else {
-        Err(reason_of(tokens, argument))
+        },
     }
 }

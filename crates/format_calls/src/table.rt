@@ -6,35 +6,15 @@ ghost use Rattle.format_calls.specs.Standard.{of_crates, standard};
 
 use std::alloc::{AllocError, Global};
 
-/// What a macro makes of its arguments.
+/// Which argument of a macro is its format string. The others behind it are formatted.
 #[derive(Clone, Copy)]
-pub enum Form {
-    /// The argument of this index is the format string, and the others behind it are formatted.
+pub enum Rule {
+    /// The one of this index.
     At(usize),
-    /// The same for the first argument that is a string literal: fields may stand in front of it.
+    /// The one of this index. Before the edition 2021 it is any expression if it is the last.
+    ByEdition(usize),
+    /// The first one that is a string literal: fields may stand in front of it.
     AfterFields,
-}
-
-/// What a lone argument is, where a format string is due.
-#[derive(Clone, Copy)]
-pub enum Lone {
-    /// A format string.
-    Format,
-    /// A format string from the edition 2021 on, and before that any expression.
-    ByEdition,
-    /// A format string if it is a literal, and else any expression.
-    Expression,
-}
-
-/// What a macro makes of its arguments, and what it writes.
-#[derive(Clone, Copy)]
-pub struct Rule {
-    /// Which argument is the format string.
-    pub form: Form,
-    /// What a lone argument is.
-    pub lone: Lone,
-    /// Whether a newline is written behind the text.
-    pub ends_line: bool,
 }
 
 /// A macro of a table.
@@ -53,213 +33,143 @@ pub struct Table<'a> {
     pub rows: Vec<Row<'a>>,
 }
 
-/// `format!` and the like.
-const TEXT: Rule = Rule {
-    form: Form::At(0),
-    lone: Lone::Format,
-    ends_line: false,
-};
-
-/// `println!` and the like.
-const LINE: Rule = Rule {
-    form: Form::At(0),
-    lone: Lone::Format,
-    ends_line: true,
-};
-
-/// `write!`
-const WRITE: Rule = Rule {
-    form: Form::At(1),
-    lone: Lone::Format,
-    ends_line: false,
-};
-
-/// `writeln!`
-const WRITE_LINE: Rule = Rule {
-    form: Form::At(1),
-    lone: Lone::Format,
-    ends_line: true,
-};
-
-/// `panic!` and `unreachable!`
-const PANIC: Rule = Rule {
-    form: Form::At(0),
-    lone: Lone::ByEdition,
-    ends_line: false,
-};
-
-/// `assert!` and `debug_assert!`
-const ASSERT: Rule = Rule {
-    form: Form::At(1),
-    lone: Lone::ByEdition,
-    ends_line: false,
-};
-
-/// `assert_eq!` and the like.
-const COMPARED: Rule = Rule {
-    form: Form::At(2),
-    lone: Lone::Format,
-    ends_line: false,
-};
-
 /// The macros of the standard library.
 const STANDARD: [Row<'static>; 20] = [
     Row {
         name: "format",
-        rule: TEXT,
+        rule: Rule::At(0),
     },
     Row {
         name: "format_args",
-        rule: TEXT,
+        rule: Rule::At(0),
     },
     Row {
         name: "print",
-        rule: TEXT,
+        rule: Rule::At(0),
     },
     Row {
         name: "println",
-        rule: LINE,
+        rule: Rule::At(0),
     },
     Row {
         name: "eprint",
-        rule: TEXT,
+        rule: Rule::At(0),
     },
     Row {
         name: "eprintln",
-        rule: LINE,
+        rule: Rule::At(0),
     },
     Row {
         name: "write",
-        rule: WRITE,
+        rule: Rule::At(1),
     },
     Row {
         name: "writeln",
-        rule: WRITE_LINE,
+        rule: Rule::At(1),
     },
     Row {
         name: "panic",
-        rule: PANIC,
+        rule: Rule::ByEdition(0),
     },
     Row {
         name: "unreachable",
-        rule: PANIC,
+        rule: Rule::ByEdition(0),
     },
     Row {
         name: "todo",
-        rule: TEXT,
+        rule: Rule::At(0),
     },
     Row {
         name: "unimplemented",
-        rule: TEXT,
+        rule: Rule::At(0),
     },
     Row {
         name: "assert",
-        rule: ASSERT,
+        rule: Rule::ByEdition(1),
     },
     Row {
         name: "debug_assert",
-        rule: ASSERT,
+        rule: Rule::ByEdition(1),
     },
     Row {
         name: "assert_eq",
-        rule: COMPARED,
+        rule: Rule::At(2),
     },
     Row {
         name: "assert_ne",
-        rule: COMPARED,
+        rule: Rule::At(2),
     },
     Row {
         name: "debug_assert_eq",
-        rule: COMPARED,
+        rule: Rule::At(2),
     },
     Row {
         name: "debug_assert_ne",
-        rule: COMPARED,
+        rule: Rule::At(2),
     },
     Row {
         name: "assert_matches",
-        rule: COMPARED,
+        rule: Rule::At(2),
     },
     Row {
         name: "debug_assert_matches",
-        rule: COMPARED,
+        rule: Rule::At(2),
     },
 ];
-
-/// `info!` and the like.
-const FIELDS: Rule = Rule {
-    form: Form::AfterFields,
-    lone: Lone::Expression,
-    ends_line: false,
-};
-
-/// `anyhow!` and the like.
-const MESSAGE: Rule = Rule {
-    form: Form::At(0),
-    lone: Lone::Expression,
-    ends_line: false,
-};
-
-/// `ensure!`
-const ENSURE: Rule = Rule {
-    form: Form::At(1),
-    lone: Lone::Expression,
-    ends_line: false,
-};
 
 /// Macros of the crates log, tracing, slog, anyhow and eyre.
 const CRATES: [Row<'static>; 13] = [
     Row {
         name: "error",
-        rule: FIELDS,
+        rule: Rule::AfterFields,
     },
     Row {
         name: "warn",
-        rule: FIELDS,
+        rule: Rule::AfterFields,
     },
     Row {
         name: "info",
-        rule: FIELDS,
+        rule: Rule::AfterFields,
     },
     Row {
         name: "debug",
-        rule: FIELDS,
+        rule: Rule::AfterFields,
     },
     Row {
         name: "trace",
-        rule: FIELDS,
+        rule: Rule::AfterFields,
     },
     Row {
         name: "crit",
-        rule: FIELDS,
+        rule: Rule::AfterFields,
     },
     Row {
         name: "log",
-        rule: FIELDS,
+        rule: Rule::AfterFields,
     },
     Row {
         name: "event",
-        rule: FIELDS,
+        rule: Rule::AfterFields,
     },
     Row {
         name: "anyhow",
-        rule: MESSAGE,
+        rule: Rule::At(0),
     },
     Row {
         name: "eyre",
-        rule: MESSAGE,
+        rule: Rule::At(0),
     },
     Row {
         name: "format_err",
-        rule: MESSAGE,
+        rule: Rule::At(0),
     },
     Row {
         name: "bail",
-        rule: MESSAGE,
+        rule: Rule::At(0),
     },
     Row {
         name: "ensure",
-        rule: ENSURE,
+        rule: Rule::At(1),
     },
 ];
 

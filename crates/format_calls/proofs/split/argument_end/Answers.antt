@@ -1,5 +1,5 @@
 use Rattle.std.proofs.Common.{◌≡◌, ◌++◌, sym, subst, arith, false, [], ◌∷◌}
-use Rattle.format_calls.specs.declared.modes.Mode.TheVariants.{Plain}
+use Rattle.format_calls.specs.declared.modes.Mode.TheVariants.{Start}
 use Rattle.format_calls.specs.Arguments.{Walks, is_end}
 use Rattle.format_calls.specs.Modes.{mode_after}
 use Rattle.format_calls.proofs.Walking.{depth-grows, tree-within, walks-more}
@@ -11,20 +11,20 @@ loop-end-preserved c =
     let i = c.loop-end.invariant in
     let t = tree-within xs c.args.opening c.args.to c.loop-end.end c.behind_tree-end.result
     c.requires.pair c.behind_tree-end.ensures (omega arith) (omega arith) in
-    let m : c.mode_after-mode.result ≡ mode_after xs c.args.from c.loop-end.end c.loop-end.mode =
-    subst (λ v. c.mode_after-mode.result ≡ mode_after v c.args.from c.loop-end.end c.loop-end.mode)
+    let m : c.mode_after-mode.result ≡ mode_after xs c.loop-end.end c.loop-end.mode =
+    subst (λ v. c.mode_after-mode.result ≡ mode_after v c.loop-end.end c.loop-end.mode)
     c.tokens-tokens.ensures c.mode_after-mode.ensures in
     let e : is_end xs c.loop-end.end c.loop-end.mode ≡ false =
     sym (subst (λ v. false ≡ is_end v c.loop-end.end c.loop-end.mode) c.tokens-tokens.ensures
     c.if-not-is_end.ensures) in
-    let d = depth-grows xs c.args.from c.loop-end.end c.loop-end.mode in
+    let d = depth-grows xs c.loop-end.end c.loop-end.mode in
     record {
       walks = (
         i.walks.0 ++ c.behind_tree-end.result ∷ [],
-        subst (λ n. Walks xs c.args.from c.args.from (Plain false)
+        subst (λ n. Walks xs c.args.from (Start false)
             (i.walks.0 ++ c.behind_tree-end.result ∷ []) c.behind_tree-end.result n) (sym m)
-            (walks-more xs c.args.from c.args.from c.loop-end.end c.behind_tree-end.result
-            (Plain false) c.loop-end.mode i.walks.0 i.walks.1 c.behind_tree-end.ensures e),
+            (walks-more xs c.args.from c.loop-end.end c.behind_tree-end.result
+            (Start false) c.loop-end.mode i.walks.0 i.walks.1 c.behind_tree-end.ensures e),
       );
       behind = omega (arith, t, i.behind);
       within = t.1;
