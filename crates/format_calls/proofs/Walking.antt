@@ -1,9 +1,9 @@
 -- Walks over trees.
-use Rattle.std.proofs.Common.{◌≡◌, ◌<◌, ◌≤◌, ◌+◌, ◌++◌, ◌⊎◌, ℕ, false, List, [], ◌∷◌}
+use Rattle.std.proofs.Common.{◌≡◌, ◌<◌, ◌≤◌, ◌+◌, ◌++◌, ℕ, false, List, [], ◌∷◌}
 use Rattle.std.proofs.Common.{Some, None}
 use Rattle.std.proofs.Common.{inl, inr, refl, sym, subst, arith, Option}
-use Rattle.std.specs.Prelude.{Bool, IsTrue, codes, not, nat_lt, slice_get, true, ◌&&◌, ◌||◌}
-use Rattle.std.proofs.lemmas.Bool.{and_parts, cond_both}
+use Rattle.std.specs.Prelude.{Bool, codes, not, nat_lt, slice_get, true, ◌&&◌, ◌||◌}
+use Rattle.std.proofs.lemmas.Bool.{cond_both}
 use Rattle.std.proofs.lemmas.List.{append-nil}
 use Rattle.std.proofs.lemmas.Option.{none-some, same_Some}
 use Rattle.rust_trees.specs.Leaves.{Leaf}
@@ -15,8 +15,7 @@ use Rattle.format_calls.specs.declared.modes.Mode.TheVariants.{Parameters}
 use Rattle.format_calls.specs.Marks.{is_mark, is_mark_of}
 use Rattle.format_calls.specs.Modes.{closes_list, depth_of, is_arrow, is_double, is_operator}
 use Rattle.format_calls.specs.Modes.{is_prefix, is_text, mode_after, mode_behind, opens_list}
-use Rattle.format_calls.specs.Arguments.{AreArguments, IsArgument, IsTree, Walks, is_end}
-use Rattle.format_calls.specs.Arguments.{is_plain_mode}
+use Rattle.format_calls.specs.Arguments.{AreArguments, IsTree, Walks, is_end}
 use Rattle.format_calls.specs.declared.split.Argument.{Argument}
 
 pub tree-in-front : (xs : List Leaf) (i j : ℕ)
@@ -80,15 +79,6 @@ depth-grows xs i (Angles d) =
 depth-grows xs i Parameters =
     cond_both {A = Mode} (is_mark 124 xs i) _ _ (λ n. depth_of n ≤ 0 + 1)
     (λ e. omega arith) (λ e. omega arith)
-
--- A comma ends an argument that does not end with its list.
-pub ends-at-comma : (xs : List Leaf) (from end to : ℕ) → IsArgument xs from end to
-    → (end ≡ to → ⊥) → IsTrue (is_mark 44 xs end)
-ends-at-comma xs from end to a f = by_end a.ends
-  where
-    by_end : IsTrue (is_end xs end a.mode) ⊎ (end ≡ to) → IsTrue (is_mark 44 xs end)
-    by_end (inl e) = (and_parts (is_plain_mode a.mode) (is_mark 44 xs end) e).1
-    by_end (inr e) = absurd (f e)
 
 -- The arguments so far, and all that may follow them.
 abbrev pub SoFar : List Leaf → ℕ → List Argument → ℕ → ℕ → Type 0

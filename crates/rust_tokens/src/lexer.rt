@@ -74,6 +74,26 @@ fn next_step(text: &str) -> Option<Step<'_>>
     any_step(text)
 }
 
+/// Returns the first token of a text that is not the start of a file, and what is left after it, or
+/// `None` if the text is empty.
+pub fn split_first_token(text: &str) -> Option<(Token, &str)>
+    ensures begins { IfSome result (λ t. (x : Lexeme) × Begins x (chars text.now) (chars t.1.now)
+        × (t.0 ≡ token_at 0 x)) }
+    ensures fewer { IfSome result (λ t. length t.1.now < length text.now) }
+    ensures none { IsNone result → chars text.now ≡ [] }
+{
+    let Some(step) = next_step(text) else {
+        return None;
+    };
+    let token = Token {
+        kind: step.kind,
+        span: 0..text.len() - step.rest.len(),
+        suffix_start: text.len() - step.suffix.len(),
+        is_ended: step.is_ended,
+    };
+    Some((token, step.rest))
+}
+
 /// Returns the first token of a text that is not the start of a file, or `None` if the text is
 /// empty.
 pub fn first_token(text: &str) -> Option<Token>
@@ -81,15 +101,10 @@ pub fn first_token(text: &str) -> Option<Token>
         × (t ≡ token_at 0 x)) }
     ensures none { IsNone result → chars text.now ≡ [] }
 {
-    let Some(step) = next_step(text) else {
-        return None;
-    };
-    Some(Token {
-        kind: step.kind,
-        span: 0..text.len() - step.rest.len(),
-        suffix_start: text.len() - step.suffix.len(),
-        is_ended: step.is_ended,
-    })
+    match split_first_token(text) {
+        Some((token, _)) => Some(token),
+        None => None,
+    }
 }
 
 /// Returns whether a token is white space or a comment that documents nothing.

@@ -2,7 +2,7 @@
 use Rattle.std.proofs.Common.{◌≡◌, ◌++◌, ℕ, ◌+◌, ◌-◌, ◌<◌, ◌≤◌, Bool, true, false, List, [], ◌∷◌}
 use Rattle.std.proofs.Common.{refl}
 use Rattle.std.proofs.Common.{ap, sym, ◌∙◌, subst, length, length-append, arith, chars, IsUtf8}
-use Rattle.std.proofs.Common.{take, drop}
+use Rattle.std.proofs.Common.{take}
 use Rattle.std.specs.Prelude.{IsTrue, encode_utf8_all, if◌then◌else◌, nat_lt}
 use Rattle.std.specs.Str.{IsCharBoundary}
 use Rattle.std.specs.List.{list_all}
@@ -11,9 +11,8 @@ use Rattle.std.proofs.lemmas.List.{append_assoc, map-append}
 use Rattle.std.proofs.lemmas.Str.{encodes-chars, encodes-append, IsCharBoundary-at_seam}
 use Rattle.std.proofs.lemmas.Bool.{and_parts, false≢true}
 use Rattle.std.specs.Char.{len_utf8}
-use Rattle.std.proofs.lemmas.Str.{chars-encodes, scalars-chars, len_utf8_bounds}
-use Rattle.std.proofs.Math.Seq.{take-append_seam, drop-append_seam}
-use Rattle.std.proofs.Math.Utf8.{scalars}
+use Rattle.std.proofs.lemmas.Str.{len_utf8_bounds}
+use Rattle.std.proofs.Math.Seq.{take-append_seam}
 use Rattle.rust_tokens.specs.declared.kinds.Kind.{Kind}
 use Rattle.rust_tokens.specs.declared.kinds.Kind.TheVariants.{Shebang, ByteOrderMark}
 use Rattle.rust_tokens.specs.Texts.{Text}
@@ -22,7 +21,6 @@ use Rattle.rust_tokens.specs.Files.{is_head, ReadsFile}
 use Rattle.rust_tokens.specs.declared.kinds.Token.{Token}
 use Rattle.rust_tokens.specs.Placed.{byte_length, end_of, end_of_all, token_at}
 use Rattle.rust_tokens.proofs.Readings.{byte-length, reads-more, end-more}
-use Rattle.rust_tokens.proofs.NotEmpty.{body-bytes}
 use Rattle.rust_trees.specs.Leaves.{Leaf, leaf_at, leaves, is_leaf, is_some_text}
 
 -- The tokens xs were read from a file, rest is left, and these are left of them.
@@ -36,70 +34,41 @@ pub record IsRead (whole : List ℕ) (found : List Leaf) (rest : List ℕ) : Typ
   pub is_found : found ≡ leaves (end_of_all 0 head) read
   pub bytes : end_of_all (end_of_all 0 head) read + length rest ≡ length whole
 
--- A text cut behind its first token.
-pub record Cut (rest : List ℕ) (x : Lexeme) (r : Text) : Type 0 where
-  pub joins : rest ≡ encode_utf8_all (x.body ++ x.suffix) ++ encode_utf8_all r
+-- A text is cut behind its first token.
+pub record Cut (rest behind : List ℕ) (x : Lexeme) : Type 0 where
+  pub joins : rest ≡ encode_utf8_all (x.body ++ x.suffix) ++ behind
   pub size : length (encode_utf8_all (x.body ++ x.suffix)) ≡ end_of 0 x
-  pub utf8 : IsUtf8 (encode_utf8_all r)
-  pub same : chars (encode_utf8_all r) ≡ r
 
-scalars-rest : (xs ys : Text) → scalars (xs ++ ys) ≡ true → scalars ys ≡ true
-scalars-rest [] ys h = h
-scalars-rest (c ∷ xs) ys h = scalars-rest xs ys (and_parts _ _ h).1
-
-pub cut : (rest : List ℕ) (x : Lexeme) (r : Text) → IsUtf8 rest → Begins x (chars rest) r
-    → Cut rest x r
-cut rest x r u b =
-    let e : chars rest ≡ (x.body ++ x.suffix) ++ r =
-    b.joins ∙ sym (append_assoc x.body x.suffix r) in
-    let s : scalars r ≡ true =
-    scalars-rest (x.body ++ x.suffix) r (ap (λ t. scalars t) (sym e) ∙ scalars-chars rest u) in
+cut : (rest behind : List ℕ) (x : Lexeme) → IsUtf8 rest → IsUtf8 behind
+    → Begins x (chars rest) (chars behind) → Cut rest behind x
+cut rest behind x u v b =
+    let e : chars rest ≡ (x.body ++ x.suffix) ++ chars behind =
+    b.joins ∙ sym (append_assoc x.body x.suffix (chars behind)) in
     let n = ap (λ t. length t) (encodes-append x.body x.suffix)
     ∙ length-append (encode_utf8_all x.body) (encode_utf8_all x.suffix) in
     let l = byte-length x.body in
     let m = byte-length x.suffix in record {
       joins = sym (encodes-chars rest u) ∙ (ap (λ t. encode_utf8_all t) e
-          ∙ encodes-append (x.body ++ x.suffix) r);
+          ∙ (encodes-append (x.body ++ x.suffix) (chars behind)
+          ∙ ap (λ t. encode_utf8_all (x.body ++ x.suffix) ++ t) (encodes-chars behind v)));
       size = omega (arith, n, l, m);
-      utf8 = (r, (s, refl));
-      same = chars-encodes r s;
     }
 
-pub cut-boundary : (rest : List ℕ) (x : Lexeme) (r : Text) → IsUtf8 rest
-    → Begins x (chars rest) r → IsCharBoundary rest (end_of 0 x)
-cut-boundary rest x r u b =
-    let c = cut rest x r u b in
+pub cut-boundary : (rest behind : List ℕ) (x : Lexeme) → IsUtf8 rest → IsUtf8 behind
+    → Begins x (chars rest) (chars behind) → IsCharBoundary rest (end_of 0 x)
+cut-boundary rest behind x u v b =
+    let c = cut rest behind x u v b in
     subst (λ n. IsCharBoundary rest n) c.size
-    (IsCharBoundary-at_seam rest _ _ c.joins c.utf8)
+    (IsCharBoundary-at_seam rest _ behind c.joins v)
 
-pub cut-front : (rest : List ℕ) (x : Lexeme) (r : Text) → IsUtf8 rest → Begins x (chars rest) r
+cut-front : (rest behind : List ℕ) (x : Lexeme) → IsUtf8 rest → IsUtf8 behind
+    → Begins x (chars rest) (chars behind)
     → take (end_of 0 x) rest ≡ encode_utf8_all (x.body ++ x.suffix)
-cut-front rest x r u b =
-    let c = cut rest x r u b in
+cut-front rest behind x u v b =
+    let c = cut rest behind x u v b in
     ap (λ n. take n rest) (sym c.size)
     ∙ (ap (λ t. take (length (encode_utf8_all (x.body ++ x.suffix))) t) c.joins
-    ∙ take-append_seam (encode_utf8_all (x.body ++ x.suffix)) (encode_utf8_all r))
-
-pub cut-back : (rest : List ℕ) (x : Lexeme) (r : Text) → IsUtf8 rest → Begins x (chars rest) r
-    → drop (end_of 0 x) rest ≡ encode_utf8_all r
-cut-back rest x r u b =
-    let c = cut rest x r u b in
-    ap (λ n. drop n rest) (sym c.size)
-    ∙ (ap (λ t. drop (length (encode_utf8_all (x.body ++ x.suffix))) t) c.joins
-    ∙ drop-append_seam (encode_utf8_all (x.body ++ x.suffix)) (encode_utf8_all r))
-
--- What is left is shorter.
-pub cut-shorter : (rest behind : List ℕ) (x : Lexeme) (r : Text) → IsUtf8 rest
-    → Begins x (chars rest) r → behind ≡ drop (end_of 0 x) rest
-    → (0 < end_of 0 x) × (length behind + end_of 0 x ≡ length rest)
-cut-shorter rest behind x r u b e =
-    let c = cut rest x r u b in
-    let n = ap (λ t. length t) c.joins
-    ∙ length-append (encode_utf8_all (x.body ++ x.suffix)) (encode_utf8_all r) in
-    let m = ap (λ t. length t) (e ∙ cut-back rest x r u b) in
-    let s = c.size in
-    let f = body-bytes x (chars rest) r b in
-    (omega (arith, f), omega (arith, n, m, s))
+    ∙ take-append_seam (encode_utf8_all (x.body ++ x.suffix)) behind)
 
 -- The tokens of which one more was read.
 if-append : (b : Bool) (l : Leaf) (ls ms : List Leaf)
@@ -144,14 +113,16 @@ read-none whole rest hs h j e = record {
   bytes = e;
 }
 
-pub read-more : (whole rest behind : List ℕ) (found more : List Leaf) (x : Lexeme) (r : Text)
-    → IsUtf8 rest → Begins x (chars rest) r → behind ≡ drop (end_of 0 x) rest
+pub read-more : (whole rest behind : List ℕ) (found more : List Leaf) (x : Lexeme)
+    → IsUtf8 rest → IsUtf8 behind → Begins x (chars rest) (chars behind)
     → IsRead whole found rest
     → more ≡ (if is_leaf x.kind x.is_ended then leaf_at (length whole - length rest) x ∷ [] else [])
     → IsRead whole (found ++ more) behind
-read-more whole rest behind found more x r u b d h e =
-    let c = cut rest x r u b in
-    let l = cut-shorter rest behind x r u b d in
+read-more whole rest behind found more x u v b h e =
+    let c = cut rest behind x u v b in
+    let l = ap (λ t. length t) c.joins
+    ∙ length-append (encode_utf8_all (x.body ++ x.suffix)) behind in
+    let s = c.size in
     let n = h.bytes in
     let start : length whole - length rest ≡ end_of_all (end_of_all 0 h.head) h.read =
     omega (arith, n) in
@@ -161,12 +132,10 @@ read-more whole rest behind found more x r u b d h e =
       read = h.read ++ x ∷ [];
       is_head = h.is_head;
       joins = h.joins;
-      reads = subst (λ t. ReadsTo h.start (h.read ++ x ∷ []) t)
-          (sym (ap (λ t. chars t) (d ∙ cut-back rest x r u b) ∙ c.same))
-          (reads-more h.start h.read (chars rest) x r h.reads b);
+      reads = reads-more h.start h.read (chars rest) x (chars behind) h.reads b;
       is_found = rw (h.is_found, e, start)
           (sym (leaves-append (end_of_all 0 h.head) h.read (x ∷ [])));
-      bytes = omega (arith, m, n, l.1);
+      bytes = omega (arith, m, n, l, s);
     }
 
 -- The whole file was read.
@@ -187,15 +156,10 @@ suffix-test n (c ∷ t) =
     let more : n < n + (len_utf8 c + byte_length t) = omega (arith, l) in
     search (arith, more)
 
--- What is left in the text that is left.
-pub back-utf8 : (rest behind : List ℕ) (x : Lexeme) (r : Text) → IsUtf8 rest
-    → Begins x (chars rest) r → behind ≡ drop (end_of 0 x) rest → IsUtf8 behind
-back-utf8 rest behind x r u b d = subst (λ t. IsUtf8 t) (sym (d ∙ cut-back rest x r u b))
-    (cut rest x r u b).utf8
-
 -- The token as it is kept.
-pub leaf-of : (t : Token) (x : Lexeme) (front rest : List ℕ) (r : Text) (at : ℕ) → IsUtf8 rest
-    → Begins x (chars rest) r → t ≡ token_at 0 x → front ≡ take t.span.end rest
+pub leaf-of : (t : Token) (x : Lexeme) (front rest behind : List ℕ) (at : ℕ) → IsUtf8 rest
+    → IsUtf8 behind → Begins x (chars rest) (chars behind) → t ≡ token_at 0 x
+    → front ≡ take t.span.end rest
     → ◌≡◌ {A = Leaf} (record {
       kind = t.kind;
       is_ended = t.is_ended;
@@ -203,9 +167,9 @@ pub leaf-of : (t : Token) (x : Lexeme) (front rest : List ℕ) (r : Text) (at : 
       text = front;
       start = at;
     }) (leaf_at at x)
-leaf-of t x front rest r at u b e f =
+leaf-of t x front rest behind at u v b e f =
     let text : front ≡ encode_utf8_all (x.body ++ x.suffix) =
-    f ∙ (ap (λ s. take s.span.end rest) e ∙ cut-front rest x r u b) in
+    f ∙ (ap (λ s. take s.span.end rest) e ∙ cut-front rest behind x u v b) in
     let suffix : nat_lt t.suffix_start t.span.end ≡ is_some_text x.suffix =
     ap (λ s. nat_lt s.suffix_start s.span.end) e
     ∙ suffix-test (0 + byte_length x.body) x.suffix in

@@ -6,7 +6,7 @@ ghost use Rattle.rust_tokens.specs.Tokens.{Lexeme};
 ghost use Rattle.rust_trees.specs.Leaves.{is_leaf, leaf, leaves, side};
 
 use crate::sides::{Side, side_of};
-use rust_tokens::{Kind, behind_head, first_token};
+use rust_tokens::{Kind, behind_head, split_first_token};
 use std::alloc::{AllocError, Global};
 
 /// A token of a file.
@@ -57,14 +57,13 @@ pub fn leaves(alloc: Global, text: &str) -> Result<Vec<Token<'_>>, AllocError>
 {
     let mut rest = behind_head(text);
     let mut found = Vec::new(alloc);
-    while let Some(token) = first_token(rest) {
-        let (front, behind) = rest.split_at(token.span.end);
+    while let Some((token, behind)) = split_first_token(rest) {
         if is_leaf(token.kind, token.is_ended) {
             found.push(Token {
                 kind: token.kind,
                 is_ended: token.is_ended,
                 has_suffix: token.suffix_start < token.span.end,
-                text: front,
+                text: &rest[..token.span.end],
                 start: text.len() - rest.len(),
             })?;
         }

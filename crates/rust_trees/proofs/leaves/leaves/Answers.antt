@@ -1,10 +1,10 @@
-use Rattle.std.proofs.Common.{◌≡◌, ◌∙◌, ap, sym, refl, subst, map, ◌∷◌, [], ◌-◌, length}
-use Rattle.std.specs.Prelude.{if◌then◌else◌, true, false, drop}
+use Rattle.std.proofs.Common.{◌≡◌, ◌∙◌, ap, sym, refl, subst, map, ◌∷◌, [], ◌-◌, length, rules}
+use Rattle.std.proofs.Common.{IsUtf8, arith, take}
+use Rattle.std.specs.Prelude.{if◌then◌else◌, true, false}
 use Rattle.std.specs.Str.{IsCharBoundary}
 use Rattle.std.proofs.lemmas.List.{append-nil}
-use Rattle.rust_tokens.specs.Placed.{end_of}
 use Rattle.rust_trees.specs.Leaves.{Leaf, leaf, leaf_at, is_leaf}
-use Rattle.rust_trees.proofs.LeavesRead.{cut-boundary, back-utf8, read-all}
+use Rattle.rust_trees.proofs.LeavesRead.{cut-boundary, read-all}
 use Rattle.rust_trees.proofs.LeavesRead.{read-none, read-more, leaf-of, map-push, IsRead}
 use Rattle.rust_trees.proofs.leaves.leaves.Goals as goal
 
@@ -17,44 +17,45 @@ loop-token-init c =
       utf8 = c.behind_head-rest.utf8;
     }
 
-pub split_at-requires : goal.split_at-requires
-split_at-requires c =
+pub range-requires-clause-end_boundary : goal.range-requires-clause-end_boundary
+range-requires-clause-end_boundary c =
     let b = c.in-Some.ensures.begins in
-    subst (λ n. IsCharBoundary c.loop-token.rest.now n) (sym (ap (λ t. t.span.end) b.3))
-    (cut-boundary c.loop-token.rest.now b.0 b.1 c.loop-token.invariant.utf8 b.2)
+    let u : IsUtf8 c.in-Some.behind.now = search rules in
+    subst (λ n. IsCharBoundary c.loop-token.rest.now n) (sym (ap (λ t. t.span.end) b.2))
+    (cut-boundary _ _ b.0 c.loop-token.invariant.utf8 u b.1)
 
 pub loop-token-preserved-in_ok-push : goal.loop-token-preserved-in_ok-push
 loop-token-preserved-in_ok-push c =
     let b = c.in-Some.ensures.begins in
-    let d : c.split_at.result.1.now ≡ drop (end_of 0 b.0) c.loop-token.rest.now =
-    c.split_at.ensures.back ∙ ap (λ t. drop t.span.end c.loop-token.rest.now) b.3 in
+    let u : IsUtf8 c.in-Some.behind.now = search rules in
     let yes : is_leaf b.0.kind b.0.is_ended ≡ true =
-    ap (λ t. is_leaf t.kind t.is_ended) (sym b.3) ∙ sym c.if-is_leaf.ensures in
+    ap (λ t. is_leaf t.kind t.is_ended) (sym b.2) ∙ sym c.if-is_leaf.ensures in
     let x : Leaf = leaf_at (length c.args.text.now - length c.loop-token.rest.now) b.0 in
+    let n : c.in-Some.token.span.end - 0 ≡ c.in-Some.token.span.end = omega arith in
+    let front = c.range.ensures.value ∙ ap (λ k. take k c.loop-token.rest.now) n in
     record {
-      is_read = subst (λ v. IsRead c.args.text.now v c.split_at.result.1.now)
+      is_read = subst (λ v. IsRead c.args.text.now v c.in-Some.behind.now)
           (sym (map-push leaf _ _ _ x c.in_ok-push.ensures.items
-          (leaf-of _ b.0 _ _ b.1 _ c.loop-token.invariant.utf8 b.2 b.3 c.split_at.ensures.front)))
-          (read-more _ _ _ _ (x ∷ []) b.0 b.1 c.loop-token.invariant.utf8 b.2 d
+          (leaf-of _ b.0 _ _ _ _ c.loop-token.invariant.utf8 u b.1 b.2 front)))
+          (read-more _ _ _ _ (x ∷ []) b.0 c.loop-token.invariant.utf8 u b.1
           c.loop-token.invariant.is_read (sym (ap (λ t. if t then x ∷ [] else []) yes)));
-      utf8 = back-utf8 _ _ b.0 b.1 c.loop-token.invariant.utf8 b.2 d;
+      utf8 = search rules;
     }
 
 pub loop-token-preserved : goal.loop-token-preserved
 loop-token-preserved c =
     let b = c.in-Some.ensures.begins in
-    let d : c.split_at.result.1.now ≡ drop (end_of 0 b.0) c.loop-token.rest.now =
-    c.split_at.ensures.back ∙ ap (λ t. drop t.span.end c.loop-token.rest.now) b.3 in
+    let u : IsUtf8 c.in-Some.behind.now = search rules in
     let no : is_leaf b.0.kind b.0.is_ended ≡ false =
-    ap (λ t. is_leaf t.kind t.is_ended) (sym b.3) ∙ sym c.if-is_leaf.ensures in
+    ap (λ t. is_leaf t.kind t.is_ended) (sym b.2) ∙ sym c.if-is_leaf.ensures in
     record {
-      is_read = subst (λ v. IsRead c.args.text.now v c.split_at.result.1.now)
+      is_read = subst (λ v. IsRead c.args.text.now v c.in-Some.behind.now)
           (append-nil (map leaf c.loop-token.found.items))
-          (read-more _ _ _ _ [] b.0 b.1 c.loop-token.invariant.utf8 b.2 d
+          (read-more _ _ _ _ [] b.0 c.loop-token.invariant.utf8 u b.1
           c.loop-token.invariant.is_read
           (sym (ap (λ t. if t then leaf_at
           (length c.args.text.now - length c.loop-token.rest.now) b.0 ∷ [] else []) no)));
-      utf8 = back-utf8 _ _ b.0 b.1 c.loop-token.invariant.utf8 b.2 d;
+      utf8 = search rules;
     }
 
 pub returns : goal.returns
