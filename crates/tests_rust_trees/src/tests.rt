@@ -1,0 +1,256 @@
+//! Trees, places and calls of small files. Places are those that rustc 1.95 tells; the other
+//! expected values are worked out by hand from the Rust Reference.
+
+use crate::strings::format_strings;
+use format_calls::{Reason, Row, Table, arguments, calls, format_string};
+use rust_trees::{Break, Source, place_at};
+use std::alloc::{AllocError, Global};
+use std::io::Print;
+use std::process::Abort;
+use std::test::Fail;
+
+/// Where the tokens break: nowhere, at a token that is not closed, or at one that is unexpected.
+fn breaks(source: &Source<'_>) -> (usize, usize) {
+    match source.broken() {
+        None => (0, 0),
+        Some(Break::Unclosed(index)) => (1, index),
+        Some(Break::Unexpected(index)) => (2, index),
+    }
+}
+
+#[test]
+fn trees(rt: HostRuntime) -> Result<(), Fail> {
+    let alloc = rt.alloc();
+    // a file, how many tokens it has, where they break, and the partner of the first token
+    let rows = [
+        ("", 0, (0, 0), None),
+        ("a /* ( */ b // )\n", 2, (0, 0), None),
+        ("(a[b]{c})", 9, (0, 0), Some(8)),
+        ("()()", 4, (0, 0), Some(1)),
+        ("([)]", 4, (2, 2), None),
+        ("(a b", 3, (1, 0), None),
+        ("(a) [ {} (", 7, (1, 6), Some(2)),
+        (") ()", 3, (2, 0), None),
+        ("() ) (", 4, (2, 2), Some(1)),
+        ("( /* )", 2, (1, 0), None),
+        ("(\")\" ')' r#\")\"#)", 5, (0, 0), Some(4)),
+        ("\u{feff}#!a (\n()", 2, (0, 0), Some(1)),
+    ];
+    for (text, count, broken, partner) in rows {
+        let source = Source::new(alloc, text)?;
+        assert_eq!(&rt; source.tokens().len(), count);
+        assert!(&rt; breaks(&source) == broken);
+        assert!(&rt; source.partner(0) == partner);
+    }
+    Ok(())
+}
+
+#[test]
+fn places(rt: HostRuntime) -> Result<(), Fail> {
+    // a file, and the line and column of its first `y`
+    let rows = [
+        (
+            "\u{feff}fn main() {\r\n    let x = \"é\"; y;\r\n}\r\n",
+            2,
+            18,
+        ),
+        ("\u{feff}y!(1);\nfn main() {}\n", 1, 1),
+        ("fn main() {\n/* a\r\n b */ y;\n}\n", 3, 7),
+    ];
+    for (text, line, column) in rows {
+        if let Some(offset) = text.find('y') {
+            let place = place_at(text, offset);
+            assert_eq!(&rt; place.line, line);
+            assert_eq!(&rt; place.column, column);
+        }
+    }
+    Ok(())
+}
+
+/// The calls of a file have these names and closing delimiters, by the indices of tokens.
+fn check(
+    rt: &impl Abort,
+    alloc: Global,
+    table: &Table<'_>,
+    text: &str,
+    expected: &[(usize, usize)],
+) -> Result<(), Fail> {
+    let source = Source::new(alloc, text)?;
+    let found = calls(alloc, &source, table)?;
+    assert_eq!(rt; found.len(), expected.len());
+    for i in 0..expected.len() {
+        assert!(rt; i < found.len() && found[i].name == expected[i].0);
+        assert!(rt; i < found.len() && found[i].close == expected[i].1);
+    }
+    Ok(())
+}
+
+#[test]
+fn macro_calls(rt: HostRuntime) -> Result<(), Fail> {
+    let alloc = rt.alloc();
+    let mut table = Table::standard(alloc)?;
+    check(&rt, alloc, &table, "println!(\"a\");", &[(0, 4)])?;
+    check(
+        &rt,
+        alloc,
+        &table,
+        "a::print /* b */ ! [] panic!{}",
+        &[(3, 6), (7, 10)],
+    )?;
+    check(
+        &rt,
+        alloc,
+        &table,
+        "r#write!(f, \"\", format!(\"\"))",
+        &[(0, 12), (7, 11)],
+    )?;
+    check(&rt, alloc, &table, "$todo!() todo() todo! a != (b)", &[])?;
+    check(&rt, alloc, &table, "( ] assert!(a) panic!(", &[(2, 6)])?;
+    check(&rt, alloc, &table, "info!(\"a\")", &[])?;
+    let crates = Table::of_crates(alloc)?;
+    for row in &crates.rows {
+        table.add(*row)?;
+    }
+    check(
+        &rt,
+        alloc,
+        &table,
+        "info!(\"a\") print!()",
+        &[(0, 4), (5, 8)],
+    )
+}
+
+/// The number of a result: of an argument, or of a reason behind 10.
+fn number(string: Result<usize, Reason>) -> usize {
+    match string {
+        Ok(index) => index % 10,
+        Err(Reason::Missing) => 10,
+        Err(Reason::Edition) => 11,
+        Err(Reason::Variable) => 12,
+        Err(Reason::Suffix) => 13,
+        Err(Reason::Macro) => 14,
+        Err(Reason::Expression) => 15,
+    }
+}
+
+#[test]
+fn strings_of_calls(rt: HostRuntime) -> Result<(), Fail> {
+    let alloc = rt.alloc();
+    let mut table = Table::standard(alloc)?;
+    let crates = Table::of_crates(alloc)?;
+    for row in &crates.rows {
+        table.add(*row)?;
+    }
+    // a call, how many arguments it has, how many of them are named, and its format string
+    let rows = [
+        ("println!()", 0, 0, 10),
+        ("println!(\"a\",)", 1, 0, 0),
+        ("write!(f, r\"a\", b, c = d)", 4, 1, 1),
+        (
+            "print!(\"\", a::<B, C>(), x as A<B, C>, <A as B<C, D>>::f())",
+            4,
+            0,
+            0,
+        ),
+        (
+            "print!(\"\", a < b, c > d, |a, b| a + b, x == y, f(a, b))",
+            6,
+            0,
+            0,
+        ),
+        ("print!(\"\", x as u8 <= y, a as fn(A) -> B, c)", 4, 0, 0),
+        ("print!(\"\", r#a = b, c == d, e => f)", 4, 1, 0),
+        (
+            "print!(\"\", move |a, b| a, async move |c, d| c, static || e)",
+            4,
+            0,
+            0,
+        ),
+        (
+            "print!(\"\", a || b, c | d, e || |f, g| f, |h, i| |j, k| j)",
+            5,
+            0,
+            0,
+        ),
+        (
+            "print!(\"\", a = |b, c| b, &mut |d, e| d, return |f, g| f)",
+            4,
+            1,
+            0,
+        ),
+        (
+            "print!(\"\", 1 + <A as B<C, D>>::f(), |a| -> B<C, D> { a }, x as *const *mut A<B, C>)",
+            4,
+            0,
+            0,
+        ),
+        (
+            "print!(\"\", x as usize * y < z, w > v, a << b, c >> d)",
+            5,
+            0,
+            0,
+        ),
+        ("panic!(\"a\")", 1, 0, 11),
+        ("assert!(a)", 1, 0, 10),
+        ("assert!(a, \"b\", c)", 3, 0, 1),
+        ("format!($a, b)", 2, 0, 12),
+        ("format!(\"a\"b)", 1, 0, 13),
+        ("format!(concat!(\"a\", \"b\"), c)", 2, 0, 14),
+        ("format!(a.b)", 1, 0, 15),
+        ("warn!(target: \"a\", \"b {}\", c)", 3, 0, 1),
+        ("bail!(error)", 1, 0, 15),
+    ];
+    for (text, count, named, string) in rows {
+        let source = Source::new(alloc, text)?;
+        let found = calls(alloc, &source, &table)?;
+        assert!(&rt; !found.is_empty());
+        if let Some(call) = found.first() {
+            let list = match arguments(alloc, &source, call.close)? {
+                Some(list) => list,
+                None => Vec::new(alloc),
+            };
+            assert_eq!(&rt; list.len(), count);
+            assert_eq!(&rt;
+                list.iter().filter(|argument| argument.is_named).count(),
+                named
+            );
+            assert_eq!(&rt;
+                number(format_string(&source, call.rule, &list, false)),
+                string
+            );
+        }
+    }
+    Ok(())
+}
+
+#[test]
+fn strings_of_a_file(rt: HostRuntime) -> Result<(), Fail> {
+    let text =
+        "fn f() { println!(r#\"{}\"#, format!(\"{x}\")); assert!(a); write!(f, $b); info!(\"c\") }";
+    let found = format_strings(rt.alloc(), text)?;
+    assert_eq!(&rt; found.len(), 2);
+    assert!(&rt; found.first() == Some(&"r#\"{}\"#") && found.last() == Some(&"\"{x}\""));
+    Ok(())
+}
+
+/// Returns how many calls of the macros of the standard library a file has.
+fn count_of_calls(alloc: Global, text: &str) -> Result<usize, AllocError> {
+    let source = Source::new(alloc, text)?;
+    let table = Table::standard(alloc)?;
+    Ok(calls(alloc, &source, &table)?.len())
+}
+
+/// The test passes whether or not an allocation fails: then the calls are looked for again.
+#[test]
+fn calls_out_of_memory_are_found_again(rt: HostRuntime) -> Result<(), Fail> {
+    let text = "fn f() { println!(\"{}\", format!(\"a\")); }";
+    let count = match count_of_calls(rt.alloc(), text) {
+        Ok(count) => count,
+        Err(_) => {
+            println!(rt; "refused")?;
+            count_of_calls(rt.alloc(), text)?
+        }
+    };
+    assert_eq!(rt; count, 2);
+    Ok(())
+}
