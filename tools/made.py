@@ -43,14 +43,13 @@ def write(files, folder=None):
             path.unlink()
 
 
-def main(about, made, folder=None, faults=lambda: []):
-    """Does what the words say, and returns the status: 1 if a file is not what is made, or if there
-    are other faults."""
+def main(about, made, folder=None):
+    """Does what the words say, and returns the status: 1 if a file is not what is made."""
     is_check = words_of(about, ([], ["--check"])) == ["--check"]
     files = made()
     if not is_check:
         write(files, folder)
         return 0
-    found = [f"{it} is not what {NAME} makes" for it in differing(files, folder)] + [*faults()]
-    print("".join(f"{it}\n" for it in found), end="")
+    found = differing(files, folder)
+    print("".join(f"{it} is not what {NAME} makes\n" for it in found), end="")
     return 1 if found else 0

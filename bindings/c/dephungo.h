@@ -1,5 +1,4 @@
 /* The proved parser of Rust's format strings, for C.
- * Made by tools/records from bindings/records.txt.
  *
  * One call, dephungo_read, reads a whole input and writes the results into buffers of the
  * caller. The library owns nothing and keeps nothing after the call. A record is plain

@@ -6,9 +6,6 @@
 void *__real_malloc(size_t bytes);
 void *__real_realloc(void *old, size_t bytes);
 void __real_free(void *old);
-void *__wrap_malloc(size_t bytes);
-void *__wrap_realloc(void *old, size_t bytes);
-void __wrap_free(void *old);
 
 static long left, held; /* how many requests are granted until one is refused, and how much is held */
 static int counting;
