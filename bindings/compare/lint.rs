@@ -1,10 +1,10 @@
 //! Random literals, over the crate of bindings/rust and over the proved program formatlint: lint
-//! PROGRAM SEED COUNT. What the program writes, without an option and with `--fix`, is what the
-//! crate makes of the literal.
+//! PROGRAM SEED COUNT. What the program writes, without an option, with `--all` and with `--fix`, is
+//! what the crate makes of the literal.
 mod cases;
 use cases::{quoted, Random};
-use dephungo::faults::{draw, errors_of, fix, Picture};
-use dephungo::ParseMode;
+use dephungo::faults::{draw, error_of, faults_of, fix, Fault, Picture};
+use dephungo::{ParseMode, Parser};
 use std::io::Write;
 use std::process::{Command, Stdio};
 
@@ -39,13 +39,49 @@ fn literal(random: &mut Random) -> (String, String, Option<usize>) {
     (quoted(style, &content), text, style)
 }
 
-/// What the program writes of a literal's faults.
-fn drawings(snippet: &str, text: &str, style: Option<usize>, mode: ParseMode) -> String {
-    let errors = errors_of(text, style, Some(snippet.to_string()), false, mode);
+/// The faults of each call of a parser, in the order of its errors.
+fn calls<'t>(
+    snippet: &str,
+    text: &'t str,
+    style: Option<usize>,
+    mode: ParseMode,
+) -> Vec<Vec<Fault<'t>>> {
+    let snippet = || Some(snippet.to_string());
+    let mut faults = faults_of(text, style, snippet(), false, mode).into_iter();
+    let mut parser = Parser::new(text, style, snippet(), false, mode);
+    let mut calls = vec![];
+    while parser.peek().is_some() {
+        parser.next();
+        let mut call = vec![];
+        for fault in faults.by_ref().take(parser.errors.len()) {
+            call.insert(if fault.is_front() { 0 } else { call.len() }, fault);
+        }
+        parser.errors.clear();
+        calls.push(call);
+    }
+    calls
+}
+
+/// What the program writes of a literal's faults: of each call the first, or all with their ids.
+fn drawings(
+    snippet: &str,
+    text: &str,
+    style: Option<usize>,
+    mode: ParseMode,
+    all: bool,
+) -> String {
     let picture = Picture { path: "<stdin>", source: snippet, line_start: 1, literal_start: 0 };
-    let mut out: String = errors.iter().take(10).map(|it| draw(mode, &picture, it)).collect();
-    if errors.len() > 10 {
-        out += &format!("and {} more\n", errors.len() - 10);
+    let mut drawings = vec![];
+    for call in calls(snippet, text, style, mode) {
+        for (at, fault) in call.iter().enumerate().take(if all { call.len() } else { 1 }) {
+            let word = if at == 0 { "fault" } else { "follows" };
+            let line = if all { format!("{word}: {}\n", fault.id()) } else { String::new() };
+            drawings.push(line + &draw(mode, &picture, &error_of(fault)));
+        }
+    }
+    let mut out: String = drawings.iter().take(10).map(String::as_str).collect();
+    if drawings.len() > 10 {
+        out += &format!("and {} more\n", drawings.len() - 10);
     }
     out
 }
@@ -67,13 +103,15 @@ fn main() {
     for _ in 0..count {
         let (snippet, text, style) = literal(&mut random);
         let (name, mode) = MODES[random.below(6) % 4];
-        let drawn = drawings(&snippet, &text, style, mode);
+        let drawn = drawings(&snippet, &text, style, mode, false);
         assert_eq!(said(program, &["--mode", name], &snippet), drawn, "{snippet:?}");
+        let listed = drawings(&snippet, &text, style, mode, true);
+        assert_eq!(said(program, &["--mode", name, "--all"], &snippet), listed, "{snippet:?}");
         faulty += usize::from(!drawn.is_empty());
         let mended = fix(&text, style, &snippet, false, mode).map(|it| (it.snippet, it.text));
         let (kept, text) = mended.unwrap_or_else(|| (snippet.clone(), text));
         fixed += usize::from(kept != snippet);
-        let wanted = format!("{kept}\n{}", drawings(&kept, &text, style, mode));
+        let wanted = format!("{kept}\n{}", drawings(&kept, &text, style, mode, false));
         assert_eq!(said(program, &["--mode", name, "--fix"], &snippet), wanted, "{snippet:?}");
     }
     println!("{count} literals, {faulty} with faults, {fixed} fixed: all agree");

@@ -1,122 +1,59 @@
--- The first errors of all calls, where after each call only the first are kept.
-use Rattle.std.proofs.Common.{◌≡◌, ◌≢◌, ℕ, suc, zero, ◌+◌, ◌-◌, ◌≤◌, ◌++◌, false, true, not}
-use Rattle.std.proofs.Common.{◌<◌, ◌∷◌, length, drop, take, map, reverse, refl, sym, ap, ◌∙◌}
-use Rattle.std.proofs.Common.{arith}
+-- The first faults of all calls, where after each call only the first are kept.
+use Rattle.std.proofs.Common.{◌≡◌, ◌≢◌, ℕ, suc, zero, ◌+◌, ◌-◌, ◌≤◌, ◌<◌, ◌++◌, false, true, Bool}
+use Rattle.std.proofs.Common.{◌∷◌, length, drop, take, refl, sym, ap, ◌∙◌, arith, List, []}
+use Rattle.std.proofs.Common.{append-nil, append_assoc, length-append, nat_lt, subst}
 use Rattle.std.specs.Prelude.{slice_index_or}
-use Rattle.std.proofs.Common.{List, [], append-nil, append_assoc, length-append, min, nat_lt}
-use Rattle.std.specs.List.{filter}
-use Rattle.std.proofs.lemmas.List.{drop-map, drop_at, length-map, length-reverse, length-take}
-use Rattle.std.proofs.lemmas.List.{length-take-le, map-append, take-map, take_all}
-use Rattle.std.proofs.lemmas.List.{take_at}
+use Rattle.std.proofs.lemmas.List.{length-take, take_all, take_at}
+use Rattle.rustc_parse_format.specs.Call.{Call, call}
 use Rattle.rustc_parse_format.specs.Characters.{Text, is_nil}
-use Rattle.rustc_parse_format.specs.Faults.{Fault, Message, add_errors, is_front}
-use Rattle.rustc_parse_format.specs.Faults.{message}
-use Rattle.rustc_parse_format.specs.SeenFaults.{seen_fault}
+use Rattle.rustc_parse_format.specs.Faults.{Fault, Message}
 use Rattle.rustc_parse_format.specs.State.{State, after, next_call}
-use Rattle.rustc_parse_format.specs.declared.faults.Fault.{Fault as DeclaredFault}
-use Rattle.rustc_parse_format.specs.World.{Place, faults_in}
-use Rattle.rustc_parse_format.proofs.Readers.Errors.{add_errors-ends, add_errors-kept}
-use Rattle.rustc_parse_format.proofs.Walking.FaultlessStates.{add_errors-length}
-use Rattle.rustc_parse_format.proofs.Walking.ParserLaws.{count_of_fronts}
-use Rattle.drawn_faults.specs.Fixing.{all_errors, all_faults}
-use Rattle.drawn_faults.proofs.CallFaults.{all_errors-end, all_errors-step}
+use Rattle.rustc_parse_format.specs.Types.{Mode}
+use Rattle.rustc_parse_format.specs.World.{World, Place, faults_in}
+use Rattle.rustc_parse_format.proofs.Walking.Progress.{call-lt}
+use Rattle.format_lint.specs.Findings.{Finding, findings_in, findings_of, findings_within}
 use Rattle.format_lint.specs.Lint.{most_drawn}
-use Rattle.format_lint.specs.SeenLint.{errors_of}
 
--- Of what is behind the first m elements of a list, the first n of the whole have nothing.
-taken : {A : Type 0} (n m : ℕ) (f e b : List A) → n ≤ m
-    → take n (f ++ (take m e ++ b)) ≡ take n (f ++ (e ++ b))
-taken zero m f e b h = refl
-taken (suc n) m (x ∷ f) e b h = ap (λ l. x ∷ l) (taken n m f e b (omega arith))
-taken (suc n) zero [] e b h = absurd (omega arith)
-taken (suc n) (suc m) [] [] b h = refl
-taken (suc n) (suc m) [] (x ∷ e) b h = ap (λ l. x ∷ l) (taken n m [] e b (omega arith))
+-- Of what is behind the first m elements of a list, the first m of the whole have nothing.
+pub still-first : {A : Type 0} (m : ℕ) (e b : List A) → take m (take m e ++ b) ≡ take m (e ++ b)
+still-first zero e b = refl
+still-first (suc m) [] b = refl
+still-first (suc m) (x ∷ e) b = ap (λ l. x ∷ l) (still-first m e b)
 
--- Which errors are the first does not depend on those that are not kept.
-pub kept : {A : Type 0} (m : ℕ) (es : List (Message A)) (fs : List (Fault A))
-    → take m (add_errors (take m es) fs) ≡ take m (add_errors es fs)
-kept m es fs =
-    let front = reverse (map message (filter is_front fs)) in
-    let back = map message (filter (λ f. not (is_front f)) fs) in
-    rw (
-      add_errors-ends (take m es) fs,
-      add_errors-ends es fs,
-      append_assoc front (take m es) back,
-      append_assoc front es back,
-    ) (taken m m front es back (omega arith))
-
--- The first errors of all calls are those of these first errors and of the calls that follow, and
--- with so many others there are as many.
-pub record AreFirst (s : State) (first : List (Message Place)) (others : ℕ)
-    (all : List (Message Place)) : Type 0 where
-  pub none : s.errors ≡ []
+-- These faults are the first, and so many others are not kept, of those before and those left,
+-- which are the first of all and as many as `count`.
+pub record AreAdded (first : List Finding) (others : ℕ) (left whole : List Finding) (count : ℕ) :
+    Type 0 where
   pub few : length first ≤ most_drawn
-  pub first_are : take most_drawn (all_errors (record s { errors = first })) ≡ take most_drawn all
-  pub count : others + length (all_errors (record s { errors = first })) ≡ length all
+  pub first_are : take most_drawn (first ++ left) ≡ take most_drawn whole
+  pub count_is : others + (length first + length left) ≡ count
 
-pub first-start : (s : State) → s.errors ≡ [] → AreFirst s [] 0 (all_errors s)
-first-start s e =
-    let same : all_errors (record s { errors = [] }) ≡ all_errors s =
-    ap (λ es. add_errors es (faults_in s.world (all_faults s.mode s.next s.rest))) (sym e) in
-    record {
-      none = e;
-      few = omega arith;
-      first_are = ap (take most_drawn) same;
-      count = omega (arith, ap length same);
-    }
+pub added-next : (first more own left whole : List Finding) (others n count : ℕ)
+    → AreAdded first others (own ++ left) whole count
+    → more ≡ take most_drawn (first ++ own)
+    → n + length more ≡ others + (length first + length own) → AreAdded more n left whole count
+added-next first more own left whole others n count h m k = record {
+  few = omega (arith, ap length m ∙ length-take most_drawn (first ++ own));
+  first_are = ap (λ l. take most_drawn (l ++ left)) m
+      ∙ still-first most_drawn (first ++ own) left
+      ∙ ap (take most_drawn) (append_assoc first own left) ∙ h.first_are;
+  count_is = omega (arith, h.count_is, k, length-append own left);
+}
 
-pub first-next : (s new : State) (first more : List (Message Place)) (found : List (Fault Place))
-    (others left : ℕ) (all : List (Message Place)) → AreFirst s first others all
-    → new ≡ record (after s (next_call s)) { errors = s.errors } → is_nil s.rest ≡ false
-    → found ≡ faults_in s.world (next_call s).faults
-    → more ≡ take most_drawn (add_errors first found)
-    → left + length more ≡ others + (length first + length found)
-    → AreFirst new more left all
-first-next s new first more found others left all h e some f m k =
-    let t = record s { errors = first } in
-    let u = after t (next_call t) in
-    let fs = faults_in s.world (next_call s).faults in
-    let added = add_errors first fs in
-    let later = faults_in s.world (all_faults u.mode u.next u.rest) in
-    let same : add_errors added later ≡ all_errors t = all_errors-step t u refl some in
-    let counts : length (add_errors added later) ≡ length (all_errors t) = ap length same in
-    let are : more ≡ take most_drawn added =
-    m ∙ ap (λ gs. take most_drawn (add_errors first gs)) f in
-    let few : length more ≡ min most_drawn (length added) =
-    ap length are ∙ length-take most_drawn added in
-    let firsts : take most_drawn (add_errors more later) ≡ take most_drawn all =
-    ap (λ es. take most_drawn (add_errors es later)) are ∙ kept most_drawn added later
-    ∙ ap (take most_drawn) same ∙ h.first_are in
-    rw e (record {
-      none = h.none;
-      few = omega (arith, few);
-      first_are = firsts;
-      count = omega (
-        arith,
-        h.count,
-        counts,
-        k,
-        ap length f,
-        add_errors-length more later,
-        add_errors-length added later,
-        add_errors-length first fs,
-      );
-    })
+-- In the end the first faults are there.
+pub added-end : (first whole : List Finding) (others count : ℕ)
+    → AreAdded first others [] whole count → first ≡ take most_drawn whole
+added-end first whole others count h =
+    sym (take_all most_drawn first h.few)
+    ∙ ap (take most_drawn) (sym (append-nil first)) ∙ h.first_are
 
--- There are as many errors as faults.
-errors-length : (fs : List DeclaredFault) → length (errors_of fs) ≡ length fs
-errors-length fs = length-map (map seen_fault fs) message ∙ length-map fs seen_fault
+pub added-count : (first whole : List Finding) (others count : ℕ)
+    → AreAdded first others [] whole count → others + length first ≡ count
+added-count first whole others count h = omega (arith, h.count_is)
 
-pub few-items : (fs : List DeclaredFault) → length (errors_of fs) ≤ most_drawn
-    → length fs ≤ most_drawn
-few-items fs h = omega (arith, errors-length fs)
-
-pub lengths : (old new found : List DeclaredFault) (others left : ℕ)
-    → left + length new ≡ others + (length old + length found)
-    → left + length (errors_of new)
-    ≡ others + (length (errors_of old) + length (map seen_fault found))
-lengths old new found others left h =
-    omega (arith, errors-length old, errors-length new, length-map found seen_fault)
+-- Where so many elements are there, they are the first of them and others.
+pub full : {A : Type 0} (l m : List A) (n : ℕ) → length l ≤ n → n ≤ length l → l ≡ take n (l ++ m)
+full l m n h k = sym (take_at l m n (omega (arith, h, k)))
 
 -- The first element of a list and what is left without it.
 pub removed : {A : Type 0} (l left : List A) (x : A) → x ≡ slice_index_or l 0 x
@@ -124,45 +61,120 @@ pub removed : {A : Type 0} (l left : List A) (x : A) → x ≡ slice_index_or l 
 removed [] left x e d h = absurd (omega arith)
 removed (y ∷ l) left x e d h = rw (e, d) refl
 
+call-shorter : (mode : Mode) (c b : ℕ) (t : Text)
+    → length (call mode c (b ∷ t)).rest ≤ length t
+call-shorter mode c b t = omega (arith, call-lt mode c (b ∷ t) (λ e. absurd (cc)))
+
+-- As many calls as there are characters are enough.
+within-enough : (all : Bool) (w : World) (n m : ℕ) (mode : Mode) (c : ℕ) (t : Text)
+    → length t ≤ n → length t ≤ m
+    → findings_within all w n mode c t ≡ findings_within all w m mode c t
+within-enough all w n m mode c [] h k = refl
+within-enough all w zero m mode c (b ∷ t) h k = absurd (omega arith)
+within-enough all w (suc n) zero mode c (b ∷ t) h k = absurd (omega arith)
+within-enough all w (suc n) (suc m) mode c (b ∷ t) h k =
+    let a : Call = call mode c (b ∷ t) in
+    ap (λ fs. findings_of all (faults_in w a.faults) ++ fs) (within-enough all w n m mode a.next
+    a.rest (omega (arith, call-shorter mode c b t)) (omega (arith, call-shorter mode c b t)))
+
+-- The faults of all calls are those of the first and those of the calls after it.
+findings-step : (all : Bool) (s : State) → is_nil s.rest ≡ false
+    → findings_in all s
+    ≡ findings_of all (faults_in s.world (next_call s).faults)
+    ++ findings_in all (after s (next_call s))
+unfolding findings_in
+findings-step all s h = step s.world s.mode s.next s.rest h
+  where
+    step : (w : World) (mode : Mode) (c : ℕ) (t : Text) → is_nil t ≡ false
+        → findings_within all w (length t) mode c t
+        ≡ findings_of all (faults_in w (call mode c t).faults)
+        ++ findings_within all w (length (call mode c t).rest) mode (call mode c t).next
+        (call mode c t).rest
+    step w mode c [] h = absurd (cc)
+    step w mode c (b ∷ t) h =
+        let a : Call = call mode c (b ∷ t) in
+        ap (λ fs. findings_of all (faults_in w a.faults) ++ fs) (within-enough all w (length t)
+        (length a.rest) mode a.next a.rest (call-shorter mode c b t) (omega arith))
+
+findings-end : (all : Bool) (s : State) → is_nil s.rest ≡ true → findings_in all s ≡ []
+unfolding findings_in
+findings-end all s h = at_end s.world s.mode s.next s.rest h
+  where
+    at_end : (w : World) (mode : Mode) (c : ℕ) (t : Text) → is_nil t ≡ true
+        → findings_within all w (length t) mode c t ≡ []
+    at_end w mode c [] h = refl
+    at_end w mode c (b ∷ t) h = absurd (cc)
+
+-- A parser without errors, and the first faults before it, of all that are to be found.
+pub record AreFirst (all : Bool) (s : State) (first : List Finding) (others : ℕ)
+    (whole : List Finding) : Type 0 where
+  pub none : s.errors ≡ []
+  pub added : AreAdded first others (findings_in all s) whole (length whole)
+
+pub first-start : (all : Bool) (s : State) → s.errors ≡ []
+    → AreFirst all s [] 0 (findings_in all s)
+first-start all s e = record {
+  none = e;
+  added = record { few = omega arith; first_are = refl; count_is = omega arith };
+}
+
 -- A call without errors before it leaves none.
 pub no_errors : (s new : State) → s.errors ≡ []
     → new ≡ record (after s (next_call s)) { errors = s.errors }
     → new ≡ record (after s (next_call s)) { errors = [] }
 no_errors s new none e = e ∙ ap (λ es. record (after s (next_call s)) { errors = es }) none
 
+pub first-next : (all : Bool) (s new : State) (first more : List Finding)
+    (found : List (Fault Place)) (others left : ℕ) (whole : List Finding)
+    → AreFirst all s first others whole
+    → new ≡ record (after s (next_call s)) { errors = s.errors } → is_nil s.rest ≡ false
+    → found ≡ faults_in s.world (next_call s).faults
+    → more ≡ take most_drawn (first ++ findings_of all found)
+    → left + length more ≡ others + (length first + length (findings_of all found))
+    → AreFirst all new more left whole
+unfolding findings_in
+first-next all s new first more found others left whole h e some f m k =
+    let own = findings_of all found in
+    let later : findings_in all new ≡ findings_in all (after s (next_call s)) =
+    ap (findings_in all) e ∙ forgotten all (after s (next_call s)) s.errors in
+    let same : findings_in all s ≡ own ++ findings_in all new =
+    findings-step all s some
+    ∙ ap (λ fs. findings_of all fs ++ findings_in all (after s (next_call s))) (sym f)
+    ∙ ap (λ l. own ++ l) (sym later) in
+    let before : AreAdded first others (own ++ findings_in all new) whole (length whole) =
+    subst (λ l. AreAdded first others l whole (length whole)) same h.added in
+    record {
+      none = ap (λ (u : State). u.errors) e ∙ h.none;
+      added = added-next first more own (findings_in all new) whole others left (length whole)
+          before m k;
+    }
+  where
+    -- what is shown of later calls does not depend on earlier errors
+    forgotten : (all : Bool) (u : State) (es : List (Message Place))
+        → findings_in all (record u { errors = es }) ≡ findings_in all u
+    forgotten all u es = refl
+
 pub some-left : (t : Text) → t ≢ [] → is_nil t ≡ false
 some-left [] some = absurd (some refl)
 some-left (c ∷ t) some = refl
 
--- In the end the first errors are there, and so many others.
-pub record AreAll (first : List (Message Place)) (others : ℕ) (all : List (Message Place)) :
-    Type 0 where
-  pub first_are : first ≡ take most_drawn all
-  pub count : others ≡ length all - most_drawn
+-- In the end the first faults are there, and so many others.
+pub record AreAll (first : List Finding) (others : ℕ) (whole : List Finding) : Type 0 where
+  pub first_are : first ≡ take most_drawn whole
+  pub count : others ≡ length whole - most_drawn
 
-pub first-end : (s : State) (first : List (Message Place)) (others : ℕ)
-    (all : List (Message Place)) → AreFirst s first others all → is_nil s.rest ≡ true
-    → AreAll first others all
-first-end s first others all h e =
-    let same : all_errors (record s { errors = first }) ≡ first =
-    all_errors-end (record s { errors = first }) e in
-    let firsts : first ≡ take most_drawn all = sym (take_all most_drawn first h.few)
-    ∙ ap (take most_drawn) (sym same) ∙ h.first_are in
+pub first-end : (all : Bool) (s : State) (first : List Finding) (others : ℕ)
+    (whole : List Finding) → AreFirst all s first others whole → is_nil s.rest ≡ true
+    → AreAll first others whole
+first-end all s first others whole h e =
+    let ended : AreAdded first others [] whole (length whole) =
+    subst (λ l. AreAdded first others l whole (length whole)) (findings-end all s e) h.added in
+    let firsts : first ≡ take most_drawn whole = added-end first whole others _ ended in
     record {
       first_are = firsts;
       count = omega (
         arith,
-        h.count,
-        ap length same,
-        ap length firsts ∙ length-take most_drawn all,
+        added-count first whole others _ ended,
+        ap length firsts ∙ length-take most_drawn whole,
       );
     }
-
-positive : {A : Type 0} (x : A) (l : List A) → nat_lt 0 (length (x ∷ l)) ≡ true
-positive x l = grind arith
-
--- Where there is an error, there is a first one.
-pub some-first : (m : ℕ) {A : Type 0} (all : List A)
-    → nat_lt 0 (length (take (suc m) all)) ≡ nat_lt 0 (length all)
-some-first m [] = refl
-some-first m (x ∷ all) = positive x (take m all) ∙ sym (positive x all)

@@ -5,7 +5,6 @@ use Rattle.std.proofs.Common.{option_map, IsUtf8}
 use Rattle.std.proofs.Math.Utf8.{encodes}
 use Rattle.std.proofs.lemmas.Option.{same_Some}
 use Rattle.std.proofs.lemmas.Str.{encodes-chars}
-use Rattle.rustc_parse_format.specs.Types.{Mode}
 use Rattle.drawn_faults.specs.Fixing.{Fixed}
 use Rattle.piece_listing.specs.declared.verdict.RunFault.{RunFault}
 use Rattle.piece_listing.specs.declared.verdict.RunFault.TheVariants.{Words, Read, TooLong, NotText}
@@ -15,7 +14,7 @@ use Rattle.piece_listing.specs.Source.{IsInLiteral, Source as ListedSource}
 use Rattle.piece_listing.proofs.OneLiteral.{source-only as listed_source-only}
 use Rattle.format_lint.specs.declared.task.Show.{Show}
 use Rattle.format_lint.specs.declared.task.Show.TheVariants.{Faults as ShowFaults, Fix as ShowFix}
-use Rattle.format_lint.specs.declared.task.Show.TheVariants.{Tokens as ShowTokens}
+use Rattle.format_lint.specs.declared.task.Show.TheVariants.{All as ShowAll, Tokens as ShowTokens}
 use Rattle.format_lint.specs.declared.task.Show.TheVariants.{Colours as ShowColours}
 use Rattle.format_lint.specs.Lint.{IsLiteralIn, IsMended, IsMendedIn, IsOwed, IsShown, IsSourceIn}
 use Rattle.format_lint.specs.Lint.{Shown, Source, Task, drawn, kept, lexed}
@@ -75,44 +74,46 @@ same_fixed f g d e =
     ap (λ (l : List ℕ). record f { snippet = l }) d
     ∙ ap (λ (t : List ℕ). record g { text = t }) e
 
-mended_in-only : (mode : Mode) (path : List ℕ) (s : Source) (l : List ℕ) (x y : Shown)
-    → IsMendedIn mode path s l x → IsMendedIn mode path s l y → x ≡ y
-mended_in-only mode path s l x y (inl (f, h, d)) (inl (g, k, e)) =
-    d ∙ ap (λ (f : Fixed). kept mode path
+mended_in-only : (a : Task) (s : Source) (l : List ℕ) (x y : Shown)
+    → IsMendedIn a s l x → IsMendedIn a s l y → x ≡ y
+mended_in-only a s l x y (inl (f, h, d)) (inl (g, k, e)) =
+    d ∙ ap (λ (f : Fixed). kept a
     (record { text = f.text; style = s.style; literal = Some f.snippet }))
     (same_fixed f g (h.edited.snippet ∙ sym k.edited.snippet) (h.edited.text ∙ sym k.edited.text))
     ∙ sym e
-mended_in-only mode path s l x y (inl (f, h, d)) (inr (none, e)) = absurd (none f h)
-mended_in-only mode path s l x y (inr (none, d)) (inl (g, k, e)) = absurd (none g k)
-mended_in-only mode path s l x y (inr (none, d)) (inr (never, e)) = d ∙ sym e
+mended_in-only a s l x y (inl (f, h, d)) (inr (none, e)) = absurd (none f h)
+mended_in-only a s l x y (inr (none, d)) (inl (g, k, e)) = absurd (none g k)
+mended_in-only a s l x y (inr (none, d)) (inr (never, e)) = d ∙ sym e
 
 -- What is mended of a source with this literal, if it has one.
-abbrev Mended : Mode → List ℕ → Source → Option (List ℕ) → Shown → Type 0
-Mended mode path s o x = elim o [
-  | None ↦ x ≡ kept mode path s
-  | Some l ↦ IsMendedIn mode path s l x
+abbrev Mended : Task → Source → Option (List ℕ) → Shown → Type 0
+Mended a s o x = elim o [
+  | None ↦ x ≡ kept a s
+  | Some l ↦ IsMendedIn a s l x
 ]
 
-mended-only : (mode : Mode) (path : List ℕ) (s : Source) (o : Option (List ℕ)) (x y : Shown)
-    → Mended mode path s o x → Mended mode path s o y → x ≡ y
-mended-only mode path s None x y h k = h ∙ sym k
-mended-only mode path s (Some l) x y h k = mended_in-only mode path s l x y h k
+mended-only : (a : Task) (s : Source) (o : Option (List ℕ)) (x y : Shown)
+    → Mended a s o x → Mended a s o y → x ≡ y
+mended-only a s None x y h k = h ∙ sym k
+mended-only a s (Some l) x y h k = mended_in-only a s l x y h k
 
 -- What is shown in this way.
 abbrev ShownAs : Task → Source → Show → Shown → Type 0
 ShownAs a s w x = elim w [
-  | ShowFaults ↦ x ≡ drawn a.mode a.path s
+  | ShowFaults ↦ x ≡ drawn false a s
+  | ShowAll ↦ x ≡ drawn true a s
   | ShowTokens ↦ x ≡ lexed false a s
   | ShowColours ↦ x ≡ lexed true a s
-  | ShowFix ↦ IsMended a.mode a.path s x
+  | ShowFix ↦ IsMended a s x
 ]
 
 shown-only : (a : Task) (s : Source) (w : Show) (x y : Shown) → ShownAs a s w x → ShownAs a s w y
     → x ≡ y
 shown-only a s ShowFaults x y h k = h ∙ sym k
+shown-only a s ShowAll x y h k = h ∙ sym k
 shown-only a s ShowTokens x y h k = h ∙ sym k
 shown-only a s ShowColours x y h k = h ∙ sym k
-shown-only a s ShowFix x y h k = mended-only a.mode a.path s s.literal x y h k
+shown-only a s ShowFix x y h k = mended-only a s s.literal x y h k
 
 -- the answer where something is shown
 with_shown : (a : Task) (input : List ℕ) (x : Shown) (y : Result Shown RunFault)

@@ -1,3 +1,4 @@
 pub mod Colours
+pub mod Findings
 pub mod Lint
 pub mod SeenLint

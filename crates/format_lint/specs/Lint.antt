@@ -3,7 +3,8 @@ use Rattle.std.specs.Prelude.{◌≡◌, ℕ, ◌-◌, ◌<◌, ◌++◌, ◌==�
 use Rattle.std.specs.Prelude.{nat_lt, List, [], length, take, Option, Some, None, option_map}
 use Rattle.std.specs.Prelude.{unwrap_or, Result, Ok, Err, chars, codes, decimal, flat_map, IsUtf8}
 use Rattle.rustc_parse_format.specs.Types.{Mode}
-use Rattle.rustc_parse_format.specs.Faults.{Message}
+use Rattle.rustc_parse_format.specs.FaultIds.{fault_id}
+use Rattle.rustc_parse_format.specs.Faults.{Message, message}
 use Rattle.rustc_parse_format.specs.World.{Place}
 use Rattle.rustc_parse_format.specs.State.{State, first_state}
 use Rattle.piece_listing.specs.declared.verdict.RunFault.{RunFault}
@@ -16,10 +17,11 @@ use Rattle.drawn_faults.specs.Drawing.{drawing}
 use Rattle.drawn_faults.specs.Fixing.{Fixed, IsFixed, all_errors}
 use Rattle.format_lint.specs.declared.task.Show.{Show}
 use Rattle.format_lint.specs.declared.task.Show.TheVariants.{Faults as ShowFaults, Fix as ShowFix}
-use Rattle.format_lint.specs.declared.task.Show.TheVariants.{Tokens as ShowTokens}
+use Rattle.format_lint.specs.declared.task.Show.TheVariants.{All as ShowAll, Tokens as ShowTokens}
 use Rattle.format_lint.specs.declared.task.Show.TheVariants.{Colours as ShowColours}
 use Rattle.format_tokens.specs.Placed.{Placed, tokens}
 use Rattle.format_lint.specs.Colours.{shown_tokens}
+use Rattle.format_lint.specs.Findings.{Finding, findings_in}
 
 -- What the arguments of the program ask for.
 pub record Task : Type 0 where
@@ -60,6 +62,10 @@ start mode s =
 abbrev pub errors : Mode → Source → List (Message Place)
 errors mode s = all_errors (start mode s)
 
+-- What is shown of the faults of a source.
+abbrev pub findings : Bool → Mode → Source → List Finding
+findings all mode s = findings_in all (start mode s)
+
 -- What faults are drawn in: the literal, or the text. Without a literal a byte offset is one more
 -- than in the text, so that is shown behind a line end, and its lines count from 1.
 abbrev pub picture : List ℕ → Source → Picture
@@ -81,65 +87,78 @@ most_drawn = 10
 abbrev pub more : ℕ → List ℕ
 more n = if n == 0 then [] else codes "and " ++ (decimal n ++ codes " more\n")
 
--- The drawings of errors, one after the other, and how many are left out.
-abbrev pub drawings : Picture → List (Message Place) → List ℕ
-drawings p ms = flat_map (drawing p) (take most_drawn ms) ++ more (length ms - most_drawn)
+-- The line before the drawing of a fault with this id.
+abbrev pub id_line : Bool → List ℕ → List ℕ
+id_line follows id = (if follows then codes "follows: " else codes "fault: ") ++ (id ++ codes "\n")
+
+-- The drawing of a fault. Where all faults are shown, a line before it has its id, and says whether
+-- the fault follows from the one before.
+abbrev pub drawn_finding : Bool → Mode → Picture → Finding → List ℕ
+drawn_finding all mode p f =
+    (if all then id_line f.follows (fault_id f.fault) else []) ++ drawing mode p (message f.fault)
+
+-- The drawings of faults, one after the other, and how many are left out.
+abbrev pub drawings : Bool → Mode → Picture → List Finding → List ℕ
+drawings all mode p fs =
+    flat_map (drawn_finding all mode p) (take most_drawn fs) ++ more (length fs - most_drawn)
 
 -- What is written, and whether a fault is left.
 abbrev pub Shown : Type 0
 Shown = List ℕ × Bool
 
--- The drawings of a source's faults.
-abbrev pub drawn : Mode → List ℕ → Source → Shown
-drawn mode path s =
-    (drawings (picture path s) (errors mode s), nat_lt 0 (length (errors mode s)))
+-- The drawings of a source's faults, and whether it has any.
+abbrev pub drawn : Bool → Task → Source → Shown
+drawn all a s = (
+  drawings all a.mode (picture a.path s) (findings all a.mode s),
+  nat_lt 0 (length (errors a.mode s)),
+)
 
 -- A source as it is written, and a line end.
 abbrev pub written : Source → List ℕ
 written s = unwrap_or s.literal s.text ++ codes "\n"
 
 -- A source is written, and then its faults are drawn.
-abbrev pub kept : Mode → List ℕ → Source → Shown
-kept mode path s = (written s ++ (drawn mode path s).0, (drawn mode path s).1)
+abbrev pub kept : Task → Source → Shown
+kept a s = (written s ++ (drawn false a s).0, (drawn false a s).1)
 
 -- The tokens of a source. The snippet is what faults are drawn in: the literal, or a text behind a
 -- line end, which is no literal, so that the last token ends where the text does.
-abbrev pub tokens_in : Mode → List ℕ → Source → List Placed
-tokens_in mode path s =
-    tokens mode (chars s.text) s.style (Some (chars (picture path s).source)) false
+abbrev pub tokens_in : Task → Source → List Placed
+tokens_in a s = tokens a.mode (chars s.text) s.style (Some (chars (picture a.path s).source)) false
 
 -- The tokens of a source are shown, in colours with a line end after them or each in a line, and
 -- then its faults are drawn.
 abbrev pub lexed : Bool → Task → Source → Shown
 lexed colours a s = (
-  shown_tokens colours (chars (unwrap_or s.literal s.text)) (tokens_in a.mode a.path s)
-      ++ ((if colours then codes "\n" else []) ++ (drawn a.mode a.path s).0),
-  (drawn a.mode a.path s).1,
+  shown_tokens colours (chars (unwrap_or s.literal s.text)) (tokens_in a s)
+      ++ ((if colours then codes "\n" else []) ++ (drawn false a s).0),
+  (drawn false a s).1,
 )
 
 -- Where l is the literal of a source: the literal with the edits that its faults suggest is
 -- written, and then the faults that it still has. If there is no such literal, the source stays as
 -- it is.
-abbrev pub IsMendedIn : Mode → List ℕ → Source → List ℕ → Shown → Type 0
-IsMendedIn mode path s l x =
-    ((f : Fixed) × IsFixed mode s.text s.style l false f × (x ≡ kept mode path
+abbrev pub IsMendedIn : Task → Source → List ℕ → Shown → Type 0
+IsMendedIn a s l x =
+    ((f : Fixed) × IsFixed a.mode s.text s.style l false f × (x ≡ kept a
     (record { text = f.text; style = s.style; literal = Some f.snippet })))
-    ⊎ (((f : Fixed) → IsFixed mode s.text s.style l false f → ⊥) × (x ≡ kept mode path s))
+    ⊎ (((f : Fixed) → IsFixed a.mode s.text s.style l false f → ⊥) × (x ≡ kept a s))
 
 -- The same of any source. A text has no fix.
-abbrev pub IsMended : Mode → List ℕ → Source → Shown → Type 0
-IsMended mode path s x = elim s.literal [
-  | None ↦ x ≡ kept mode path s
-  | Some l ↦ IsMendedIn mode path s l x
+abbrev pub IsMended : Task → Source → Shown → Type 0
+IsMended a s x = elim s.literal [
+  | None ↦ x ≡ kept a s
+  | Some l ↦ IsMendedIn a s l x
 ]
 
 -- What a task shows of a source.
 abbrev pub IsShown : Task → Source → Shown → Type 0
 IsShown a s x = elim a.show [
-  | ShowFaults ↦ x ≡ drawn a.mode a.path s
+  | ShowFaults ↦ x ≡ drawn false a s
+  | ShowAll ↦ x ≡ drawn true a s
   | ShowTokens ↦ x ≡ lexed false a s
   | ShowColours ↦ x ≡ lexed true a s
-  | ShowFix ↦ IsMended a.mode a.path s x
+  | ShowFix ↦ IsMended a s x
 ]
 
 -- The answer to a task with this input: what is written, or why nothing is.

@@ -1,12 +1,11 @@
--- What a contract sees of a task and of a source.
-use Rattle.std.specs.Prelude.{List, map, option_map}
-use Rattle.rustc_parse_format.specs.declared.faults.Fault.{Fault as DeclaredFault}
-use Rattle.rustc_parse_format.specs.Faults.{Message, message}
+-- What a contract sees of a task, of a source and of a fault that is shown.
+use Rattle.std.specs.Prelude.{option_map}
 use Rattle.rustc_parse_format.specs.Seen.{seen_mode}
 use Rattle.rustc_parse_format.specs.SeenFaults.{seen_fault}
-use Rattle.rustc_parse_format.specs.World.{Place}
 use Rattle.format_lint.specs.declared.task.Task.{Task as DeclaredTask}
 use Rattle.format_lint.specs.declared.faults.Source.{Source as DeclaredSource}
+use Rattle.format_lint.specs.declared.findings.Finding.{Finding as DeclaredFinding}
+use Rattle.format_lint.specs.Findings.{Finding}
 use Rattle.format_lint.specs.Lint.{Source, Task}
 
 -- A task as a contract sees it.
@@ -26,6 +25,6 @@ seen_source s = record {
   literal = option_map (λ l. l.now) s.literal;
 }
 
--- The errors of faults.
-abbrev pub errors_of : List DeclaredFault → List (Message Place)
-errors_of fs = map message (map seen_fault fs)
+-- A fault that is shown, as a contract sees it.
+abbrev pub seen_finding : DeclaredFinding → Finding
+seen_finding f = record { fault = seen_fault f.fault; follows = f.follows }

@@ -3,6 +3,7 @@
 #![tactic(auto)]
 
 mod faults;
+mod findings;
 pub mod run;
 mod shown;
 pub mod task;

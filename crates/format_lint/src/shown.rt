@@ -1,40 +1,82 @@
 //! What is shown of an input in UTF-8.
 
 ghost use Rattle.std.specs.Prelude.{◌≡◌, ◌≢◌, ◌≤◌, ◌++◌, List, [], IfErr, IfOk, IsErrOf, OnOk};
-ghost use Rattle.std.specs.Prelude.{flat_map, length, nat_lt, string_bytes};
+ghost use Rattle.std.specs.Prelude.{flat_map, length, map, nat_lt, string_bytes};
+ghost use Rattle.rustc_parse_format.specs.FaultIds.{fault_id};
 ghost use Rattle.rustc_parse_format.specs.Seen.{seen_mode};
+ghost use Rattle.rustc_parse_format.specs.SeenFaults.{seen_fault};
 ghost use Rattle.rustc_parse_format.specs.World.{hashes};
 ghost use Rattle.piece_listing.specs.declared.verdict.RunFault.TheVariants.{Memory, NotLiteral};
 ghost use Rattle.piece_listing.specs.Program.{IsShort, limit};
-ghost use Rattle.drawn_faults.specs.Drawing.{drawing};
 ghost use Rattle.drawn_faults.specs.Places.{seen_picture};
 ghost use Rattle.format_lint.specs.Lint.{IsLiteralIn, IsMended, IsShown, IsSourceIn};
 ghost use Rattle.format_lint.specs.Lint.{Source as SourceValue};
-ghost use Rattle.format_lint.specs.Lint.{drawn, kept, lexed, more, picture};
-ghost use Rattle.format_lint.specs.SeenLint.{errors_of, seen_source, seen_task};
+ghost use Rattle.format_lint.specs.Lint.{drawn, drawn_finding, id_line, kept, lexed, more, picture};
+ghost use Rattle.format_lint.specs.SeenLint.{seen_finding, seen_source, seen_task};
 
-use super::faults::{Faults, Source, faults_in, tokens_in};
+use super::faults::{Source, faults_in, tokens_in};
+use super::findings::{Finding, Findings};
 use super::task::{Show, Task};
 use super::tokens::put_tokens;
 use drawn_faults::{Picture, fix, put_drawing};
 use piece_listing::literal::{literal_text, without_newline};
 use piece_listing::verdict::RunFault;
-use rustc_parse_format::{Fault, ParseMode};
+use rustc_parse_format::ParseMode;
 use std::alloc::{AllocError, Global};
+
+/// Appends a line with the id of a fault, which says whether it follows from the one before.
+/// Returns `Err` if an allocation fails.
+fn put_id(out: &mut String, finding: &Finding<'_>) -> Result<(), AllocError>
+    ensures { OnOk result (string_bytes out.new ≡ string_bytes out.old
+        ++ id_line finding.now.follows (fault_id (seen_fault finding.now.fault))) }
+{
+    out.push_str(if finding.follows {
+        "follows: "
+    } else {
+        "fault: "
+    })?;
+    out.push_str(finding.fault.id())?;
+    out.push('\n')?;
+    Ok(())
+}
+
+/// Appends the drawing of a fault to a text, where all are shown after its id. Returns `Err` if an
+/// allocation fails.
+fn put_finding(
+    alloc: Global,
+    out: &mut String,
+    all: bool,
+    mode: ParseMode,
+    picture: &Picture<'_>,
+    finding: &Finding<'_>,
+) -> Result<(), AllocError>
+    ensures { OnOk result (string_bytes out.new ≡ string_bytes out.old
+        ++ drawn_finding all (seen_mode mode) (seen_picture picture.now)
+        (seen_finding finding.now)) }
+{
+    if all {
+        put_id(out, finding)?;
+    }
+    let error = finding.fault.error(alloc)?;
+    put_drawing(out, mode, picture, &error)?;
+    Ok(())
+}
 
 /// Appends the drawings of faults to a text. Returns `Err` if an allocation fails.
 fn put_each(
     alloc: Global,
     out: &mut String,
+    all: bool,
+    mode: ParseMode,
     picture: &Picture<'_>,
-    faults: &[Fault<'_>],
+    findings: &[Finding<'_>],
 ) -> Result<(), AllocError>
     ensures { OnOk result (string_bytes out.new ≡ string_bytes out.old
-        ++ flat_map (drawing (seen_picture picture.now)) (errors_of faults.now)) }
+        ++ flat_map (drawn_finding all (seen_mode mode) (seen_picture picture.now))
+        (map seen_finding findings.now)) }
 {
-    for fault in faults {
-        let error = fault.error(alloc)?;
-        put_drawing(out, picture, &error)?;
+    for finding in findings {
+        put_finding(alloc, out, all, mode, picture, finding)?;
     }
     Ok(())
 }
@@ -57,16 +99,18 @@ fn put_more(alloc: Global, out: &mut String, count: usize) -> Result<(), AllocEr
 fn put_drawings(
     alloc: Global,
     out: &mut String,
+    all: bool,
+    mode: ParseMode,
     picture: &Picture<'_>,
-    faults: &Faults<'_>,
+    faults: &Findings<'_>,
 ) -> Result<bool, AllocError>
     ensures drawn { OnOk result (string_bytes out.new ≡ string_bytes out.old
-        ++ (flat_map (drawing (seen_picture picture.now)) (errors_of faults.now.first.items)
-        ++ more faults.now.others)) }
+        ++ (flat_map (drawn_finding all (seen_mode mode) (seen_picture picture.now))
+        (map seen_finding faults.now.first.items) ++ more faults.now.others)) }
     ensures told { IfOk result (λ told. told
-        ≡ nat_lt 0 (length (errors_of faults.now.first.items))) }
+        ≡ nat_lt 0 (length (map seen_finding faults.now.first.items))) }
 {
-    put_each(alloc, out, picture, faults.first.as_slice())?;
+    put_each(alloc, out, all, mode, picture, faults.first.as_slice())?;
     put_more(alloc, out, faults.others)?;
     Ok(faults.first.len() > 0)
 }
@@ -76,35 +120,37 @@ fn put_drawings(
 fn put_faults(
     alloc: Global,
     out: &mut String,
-    path: &str,
+    all: bool,
+    task: Task<'_>,
     source: Source<'_>,
-    faults: &Faults<'_>,
+    faults: &Findings<'_>,
 ) -> Result<bool, AllocError>
     ensures drawn { OnOk result (string_bytes out.new ≡ string_bytes out.old
-        ++ (flat_map (drawing (picture path.now (seen_source source.entry)))
-        (errors_of faults.now.first.items) ++ more faults.now.others)) }
+        ++ (flat_map (drawn_finding all (seen_mode task.entry.mode)
+        (picture task.entry.path.now (seen_source source.entry)))
+        (map seen_finding faults.now.first.items) ++ more faults.now.others)) }
     ensures told { IfOk result (λ told. told
-        ≡ nat_lt 0 (length (errors_of faults.now.first.items))) }
+        ≡ nat_lt 0 (length (map seen_finding faults.now.first.items))) }
 {
     if let Some(literal) = source.literal {
         let picture = Picture {
-            path,
+            path: task.path,
             source: literal,
             line_start: 1,
             literal_start: 0,
         };
-        return put_drawings(alloc, out, &picture, faults);
+        return put_drawings(alloc, out, all, task.mode, &picture, faults);
     }
     let text = source.text;
     // without a literal a span is one more than in the text, and so is the place in this source
     let shown = format!(in alloc; "\n{text}")?;
     let picture = Picture {
-        path,
+        path: task.path,
         source: shown.as_str(),
         line_start: 0,
         literal_start: 0,
     };
-    put_drawings(alloc, out, &picture, faults)
+    put_drawings(alloc, out, all, task.mode, &picture, faults)
 }
 
 /// Appends the drawings of the faults of a source to a text. Returns whether it has faults, and
@@ -112,18 +158,18 @@ fn put_faults(
 fn put_drawn(
     alloc: Global,
     out: &mut String,
-    mode: ParseMode,
-    path: &str,
+    all: bool,
+    task: Task<'_>,
     source: Source<'_>,
 ) -> Result<bool, AllocError>
     requires { hashes source.style ≤ limit }
     ensures drawn { OnOk result (string_bytes out.new ≡ string_bytes out.old
-        ++ (drawn (seen_mode mode) path.now (seen_source source.entry)).0) }
+        ++ (drawn all (seen_task task.entry) (seen_source source.entry)).0) }
     ensures told { IfOk result (λ told. told
-        ≡ (drawn (seen_mode mode) path.now (seen_source source.entry)).1) }
+        ≡ (drawn all (seen_task task.entry) (seen_source source.entry)).1) }
 {
-    let faults = faults_in(alloc, mode, source)?;
-    let told = put_faults(alloc, out, path, source, &faults)?;
+    let faults = faults_in(alloc, task.mode, source, all)?;
+    let told = put_faults(alloc, out, all, task, source, &faults)?;
     Ok(told)
 }
 
@@ -132,19 +178,18 @@ fn put_drawn(
 fn put_kept(
     alloc: Global,
     out: &mut String,
-    mode: ParseMode,
-    path: &str,
+    task: Task<'_>,
     source: Source<'_>,
 ) -> Result<bool, AllocError>
     requires { hashes source.style ≤ limit }
     ensures kept { OnOk result (string_bytes out.new ≡ string_bytes out.old
-        ++ (kept (seen_mode mode) path.now (seen_source source.entry)).0) }
+        ++ (kept (seen_task task.entry) (seen_source source.entry)).0) }
     ensures told { IfOk result (λ told. told
-        ≡ (kept (seen_mode mode) path.now (seen_source source.entry)).1) }
+        ≡ (kept (seen_task task.entry) (seen_source source.entry)).1) }
 {
     out.push_str(source.literal.unwrap_or(source.text))?;
     out.push_str("\n")?;
-    put_drawn(alloc, out, mode, path, source)
+    put_drawn(alloc, out, false, task, source)
 }
 
 /// Appends the literal of a source with the edits that its faults suggest, and the drawings of the
@@ -153,28 +198,27 @@ fn put_kept(
 fn put_fixed(
     alloc: Global,
     out: &mut String,
-    mode: ParseMode,
-    path: &str,
+    task: Task<'_>,
     source: Source<'_>,
 ) -> Result<bool, AllocError>
     requires style { hashes source.style ≤ limit }
     requires empty { string_bytes out.old ≡ [] }
-    ensures { IfOk result (λ told. IsMended (seen_mode mode) path.now (seen_source source.entry)
+    ensures { IfOk result (λ told. IsMended (seen_task task.entry) (seen_source source.entry)
         (string_bytes out.new, told)) }
 {
     let Some(literal) = source.literal else {
-        return Ok(put_kept(alloc, out, mode, path, source)?);
+        return Ok(put_kept(alloc, out, task, source)?);
     };
-    match fix(alloc, source.text, source.style, literal, false, mode)? {
+    match fix(alloc, source.text, source.style, literal, false, task.mode)? {
         Some(fixed) => {
             let mended = Source {
                 text: fixed.text.as_str(),
                 style: source.style,
                 literal: Some(fixed.snippet.as_str()),
             };
-            Ok(put_kept(alloc, out, mode, path, mended)?)
+            Ok(put_kept(alloc, out, task, mended)?)
         }
-        None => Ok(put_kept(alloc, out, mode, path, source)?),
+        None => Ok(put_kept(alloc, out, task, source)?),
     }
 }
 
@@ -203,7 +247,7 @@ fn put_lexed(
     if colours {
         out.push_str("\n")?;
     }
-    let told = put_faults(alloc, out, task.path, source, &faults)?;
+    let told = put_faults(alloc, out, false, task, source, &faults)?;
     Ok(told)
 }
 
@@ -216,10 +260,11 @@ fn shown_of(alloc: Global, source: Source<'_>, task: Task<'_>) -> Result<(String
 {
     let mut out = String::new(alloc);
     let told = match task.show {
-        Show::Faults => put_drawn(alloc, &mut out, task.mode, task.path, source)?,
+        Show::Faults => put_drawn(alloc, &mut out, false, task, source)?,
+        Show::All => put_drawn(alloc, &mut out, true, task, source)?,
         Show::Tokens => put_lexed(alloc, &mut out, false, task, source)?,
         Show::Colours => put_lexed(alloc, &mut out, true, task, source)?,
-        Show::Fix => put_fixed(alloc, &mut out, task.mode, task.path, source)?,
+        Show::Fix => put_fixed(alloc, &mut out, task, source)?,
     };
     Ok((out, told))
 }

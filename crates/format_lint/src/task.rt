@@ -5,8 +5,11 @@ use rustc_parse_format::ParseMode;
 /// What is shown of an input.
 #[derive(Copy, Clone, Debug, Eq, PartialEq)]
 pub enum Show {
-    /// Its faults, drawn under their source.
+    /// Its faults, drawn under their source: of each call of the parser the one that the compiler
+    /// shows.
     Faults,
+    /// All its faults, each with its id, also those that follow from another one.
+    All,
     /// Its tokens, each in a line, and then its faults.
     Tokens,
     /// Its text in the colours of its tokens, and then its faults.

@@ -48,6 +48,16 @@ fn tokens_option<'a>(alloc: Global) -> Result<Arg<'a>, AllocError> {
         .conflicts_with("fix")
 }
 
+/// Returns the option to show all faults. Returns `Err` if an allocation fails.
+fn all_option<'a>(alloc: Global) -> Result<Arg<'a>, AllocError> {
+    Arg::new(alloc, "all")
+        .long("all")
+        .action(ArgAction::SetTrue)
+        .help("Draw also the faults that follow from another one, each with its id")
+        .conflicts_with("fix")?
+        .conflicts_with("tokens")
+}
+
 /// Returns the option that says whether tokens are in colours.
 fn color_option<'a>(alloc: Global) -> Arg<'a> {
     Arg::new(alloc, "color")
@@ -75,7 +85,8 @@ fn command<'a>(alloc: Global) -> Result<Command<'a>, AllocError> {
     let with_fix = with_text.arg(fix_option(alloc)?)?;
     let with_tokens = with_fix.arg(tokens_option(alloc)?)?;
     let with_color = with_tokens.arg(color_option(alloc))?;
-    with_color.arg(file_argument(alloc))
+    let with_all = with_color.arg(all_option(alloc)?)?;
+    with_all.arg(file_argument(alloc))
 }
 
 /// Returns the mode that is asked for.
@@ -102,6 +113,8 @@ fn wants_colours(rt: &HostRuntime, matches: &ArgMatches<'_>) -> bool {
 fn show_of(rt: &HostRuntime, matches: &ArgMatches<'_>) -> Show {
     if matches.get_flag("fix") {
         Show::Fix
+    } else if matches.get_flag("all") {
+        Show::All
     } else if !matches.get_flag("tokens") {
         Show::Faults
     } else if wants_colours(rt, matches) {

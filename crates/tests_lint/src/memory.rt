@@ -4,7 +4,7 @@
 //! it prints a line `refused`. `.ci/refusals` runs it with its first allocation failing, then with
 //! its second, and so on.
 
-use crate::rows::{FIXED, RAW_PREFIX, Row, UNEXPECTED};
+use crate::rows::{BOTH, FIXED, RAW_PREFIX, Row, UNEXPECTED};
 use format_lint::run::run;
 use piece_listing::verdict::RunFault;
 use std::alloc::Global;
@@ -59,7 +59,7 @@ fn check(rt: &(impl Abort + Print), alloc: Global, row: &Row) -> Result<(), Fail
 
 #[test]
 fn run_out_of_memory_writes_nothing(rt: HostRuntime) -> Result<(), Fail> {
-    for row in [&RAW_PREFIX, &UNEXPECTED, &FIXED] {
+    for row in [&RAW_PREFIX, &UNEXPECTED, &FIXED, &BOTH] {
         check(&rt, rt.alloc(), row)?;
     }
     Ok(())

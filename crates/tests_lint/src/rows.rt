@@ -32,7 +32,7 @@ impl Row {
     }
 }
 
-/// The faults of a text.
+/// The faults of a text, one for each mistake.
 const FAULTS: Task<'static> = Task {
     mode: ParseMode::Format,
     is_literal: false,
@@ -155,6 +155,96 @@ pub const FIXED: Row = Row {
     told: false,
 };
 
+/// The first call that finds a fault comes first, as rustc 1.95 shows it, also where the error of a
+/// later call comes first in the list of a parser.
+const IN_ORDER: Row = Row {
+    mode: ParseMode::Format,
+    is_literal: true,
+    show: Show::Faults,
+    input: b"\"} {r#a}\"",
+    shown: "error: invalid format string: unmatched `}` found\n --> a:1:2\n  |\n\
+        1 | \"} {r#a}\"\n  |  ^ unmatched `}` in format string\n  |\n\
+        \x20 = note: if you intended to print `}`, you can escape it using `}}`\n\n\
+        error: invalid format string: raw identifiers are not supported\n --> a:1:5\n  |\n\
+        1 | \"} {r#a}\"\n  |     --^\n  |     |\n\
+        \x20 |     raw identifier used here in format string\n  |     help: remove the `r#`\n\
+        \x20 |\n  = note: identifiers in format strings can be keywords and don't need to be \
+        prefixed with `r#`\n\n",
+    told: true,
+};
+
+/// What rustc 1.95 shows of two faults of a call.
+const ONE_OF_TWO: Row = Row {
+    mode: ParseMode::Format,
+    is_literal: true,
+    show: Show::Faults,
+    input: b"\"{a<>\"",
+    shown: "error: invalid format string: expected alignment specifier after `:` in format \
+        string; example: `{:>?}`\n --> a:1:4\n  |\n\
+        1 | \"{a<>\"\n  |    ^ expected `<` to occur after `:` in format string\n\n",
+    told: true,
+};
+
+/// The same with the fault that the parser finds after that, and their ids.
+pub const BOTH: Row = Row {
+    mode: ParseMode::Format,
+    is_literal: true,
+    show: Show::All,
+    input: b"\"{a<>\"",
+    shown: "fault: alignment-before-colon\n\
+        error: invalid format string: expected alignment specifier after `:` in format \
+        string; example: `{:>?}`\n --> a:1:4\n  |\n\
+        1 | \"{a<>\"\n  |    ^ expected `<` to occur after `:` in format string\n\n\
+        follows: missing-closing-brace\n\
+        error: invalid format string: expected `}`, found `<`\n --> a:1:4\n  |\n\
+        1 | \"{a<>\"\n  |  - ^ expected `}` in format string\n  |  |\n\
+        \x20 |  because of this opening brace\n  |\n\
+        \x20 = note: if you intended to print `{`, you can escape it using `{{`\n\n",
+    told: true,
+};
+
+/// The suggestions of both raw identifiers are applied, though rustc 1.95 shows only the field; that
+/// is what it shows of the result.
+const ALL_FIXED: Row = Row {
+    mode: ParseMode::Format,
+    is_literal: true,
+    show: Show::Fix,
+    input: b"\"{r#a.r#b}\"",
+    shown: "\"{a.b}\"\n\
+        error: invalid format string: field access isn't supported\n --> a:1:3\n  |\n\
+        1 | \"{a.b}\"\n  |   ^^^ not supported in format string\n  |\n\
+        \x20 = note: consider moving this expression to a local variable and then using the \
+        local here instead\n\n",
+    told: true,
+};
+
+/// Two faults as rustc 1.95 shows each by itself. A template of assembly has no suggestions.
+const ASSEMBLY: Row = Row {
+    mode: ParseMode::InlineAsm,
+    is_literal: true,
+    show: Show::Fix,
+    input: b"\"mov {r#a} }\"",
+    shown: "\"mov {r#a} }\"\n\
+        error: invalid asm template string: raw identifiers are not supported\n --> a:1:7\n  |\n\
+        1 | \"mov {r#a} }\"\n\
+        \x20 |       ^^^ raw identifier used here in asm template string\n  |\n\
+        \x20 = note: identifiers in format strings can be keywords and don't need to be \
+        prefixed with `r#`\n\n\
+        error: invalid asm template string: unmatched `}` found\n --> a:1:12\n  |\n\
+        1 | \"mov {r#a} }\"\n\
+        \x20 |            ^ unmatched `}` in asm template string\n  |\n\
+        \x20 = note: if you intended to print `}`, you can escape it using `}}`\n\n",
+    told: true,
+};
+
+#[test]
+fn shows_what_the_compiler_shows(rt: HostRuntime) -> Result<(), Fail> {
+    for row in [&IN_ORDER, &ONE_OF_TWO, &BOTH, &ALL_FIXED, &ASSEMBLY] {
+        check(&rt, rt.alloc(), row)?;
+    }
+    Ok(())
+}
+
 #[test]
 fn shows_each_kind_of_token(rt: HostRuntime) -> Result<(), Fail> {
     let rows = [
@@ -166,14 +256,34 @@ fn shows_each_kind_of_token(rt: HostRuntime) -> Result<(), Fail> {
     Ok(())
 }
 
-#[test]
-fn draws_ten_of_twelve_faults(rt: HostRuntime) -> Result<(), Fail> {
-    let mut reader: &[u8] = b"}a}a}a}a}a}a}a}a}a}a}a}a";
-    let mut written = Vec::new(rt.alloc());
-    let answer = run(rt.alloc(), &mut reader, &mut written, FAULTS);
+/// What is shown of an input ends in this.
+fn check_end(
+    rt: &impl Abort,
+    alloc: Global,
+    task: Task<'_>,
+    input: &[u8],
+    end: &[u8],
+) -> Result<(), Fail> {
+    let mut reader = input;
+    let mut written = Vec::new(alloc);
+    let answer = run(alloc, &mut reader, &mut written, task);
     assert_eq!(rt; answer, Ok(true));
-    assert!(rt; written.as_slice().ends_with(b"\n\nand 2 more\n"));
+    assert!(rt; written.as_slice().ends_with(end));
     Ok(())
+}
+
+/// Twelve faults of as many calls, and two faults of each of eleven.
+#[test]
+fn draws_ten_faults(rt: HostRuntime) -> Result<(), Fail> {
+    let braces = b"}a}a}a}a}a}a}a}a}a}a}a}a";
+    check_end(&rt, rt.alloc(), FAULTS, braces, b"\n\nand 2 more\n")?;
+    let signs = b"{a<>{a<>{a<>{a<>{a<>{a<>{a<>{a<>{a<>{a<>{a<>";
+    check_end(&rt, rt.alloc(), FAULTS, signs, b"\n\nand 1 more\n")?;
+    let all = Task {
+        show: Show::All,
+        ..FAULTS
+    };
+    check_end(&rt, rt.alloc(), all, signs, b"\n\nand 12 more\n")
 }
 
 /// Nothing is shown of this input.

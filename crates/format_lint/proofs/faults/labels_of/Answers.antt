@@ -1,5 +1,5 @@
 use Rattle.std.proofs.Common.{◌≡◌, ◌-◌, ◌++◌, IsUtf8, ap, ◌∙◌, sym, chars, length, map, nat_lt}
-use Rattle.std.proofs.Common.{rules}
+use Rattle.std.proofs.Common.{false, refl, rules}
 use Rattle.std.proofs.Common.{take, true}
 use Rattle.std.specs.Prelude.{option_map}
 use Rattle.rustc_parse_format.proofs.Sources.PlainPlaces.{width_chars}
@@ -9,13 +9,12 @@ use Rattle.rustc_parse_format.specs.Seen.{seen_mode}
 use Rattle.rustc_parse_format.specs.SeenFaults.{seen_fault}
 use Rattle.rustc_parse_format.specs.State.{State, next_call}
 use Rattle.rustc_parse_format.specs.World.{faults_in, piece_in}
-use Rattle.drawn_faults.specs.Fixing.{all_errors}
 use Rattle.format_tokens.proofs.Progress.{left_after, nil_chars, piece_so_far, smaller}
 use Rattle.format_tokens.proofs.Progress.{so_far-end, so_far-next, so_far-start, some_chars}
-use Rattle.format_lint.proofs.Firsts.{few-items, first-end, first-next, first-start}
-use Rattle.format_lint.proofs.Firsts.{lengths, no_errors}
-use Rattle.format_lint.proofs.Firsts.{some-first, some-left}
-use Rattle.format_lint.specs.Lint.{errors, most_drawn}
+use Rattle.format_lint.proofs.Firsts.{first-end, first-next, first-start, no_errors, some-left}
+use Rattle.format_lint.proofs.SomeFaults.{some-first}
+use Rattle.format_lint.specs.Findings.{findings_in}
+use Rattle.format_lint.specs.Lint.{most_drawn, start}
 use Rattle.format_lint.specs.SeenLint.{seen_source}
 use Rattle.format_lint.proofs.faults.labels_of.Goals as goal
 
@@ -28,12 +27,12 @@ loop-text-init c =
           (ap (λ (s : State). s.mode) e) (ap (λ (s : State). s.input) e)
           (ap (λ (s : State). s.rest) e) (ap (λ (s : State). s.next) e));
       none_left = c.new-found.ensures.items;
-      faults = rw c.new.ensures.items (first-start c.args.parser.now
-          (ap (λ (s : State). s.errors) e));
+      faults = rw (c.new-faults.ensures.first, c.new-faults.ensures.others)
+          (first-start false c.args.parser.now (ap (λ (s : State). s.errors) e));
     }
 
-pub add_all-requires : goal.add_all-requires
-add_all-requires c = few-items _ c.loop-text.invariant.faults.few
+pub add-requires : goal.add-requires
+add-requires c = c.loop-text.invariant.faults.added.few
 
 pub loop-text-smaller : goal.loop-text-smaller
 loop-text-smaller c =
@@ -59,13 +58,13 @@ loop-text-preserved c =
           (c.in_ok-rest.ensures c.loop-text.parser.world c.loop-text.parser.next
           (c.in_ok-taken.ensures.piece ∙ ap (λ (k : Call). option_map
           (piece_in c.loop-text.parser.world) k.piece) (piece_so_far _ _ _ _ _ h)) left);
-      none_left = c.in_ok-add_all.ensures.moved;
-      faults = first-next s c.next_with_faults.new.self _ _ _ _ _ _
+      none_left = c.in_ok-add.ensures.moved;
+      faults = first-next false s c.next_with_faults.new.self _ _ _ _ _ _
           c.loop-text.invariant.faults c.in_ok-taken.ensures.state
           (some-left _ (λ n. some (h.rest_is ∙ n)))
           (c.in_ok-taken.ensures.faults
           ∙ ap (λ gs. map seen_fault gs ++ fs) c.loop-text.invariant.none_left)
-          c.in_ok-add_all.ensures.first (lengths _ _ _ _ _ c.in_ok-add_all.ensures.count);
+          c.in_ok-add.ensures.first c.in_ok-add.ensures.count;
     }
 
 pub returns-clause-labels : goal.returns-clause-labels
@@ -78,17 +77,17 @@ returns-clause-first c =
     let h : is_nil c.loop-text.parser.rest ≡ true =
     ap is_nil (sym c.loop-text.invariant.labels.rest_is
     ∙ nil_chars _ (sym c.is_empty.ensures ∙ c.loop-text-test.false)) in
-    (first-end _ _ _ _ c.loop-text.invariant.faults h).first_are
-    ∙ ap (λ s. take most_drawn (all_errors s)) c.requires
+    (first-end _ _ _ _ _ c.loop-text.invariant.faults h).first_are
+    ∙ ap (λ s. take most_drawn (findings_in false s)) c.requires
 
 pub returns-clause-others : goal.returns-clause-others
 returns-clause-others c =
     let h : is_nil c.loop-text.parser.rest ≡ true =
     ap is_nil (sym c.loop-text.invariant.labels.rest_is
     ∙ nil_chars _ (sym c.is_empty.ensures ∙ c.loop-text-test.false)) in
-    (first-end _ _ _ _ c.loop-text.invariant.faults h).count
-    ∙ ap (λ s. length (all_errors s) - most_drawn) c.requires
+    (first-end _ _ _ _ _ c.loop-text.invariant.faults h).count
+    ∙ ap (λ s. length (findings_in false s) - most_drawn) c.requires
 
 pub returns-clause-some : goal.returns-clause-some
 returns-clause-some c = ap (λ l. nat_lt 0 (length l)) (returns-clause-first c)
-    ∙ some-first 9 (errors (seen_mode c.args.mode) (seen_source c.args.source))
+    ∙ some-first false 9 (start (seen_mode c.args.mode) (seen_source c.args.source)) refl

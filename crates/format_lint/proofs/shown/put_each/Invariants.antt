@@ -1,13 +1,14 @@
-use Rattle.std.proofs.Common.{◌≡◌, ◌++◌, drop, flat_map, string_bytes}
-use Rattle.drawn_faults.specs.Drawing.{drawing}
+use Rattle.std.proofs.Common.{◌≡◌, ◌++◌, drop, flat_map, map, string_bytes}
+use Rattle.rustc_parse_format.specs.Seen.{seen_mode}
 use Rattle.drawn_faults.specs.Places.{seen_picture}
-use Rattle.format_lint.specs.SeenLint.{errors_of}
+use Rattle.format_lint.specs.Lint.{drawn_finding}
+use Rattle.format_lint.specs.SeenLint.{seen_finding}
 use Rattle.format_lint.proofs.shown.put_each.Given as goal
 
 -- The drawings so far and those of what is left are all the drawings.
-abbrev pub invariant-loop-fault : goal.invariant-loop-fault
-invariant-loop-fault l =
+abbrev pub invariant-loop-finding : goal.invariant-loop-finding
+invariant-loop-finding l =
+    let drawing = drawn_finding l.all (seen_mode l.mode) (seen_picture l.picture) in
     string_bytes l.out
-    ++ flat_map (drawing (seen_picture l.picture)) (errors_of (drop l.fault-index l.faults))
-    ≡ string_bytes l.fn.out
-    ++ flat_map (drawing (seen_picture l.picture)) (errors_of l.faults)
+    ++ flat_map drawing (map seen_finding (drop l.finding-index l.findings))
+    ≡ string_bytes l.fn.out ++ flat_map drawing (map seen_finding l.findings)
