@@ -24,7 +24,7 @@ from pathlib import Path
 HERE = Path(__file__).resolve().parent
 NAMED = {"n": b"\n", "t": b"\t", "r": b"\r", "\\": b"\\", "s": b" ", "e": b""}
 LIMIT = 1048576
-SECONDS = 60
+SECONDS = 240
 # How many cases there are: one that is lost is a failure.
 CASES = 1489
 USAGE = "usage: formatread format|asm|diagnostic|diagnostic-named [--literal] [--args N,NAME,..]"
