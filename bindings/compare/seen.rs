@@ -89,15 +89,15 @@ macro_rules! seen_by {
                 let Case { input, style, snippet, newline, .. } = case;
                 let (source, mode) = (snippet.as_ref().unwrap_or(input), mode(case));
                 let mut errors = errors_of(input, *style, snippet.clone(), *newline, mode);
-                let mut made = format!("{:?}", edits(&errors));
+                let mut made = format!("{:?}", edits(mode, &errors));
                 made += &format!("{:?}", fix(input, *style, source, *newline, mode));
                 made += &format!("{:?}", tokens(input, *style, snippet.clone(), *newline, mode));
                 let picture = Picture { path: "a.rs", source, line_start: 9, literal_start: 0 };
-                errors.iter().for_each(|error| made += &draw(&picture, error));
+                errors.iter().for_each(|error| made += &draw(mode, &picture, error));
                 for error in &mut errors {
                     error.span = places[0]..places[1];
                     error.secondary_label = Some(("s".to_string(), places[2]..places[3]));
-                    made += &draw(&picture, error);
+                    made += &draw(mode, &picture, error);
                 }
                 made
             }
