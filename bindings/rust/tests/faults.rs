@@ -74,10 +74,7 @@ fn literals() {
 
 #[test]
 fn what_is_not_offered_in_a_mode_stays() {
-    for (mode, text) in [
-        (InlineAsm, "{a?} {r#a}"),
-        (DiagnosticNamed, "{a?} {a:?#}"),
-    ] {
+    for (mode, text) in [(InlineAsm, "{a?} {r#a}"), (DiagnosticNamed, "{a?} {a:?#}")] {
         assert_eq!(fixed(mode, text, None, &format!("\"{text}\"")), None);
     }
 }
@@ -256,4 +253,29 @@ fn spans() {
             format!("error: invalid format string: d\n{wanted}")
         );
     }
+}
+
+/// Characters that a terminal obeys are drawn as others, wherever they stand.
+#[test]
+fn what_a_terminal_obeys() {
+    let error = ParseError {
+        description: "d\u{1b}[31m".to_string(),
+        note: Some("n\u{202e}".to_string()),
+        label: "\u{9b}l".to_string(),
+        span: 8..9,
+        secondary_label: Some(("\u{7f}s".to_string(), 9..10)),
+        suggestion: Suggestion::ReorderFormatParameter(8..9, "\u{200f}x".to_string()),
+    };
+    let picture = Picture {
+        path: "a\u{7}.rs",
+        source: "\u{9b}\u{61c}\u{200e}\u{200d}ab",
+        line_start: 7,
+        literal_start: 2,
+    };
+    let wanted = "error: invalid format string: d\u{241b}[31m\n --> a\u{2407}.rs:7:5\n  |\n\
+        7 | \u{fffd}\u{fffd}\u{fffd}ab\n  |    ^- \u{2421}s\n  |    |\n\
+        \x20 |    \u{fffd}l in format string\n  |\n  = note: n\u{fffd}\n\
+        help: did you mean `\u{fffd}x`?\n  |\n7 - \u{fffd}\u{fffd}\u{fffd}ab\n\
+        7 + \u{fffd}\u{fffd}\u{fffd}\u{fffd}xb\n  |\n\n";
+    assert_eq!(draw(Format, &picture, &error), wanted);
 }
