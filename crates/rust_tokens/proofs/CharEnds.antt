@@ -8,7 +8,7 @@ use Rattle.std.proofs.lemmas.Option.{none-some, same_Some}
 use Rattle.rust_tokens.specs.Texts.{Text, strip}
 use Rattle.rust_tokens.specs.Runs.{first_passes, stops, behind, IsWord, is_id_start, is_id_continue}
 use Rattle.rust_tokens.specs.Runs.{is_apostrophe}
-use Rattle.rust_tokens.specs.Characters.{is_plain, is_in_escape, IsCharTail, behind_escape}
+use Rattle.rust_tokens.specs.Characters.{is_char_content, is_in_escape, IsCharTail, behind_escape}
 use Rattle.rust_tokens.specs.Characters.{behind_char}
 use Rattle.rust_tokens.specs.Characters.{behind_name, behind_raw_name, unless_apostrophe}
 use Rattle.rust_tokens.specs.Characters.{BeginsName, BeginsRawName}
@@ -21,8 +21,8 @@ use Rattle.rust_tokens.proofs.Basics.{strip-reads}
 pub char-ends : (s a : Text) → IsCharTail s → behind_char (s ++ a) ≡ Some a
 char-ends s a (inl x) =
     ap (λ t. behind_char (t ++ a)) x.2
-    ∙ (cond-false (x.0 == 92) _ _ (apart is_plain x.0 92 refl x.1)
-    ∙ cond-true (is_plain x.0) _ _ x.1)
+    ∙ (cond-false (x.0 == 92) _ _ (apart is_char_content x.0 92 refl x.1)
+    ∙ cond-true (is_char_content x.0) _ _ x.1)
 char-ends s a (inr x) =
     ap (λ t. behind_char (t ++ a)) x.3
     ∙ ap (λ t. strip 39 t) (ap (λ t. behind is_in_escape t) (append_assoc x.1 (codes "'") a)
@@ -32,9 +32,9 @@ char-ends s a (inr x) =
 pub char-reads : (t m : Text) → behind_char t ≡ Some m
     → (s : Text) × IsCharTail s × (t ≡ s ++ m)
 char-reads [] m h = absurd (none-some m h)
-char-reads (c ∷ t) m h = by_tests (c == 92) (is_plain c) refl refl h
+char-reads (c ∷ t) m h = by_tests (c == 92) (is_char_content c) refl refl h
   where
-    by_tests : (slash plain : Bool) → (c == 92) ≡ slash → is_plain c ≡ plain
+    by_tests : (slash plain : Bool) → (c == 92) ≡ slash → is_char_content c ≡ plain
         → cond slash (behind_escape t) (cond plain (strip 39 t) None) ≡ Some m
         → (s : Text) × IsCharTail s × (c ∷ t ≡ s ++ m)
     by_tests true plain e p h = escaped t h
@@ -63,7 +63,7 @@ pub no-char : (c : ℕ) (u : Text) → is_id_start c ≡ true → first_passes i
     → behind_char (c ∷ u) ≡ None
 no-char c u s e =
     cond-false (c == 92) _ _ (apart is_id_start c 92 starts-back s)
-    ∙ (ap (λ o. cond (is_plain c) o None) (strip-none u e) ∙ same (is_plain c))
+    ∙ (ap (λ o. cond (is_char_content c) o None) (strip-none u e) ∙ same (is_char_content c))
   where
     same : (b : Bool) → ◌≡◌ {A = Option Text} (cond b None None) None
     same true = refl

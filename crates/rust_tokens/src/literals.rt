@@ -6,7 +6,7 @@ ghost use Rattle.rust_tokens.specs.Characters.{behind_raw_name, unless_apostroph
 ghost use Rattle.rust_tokens.specs.Comments.{block_kind, line_kind};
 
 use crate::kinds::Kind;
-use crate::texts::{Class, begins, behind_run, is_id_start, is_plain, split_first, strip};
+use crate::texts::{Class, begins, behind_run, is_char_content, is_id_start, split_first, strip};
 
 /// Returns the kind of a line comment, by what is behind its `//`.
 pub fn line_kind(text: &str) -> Kind
@@ -61,7 +61,7 @@ pub fn behind_char(text: &str) -> Option<&str>
     if c == '\\' {
         return behind_escape(rest);
     }
-    if is_plain(c) {
+    if is_char_content(c) {
         return strip(rest, '\'');
     }
     None

@@ -6,7 +6,7 @@ ghost use Rattle.rust_tokens.specs.Bytes.{is_ascii_in};
 ghost use Rattle.rust_tokens.specs.Classes.{passes};
 ghost use Rattle.rust_tokens.specs.Runs.{behind, count, first_passes, is_digit_part, is_hash};
 ghost use Rattle.rust_tokens.specs.Runs.{is_hex_part, is_id_start, is_punct, is_space};
-ghost use Rattle.rust_tokens.specs.Characters.{is_plain};
+ghost use Rattle.rust_tokens.specs.Characters.{is_char_content};
 ghost use Rattle.rust_tokens.specs.Texts.{split_first, strip};
 
 use crate::bytes::{is_space_byte, is_start_byte, is_word_byte};
@@ -118,8 +118,8 @@ pub fn is_punct(c: char) -> bool
 }
 
 /// Returns whether the character stands for itself between two apostrophes.
-pub fn is_plain(c: char) -> bool
-    ensures { result ≡ is_plain c }
+pub fn is_char_content(c: char) -> bool
+    ensures { result ≡ is_char_content c }
 {
     !(c == '\'' || c == '\\' || c == '\n' || c == '\r' || c == '\t')
 }
