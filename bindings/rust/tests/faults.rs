@@ -79,6 +79,46 @@ fn what_is_not_offered_in_a_mode_stays() {
     }
 }
 
+/// All texts of up to so many parts.
+fn texts_of(parts: usize) -> Vec<String> {
+    let mut all = vec![String::new()];
+    let mut last = all.clone();
+    for _ in 0..parts {
+        last = last
+            .iter()
+            .flat_map(|text| PARTS.iter().map(move |part| format!("{text}{part}")))
+            .collect();
+        all.extend(last.iter().cloned());
+    }
+    all
+}
+
+/// What texts that may have edits are made of.
+const PARTS: &[&str] = &["{", "}", "{{", "a", ":", "?", "#", "r#", ".", "0", "$", " "];
+
+#[test]
+fn a_fix_leaves_no_more_faults_and_does_not_turn_round() {
+    for text in texts_of(4) {
+        for mode in [Format, InlineAsm, Diagnostic, DiagnosticNamed] {
+            let fix_of = |text: &str| fixed(mode, text, None, &format!("\"{text}\""));
+            let faults_of = |text: &str| errors_of(text, None, None, false, mode);
+            let mut seen = vec![text.clone()];
+            while let Some((_, next)) = fix_of(&seen[seen.len() - 1]) {
+                let (before, after) = (faults_of(&seen[seen.len() - 1]), faults_of(&next));
+                assert!(mode != InlineAsm && after.len() <= before.len(), "{text}");
+                assert!(!seen.contains(&next), "{seen:?}");
+                let is_late = |it: &ParseError| it.description.starts_with("format specifiers");
+                assert_eq!(
+                    after.iter().any(is_late),
+                    before.iter().any(is_late),
+                    "{text}"
+                );
+                seen.push(next);
+            }
+        }
+    }
+}
+
 #[test]
 fn what_is_not_fixed() {
     for (input, style, literal) in [

@@ -4,7 +4,7 @@ use Rattle.std.proofs.Common.{◌≡◌, ℕ, ◌+◌, ◌-◌, ◌<◌, ◌≤�
 use Rattle.std.proofs.Common.{List, [], ◌∷◌, ◌++◌, length, chars, drop, min, take, replicate}
 use Rattle.std.proofs.Common.{refl, ap, sym, subst, ◌∙◌, arith, true, false, Bool}
 use Rattle.std.proofs.Common.{nat_lt, IsUtf8, IsCharBoundary, encode_utf8_all}
-use Rattle.std.proofs.Common.{append_assoc}
+use Rattle.std.proofs.Common.{append-nil, append_assoc}
 use Rattle.std.proofs.Math.Utf8.{encode}
 use Rattle.std.proofs.lemmas.Grind.{flat_map-append}
 use Rattle.std.proofs.lemmas.List.Folds.{list_all-append}
@@ -12,9 +12,10 @@ use Rattle.std.specs.List.{fold, list_all}
 use Rattle.std.specs.Str.{IsAscii}
 use Rattle.std.proofs.lemmas.Bool.{and_parts, cases_lt, false≢true}
 use Rattle.std.proofs.lemmas.Bool.Decides.{nat_tests}
-use Rattle.std.proofs.lemmas.List.{take-append-drop, take-take, length-take}
+use Rattle.std.proofs.lemmas.List.{nil_from_length, take-append-drop, take-take, length-take}
 use Rattle.std.proofs.lemmas.List.Sums.{fold-append}
-use Rattle.std.proofs.lemmas.Str.{chars-append, chars-IsAscii, IsUtf8-from_ascii, IsUtf8-take}
+use Rattle.std.proofs.lemmas.Str.{chars-append, chars-nil, chars-IsAscii, IsUtf8-from_ascii}
+use Rattle.std.proofs.lemmas.Str.{IsUtf8-take}
 use Rattle.std.proofs.lemmas.Str.{encode_ascii, encodes-chars, encodes-append, len_utf8_ascii}
 use Rattle.std.proofs.lemmas.Str.{IsCharBoundary-from_take}
 use Rattle.std.proofs.lemmas.Str.Ascii.{IsAscii-nil, IsAscii-cons}
@@ -92,6 +93,14 @@ glyphs-printable (c ∷ f) t e =
       glyph-printable c parts.0,
       encode_ascii c (small-printable c parts.0),
     ) (ap (λ x. c ∷ x) (glyphs-printable f t parts.1))
+
+pub whole-printable : (s front back : List ℕ) → chars s ≡ front ++ chars back
+    → length back ≡ 0 → list_all is_printable front ≡ true
+    → encode_utf8_all (glyphs (chars s)) ≡ front
+whole-printable s front back parts none e =
+    let nil : chars back ≡ [] = ap chars (nil_from_length back none) ∙ chars-nil in
+    ap (λ t. encode_utf8_all (glyphs t)) (parts ∙ ap (λ t. front ++ t) nil)
+    ∙ (glyphs-printable front [] e ∙ append-nil front)
 
 pub drop-printable : (f : List ℕ) (n : ℕ) (t : Text) → list_all is_printable f ≡ true
     → encode_utf8_all (drop n (glyphs (f ++ t)))

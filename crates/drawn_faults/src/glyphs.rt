@@ -204,6 +204,10 @@ pub fn put_glyphs(out: &mut String, text: &str, skipped: usize) -> Result<(), Al
         encode_utf8_all (drop skipped (glyphs (chars text.now)))) }
     ensures harmless { IsHarmless (encode_utf8_all (drop skipped (glyphs (chars text.now)))) }
 {
+    let (front, behind) = split_printable(text, text.len());
+    if skipped == 0 && behind.len() == 0 {
+        return Ok(out.push_str(front)?);
+    }
     let (mut rest, mut skip) = put_printable(out, text, skipped)?;
     while let Some((c, tail)) = split_first(rest) {
         let count = glyph_count(c);

@@ -48,9 +48,9 @@ abbrev pub is_double : List Leaf → ℕ → Bool
 is_double xs i = (is_mark (code "|") xs i && is_followed (code "|") xs i)
     || (is_mark (code "<") xs i && is_followed (code "<") xs i)
 
-abbrev pub is_ident : Kind → Bool
-is_ident Ident = true
-is_ident k = false
+abbrev pub is_non_raw_ident : Kind → Bool
+is_non_raw_ident Ident = true
+is_non_raw_ident k = false
 
 abbrev pub is_lifetime : Kind → Bool
 is_lifetime Lifetime = true
@@ -58,7 +58,7 @@ is_lifetime k = false
 
 -- The token is this word, and no raw one.
 abbrev pub is_text : Leaf → List ℕ → Bool
-is_text x w = is_ident x.kind && bytes_eq x.text w
+is_text x w = is_non_raw_ident x.kind && bytes_eq x.text w
 
 -- A keyword behind which an expression starts, or behind which a type goes on to start.
 abbrev pub is_keyword : Leaf → Bool

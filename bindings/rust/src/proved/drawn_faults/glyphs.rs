@@ -196,6 +196,10 @@ fn put_as_is<'a>(
 // ensures harmless { IsHarmless (encode_utf8_all (drop skipped (glyphs (chars text.now)))) }
 #[inline]
 pub fn put_glyphs(out: &mut String, text: &str, skipped: usize) -> Result<(), AllocError> {
+    let (front, behind) = split_printable(text, text.len());
+    if skipped == 0 && behind.len() == 0 {
+        return Ok(out.try_push_str(front)?);
+    }
     let (mut rest, mut skip) = put_printable(out, text, skipped)?;
     while let Some((c, tail)) = split_first(rest) {
         let count = glyph_count(c);
