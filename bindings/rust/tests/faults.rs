@@ -308,7 +308,7 @@ fn what_a_terminal_obeys() {
     };
     let picture = Picture {
         path: "a\u{7}.rs",
-        source: "\u{9b}\u{61c}\u{200e}\u{200d}ab",
+        source: "\u{61c}\u{9b}\u{200e}\u{200d}ab",
         line_start: 7,
         literal_start: 2,
     };
