@@ -205,7 +205,7 @@ pub fn put_glyphs(out: &mut String, text: &str, skipped: usize) -> Result<(), Al
     ensures harmless { IsHarmless (encode_utf8_all (drop skipped (glyphs (chars text.now)))) }
 {
     let (front, behind) = split_printable(text, text.len());
-    if skipped == 0 && behind.len() == 0 {
+    if skipped == 0 && behind.is_empty() {
         return Ok(out.push_str(front)?);
     }
     let (mut rest, mut skip) = put_printable(out, text, skipped)?;

@@ -197,7 +197,7 @@ fn put_as_is<'a>(
 #[inline]
 pub fn put_glyphs(out: &mut String, text: &str, skipped: usize) -> Result<(), AllocError> {
     let (front, behind) = split_printable(text, text.len());
-    if skipped == 0 && behind.len() == 0 {
+    if skipped == 0 && behind.is_empty() {
         return Ok(out.try_push_str(front)?);
     }
     let (mut rest, mut skip) = put_printable(out, text, skipped)?;
