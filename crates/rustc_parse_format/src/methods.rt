@@ -2,7 +2,7 @@
 //! argument, and whether it is an identifier.
 
 ghost use Rattle.std.specs.Prelude.{◌≡◌};
-ghost use Rattle.rustc_parse_format.specs.Seen.{index_of, seen_position, seen_spec};
+ghost use Rattle.rustc_parse_format.specs.Seen.{index_of, pair, seen_position, seen_spec};
 ghost use Rattle.rustc_parse_format.specs.Types.{Implicit, default_spec};
 
 use crate::laws::{clone_of_argument, default_of_spec, specs_are_equal};
@@ -59,7 +59,7 @@ impl Argument<'_> {
 
 impl Default for Argument<'_> {
     ghost is_default = { λ a. (seen_position a.position ≡ Implicit 0)
-        × (seen_spec a.format ≡ default_spec) };
+        × (pair a.position_span ≡ (0, 0)) × (seen_spec a.format ≡ default_spec) };
 
     /// Returns an argument to read a placeholder into, as `Parser::next_into` does: the implicit
     /// argument 0 with an empty span and the default format.
