@@ -6,5 +6,6 @@ pub mod Nested
 pub mod Once
 pub mod Partners
 pub mod PlaceSteps
+pub mod KnownPlaces
 pub mod Scanning
 pub mod Stacks

@@ -1,9 +1,11 @@
 -- Places in a text as an editor shows them: lines, and in them characters, both from 1. An LF ends
 -- a line. A CR in front of an LF and a byte order mark at the start are no characters of a line.
-use Rattle.std.specs.Prelude.{ℕ, Bool, ◌+◌, ◌==◌, ◌&&◌, ◌++◌, [], ◌∷◌}
-use Rattle.std.specs.Prelude.{if◌then◌else◌}
+use Rattle.std.specs.Prelude.{ℕ, Bool, ◌≡◌, ◌+◌, ◌≤◌, ◌==◌, ◌&&◌, ◌++◌, List, [], ◌∷◌, chars, drop}
+use Rattle.std.specs.Prelude.{if◌then◌else◌, take}
+use Rattle.std.specs.Str.{IsCharBoundary}
 use Rattle.rust_tokens.specs.Texts.{Text}
 use Rattle.rust_tokens.specs.Runs.{first_passes}
+use Rattle.rust_trees.specs.declared.places.Known.{Known}
 use Rattle.rust_trees.specs.declared.places.Place.{Place}
 
 -- LF
@@ -33,3 +35,15 @@ without_mark (c ∷ t) = if c == 0xFEFF then t else c ∷ t
 -- The place in a file that is between these two texts.
 abbrev pub place_between : Text → Text → Place
 place_between front back = place_after start (without_mark front) back
+
+-- The place of a byte offset, which is at the end of a character or 0.
+abbrev pub place_of : List ℕ → ℕ → Place
+place_of bs n = place_between (chars (take n bs)) (chars (drop n bs))
+
+-- An offset that is not the start of a text, with its place.
+pub record IsKnown (bs : List ℕ) (k : Known) : Type 0 where
+  pub is_behind : 1 ≤ k.offset
+  pub boundary : IsCharBoundary bs k.offset
+  pub place : k.place ≡ place_of bs k.offset
+  pub line : k.place.line ≤ k.offset + 1
+  pub column : k.place.column ≤ k.offset + 1

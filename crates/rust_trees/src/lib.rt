@@ -11,6 +11,6 @@ mod source;
 
 pub use leaves::Token;
 pub use matching::Break;
-pub use places::{Place, place_after, place_at};
+pub use places::{Place, Places, place_after, place_at};
 pub use sides::{Delimiter, Side};
 pub use source::Source;

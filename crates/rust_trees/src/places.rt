@@ -1,13 +1,15 @@
 //! Places in a text as an editor shows them.
 
-ghost use Rattle.std.specs.Prelude.{◌≡◌, ◌+◌, ◌<◌, ◌≤◌, ◌^◌, ◌++◌, chars, drop};
-ghost use Rattle.std.specs.Prelude.{length, take};
+ghost use Rattle.std.specs.Prelude.{◌≡◌, ◌+◌, ◌<◌, ◌≤◌, ◌^◌, ◌++◌, IfOk, chars, length};
+ghost use Rattle.std.specs.List.{All};
 ghost use Rattle.std.specs.Str.{IsCharBoundary};
 ghost use Rattle.rust_tokens.specs.Runs.{first_passes};
-ghost use Rattle.rust_trees.specs.Places.{behind_char, is_lf, place_after, place_between};
+ghost use Rattle.rust_trees.specs.Places.{IsKnown, behind_char, is_lf, place_after, place_of};
 ghost use Rattle.rust_trees.specs.Places.{without_mark};
 
 use rust_tokens::split_first;
+use std::alloc::{AllocError, Global};
+use std::marker::Model;
 
 /// A line and a column of a text, both from 1. An LF ends a line, and a column counts characters,
 /// but no CR in front of an LF and no byte order mark at the start.
@@ -79,12 +81,93 @@ fn without_mark(text: &str) -> &str
     }
 }
 
-/// Returns the place of a byte offset.
+/// Returns the place of a byte offset at which a character of the text starts, or at its end.
 pub fn place_at(text: &str, offset: usize) -> Place
     requires { IsCharBoundary text.now offset }
-    ensures { result ≡ place_between (chars (take offset text.now))
-        (chars (drop offset text.now)) }
+    ensures { result ≡ place_of text.now offset }
 {
     let (front, back) = text.split_at(offset);
     place_after(Place { line: 1, column: 1 }, without_mark(front), back)
+}
+
+/// How many bytes there are between two places that are known of a text.
+const STEP: usize = 4096;
+
+/// A byte offset of a text with its place.
+#[derive(Clone, Copy)]
+pub struct Known {
+    pub offset: usize,
+    pub place: Place,
+}
+
+/// Returns the place of a byte offset, from the last place before it of those that are known.
+fn place_from(text: &str, known: &[Known], offset: usize) -> Place
+    requires known { All (IsKnown text.now) known.now }
+    requires boundary { IsCharBoundary text.now offset }
+    ensures { result ≡ place_of text.now offset }
+{
+    let count = known.len().min(offset / STEP);
+    if count > 0 {
+        let last = known[count - 1];
+        if last.offset <= offset {
+            return place_after(last.place, &text[last.offset..offset], &text[offset..]);
+        }
+    }
+    place_at(text, offset)
+}
+
+/// Adds a byte offset with its place to those that are known, unless it is 0. Returns `Err` if an
+/// allocation fails.
+fn add_known(known: &mut Vec<Known>, text: &str, offset: usize) -> Result<(), AllocError>
+    requires known { All (IsKnown text.now) known.old.items }
+    requires boundary { IsCharBoundary text.now offset }
+    ensures { All (IsKnown text.now) known.new.items }
+{
+    if offset == 0 {
+        return Ok(());
+    }
+    let place = place_from(text, known, offset);
+    known.push(Known { offset, place })?;
+    Ok(())
+}
+
+/// A text in which the place of a byte offset is found in a time that is not longer in a longer
+/// text.
+#[derive(Drop)]
+pub struct Places<'a> {
+    text: &'a str,
+    known: Vec<Known>,
+}
+
+impl<'a> Model for Places<'a> {
+    ghost use Rattle.std.specs.Prelude.{ℕ, List};
+    ghost use Rattle.std.specs.List.{All};
+    ghost use Rattle.rust_trees.specs.Places.{IsKnown};
+
+    ghost Value = { List ℕ };
+
+    ghost view = { λ p. p.text.now };
+
+    ghost invariant = { λ p. All (IsKnown p.text.now) p.known.items };
+}
+
+impl<'a> Places<'a> {
+    /// Reads a text. Returns `Err` if an allocation fails.
+    pub fn new(alloc: Global, text: &'a str) -> Result<Self, AllocError>
+        ensures { IfOk result (λ p. p ≡ text.now) }
+    {
+        let mut known = Vec::new(alloc);
+        for step in 1..=text.len() / STEP {
+            add_known(&mut known, text, text.floor_char_boundary(step * STEP))?;
+        }
+        Ok(Places { text, known })
+    }
+
+    /// Returns the place of a byte offset at which a character of the text starts, or at its end.
+    pub fn at(&self, offset: usize) -> Place
+        requires { IsCharBoundary self.now offset }
+        ensures { result ≡ place_of self.now offset }
+    {
+        place_from(self.text, &self.known, offset)
+    }
 }
