@@ -16,23 +16,12 @@ use Rattle.std.proofs.Math.Seq.{take-append_seam}
 use Rattle.rust_tokens.specs.declared.kinds.Kind.{Kind}
 use Rattle.rust_tokens.specs.declared.kinds.Kind.TheVariants.{Shebang, ByteOrderMark}
 use Rattle.rust_tokens.specs.Texts.{Text}
-use Rattle.rust_tokens.specs.Tokens.{Lexeme, Begins, ReadsTo, Reads}
+use Rattle.rust_tokens.specs.Tokens.{Lexeme, Begins, Reads}
 use Rattle.rust_tokens.specs.Files.{is_head, ReadsFile}
 use Rattle.rust_tokens.specs.declared.kinds.Token.{Token}
 use Rattle.rust_tokens.specs.Placed.{byte_length, end_of, end_of_all, token_at}
-use Rattle.rust_tokens.proofs.Readings.{byte-length, reads-more, end-more}
-use Rattle.rust_trees.specs.Leaves.{Leaf, leaf_at, leaves, is_leaf, is_some_text}
-
--- The tokens xs were read from a file, rest is left, and these are left of them.
-pub record IsRead (whole : List ℕ) (found : List Leaf) (rest : List ℕ) : Type 0 where
-  pub head : List Lexeme
-  pub start : Text
-  pub read : List Lexeme
-  pub is_head : IsTrue (list_all (λ x. is_head x.kind) head)
-  pub joins : (rs : List Lexeme) → Reads start rs → ReadsFile (chars whole) (head ++ rs)
-  pub reads : ReadsTo start read (chars rest)
-  pub is_found : found ≡ leaves (end_of_all 0 head) read
-  pub bytes : end_of_all (end_of_all 0 head) read + length rest ≡ length whole
+use Rattle.rust_tokens.proofs.Readings.{byte-length}
+use Rattle.rust_trees.specs.Leaves.{AreLeft, Leaf, leaf_at, leaves, is_leaf, is_some_text}
 
 -- A text is cut behind its first token.
 pub record Cut (rest behind : List ℕ) (x : Lexeme) : Type 0 where
@@ -70,21 +59,6 @@ cut-front rest behind x u v b =
     ∙ (ap (λ t. take (length (encode_utf8_all (x.body ++ x.suffix))) t) c.joins
     ∙ take-append_seam (encode_utf8_all (x.body ++ x.suffix)) behind)
 
--- The tokens of which one more was read.
-if-append : (b : Bool) (l : Leaf) (ls ms : List Leaf)
-    → (if b then l ∷ (ls ++ ms) else ls ++ ms) ≡ (if b then l ∷ ls else ls) ++ ms
-if-append true l ls ms = refl
-if-append false l ls ms = refl
-
-pub leaves-append : (at : ℕ) (xs ys : List Lexeme)
-    → leaves at (xs ++ ys) ≡ leaves at xs ++ leaves (end_of_all at xs) ys
-leaves-append at [] ys = refl
-leaves-append at (x ∷ xs) ys =
-    let more = leaves-append (end_of at x) xs ys in
-    ap (λ t. if is_leaf x.kind x.is_ended then leaf_at at x ∷ t else t) more
-    ∙ if-append (is_leaf x.kind x.is_ended) (leaf_at at x) (leaves (end_of at x) xs)
-    (leaves (end_of_all (end_of at x) xs) ys)
-
 head-no-leaf : (k : Kind) (e : Bool) → is_head k ≡ true → is_leaf k e ≡ false
 head-no-leaf Shebang e h = refl
 head-no-leaf ByteOrderMark e h = refl
@@ -98,55 +72,72 @@ leaves-heads at (x ∷ xs) h =
     ap (λ b. if b then leaf_at at x ∷ leaves (end_of at x) xs else leaves (end_of at x) xs)
     (head-no-leaf x.kind x.is_ended p.0) ∙ leaves-heads (end_of at x) xs p.1
 
-pub read-none : (whole rest : List ℕ) (hs : List Lexeme)
+leaves-behind : (at : ℕ) (xs ys : List Lexeme) → IsTrue (list_all (λ x. is_head x.kind) xs)
+    → leaves at (xs ++ ys) ≡ leaves (end_of_all at xs) ys
+leaves-behind at [] ys h = refl
+leaves-behind at (x ∷ xs) ys h =
+    let p = and_parts _ _ h in
+    ap (λ b. if b then leaf_at at x ∷ leaves (end_of at x) (xs ++ ys)
+    else leaves (end_of at x) (xs ++ ys)) (head-no-leaf x.kind x.is_ended p.0)
+    ∙ leaves-behind (end_of at x) xs ys p.1
+
+-- What is left of a file behind its head are its tokens.
+pub left-all : (whole rest : List ℕ) (hs : List Lexeme)
     → IsTrue (list_all (λ x. is_head x.kind) hs)
     → ((rs : List Lexeme) → Reads (chars rest) rs → ReadsFile (chars whole) (hs ++ rs))
-    → end_of_all 0 hs + length rest ≡ length whole → IsRead whole [] rest
-read-none whole rest hs h j e = record {
-  head = hs;
-  start = chars rest;
-  read = [];
-  is_head = h;
-  joins = j;
-  reads = refl;
-  is_found = refl;
-  bytes = e;
-}
+    → end_of_all 0 hs + length rest ≡ length whole → (ls : List Leaf)
+    → AreLeft (record { whole = whole; rest = rest }) ls
+    → (xs : List Lexeme) × ReadsFile (chars whole) xs × (ls ≡ leaves 0 xs)
+left-all whole rest hs h j e ls l =
+    let at : length whole - length rest ≡ end_of_all 0 hs = omega (arith, e) in
+    (hs ++ l.0, j l.0 l.1, l.2 ∙ (ap (λ n. leaves n l.0) at ∙ sym (leaves-behind 0 hs l.0 h)))
 
-pub read-more : (whole rest behind : List ℕ) (found more : List Leaf) (x : Lexeme)
-    → IsUtf8 rest → IsUtf8 behind → Begins x (chars rest) (chars behind)
-    → IsRead whole found rest
-    → more ≡ (if is_leaf x.kind x.is_ended then leaf_at (length whole - length rest) x ∷ [] else [])
-    → IsRead whole (found ++ more) behind
-read-more whole rest behind found more x u v b h e =
+-- Where what is left begins after its first token.
+next-at : (whole rest behind : List ℕ) (x : Lexeme) → IsUtf8 rest → IsUtf8 behind
+    → Begins x (chars rest) (chars behind) → length rest ≤ length whole
+    → end_of (length whole - length rest) x ≡ length whole - length behind
+next-at whole rest behind x u v b h =
     let c = cut rest behind x u v b in
     let l = ap (λ t. length t) c.joins
     ∙ length-append (encode_utf8_all (x.body ++ x.suffix)) behind in
-    let s = c.size in
-    let n = h.bytes in
-    let start : length whole - length rest ≡ end_of_all (end_of_all 0 h.head) h.read =
-    omega (arith, n) in
-    let m = end-more (end_of_all 0 h.head) h.read x in record {
-      head = h.head;
-      start = h.start;
-      read = h.read ++ x ∷ [];
-      is_head = h.is_head;
-      joins = h.joins;
-      reads = reads-more h.start h.read (chars rest) x (chars behind) h.reads b;
-      is_found = rw (h.is_found, e, start)
-          (sym (leaves-append (end_of_all 0 h.head) h.read (x ∷ [])));
-      bytes = omega (arith, m, n, l, s);
-    }
+    let s = c.size in omega (arith, l, s, h)
 
--- The whole file was read.
-pub read-all : (whole rest : List ℕ) (found : List Leaf) → IsRead whole found rest
-    → chars rest ≡ [] → (xs : List Lexeme) × ReadsFile (chars whole) xs × (found ≡ leaves 0 xs)
-read-all whole rest found h e = (
-  h.head ++ h.read,
-  h.joins h.read (subst (λ t. ReadsTo h.start h.read t) e h.reads),
-  h.is_found ∙ sym (leaves-append 0 h.head h.read
-      ∙ ap (λ t. t ++ leaves (end_of_all 0 h.head) h.read) (leaves-heads 0 h.head h.is_head)),
+-- A token that is no leaf changes nothing of what is left.
+pub left-behind : (whole rest behind : List ℕ) (x : Lexeme) → IsUtf8 rest → IsUtf8 behind
+    → Begins x (chars rest) (chars behind) → length rest ≤ length whole
+    → is_leaf x.kind x.is_ended ≡ false → (ls : List Leaf)
+    → AreLeft (record { whole = whole; rest = behind }) ls
+    → AreLeft (record { whole = whole; rest = rest }) ls
+left-behind whole rest behind x u v b h e ls l = (
+  x ∷ l.0,
+  (chars behind, b, l.1),
+  l.2 ∙ (ap (λ n. leaves n l.0) (sym (next-at whole rest behind x u v b h))
+      ∙ sym (ap (λ t. if t then leaf_at (length whole - length rest) x
+      ∷ leaves (end_of (length whole - length rest) x) l.0
+      else leaves (end_of (length whole - length rest) x) l.0) e)),
 )
+
+-- A token that is a leaf is the first of what is left.
+pub left-more : (whole rest behind : List ℕ) (x : Lexeme) → IsUtf8 rest → IsUtf8 behind
+    → Begins x (chars rest) (chars behind) → length rest ≤ length whole
+    → is_leaf x.kind x.is_ended ≡ true → (ls : List Leaf)
+    → AreLeft (record { whole = whole; rest = behind }) ls
+    → AreLeft (record { whole = whole; rest = rest })
+    (leaf_at (length whole - length rest) x ∷ ls)
+left-more whole rest behind x u v b h e ls l = (
+  x ∷ l.0,
+  (chars behind, b, l.1),
+  ap (λ t. leaf_at (length whole - length rest) x ∷ t)
+      (l.2 ∙ ap (λ n. leaves n l.0) (sym (next-at whole rest behind x u v b h)))
+      ∙ sym (ap (λ t. if t then leaf_at (length whole - length rest) x
+      ∷ leaves (end_of (length whole - length rest) x) l.0
+      else leaves (end_of (length whole - length rest) x) l.0) e),
+)
+
+-- Nothing is left of an empty rest.
+pub left-none : (whole rest : List ℕ) → chars rest ≡ []
+    → AreLeft (record { whole = whole; rest = rest }) []
+left-none whole rest h = ([], h, refl)
 
 -- A suffix is there exactly if the token does not end where its suffix starts.
 pub suffix-test : (n : ℕ) (t : Text) → nat_lt n (n + byte_length t) ≡ is_some_text t

@@ -1,13 +1,13 @@
 -- The tokens of a file that are no white space and no comment.
 use Rattle.std.specs.Prelude.{ℕ, Bool, true, false, not, List, [], ◌∷◌, ◌++◌, if◌then◌else◌}
-use Rattle.std.specs.Prelude.{encode_utf8_all}
+use Rattle.std.specs.Prelude.{◌≡◌, ◌-◌, chars, encode_utf8_all, length}
 use Rattle.rust_tokens.specs.declared.kinds.Kind.{Kind}
 use Rattle.rust_tokens.specs.declared.kinds.Kind.TheVariants.{Whitespace, LineComment, OuterLineDoc}
 use Rattle.rust_tokens.specs.declared.kinds.Kind.TheVariants.{InnerLineDoc, BlockComment}
 use Rattle.rust_tokens.specs.declared.kinds.Kind.TheVariants.{OuterBlockDoc, InnerBlockDoc}
 use Rattle.rust_tokens.specs.declared.kinds.Kind.TheVariants.{Shebang, ByteOrderMark}
 use Rattle.rust_tokens.specs.Texts.{Text}
-use Rattle.rust_tokens.specs.Tokens.{Lexeme}
+use Rattle.rust_tokens.specs.Tokens.{Lexeme, Reads}
 use Rattle.rust_tokens.specs.Placed.{end_of}
 use Rattle.rust_trees.specs.declared.sides.Side.{Side}
 use Rattle.rust_trees.specs.declared.leaves.Token.{Token}
@@ -68,3 +68,13 @@ abbrev pub leaves : ℕ → List Lexeme → List Leaf
 leaves at [] = []
 leaves at (x ∷ xs) = if is_leaf x.kind x.is_ended then leaf_at at x ∷ leaves (end_of at x) xs
     else leaves (end_of at x) xs
+
+-- A file that is read, and what is left of it, both in bytes.
+pub record Unread : Type 0 where
+  pub whole : List ℕ
+  pub rest : List ℕ
+
+-- These are the tokens of what is left of a file.
+abbrev pub AreLeft : Unread → List Leaf → Type 0
+AreLeft u ls = (xs : List Lexeme) × Reads (chars u.rest) xs
+    × (ls ≡ leaves (length u.whole - length u.rest) xs)

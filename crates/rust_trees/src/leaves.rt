@@ -1,13 +1,15 @@
 //! The tokens of a file without white space and comments.
 
-ghost use Rattle.std.specs.Prelude.{◌≡◌, IfOk, List, chars, map};
+ghost use Rattle.std.specs.Prelude.{◌≡◌, ◌<◌, ◌∷◌, [], IfOk, IfSome, IsNone, List, ℕ, chars};
+ghost use Rattle.std.specs.Prelude.{◌≤◌, length, map};
 ghost use Rattle.rust_tokens.specs.Files.{ReadsFile};
 ghost use Rattle.rust_tokens.specs.Tokens.{Lexeme};
-ghost use Rattle.rust_trees.specs.Leaves.{is_leaf, leaf, leaves, side};
+ghost use Rattle.rust_trees.specs.Leaves.{AreLeft, Leaf, is_leaf, leaf, leaves, side};
 
 use crate::sides::{Side, side_of};
 use rust_tokens::{Kind, behind_head, split_first_token};
 use std::alloc::{AllocError, Global};
+use std::marker::Model;
 
 /// A token of a file.
 #[derive(Clone, Copy)]
@@ -49,25 +51,106 @@ fn is_leaf(kind: Kind, is_ended: bool) -> bool
     }
 }
 
+/// Returns the first token of what is left of a text, and what is left after it, or `None` if no
+/// token is left.
+#[inline(always)]
+fn split_first_leaf<'a>(text: &'a str, rest: &'a str) -> Option<(Token<'a>, &'a str)>
+    requires { length rest.now ≤ length text.now }
+    ensures some { IfSome result (λ t. (ls : List Leaf)
+        → AreLeft (record { whole = text.now; rest = t.1.now }) ls
+        → AreLeft (record { whole = text.now; rest = rest.now }) (leaf t.0 ∷ ls)) }
+    ensures fewer { IfSome result (λ t. length t.1.now < length rest.now) }
+    ensures none { IsNone result → AreLeft (record { whole = text.now; rest = rest.now }) [] }
+{
+    let mut left = rest;
+    while let Some((token, behind)) = split_first_token(left) {
+        if is_leaf(token.kind, token.is_ended) {
+            let leaf = Token {
+                kind: token.kind,
+                is_ended: token.is_ended,
+                has_suffix: token.suffix_start < token.span.end,
+                text: &left[..token.span.end],
+                start: text.len() - left.len(),
+            };
+            return Some((leaf, behind));
+        }
+        left = behind;
+    }
+    None
+}
+
+/// The tokens of a file without white space and comments, read one after the other. A contract sees
+/// the file and what is left of it.
+#[derive(Drop)]
+pub struct Tokens<'a> {
+    text: &'a str,
+    rest: &'a str,
+}
+
+impl<'a> Model for Tokens<'a> {
+    ghost use Rattle.std.specs.Prelude.{◌≤◌, length};
+    ghost use Rattle.rust_trees.specs.Leaves.{Unread};
+
+    ghost Value = { Unread };
+
+    ghost view = { λ t. record { whole = t.text.now; rest = t.rest.now } };
+
+    ghost invariant = { λ t. length t.rest.now ≤ length t.text.now };
+}
+
+impl<'a> Tokens<'a> {
+    /// Returns the tokens of a file.
+    pub fn new(text: &'a str) -> Self
+        ensures file { result.whole ≡ text.now }
+        ensures left { (ls : List Leaf) → AreLeft result ls
+            → (xs : List Lexeme) × ReadsFile (chars text.now) xs × (ls ≡ leaves 0 xs) }
+    {
+        Tokens {
+            text,
+            rest: behind_head(text),
+        }
+    }
+
+    /// Returns the next token, or `None` if none is left.
+    #[inline(always)]
+    pub fn next(&mut self) -> Option<Token<'a>>
+        ensures file { self.new.whole ≡ self.old.whole }
+        ensures some { IfSome result (λ t. (ls : List Leaf) → AreLeft self.new ls
+            → AreLeft self.old (leaf t ∷ ls)) }
+        ensures fewer { IfSome result (λ t. length self.new.rest < length self.old.rest) }
+        ensures none { IsNone result → AreLeft self.old [] }
+    {
+        let Some((token, rest)) = split_first_leaf(self.text, self.rest) else {
+            return None;
+        };
+        self.rest = rest;
+        Some(token)
+    }
+
+    /// Returns the next token without reading it, or `None` if none is left.
+    pub fn peek(&self) -> Option<Token<'a>>
+        ensures some { IfSome result (λ t. (rest : List ℕ) × ((ls : List Leaf)
+            → AreLeft (record { whole = self.now.whole; rest = rest }) ls
+            → AreLeft self.now (leaf t ∷ ls))) }
+        ensures none { IsNone result → AreLeft self.now [] }
+    {
+        match split_first_leaf(self.text, self.rest) {
+            Some((token, _)) => Some(token),
+            None => None,
+        }
+    }
+}
+
 /// Returns the tokens of a file without white space and comments. Returns `Err` if an allocation
 /// fails.
 pub fn leaves(alloc: Global, text: &str) -> Result<Vec<Token<'_>>, AllocError>
     ensures { IfOk result (λ v. (xs : List Lexeme) × ReadsFile (chars text.now) xs
         × (map leaf v.items ≡ leaves 0 xs)) }
 {
-    let mut rest = behind_head(text);
+    let mut rest = Tokens::new(text);
     let mut found = Vec::new(alloc);
-    while let Some((token, behind)) = split_first_token(rest) {
-        if is_leaf(token.kind, token.is_ended) {
-            found.push(Token {
-                kind: token.kind,
-                is_ended: token.is_ended,
-                has_suffix: token.suffix_start < token.span.end,
-                text: &rest[..token.span.end],
-                start: text.len() - rest.len(),
-            })?;
-        }
-        rest = behind;
+    while let Some(token) = rest.next() {
+        found.push(token)?;
     }
     Ok(found)
 }

@@ -1,16 +1,10 @@
-use denote.Shadow.{shadow}
-use denote.Text.{Utf8}
-use Rattle.std.proofs.Common.{length}
-use Rattle.rust_trees.specs.Leaves.{leaf}
-use Rattle.rust_trees.proofs.LeavesRead.{IsRead}
-use Rattle.std.proofs.Common.{map}
+use Rattle.std.proofs.Common.{◌++◌, List, length, map}
+use Rattle.rust_trees.specs.Leaves.{AreLeft, Leaf, leaf}
 use Rattle.rust_trees.proofs.leaves.leaves.Given as goal
 
 abbrev pub invariant-loop-token : goal.invariant-loop-token
-invariant-loop-token l = record {
-  is_read : IsRead l.text (map leaf l.found.items) l.rest;
-  utf8 : shadow (Utf8 l.rest);
-}
+invariant-loop-token l = (ls : List Leaf) → AreLeft l.rest ls
+    → AreLeft l.initial.rest (map leaf l.found.items ++ ls)
 
 abbrev pub decreases-loop-token : goal.decreases-loop-token
-decreases-loop-token l = length l.rest
+decreases-loop-token l = length l.rest.rest
