@@ -1,3 +1,4 @@
+pub mod Groups
 pub mod Growing
 pub mod LeavesRead
 pub mod Lists

@@ -1,7 +1,7 @@
 -- Forests of tokens. The public rule is in the Rust Reference, macros:
 -- DelimTokenTree : `(` TokenTree* `)` | `[` TokenTree* `]` | `{` TokenTree* `}`, and
 -- TokenTree : Token except delimiters | DelimTokenTree.
-use Rattle.std.specs.Prelude.{◌≡◌, ◌+◌, ◌++◌, ◌⊎◌, ℕ, List, [], ◌∷◌, length}
+use Rattle.std.specs.Prelude.{◌≡◌, ◌+◌, ◌<◌, ◌++◌, ◌⊎◌, ℕ, List, [], ◌∷◌, length}
 use Rattle.rust_trees.specs.declared.sides.Delimiter.{Delimiter}
 use Rattle.rust_trees.specs.declared.sides.Side.TheVariants.{Opens, Closes, Neither}
 use Rattle.rust_trees.specs.Leaves.{Leaf, side}
@@ -52,3 +52,13 @@ pub record IsPair (xs : List Leaf) (i j : ℕ) : Type 0 where
 -- Of a pair of delimiters i and j one is the other's partner.
 abbrev pub ArePartners : List Leaf → ℕ → ℕ → Type 0
 ArePartners xs i j = IsPair xs i j ⊎ IsPair xs j i
+
+-- A closing delimiter is the last of these tokens, and a pair that begins among them ends among
+-- them, whatever follows.
+pub record IsGroup (xs : List Leaf) : Type 0 where
+  pub front : List Leaf
+  pub closing : Leaf
+  pub delimiter : Delimiter
+  pub joins : xs ≡ front ++ closing ∷ []
+  pub closes : side closing ≡ Closes delimiter
+  pub keeps : (ys : List Leaf) (i j : ℕ) → IsPair (xs ++ ys) i j → i < length xs → j < length xs

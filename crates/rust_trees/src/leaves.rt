@@ -118,7 +118,7 @@ impl<'a> Tokens<'a> {
         ensures some { IfSome result (λ t. (ls : List Leaf) → AreLeft self.new ls
             → AreLeft self.old (leaf t ∷ ls)) }
         ensures fewer { IfSome result (λ t. length self.new.rest < length self.old.rest) }
-        ensures none { IsNone result → AreLeft self.old [] }
+        ensures none { IsNone result → AreLeft self.old [] × (self.new ≡ self.old) }
     {
         let Some((token, rest)) = split_first_leaf(self.text, self.rest) else {
             return None;

@@ -9,7 +9,7 @@ mod places;
 mod sides;
 mod source;
 
-pub use leaves::Token;
+pub use leaves::{Token, Tokens};
 pub use matching::Break;
 pub use places::{Place, Places, place_after, place_at};
 pub use sides::{Delimiter, Side};

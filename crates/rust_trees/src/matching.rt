@@ -1,6 +1,6 @@
 //! The partner of each delimiter, and where the tokens break if they are no forest.
 
-ghost use Rattle.std.specs.Prelude.{◌≡◌, ◌++◌, [], ◌∷◌, IfOk, List, map};
+ghost use Rattle.std.specs.Prelude.{◌≡◌, ◌++◌, [], ◌∷◌, IfOk, IsTrue, List, map};
 ghost use Rattle.rust_trees.specs.Breaks.{Breaks};
 ghost use Rattle.rust_trees.specs.Leaves.{Leaf, leaf, side};
 ghost use Rattle.rust_trees.specs.Matching.{HasOpen, IsMatched};
@@ -59,7 +59,7 @@ fn close(found: &mut Matching, delimiter: Delimiter) -> Result<(), AllocError>
 }
 
 /// Adds a token. Returns `Err` if an allocation fails.
-fn add(found: &mut Matching, token: &Token<'_>) -> Result<(), AllocError>
+pub fn add(found: &mut Matching, token: &Token<'_>) -> Result<(), AllocError>
     requires { (w : List Leaf) × IsMatched w found.old }
     ensures { IfOk result (λ _. (w : List Leaf) → IsMatched w found.old
         → IsMatched (w ++ leaf token.now ∷ []) found.new) }
@@ -74,6 +74,13 @@ fn add(found: &mut Matching, token: &Token<'_>) -> Result<(), AllocError>
         Side::Closes(delimiter) => close(found, delimiter)?,
     }
     Ok(())
+}
+
+/// Returns whether no delimiter may still be closed.
+pub fn is_closed(found: &Matching) -> bool
+    ensures { IsTrue result → found.now.openings.items ≡ [] }
+{
+    found.openings.is_empty()
 }
 
 /// Returns the pairs of delimiters in these tokens. Returns `Err` if an allocation fails.

@@ -1,7 +1,9 @@
 //! What a token is among pairs of delimiters.
 
-ghost use Rattle.std.specs.Prelude.{◌≡◌};
+ghost use Rattle.std.specs.Prelude.{◌≡◌, IsTrue};
 ghost use Rattle.rust_trees.specs.Sides.{is_same, side_of};
+ghost use Rattle.rust_trees.specs.declared.sides.Delimiter.{Delimiter};
+ghost use Rattle.rust_trees.specs.declared.sides.Side.TheVariants.{Closes};
 
 use rust_tokens::Kind;
 
@@ -55,4 +57,11 @@ pub fn is_same(opening: Delimiter, closing: Delimiter) -> bool
             | (Delimiter::Bracket, Delimiter::Bracket)
             | (Delimiter::Brace, Delimiter::Brace)
     )
+}
+
+/// Returns whether a token closes a pair.
+pub fn is_closing(side: Side) -> bool
+    ensures { IsTrue result → (d : Delimiter) × (side ≡ Closes d) }
+{
+    matches!(side, Side::Closes(_))
 }

@@ -1,15 +1,18 @@
 //! A file as token trees.
 
-ghost use Rattle.std.specs.Prelude.{◌≡◌, ℕ, IfOk, IfSome, List, Some, chars, map};
+ghost use Rattle.std.specs.Prelude.{◌≡◌, ◌≤◌, ◌++◌, ◌⊎◌, ℕ, [], IfOk, IfSome, List, Some, chars};
+ghost use Rattle.std.specs.Prelude.{length, map};
 ghost use Rattle.rust_tokens.specs.Files.{ReadsFile};
 ghost use Rattle.rust_tokens.specs.Tokens.{Lexeme};
 ghost use Rattle.rust_trees.specs.Breaks.{Breaks};
-ghost use Rattle.rust_trees.specs.Forests.{ArePartners};
-ghost use Rattle.rust_trees.specs.Leaves.{Leaf, leaf, leaves};
+ghost use Rattle.rust_trees.specs.Forests.{ArePartners, IsGroup};
+ghost use Rattle.rust_trees.specs.Leaves.{AreLeft, Leaf, leaf, leaves};
+ghost use Rattle.rust_trees.specs.Matching.{IsMatched};
 ghost use Rattle.rust_trees.specs.Sources.{HasPairs};
 
-use crate::leaves::{Token, leaves};
-use crate::matching::{Break, break_of, match_delimiters};
+use crate::leaves::{Token, Tokens, leaves};
+use crate::matching::{Break, Matching, add, break_of, is_closed, match_delimiters};
+use crate::sides::is_closing;
 use std::alloc::{AllocError, Global};
 use std::marker::Model;
 
@@ -29,6 +32,19 @@ impl<'a> Model for Source<'a> {
     ghost invariant = { λ s. HasPairs (map leaf s.tokens.items) s.partners.items s.broken };
 }
 
+/// Returns tokens with the pairs that were found among them.
+fn source_of<'a>(tokens: Vec<Token<'a>>, found: Matching) -> Source<'a>
+    requires { IsMatched (map leaf tokens.items) found }
+    ensures { result ≡ map leaf tokens.entry.items }
+{
+    let broken = break_of(found.unexpected, found.openings);
+    Source {
+        tokens,
+        partners: found.partners,
+        broken,
+    }
+}
+
 impl<'a> Source<'a> {
     /// Reads a file. Returns `Err` if an allocation fails.
     pub fn new(alloc: Global, text: &'a str) -> Result<Self, AllocError>
@@ -37,12 +53,34 @@ impl<'a> Source<'a> {
     {
         let tokens = leaves(alloc, text)?;
         let found = match_delimiters(alloc, &tokens)?;
-        let broken = break_of(found.unexpected, found.openings);
-        Ok(Source {
-            tokens,
-            partners: found.partners,
-            broken,
-        })
+        Ok(source_of(tokens, found))
+    }
+
+    /// Reads on behind tokens of a file, up to the closing delimiter behind which none of them is
+    /// open, or to the end of the file if there is none. Returns all these tokens. Returns `Err` if
+    /// an allocation fails; what was read is then left out.
+    pub fn read_group(
+        alloc: Global,
+        front: &[Token<'a>],
+        rest: &mut Tokens<'a>,
+    ) -> Result<Self, AllocError>
+        ensures file { rest.new.whole ≡ rest.old.whole }
+        ensures fewer { length rest.new.rest ≤ length rest.old.rest }
+        ensures joins { IfOk result (λ s. (more : List Leaf) × (s ≡ map leaf front.now ++ more)
+            × ((ls : List Leaf) → AreLeft rest.new ls → AreLeft rest.old (more ++ ls))) }
+        ensures whole { IfOk result (λ s. AreLeft rest.new [] ⊎ IsGroup s) }
+    {
+        let mut tokens = Vec::new(alloc);
+        tokens.extend_from_slice(front)?;
+        let mut found = match_delimiters(alloc, front)?;
+        while let Some(token) = rest.next() {
+            add(&mut found, &token)?;
+            tokens.push(token)?;
+            if is_closing(token.side()) && is_closed(&found) {
+                return Ok(source_of(tokens, found));
+            }
+        }
+        Ok(source_of(tokens, found))
     }
 
     /// Returns the tokens: no white space, and no comment that has its end.

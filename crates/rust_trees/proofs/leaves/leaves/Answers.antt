@@ -15,4 +15,4 @@ loop-token-preserved c ls l =
 pub returns : goal.returns
 returns c =
     c.new-rest.ensures.left _ (subst (AreLeft c.new-rest.result) (append-nil _)
-    (c.loop-token.invariant [] (c.in_default.ensures.none refl)))
+    (c.loop-token.invariant [] (c.in_default.ensures.none refl).0))
