@@ -1,3 +1,4 @@
 pub mod CallSteps
+pub mod Parting
 pub mod Places
 pub mod Walking

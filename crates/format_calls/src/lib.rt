@@ -4,11 +4,13 @@
 mod listing;
 mod marks;
 mod modes;
+mod parts;
 mod split;
 mod strings;
 mod table;
 
 pub use listing::{Call, calls};
+pub use parts::next_part;
 pub use split::{Argument, arguments};
 pub use strings::{Reason, format_string};
 pub use table::{Row, Rule, Table};

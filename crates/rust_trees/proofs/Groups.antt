@@ -1,5 +1,5 @@
 -- A group of tokens keeps its pairs.
-use Rattle.std.proofs.Common.{◌≡◌, ◌++◌, ◌⊎◌, ℕ, ◌<◌, ◌≤◌, List, [], ◌∷◌, Some}
+use Rattle.std.proofs.Common.{◌≡◌, ◌++◌, ◌⊎◌, ℕ, ◌+◌, ◌<◌, ◌≤◌, List, [], ◌∷◌, Some}
 use Rattle.std.proofs.Common.{inl, inr, refl, ap, sym, ◌∙◌, subst, length, length-append, arith}
 use Rattle.std.proofs.lemmas.Bool.{cases_lt}
 use Rattle.std.proofs.lemmas.Option.{none-some}
@@ -79,4 +79,68 @@ group w x d m c h e =
       joins = refl;
       closes = c;
       keeps = λ ys i j p l. keeps-pairs (w ++ x ∷ []) ys i j sealed p l;
+    }
+
+-- A pair behind other tokens, and without them.
+pub pair-shift : (f xs : List Leaf) (i j : ℕ) → IsPair xs i j
+    → IsPair (f ++ xs) (length f + i) (length f + j)
+pair-shift f xs i j p =
+    let n = length-append f p.before in record {
+      before = f ++ p.before;
+      opening = p.opening;
+      inside = p.inside;
+      closing = p.closing;
+      after = p.after;
+      joins = ap (λ t. f ++ t) p.joins
+          ∙ sym (append_assoc f p.before (p.opening ∷ (p.inside ++ p.closing ∷ p.after)));
+      starts = omega (arith, n, p.starts);
+      ends = omega (arith, p.ends);
+      pairs = p.pairs;
+      is_forest = p.is_forest;
+    }
+
+pub pair-unshift : (f xs : List Leaf) (i j : ℕ) → IsPair (f ++ xs) (length f + i) (length f + j)
+    → IsPair xs i j
+pair-unshift f xs i j p =
+    let c = cut-list p.before (p.opening ∷ (p.inside ++ p.closing ∷ p.after)) f xs (sym p.joins)
+    (omega (arith, p.starts)) in
+    let n = ap (λ t. length t) c.1 ∙ length-append f c.0 in
+    record {
+      before = c.0;
+      opening = p.opening;
+      inside = p.inside;
+      closing = p.closing;
+      after = p.after;
+      joins = sym c.2;
+      starts = omega (arith, n, p.starts);
+      ends = omega (arith, p.ends);
+      pairs = p.pairs;
+      is_forest = p.is_forest;
+    }
+
+-- A pair without tokens behind it.
+pub pair-less : (xs ys : List Leaf) (i j : ℕ) → IsPair (xs ++ ys) i j → j < length xs
+    → IsPair xs i j
+pair-less xs ys i j p h =
+    let end = p.closing ∷ [] in
+    let front = p.before ++ p.opening ∷ (p.inside ++ end) in
+    let e : xs ++ ys ≡ front ++ p.after =
+    p.joins
+    ∙ (ap (λ t. p.before ++ p.opening ∷ t) (sym (append_assoc p.inside end p.after))
+    ∙ sym (append_assoc p.before (p.opening ∷ (p.inside ++ end)) p.after)) in
+    let n = length-append p.before (p.opening ∷ (p.inside ++ end)) in
+    let m = length-append p.inside end in
+    let c = cut-list xs ys front p.after e (omega (arith, n, m, h, p.starts, p.ends)) in
+    record {
+      before = p.before;
+      opening = p.opening;
+      inside = p.inside;
+      closing = p.closing;
+      after = c.0;
+      joins = c.1 ∙ (append_assoc p.before (p.opening ∷ (p.inside ++ end)) c.0
+          ∙ ap (λ t. p.before ++ p.opening ∷ t) (append_assoc p.inside end c.0));
+      starts = p.starts;
+      ends = p.ends;
+      pairs = p.pairs;
+      is_forest = p.is_forest;
     }

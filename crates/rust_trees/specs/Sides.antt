@@ -34,3 +34,9 @@ is_same Parenthesis Parenthesis = true
 is_same Bracket Bracket = true
 is_same Brace Brace = true
 is_same d e = false
+
+-- A delimiter that opens a pair.
+abbrev pub is_opening : Side → Bool
+is_opening (Opens d) = true
+is_opening (Closes d) = false
+is_opening Neither = false

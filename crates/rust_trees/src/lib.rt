@@ -12,5 +12,5 @@ mod source;
 pub use leaves::{Token, Tokens};
 pub use matching::Break;
 pub use places::{Place, Places, place_after, place_at};
-pub use sides::{Delimiter, Side};
+pub use sides::{Delimiter, Side, is_opening};
 pub use source::Source;

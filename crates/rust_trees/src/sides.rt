@@ -1,7 +1,7 @@
 //! What a token is among pairs of delimiters.
 
 ghost use Rattle.std.specs.Prelude.{◌≡◌, IsTrue};
-ghost use Rattle.rust_trees.specs.Sides.{is_same, side_of};
+ghost use Rattle.rust_trees.specs.Sides.{is_opening, is_same, side_of};
 ghost use Rattle.rust_trees.specs.declared.sides.Delimiter.{Delimiter};
 ghost use Rattle.rust_trees.specs.declared.sides.Side.TheVariants.{Closes};
 
@@ -64,4 +64,11 @@ pub fn is_closing(side: Side) -> bool
     ensures { IsTrue result → (d : Delimiter) × (side ≡ Closes d) }
 {
     matches!(side, Side::Closes(_))
+}
+
+/// Returns whether a token opens a pair.
+pub fn is_opening(side: Side) -> bool
+    ensures { result ≡ is_opening side }
+{
+    matches!(side, Side::Opens(_))
 }

@@ -1,0 +1,53 @@
+use Rattle.std.proofs.Common.{◌≡◌, ◌++◌, ◌∷◌, [], ◌∙◌, List, None, Some, ap, map, refl}
+use Rattle.std.proofs.Common.{rules, subst, sym}
+use Rattle.rust_trees.specs.Leaves.{AreLeft, Leaf, leaf}
+use Rattle.format_calls.specs.Parts.{front_of, moved_on, seen_front, seen_window}
+use Rattle.format_calls.specs.Rows.{entry}
+use Rattle.format_calls.proofs.Parting.{IsGap, end-of, gap-end, gap-more, gap-part, window}
+use Rattle.format_calls.proofs.parts.next_part.Goals as goal
+
+pub loop-token-preserved : goal.loop-token-preserved
+loop-token-preserved c =
+    let g = c.loop-token.invariant.gap in
+    let none : front_of (map entry c.args.table.now.rows.items) (seen_window c.loop-token.last)
+    (leaf c.in-Some.token) ≡ None =
+    ap (λ rs. front_of (map entry rs) (seen_window c.loop-token.last) (leaf c.in-Some.token))
+    (sym c.deref.ensures.value) ∙ sym c.in_default-front_of.ensures in
+    let m = gap-more _ g.0 (seen_window c.loop-token.last) (leaf c.in-Some.token) none g.1 in
+    let w : seen_window c.moved_on-last.result ≡ moved_on (seen_window c.loop-token.last)
+    (leaf c.in-Some.token) = c.moved_on-last.ensures in
+    record {
+      file = search rules;
+      fewer = search rules;
+      gap = subst (λ v. (gap : List Leaf) × IsGap (map entry c.args.table.now.rows.items) gap v
+          × ((left : List Leaf) → AreLeft c.next.new.self left → AreLeft c.args.rest.now
+          (gap ++ (window v.name v.mark ++ left)))) (sym w) (
+            _,
+            m.0,
+            λ left l. subst (AreLeft c.args.rest.now) (m.1 left)
+                (g.2 (leaf c.in-Some.token ∷ left) (c.in-Some.ensures.some left l)),
+          );
+    }
+
+pub returns-in-Some-front_of-clause-some : goal.returns-in-Some-front_of-clause-some
+returns-in-Some-front_of-clause-some c =
+    let g = c.loop-token.invariant.gap in
+    let j = c.in_ok-part.ensures.joins in
+    let front : front_of (map entry c.args.table.now.rows.items) (seen_window c.loop-token.last)
+    (leaf c.in-Some.token) ≡ Some (seen_front c.in-Some-front_of.front) =
+    ap (λ rs. front_of (map entry rs) (seen_window c.loop-token.last) (leaf c.in-Some.token))
+    (sym c.deref.ensures.value) ∙ sym c.in-Some-front_of.ensures in (
+      g.0,
+      λ left l.
+          let p = gap-part _ g.0 _ left (seen_front c.in-Some-front_of.front) j.0 _ _ front g.1 j.1
+          (end-of _ _ left l c.in_ok-part.ensures.whole) in (
+            subst (AreLeft c.args.rest.now) p.0 (g.2 (leaf c.in-Some.token ∷ (j.0 ++ left))
+                (c.in-Some.ensures.some (j.0 ++ left) (j.2 left l))),
+            p.1,
+          ),
+    )
+
+pub returns-clause-none : goal.returns-clause-none
+returns-clause-none c e =
+    let g = c.loop-token.invariant.gap in
+    (_, g.2 [] (c.in_default.ensures.none refl).0, λ d k. gap-end _ g.0 _ d g.1 k)
