@@ -14,6 +14,10 @@
 #define DEPHUNGO_H
 #include <stddef.h>
 #include <stdint.h>
+
+/* the version of the header and of its library, as in CHANGELOG.md */
+#define DEPHUNGO_VERSION "0.2.0"
+
 #ifdef __cplusplus
 extern "C" {
 #endif
