@@ -2,7 +2,7 @@
 use Rattle.std.proofs.Common.{◌≡◌, ◌≢◌, ℕ, suc, zero, ◌+◌, ◌≤◌, ◌<◌, ◌++◌, false, true, Bool}
 use Rattle.std.proofs.Common.{◌∷◌, length, take, refl, sym, ap, ◌∙◌, arith, List, []}
 use Rattle.std.proofs.Common.{append-nil, append_assoc, if◌then◌else◌, length-append, subst}
-use Rattle.std.proofs.lemmas.List.{length-take, take_all, take_at}
+use Rattle.std.proofs.lemmas.List.{length-take, take_all}
 use Rattle.rustc_parse_format.specs.Call.{Call, call}
 use Rattle.rustc_parse_format.specs.Characters.{Text, is_nil}
 use Rattle.rustc_parse_format.specs.Faults.{Fault, Message}
@@ -11,8 +11,8 @@ use Rattle.rustc_parse_format.specs.Types.{Mode}
 use Rattle.rustc_parse_format.specs.World.{World, Place, faults_in}
 use Rattle.rustc_parse_format.proofs.Walking.Progress.{call-lt}
 use Rattle.format_lint.specs.Findings.{AreCounted, Finding, add_faults, findings_from}
-use Rattle.format_lint.specs.Findings.{findings_within, marked_all, mistakes, most_drawn}
-use Rattle.format_lint.specs.Findings.{waits_behind_all}
+use Rattle.format_lint.specs.Findings.{findings_within, marked, marked_all, mistakes, most_drawn}
+use Rattle.format_lint.specs.Findings.{waits_behind, waits_behind_all}
 use Rattle.format_lint.specs.SeenLint.{Keeps}
 use Rattle.format_lint.specs.declared.findings.Findings.{Findings}
 
@@ -66,6 +66,54 @@ counted-other first fs others own f h full =
       all_are = omega (arith, h.all_are, length-append fs (f ∷ []));
       own_are = ap (λ n. n + counts f) h.own_are ∙ sym (mistakes-more fs f);
     }
+
+-- The faults of a call are added one after the other: these are left of all, and `later` says
+-- whether one was added.
+pub record AreAdded (old new : Findings) (later : Bool) (left all : List (Fault Place)) :
+    Type 0 where
+  pub done : List Finding
+  pub kept : (fs : List Finding) → Keeps old fs → Keeps new (fs ++ done)
+  pub all_are : done ++ marked_all new.waits later left ≡ marked_all old.waits false all
+  pub waits_are : waits_behind_all new.waits left ≡ waits_behind_all old.waits all
+
+pub added-start : (f : Findings) (left all : List (Fault Place)) → left ≡ all
+    → AreAdded f f false left all
+added-start f left all e = record {
+  done = [];
+  kept = λ fs h. subst (Keeps f) (sym (append-nil fs)) h;
+  all_are = ap (marked_all f.waits false) e;
+  waits_are = ap (waits_behind_all f.waits) e;
+}
+
+pub added-next : (old f g : Findings) (later : Bool) (x : Fault Place)
+    (left more all : List (Fault Place)) → AreAdded old f later left all → left ≡ x ∷ more
+    → ((fs : List Finding) → Keeps f fs → Keeps g (fs ++ marked f.waits later x ∷ []))
+    → g.waits ≡ waits_behind f.waits x → AreAdded old g true more all
+added-next old f g later x left more all h e k w =
+    let own = marked f.waits later x in
+    record {
+      done = h.done ++ own ∷ [];
+      kept = λ fs before. subst (Keeps g) (append_assoc fs h.done (own ∷ []))
+          (k (fs ++ h.done) (h.kept fs before));
+      all_are = append_assoc h.done (own ∷ []) (marked_all g.waits true more)
+          ∙ ap (λ b. h.done ++ own ∷ marked_all b true more) w
+          ∙ ap (λ l. h.done ++ marked_all f.waits later l) (sym e) ∙ h.all_are;
+      waits_are = ap (λ b. waits_behind_all b more) w
+          ∙ ap (waits_behind_all f.waits) (sym e) ∙ h.waits_are;
+    }
+
+pub added-kept : (old new : Findings) (later : Bool) (left all : List (Fault Place))
+    (fs : List Finding) → AreAdded old new later left all → left ≡ [] → Keeps old fs
+    → Keeps new (fs ++ marked_all old.waits false all)
+added-kept old new later left all fs h e before =
+    let whole : h.done ≡ marked_all old.waits false all =
+    sym (append-nil h.done) ∙ ap (λ l. h.done ++ marked_all new.waits later l) (sym e)
+    ∙ h.all_are in
+    subst (λ l. Keeps new (fs ++ l)) whole (h.kept fs before)
+
+pub added-waits : (old new : Findings) (later : Bool) (left all : List (Fault Place))
+    → AreAdded old new later left all → left ≡ [] → new.waits ≡ waits_behind_all old.waits all
+added-waits old new later left all h e = ap (waits_behind_all new.waits) (sym e) ∙ h.waits_are
 
 call-shorter : (mode : Mode) (c b : ℕ) (t : Text)
     → length (call mode c (b ∷ t)).rest ≤ length t

@@ -1,23 +1,27 @@
 -- The first fault is the one that the compiler shows, and there is a mistake exactly where there is
 -- an error.
 use Rattle.std.proofs.Common.{◌≡◌, ◌↔◌, ◌++◌, ◌∷◌, ◌∙◌, ◌+◌, ℕ, zero, suc, Bool, true, false, ap}
-use Rattle.std.proofs.Common.{List, [], Option, Some, arith, length, length-append, map, nat_lt, refl, sym}
-use Rattle.std.proofs.Common.{take}
+use Rattle.std.proofs.Common.{List, [], Option, Some, arith, length, length-append, map, nat_lt}
+use Rattle.std.proofs.Common.{refl, sym}
+use Rattle.std.proofs.Common.{◌-◌, flat_map, if◌then◌else◌, take}
 use Rattle.std.proofs.lemmas.Bool.{cond_both}
 use Rattle.std.proofs.lemmas.Bool.Decides.{nat_tests}
-use Rattle.std.proofs.lemmas.List.{map-append, nil_from_length}
+use Rattle.std.proofs.lemmas.List.{length-take, map-append, nil_from_length}
 use Rattle.rustc_parse_format.specs.Call.{Call, call}
 use Rattle.rustc_parse_format.specs.Characters.{Text}
-use Rattle.rustc_parse_format.specs.Faults.{Fault, Message, add_errors, is_front, map_fault, message}
+use Rattle.rustc_parse_format.specs.Faults.{Fault, Message, add_errors, is_front, map_fault}
+use Rattle.rustc_parse_format.specs.Faults.{message}
 use Rattle.rustc_parse_format.specs.State.{State}
 use Rattle.rustc_parse_format.specs.Types.{Mode}
 use Rattle.rustc_parse_format.specs.World.{Place, World, faults_in, place_of}
 use Rattle.rustc_parse_format.proofs.Walking.FaultlessStates.{add_errors-length}
 use Rattle.drawn_faults.specs.Fixing.{all_errors, all_faults, faults_within}
 use Rattle.drawn_faults.specs.Places.{Picture}
-use Rattle.format_lint.specs.Findings.{Finding, add_faults, findings_from, findings_within, first_error}
+use Rattle.format_lint.specs.Findings.{AreCounted, Finding, add_faults, findings_from}
+use Rattle.format_lint.specs.Findings.{findings_within, first_error}
 use Rattle.format_lint.specs.Findings.{first_error_within, marked_all, mistakes, waits_behind_all}
-use Rattle.format_lint.specs.Lint.{first_drawing, shown_error}
+use Rattle.format_lint.specs.Findings.{most_drawn}
+use Rattle.format_lint.specs.Lint.{drawings, drawn_finding, first_drawing, more, shown_error}
 
 -- The list of a parser has the errors of the faults in their order.
 listed : (old fs : List (Fault Place))
@@ -137,8 +141,25 @@ own-some s e =
 pub no_mistakes : (s : State) → s.errors ≡ []
     → (mistakes (findings_from false s) ≡ 0) ↔ (all_errors s ≡ [])
 no_mistakes s e =
-    let same = own-some s e in
-    (
+    let same = own-some s e in (
       (λ none. nil_from_length (all_errors s) (grind (arith, nat_tests, same, none))),
       (λ none. grind (arith, nat_tests, same, ap length none)),
     )
+
+-- What is drawn of the faults that are kept.
+abbrev pub kept_drawings : Bool → Mode → Picture → List Finding → ℕ → List ℕ
+kept_drawings all d p first others =
+    if all then flat_map (drawn_finding d p) first ++ more others else first_drawing d p first
+
+-- It is what is to be drawn of all.
+pub kept-drawn : (all : Bool) (d : Mode) (p : Picture) (s : State) (first : List Finding)
+    (others own : ℕ) → AreCounted first others own (findings_from false s)
+    → kept_drawings all d p first others
+    ≡ (if all then drawings d p (findings_from false s) else shown_error d p (first_error s))
+kept-drawn true d p s first others own h =
+    let fs = findings_from false s in
+    let rest : others ≡ length fs - most_drawn =
+    omega (arith, h.all_are, ap length h.first_are, length-take most_drawn fs) in
+    rw (h.first_are, rest) refl
+kept-drawn false d p s first others own h =
+    ap (first_drawing d p) h.first_are ∙ first-shown d p 9 s

@@ -1,7 +1,7 @@
 -- The error of a source that the compiler shows; and all its faults in the order in which they are
 -- shown, with which of them follow from others.
 use Rattle.std.specs.Prelude.{ℕ, zero, suc, ◌+◌, ◌++◌, Bool, true, false, ◌&&◌, ◌||◌, List, [], ◌∷◌}
-use Rattle.std.specs.Prelude.{Option, None, Some, if◌then◌else◌, length, not}
+use Rattle.std.specs.Prelude.{Option, None, Some, if◌then◌else◌, length}
 use Rattle.std.specs.Prelude.{◌≡◌, take}
 use Rattle.rustc_parse_format.specs.Characters.{Text}
 use Rattle.rustc_parse_format.specs.Types.{Mode}
@@ -43,24 +43,21 @@ abbrev pub is_lone_brace : Fault Place → Bool
 is_lone_brace (UnmatchedBrace s) = true
 is_lone_brace f = false
 
--- The fault is that a placeholder has no closing brace.
-abbrev pub is_open : Fault Place → Bool
-is_open (MissingBrace c s o) = true
-is_open (FillBrace c s o) = true
-is_open f = false
-
 -- Whether a placeholder waits for its closing brace behind a fault, if `waits` says so of what is
 -- before it. The next closing brace that closes nothing is the one that it waits for.
 abbrev pub waits_behind : Bool → Fault Place → Bool
-waits_behind waits f = is_open f || (waits && not (is_lone_brace f))
+waits_behind waits (MissingBrace c s o) = true
+waits_behind waits (FillBrace c s o) = true
+waits_behind waits (UnmatchedBrace s) = false
+waits_behind waits f = waits
 
 -- The same behind these faults.
 abbrev pub waits_behind_all : Bool → List (Fault Place) → Bool
 waits_behind_all waits [] = waits
 waits_behind_all waits (f ∷ fs) = waits_behind_all (waits_behind waits f) fs
 
--- A fault as it is shown. It follows if the parser went on after another one of the same call, or if
--- it is the closing brace that a placeholder waits for.
+-- A fault as it is shown. It follows if the parser went on after another one of the same call, or
+-- if it is the closing brace that a placeholder waits for.
 abbrev pub marked : Bool → Bool → Fault Place → Finding
 marked waits later f = record { fault = f; follows = later || (waits && is_lone_brace f) }
 
@@ -83,8 +80,8 @@ findings_within w (suc n) mode waits c (b ∷ t) =
     ++ findings_within w n mode (waits_behind_all waits fs) k.next k.rest
 
 -- The faults of all calls of a parser, up to the end of its input and in the order of the calls.
--- Those of a call are in the order of their errors in the list of a parser, so that the error of the
--- first of all is the one that the compiler shows.
+-- Those of a call are in the order of their errors in the list of a parser, so that the error of
+-- the first of all is the one that the compiler shows.
 unfoldable pub findings_from : Bool → State → List Finding
 findings_from waits s = findings_within s.world (length s.rest) s.mode waits s.next s.rest
 

@@ -1,6 +1,6 @@
 -- What `formatlint` writes, by its task and for any bytes as its input.
 use Rattle.std.specs.Prelude.{◌≡◌, ℕ, ◌-◌, ◌<◌, ◌++◌, ◌==◌, Bool, true, false, ◌⊎◌, if◌then◌else◌}
-use Rattle.std.specs.Prelude.{List, [], length, take, Option, Some, None, option_map}
+use Rattle.std.specs.Prelude.{List, [], ◌∷◌, length, take, Option, Some, None, option_map}
 use Rattle.std.specs.Prelude.{unwrap_or, Result, Ok, Err, chars, codes, decimal, flat_map, IsUtf8}
 use Rattle.rustc_parse_format.specs.Types.{Mode}
 use Rattle.rustc_parse_format.specs.FaultIds.{fault_id}
@@ -93,8 +93,8 @@ abbrev pub shown_error : Mode → Picture → Option (Message Place) → List �
 shown_error mode p None = []
 shown_error mode p (Some m) = drawing mode p m
 
--- The drawing of a fault with a line before it, which has its id and says whether it follows from an
--- earlier one.
+-- The drawing of a fault with a line before it, which has its id and says whether it follows from
+-- an earlier one.
 abbrev pub drawn_finding : Mode → Picture → Finding → List ℕ
 drawn_finding mode p f = id_line f.follows (fault_id f.fault) ++ drawing mode p (message f.fault)
 
@@ -117,7 +117,7 @@ Shown = List ℕ × ℕ
 abbrev pub drawn : Bool → Task → Source → Shown
 drawn all a s = (
   if all then drawings a.mode (picture a.path s) (findings a.mode s)
-  else shown_error a.mode (picture a.path s) (first_error (start a.mode s)),
+      else shown_error a.mode (picture a.path s) (first_error (start a.mode s)),
   mistakes (findings a.mode s),
 )
 

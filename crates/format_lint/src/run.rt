@@ -8,7 +8,8 @@ ghost use Rattle.piece_listing.specs.declared.verdict.RunFault.TheVariants.{NotT
 ghost use Rattle.piece_listing.specs.declared.verdict.RunFault.TheVariants.{Write as WriteFault};
 ghost use Rattle.rustc_parse_format.specs.Types.{Mode};
 ghost use Rattle.format_lint.specs.Findings.{mistakes};
-ghost use Rattle.format_lint.specs.Lint.{IsOwed, Shown, Source, Task as TaskValue, errors, findings};
+ghost use Rattle.format_lint.specs.Lint.{IsOwed, Shown, Source, Task as TaskValue, errors};
+ghost use Rattle.format_lint.specs.Lint.{findings};
 ghost use Rattle.piece_listing.specs.declared.verdict.RunFault.{RunFault as FaultValue};
 ghost use Rattle.format_lint.specs.SeenLint.{seen_task};
 

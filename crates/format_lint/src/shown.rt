@@ -274,7 +274,11 @@ fn put_lexed(
 
 /// Returns what a task shows of a source, and how many mistakes are left. Returns `Err` if an
 /// allocation fails.
-fn shown_of(alloc: Global, source: Source<'_>, task: Task<'_>) -> Result<(String, usize), AllocError>
+fn shown_of(
+    alloc: Global,
+    source: Source<'_>,
+    task: Task<'_>,
+) -> Result<(String, usize), AllocError>
     requires { hashes source.style ≤ limit }
     ensures { IfOk result (λ x. IsShown (seen_task task.entry) (seen_source source.entry)
         (string_bytes x.0, x.1)) }

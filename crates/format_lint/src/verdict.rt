@@ -6,8 +6,8 @@ ghost use Rattle.format_lint.specs.Lint.{verdict};
 use piece_listing::verdict::RunFault;
 
 /// Returns the message for standard error, which is empty if there is no error, and the exit status
-/// of the program: 0 if no mistake is left, 1 if one is, 2 if the arguments are invalid or the input
-/// is not a string literal, and 3 after any other error. Does not allocate.
+/// of the program: 0 if no mistake is left, 1 if one is, 2 if the arguments are invalid or the
+/// input is not a string literal, and 3 after any other error. Does not allocate.
 pub fn verdict(answer: &Result<usize, RunFault>) -> (&'static str, u8)
     ensures { (result.0.now, result.1) ≡ verdict answer.now }
 {

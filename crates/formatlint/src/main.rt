@@ -134,7 +134,7 @@ fn task_of<'a>(rt: &HostRuntime, matches: &ArgMatches<'a>) -> Task<'a> {
     }
 }
 
-/// Runs a task on its file, or on standard input. Returns how many mistakes are left, as `run` does.
+/// Runs a task on its file, or on standard input. Returns how many mistakes are left, as `run`.
 fn answer(rt: &HostRuntime, task: Task<'_>, file: Option<&str>) -> Result<usize, RunFault> {
     match file {
         Some(path) => match fs::open(rt, path) {

@@ -4,5 +4,5 @@ use Rattle.format_lint.specs.SeenLint.{Keeps}
 use Rattle.format_lint.proofs.faults.faults_in.Goals as goal
 
 pub returns : goal.returns
-returns c = subst (λ s. Keeps c.in_ok-faults.field-0 (findings_from false s))
+returns c = subst (λ s. Keeps c.in_ok-faults.faults (findings_from false s))
     c.in_ok-parser.ensures c.in_ok-faults.ensures

@@ -1,6 +1,6 @@
-use Rattle.std.proofs.Common.{◌≡◌, ◌-◌, ◌++◌, IsUtf8, ap, ◌∙◌, sym, chars, length, map, nat_lt}
-use Rattle.std.proofs.Common.{false, refl, rules}
-use Rattle.std.proofs.Common.{take, true}
+use Rattle.std.proofs.Common.{◌≡◌, ◌++◌, IsUtf8, ap, ◌∙◌, sym, chars, map}
+use Rattle.std.proofs.Common.{rules}
+use Rattle.std.proofs.Common.{true}
 use Rattle.std.specs.Prelude.{option_map}
 use Rattle.rustc_parse_format.proofs.Sources.PlainPlaces.{width_chars}
 use Rattle.rustc_parse_format.specs.Call.{Call}
