@@ -136,13 +136,17 @@ struct Edited<'t> {
     end: usize,
 }
 
-/// Makes the edit of a suggestion, if it has one that starts behind the end of the last one.
-/// Returns `Err` if an allocation fails.
+/// Makes the edit of a suggestion in a mode, if it has one that starts behind the end of the last
+/// one. Returns `Err` if an allocation fails.
 // ensures { OnOk result ((es : List EditValue) → with_edits edited.new es ≡ with_edits edited.old
-//     (cons_option (suggested (seen_suggestion suggestion.now)) es)) }
+//     (cons_option (suggested (offered (seen_mode mode) (seen_suggestion suggestion.now))) es)) }
 #[inline]
-fn make(edited: &mut Edited<'_>, suggestion: &Suggestion) -> Result<(), AllocError> {
-    let Some(edit) = edit_of(suggestion) else {
+fn make(
+    edited: &mut Edited<'_>,
+    mode: ParseMode,
+    suggestion: &Suggestion,
+) -> Result<(), AllocError> {
+    let Some(edit) = offered_edit(mode, suggestion) else {
         return Ok(());
     };
     if edited.end < edit.span.start && edit.span.start <= edit.span.end {
@@ -156,34 +160,6 @@ fn make(edited: &mut Edited<'_>, suggestion: &Suggestion) -> Result<(), AllocErr
     Ok(())
 }
 
-/// Returns what the error of a fault suggests in a mode if that has an edit, or else
-/// `Suggestion::None`. Makes none of the error's other texts. Returns `Err` if an allocation fails.
-// ensures { IfOk result (λ s. suggested (seen_suggestion s)
-//     ≡ edit_of (seen_mode mode) (message (seen_fault fault.now))) }
-#[inline]
-fn suggestion_of(
-    alloc: Global,
-    mode: ParseMode,
-    fault: &Fault<'_>,
-) -> Result<Suggestion, AllocError> {
-    match (mode, fault) {
-        (ParseMode::InlineAsm, _) => Ok(Suggestion::None),
-        (_, Fault::RawIdentifier(_, prefix)) => {
-            Ok(Suggestion::RemoveRawIdent(prefix.start..prefix.end))
-        }
-        (ParseMode::DiagnosticNamed, _) => Ok(Suggestion::None),
-        (_, Fault::LateFlag(flag, _, both)) => {
-            let text = crate::shim::format_in!( alloc; "{flag}?")?;
-            Ok(Suggestion::ReorderFormatParameter(
-                both.start..both.end,
-                text,
-            ))
-        }
-        (_, Fault::MissingColon(span)) => Ok(Suggestion::AddMissingColon(span.start..span.end)),
-        _ => Ok(Suggestion::None),
-    }
-}
-
 /// Makes the edits of faults in a mode, the first one first. Returns `Err` if an allocation fails.
 // ensures { OnOk result ((es : List EditValue) → with_edits edited.new es ≡ with_edits edited.old
 //     (fault_edits (seen_mode mode) (map seen_fault faults.now) ++ es)) }
@@ -194,8 +170,8 @@ fn make_each(
     faults: &[Fault<'_>],
 ) -> Result<(), AllocError> {
     for fault in faults {
-        let suggestion = suggestion_of(*edited.bytes.own_allocator(), mode, fault)?;
-        make(edited, &suggestion)?;
+        let suggestion = fault.suggestion(*edited.bytes.own_allocator())?;
+        make(edited, mode, &suggestion)?;
     }
     Ok(())
 }

@@ -143,9 +143,9 @@ fn tell_brace(
     show(alloc, into, description, "expected `}`", span)
 }
 
-/// Sets an error, which is still empty, to that of a field access. Returns `Err` if an allocation
+/// Sets the texts and the span of the error of a field access. Returns `Err` if an allocation
 /// fails.
-// requires { seen_error into.old ≡ error [] None [] (0, 0) None }
+// requires { seen_error into.old ≡ suggesting UsePositional (error [] None [] (0, 0) None) }
 // ensures { OnOk result (seen_error into.new ≡ local_variable description.now (pair span.now)) }
 #[inline]
 fn tell_field(
@@ -154,7 +154,6 @@ fn tell_field(
     description: &str,
     span: &Range<usize>,
 ) -> Result<(), AllocError> {
-    into.suggestion = Suggestion::UsePositional;
     say(
         alloc,
         into,
@@ -165,11 +164,34 @@ fn tell_field(
     )
 }
 
+impl Fault<'_> {
+    /// Returns what the error of the fault suggests, and makes none of the error's other texts.
+    /// Returns `Err` if an allocation fails.
+    // ensures { IfOk result (λ s. seen_suggestion s
+    //     ≡ (message (seen_fault self.now)).suggestion) }
+    #[inline]
+    pub fn suggestion(&self, alloc: Global) -> Result<Suggestion, AllocError> {
+        let suggestion = match self {
+            Fault::RawIdentifier(_, prefix) => Suggestion::RemoveRawIdent(prefix.start..prefix.end),
+            Fault::LateFlag(flag, _, both) => Suggestion::ReorderFormatParameter(
+                both.start..both.end,
+                flagged_type(alloc, *flag)?,
+            ),
+            Fault::MissingColon(span) => Suggestion::AddMissingColon(span.start..span.end),
+            Fault::DebugPrint(..) => Suggestion::UseRustDebugPrintingMacro,
+            Fault::FieldAccess(_) | Fault::TupleIndex(_) => Suggestion::UsePositional,
+            _ => Suggestion::None,
+        };
+        Ok(suggestion)
+    }
+}
+
 /// Sets an error, which is still empty, to that of a fault. Returns `Err` if an allocation fails.
 // requires { seen_error into.old ≡ error [] None [] (0, 0) None }
 // ensures { OnOk result (seen_error into.new ≡ message (seen_fault fault.now)) }
 #[inline]
 pub fn tell(alloc: Global, into: &mut ParseError, fault: &Fault<'_>) -> Result<(), AllocError> {
+    into.suggestion = fault.suggestion(alloc)?;
     match fault {
         Fault::UnmatchedBrace(span) => say(
             alloc,
@@ -228,36 +250,26 @@ pub fn tell(alloc: Global, into: &mut ParseError, fault: &Fault<'_>) -> Result<(
             "remove this text",
             span,
         ),
-        Fault::RawIdentifier(span, prefix) => {
-            into.suggestion = Suggestion::RemoveRawIdent(prefix.start..prefix.end);
-            say(
-                alloc,
-                into,
-                "raw identifiers are not supported",
-                "identifiers in format strings can be keywords and don't need to be prefixed with `r#`",
-                "raw identifier used here",
-                span,
-            )
-        }
-        Fault::LateFlag(flag, span, both) => {
-            into.suggestion = Suggestion::ReorderFormatParameter(
-                both.start..both.end,
-                flagged_type(alloc, *flag)?,
-            );
+        Fault::RawIdentifier(span, _) => say(
+            alloc,
+            into,
+            "raw identifiers are not supported",
+            "identifiers in format strings can be keywords and don't need to be prefixed with `r#`",
+            "raw identifier used here",
+            span,
+        ),
+        Fault::LateFlag(flag, span, _) => {
             let description = expected_brace(alloc, Some(*flag))?;
             show(alloc, into, description, "expected `'}'`", span)
         }
-        Fault::MissingColon(span) => {
-            into.suggestion = Suggestion::AddMissingColon(span.start..span.end);
-            say(
-                alloc,
-                into,
-                "expected `}`, found `?`",
-                "to print `{`, you can escape it using `{{`",
-                "expected `:` before `?` to format with `Debug`",
-                span,
-            )
-        }
+        Fault::MissingColon(span) => say(
+            alloc,
+            into,
+            "expected `}`, found `?`",
+            "to print `{`, you can escape it using `{{`",
+            "expected `:` before `?` to format with `Debug`",
+            span,
+        ),
         Fault::LateDebug(word, span) => {
             into.note = Some(debug_after(alloc, word)?);
             show(
@@ -288,20 +300,17 @@ pub fn tell(alloc: Global, into: &mut ParseError, fault: &Fault<'_>) -> Result<(
             span,
             ("because of this opening brace", opening),
         ),
-        Fault::DebugPrint(span, opening) => {
-            into.suggestion = Suggestion::UseRustDebugPrintingMacro;
-            tell_brace(
+        Fault::DebugPrint(span, opening) => tell_brace(
+            alloc,
+            into,
+            String::made_from(
                 alloc,
-                into,
-                String::made_from(
-                    alloc,
-                    "python's f-string debug `=` is not supported in rust, use `dbg(x)` instead",
-                )?,
-                "to print `{`, you can escape it using `{{`",
-                span,
-                ("because of this opening brace", opening),
-            )
-        }
+                "python's f-string debug `=` is not supported in rust, use `dbg(x)` instead",
+            )?,
+            "to print `{`, you can escape it using `{{`",
+            span,
+            ("because of this opening brace", opening),
+        ),
         Fault::LateSign(span) => say(
             alloc,
             into,
