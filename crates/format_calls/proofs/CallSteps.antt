@@ -120,7 +120,8 @@ partner-behind es xs n j c each l k named =
     absurd (omega (arith, close, l, p.ends))
 
 -- A call stands within the tokens.
-pub call-within : (es : List Entry) (xs : List Leaf) (c : Call) → IsCall es xs c → c.name < length xs
+pub call-within : (es : List Entry) (xs : List Leaf) (c : Call) → IsCall es xs c
+    → c.name < length xs
 call-within es xs c k =
     let l = (pair-within xs (c.name + 2) c.close k.is_pair).0 in
     omega (arith, l)

@@ -1,6 +1,7 @@
 -- The calls of parts of a file.
 use Prim.Native.Char.{code}
-use Rattle.std.proofs.Common.{◌≡◌, ◌<◌, ◌≤◌, ◌+◌, ◌++◌, ◌⊎◌, ℕ, zero, suc, List, [], ◌∷◌, Some, None}
+use Rattle.std.proofs.Common.{◌≡◌, ◌<◌, ◌≤◌, ◌+◌, ◌++◌, ◌⊎◌, ℕ, zero, suc, List, [], ◌∷◌, Some}
+use Rattle.std.proofs.Common.{None}
 use Rattle.std.proofs.Common.{inl, inr, refl, ap, sym, ◌∙◌, subst, length, length-append, arith}
 use Rattle.std.proofs.Common.{Option, Bool, true, false, ◌-◌}
 use Rattle.std.specs.Prelude.{◌&&◌, slice_get, slice_index, is_some}
@@ -245,7 +246,8 @@ part-of es gap part left before fixed end = record {
         let m = length-append part left in
         let z = ap (λ t. length t) e in absurd (omega (arith, l, n, m, z))
     rest c k (inr g) = call-unshift es (gap ++ part) left c (group-fixed gap part left g)
-        (subst (λ t. IsCall es t (moved (length (gap ++ part)) c)) (sym (append_assoc gap part left))
+        (subst (λ t. IsCall es t (moved (length (gap ++ part)) c))
+        (sym (append_assoc gap part left))
         (subst (λ d. IsCall es (gap ++ (part ++ left)) d) (sym (joined c)) k))
 
 -- The tokens behind the gap: none, or the last one or the last two that were read.
@@ -326,7 +328,8 @@ gap-more es gap w t f h = by_window w.is_behind w.name w.mark f h
   where
     by_window : (b : Bool) (n m : Option Leaf) → front_of_tokens es b n m t ≡ None
         → IsGap es gap (record { is_behind = b; name = n; mark = m })
-        → IsGap es (gap_next gap n) (record { is_behind = behind_next b n; name = m; mark = Some t })
+        → IsGap es (gap_next gap n)
+        (record { is_behind = behind_next b n; name = m; mark = Some t })
         × ((left : List Leaf) → gap ++ (window n m ++ t ∷ left)
         ≡ gap_next gap n ++ (window m (Some t) ++ left))
     by_window b None None f h = (

@@ -35,7 +35,8 @@ returns-then-is_leaf-clause-some c ls l =
     let n : c.in-Some.token.span.end - 0 ≡ c.in-Some.token.span.end = omega arith in
     let front = c.range.ensures.value ∙ ap (λ k. take k c.loop-token.left.now) n in
     c.loop-token.invariant.left _
-    (subst (λ x. AreLeft (record { whole = c.args.text.now; rest = c.loop-token.left.now }) (x ∷ ls))
+    (subst (λ x. AreLeft (record { whole = c.args.text.now; rest = c.loop-token.left.now })
+    (x ∷ ls))
     (sym (leaf-of _ b.0 _ _ _ _ c.loop-token.invariant.utf8 u b.1 b.2 front))
     (left-more _ _ _ b.0 c.loop-token.invariant.utf8 u b.1
     (omega (arith, c.requires, c.loop-token.invariant.within)) all ls l))
