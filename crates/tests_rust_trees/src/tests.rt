@@ -2,8 +2,8 @@
 //! expected values are worked out by hand from the Rust Reference.
 
 use crate::strings::format_strings;
-use format_calls::{Reason, Row, Table, arguments, calls, format_string};
-use rust_trees::{Break, Source, place_at};
+use format_calls::{Reason, Row, Table, arguments, calls, format_string, next_part};
+use rust_trees::{Break, Places, Source, Tokens, place_at};
 use std::alloc::{AllocError, Global};
 use std::io::Print;
 use std::process::Abort;
@@ -67,6 +67,30 @@ fn places(rt: HostRuntime) -> Result<(), Fail> {
     Ok(())
 }
 
+#[test]
+fn places_of_a_long_file(rt: HostRuntime) -> Result<(), Fail> {
+    let alloc = rt.alloc();
+    let mut text = String::from_str(alloc, "\u{feff}")?;
+    for _ in 0..700 {
+        text.push_str("a(\u{20ac});\r\n\tb")?;
+    }
+    let places = Places::new(alloc, &text)?;
+    let mut offset = 0;
+    while offset <= text.len() {
+        if text.is_char_boundary(offset) {
+            let found = places.at(offset);
+            let place = place_at(&text, offset);
+            assert_eq!(&rt; found.line, place.line);
+            assert_eq!(&rt; found.column, place.column);
+        }
+        offset += 61;
+    }
+    // the line after 700 line ends, with a tab and `b`
+    assert_eq!(&rt; places.at(text.len()).line, 701);
+    assert_eq!(&rt; places.at(text.len()).column, 3);
+    Ok(())
+}
+
 /// The calls of a file have these names and closing delimiters, by the indices of tokens.
 fn check(
     rt: &impl Abort,
@@ -82,6 +106,18 @@ fn check(
         assert!(rt; i < found.len() && found[i].name == expected[i].0);
         assert!(rt; i < found.len() && found[i].close == expected[i].1);
     }
+    // the same calls, part by part
+    let mut rest = Tokens::new(text);
+    let mut count = 0;
+    while let Some(part) = next_part(alloc, &mut rest, table)? {
+        for call in &calls(alloc, &part, table)? {
+            assert!(rt; count < found.len());
+            let name = source.tokens()[found[count].name];
+            assert_eq!(rt; part.tokens()[call.name].start, name.start);
+            count += 1;
+        }
+    }
+    assert_eq!(rt; count, expected.len());
     Ok(())
 }
 
