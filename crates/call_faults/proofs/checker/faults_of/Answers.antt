@@ -1,0 +1,38 @@
+use Rattle.std.proofs.Common.{◌≡◌, ◌++◌, ◌<◌, ◌∙◌, [], ap, arith, length, map, false, List, subst}
+use Rattle.std.proofs.Common.{ℕ, ◌+◌}
+use Rattle.std.specs.List.{AllByRecursion, list_any}
+use Rattle.std.proofs.lemmas.List.{length-map}
+use Rattle.rustc_parse_format.specs.Seen.{seen}
+use Rattle.call_faults.specs.Arguments.{kept_after, list_faults}
+use Rattle.call_faults.specs.Calls.{is_last}
+use Rattle.call_faults.specs.CallFaults.{CallFault}
+use Rattle.call_faults.specs.Comparison.{compared}
+use Rattle.call_faults.specs.Lookups.{lookups_from}
+use Rattle.call_faults.specs.Seen.{Holds, seen_fault, seen_given, seen_lookup, start}
+use Rattle.call_faults.specs.Texts.{text_fault}
+use Rattle.call_faults.proofs.Checking.{read-total}
+use Rattle.call_faults.proofs.Comparing.{kept-below}
+use Rattle.call_faults.proofs.checker.faults_of.Goals as goal
+
+pub returns : goal.returns
+returns c = λ e.
+    let gs = map seen_given c.args.given.now in
+    let ks = kept_after [] 0 gs in
+    let holds : Holds ks c.in-Some.arguments = rw c.in-Some.is at c.in_ok-arguments.ensures.some in
+    let goes_on : list_any is_last (list_faults [] 0 gs) ≡ false
+    = rw c.in-Some.is at c.in_ok-arguments.ensures.ends in
+    let count : 0 + length gs ≡ length c.args.given.now
+    = omega (arith, length-map c.args.given.now seen_given) in
+    let below : AllByRecursion (λ k. k.index < length c.args.given.now) ks
+    = subst (λ (n : ℕ). AllByRecursion (λ k. k.index < n) ks) count (kept-below [] 0 gs tt) in
+    let told : map seen_fault c.arguments_of.new.faults.items ≡ list_faults [] 0 gs
+    = rw c.new-faults.ensures.items at c.in_ok-arguments.ensures.told in
+    let looked : map seen_lookup c.deref.result.now ≡ lookups_from 0 (map seen c.args.pieces.now)
+    = rw c.deref.ensures.value c.in_ok-lookups.ensures in
+    read-total c.args.string.captures gs (text_fault (start c.args.string))
+    (map seen c.args.pieces.now) (map seen_fault c.compare.new.faults.items)
+    (e ∙ c.if-not-is_read.false) goes_on
+    (c.in_ok-compare.ensures ks holds below
+    ∙ ap (λ (xs : List CallFault). xs
+    ++ compared c.args.string.captures ks (map seen_lookup c.deref.result.now)) told
+    ∙ ap (λ ls. list_faults [] 0 gs ++ compared c.args.string.captures ks ls) looked)

@@ -1,0 +1,86 @@
+-- What a contract sees of the values of this crate: texts as their characters, ranges as places.
+use Rattle.std.specs.Prelude.{◌≡◌, ℕ, Bool, List, Option, map, option_map, chars, is_some}
+use Rattle.std.specs.BTreeMap.{BTreeMap, get_by}
+use Rattle.std.specs.Cmp.Lexicographic.{slice_cmp}
+use Rattle.std.specs.List.{list_any}
+use Rattle.std.specs.Ordering.{nat_cmp}
+use Rattle.std.specs.Str.{bytes_eq, encode_utf8_all}
+use denote.Ref.{Bor}
+use Rattle.rustc_parse_format.specs.Characters.{Text}
+use Rattle.rustc_parse_format.specs.SeenFaults.{seen_fault as seen_text_fault}
+use Rattle.rustc_parse_format.specs.State.{State, first_state}
+use Rattle.rustc_parse_format.specs.Types.{Format}
+use Rattle.placeholder_check.specs.Seen.{text}
+use Rattle.placeholder_check.specs.Uses.{Use, ByIndex, ByName}
+use Rattle.call_faults.specs.declared.faults.CallFault.{CallFault as DeclaredFault}
+use Rattle.call_faults.specs.declared.faults.CallFault.TheVariants.{PositionalAfterNamed as LateIn}
+use Rattle.call_faults.specs.declared.faults.CallFault.TheVariants.{RepeatedName as RepeatedIn}
+use Rattle.call_faults.specs.declared.faults.CallFault.TheVariants.{Text as TextIn}
+use Rattle.call_faults.specs.declared.faults.CallFault.TheVariants.{MissingName as MissingIn}
+use Rattle.call_faults.specs.declared.faults.CallFault.TheVariants.{UnknownTrait as UnknownIn}
+use Rattle.call_faults.specs.declared.faults.CallFault.TheVariants.{MissingArguments as TooFewIn}
+use Rattle.call_faults.specs.declared.faults.CallFault.TheVariants.{UnusedArguments as UnusedIn}
+use Rattle.call_faults.specs.declared.faults.CallFault.TheVariants.{RedundantArguments as TwinsIn}
+use Rattle.call_faults.specs.declared.faults.CallFault.TheVariants.{NameUsedByIndex as ByIndexIn}
+use Rattle.call_faults.specs.declared.checker.FormatString.{FormatString}
+use Rattle.call_faults.specs.declared.arguments.Given.{Given as DeclaredGiven}
+use Rattle.call_faults.specs.declared.arguments.Kept.{Kept as DeclaredKept}
+use Rattle.call_faults.specs.declared.arguments.Arguments.{Arguments}
+use Rattle.call_faults.specs.declared.lookups.Lookup.{Lookup as DeclaredLookup}
+use Rattle.call_faults.specs.declared.lookups.Lookup.TheVariants.{Refer as ReferIn}
+use Rattle.call_faults.specs.declared.lookups.Lookup.TheVariants.{NoTrait as NoTraitIn}
+use Rattle.call_faults.specs.declared.lookups.Wanted.{Wanted}
+use Rattle.call_faults.specs.declared.lookups.Wanted.TheVariants.{Index, Name}
+use Rattle.call_faults.specs.Arguments.{Given, Kept, index_of}
+use Rattle.call_faults.specs.CallFaults.{CallFault, PositionalAfterNamed, RepeatedName, TextFault}
+use Rattle.call_faults.specs.CallFaults.{MissingName, UnknownTrait, MissingArguments}
+use Rattle.call_faults.specs.CallFaults.{UnusedArguments, RedundantArguments, NameUsedByIndex}
+use Rattle.call_faults.specs.Lookups.{Lookup, Refer, NoTrait}
+
+-- An argument as a contract sees it.
+abbrev pub seen_given : DeclaredGiven → Given
+seen_given g = record { name = option_map text g.name; variable = option_map text g.variable }
+
+-- An argument that counts, as a contract sees it.
+abbrev pub seen_kept : DeclaredKept → Kept
+seen_kept k = record { index = k.index; given = seen_given k.given }
+
+-- A fault as a contract sees it.
+abbrev pub seen_fault : DeclaredFault → CallFault
+seen_fault (LateIn i ns) = PositionalAfterNamed i ns.items
+seen_fault (RepeatedIn i f) = RepeatedName i f
+seen_fault (TextIn f) = TextFault (seen_text_fault f)
+seen_fault (MissingIn r w) = MissingName r (text w)
+seen_fault (UnknownIn k t) = UnknownTrait k (text t)
+seen_fault (TooFewIn rs) = MissingArguments rs.items
+seen_fault (UnusedIn is) = UnusedArguments is.items
+seen_fault (TwinsIn is) = RedundantArguments is.items
+seen_fault (ByIndexIn r i) = NameUsedByIndex r i
+
+-- A parser at the start of a format string.
+abbrev pub start : FormatString → State
+start s = first_state Format (text s.text) s.style (option_map text s.snippet) s.appended_newline
+
+-- What a reference wants, as a contract sees it.
+abbrev pub seen_use : Wanted → Use
+seen_use (Index n) = ByIndex n
+seen_use (Name w) = ByName (text w)
+
+-- A lookup as a contract sees it.
+abbrev pub seen_lookup : DeclaredLookup → Lookup
+seen_lookup (ReferIn r u) = Refer r (seen_use u)
+seen_lookup (NoTraitIn k t) = NoTrait k (text t)
+
+-- What a map has for a name.
+abbrev pub found_in : BTreeMap (Bor (List ℕ)) ℕ → Text → Option ℕ
+found_in m w = get_by (λ k. slice_cmp nat_cmp (encode_utf8_all w) k.now) m
+
+-- The map has exactly these names.
+pub record KnowsNames (known : List Text) (m : BTreeMap (Bor (List ℕ)) ℕ) : Type 0 where
+  pub same : (w : Text) → is_some (found_in m w) ≡ list_any (bytes_eq w) known
+
+-- The collection has these arguments.
+pub record Holds (ks : List Kept) (a : Arguments) : Type 0 where
+  pub list : map seen_kept a.list.items ≡ ks
+  pub names : (w : Text) → found_in a.indices w ≡ index_of ks w
+  pub has_names : a.has_names ≡ list_any (λ k. is_some k.given.name) ks

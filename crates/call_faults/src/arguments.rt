@@ -1,0 +1,170 @@
+//! The list of arguments of a call.
+
+ghost use Rattle.std.specs.Prelude.{◌≡◌, ◌∷◌, ◌++◌, [], ℕ, List, IfOk, OnOk, chars, map};
+ghost use Rattle.std.specs.Prelude.{Some, None, IfSome, if◌then◌else◌, is_some, not};
+ghost use Rattle.std.specs.List.{list_any};
+ghost use Rattle.std.specs.Str.{bytes_eq};
+ghost use Rattle.rustc_parse_format.specs.Characters.{Text};
+ghost use Rattle.call_faults.specs.Arguments.{Kept as KeptValue, first_of, is_late, kept_after};
+ghost use Rattle.call_faults.specs.Arguments.{list_faults, named_of, repeated, with_given};
+ghost use Rattle.call_faults.specs.Calls.{is_last};
+ghost use Rattle.call_faults.specs.Seen.{Holds, found_in, seen_fault, seen_given, seen_kept};
+
+use crate::faults::CallFault;
+use std::alloc::{AllocError, Global};
+use std::collections::BTreeMap;
+
+/// An argument of a call, as far as its placeholders can tell it from others.
+#[derive(Clone, Copy)]
+pub struct Given<'a> {
+    /// Its name, without the `r#` of a raw identifier, as `a` in `a = 1`.
+    pub name: Option<&'a str>,
+    /// The variable that it is, without `r#`, as `a` in `println!("{}", a)`. `None` if it is any
+    /// other expression.
+    pub variable: Option<&'a str>,
+}
+
+/// An argument that counts, since its name is not that of an earlier one.
+#[derive(Clone, Copy)]
+pub(crate) struct Kept<'a> {
+    /// Its index among all that are given.
+    pub index: usize,
+    pub given: Given<'a>,
+}
+
+/// The arguments that count.
+#[derive(Drop)]
+pub(crate) struct Arguments<'a> {
+    pub list: Vec<Kept<'a>>,
+    /// The index of the argument with each name, among all that are given.
+    pub indices: BTreeMap<&'a str, usize>,
+    /// Whether any has a name.
+    pub has_names: bool,
+}
+
+/// Returns no arguments. Does not allocate.
+pub(crate) fn no_arguments<'a>(alloc: Global) -> Arguments<'a>
+    ensures { Holds [] result }
+{
+    Arguments {
+        list: Vec::new(alloc),
+        indices: BTreeMap::new(alloc),
+        has_names: false,
+    }
+}
+
+/// Returns the index that a map has for a name, or `None` if it has none.
+pub(crate) fn index_of<'a>(indices: &BTreeMap<&'a str, usize>, name: &'a str) -> Option<usize>
+    ensures { result ≡ found_in indices.now (chars name.now) }
+{
+    indices.get(&name).copied()
+}
+
+/// Puts a name into a map that does not have it. Returns `Err` if an allocation fails.
+pub(crate) fn insert<'a>(
+    indices: &mut BTreeMap<&'a str, usize>,
+    name: &'a str,
+    index: usize,
+) -> Result<(), AllocError>
+    ensures { OnOk result ((w : Text) → found_in indices.new w
+        ≡ (if bytes_eq w (chars name.now) then Some index else found_in indices.old w)) }
+{
+    indices.insert(name, index)?;
+    Ok(())
+}
+
+/// Returns the index of the argument with the name that an argument has, or `None` if it has none
+/// or there is none.
+fn first_of<'a>(arguments: &Arguments<'a>, given: &Given<'a>) -> Option<usize>
+    ensures { (ks : List KeptValue) → Holds ks arguments.now
+        → result ≡ first_of ks (seen_given given.now) }
+{
+    match given.name {
+        None => None,
+        Some(name) => index_of(&arguments.indices, name),
+    }
+}
+
+/// Adds an argument to those that count. Returns `Err` if an allocation fails.
+fn keep<'a>(arguments: &mut Arguments<'a>, index: usize, given: Given<'a>) -> Result<(), AllocError>
+    ensures { OnOk result ((ks : List KeptValue) → Holds ks arguments.old
+        → first_of ks (seen_given given.entry) ≡ None
+        → Holds (ks ++ record { index = index; given = seen_given given.entry } ∷ [])
+        arguments.new) }
+{
+    if let Some(name) = given.name {
+        insert(&mut arguments.indices, name, index)?;
+        arguments.has_names = true;
+    }
+    arguments.list.push(Kept { index, given })?;
+    Ok(())
+}
+
+/// Adds an argument to those that count, unless an earlier one has its name, which is then a fault.
+/// Returns `Err` if an allocation fails.
+fn add<'a>(
+    arguments: &mut Arguments<'a>,
+    faults: &mut Vec<CallFault<'a>>,
+    index: usize,
+    given: Given<'a>,
+) -> Result<(), AllocError>
+    ensures kept { OnOk result ((ks : List KeptValue) → Holds ks arguments.old
+        → Holds (with_given ks index (seen_given given.entry)) arguments.new) }
+    ensures told { OnOk result ((ks : List KeptValue) → Holds ks arguments.old
+        → map seen_fault faults.new.items ≡ map seen_fault faults.old.items
+        ++ repeated index (first_of ks (seen_given given.entry))) }
+{
+    match first_of(arguments, &given) {
+        Some(first) => faults.push(CallFault::RepeatedName { index, first })?,
+        None => keep(arguments, index, given)?,
+    }
+    Ok(())
+}
+
+/// Returns whether an argument has no name, although one that counts has one.
+fn is_late<'a>(arguments: &Arguments<'a>, given: &Given<'a>) -> bool
+    ensures { (ks : List KeptValue) → Holds ks arguments.now
+        → result ≡ is_late ks (seen_given given.now) }
+{
+    given.name.is_none() && arguments.has_names
+}
+
+/// Returns the indices of those of arguments that have a name. Returns `Err` if an allocation
+/// fails.
+fn named_of(alloc: Global, list: &[Kept<'_>]) -> Result<Vec<usize>, AllocError>
+    ensures { IfOk result (λ v. v.items ≡ named_of (map seen_kept list.now)) }
+{
+    let mut named = Vec::new(alloc);
+    for kept in list {
+        if kept.given.name.is_some() {
+            named.push(kept.index)?;
+        }
+    }
+    Ok(named)
+}
+
+/// Returns the arguments that count, or `None` if the first one without a name behind one with a
+/// name ends the list. Adds the faults of the list. Returns `Err` if an allocation fails.
+pub(crate) fn arguments_of<'a>(
+    alloc: Global,
+    faults: &mut Vec<CallFault<'a>>,
+    given: &[Given<'a>],
+) -> Result<Option<Arguments<'a>>, AllocError>
+    ensures told { OnOk result (map seen_fault faults.new.items ≡ map seen_fault faults.old.items
+        ++ list_faults [] 0 (map seen_given given.now)) }
+    ensures some { IfOk result (λ o. IfSome o (λ a.
+        Holds (kept_after [] 0 (map seen_given given.now)) a)) }
+    ensures ends { IfOk result (λ o.
+        list_any is_last (list_faults [] 0 (map seen_given given.now)) ≡ not (is_some o)) }
+{
+    let mut arguments = no_arguments(alloc);
+    for (index, argument) in given.iter().enumerate() {
+        if is_late(&arguments, argument) {
+            let named = named_of(alloc, &arguments.list)?;
+            faults.push(CallFault::PositionalAfterNamed { index, named })?;
+            return Ok(None);
+        }
+        add(&mut arguments, faults, index, *argument)?;
+    }
+    Ok(Some(arguments))
+}

@@ -1,0 +1,13 @@
+//! What is wrong with a format string and the arguments of its call, as rustc tells it.
+#![tactic(auto)]
+
+mod arguments;
+mod checker;
+mod compared;
+mod faults;
+mod lookups;
+mod text;
+
+pub use arguments::Given;
+pub use checker::{Checked, FormatString, call_faults};
+pub use faults::{CallFault, Missing, Part, Reference};
