@@ -24,10 +24,10 @@ use Rattle.rustc_parse_format.proofs.Grammar.Fronts.{list_all-weaker}
 use Rattle.unicode_width.specs.Width.{char_width}
 use Rattle.rustc_parse_format.specs.Characters.{Text}
 use Rattle.drawn_faults.specs.Glyphs.{glyph, glyph_count, glyphs, is_drawn_as_is, is_printable}
-use Rattle.drawn_faults.specs.Glyphs.{is_ascii_or_as_is, is_bidi_control, run, width}
+use Rattle.drawn_faults.specs.Glyphs.{is_bidi_control, run, width}
 use Rattle.drawn_faults.specs.Places.{past, within}
 use Rattle.drawn_faults.specs.declared.places.Spot.{Spot}
-use Rattle.drawn_faults.specs.declared.printable.TheConstants.{AS_IS, BEYOND_ASCII, PRINTABLE}
+use Rattle.drawn_faults.specs.declared.printable.TheConstants.{AS_IS, PRINTABLE}
 use Rattle.drawn_faults.proofs.GlyphLemmas.{take-step}
 
 -- the bytes before the first stop of each kind
@@ -35,12 +35,6 @@ pub pass-as-is : (s : List ℕ) → list_all (is_no_stop AS_IS) s ≡ true
     → list_all is_drawn_as_is s ≡ true
 pass-as-is s e =
     list_all-weaker (is_no_stop AS_IS) is_drawn_as_is s (λ b h. grind (arith, nat_tests)) e
-
-pub pass-beyond_ascii : (s : List ℕ) → list_all (is_no_stop BEYOND_ASCII) s ≡ true
-    → list_all is_ascii_or_as_is s ≡ true
-pass-beyond_ascii s e =
-    list_all-weaker (is_no_stop BEYOND_ASCII) is_ascii_or_as_is s (λ b h. grind (arith, nat_tests))
-    e
 
 pub pass-printable_bytes : (s : List ℕ) → list_all (is_no_stop PRINTABLE) s ≡ true
     → list_all is_printable s ≡ true
@@ -289,7 +283,7 @@ char-as-is : (c : ℕ) → list_all is_drawn_as_is (encode c) ≡ true
     → (glyph c ≡ c) × (glyph_count c ≡ 1)
 char-as-is c e = glyph-as-is c (between c e)
 
-pub glyphs-as-is : (t : Text) → list_all is_drawn_as_is (encode_utf8_all t) ≡ true → glyphs t ≡ t
+glyphs-as-is : (t : Text) → list_all is_drawn_as_is (encode_utf8_all t) ≡ true → glyphs t ≡ t
 glyphs-as-is [] e = refl
 glyphs-as-is (c ∷ t) e =
     let parts = and_parts _ _

@@ -29,7 +29,7 @@ const AS_IS: Stops = Stops {
     fourth: LEAD_OF_2000,
 };
 
-/// The stops of a text whose characters beyond ASCII are drawn as they are.
+/// The stops of a text whose characters beyond ASCII are drawn as they are: the first bytes above.
 const BEYOND_ASCII: Stops = Stops {
     low: 0,
     high: 255,

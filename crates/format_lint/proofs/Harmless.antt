@@ -1,10 +1,10 @@
 -- A terminal obeys nothing of what is shown, but for colours and the source as it is written.
 use Rattle.std.proofs.Common.{◌≡◌, ◌∙◌, ◌++◌, ◌∷◌, ◌-◌, ℕ, Bool, true, false, List, [], None, Option}
 use Rattle.std.proofs.Common.{Some, ap, append-nil, append_assoc, codes, length, refl, sym, take}
-use Rattle.std.proofs.Common.{chars, subst}
+use Rattle.std.proofs.Common.{Err, IfOk, Ok, Result, chars, subst}
 use Rattle.std.specs.Char.{is_ascii_digit}
 use Rattle.std.specs.List.{list_all}
-use Rattle.std.specs.Prelude.{◌==◌, decimal, flat_map, unwrap_or}
+use Rattle.std.specs.Prelude.{◌==◌, flat_map, unwrap_or}
 use Rattle.rustc_parse_format.specs.Characters.{Text}
 use Rattle.rustc_parse_format.specs.FaultIds.{fault_id}
 use Rattle.rustc_parse_format.specs.Faults.{Fault, Message, message}
@@ -29,7 +29,7 @@ use Rattle.format_tokens.specs.declared.kinds.Kind.TheVariants.{Align, Sign, Num
 use Rattle.format_tokens.specs.declared.kinds.Kind.TheVariants.{DollarSign, Dot, Asterisk}
 use Rattle.format_tokens.specs.declared.kinds.Kind.TheVariants.{«Type» as TypeKind, Modifier}
 use Rattle.format_tokens.specs.declared.kinds.Kind.TheVariants.{DiagnosticText, Unexpected, Quote}
-use Rattle.format_lint.specs.Colours.{AreSafe, Escape, IsColoured, Part, Plain, behind, colour}
+use Rattle.format_lint.specs.Colours.{AreSafe, IsColoured, Part, Plain, Sgr, behind, colour}
 use Rattle.format_lint.specs.Colours.{in_colour, kind_name, part_bytes, shown_tokens}
 use Rattle.format_lint.specs.Findings.{Finding, first_error, most_drawn}
 use Rattle.format_lint.specs.Lint.{IsHarmlessFor, IsMended, IsShown, IsSourceIn, Shown, Source}
@@ -158,7 +158,7 @@ colour-digits Quote = refl
 safe-append : (ps qs : List Part) → AreSafe ps → AreSafe qs → AreSafe (ps ++ qs)
 safe-append [] qs p q = q
 safe-append (Plain bs ∷ ps) qs p q = (p.0, safe-append ps qs p.1 q)
-safe-append (Escape n ∷ ps) qs p q = (p.0, safe-append ps qs p.1 q)
+safe-append (Sgr n ∷ ps) qs p q = (p.0, safe-append ps qs p.1 q)
 
 bytes-append : (ps qs : List Part)
     → flat_map part_bytes (ps ++ qs) ≡ flat_map part_bytes ps ++ flat_map part_bytes qs
@@ -179,7 +179,7 @@ plain {t = t} h = (Plain t ∷ [], sym (append-nil t), (h, tt))
 
 escape : (n : List ℕ) → list_all is_ascii_digit n ≡ true
     → IsColoured (codes "\u{1b}[" ++ (n ++ codes "m"))
-escape n e = (Escape n ∷ [], sym (append-nil (codes "\u{1b}[" ++ (n ++ codes "m"))), (e, tt))
+escape n e = (Sgr n ∷ [], sym (append-nil (codes "\u{1b}[" ++ (n ++ codes "m"))), (e, tt))
 
 in_colour-safe : (o : Option (List ℕ)) (u : List ℕ) → has_digits o ≡ true → IsHarmless u
     → IsColoured (in_colour o u)
@@ -228,3 +228,9 @@ as-shown a input s ShowFix x i (r, m, e) =
 pub shown-harmless : (a : Task) (input : List ℕ) (s : Source) (x : Shown)
     → IsSourceIn a.is_literal input s → IsShown a s x → IsHarmlessFor a input x.0
 shown-harmless a input s x i h = as-shown a input s a.show x i h
+
+-- What holds of a result where something else does.
+pub ok-weaker : {A B : Type 0} {P Q : A → Type 0} (r : Result A B) → ((x : A) → P x → Q x)
+    → IfOk r P → IfOk r Q
+ok-weaker (Ok x) f h = f x h
+ok-weaker (Err e) f h = h

@@ -92,18 +92,18 @@ stays false b = is_ascii_or_as_is b
 -- resets it.
 pub data Part : Type 0 where
   Plain : List ℕ → Part
-  Escape : List ℕ → Part
+  Sgr : List ℕ → Part
 
 -- The bytes of a part.
 abbrev pub part_bytes : Part → List ℕ
 part_bytes (Plain bs) = bs
-part_bytes (Escape n) = codes "\u{1b}[" ++ (n ++ codes "m")
+part_bytes (Sgr n) = codes "\u{1b}[" ++ (n ++ codes "m")
 
 -- A terminal obeys no character of a text, and of an escape it has digits alone.
 abbrev pub AreSafe : List Part → Type 0
 AreSafe [] = Unit {0}
 AreSafe (Plain bs ∷ ps) = IsHarmless bs × AreSafe ps
-AreSafe (Escape n ∷ ps) = (list_all is_ascii_digit n ≡ true) × AreSafe ps
+AreSafe (Sgr n ∷ ps) = (list_all is_ascii_digit n ≡ true) × AreSafe ps
 
 -- A terminal obeys nothing of a text but colours.
 abbrev pub IsColoured : List ℕ → Type 0

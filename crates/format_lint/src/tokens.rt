@@ -82,12 +82,7 @@ fn put_drawn(out: &mut String, as_is: bool, text: &str) -> Result<(), AllocError
 
 /// Adds a text in the colour of a kind, if that has one. If `as_is`, each of its characters is drawn
 /// as it is.
-fn put_in_colour(
-    out: &mut String,
-    as_is: bool,
-    kind: Kind,
-    text: &str,
-) -> Result<(), AllocError>
+fn put_in_colour(out: &mut String, as_is: bool, kind: Kind, text: &str) -> Result<(), AllocError>
     requires { IsTrue as_is → list_all is_drawn_as_is text.now ≡ true }
     ensures { OnOk result (string_bytes out.new ≡ string_bytes out.old
         ++ in_colour (colour kind) (glyph_bytes text.now)) }
@@ -191,11 +186,7 @@ pub fn put_tokens(
     ensures { OnOk result (string_bytes out.new ≡ string_bytes out.old
         ++ shown_tokens colours (chars text.now) (map seen_token tokens.now)) }
 {
-    let each = if colours {
-        ESCAPES_WIDTH
-    } else {
-        LINE_WIDTH
-    };
+    let each = if colours { ESCAPES_WIDTH } else { LINE_WIDTH };
     // most often enough for all of them, so that what was written is not moved again and again
     out.reserve(text.len().saturating_add(tokens.len().saturating_mul(each)))?;
     let as_is = stays(colours, text);
