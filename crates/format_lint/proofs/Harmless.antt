@@ -1,5 +1,6 @@
 -- A terminal obeys nothing of what is shown, but for colours and the source as it is written.
-use Rattle.std.proofs.Common.{◌≡◌, ◌∙◌, ◌++◌, ◌∷◌, ◌-◌, ℕ, Bool, true, false, List, [], None, Option}
+use Rattle.std.proofs.Common.{◌≡◌, ◌∙◌, ◌++◌, ◌∷◌, ◌-◌, ℕ, Bool, true, false, List, [], None}
+use Rattle.std.proofs.Common.{Option}
 use Rattle.std.proofs.Common.{Some, ap, append-nil, append_assoc, codes, length, refl, sym, take}
 use Rattle.std.proofs.Common.{Err, IfOk, Ok, Result, chars, subst}
 use Rattle.std.specs.Char.{is_ascii_digit}
@@ -17,12 +18,14 @@ use Rattle.rustc_parse_format.specs.World.{Place}
 use Rattle.piece_listing.specs.Listing.{quoted}
 use Rattle.drawn_faults.specs.Glyphs.{IsHarmless}
 use Rattle.drawn_faults.specs.Places.{Picture, within}
-use Rattle.drawn_faults.proofs.Harmless.{decimal-harmless, either, glyphs-harmless, is_written, join}
+use Rattle.drawn_faults.proofs.Harmless.{decimal-harmless, either, glyphs-harmless, is_written}
+use Rattle.drawn_faults.proofs.Harmless.{join}
 use Rattle.drawn_faults.proofs.Harmless.{text}
 use Rattle.drawn_faults.proofs.HarmlessDrawings.{drawing-harmless}
 use Rattle.format_tokens.specs.Placed.{Placed}
 use Rattle.format_tokens.specs.declared.kinds.Kind.{Kind}
-use Rattle.format_tokens.specs.declared.kinds.Kind.TheVariants.{Text as TextKind, Escape as EscapeKind}
+use Rattle.format_tokens.specs.declared.kinds.Kind.TheVariants.{Text as TextKind}
+use Rattle.format_tokens.specs.declared.kinds.Kind.TheVariants.{Escape as EscapeKind}
 use Rattle.format_tokens.specs.declared.kinds.Kind.TheVariants.{Close, Integer, Identifier, Open}
 use Rattle.format_tokens.specs.declared.kinds.Kind.TheVariants.{RawPrefix, White, Colon, Fill}
 use Rattle.format_tokens.specs.declared.kinds.Kind.TheVariants.{Align, Sign, NumberSign, Zero}

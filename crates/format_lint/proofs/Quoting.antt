@@ -1,7 +1,8 @@
 -- A quoted text is drawn as it is where its characters beyond ASCII are.
 use Prim.Native.Char.{code}
 use Rattle.std.proofs.Common.{◌≡◌, ◌<◌, ◌≤◌, ◌%◌, ◌/◌, ◌++◌, ◌∷◌, ◌∙◌, ◌⊎◌, inl, inr, ℕ, zero, suc}
-use Rattle.std.proofs.Common.{Bool, true, false, IsUtf8, List, [], None, Option, Some, ap, arith, cond}
+use Rattle.std.proofs.Common.{Bool, true, false, IsUtf8, List, [], None, Option, Some, ap, arith}
+use Rattle.std.proofs.Common.{cond}
 use Rattle.std.proofs.Common.{encode_utf8_all, refl, sym}
 use Rattle.std.proofs.Math.Utf8.{encode, scalar, scalars}
 use Rattle.std.proofs.lemmas.Bool.{and_parts, cases_lt, cond_both}
@@ -136,7 +137,8 @@ text-utf8 (c ∷ t) s =
 pub quoted-as-is : (t : Text) → scalars t ≡ true
     → list_all is_ascii_or_as_is (encode_utf8_all t) ≡ true → glyph_bytes (quoted t) ≡ quoted t
 quoted-as-is t s e =
-    let quote : IsUtf8 (codes "\"") = IsUtf8-from_ascii (codes "\"") (ascii-printable (codes "\"") refl)
+    let quote : IsUtf8 (codes "\"") =
+    IsUtf8-from_ascii (codes "\"") (ascii-printable (codes "\"") refl)
     in
     whole-as-is (quoted t)
     (IsUtf8-append (codes "\"") (flat_map written t ++ codes "\"") quote

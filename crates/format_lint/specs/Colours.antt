@@ -88,8 +88,8 @@ abbrev pub stays : Bool → ℕ → Bool
 stays true b = is_drawn_as_is b
 stays false b = is_ascii_or_as_is b
 
--- A part of a text for a terminal: a text, or an escape of SGR with a number, which sets a colour or
--- resets it.
+-- A part of a text for a terminal: a text, or an escape of SGR with a number, which sets a colour
+-- or resets it.
 pub data Part : Type 0 where
   Plain : List ℕ → Part
   Sgr : List ℕ → Part

@@ -144,8 +144,8 @@ lexed colours a s = (
   (drawn false a s).1,
 )
 
--- Where l is the literal of a source: what it becomes by the edits that its faults suggest. If there
--- are none, it stays as it is.
+-- Where l is the literal of a source: what it becomes by the edits that its faults suggest. If
+-- there are none, it stays as it is.
 abbrev pub IsMendedIn : Mode → Source → List ℕ → Source → Type 0
 IsMendedIn mode s l r =
     ((f : Fixed) × IsFixed mode s.text s.style l false f

@@ -38,8 +38,8 @@ pub fn run<R: Read, W: Write>(
     ensures shown { IfOk result (λ told. IfSome (R.remaining reader.old) (λ input. (text : List ℕ)
         × IsOwed (seen_task task.entry) input (Ok (text, told))
         × Appends (W.contents writer.old) (W.contents writer.new) text)) }
-    // A terminal obeys nothing of it but the colours that are asked for; with fixes the literal, which
-    // is to be read again, is written as it is.
+    // A terminal obeys nothing of it but the colours that are asked for; with fixes the literal,
+    // which is to be read again, is written as it is.
     ensures harmless { IfOk result (λ told. IfSome (R.remaining reader.old)
         (λ input. (text : List ℕ) × IsHarmlessFor (seen_task task.entry) input text
         × Appends (W.contents writer.old) (W.contents writer.new) text)) }

@@ -80,8 +80,8 @@ fn put_drawn(out: &mut String, as_is: bool, text: &str) -> Result<(), AllocError
     Ok(())
 }
 
-/// Adds a text in the colour of a kind, if that has one. If `as_is`, each of its characters is drawn
-/// as it is.
+/// Adds a text in the colour of a kind, if that has one. If `as_is`, each of its characters is
+/// drawn as it is.
 fn put_in_colour(out: &mut String, as_is: bool, kind: Kind, text: &str) -> Result<(), AllocError>
     requires { IsTrue as_is → list_all is_drawn_as_is text.now ≡ true }
     ensures { OnOk result (string_bytes out.new ≡ string_bytes out.old
