@@ -25,7 +25,7 @@ either true p q = p
 either false p q = q
 
 -- the character is a printable one of ASCII, or a line feed
-abbrev is_written : ℕ → Bool
+abbrev pub is_written : ℕ → Bool
 is_written c = c == 10 || is_printable c
 
 written-ascii : (c : ℕ) → is_written c ≡ true → c < 128

@@ -1,5 +1,5 @@
 pub mod GlyphLemmas
-mod PrintableLemmas
+pub mod PrintableLemmas
 pub mod Harmless
 pub mod HarmlessDrawings
 pub mod LineLemmas

@@ -291,7 +291,14 @@ glyphs-as-is (c ∷ t) e =
     let one = char-as-is c parts.0 in
     rw (one.1, one.0) (ap (λ x. c ∷ x) (glyphs-as-is t parts.1))
 
--- and so is a text of such characters
+-- so is a text of nothing else,
+pub whole-as-is : (s : List ℕ) → IsUtf8 s → list_all is_drawn_as_is s ≡ true
+    → encode_utf8_all (glyphs (chars s)) ≡ s
+whole-as-is s u e =
+    let bytes = encodes-chars s u in
+    ap encode_utf8_all (glyphs-as-is (chars s) (ap (list_all is_drawn_as_is) bytes ∙ e)) ∙ bytes
+
+-- and a text that begins with them
 pub drawn-as-is : (s : List ℕ) (n : ℕ) → IsUtf8 s → IsCharBoundary s n
     → list_all is_drawn_as_is (take n s) ≡ true
     → encode_utf8_all (glyphs (chars s)) ≡ take n s ++ encode_utf8_all (glyphs (chars (drop n s)))

@@ -18,3 +18,4 @@ pub use drawing::{draw, put_drawing};
 pub use fixes::{Edit, Fixed, edits, errors_of, fix};
 pub use glyphs::put_glyphs;
 pub use places::Picture;
+pub use printable::{is_ascii_or_as_is, is_drawn_as_is};

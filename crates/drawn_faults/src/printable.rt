@@ -2,10 +2,10 @@
 //! printable ones of ASCII take one column.
 
 ghost use Rattle.std.specs.List.{list_all};
-ghost use Rattle.std.specs.Prelude.{◌≡◌, ◌+◌, ◌++◌, ◌≤◌, chars, length};
-ghost use Rattle.std.specs.Prelude.{encode_utf8_all};
+ghost use Rattle.std.specs.Prelude.{◌≡◌, ◌+◌, ◌++◌, ◌≤◌, IsTrue, chars, encode_utf8_all, length};
 ghost use Rattle.std.specs.Prelude.{true};
-ghost use Rattle.drawn_faults.specs.Glyphs.{glyphs, is_printable};
+ghost use Rattle.drawn_faults.specs.Glyphs.{glyphs, is_ascii_or_as_is, is_drawn_as_is};
+ghost use Rattle.drawn_faults.specs.Glyphs.{is_printable};
 
 use rustc_parse_format::{Stops, front_width};
 
@@ -26,6 +26,16 @@ const AS_IS: Stops = Stops {
     first: 127,
     second: LEAD_OF_80,
     third: LEAD_OF_600,
+    fourth: LEAD_OF_2000,
+};
+
+/// The stops of a text whose characters beyond ASCII are drawn as they are: the first bytes above.
+const BEYOND_ASCII: Stops = Stops {
+    low: 0,
+    high: 255,
+    first: LEAD_OF_80,
+    second: LEAD_OF_600,
+    third: LEAD_OF_2000,
     fourth: LEAD_OF_2000,
 };
 
@@ -60,4 +70,22 @@ pub fn split_as_is(text: &str) -> (&str, &str)
 {
     let width = text.floor_char_boundary(front_width(text.as_bytes(), AS_IS));
     text.split_at(width)
+}
+
+/// Returns `true` only if each part of a text is drawn as it is, so that [`put_glyphs`] appends it
+/// as `push_str` does. For some texts of which that holds it returns `false`.
+///
+/// [`put_glyphs`]: crate::put_glyphs
+pub fn is_drawn_as_is(text: &str) -> bool
+    ensures { IsTrue result → list_all is_drawn_as_is text.now ≡ true }
+{
+    front_width(text.as_bytes(), AS_IS) == text.len()
+}
+
+/// Returns `true` only if each part of a text without ASCII is drawn as it is. For some texts of
+/// which that holds it returns `false`.
+pub fn is_ascii_or_as_is(text: &str) -> bool
+    ensures { IsTrue result → list_all is_ascii_or_as_is text.now ≡ true }
+{
+    front_width(text.as_bytes(), BEYOND_ASCII) == text.len()
 }

@@ -5,6 +5,7 @@ use Rattle.std.proofs.Common.{option_map, IsUtf8}
 use Rattle.std.proofs.Math.Utf8.{encodes}
 use Rattle.std.proofs.lemmas.Option.{same_Some}
 use Rattle.std.proofs.lemmas.Str.{encodes-chars}
+use Rattle.rustc_parse_format.specs.Types.{Mode}
 use Rattle.drawn_faults.specs.Fixing.{Fixed}
 use Rattle.piece_listing.specs.declared.verdict.RunFault.{RunFault}
 use Rattle.piece_listing.specs.declared.verdict.RunFault.TheVariants.{Words, Read, TooLong, NotText}
@@ -74,37 +75,40 @@ same_fixed f g d e =
     ap (λ (l : List ℕ). record f { snippet = l }) d
     ∙ ap (λ (t : List ℕ). record g { text = t }) e
 
-mended_in-only : (a : Task) (s : Source) (l : List ℕ) (x y : Shown)
-    → IsMendedIn a s l x → IsMendedIn a s l y → x ≡ y
-mended_in-only a s l x y (inl (f, h, d)) (inl (g, k, e)) =
-    d ∙ ap (λ (f : Fixed). kept a
-    (record { text = f.text; style = s.style; literal = Some f.snippet }))
+-- A source with its edits.
+abbrev with_fixed : Source → Fixed → Source
+with_fixed s f = record { text = f.text; style = s.style; literal = Some f.snippet }
+
+mended_in-only : (mode : Mode) (s : Source) (l : List ℕ) (r q : Source)
+    → IsMendedIn mode s l r → IsMendedIn mode s l q → r ≡ q
+mended_in-only mode s l r q (inl (f, h, d)) (inl (g, k, e)) =
+    d ∙ ap (λ (f : Fixed). with_fixed s f)
     (same_fixed f g (h.edited.snippet ∙ sym k.edited.snippet) (h.edited.text ∙ sym k.edited.text))
     ∙ sym e
-mended_in-only a s l x y (inl (f, h, d)) (inr (none, e)) = absurd (none f h)
-mended_in-only a s l x y (inr (none, d)) (inl (g, k, e)) = absurd (none g k)
-mended_in-only a s l x y (inr (none, d)) (inr (never, e)) = d ∙ sym e
+mended_in-only mode s l r q (inl (f, h, d)) (inr (none, e)) = absurd (none f h)
+mended_in-only mode s l r q (inr (none, d)) (inl (g, k, e)) = absurd (none g k)
+mended_in-only mode s l r q (inr (none, d)) (inr (never, e)) = d ∙ sym e
 
--- What is mended of a source with this literal, if it has one.
-abbrev Mended : Task → Source → Option (List ℕ) → Shown → Type 0
-Mended a s o x = elim o [
-  | None ↦ x ≡ kept a s
-  | Some l ↦ IsMendedIn a s l x
+-- What a source with this literal becomes, if it has one.
+abbrev MendedTo : Mode → Source → Option (List ℕ) → Source → Type 0
+MendedTo mode s o r = elim o [
+  | None ↦ r ≡ s
+  | Some l ↦ IsMendedIn mode s l r
 ]
 
-mended-only : (a : Task) (s : Source) (o : Option (List ℕ)) (x y : Shown)
-    → Mended a s o x → Mended a s o y → x ≡ y
-mended-only a s None x y h k = h ∙ sym k
-mended-only a s (Some l) x y h k = mended_in-only a s l x y h k
+mended-only : (mode : Mode) (s : Source) (o : Option (List ℕ)) (r q : Source)
+    → MendedTo mode s o r → MendedTo mode s o q → r ≡ q
+mended-only mode s None r q h k = h ∙ sym k
+mended-only mode s (Some l) r q h k = mended_in-only mode s l r q h k
 
 -- What is shown in this way.
-abbrev ShownAs : Task → Source → Show → Shown → Type 0
+abbrev pub ShownAs : Task → Source → Show → Shown → Type 0
 ShownAs a s w x = elim w [
   | ShowFault ↦ x ≡ drawn false a s
   | ShowAll ↦ x ≡ drawn true a s
   | ShowTokens ↦ x ≡ lexed false a s
   | ShowColours ↦ x ≡ lexed true a s
-  | ShowFix ↦ IsMended a s x
+  | ShowFix ↦ (r : Source) × IsMended a.mode s r × (x ≡ kept a r)
 ]
 
 shown-only : (a : Task) (s : Source) (w : Show) (x y : Shown) → ShownAs a s w x → ShownAs a s w y
@@ -113,7 +117,8 @@ shown-only a s ShowFault x y h k = h ∙ sym k
 shown-only a s ShowAll x y h k = h ∙ sym k
 shown-only a s ShowTokens x y h k = h ∙ sym k
 shown-only a s ShowColours x y h k = h ∙ sym k
-shown-only a s ShowFix x y h k = mended-only a s s.literal x y h k
+shown-only a s ShowFix x y (r, h, d) (q, k, e) =
+    d ∙ ap (kept a) (mended-only a.mode s s.literal r q h k) ∙ sym e
 
 -- the answer where something is shown
 with_shown : (a : Task) (input : List ℕ) (x : Shown) (y : Result Shown RunFault)

@@ -1,9 +1,13 @@
 -- How the tokens of a source are shown: in the colours of their kinds, or each in a line.
-use Rattle.std.specs.Prelude.{ℕ, ◌-◌, ◌++◌, Bool, true, false, List, [], ◌∷◌, Option, None, Some}
-use Rattle.std.specs.Prelude.{codes, drop, length}
+use Rattle.std.specs.Prelude.{◌≡◌, ℕ, ◌-◌, ◌++◌, Bool, true, false, List, [], ◌∷◌, Option, None}
+use Rattle.std.specs.Prelude.{Some, codes, drop, flat_map, length}
+use Rattle.std.specs.Char.{is_ascii_digit}
+use Rattle.std.specs.List.{list_all}
 use Rattle.std.specs.Str.{encode_utf8_all}
 use Rattle.rustc_parse_format.specs.Characters.{Text}
 use Rattle.piece_listing.specs.Listing.{quoted, span_text}
+use Rattle.drawn_faults.specs.Glyphs.{IsHarmless, glyph_bytes, glyphs, is_ascii_or_as_is}
+use Rattle.drawn_faults.specs.Glyphs.{is_drawn_as_is}
 use Rattle.drawn_faults.specs.Places.{within}
 use Rattle.format_tokens.specs.Placed.{Placed}
 use Rattle.format_tokens.specs.declared.kinds.Kind.{Kind}
@@ -73,11 +77,37 @@ in_colour None u = u
 in_colour (Some n) u = codes "\u{1b}[" ++ (n ++ (codes "m" ++ (u ++ codes "\u{1b}[0m")))
 
 -- A token as it is shown: its text in the colour of its kind, or a line with its kind, its byte
--- range, and its text in quotes.
+-- range, and its text in quotes. Both are drawn as a line of the source is.
 abbrev pub shown_token : Bool → Placed → Text → List ℕ
-shown_token true x u = in_colour (colour x.0) (encode_utf8_all u)
-shown_token false x u =
-    kind_name x.0 ++ (codes " " ++ (span_text x.1 ++ (codes " " ++ (quoted u ++ codes "\n"))))
+shown_token true x u = in_colour (colour x.0) (encode_utf8_all (glyphs u))
+shown_token false x u = kind_name x.0
+    ++ (codes " " ++ (span_text x.1 ++ (codes " " ++ (glyph_bytes (quoted u) ++ codes "\n"))))
+
+-- The byte is one of a character that is shown as it is in a colour, or that is quoted as it is.
+abbrev pub stays : Bool → ℕ → Bool
+stays true b = is_drawn_as_is b
+stays false b = is_ascii_or_as_is b
+
+-- A part of a text for a terminal: a text, or an escape of SGR with a number, which sets a colour
+-- or resets it.
+pub data Part : Type 0 where
+  Plain : List ℕ → Part
+  Sgr : List ℕ → Part
+
+-- The bytes of a part.
+abbrev pub part_bytes : Part → List ℕ
+part_bytes (Plain bs) = bs
+part_bytes (Sgr n) = codes "\u{1b}[" ++ (n ++ codes "m")
+
+-- A terminal obeys no character of a text, and of an escape it has digits alone.
+abbrev pub AreSafe : List Part → Type 0
+AreSafe [] = Unit {0}
+AreSafe (Plain bs ∷ ps) = IsHarmless bs × AreSafe ps
+AreSafe (Sgr n ∷ ps) = (list_all is_ascii_digit n ≡ true) × AreSafe ps
+
+-- A terminal obeys nothing of a text but colours.
+abbrev pub IsColoured : List ℕ → Type 0
+IsColoured t = (ps : List Part) × (t ≡ flat_map part_bytes ps) × AreSafe ps
 
 -- What is left of a text behind its first characters, as many as end within n bytes.
 abbrev pub behind : ℕ → Text → Text

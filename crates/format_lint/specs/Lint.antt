@@ -15,12 +15,13 @@ use Rattle.rustc_parse_format.specs.Literal.{IsLiteral, newline}
 use Rattle.drawn_faults.specs.Places.{Picture}
 use Rattle.drawn_faults.specs.Drawing.{drawing}
 use Rattle.drawn_faults.specs.Fixing.{Fixed, IsFixed, all_errors}
+use Rattle.drawn_faults.specs.Glyphs.{IsHarmless}
 use Rattle.format_lint.specs.declared.task.Show.{Show}
 use Rattle.format_lint.specs.declared.task.Show.TheVariants.{Fault as ShowFault, Fix as ShowFix}
 use Rattle.format_lint.specs.declared.task.Show.TheVariants.{All as ShowAll, Tokens as ShowTokens}
 use Rattle.format_lint.specs.declared.task.Show.TheVariants.{Colours as ShowColours}
 use Rattle.format_tokens.specs.Placed.{Placed, tokens}
-use Rattle.format_lint.specs.Colours.{shown_tokens}
+use Rattle.format_lint.specs.Colours.{IsColoured, shown_tokens}
 use Rattle.format_lint.specs.Findings.{Finding, findings_from, first_error, mistakes}
 use Rattle.format_lint.specs.Findings.{most_drawn}
 
@@ -143,20 +144,19 @@ lexed colours a s = (
   (drawn false a s).1,
 )
 
--- Where l is the literal of a source: the literal with the edits that its faults suggest is
--- written, and then the error that the compiler shows of that. If there is no such literal, the
--- source stays as it is.
-abbrev pub IsMendedIn : Task → Source → List ℕ → Shown → Type 0
-IsMendedIn a s l x =
-    ((f : Fixed) × IsFixed a.mode s.text s.style l false f × (x ≡ kept a
-    (record { text = f.text; style = s.style; literal = Some f.snippet })))
-    ⊎ (((f : Fixed) → IsFixed a.mode s.text s.style l false f → ⊥) × (x ≡ kept a s))
+-- Where l is the literal of a source: what it becomes by the edits that its faults suggest. If
+-- there are none, it stays as it is.
+abbrev pub IsMendedIn : Mode → Source → List ℕ → Source → Type 0
+IsMendedIn mode s l r =
+    ((f : Fixed) × IsFixed mode s.text s.style l false f
+    × (r ≡ record { text = f.text; style = s.style; literal = Some f.snippet }))
+    ⊎ (((f : Fixed) → IsFixed mode s.text s.style l false f → ⊥) × (r ≡ s))
 
--- The same of any source. A text has no fix.
-abbrev pub IsMended : Task → Source → Shown → Type 0
-IsMended a s x = elim s.literal [
-  | None ↦ x ≡ kept a s
-  | Some l ↦ IsMendedIn a s l x
+-- The same of any source. A text has no edits.
+abbrev pub IsMended : Mode → Source → Source → Type 0
+IsMended mode s r = elim s.literal [
+  | None ↦ r ≡ s
+  | Some l ↦ IsMendedIn mode s l r
 ]
 
 -- What a task shows of a source.
@@ -166,7 +166,19 @@ IsShown a s x = elim a.show [
   | ShowAll ↦ x ≡ drawn true a s
   | ShowTokens ↦ x ≡ lexed false a s
   | ShowColours ↦ x ≡ lexed true a s
-  | ShowFix ↦ IsMended a s x
+  | ShowFix ↦ (r : Source) × IsMended a.mode s r × (x ≡ kept a r)
+]
+
+-- A terminal obeys nothing of what is written for a task, but for the colours that it asks for, and
+-- the source with its edits, which is the input's own text and is to be read again as it is.
+abbrev pub IsHarmlessFor : Task → List ℕ → List ℕ → Type 0
+IsHarmlessFor a input t = elim a.show [
+  | ShowFault ↦ IsHarmless t
+  | ShowAll ↦ IsHarmless t
+  | ShowTokens ↦ IsHarmless t
+  | ShowColours ↦ IsColoured t
+  | ShowFix ↦ (s : Source) × (r : Source) × (d : List ℕ) × IsSourceIn a.is_literal input s
+      × IsMended a.mode s r × (t ≡ written r ++ d) × IsHarmless d
 ]
 
 -- The answer to a task with this input: what is written, or why nothing is.

@@ -8,8 +8,8 @@ ghost use Rattle.piece_listing.specs.declared.verdict.RunFault.TheVariants.{NotT
 ghost use Rattle.piece_listing.specs.declared.verdict.RunFault.TheVariants.{Write as WriteFault};
 ghost use Rattle.rustc_parse_format.specs.Types.{Mode};
 ghost use Rattle.format_lint.specs.Findings.{mistakes};
-ghost use Rattle.format_lint.specs.Lint.{IsOwed, Shown, Source, Task as TaskValue, errors};
-ghost use Rattle.format_lint.specs.Lint.{findings};
+ghost use Rattle.format_lint.specs.Lint.{IsHarmlessFor, IsOwed, Shown, Source, Task as TaskValue};
+ghost use Rattle.format_lint.specs.Lint.{errors, findings};
 ghost use Rattle.piece_listing.specs.declared.verdict.RunFault.{RunFault as FaultValue};
 ghost use Rattle.format_lint.specs.SeenLint.{seen_task};
 
@@ -37,6 +37,11 @@ pub fn run<R: Read, W: Write>(
     // What is written and the result are those that the definition `IsOwed` asks for.
     ensures shown { IfOk result (λ told. IfSome (R.remaining reader.old) (λ input. (text : List ℕ)
         × IsOwed (seen_task task.entry) input (Ok (text, told))
+        × Appends (W.contents writer.old) (W.contents writer.new) text)) }
+    // A terminal obeys nothing of it but the colours that are asked for; with fixes the literal,
+    // which is to be read again, is written as it is.
+    ensures harmless { IfOk result (λ told. IfSome (R.remaining reader.old)
+        (λ input. (text : List ℕ) × IsHarmlessFor (seen_task task.entry) input text
         × Appends (W.contents writer.old) (W.contents writer.new) text)) }
     // The definition asks for one result.
     ensures one_answer { (a : TaskValue) (input : List ℕ) (x y : Result Shown FaultValue)

@@ -11,7 +11,8 @@ ghost use Rattle.piece_listing.specs.declared.verdict.RunFault.TheVariants.{Memo
 ghost use Rattle.piece_listing.specs.Program.{IsShort, limit};
 ghost use Rattle.drawn_faults.specs.Drawing.{drawing};
 ghost use Rattle.drawn_faults.specs.Places.{seen_picture};
-ghost use Rattle.format_lint.specs.Lint.{IsLiteralIn, IsMended, IsShown, IsSourceIn};
+ghost use Rattle.format_lint.specs.Lint.{IsHarmlessFor, IsLiteralIn, IsMended, IsShown};
+ghost use Rattle.format_lint.specs.Lint.{IsSourceIn};
 ghost use Rattle.format_lint.specs.Lint.{Source as SourceValue, drawn, drawn_finding, findings};
 ghost use Rattle.format_lint.specs.Lint.{first_drawing, id_line, kept, lexed, more};
 ghost use Rattle.format_lint.specs.SeenLint.{Keeps, seen_finding, seen_source, seen_task};
@@ -224,8 +225,9 @@ fn put_fixed(
 ) -> Result<usize, AllocError>
     requires style { hashes source.style ≤ limit }
     requires empty { string_bytes out.old ≡ [] }
-    ensures { IfOk result (λ told. IsMended (seen_task task.entry) (seen_source source.entry)
-        (string_bytes out.new, told)) }
+    ensures { IfOk result (λ told. (r : SourceValue)
+        × IsMended (seen_mode task.entry.mode) (seen_source source.entry) r
+        × ((string_bytes out.new, told) ≡ kept (seen_task task.entry) r)) }
 {
     let Some(literal) = source.literal else {
         return Ok(put_kept(alloc, out, task, source)?);
@@ -328,6 +330,8 @@ pub fn shown_of_input(
     ensures shown { IfOk result (λ x. (s : SourceValue)
         × IsSourceIn task.entry.is_literal input.now s
         × IsShown (seen_task task.entry) s (string_bytes x.0, x.1)) }
+    ensures harmless { IfOk result (λ x. IsHarmlessFor (seen_task task.entry) input.now
+        (string_bytes x.0)) }
     ensures not_literal { IsErrOf result NotLiteral → (s : SourceValue)
         → IsSourceIn task.entry.is_literal input.now s → ⊥ }
     ensures others { IfErr result (λ fault. fault ≢ NotLiteral → fault ≡ Memory) }

@@ -1,13 +1,17 @@
 //! How the tokens of a source are shown. What begins with `put_` appends to `out`, and returns
 //! `Err` if an allocation fails.
 
-ghost use Rattle.std.specs.Prelude.{◌≡◌, ◌++◌, ℕ, List, MatchOption, OnOk, chars, codes, false};
-ghost use Rattle.std.specs.Prelude.{map, string_bytes};
+ghost use Rattle.std.specs.List.{list_all};
+ghost use Rattle.std.specs.Prelude.{◌≡◌, ◌++◌, ℕ, IsTrue, List, MatchOption, OnOk, chars, codes};
+ghost use Rattle.std.specs.Prelude.{false, map, string_bytes, true};
+ghost use Rattle.drawn_faults.specs.Glyphs.{glyph_bytes, is_ascii_or_as_is, is_drawn_as_is};
 ghost use Rattle.drawn_faults.specs.Places.{within};
 ghost use Rattle.format_tokens.specs.Seen.{seen_token};
+ghost use Rattle.piece_listing.specs.Listing.{quoted};
 ghost use Rattle.format_lint.specs.Colours.{behind, colour, in_colour, kind_name};
-ghost use Rattle.format_lint.specs.Colours.{shown_token, shown_tokens};
+ghost use Rattle.format_lint.specs.Colours.{shown_token, shown_tokens, stays};
 
+use drawn_faults::{is_ascii_or_as_is, is_drawn_as_is, put_glyphs};
 use format_tokens::{Kind, Token};
 use piece_listing::{put_quoted, put_span};
 use std::alloc::AllocError;
@@ -64,44 +68,83 @@ fn colour_escape(kind: Kind) -> Option<&'static str>
     }
 }
 
-/// Adds a text in the colour of a kind, if that has one.
-fn put_in_colour(out: &mut String, kind: Kind, text: &str) -> Result<(), AllocError>
+/// Adds a text as it is drawn. If `as_is`, each of its characters is drawn as it is.
+fn put_drawn(out: &mut String, as_is: bool, text: &str) -> Result<(), AllocError>
+    requires { IsTrue as_is → list_all is_drawn_as_is text.now ≡ true }
+    ensures { OnOk result (string_bytes out.new ≡ string_bytes out.old ++ glyph_bytes text.now) }
+{
+    if as_is {
+        return Ok(out.push_str(text)?);
+    }
+    put_glyphs(out, text, 0)?;
+    Ok(())
+}
+
+/// Adds a text in the colour of a kind, if that has one. If `as_is`, each of its characters is
+/// drawn as it is.
+fn put_in_colour(out: &mut String, as_is: bool, kind: Kind, text: &str) -> Result<(), AllocError>
+    requires { IsTrue as_is → list_all is_drawn_as_is text.now ≡ true }
     ensures { OnOk result (string_bytes out.new ≡ string_bytes out.old
-        ++ in_colour (colour kind) text.now) }
+        ++ in_colour (colour kind) (glyph_bytes text.now)) }
 {
     match colour_escape(kind) {
         Some(escape) => {
             out.push_str(escape)?;
-            out.push_str(text)?;
+            put_drawn(out, as_is, text)?;
             out.push_str("\u{1b}[0m")?;
         }
-        None => out.push_str(text)?,
+        None => put_drawn(out, as_is, text)?,
     }
     Ok(())
 }
 
-/// Adds a line with the kind, the byte range and the text of a token.
-fn put_line(out: &mut String, token: &Token, text: &str) -> Result<(), AllocError>
+/// Adds a text in quotes as that is drawn. If `as_is`, each of its characters beyond ASCII is drawn
+/// as it is.
+fn put_drawn_quoted(out: &mut String, as_is: bool, text: &str) -> Result<(), AllocError>
+    requires { IsTrue as_is → list_all is_ascii_or_as_is text.now ≡ true }
+    ensures { OnOk result (string_bytes out.new
+        ≡ string_bytes out.old ++ glyph_bytes (quoted (chars text.now))) }
+{
+    if as_is {
+        return put_quoted(out, text);
+    }
+    let mut quoted = String::new(*out.allocator());
+    put_quoted(&mut quoted, text)?;
+    put_glyphs(out, quoted.as_str(), 0)?;
+    Ok(())
+}
+
+/// Adds a line with the kind, the byte range and the text of a token. If `as_is`, each character of
+/// that beyond ASCII is drawn as it is.
+fn put_line(out: &mut String, as_is: bool, token: &Token, text: &str) -> Result<(), AllocError>
+    requires { IsTrue as_is → list_all is_ascii_or_as_is text.now ≡ true }
     ensures { OnOk result (string_bytes out.new ≡ string_bytes out.old
         ++ shown_token false (seen_token token.now) (chars text.now)) }
 {
     out.push_str(kind_name(token.kind))?;
     put_span(out, ' ', &token.span)?;
     out.push(' ')?;
-    put_quoted(out, text)?;
+    put_drawn_quoted(out, as_is, text)?;
     out.push('\n')?;
     Ok(())
 }
 
-/// Adds a token with this text.
-fn put_token(out: &mut String, colours: bool, token: &Token, text: &str) -> Result<(), AllocError>
+/// Adds a token with this text. If `as_is`, the text is shown as it is, or quoted as it is.
+fn put_token(
+    out: &mut String,
+    colours: bool,
+    as_is: bool,
+    token: &Token,
+    text: &str,
+) -> Result<(), AllocError>
+    requires { IsTrue as_is → list_all (stays colours) text.now ≡ true }
     ensures { OnOk result (string_bytes out.new ≡ string_bytes out.old
         ++ shown_token colours (seen_token token.now) (chars text.now)) }
 {
     if colours {
-        put_in_colour(out, token.kind, text)?;
+        put_in_colour(out, as_is, token.kind, text)?;
     } else {
-        put_line(out, token, text)?;
+        put_line(out, as_is, token, text)?;
     }
     Ok(())
 }
@@ -111,9 +154,27 @@ fn put_token(out: &mut String, colours: bool, token: &Token, text: &str) -> Resu
 fn split_within(text: &str, width: usize) -> (&str, &str)
     ensures front { chars result.0.now ≡ within width (chars text.now) }
     ensures back { chars result.1.now ≡ behind width (chars text.now) }
+    ensures whole { text.now ≡ result.0.now ++ result.1.now }
 {
     text.split_at(text.floor_char_boundary(width))
 }
+
+/// Returns `true` only if each part of a text is shown as it is, or quoted as it is.
+fn stays(colours: bool, text: &str) -> bool
+    ensures { IsTrue result → list_all (stays colours) text.now ≡ true }
+{
+    if colours {
+        is_drawn_as_is(text)
+    } else {
+        is_ascii_or_as_is(text)
+    }
+}
+
+/// About how many bytes a token in a colour takes besides its text: two escapes.
+const ESCAPES_WIDTH: usize = 9;
+
+/// About how many bytes the line of a token takes besides its text: a kind, a range and quotes.
+const LINE_WIDTH: usize = 24;
 
 /// Adds the tokens of a text, in colours or each in a line.
 pub fn put_tokens(
@@ -125,14 +186,15 @@ pub fn put_tokens(
     ensures { OnOk result (string_bytes out.new ≡ string_bytes out.old
         ++ shown_tokens colours (chars text.now) (map seen_token tokens.now)) }
 {
+    let each = if colours { ESCAPES_WIDTH } else { LINE_WIDTH };
     // most often enough for all of them, so that what was written is not moved again and again
-    let each = if colours { 9 } else { 24 };
     out.reserve(text.len().saturating_add(tokens.len().saturating_mul(each)))?;
+    let as_is = stays(colours, text);
     let mut rest = text;
     for token in tokens {
         let width = token.span.end.saturating_sub(token.span.start);
         let (text, behind) = split_within(rest, width);
-        put_token(out, colours, token, text)?;
+        put_token(out, colours, as_is, token, text)?;
         rest = behind;
     }
     Ok(())

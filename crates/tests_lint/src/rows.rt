@@ -113,6 +113,32 @@ const DIAGNOSTIC: Row = Row {
     told: 0,
 };
 
+/// What a terminal obeys is drawn as in a line of the source: a control character, one that changes
+/// the direction of text, and a tab, which is quoted in a line of its own.
+const OBEYED: Row = Row {
+    mode: ParseMode::Format,
+    is_literal: false,
+    show: Show::Tokens,
+    input: b"a\xc2\x9b\xe2\x80\xae\tb",
+    shown: "text 1..9 \"a\u{fffd}\u{fffd}\\tb\"\n",
+    told: 0,
+};
+
+const OBEYED_COLOURED: Row = Row {
+    show: Show::Colours,
+    shown: "a\u{fffd}\u{fffd}    b\n",
+    ..OBEYED
+};
+
+/// The literal is to be read again, and is written as it is.
+const OBEYED_FIXED: Row = Row {
+    is_literal: true,
+    show: Show::Fix,
+    input: b"\"\xc2\x9b\t{r#a}\"",
+    shown: "\"\u{9b}\t{a}\"\n",
+    ..OBEYED
+};
+
 /// The kinds that come with a fault.
 pub const RAW_PREFIX: Row = Row {
     mode: ParseMode::Format,
@@ -261,7 +287,16 @@ fn shows_what_the_compiler_shows(rt: HostRuntime) -> Result<(), Fail> {
 #[test]
 fn shows_each_kind_of_token(rt: HostRuntime) -> Result<(), Fail> {
     let rows = [
-        LISTED, COLOURED, MODIFIER, DIAGNOSTIC, RAW_PREFIX, UNEXPECTED, FIXED,
+        LISTED,
+        COLOURED,
+        MODIFIER,
+        DIAGNOSTIC,
+        OBEYED,
+        OBEYED_COLOURED,
+        OBEYED_FIXED,
+        RAW_PREFIX,
+        UNEXPECTED,
+        FIXED,
     ];
     for row in &rows {
         check(&rt, rt.alloc(), row)?;

@@ -2,19 +2,20 @@ use Rattle.std.proofs.Common.{◌≡◌, Some, false, inl, refl, string_bytes}
 use Rattle.rustc_parse_format.specs.Seen.{seen_mode}
 use Rattle.drawn_faults.specs.Fixing.{IsFixed}
 use Rattle.drawn_faults.specs.SeenEdits.{seen_fixed}
-use Rattle.format_lint.specs.Lint.{Shown, kept}
-use Rattle.format_lint.specs.SeenLint.{seen_task}
+use Rattle.format_lint.specs.Lint.{Shown, Source, kept}
+use Rattle.format_lint.specs.SeenLint.{seen_source, seen_task}
 use Rattle.format_lint.proofs.shown.put_fixed.Goals as goal
 
 pub returns-in_ok-put_kept-in-Some-2 : goal.returns-in_ok-put_kept-in-Some-2
 returns-in_ok-put_kept-in-Some-2 c =
     let f = seen_fixed c.in-Some-2.fixed in
+    let r : Source = record { text = f.text; style = c.args.source.style; literal = Some f.snippet }
+    in
     let fixed : IsFixed (seen_mode c.args.task.mode) c.args.source.text.now c.args.source.style
     c.in-Some.literal.now false f = rw c.in-Some-2.is at c.in_ok-fixed.ensures.some in
     let shown : ◌≡◌ {A = Shown}
     (string_bytes c.put_kept-in-Some-2.new.out, c.in_ok-put_kept-in-Some-2.field-0)
-    (kept (seen_task c.args.task)
-    (record { text = f.text; style = c.args.source.style; literal = Some f.snippet })) =
+    (kept (seen_task c.args.task) r) =
     rw (
       c.in_ok-put_kept-in-Some-2.ensures.kept,
       c.in_ok-put_kept-in-Some-2.ensures.told,
@@ -22,4 +23,15 @@ returns-in_ok-put_kept-in-Some-2 c =
       c.as_str.ensures.value,
       c.as_str-in-Some-2.ensures.value,
     ) refl in
-    rw c.in-Some.is (inl (f, fixed, shown))
+    (r, rw c.in-Some.is (inl (f, fixed, refl)), shown)
+
+pub returns-in_default : goal.returns-in_default
+returns-in_default c =
+    let shown : ◌≡◌ {A = Shown} (string_bytes c.put_kept.new.out, c.in_ok-put_kept.field-0)
+    (kept (seen_task c.args.task) (seen_source c.args.source)) =
+    rw (
+      c.in_ok-put_kept.ensures.kept,
+      c.in_ok-put_kept.ensures.told,
+      c.requires.empty,
+    ) refl in
+    (seen_source c.args.source, rw c.in_default.is refl, shown)

@@ -1,0 +1,239 @@
+-- A terminal obeys nothing of what is shown, but for colours and the source as it is written.
+use Rattle.std.proofs.Common.{◌≡◌, ◌∙◌, ◌++◌, ◌∷◌, ◌-◌, ℕ, Bool, true, false, List, [], None}
+use Rattle.std.proofs.Common.{Option}
+use Rattle.std.proofs.Common.{Some, ap, append-nil, append_assoc, codes, length, refl, sym, take}
+use Rattle.std.proofs.Common.{Err, IfOk, Ok, Result, chars, subst}
+use Rattle.std.specs.Char.{is_ascii_digit}
+use Rattle.std.specs.List.{list_all}
+use Rattle.std.specs.Prelude.{◌==◌, flat_map, unwrap_or}
+use Rattle.rustc_parse_format.specs.Characters.{Text}
+use Rattle.rustc_parse_format.specs.FaultIds.{fault_id}
+use Rattle.rustc_parse_format.specs.Faults.{Fault, Message, message}
+use Rattle.rustc_parse_format.specs.Faults.{UnmatchedBrace, MissingBrace, FillBrace, Underscore}
+use Rattle.rustc_parse_format.specs.Faults.{TooLarge, Unnamed, TextAfterColon, RawIdentifier}
+use Rattle.rustc_parse_format.specs.Faults.{LateFlag, MissingColon, LateDebug, LateAlign, Grouping}
+use Rattle.rustc_parse_format.specs.Faults.{DebugPrint, LateSign, FieldAccess, TupleIndex}
+use Rattle.rustc_parse_format.specs.Types.{Mode}
+use Rattle.rustc_parse_format.specs.World.{Place}
+use Rattle.piece_listing.specs.Listing.{quoted}
+use Rattle.drawn_faults.specs.Glyphs.{IsHarmless}
+use Rattle.drawn_faults.specs.Places.{Picture, within}
+use Rattle.drawn_faults.proofs.Harmless.{decimal-harmless, either, glyphs-harmless, is_written}
+use Rattle.drawn_faults.proofs.Harmless.{join}
+use Rattle.drawn_faults.proofs.Harmless.{text}
+use Rattle.drawn_faults.proofs.HarmlessDrawings.{drawing-harmless}
+use Rattle.format_tokens.specs.Placed.{Placed}
+use Rattle.format_tokens.specs.declared.kinds.Kind.{Kind}
+use Rattle.format_tokens.specs.declared.kinds.Kind.TheVariants.{Text as TextKind}
+use Rattle.format_tokens.specs.declared.kinds.Kind.TheVariants.{Escape as EscapeKind}
+use Rattle.format_tokens.specs.declared.kinds.Kind.TheVariants.{Close, Integer, Identifier, Open}
+use Rattle.format_tokens.specs.declared.kinds.Kind.TheVariants.{RawPrefix, White, Colon, Fill}
+use Rattle.format_tokens.specs.declared.kinds.Kind.TheVariants.{Align, Sign, NumberSign, Zero}
+use Rattle.format_tokens.specs.declared.kinds.Kind.TheVariants.{DollarSign, Dot, Asterisk}
+use Rattle.format_tokens.specs.declared.kinds.Kind.TheVariants.{«Type» as TypeKind, Modifier}
+use Rattle.format_tokens.specs.declared.kinds.Kind.TheVariants.{DiagnosticText, Unexpected, Quote}
+use Rattle.format_lint.specs.Colours.{AreSafe, IsColoured, Part, Plain, Sgr, behind, colour}
+use Rattle.format_lint.specs.Colours.{in_colour, kind_name, part_bytes, shown_tokens}
+use Rattle.format_lint.specs.Findings.{Finding, first_error, most_drawn}
+use Rattle.format_lint.specs.Lint.{IsHarmlessFor, IsMended, IsShown, IsSourceIn, Shown, Source}
+use Rattle.format_lint.specs.Lint.{Task, drawn, drawn_finding, findings, more, picture}
+use Rattle.format_lint.specs.Lint.{shown_error, start, tokens_in, written}
+use Rattle.format_lint.proofs.OneAnswer.{ShownAs}
+use Rattle.format_lint.specs.declared.task.Show.{Show}
+use Rattle.format_lint.specs.declared.task.Show.TheVariants.{All as ShowAll, Fault as ShowFault}
+use Rattle.format_lint.specs.declared.task.Show.TheVariants.{Colours as ShowColours, Fix as ShowFix}
+use Rattle.format_lint.specs.declared.task.Show.TheVariants.{Tokens as ShowTokens}
+
+id-written : {A : Type 0} (f : Fault A) → list_all is_written (fault_id f) ≡ true
+unfolding fault_id
+id-written (UnmatchedBrace s) = refl
+id-written (MissingBrace c s o) = refl
+id-written (FillBrace c s o) = refl
+id-written (Underscore s) = refl
+id-written (TooLarge ds s) = refl
+id-written (Unnamed s) = refl
+id-written (TextAfterColon s) = refl
+id-written (RawIdentifier s p) = refl
+id-written (LateFlag c s b) = refl
+id-written (MissingColon s) = refl
+id-written (LateDebug w s) = refl
+id-written (LateAlign c s) = refl
+id-written (Grouping s o) = refl
+id-written (DebugPrint s o) = refl
+id-written (LateSign s) = refl
+id-written (FieldAccess s) = refl
+id-written (TupleIndex s) = refl
+
+-- drawings
+of_finding : (mode : Mode) (p : Picture) (f : Finding) → IsHarmless (drawn_finding mode p f)
+of_finding mode p f =
+    join (join (either f.follows (text (codes "follows: ") refl) (text (codes "fault: ") refl))
+    (join (text (fault_id f.fault) (id-written f.fault)) (text (codes "\n") refl)))
+    (drawing-harmless mode p (message f.fault))
+
+of_findings : (mode : Mode) (p : Picture) (fs : List Finding)
+    → IsHarmless (flat_map (drawn_finding mode p) fs)
+of_findings mode p [] = text [] refl
+of_findings mode p (f ∷ fs) = join (of_finding mode p f) (of_findings mode p fs)
+
+of_more : (n : ℕ) → IsHarmless (more n)
+of_more n =
+    either (n == 0) (text [] refl)
+    (join (text (codes "and ") refl) (join (decimal-harmless n) (text (codes " more\n") refl)))
+
+of_error : (mode : Mode) (p : Picture) (e : Option (Message Place))
+    → IsHarmless (shown_error mode p e)
+of_error mode p None = text [] refl
+of_error mode p (Some m) = drawing-harmless mode p m
+
+of_drawn : (all : Bool) (a : Task) (s : Source) → IsHarmless (drawn all a s).0
+of_drawn true a s =
+    let fs = findings a.mode s in
+    join (of_findings a.mode (picture a.path s) (take most_drawn fs))
+    (of_more (length fs - most_drawn))
+of_drawn false a s = of_error a.mode (picture a.path s) (first_error (start a.mode s))
+
+-- tokens, each in a line
+name-written : (k : Kind) → list_all is_written (kind_name k) ≡ true
+unfolding kind_name
+name-written TextKind = refl
+name-written EscapeKind = refl
+name-written Open = refl
+name-written Close = refl
+name-written Integer = refl
+name-written Identifier = refl
+name-written RawPrefix = refl
+name-written White = refl
+name-written Colon = refl
+name-written Fill = refl
+name-written Align = refl
+name-written Sign = refl
+name-written NumberSign = refl
+name-written Zero = refl
+name-written DollarSign = refl
+name-written Dot = refl
+name-written Asterisk = refl
+name-written TypeKind = refl
+name-written Modifier = refl
+name-written DiagnosticText = refl
+name-written Unexpected = refl
+name-written Quote = refl
+
+of_lines : (t : Text) (xs : List Placed) → IsHarmless (shown_tokens false t xs)
+of_lines t [] = text [] refl
+of_lines t (x ∷ xs) =
+    let n = x.1.1 - x.1.0 in
+    join (join (text (kind_name x.0) (name-written x.0)) (join (text (codes " ") refl)
+    (join (join (decimal-harmless x.1.0) (join (text (codes "..") refl) (decimal-harmless x.1.1)))
+    (join (text (codes " ") refl) (join (glyphs-harmless (chars (quoted (within n t))))
+    (text (codes "\n") refl)))))) (of_lines (behind n t) xs)
+
+-- tokens in colours
+has_digits : Option (List ℕ) → Bool
+has_digits None = true
+has_digits (Some n) = list_all is_ascii_digit n
+
+colour-digits : (k : Kind) → has_digits (colour k) ≡ true
+unfolding colour has_digits
+colour-digits TextKind = refl
+colour-digits EscapeKind = refl
+colour-digits Open = refl
+colour-digits Close = refl
+colour-digits Integer = refl
+colour-digits Identifier = refl
+colour-digits RawPrefix = refl
+colour-digits White = refl
+colour-digits Colon = refl
+colour-digits Fill = refl
+colour-digits Align = refl
+colour-digits Sign = refl
+colour-digits NumberSign = refl
+colour-digits Zero = refl
+colour-digits DollarSign = refl
+colour-digits Dot = refl
+colour-digits Asterisk = refl
+colour-digits TypeKind = refl
+colour-digits Modifier = refl
+colour-digits DiagnosticText = refl
+colour-digits Unexpected = refl
+colour-digits Quote = refl
+
+safe-append : (ps qs : List Part) → AreSafe ps → AreSafe qs → AreSafe (ps ++ qs)
+safe-append [] qs p q = q
+safe-append (Plain bs ∷ ps) qs p q = (p.0, safe-append ps qs p.1 q)
+safe-append (Sgr n ∷ ps) qs p q = (p.0, safe-append ps qs p.1 q)
+
+bytes-append : (ps qs : List Part)
+    → flat_map part_bytes (ps ++ qs) ≡ flat_map part_bytes ps ++ flat_map part_bytes qs
+bytes-append [] qs = refl
+bytes-append (p ∷ ps) qs =
+    ap (λ t. part_bytes p ++ t) (bytes-append ps qs)
+    ∙ sym (append_assoc (part_bytes p) (flat_map part_bytes ps) (flat_map part_bytes qs))
+
+joined : {s t : List ℕ} → IsColoured s → IsColoured t → IsColoured (s ++ t)
+joined {s = s} {t = t} (ps, e, p) (qs, f, q) = (
+  ps ++ qs,
+  ap (λ u. u ++ t) e ∙ ap (λ u. flat_map part_bytes ps ++ u) f ∙ sym (bytes-append ps qs),
+  safe-append ps qs p q,
+)
+
+plain : {t : List ℕ} → IsHarmless t → IsColoured t
+plain {t = t} h = (Plain t ∷ [], sym (append-nil t), (h, tt))
+
+escape : (n : List ℕ) → list_all is_ascii_digit n ≡ true
+    → IsColoured (codes "\u{1b}[" ++ (n ++ codes "m"))
+escape n e = (Sgr n ∷ [], sym (append-nil (codes "\u{1b}[" ++ (n ++ codes "m"))), (e, tt))
+
+in_colour-safe : (o : Option (List ℕ)) (u : List ℕ) → has_digits o ≡ true → IsHarmless u
+    → IsColoured (in_colour o u)
+unfolding has_digits
+in_colour-safe None u e h = plain h
+in_colour-safe (Some n) u e h =
+    let whole : (codes "\u{1b}[" ++ (n ++ codes "m")) ++ (u ++ codes "\u{1b}[0m")
+    ≡ in_colour (Some n) u =
+    ap (λ t. codes "\u{1b}[" ++ t) (append_assoc n (codes "m") (u ++ codes "\u{1b}[0m")) in
+    subst IsColoured whole
+    (joined (escape n e) (joined (plain h) (escape (codes "0") refl)))
+
+of_colours : (t : Text) (xs : List Placed) → IsColoured (shown_tokens true t xs)
+of_colours t [] = plain (text [] refl)
+of_colours t (x ∷ xs) =
+    let n = x.1.1 - x.1.0 in
+    joined (in_colour-safe (colour x.0) _ (colour-digits x.0) (glyphs-harmless (within n t)))
+    (of_colours (behind n t) xs)
+
+-- A terminal obeys nothing of what is written in this way, as `IsHarmlessFor` says.
+abbrev HarmlessAs : Task → List ℕ → Show → List ℕ → Type 0
+HarmlessAs a input w t = elim w [
+  | ShowFault ↦ IsHarmless t
+  | ShowAll ↦ IsHarmless t
+  | ShowTokens ↦ IsHarmless t
+  | ShowColours ↦ IsColoured t
+  | ShowFix ↦ (s : Source) × (r : Source) × (d : List ℕ) × IsSourceIn a.is_literal input s
+      × IsMended a.mode s r × (t ≡ written r ++ d) × IsHarmless d
+]
+
+as-shown : (a : Task) (input : List ℕ) (s : Source) (w : Show) (x : Shown)
+    → IsSourceIn a.is_literal input s → ShownAs a s w x → HarmlessAs a input w x.0
+as-shown a input s ShowFault x i e = subst (λ y. IsHarmless y.0) (sym e) (of_drawn false a s)
+as-shown a input s ShowAll x i e = subst (λ y. IsHarmless y.0) (sym e) (of_drawn true a s)
+as-shown a input s ShowTokens x i e =
+    subst (λ y. IsHarmless y.0) (sym e)
+    (join (of_lines (chars (unwrap_or s.literal s.text)) (tokens_in a s)) (of_drawn false a s))
+as-shown a input s ShowColours x i e =
+    subst (λ y. IsColoured y.0) (sym e)
+    (joined (of_colours (chars (unwrap_or s.literal s.text)) (tokens_in a s))
+    (plain (join (text (codes "\n") refl) (of_drawn false a s))))
+as-shown a input s ShowFix x i (r, m, e) =
+    (s, r, (drawn false a r).0, i, m, ap (λ (y : Shown). y.0) e, of_drawn false a r)
+
+-- So it is with what is shown of a source of the input.
+pub shown-harmless : (a : Task) (input : List ℕ) (s : Source) (x : Shown)
+    → IsSourceIn a.is_literal input s → IsShown a s x → IsHarmlessFor a input x.0
+shown-harmless a input s x i h = as-shown a input s a.show x i h
+
+-- What holds of a result where something else does.
+pub ok-weaker : {A B : Type 0} {P Q : A → Type 0} (r : Result A B) → ((x : A) → P x → Q x)
+    → IfOk r P → IfOk r Q
+ok-weaker (Ok x) f h = f x h
+ok-weaker (Err e) f h = h
