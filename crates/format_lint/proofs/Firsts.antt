@@ -25,30 +25,6 @@ mistakes-more : (fs : List Finding) (f : Finding)
 mistakes-more [] f = omega arith
 mistakes-more (g ∷ fs) f = omega (arith, mistakes-more fs f)
 
-pub counted-none : AreCounted [] 0 0 []
-counted-none = record { first_are = refl; all_are = omega arith; own_are = refl }
-
--- Where fewer are kept than are drawn, these are all, and another one is kept.
-pub counted-kept : (first fs : List Finding) (others own : ℕ) (f : Finding)
-    → AreCounted first others own fs → length first < most_drawn
-    → AreCounted (first ++ f ∷ []) others (own + counts f) (fs ++ f ∷ [])
-counted-kept first fs others own f h few =
-    let short : length fs < most_drawn =
-    omega (arith, few, ap length h.first_are, length-take most_drawn fs) in
-    let all : first ≡ fs = h.first_are ∙ take_all most_drawn fs (omega (arith, short)) in
-    let more : length (fs ++ f ∷ []) ≤ most_drawn =
-    omega (arith, short, length-append fs (f ∷ [])) in
-    record {
-      first_are = ap (λ l. l ++ f ∷ []) all ∙ sym (take_all most_drawn (fs ++ f ∷ []) more);
-      all_are = omega (
-        arith,
-        h.all_are,
-        length-append first (f ∷ []),
-        length-append fs (f ∷ []),
-      );
-      own_are = ap (λ n. n + counts f) h.own_are ∙ sym (mistakes-more fs f);
-    }
-
 -- The first elements of a list that has so many are those of a longer one.
 still-first : {A : Type 0} (n : ℕ) (l m : List A) → n ≤ length l → take n l ≡ take n (l ++ m)
 still-first zero l m h = refl
