@@ -9,3 +9,4 @@ pub mod Collecting
 pub mod Traits
 pub mod Comparing
 pub mod Checking
+pub mod ArgumentNames

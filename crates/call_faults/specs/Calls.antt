@@ -1,5 +1,5 @@
 -- What is wrong with a call, in the order in which rustc tells it.
-use Rattle.std.specs.Prelude.{◌≡◌, Bool, true, false, ◌++◌, if◌then◌else◌, List, [], ◌∷◌}
+use Rattle.std.specs.Prelude.{ℕ, Bool, true, false, ◌++◌, if◌then◌else◌, List, [], ◌∷◌}
 use Rattle.std.specs.Prelude.{Option, Some, None}
 use Rattle.std.specs.List.{list_any}
 use Rattle.rustc_parse_format.specs.Faults.{Fault}
@@ -9,7 +9,7 @@ use Rattle.call_faults.specs.Arguments.{Given, list_faults, kept_after}
 use Rattle.call_faults.specs.CallFaults.{CallFault, PositionalAfterNamed, RepeatedName, TextFault}
 use Rattle.call_faults.specs.CallFaults.{MissingName, UnknownTrait, MissingArguments}
 use Rattle.call_faults.specs.CallFaults.{UnusedArguments, RedundantArguments, NameUsedByIndex}
-use Rattle.call_faults.specs.Comparison.{compared}
+use Rattle.call_faults.specs.Comparison.{compared, indices}
 use Rattle.call_faults.specs.Lookups.{lookups_from}
 
 -- The fault ends the work before the string is read.
@@ -23,6 +23,12 @@ is_last (MissingArguments rs) = false
 is_last (UnusedArguments is) = false
 is_last (RedundantArguments is) = false
 is_last (NameUsedByIndex r i) = false
+
+-- The indices of the arguments that count among gs, unless one without a name behind one with a
+-- name ends the work.
+abbrev pub kept_indices : List Given → List ℕ
+kept_indices gs = if list_any is_last (list_faults [] 0 gs) then []
+    else indices (kept_after [] 0 gs)
 
 -- What is wrong with a string that has this fault or none, and these pieces, and with the arguments
 -- gs.

@@ -5,4 +5,5 @@ pub mod Comparison
 pub mod Texts
 pub mod Calls
 pub mod Clean
+pub mod Words
 pub mod Seen

@@ -1,5 +1,6 @@
 -- What a contract sees of the values of this crate: texts as their characters, ranges as places.
-use Rattle.std.specs.Prelude.{◌≡◌, ℕ, Bool, List, Option, map, option_map, chars, is_some}
+use Rattle.std.specs.Prelude.{◌≡◌, ℕ, Bool, List, Option, length, map, option_map}
+use Rattle.std.specs.Prelude.{chars, is_some}
 use Rattle.std.specs.BTreeMap.{BTreeMap, get_by}
 use Rattle.std.specs.Cmp.Lexicographic.{slice_cmp}
 use Rattle.std.specs.List.{list_any}
@@ -8,7 +9,9 @@ use Rattle.std.specs.Str.{bytes_eq, encode_utf8_all}
 use denote.Ref.{Bor}
 use Rattle.rustc_parse_format.specs.Characters.{Text}
 use Rattle.rustc_parse_format.specs.SeenFaults.{seen_fault as seen_text_fault}
+use Rattle.rustc_parse_format.specs.Seen.{seen}
 use Rattle.rustc_parse_format.specs.State.{State, first_state}
+use Rattle.rustc_parse_format.specs.World.{Place}
 use Rattle.rustc_parse_format.specs.Types.{Format}
 use Rattle.placeholder_check.specs.Seen.{text}
 use Rattle.placeholder_check.specs.Uses.{Use, ByIndex, ByName}
@@ -22,6 +25,7 @@ use Rattle.call_faults.specs.declared.faults.CallFault.TheVariants.{MissingArgum
 use Rattle.call_faults.specs.declared.faults.CallFault.TheVariants.{UnusedArguments as UnusedIn}
 use Rattle.call_faults.specs.declared.faults.CallFault.TheVariants.{RedundantArguments as TwinsIn}
 use Rattle.call_faults.specs.declared.faults.CallFault.TheVariants.{NameUsedByIndex as ByIndexIn}
+use Rattle.call_faults.specs.declared.checker.Checked.{Checked}
 use Rattle.call_faults.specs.declared.checker.FormatString.{FormatString}
 use Rattle.call_faults.specs.declared.arguments.Given.{Given as DeclaredGiven}
 use Rattle.call_faults.specs.declared.arguments.Kept.{Kept as DeclaredKept}
@@ -36,6 +40,7 @@ use Rattle.call_faults.specs.CallFaults.{CallFault, PositionalAfterNamed, Repeat
 use Rattle.call_faults.specs.CallFaults.{MissingName, UnknownTrait, MissingArguments}
 use Rattle.call_faults.specs.CallFaults.{UnusedArguments, RedundantArguments, NameUsedByIndex}
 use Rattle.call_faults.specs.Lookups.{Lookup, Refer, NoTrait}
+use Rattle.call_faults.specs.Words.{Told}
 
 -- An argument as a contract sees it.
 abbrev pub seen_given : DeclaredGiven → Given
@@ -84,3 +89,13 @@ pub record Holds (ks : List Kept) (a : Arguments) : Type 0 where
   pub list : map seen_kept a.list.items ≡ ks
   pub names : (w : Text) → found_in a.indices w ≡ index_of ks w
   pub has_names : a.has_names ≡ list_any (λ k. is_some k.given.name) ks
+
+-- What titles tell of a call, with the numbers that are too large.
+abbrev pub told : Checked → List ℕ → Told Place
+told c numbers = record {
+  given = map seen_given c.given.now;
+  count = length c.kept.items;
+  pieces = map seen c.pieces.items;
+  taken = c.parser.next;
+  numbers = numbers;
+}

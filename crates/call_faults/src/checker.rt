@@ -1,14 +1,14 @@
 //! What is wrong with a call.
 
-ghost use Rattle.std.specs.Prelude.{◌≡◌, ◌+◌, ◌<◌, ◌^◌, ◌↔◌, IfOk, IsTrue, chars, is_none, length};
-ghost use Rattle.std.specs.Prelude.{map, option_map};
+ghost use Rattle.std.specs.Prelude.{◌≡◌, ◌+◌, ◌<◌, ◌^◌, ◌↔◌, [], IfOk, IsTrue, OnOk, chars};
+ghost use Rattle.std.specs.Prelude.{is_none, length, map, option_map};
 ghost use Rattle.std.specs.List.{All};
 ghost use Rattle.rustc_parse_format.specs.Call.{pieces_of};
 ghost use Rattle.rustc_parse_format.specs.Seen.{seen, seen_snippet};
 ghost use Rattle.rustc_parse_format.specs.State.{after_all, calls};
 ghost use Rattle.rustc_parse_format.specs.World.{hashes, pieces_in};
 ghost use Rattle.call_faults.specs.CallFaults.{is_warning};
-ghost use Rattle.call_faults.specs.Calls.{call_faults};
+ghost use Rattle.call_faults.specs.Calls.{call_faults, kept_indices};
 ghost use Rattle.call_faults.specs.Clean.{IsClean};
 ghost use Rattle.placeholder_check.specs.Seen.{text as seen_text};
 ghost use Rattle.rustc_parse_format.specs.SeenFaults.{seen_fault as seen_text_fault};
@@ -16,7 +16,7 @@ ghost use Rattle.call_faults.specs.Seen.{seen_fault, seen_given, start};
 ghost use Rattle.call_faults.specs.Texts.{text_fault};
 
 use crate::arguments::{Given, arguments_of};
-use crate::compared::compare;
+use crate::compared::{compare, indices_of};
 use crate::faults::CallFault;
 use crate::lookups::lookups_of;
 use crate::text::text_fault;
@@ -42,6 +42,11 @@ pub struct FormatString<'a> {
 /// A call that was checked.
 #[derive(Drop)]
 pub struct Checked<'a> {
+    /// The arguments that are given.
+    pub given: &'a [Given<'a>],
+    /// The indices of the arguments that count: of those whose name is not that of an earlier one.
+    /// Empty if an argument without a name behind one with a name ended the check.
+    pub kept: Vec<usize>,
     /// The pieces of the format string.
     pub pieces: Vec<Piece<'a>>,
     /// The parser after them, which has the places of the placeholders.
@@ -79,17 +84,21 @@ fn fault_of<'a>(alloc: Global, string: FormatString<'a>) -> Result<Option<Fault<
     Ok(fault)
 }
 
-/// Returns what is wrong with a call whose format string has these pieces. `is_read` is whether the
-/// string is in the grammar. Returns `Err` if an allocation fails.
+/// Returns what is wrong with a call whose format string has these pieces, and puts the indices of
+/// the arguments that count into `kept`. `is_read` is whether the string is in the grammar. Returns
+/// `Err` if an allocation fails.
 fn faults_of<'a>(
     alloc: Global,
     string: FormatString<'a>,
     is_read: bool,
     pieces: &[Piece<'a>],
     given: &[Given<'a>],
+    kept: &mut Vec<usize>,
 ) -> Result<Vec<CallFault<'a>>, AllocError>
     requires { hashes string.style + length string.text.now + 2 < 2 ^ 64 }
-    ensures { IfOk result (λ v. is_none (text_fault (start string.entry)) ≡ is_read
+    ensures kept { OnOk result (kept.old.items ≡ []
+        → kept.new.items ≡ kept_indices (map seen_given given.now)) }
+    ensures faults { IfOk result (λ v. is_none (text_fault (start string.entry)) ≡ is_read
         → map seen_fault v.items ≡ call_faults string.entry.captures (map seen_given given.now)
         (text_fault (start string.entry)) (map seen pieces.now)) }
 {
@@ -97,6 +106,7 @@ fn faults_of<'a>(
     let Some(mut arguments) = arguments_of(alloc, &mut faults, given)? else {
         return Ok(faults);
     };
+    *kept = indices_of(alloc, &arguments.list)?;
     if !is_read {
         if let Some(fault) = fault_of(alloc, string)? {
             faults.push(CallFault::Text(fault))?;
@@ -124,7 +134,7 @@ fn faults_of<'a>(
 pub fn call_faults<'a>(
     alloc: Global,
     string: FormatString<'a>,
-    given: &[Given<'a>],
+    given: &'a [Given<'a>],
 ) -> Result<Checked<'a>, AllocError>
     requires { hashes string.style + length string.text.now + 2 < 2 ^ 64 }
     // The pieces and the parser are those of the calls of a parser at the start of the string, and
@@ -132,6 +142,8 @@ pub fn call_faults<'a>(
     ensures walk { IfOk result (λ x. let s = start string.entry in
         (map seen x.pieces.items ≡ pieces_in s.world (pieces_of (calls s)))
         × (x.parser ≡ after_all s (calls s))) }
+    ensures given { IfOk result (λ x. x.given ≡ given.entry) }
+    ensures kept { IfOk result (λ x. x.kept.items ≡ kept_indices (map seen_given given.now)) }
     ensures faults { IfOk result (λ x. map seen_fault x.faults.items
         ≡ call_faults string.entry.captures (map seen_given given.now)
         (text_fault (start string.entry)) (map seen x.pieces.items)) }
@@ -151,8 +163,11 @@ pub fn call_faults<'a>(
         ParseMode::Format,
     )?;
     let is_read = parser.errors().is_empty();
-    let faults = faults_of(alloc, string, is_read, &pieces, given)?;
+    let mut kept = Vec::new(alloc);
+    let faults = faults_of(alloc, string, is_read, &pieces, given, &mut kept)?;
     Ok(Checked {
+        given,
+        kept,
         pieces,
         parser,
         faults,

@@ -221,7 +221,7 @@ fn redundant_of<'a>(
 }
 
 /// Returns the indices of arguments. Returns `Err` if an allocation fails.
-fn indices_of(alloc: Global, arguments: &[Kept<'_>]) -> Result<Vec<usize>, AllocError>
+pub(crate) fn indices_of(alloc: Global, arguments: &[Kept<'_>]) -> Result<Vec<usize>, AllocError>
     ensures { IfOk result (λ v. v.items ≡ indices (map seen_kept arguments.now)) }
 {
     let mut indices = Vec::new(alloc);

@@ -7,6 +7,7 @@ mod compared;
 mod faults;
 mod lookups;
 mod text;
+mod titles;
 
 pub use arguments::Given;
 pub use checker::{Checked, FormatString, call_faults};

@@ -32,9 +32,11 @@ returns c =
     (λ e. map-nil seen_error c.errors.result.now (errors ∙ e)) ∙ sym c.is_empty-is_read.ensures in
     let faults : map seen_fault c.in_ok-faults.faults.items ≡ call_faults c.args.string.captures
     (map seen_given c.args.given.now) (text_fault s) (map seen c.in_ok-pieces.pieces.items)
-    = rw c.deref.ensures.value at (c.in_ok-faults.ensures read) in
+    = rw c.deref.ensures.value at (c.in_ok-faults.ensures.faults read) in
     record {
       walk = (pieces, parser);
+      given = refl;
+      kept = c.in_ok-faults.ensures.kept c.new-kept.ensures.items;
       faults = faults;
       clean = clean-is c.args.string.captures (map seen_given c.args.given.now)
           (chars c.args.string.text.now) s (map seen c.in_ok-pieces.pieces.items)

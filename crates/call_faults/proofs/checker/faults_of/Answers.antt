@@ -14,8 +14,8 @@ use Rattle.call_faults.proofs.Checking.{read-total}
 use Rattle.call_faults.proofs.Comparing.{kept-below}
 use Rattle.call_faults.proofs.checker.faults_of.Goals as goal
 
-pub returns : goal.returns
-returns c = λ e.
+pub returns-clause-faults : goal.returns-clause-faults
+returns-clause-faults c = λ e.
     let gs = map seen_given c.args.given.now in
     let ks = kept_after [] 0 gs in
     let holds : Holds ks c.in-Some.arguments = rw c.in-Some.is at c.in_ok-arguments.ensures.some in
@@ -27,12 +27,12 @@ returns c = λ e.
     = subst (λ (n : ℕ). AllByRecursion (λ k. k.index < n) ks) count (kept-below [] 0 gs tt) in
     let told : map seen_fault c.arguments_of.new.faults.items ≡ list_faults [] 0 gs
     = rw c.new-faults.ensures.items at c.in_ok-arguments.ensures.told in
-    let looked : map seen_lookup c.deref.result.now ≡ lookups_from 0 (map seen c.args.pieces.now)
-    = rw c.deref.ensures.value c.in_ok-lookups.ensures in
+    let looked : map seen_lookup c.deref-2.result.now ≡ lookups_from 0 (map seen c.args.pieces.now)
+    = rw c.deref-2.ensures.value c.in_ok-lookups.ensures in
     read-total c.args.string.captures gs (text_fault (start c.args.string))
     (map seen c.args.pieces.now) (map seen_fault c.compare.new.faults.items)
     (e ∙ c.if-not-is_read.false) goes_on
     (c.in_ok-compare.ensures ks holds below
     ∙ ap (λ (xs : List CallFault). xs
-    ++ compared c.args.string.captures ks (map seen_lookup c.deref.result.now)) told
+    ++ compared c.args.string.captures ks (map seen_lookup c.deref-2.result.now)) told
     ∙ ap (λ ls. list_faults [] 0 gs ++ compared c.args.string.captures ks ls) looked)

@@ -1,0 +1,12 @@
+use Rattle.std.proofs.Common.{append_assoc, ne_eqb}
+use Rattle.call_faults.proofs.titles.put_count.Goals as goal
+
+pub returns : goal.returns
+returns c =
+    rw (
+      ne_eqb c.args.count 0 c.if-count-eq0.false,
+      ne_eqb c.args.count 1 c.if-count-eq1.false,
+      c.in_ok-push_str-4.ensures.bytes,
+      c.in_ok-put_number.ensures,
+      c.in_ok-push_str-3.ensures.bytes,
+    ) (simp append_assoc)
