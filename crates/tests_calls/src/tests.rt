@@ -47,7 +47,9 @@ fn arguments<'a>(alloc: Global, list: &'a str) -> Result<Vec<Given<'a>>, AllocEr
 }
 
 /// Returns the titles of what is wrong with a call, each on a line.
-fn titles(alloc: Global, checked: &Checked<'_>) -> Result<String, AllocError> {
+fn titles(alloc: Global, string: FormatString<'_>, list: &str) -> Result<String, AllocError> {
+    let given = arguments(alloc, list)?;
+    let checked = call_faults(alloc, string, &given)?;
     let mut out = String::new(alloc);
     for fault in &checked.faults {
         if !out.is_empty() {
@@ -61,14 +63,172 @@ fn titles(alloc: Global, checked: &Checked<'_>) -> Result<String, AllocError> {
     Ok(out)
 }
 
+/// Returns the ids of what is wrong with a call, each on a line.
+fn ids(alloc: Global, string: FormatString<'_>, list: &str) -> Result<String, AllocError> {
+    let given = arguments(alloc, list)?;
+    let mut out = String::new(alloc);
+    for fault in &call_faults(alloc, string, &given)?.faults {
+        if !out.is_empty() {
+            out.push('\n')?;
+        }
+        out.push_str(fault.id())?;
+    }
+    Ok(out)
+}
+
 #[test]
 fn titles_are_those_of_rustc(rt: HostRuntime) -> Result<(), Fail> {
     let alloc = rt.alloc();
     for row in ROWS {
-        let given = arguments(alloc, row.arguments)?;
-        let checked = call_faults(alloc, plain(row.text), &given)?;
-        let said = titles(alloc, &checked)?;
-        assert_eq!(rt; said.as_str(), row.titles, "{} {}", row.text, row.arguments);
+        let said = titles(alloc, plain(row.text), row.arguments)?;
+        assert_eq!(&rt; said.as_str(), row.titles, "{} {}", row.text, row.arguments);
     }
+    Ok(())
+}
+
+/// What rustc 1.95 says where the literal is that of `concat!`, which captures no variable.
+#[test]
+fn names_that_are_not_captured(rt: HostRuntime) -> Result<(), Fail> {
+    let alloc = rt.alloc();
+    // the text, the arguments, and the titles
+    let rows = [
+        (
+            "{a} {a} {b:w$}",
+            "b",
+            "there is no argument named `a`\n\
+             there is no argument named `b`\n\
+             there is no argument named `w`\n\
+             redundant argument",
+        ),
+        ("{x}", "x = 1", ""),
+        (
+            "{0} {y:q}",
+            "1",
+            "there is no argument named `y`\nunknown format trait `q`",
+        ),
+        (
+            "{x:x$.x$}{}",
+            "",
+            "there is no argument named `x`\n\
+             1 positional argument in format string, but no arguments were given",
+        ),
+    ];
+    for (text, list, expected) in rows {
+        let mut string = plain(text);
+        string.captures = false;
+        let said = titles(alloc, string, list)?;
+        assert_eq!(&rt; said.as_str(), expected, "{} {}", text, list);
+    }
+    Ok(())
+}
+
+/// What rustc 1.95 says of `println!`, with the literal as it is in the source.
+#[test]
+fn literals_of_println(rt: HostRuntime) -> Result<(), Fail> {
+    let alloc = rt.alloc();
+    // the text, the hashes of a raw literal, the literal, the arguments, and the titles
+    let rows = [
+        (
+            "{}\n",
+            None,
+            "\"{}\"",
+            "",
+            "1 positional argument in format string, but no arguments were given",
+        ),
+        (
+            "{\n",
+            None,
+            "\"{\"",
+            "a",
+            "invalid format string: expected `}` but string was terminated",
+        ),
+        (
+            "{\\\n",
+            Some(0),
+            "r\"{\\\"",
+            "a",
+            "invalid format string: expected `}`, found `\\\\`",
+        ),
+        (
+            "{\"{\n",
+            Some(1),
+            "r#\"{\"{\"#",
+            "a",
+            "invalid format string: expected `}`, found `\\\"`",
+        ),
+        (
+            "{} }\n",
+            None,
+            "\"{} \\u{7d}\"",
+            "a",
+            "invalid format string: unmatched `}` found",
+        ),
+        ("{} {a}\n", None, "\"{} {a}\"", "b", ""),
+    ];
+    for (text, style, snippet, list, expected) in rows {
+        let mut string = plain(text);
+        string.style = style;
+        string.snippet = Some(snippet);
+        string.appended_newline = true;
+        let said = titles(alloc, string, list)?;
+        assert_eq!(&rt; said.as_str(), expected, "{} {}", snippet, list);
+    }
+    Ok(())
+}
+
+#[test]
+fn each_kind_has_its_id(rt: HostRuntime) -> Result<(), Fail> {
+    let alloc = rt.alloc();
+    // the text, the arguments, and the ids
+    let rows = [
+        ("", "a = 1, b", "positional-after-named"),
+        ("{a}{b}", "a = 1, a = 2", "repeated-name\nmissing-name"),
+        ("{", "a", "missing-closing-brace"),
+        ("{:q}{}", "a", "unknown-trait\nmissing-argument"),
+        ("", "a", "unused-argument"),
+        ("{a}", "a", "redundant-argument"),
+        ("{}", "a = 1", "name-used-by-index"),
+    ];
+    for (text, list, expected) in rows {
+        let mut string = plain(text);
+        string.captures = list.starts_with('a') && text == "{a}";
+        let said = ids(alloc, string, list)?;
+        assert_eq!(&rt; said.as_str(), expected, "{} {}", text, list);
+    }
+    Ok(())
+}
+
+#[test]
+fn titles_out_of_memory_are_told_again(rt: HostRuntime) -> Result<(), Fail> {
+    let alloc = rt.alloc();
+    let string = plain("{:q}{a}{4}{x:y$}{");
+    let expected = "duplicate argument named `x`\n\
+                    invalid format string: expected `}` but string was terminated";
+    let said = match titles(alloc, string, "b, x = 1, x = 2") {
+        Ok(said) => said,
+        Err(_) => {
+            println!(rt; "refused")?;
+            titles(alloc, string, "b, x = 1, x = 2")?
+        }
+    };
+    assert_eq!(rt; said.as_str(), expected);
+    Ok(())
+}
+
+#[test]
+fn compared_out_of_memory_is_told_again(rt: HostRuntime) -> Result<(), Fail> {
+    let alloc = rt.alloc();
+    let string = plain("{:q}{b}{4}{x:y$}");
+    let expected = "unknown format trait `q`\n\
+                    invalid reference to positional argument 4 (there are 3 arguments)\n\
+                    argument never used";
+    let said = match titles(alloc, string, "a, c, x = 1") {
+        Ok(said) => said,
+        Err(_) => {
+            println!(rt; "refused")?;
+            titles(alloc, string, "a, c, x = 1")?
+        }
+    };
+    assert_eq!(rt; said.as_str(), expected);
     Ok(())
 }
