@@ -54,7 +54,7 @@ def copied(name, folder):
         root = "lib" if " staticlib:" in OTHERS[name] else "main"
         shutil.copy(RATTLE / f"{name}.txt", folder / f"src/{root}.rt")
     else:
-        others = shutil.ignore_patterns("out", "*must-fail")
+        others = shutil.ignore_patterns("out", "must-fail")
         shutil.copytree(TOP / "crates" / name, folder, ignore=others)
 
 

@@ -37,20 +37,10 @@ def extracted(crates, callers):
     for path in callers:
         needs.add_caller(in_place(str(path), Source, path.name, path.read_text(), False))
     needs.follow()
-    cloned = {
-        item.name
-        for source in sources
-        for item in source.items
-        for part in item.parts
-        if part.kind == "fn" and clones_in(source, part)
-    }
-    made = [
-        (
-            "mod.rs",
-            "// The crates that are extracted. Made by tools/extract: not to be edited.\n\n"
-            + "".join(f"pub mod {name};\n" for name in sorted(crates)),
-        )
-    ]
+    cloned = {item.name for source in sources for item in source.items
+              if any(clones_in(source, part) for part in item.parts)}
+    head = "// The crates that are extracted. Made by tools/extract: not to be edited.\n\n"
+    made = [("mod.rs", head + "".join(f"pub mod {name};\n" for name in sorted(crates)))]
     for source in sources:
         if needs.has(source.crate, *module_of(source.name)):
             text = in_place(source.path, rust_of, source, needs, list(crates), empty, cloned)
@@ -68,12 +58,8 @@ def of_repository(crates=TOP / "crates"):
 
 def laid_out(text):
     """A file as rustfmt lays it out."""
-    done = subprocess.run(
-        ["rustfmt", "--edition", "2021", "--config", "max_width=100"],
-        input=text,
-        capture_output=True,
-        text=True,
-    )
+    words = "rustfmt --edition 2021 --config max_width=100".split()
+    done = subprocess.run(words, input=text, capture_output=True, text=True)
     if done.returncode != 0:
         raise Refused(0, done.stderr)
     return done.stdout
@@ -85,9 +71,6 @@ def in_place(path, call, *arguments):
         return call(*arguments)
     except Refused as refused:
         raise Refused(refused.line, f"{path}:{refused.line}: {refused}") from None
-
-
-# ----------------------------------------------------------------------------------- what is needed
 
 
 class Needs:
@@ -102,17 +85,15 @@ class Needs:
         """Adds what a file in Rust names: what it imports of what is extracted, and each method
         that it calls. What it exports is shown: all public methods of that are needed that take no
         allocator."""
-        self.methods |= {
-            name for name in caller.names_in(0, len(caller.tokens) - 1) if isinstance(name, tuple)
-        }
-        for at in caller.places(0, len(caller.tokens) - 1):
-            if caller.tokens[at].is_word("use"):
-                for path, _ in Import(caller, caller.next(at)).paths():
-                    if "proved" in path:
-                        found = self.resolved(path[path.index("proved") + 1 :])
-                        self.items.add(found)
-                        if caller.text(caller.prev(at)) == "pub":
-                            self.shown.add(found)
+        end = len(caller.tokens) - 1
+        self.methods |= {it for it in caller.names_in(0, end) if isinstance(it, tuple)}
+        for at in (it for it in caller.places(0, end) if caller.tokens[it].is_word("use")):
+            for path, _ in Import(caller, caller.next(at)).paths():
+                if "proved" in path:
+                    found = self.resolved(path[path.index("proved") + 1 :])
+                    self.items.add(found)
+                    if caller.text(caller.prev(at)) == "pub":
+                        self.shown.add(found)
 
     def resolved(self, path):
         """The file and the name of what a path from the crates on leads to, past what other files
@@ -136,8 +117,6 @@ class Needs:
             return [source.crate, *path[1:]]
         if path[0] == "super":
             return here[:-1] + path[1:]
-        if path[0] == "self":
-            return here + path[1:]
         if (*here, path[0]) in self.files:
             return here + path
         return path
@@ -146,63 +125,49 @@ class Needs:
         """Adds what an item names."""
         imports = source.imports()
         for name in source.names_in(item.start, item.last, item.of):
+            path = imports.get(name)
             if isinstance(name, tuple):
                 self.methods.add(name)
-                self.items.add(
-                    self.resolved(
-                        self.absolute(source, imports.get(name[0], [name[0]]) + [name[1]])
-                    )
-                    if name[0] != "."
-                    else None
-                )
-                continue
-            path = imports.get(name)
-            self.items.add(
-                (source.path, name) if path is None else self.resolved(self.absolute(source, path))
-            )
+                path = imports.get(name[0], [name[0]]) + [name[1]]
+            if name[0] != ".":
+                known = path and self.resolved(self.absolute(source, path))
+                self.items.add(known or (source.path, name))
 
     def follow(self):
         """Marks all items that are needed, and what these need."""
+        parts_of = lambda item: item.parts if item.kind == "impl" and not item.trait else [item]
+        all_parts = [(source, item, part) for source in self.sources for item in source.items
+                     for part in parts_of(item)]
         grown = True
         while grown:
             grown = False
-            for source in self.sources:
-                for item in source.items:
-                    for part in item.parts if item.kind == "impl" and not item.trait else [item]:
-                        if not part.is_kept and self.is_needed(source, item, part):
-                            part.is_kept = item.is_kept = grown = True
-                            for inner in part.parts:
-                                inner.is_kept = inner.kind != "ghost"
-                            self.add(source, part)
-                            if part is not item:
-                                self.items.add((source.path, item.name))
+            for source, item, part in all_parts:
+                if not part.is_kept and self.is_needed(source, item, part):
+                    part.is_kept = item.is_kept = grown = True
+                    for inner in part.parts:
+                        inner.is_kept = inner.kind != "ghost"
+                    self.add(source, part)
+                    if part is not item:
+                        self.items.add((source.path, item.name))
 
     def has(self, *module):
         """Whether something of a module is needed, or of one in it."""
-        return any(
-            here[: len(module)] == module and any(item.is_kept for item in source.items)
-            for here, source in self.files.items()
-        )
+        inside = [it for here, it in self.files.items() if here[: len(module)] == module]
+        return any(item.is_kept for source in inside for item in source.items)
 
     def is_needed(self, source, item, part):
         if item.kind != "impl":
-            return (
-                part.kind in ("fn", "struct", "enum", "const", "type")
-                and (source.path, part.name) in self.items
-            )
+            is_item = part.kind in ("fn", "struct", "enum", "const", "type")
+            return is_item and (source.path, part.name) in self.items
         path = source.imports().get(item.name)
         of = self.resolved(self.absolute(source, path)) if path else (source.path, item.name)
         if of not in self.items or part.kind == "ghost" or clones_in(source, part):
             return False
-        return (
-            part is item
-            or (item.name, part.name) in self.methods
-            or part.is_public
-            and of in self.shown
-            and not takes_allocator(source, part)
-            or part.kind == "fn"
-            and (".", part.name, source.count_of(source.next(part.head, 2)) - 1) in self.methods
-        )
+        is_shown = part.is_public and of in self.shown and not takes_allocator(source, part)
+        if part is item or is_shown or (item.name, part.name) in self.methods:
+            return True
+        count = part.kind == "fn" and source.count_of(source.next(part.head, 2)) - 1
+        return (".", part.name, count) in self.methods
 
 
 def module_of(name):
@@ -213,18 +178,13 @@ def module_of(name):
 
 def clones_in(source, item):
     """Whether a method is a clone that asks for an allocator, which no derive is there."""
-    if item.kind != "fn" or item.name != "clone":
-        return False
-    words = [source.text(at) for at in source.places(item.head, item.open)]
-    return words[2:8] == ["(", "&", "self", ",", "alloc", ":"]
+    words = source.texts(item.head, item.open) if item.kind == "fn" else []
+    return words[1:8] == ["clone", "(", "&", "self", ",", "alloc", ":"]
 
 
 def takes_allocator(source, item):
     """Whether a function has an argument `alloc`."""
-    return "alloc" in [source.text(at) for at in source.places(item.head, item.open)]
-
-
-# ---------------------------------------------------------------------------------- what is written
+    return "alloc" in source.texts(item.head, item.open)
 
 
 def rust_of(source, needs, crates, empty, cloned):
@@ -242,23 +202,15 @@ def rust_of(source, needs, crates, empty, cloned):
         if item.kind == "mod":
             if needs.has(*here, item.name):
                 # what calls the crates stands outside of them
-                body += (
-                    comments(source, item)
-                    + f"pub{'' if item.is_public else '(crate)'} mod {item.name};"
-                )
+                public = "pub" if item.is_public else "pub(crate)"
+                body += f"{comments(source, item)}{public} mod {item.name};"
         elif item.kind == "use":
-            lines = rules.imported(
-                source,
-                item,
-                source.crate,
-                crates,
-                lambda name: name in own or item.is_public and (source.path, name) in needs.passed,
-            )
+            passed = {name for path, name in needs.passed if item.is_public and path == source.path}
+            lines = rules.imported(source, item, source.crate, crates, own | passed)
             body += comments(source, item) + lines if lines else ""
         elif item.is_kept:
-            body += comments(source, item)
             uses_shim |= item_rewritten(source, item, crates, empty, cloned)
-            body += text_of(source, item, False)
+            body += comments(source, item) + source.span(item.start, item.last)
     body = body.strip("\n")
     if uses_shim:
         body = (
@@ -292,7 +244,7 @@ def head_of(source, item):
     """Puts the clauses of a function behind its documentation, and lets it be inlined if nothing is
     said of that: rustc compiles a crate in parts, and Rattle as a whole."""
     if item.kind == "fn":
-        words = [source.text(at) for at in source.places(item.start, item.head)]
+        words = source.texts(item.start, item.head)
         inline = "" if "inline" in words else "#[inline]\n"
         source.tokens[item.start].text = item.clauses + inline + source.tokens[item.start].text
 
@@ -312,10 +264,4 @@ def derives(source, item, cloned):
 
 
 def comments(source, item):
-    return "".join(token.text for token in source.tokens[item.first : item.start])
-
-
-def text_of(source, item, with_comments=True):
-    return (comments(source, item) if with_comments else "") + "".join(
-        token.text for token in source.tokens[item.start : item.last + 1]
-    )
+    return source.span(item.first, item.start - 1)

@@ -6,8 +6,6 @@ from extraction.rules import ATTRIBUTES, OPENED
 
 NUMBERS = ("bool", "char", "u8", "u16", "u32", "u64", "usize")
 
-# ------------------------------------------------------------------------ what only the check reads
-
 
 def strip(source, items):
     """Leaves out clauses, ghost items and members, and the attributes that are for the prover. The
@@ -50,17 +48,12 @@ def clauses(source, item):
     first = next((at for at in places if source.tokens[at].is_word("requires", "ensures")), None)
     if first is None:
         return ""
-    if not all(
-        source.tokens[at].is_word("requires", "ensures")
-        or source.is_word(at)
-        or source.tokens[at].kind == "ghost"
-        for at in places
-        if at >= first
-    ):
+    if not all(source.tokens[at].is_word("requires", "ensures") or source.is_word(at)
+               or source.tokens[at].kind == "ghost" for at in places if at >= first):
         source.refuse(first, "something behind the clauses of a function that is no clause")
     last = source.prev(item.open)
     before = source.prev(first) + 1
-    text = "".join(token.text for token in source.tokens[before : last + 1])
+    text = source.span(before, last)
     source.cut(before, item.open - 1)
     source.tokens[item.open - 1].kind, source.tokens[item.open - 1].text = "space", " "
     lines = textwrap.dedent(text.strip("\n")).splitlines()
@@ -73,7 +66,7 @@ def members(source, item):
     while at < item.last:
         item.has_members = True
         end = field_end(source, at, item.last)
-        words = [source.text(here) for here in source.places(at, end)]
+        words = source.texts(at, end)
         behind = source.next(end)
         if "ghost" in words[: words.index(":")]:
             source.cut(at, end)
@@ -87,20 +80,14 @@ def members(source, item):
 def field_end(source, at, end):
     """The comma behind a field, or the last token of the last one."""
     while at < end:
-        if source.tokens[at].is_sign("(", "[", "{"):
-            at = source.close(at)
-        elif source.tokens[at].is_sign("<"):
-            depth = 1
-            while depth > 0:
-                at = source.next(at)
-                depth += (source.text(at) == "<") - (source.text(at) == ">")
+        at, depth = source.skip(at), int(source.text(at) == "<")
+        while depth > 0:
+            at = source.next(at)
+            depth += (source.text(at) == "<") - (source.text(at) == ">")
         if source.text(at) == "," or source.next(at) >= end:
             return at
         at = source.next(at)
     return at
-
-
-# ------------------------------------------------------------------------ values that take no bytes
 
 
 def empty_types(sources):
@@ -108,21 +95,15 @@ def empty_types(sources):
     members of such types, and no others. With each goes the set of the names of its members'
     owners: `{type: {field, ..}}` of the structs that hold one."""
     empty, fields = set(), {}
-    structs = [
-        (source, item)
-        for source in sources
-        for item in source.items
-        if item.kind == "struct" and item.has_members
-    ]
+    structs = [(source, item) for source in sources for item in source.items
+               if item.kind == "struct" and item.has_members]
     grown = True
     while grown:
         grown = False
         for source, item in structs:
             held = fields.setdefault(item.name, set())
             for at, end in list(item.members):
-                names = [
-                    source.text(here) for here in source.places(at, end) if source.text(here) != ","
-                ]
+                names = [it for it in source.texts(at, end) if it != ","]
                 if names[names.index(":") + 1 :] != [names[-1]] or names[-1] not in empty:
                     continue
                 held.add(names[names.index(":") - 1])
@@ -146,7 +127,7 @@ def lookers(sources):
     for source in sources:
         for item in source.items:
             if item.kind == "fn":
-                words = [source.text(at) for at in source.places(item.head, item.open - 1)]
+                words = source.texts(item.head, item.open - 1)
                 looks = words[-1] in NUMBERS and not {"mut", "Global", "fn", "impl"} & {*words[1:]}
                 known.setdefault(item.name, []).append(looks)
     return {name for name, looks in known.items() if all(looks)}
@@ -162,36 +143,18 @@ def erase(source, empty, fields):
     for item in source.items:
         for at in range(item.start, item.last + 1):
             if source.is_real(at):
-                erase_at(
-                    source,
-                    at,
-                    empty,
-                    fields,
-                    fields.get(item.name, ()) if item.kind == "impl" else (),
-                )
+                held = fields.get(item.name, ()) if item.kind == "impl" else ()
+                erase_at(source, at, empty, fields, held)
 
 
 def erase_at(source, at, empty, fields, held):
     """Leaves out what begins at a place, in an impl of a struct that holds such members."""
-    text, before = source.text(at), source.text(source.prev(at))
-    if (
-        text in fields
-        and source.text(source.next(at)) == "{"
-        and before not in ("for", "impl", "struct")
-    ):
+    text, before, behind = source.around(at)
+    second, third = source.text(source.next(at, 2)), source.text(source.next(at, 3))
+    if text in fields and behind == "{" and before not in ("for", "impl", "struct"):
         erase_members(source, source.next(at), fields[text], empty, held)
-    elif (
-        text == "let"
-        and source.text(source.next(at, 2)) == "="
-        and source.text(source.next(at, 3)) in empty
-    ):
-        erase_statement(source, at, empty, held)
-    elif (
-        text == "self"
-        and before in (";", "{", "}")
-        and source.text(source.next(at)) == "."
-        and source.text(source.next(at, 2)) in held
-    ):
+    elif (text == "let" and second == "=" and third in empty
+          or text == "self" and before in (";", "{", "}") and behind == "." and second in held):
         erase_statement(source, at, empty, held)
 
 
@@ -199,11 +162,9 @@ def erase_members(source, opening, names, empty, held):
     """Leaves the members with these names out of a value that is made, or taken apart."""
     at, end = source.next(opening), source.close(opening)
     while at < end:
-        last = at
+        last = source.skip(at)
         while source.text(last) != "," and source.next(last) < end:
-            last = source.close(last) if source.tokens[last].is_sign("(", "[", "{") else last
-            if source.text(last) != "," and source.next(last) < end:
-                last = source.next(last)
+            last = source.skip(source.next(last))
         if source.text(at) in names:
             doubt(source, at, last, empty, held)
             source.cut(at, last)
@@ -215,9 +176,7 @@ def erase_statement(source, first, empty, held):
     which is then refused."""
     last = first
     while source.text(last) != ";":
-        last = source.next(
-            source.close(last) if source.tokens[last].is_sign("(", "[", "{") else last
-        )
+        last = source.next(source.skip(last))
         if source.text(last) == "}":
             return
     doubt(source, first, last, empty, held)
@@ -234,16 +193,10 @@ def doubt(source, first, last, empty, held):
             source.doubts.append((at, source.text(at)))
         elif source.is_word(at) and source.text(source.next(at)) in ("(", "!"):
             of = source.text(source.prev(before))
-            is_own = (
-                source.text(before) == "::"
-                and of in empty
-                or source.text(before) not in (".", "::")
-                and source.text(at) in source.lookers
-                or (
-                    source.text(before) == "."
-                    and of in held
-                    and source.text(source.prev(before, 3)) == "self"
-                )
-            )
+            is_own = source.text(at) in source.lookers
+            if source.text(before) == "::":
+                is_own = of in empty
+            elif source.text(before) == ".":
+                is_own = of in held and source.text(source.prev(before, 3)) == "self"
             if not is_own:
                 source.doubts.append((at, source.text(at)))

@@ -4,19 +4,13 @@ from extraction.source import Import
 
 # What of the library may be named, and what replaces it. A path that is not here is refused. What
 # reads the parser by its calls reads that of the layer, so that there is one.
-LIBRARY = {
-    "itoa": "crate::shim::itoa",
-    "rustc_parse_format::Parser": "crate::shim::parser::Parser",
-    "std::alloc": "crate::shim::alloc",
-    "std::collections::BTreeSet": None,
-    "std::iter::FusedIterator": None,
-    "std::marker::Model": None,
-    "std::mem": None,
-    "std::ops::Range": None,
-    "std::simd::prelude": "crate::shim::simd",
-    "unicode_ident": "crate::shim::unicode_ident",
-    "unicode_width": "crate::shim::unicode_width",
-}
+LIBRARY = {"itoa": "crate::shim::itoa",
+           "rustc_parse_format::Parser": "crate::shim::parser::Parser",
+           "std::alloc": "crate::shim::alloc", "std::collections::BTreeSet": None,
+           "std::iter::FusedIterator": None, "std::marker::Model": None, "std::mem": None,
+           "std::ops::Range": None, "std::simd::prelude": "crate::shim::simd",
+           "unicode_ident": "crate::shim::unicode_ident",
+           "unicode_width": "crate::shim::unicode_width"}
 # Calls that take the allocator, or return an allocation failure. In Rust they are methods of the
 # shim's traits.
 CONSTRUCTORS = {"new": "made_in", "with_capacity": "made_for", "from_str": "made_from"}
@@ -39,11 +33,8 @@ METHODS = {
     "split_at_checked": "parts_at",
 }
 # What a path may begin with besides what a file names.
-KNOWN = ("self", "super", "char", "str", "u8", "u8x16", "u16", "u32", "u64", "usize")
-MACROS = {
-    "matches": "matches",
-    "format": "crate::shim::format_in",
-}
+KNOWN = ("super", "char", "str", "u8", "u8x16", "u16", "u32", "u64", "usize")
+MACROS = {"matches": "matches", "format": "crate::shim::format_in"}
 # Traits that are named only where they are imported, by the calls of their methods.
 TRAITS = {(".", "width", 0): "UnicodeWidthChar"}
 ATTRIBUTES = {"cold", "default", "derive", "doc", "inline", "tactic"}
@@ -51,33 +42,9 @@ DERIVES = {"Clone", "Copy", "Debug", "Default", "Drop", "Eq", "PartialEq"}
 # Members that what calls the crates has to write, for which they have no call.
 OPENED = {"Cursor": {"source"}}
 # Words of forms that are not known to mean the same in both languages, or are known not to.
-UNKNOWN = {
-    "anyhow",
-    "as_mut_ptr",
-    "as_ptr",
-    "async",
-    "await",
-    "dyn",
-    "extern",
-    "ghost",
-    "macro_rules",
-    "size_of",
-    "spawn",
-    "static",
-    "trait",
-    "try_from",
-    "try_into",
-    "try_recv",
-    "try_send",
-    "union",
-    "unsafe",
-    "where",
-    "requires",
-    "ensures",
-}
-
-
-# ------------------------------------------------------------------------------- forms written anew
+UNKNOWN = {"anyhow", "as_mut_ptr", "as_ptr", "async", "await", "dyn", "extern", "ghost",
+           "macro_rules", "size_of", "spawn", "static", "trait", "try_from", "try_into", "try_recv",
+           "try_send", "union", "unsafe", "where", "requires", "ensures"}
 
 
 def rewrite(source, item, crate, crates):
@@ -90,16 +57,9 @@ def rewrite(source, item, crate, crates):
     for at in source.places(item.start, item.last):
         if not source.is_real(at):
             continue
-        text, before, behind = (
-            source.text(at),
-            source.text(source.prev(at)),
-            source.text(source.next(at)),
-        )
+        text, before, behind = source.around(at)
         if source.is_word(at) and behind == "::" and before not in ("::", "."):
-            if text in ("crate", *crates):
-                name = crate if text == "crate" else text
-                source.tokens[at].text = f"crate::proved::{name}"
-            elif text in LIBRARY:
+            if text in LIBRARY:
                 source.tokens[at].text = LIBRARY[text]
             elif text == "std":
                 source.refuse(at, "a path of the library where no `use` names it")
@@ -113,11 +73,8 @@ def rewrite(source, item, crate, crates):
             elif text[0].islower() and text not in (*KNOWN, *modules_of(source), *source.imports()):
                 source.refuse(at, f"a path that begins with `{text}`")
         elif source.is_word(at) and text in METHODS and before in (".", "fn") and behind == "(":
-            if (
-                text == "clone"
-                and before == "."
-                and source.text(source.next(source.close(source.next(at)))) != "?"
-            ):
+            if (text == "clone" and before == "."
+                and source.text(source.next(source.close(source.next(at)))) != "?"):
                 source.refuse(at, "a clone whose refusal is not answered on the spot")
             source.tokens[at].text = METHODS[text]
             uses_shim = True
@@ -126,12 +83,8 @@ def rewrite(source, item, crate, crates):
             opening = source.next(at)
             source.tokens[at].text = "map_or"
             source.tokens[opening].text = "(false, "
-        elif (
-            text == "AllocError"
-            and before == "("
-            and source.text(source.prev(at, 2)) == "Err"
-            and behind == ")"
-        ):
+        elif (text == "AllocError" and before == "(" and source.text(source.prev(at, 2)) == "Err"
+              and behind == ")"):
             refusal(source, at)
         elif text == "!" and source.is_word(source.prev(at)) and behind in ("(", "[", "{"):
             macro(source, source.prev(at))
@@ -170,26 +123,15 @@ def refuse_unknown(source, at):
     """Refuses what both languages read, and do not mean the same by, or may not."""
     if source.text(at) == "#" and source.text(source.next(at, 2)) not in ATTRIBUTES - {"tactic"}:
         source.refuse(at, f"an attribute `{source.text(source.next(at, 2))}`")
-    token, before, behind = (
-        source.tokens[at],
-        source.text(source.prev(at)),
-        source.text(source.next(at)),
-    )
-    text = token.text
-    if token.kind == "word" and text in UNKNOWN:
-        source.refuse(at, f"`{text}`")
-    elif token.kind == "sign" and not text.isascii():
+    kind, (text, before, behind) = source.tokens[at].kind, source.around(at)
+    if kind == "word" and text in UNKNOWN or kind == "sign" and not text.isascii():
         source.refuse(at, f"`{text}`")
     elif text == "fn" and behind == "(":
         source.refuse(at, "a pointer to a function")
     elif text == "impl" and before in (":", "->", "&", "<", "("):
         source.refuse(at, "a type that is only told by its trait")
-    elif (
-        text == ".."
-        and ends_value(source, source.prev(at))
-        and behind in (")", "]", ",", ";", "{", "=>")
-    ):
-        if not is_place(source, at):
+    elif text == ".." and ends_value(source, source.prev(at)):
+        if behind in (")", "]", ",", ";", "{", "=>") and not is_place(source, at):
             source.refuse(at, "a range without an end")
     elif text == ".." and before in (",", "{") and behind not in ("}", ")", "]"):
         source.refuse(at, "a value that takes members over from another")
@@ -198,11 +140,8 @@ def refuse_unknown(source, at):
 
 
 def ends_value(source, at):
-    return (
-        source.is_word(at)
-        or source.tokens[at].kind in ("number", "char")
-        or source.text(at) in (")", "]")
-    )
+    return (source.is_word(at) or source.tokens[at].kind in ("number", "char")
+            or source.text(at) in (")", "]"))
 
 
 def is_place(source, at):
@@ -228,25 +167,20 @@ def is_pattern(source, at):
     return False
 
 
-# ------------------------------------------------------------------------------------------ imports
-
-
 def modules_of(source):
     return [item.name for item in source.items if item.kind == "mod"]
 
 
 def in_library(path):
     """What of the library a path leads to, or None."""
-    return next(
-        (name for name in LIBRARY if path[: len(name.split("::"))] == name.split("::")), None
-    )
+    return next((it for it in LIBRARY if path[: it.count("::") + 1] == it.split("::")), None)
 
 
-def imported(source, item, crate, crates, is_named):
+def imported(source, item, crate, crates, named):
     """The lines of a `use` of which the names are kept that something names."""
     of = {}
     for path, called in Import(source, source.next(item.head)).paths():
-        if called != "*" and not is_named(called):
+        if called != "*" and called not in named:
             continue
         known = in_library(path)
         if known is not None:
@@ -254,11 +188,11 @@ def imported(source, item, crate, crates, is_named):
                 path = LIBRARY[known].split("::") + path[len(known.split("::")) :]
         elif path[0] in ("crate", *crates):
             path = ["crate", "proved", crate if path[0] == "crate" else path[0]] + path[1:]
-        elif path[0] not in ("self", "super", *modules_of(source)):
+        elif path[0] not in ("super", *modules_of(source)):
             source.refuse(item.head, f"`{'::'.join(path)}`, which is not known")
         name = path[-1] if called == path[-1] else f"{path[-1]} as {called}"
         of.setdefault("::".join(path[:-1]), []).append(name)
-    before = "".join(token.text for token in source.tokens[item.start : item.head])
+    before = source.span(item.start, item.head - 1)
     lines = []
     for parent, names in of.items():
         named = names[0] if len(names) == 1 else "{" + ", ".join(names) + "}"

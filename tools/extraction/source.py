@@ -24,33 +24,26 @@ class Source:
         self.name, self.tokens, self.items, self.doubts = name, tokens_of(text), [], []
         self.lookers = set()
         at = 0
-        while at < len(self.tokens) and (
-            self.tokens[at].kind == "space" or self.tokens[at].text.startswith("//!")
-        ):
+        while at < len(self.tokens) and (self.tokens[at].kind == "space"
+                                         or self.tokens[at].text.startswith("//!")):
             at += 1
         self.top = "".join(token.text for token in self.tokens[:at])
         if has_items:
             self.items = self.items_between(at, len(self.tokens))
 
-    # --------------------------------------------------------------------------------------- places
-
     def is_real(self, at):
         return self.tokens[at].text != "" and self.tokens[at].kind not in TRIVIA
 
-    def next(self, at, count=1):
+    def next(self, at, count=1, step=1):
         """The place of the next token that counts, or of the one after it, and so on."""
         for _ in range(count):
-            at += 1
-            while at < len(self.tokens) and not self.is_real(at):
-                at += 1
+            at += step
+            while 0 <= at < len(self.tokens) and not self.is_real(at):
+                at += step
         return at
 
     def prev(self, at, count=1):
-        for _ in range(count):
-            at -= 1
-            while at >= 0 and not self.is_real(at):
-                at -= 1
-        return at
+        return self.next(at, count, -1)
 
     def text(self, at):
         return self.tokens[at].text if 0 <= at < len(self.tokens) else ""
@@ -65,14 +58,28 @@ class Source:
     def close(self, at):
         return closing(self.tokens, at)
 
+    def skip(self, at):
+        """Where a bracket that opens at a place closes, or that place."""
+        return self.close(at) if self.tokens[at].is_sign("(", "[", "{") else at
+
+    def span(self, first, last):
+        """The text from one token to another."""
+        return "".join(token.text for token in self.tokens[first : last + 1])
+
+    def around(self, at):
+        """The texts of a token and of those before and behind it."""
+        return self.text(at), self.text(self.prev(at)), self.text(self.next(at))
+
+    def texts(self, first, last):
+        """The texts of the tokens that count."""
+        return [self.text(at) for at in self.places(first, last)]
+
     def cut(self, first, last):
         for token in self.tokens[first : last + 1]:
             token.text = ""
 
     def refuse(self, at, what):
         raise Refused(self.tokens[min(at, len(self.tokens) - 1)].line, what)
-
-    # ---------------------------------------------------------------------------------------- items
 
     def items_between(self, at, end):
         found = []
@@ -125,7 +132,7 @@ class Source:
     def opening(self, at):
         """The brace that opens the body of an item; the end where it has none."""
         while self.text(at) not in ("{", ";"):
-            at = self.next(self.close(at) if self.tokens[at].is_sign("(", "[") else at)
+            at = self.next(self.skip(at))
         return at
 
     def parameters(self, at, refused):
@@ -140,23 +147,19 @@ class Source:
         return self.next(at)
 
     def impl(self, item):
-        """What an impl is of, its trait, and its parts."""
+        """What an impl is of, its trait, and its parts. A model is for the prover alone."""
         at = self.parameters(self.next(item.head), "an `impl` with a parameter that is a type")
         item.open = self.opening(at)
-        words = [self.text(here) for here in self.places(at, item.open - 1)]
+        words = self.texts(at, item.open - 1)
         if "for" in words:
-            item.trait = words[words.index("for") - 1]
+            item.trait, words = words[words.index("for") - 1], words[words.index("for") + 1 :]
             if item.trait not in TRAITS:
                 self.refuse(item.head, f"an `impl` of `{item.trait}`")
-            words = words[words.index("for") + 1 :]
+            item.kind = "ghost" if item.trait == "Model" else "impl"
         item.name = words[0]
         item.parts = self.items_between(item.open + 1, item.last)
         for part in [item] + item.parts:
             part.of = item.name
-        if item.trait == "Model":
-            item.kind = "ghost"
-
-    # ---------------------------------------------------------------------------------------- names
 
     def names_in(self, first, last, itself=None):
         """What tokens name: `(".", name, count)` for a method that is called with so many
@@ -194,12 +197,8 @@ class Source:
 
     def imports(self):
         """What this file calls by a name of its own, and by which path it is known."""
-        return {
-            called: path
-            for item in self.items
-            if item.kind == "use"
-            for path, called in Import(self, self.next(item.head)).paths()
-        }
+        uses = [Import(self, self.next(it.head)) for it in self.items if it.kind == "use"]
+        return {called: path for it in uses for path, called in it.paths()}
 
 
 class Import:
@@ -212,7 +211,7 @@ class Import:
         if source.text(at) == "::":
             at = source.next(at)
             if source.text(at) == "{":
-                while source.text(at) not in ("}",):
+                while source.text(at) != "}":
                     at = source.next(at)
                     if source.text(at) != "}":
                         self.behind.append(Import(source, at))
@@ -230,6 +229,5 @@ class Import:
         """Each path that is named, and what it is called."""
         if not self.behind:
             return [([self.name], self.called)]
-        return [
-            ([self.name] + path, called) for part in self.behind for path, called in part.paths()
-        ]
+        behind = [it for part in self.behind for it in part.paths()]
+        return [([self.name] + path, called) for path, called in behind]

@@ -70,13 +70,8 @@ def tokens_of(source):
 def opens_clause(words):
     """Whether the brace after these words opens what only the check reads: `requires {`, `ensures
     name {`, `ghost name = {` or `ghost name: {`."""
-    before = words[:-1]
-    return (
-        before[-1:] in (["requires"], ["ensures"])
-        or before[-2:-1] in (["requires"], ["ensures"])
-        or before[-3:-2] == ["ghost"]
-        and before[-1] in ("=", ":")
-    )
+    before = " ".join(words[:-1])
+    return re.search(r"\b(requires|ensures)( \w+)?$|\bghost \S+ [=:]$", before) is not None
 
 
 def clause_end(source, start, line):
