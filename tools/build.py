@@ -28,7 +28,7 @@ HEADER = TOP / "bindings/c/dephungo.h"
 # crates that it proves, so each of these is a file NAME.txt.
 OTHERS = {
     "counted_walk": "counted_walk staticlib: rustc_parse_format",
-    "drawings": "drawings: rustc_parse_format drawn_faults",
+    "drawings": "drawings: rustc_parse_format drawn_faults format_lint",
 }
 SIGNALS = (signal.SIGINT, signal.SIGTERM, signal.SIGHUP)
 

@@ -62,7 +62,8 @@ fn calls<'t>(
     calls
 }
 
-/// What the program writes of a literal's faults: of each call the first, or all with their ids.
+/// What the program writes of a literal's faults: the first of the first call that has one, or all
+/// with their ids and whether they follow from an earlier one.
 fn drawings(
     snippet: &str,
     text: &str,
@@ -71,12 +72,20 @@ fn drawings(
     all: bool,
 ) -> String {
     let picture = Picture { path: "<stdin>", source: snippet, line_start: 1, literal_start: 0 };
-    let mut drawings = vec![];
-    for call in calls(snippet, text, style, mode) {
-        for (at, fault) in call.iter().enumerate().take(if all { call.len() } else { 1 }) {
-            let word = if at == 0 { "fault" } else { "follows" };
-            let line = if all { format!("{word}: {}\n", fault.id()) } else { String::new() };
-            drawings.push(line + &draw(mode, &picture, &error_of(fault)));
+    let calls = calls(snippet, text, style, mode);
+    if !all {
+        let first = calls.iter().flatten().next();
+        return first.map_or(String::new(), |it| draw(mode, &picture, &error_of(it)));
+    }
+    let (mut drawings, mut waits) = (vec![], false);
+    for call in &calls {
+        for (at, fault) in call.iter().enumerate() {
+            let is_lone = matches!(fault, Fault::UnmatchedBrace(_));
+            let word = if at > 0 || waits && is_lone { "follows" } else { "fault" };
+            let drawn = draw(mode, &picture, &error_of(fault));
+            drawings.push(format!("{word}: {}\n{drawn}", fault.id()));
+            waits &= !is_lone;
+            waits |= matches!(fault, Fault::MissingBrace(..) | Fault::FillBrace(..));
         }
     }
     let mut out: String = drawings.iter().take(10).map(String::as_str).collect();

@@ -68,7 +68,7 @@ fn lint_one(alloc: Global, input: &str, show: Show, digest: &mut Digest) -> Resu
     let mut reader = input.as_bytes();
     let mut written = Vec::new(alloc);
     let answer = lint(alloc, &mut reader, &mut written, task);
-    digest.add(u64::from(answer == Ok(true)));
+    digest.add(u64::from(matches!(answer, Ok(1..))));
     digest.add_bytes(written.as_slice());
     Ok(())
 }
@@ -89,7 +89,7 @@ pub fn awkward(
                 let input = input.as_str();
                 match way {
                     0 => list_one(alloc, input, words.as_slice(), digest)?,
-                    1 => lint_one(alloc, input, Show::Faults, digest)?,
+                    1 => lint_one(alloc, input, Show::Fault, digest)?,
                     2 => lint_one(alloc, input, Show::Tokens, digest)?,
                     3 => lint_one(alloc, input, Show::Colours, digest)?,
                     _ => lint_one(alloc, input, Show::Fix, digest)?,

@@ -1,9 +1,8 @@
--- The first faults of all calls, where after each call only the first are kept.
-use Rattle.std.proofs.Common.{◌≡◌, ◌≢◌, ℕ, suc, zero, ◌+◌, ◌-◌, ◌≤◌, ◌<◌, ◌++◌, false, true, Bool}
-use Rattle.std.proofs.Common.{◌∷◌, length, drop, take, refl, sym, ap, ◌∙◌, arith, List, []}
-use Rattle.std.proofs.Common.{append-nil, append_assoc, length-append, nat_lt, subst}
-use Rattle.std.specs.Prelude.{slice_index_or}
-use Rattle.std.proofs.lemmas.List.{length-take, take_all, take_at}
+-- The faults of all calls, where after each call only the first are kept and the others counted.
+use Rattle.std.proofs.Common.{◌≡◌, ◌≢◌, ℕ, suc, zero, ◌+◌, ◌≤◌, ◌<◌, ◌++◌, false, true, Bool}
+use Rattle.std.proofs.Common.{◌∷◌, length, take, refl, sym, ap, ◌∙◌, arith, List, []}
+use Rattle.std.proofs.Common.{append-nil, append_assoc, if◌then◌else◌, length-append, subst}
+use Rattle.std.proofs.lemmas.List.{length-take, take_all}
 use Rattle.rustc_parse_format.specs.Call.{Call, call}
 use Rattle.rustc_parse_format.specs.Characters.{Text, is_nil}
 use Rattle.rustc_parse_format.specs.Faults.{Fault, Message}
@@ -11,111 +10,174 @@ use Rattle.rustc_parse_format.specs.State.{State, after, next_call}
 use Rattle.rustc_parse_format.specs.Types.{Mode}
 use Rattle.rustc_parse_format.specs.World.{World, Place, faults_in}
 use Rattle.rustc_parse_format.proofs.Walking.Progress.{call-lt}
-use Rattle.format_lint.specs.Findings.{Finding, findings_in, findings_of, findings_within}
-use Rattle.format_lint.specs.Lint.{most_drawn}
+use Rattle.format_lint.specs.Findings.{AreCounted, Finding, add_faults, findings_from}
+use Rattle.format_lint.specs.Findings.{findings_within, marked, marked_all, mistakes, most_drawn}
+use Rattle.format_lint.specs.Findings.{waits_behind, waits_behind_all}
+use Rattle.format_lint.specs.SeenLint.{Keeps}
+use Rattle.format_lint.specs.declared.findings.Findings.{Findings}
 
--- Of what is behind the first m elements of a list, the first m of the whole have nothing.
-pub still-first : {A : Type 0} (m : ℕ) (e b : List A) → take m (take m e ++ b) ≡ take m (e ++ b)
-still-first zero e b = refl
-still-first (suc m) [] b = refl
-still-first (suc m) (x ∷ e) b = ap (λ l. x ∷ l) (still-first m e b)
+-- A fault counts if it is a mistake of its own.
+abbrev pub counts : Finding → ℕ
+counts f = if f.follows then 0 else 1
 
--- These faults are the first, and so many others are not kept, of those before and those left,
--- which are the first of all and as many as `count`.
-pub record AreAdded (first : List Finding) (others : ℕ) (left whole : List Finding) (count : ℕ) :
+mistakes-more : (fs : List Finding) (f : Finding)
+    → mistakes (fs ++ f ∷ []) ≡ mistakes fs + counts f
+mistakes-more [] f = omega arith
+mistakes-more (g ∷ fs) f = omega (arith, mistakes-more fs f)
+
+pub counted-none : AreCounted [] 0 0 []
+counted-none = record { first_are = refl; all_are = omega arith; own_are = refl }
+
+-- Where fewer are kept than are drawn, these are all, and another one is kept.
+pub counted-kept : (first fs : List Finding) (others own : ℕ) (f : Finding)
+    → AreCounted first others own fs → length first < most_drawn
+    → AreCounted (first ++ f ∷ []) others (own + counts f) (fs ++ f ∷ [])
+counted-kept first fs others own f h few =
+    let short : length fs < most_drawn =
+    omega (arith, few, ap length h.first_are, length-take most_drawn fs) in
+    let all : first ≡ fs = h.first_are ∙ take_all most_drawn fs (omega (arith, short)) in
+    let more : length (fs ++ f ∷ []) ≤ most_drawn =
+    omega (arith, short, length-append fs (f ∷ [])) in
+    record {
+      first_are = ap (λ l. l ++ f ∷ []) all ∙ sym (take_all most_drawn (fs ++ f ∷ []) more);
+      all_are = omega (
+        arith,
+        h.all_are,
+        length-append first (f ∷ []),
+        length-append fs (f ∷ []),
+      );
+      own_are = ap (λ n. n + counts f) h.own_are ∙ sym (mistakes-more fs f);
+    }
+
+-- The first elements of a list that has so many are those of a longer one.
+still-first : {A : Type 0} (n : ℕ) (l m : List A) → n ≤ length l → take n l ≡ take n (l ++ m)
+still-first zero l m h = refl
+still-first (suc n) [] m h = absurd (omega arith)
+still-first (suc n) (x ∷ l) m h = ap (λ t. x ∷ t) (still-first n l m (omega arith))
+
+-- Where as many are kept as are drawn, another one is counted.
+pub counted-other : (first fs : List Finding) (others own : ℕ) (f : Finding)
+    → AreCounted first others own fs → most_drawn ≤ length first
+    → AreCounted first (others + 1) (own + counts f) (fs ++ f ∷ [])
+counted-other first fs others own f h full =
+    let long : most_drawn ≤ length fs = omega (arith, full, h.all_are) in
+    record {
+      first_are = h.first_are ∙ still-first most_drawn fs (f ∷ []) long;
+      all_are = omega (arith, h.all_are, length-append fs (f ∷ []));
+      own_are = ap (λ n. n + counts f) h.own_are ∙ sym (mistakes-more fs f);
+    }
+
+-- The faults of a call are added one after the other: these are left of all, and `later` says
+-- whether one was added.
+pub record AreAdded (old new : Findings) (later : Bool) (left all : List (Fault Place)) :
     Type 0 where
-  pub few : length first ≤ most_drawn
-  pub first_are : take most_drawn (first ++ left) ≡ take most_drawn whole
-  pub count_is : others + (length first + length left) ≡ count
+  pub done : List Finding
+  pub kept : (fs : List Finding) → Keeps old fs → Keeps new (fs ++ done)
+  pub all_are : done ++ marked_all new.waits later left ≡ marked_all old.waits false all
+  pub waits_are : waits_behind_all new.waits left ≡ waits_behind_all old.waits all
 
-pub added-next : (first more own left whole : List Finding) (others n count : ℕ)
-    → AreAdded first others (own ++ left) whole count
-    → more ≡ take most_drawn (first ++ own)
-    → n + length more ≡ others + (length first + length own) → AreAdded more n left whole count
-added-next first more own left whole others n count h m k = record {
-  few = omega (arith, ap length m ∙ length-take most_drawn (first ++ own));
-  first_are = ap (λ l. take most_drawn (l ++ left)) m
-      ∙ still-first most_drawn (first ++ own) left
-      ∙ ap (take most_drawn) (append_assoc first own left) ∙ h.first_are;
-  count_is = omega (arith, h.count_is, k, length-append own left);
+pub added-start : (f : Findings) (left all : List (Fault Place)) → left ≡ all
+    → AreAdded f f false left all
+added-start f left all e = record {
+  done = [];
+  kept = λ fs h. subst (Keeps f) (sym (append-nil fs)) h;
+  all_are = ap (marked_all f.waits false) e;
+  waits_are = ap (waits_behind_all f.waits) e;
 }
 
--- In the end the first faults are there.
-pub added-end : (first whole : List Finding) (others count : ℕ)
-    → AreAdded first others [] whole count → first ≡ take most_drawn whole
-added-end first whole others count h =
-    sym (take_all most_drawn first h.few)
-    ∙ ap (take most_drawn) (sym (append-nil first)) ∙ h.first_are
+pub added-next : (old f g : Findings) (later : Bool) (x : Fault Place)
+    (left more all : List (Fault Place)) → AreAdded old f later left all → left ≡ x ∷ more
+    → ((fs : List Finding) → Keeps f fs → Keeps g (fs ++ marked f.waits later x ∷ []))
+    → g.waits ≡ waits_behind f.waits x → AreAdded old g true more all
+added-next old f g later x left more all h e k w =
+    let own = marked f.waits later x in
+    record {
+      done = h.done ++ own ∷ [];
+      kept = λ fs before. subst (Keeps g) (append_assoc fs h.done (own ∷ []))
+          (k (fs ++ h.done) (h.kept fs before));
+      all_are = append_assoc h.done (own ∷ []) (marked_all g.waits true more)
+          ∙ ap (λ b. h.done ++ own ∷ marked_all b true more) w
+          ∙ ap (λ l. h.done ++ marked_all f.waits later l) (sym e) ∙ h.all_are;
+      waits_are = ap (λ b. waits_behind_all b more) w
+          ∙ ap (waits_behind_all f.waits) (sym e) ∙ h.waits_are;
+    }
 
-pub added-count : (first whole : List Finding) (others count : ℕ)
-    → AreAdded first others [] whole count → others + length first ≡ count
-added-count first whole others count h = omega (arith, h.count_is)
+pub added-kept : (old new : Findings) (later : Bool) (left all : List (Fault Place))
+    (fs : List Finding) → AreAdded old new later left all → left ≡ [] → Keeps old fs
+    → Keeps new (fs ++ marked_all old.waits false all)
+added-kept old new later left all fs h e before =
+    let whole : h.done ≡ marked_all old.waits false all =
+    sym (append-nil h.done) ∙ ap (λ l. h.done ++ marked_all new.waits later l) (sym e)
+    ∙ h.all_are in
+    subst (λ l. Keeps new (fs ++ l)) whole (h.kept fs before)
 
--- Where so many elements are there, they are the first of them and others.
-pub full : {A : Type 0} (l m : List A) (n : ℕ) → length l ≤ n → n ≤ length l → l ≡ take n (l ++ m)
-full l m n h k = sym (take_at l m n (omega (arith, h, k)))
-
--- The first element of a list and what is left without it.
-pub removed : {A : Type 0} (l left : List A) (x : A) → x ≡ slice_index_or l 0 x
-    → left ≡ take 0 l ++ drop (0 + 1) l → 0 < length l → l ≡ x ∷ left
-removed [] left x e d h = absurd (omega arith)
-removed (y ∷ l) left x e d h = rw (e, d) refl
+pub added-waits : (old new : Findings) (later : Bool) (left all : List (Fault Place))
+    → AreAdded old new later left all → left ≡ [] → new.waits ≡ waits_behind_all old.waits all
+added-waits old new later left all h e = ap (waits_behind_all new.waits) (sym e) ∙ h.waits_are
 
 call-shorter : (mode : Mode) (c b : ℕ) (t : Text)
     → length (call mode c (b ∷ t)).rest ≤ length t
 call-shorter mode c b t = omega (arith, call-lt mode c (b ∷ t) (λ e. absurd (cc)))
 
 -- As many calls as there are characters are enough.
-within-enough : (all : Bool) (w : World) (n m : ℕ) (mode : Mode) (c : ℕ) (t : Text)
+within-enough : (w : World) (n m : ℕ) (mode : Mode) (waits : Bool) (c : ℕ) (t : Text)
     → length t ≤ n → length t ≤ m
-    → findings_within all w n mode c t ≡ findings_within all w m mode c t
-within-enough all w n m mode c [] h k = refl
-within-enough all w zero m mode c (b ∷ t) h k = absurd (omega arith)
-within-enough all w (suc n) zero mode c (b ∷ t) h k = absurd (omega arith)
-within-enough all w (suc n) (suc m) mode c (b ∷ t) h k =
+    → findings_within w n mode waits c t ≡ findings_within w m mode waits c t
+within-enough w n m mode waits c [] h k = refl
+within-enough w zero m mode waits c (b ∷ t) h k = absurd (omega arith)
+within-enough w (suc n) zero mode waits c (b ∷ t) h k = absurd (omega arith)
+within-enough w (suc n) (suc m) mode waits c (b ∷ t) h k =
     let a : Call = call mode c (b ∷ t) in
-    ap (λ fs. findings_of all (faults_in w a.faults) ++ fs) (within-enough all w n m mode a.next
-    a.rest (omega (arith, call-shorter mode c b t)) (omega (arith, call-shorter mode c b t)))
+    let fs = add_faults [] (faults_in w a.faults) in
+    ap (λ l. marked_all waits false fs ++ l) (within-enough w n m mode (waits_behind_all waits fs)
+    a.next a.rest (omega (arith, call-shorter mode c b t)) (omega (arith, call-shorter mode c b t)))
 
 -- The faults of all calls are those of the first and those of the calls after it.
-findings-step : (all : Bool) (s : State) → is_nil s.rest ≡ false
-    → findings_in all s
-    ≡ findings_of all (faults_in s.world (next_call s).faults)
-    ++ findings_in all (after s (next_call s))
-unfolding findings_in
-findings-step all s h = step s.world s.mode s.next s.rest h
+findings-step : (waits : Bool) (s : State) → is_nil s.rest ≡ false
+    → findings_from waits s
+    ≡ marked_all waits false (add_faults [] (faults_in s.world (next_call s).faults))
+    ++ findings_from
+    (waits_behind_all waits (add_faults [] (faults_in s.world (next_call s).faults)))
+    (after s (next_call s))
+unfolding findings_from
+findings-step waits s h = step s.world s.mode s.next s.rest h
   where
     step : (w : World) (mode : Mode) (c : ℕ) (t : Text) → is_nil t ≡ false
-        → findings_within all w (length t) mode c t
-        ≡ findings_of all (faults_in w (call mode c t).faults)
-        ++ findings_within all w (length (call mode c t).rest) mode (call mode c t).next
-        (call mode c t).rest
+        → findings_within w (length t) mode waits c t
+        ≡ marked_all waits false (add_faults [] (faults_in w (call mode c t).faults))
+        ++ findings_within w (length (call mode c t).rest) mode
+        (waits_behind_all waits (add_faults [] (faults_in w (call mode c t).faults)))
+        (call mode c t).next (call mode c t).rest
     step w mode c [] h = absurd (cc)
     step w mode c (b ∷ t) h =
         let a : Call = call mode c (b ∷ t) in
-        ap (λ fs. findings_of all (faults_in w a.faults) ++ fs) (within-enough all w (length t)
-        (length a.rest) mode a.next a.rest (call-shorter mode c b t) (omega arith))
+        let fs = add_faults [] (faults_in w a.faults) in
+        ap (λ l. marked_all waits false fs ++ l) (within-enough w (length t) (length a.rest) mode
+        (waits_behind_all waits fs) a.next a.rest (call-shorter mode c b t) (omega arith))
 
-findings-end : (all : Bool) (s : State) → is_nil s.rest ≡ true → findings_in all s ≡ []
-unfolding findings_in
-findings-end all s h = at_end s.world s.mode s.next s.rest h
+findings-end : (waits : Bool) (s : State) → is_nil s.rest ≡ true → findings_from waits s ≡ []
+unfolding findings_from
+findings-end waits s h = at_end s.world s.mode s.next s.rest h
   where
     at_end : (w : World) (mode : Mode) (c : ℕ) (t : Text) → is_nil t ≡ true
-        → findings_within all w (length t) mode c t ≡ []
+        → findings_within w (length t) mode waits c t ≡ []
     at_end w mode c [] h = refl
     at_end w mode c (b ∷ t) h = absurd (cc)
 
--- A parser without errors, and the first faults before it, of all that are to be found.
-pub record AreFirst (all : Bool) (s : State) (first : List Finding) (others : ℕ)
-    (whole : List Finding) : Type 0 where
+-- A parser without errors, the faults of the calls before, and all.
+pub record AreFound (s : State) (f : Findings) (whole : List Finding) : Type 0 where
   pub none : s.errors ≡ []
-  pub added : AreAdded first others (findings_in all s) whole (length whole)
+  pub before : List Finding
+  pub kept : Keeps f before
+  pub whole_is : before ++ findings_from f.waits s ≡ whole
 
-pub first-start : (all : Bool) (s : State) → s.errors ≡ []
-    → AreFirst all s [] 0 (findings_in all s)
-first-start all s e = record {
+pub found-start : (s : State) (f : Findings) → s.errors ≡ [] → Keeps f [] → f.waits ≡ false
+    → AreFound s f (findings_from false s)
+found-start s f e k w = record {
   none = e;
-  added = record { few = omega arith; first_are = refl; count_is = omega arith };
+  before = [];
+  kept = k;
+  whole_is = ap (λ b. findings_from b s) w;
 }
 
 -- A call without errors before it leaves none.
@@ -124,57 +186,44 @@ pub no_errors : (s new : State) → s.errors ≡ []
     → new ≡ record (after s (next_call s)) { errors = [] }
 no_errors s new none e = e ∙ ap (λ es. record (after s (next_call s)) { errors = es }) none
 
-pub first-next : (all : Bool) (s new : State) (first more : List Finding)
-    (found : List (Fault Place)) (others left : ℕ) (whole : List Finding)
-    → AreFirst all s first others whole
+pub found-next : (s new : State) (f g : Findings) (found : List (Fault Place))
+    (whole : List Finding) → AreFound s f whole
     → new ≡ record (after s (next_call s)) { errors = s.errors } → is_nil s.rest ≡ false
     → found ≡ faults_in s.world (next_call s).faults
-    → more ≡ take most_drawn (first ++ findings_of all found)
-    → left + length more ≡ others + (length first + length (findings_of all found))
-    → AreFirst all new more left whole
-unfolding findings_in
-first-next all s new first more found others left whole h e some f m k =
-    let own = findings_of all found in
-    let later : findings_in all new ≡ findings_in all (after s (next_call s)) =
-    ap (findings_in all) e ∙ forgotten all (after s (next_call s)) s.errors in
-    let same : findings_in all s ≡ own ++ findings_in all new =
-    findings-step all s some
-    ∙ ap (λ fs. findings_of all fs ++ findings_in all (after s (next_call s))) (sym f)
-    ∙ ap (λ l. own ++ l) (sym later) in
-    let before : AreAdded first others (own ++ findings_in all new) whole (length whole) =
-    subst (λ l. AreAdded first others l whole (length whole)) same h.added in
+    → ((fs : List Finding) → Keeps f fs
+    → Keeps g (fs ++ marked_all f.waits false (add_faults [] found)))
+    → g.waits ≡ waits_behind_all f.waits (add_faults [] found) → AreFound new g whole
+unfolding findings_from
+found-next s new f g found whole h e some is k w =
+    let later = after s (next_call s) in
+    let own = marked_all f.waits false (add_faults [] found) in
+    let same : findings_from f.waits s ≡ own ++ findings_from g.waits new =
+    findings-step f.waits s some
+    ∙ ap (λ fs. marked_all f.waits false (add_faults [] fs)
+    ++ findings_from (waits_behind_all f.waits (add_faults [] fs)) later) (sym is)
+    ∙ ap (λ b. own ++ findings_from b later) (sym w)
+    ∙ ap (λ l. own ++ l) (sym (ap (findings_from g.waits) e
+    ∙ forgotten g.waits later s.errors)) in
     record {
       none = ap (λ (u : State). u.errors) e ∙ h.none;
-      added = added-next first more own (findings_in all new) whole others left (length whole)
-          before m k;
+      before = h.before ++ own;
+      kept = k h.before h.kept;
+      whole_is = append_assoc h.before own (findings_from g.waits new)
+          ∙ ap (λ l. h.before ++ l) (sym same) ∙ h.whole_is;
     }
   where
     -- what is shown of later calls does not depend on earlier errors
-    forgotten : (all : Bool) (u : State) (es : List (Message Place))
-        → findings_in all (record u { errors = es }) ≡ findings_in all u
-    forgotten all u es = refl
+    forgotten : (waits : Bool) (u : State) (es : List (Message Place))
+        → findings_from waits (record u { errors = es }) ≡ findings_from waits u
+    forgotten waits u es = refl
 
 pub some-left : (t : Text) → t ≢ [] → is_nil t ≡ false
 some-left [] some = absurd (some refl)
 some-left (c ∷ t) some = refl
 
--- In the end the first faults are there, and so many others.
-pub record AreAll (first : List Finding) (others : ℕ) (whole : List Finding) : Type 0 where
-  pub first_are : first ≡ take most_drawn whole
-  pub count : others ≡ length whole - most_drawn
-
-pub first-end : (all : Bool) (s : State) (first : List Finding) (others : ℕ)
-    (whole : List Finding) → AreFirst all s first others whole → is_nil s.rest ≡ true
-    → AreAll first others whole
-first-end all s first others whole h e =
-    let ended : AreAdded first others [] whole (length whole) =
-    subst (λ l. AreAdded first others l whole (length whole)) (findings-end all s e) h.added in
-    let firsts : first ≡ take most_drawn whole = added-end first whole others _ ended in
-    record {
-      first_are = firsts;
-      count = omega (
-        arith,
-        added-count first whole others _ ended,
-        ap length firsts ∙ length-take most_drawn whole,
-      );
-    }
+-- In the end all faults are found.
+pub found-end : (s : State) (f : Findings) (whole : List Finding) → AreFound s f whole
+    → is_nil s.rest ≡ true → Keeps f whole
+found-end s f whole h e =
+    subst (Keeps f) (sym (append-nil h.before)
+    ∙ ap (λ l. h.before ++ l) (sym (findings-end f.waits s e)) ∙ h.whole_is) h.kept

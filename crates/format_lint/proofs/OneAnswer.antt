@@ -13,7 +13,7 @@ use Rattle.piece_listing.specs.Program.{IsShort, limit}
 use Rattle.piece_listing.specs.Source.{IsInLiteral, Source as ListedSource}
 use Rattle.piece_listing.proofs.OneLiteral.{source-only as listed_source-only}
 use Rattle.format_lint.specs.declared.task.Show.{Show}
-use Rattle.format_lint.specs.declared.task.Show.TheVariants.{Faults as ShowFaults, Fix as ShowFix}
+use Rattle.format_lint.specs.declared.task.Show.TheVariants.{Fault as ShowFault, Fix as ShowFix}
 use Rattle.format_lint.specs.declared.task.Show.TheVariants.{All as ShowAll, Tokens as ShowTokens}
 use Rattle.format_lint.specs.declared.task.Show.TheVariants.{Colours as ShowColours}
 use Rattle.format_lint.specs.Lint.{IsLiteralIn, IsMended, IsMendedIn, IsOwed, IsShown, IsSourceIn}
@@ -100,7 +100,7 @@ mended-only a s (Some l) x y h k = mended_in-only a s l x y h k
 -- What is shown in this way.
 abbrev ShownAs : Task → Source → Show → Shown → Type 0
 ShownAs a s w x = elim w [
-  | ShowFaults ↦ x ≡ drawn false a s
+  | ShowFault ↦ x ≡ drawn false a s
   | ShowAll ↦ x ≡ drawn true a s
   | ShowTokens ↦ x ≡ lexed false a s
   | ShowColours ↦ x ≡ lexed true a s
@@ -109,7 +109,7 @@ ShownAs a s w x = elim w [
 
 shown-only : (a : Task) (s : Source) (w : Show) (x y : Shown) → ShownAs a s w x → ShownAs a s w y
     → x ≡ y
-shown-only a s ShowFaults x y h k = h ∙ sym k
+shown-only a s ShowFault x y h k = h ∙ sym k
 shown-only a s ShowAll x y h k = h ∙ sym k
 shown-only a s ShowTokens x y h k = h ∙ sym k
 shown-only a s ShowColours x y h k = h ∙ sym k

@@ -1,16 +1,33 @@
--- The faults of a source that are shown: of each call of a parser the one that the compiler shows,
--- or all.
-use Rattle.std.specs.Prelude.{ℕ, zero, suc, ◌++◌, Bool, true, false, List, [], ◌∷◌}
-use Rattle.std.specs.Prelude.{if◌then◌else◌, length, take}
+-- The error of a source that the compiler shows; and all its faults in the order in which they are
+-- shown, with which of them follow from others.
+use Rattle.std.specs.Prelude.{ℕ, zero, suc, ◌+◌, ◌++◌, Bool, true, false, ◌&&◌, ◌||◌, List, [], ◌∷◌}
+use Rattle.std.specs.Prelude.{Option, None, Some, if◌then◌else◌, length}
+use Rattle.std.specs.Prelude.{◌≡◌, take}
 use Rattle.rustc_parse_format.specs.Characters.{Text}
 use Rattle.rustc_parse_format.specs.Types.{Mode}
-use Rattle.rustc_parse_format.specs.Faults.{Fault, is_front}
+use Rattle.rustc_parse_format.specs.Faults.{Fault, FillBrace, MissingBrace, UnmatchedBrace}
+use Rattle.rustc_parse_format.specs.Faults.{Message, add_errors, is_front}
 use Rattle.rustc_parse_format.specs.Call.{call}
 use Rattle.rustc_parse_format.specs.World.{World, Place, faults_in}
 use Rattle.rustc_parse_format.specs.State.{State}
 
--- A fault that is shown, and whether the parser found it only since it went on after another fault
--- of the same call.
+-- The error that the compiler shows of the calls from t on, with at most n calls. It stops at the
+-- first call that leaves an error, and shows the first in the list of the parser.
+abbrev pub first_error_within : World → ℕ → Mode → ℕ → Text → Option (Message Place)
+first_error_within w n mode c [] = None
+first_error_within w zero mode c (b ∷ t) = None
+first_error_within w (suc n) mode c (b ∷ t) =
+    let k = call mode c (b ∷ t) in
+    elim (add_errors [] (faults_in w k.faults)) [
+      | [] ↦ first_error_within w n mode k.next k.rest
+      | m ∷ ms ↦ Some m
+    ]
+
+-- The same of all calls of a parser without errors. Each call reads a character.
+unfoldable pub first_error : State → Option (Message Place)
+first_error s = first_error_within s.world (length s.rest) s.mode s.next s.rest
+
+-- A fault, and whether it follows from an earlier one. One that does not is a mistake of its own.
 pub record Finding : Type 0 where
   pub fault : Fault Place
   pub follows : Bool
@@ -21,30 +38,65 @@ abbrev pub add_faults : List (Fault Place) → List (Fault Place) → List (Faul
 add_faults old [] = old
 add_faults old (f ∷ fs) = add_faults (if is_front f then f ∷ old else old ++ f ∷ []) fs
 
--- Those that are shown of the faults of a call: the one whose error comes first in the list of a
--- parser, which the compiler shows, or all.
-abbrev pub shown_of : Bool → List (Fault Place) → List (Fault Place)
-shown_of all fs = if all then add_faults [] fs else take 1 (add_faults [] fs)
+-- The fault is a closing brace that closes nothing.
+abbrev pub is_lone_brace : Fault Place → Bool
+is_lone_brace (UnmatchedBrace s) = true
+is_lone_brace f = false
 
--- These faults of a call as they are shown. All but the first of the call follow from that.
-abbrev pub shown_from : Bool → List (Fault Place) → List Finding
-shown_from follows [] = []
-shown_from follows (f ∷ fs) = record { fault = f; follows = follows } ∷ shown_from true fs
+-- Whether a placeholder waits for its closing brace behind a fault, if `waits` says so of what is
+-- before it. The next closing brace that closes nothing is the one that it waits for.
+abbrev pub waits_behind : Bool → Fault Place → Bool
+waits_behind waits (MissingBrace c s o) = true
+waits_behind waits (FillBrace c s o) = true
+waits_behind waits (UnmatchedBrace s) = false
+waits_behind waits f = waits
 
--- What is shown of a call that finds these faults.
-abbrev pub findings_of : Bool → List (Fault Place) → List Finding
-findings_of all fs = shown_from false (shown_of all fs)
+-- The same behind these faults.
+abbrev pub waits_behind_all : Bool → List (Fault Place) → Bool
+waits_behind_all waits [] = waits
+waits_behind_all waits (f ∷ fs) = waits_behind_all (waits_behind waits f) fs
 
--- What is shown of the calls from t on, with at most n calls. A call that returns no piece before
--- the end, as at a lone closing brace, is followed by others.
-abbrev pub findings_within : Bool → World → ℕ → Mode → ℕ → Text → List Finding
-findings_within all w n mode c [] = []
-findings_within all w zero mode c (b ∷ t) = []
-findings_within all w (suc n) mode c (b ∷ t) =
+-- A fault as it is shown. It follows if the parser went on after another one of the same call, or
+-- if it is the closing brace that a placeholder waits for.
+abbrev pub marked : Bool → Bool → Fault Place → Finding
+marked waits later f = record { fault = f; follows = later || (waits && is_lone_brace f) }
+
+-- The faults of a call as they are shown, where `later` says whether others of the call are before
+-- them.
+abbrev pub marked_all : Bool → Bool → List (Fault Place) → List Finding
+marked_all waits later [] = []
+marked_all waits later (f ∷ fs) =
+    marked waits later f ∷ marked_all (waits_behind waits f) true fs
+
+-- The faults of the calls from t on, with at most n calls. A call that returns no piece before the
+-- end, as at a lone closing brace, is followed by others.
+abbrev pub findings_within : World → ℕ → Mode → Bool → ℕ → Text → List Finding
+findings_within w n mode waits c [] = []
+findings_within w zero mode waits c (b ∷ t) = []
+findings_within w (suc n) mode waits c (b ∷ t) =
     let k = call mode c (b ∷ t) in
-    findings_of all (faults_in w k.faults) ++ findings_within all w n mode k.next k.rest
+    let fs = add_faults [] (faults_in w k.faults) in
+    marked_all waits false fs
+    ++ findings_within w n mode (waits_behind_all waits fs) k.next k.rest
 
--- What is shown of all calls of a parser, up to the end of its input and in the order of the calls.
--- Each call reads a character.
-unfoldable pub findings_in : Bool → State → List Finding
-findings_in all s = findings_within all s.world (length s.rest) s.mode s.next s.rest
+-- The faults of all calls of a parser, up to the end of its input and in the order of the calls.
+-- Those of a call are in the order of their errors in the list of a parser, so that the error of
+-- the first of all is the one that the compiler shows.
+unfoldable pub findings_from : Bool → State → List Finding
+findings_from waits s = findings_within s.world (length s.rest) s.mode waits s.next s.rest
+
+-- How many of these faults are mistakes of their own.
+abbrev pub mistakes : List Finding → ℕ
+mistakes [] = 0
+mistakes (f ∷ fs) = (if f.follows then 0 else 1) + mistakes fs
+
+-- The most faults that are drawn.
+abbrev pub most_drawn : ℕ
+most_drawn = 10
+
+-- The first of these faults, how many others there are, and how many of all are mistakes of their
+-- own.
+pub record AreCounted (first : List Finding) (others own : ℕ) (fs : List Finding) : Type 0 where
+  pub first_are : first ≡ take most_drawn fs
+  pub all_are : length first + others ≡ length fs
+  pub own_are : own ≡ mistakes fs

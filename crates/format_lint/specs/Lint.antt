@@ -1,6 +1,6 @@
 -- What `formatlint` writes, by its task and for any bytes as its input.
 use Rattle.std.specs.Prelude.{◌≡◌, ℕ, ◌-◌, ◌<◌, ◌++◌, ◌==◌, Bool, true, false, ◌⊎◌, if◌then◌else◌}
-use Rattle.std.specs.Prelude.{nat_lt, List, [], length, take, Option, Some, None, option_map}
+use Rattle.std.specs.Prelude.{List, [], ◌∷◌, length, take, Option, Some, None, option_map}
 use Rattle.std.specs.Prelude.{unwrap_or, Result, Ok, Err, chars, codes, decimal, flat_map, IsUtf8}
 use Rattle.rustc_parse_format.specs.Types.{Mode}
 use Rattle.rustc_parse_format.specs.FaultIds.{fault_id}
@@ -16,12 +16,13 @@ use Rattle.drawn_faults.specs.Places.{Picture}
 use Rattle.drawn_faults.specs.Drawing.{drawing}
 use Rattle.drawn_faults.specs.Fixing.{Fixed, IsFixed, all_errors}
 use Rattle.format_lint.specs.declared.task.Show.{Show}
-use Rattle.format_lint.specs.declared.task.Show.TheVariants.{Faults as ShowFaults, Fix as ShowFix}
+use Rattle.format_lint.specs.declared.task.Show.TheVariants.{Fault as ShowFault, Fix as ShowFix}
 use Rattle.format_lint.specs.declared.task.Show.TheVariants.{All as ShowAll, Tokens as ShowTokens}
 use Rattle.format_lint.specs.declared.task.Show.TheVariants.{Colours as ShowColours}
 use Rattle.format_tokens.specs.Placed.{Placed, tokens}
 use Rattle.format_lint.specs.Colours.{shown_tokens}
-use Rattle.format_lint.specs.Findings.{Finding, findings_in}
+use Rattle.format_lint.specs.Findings.{Finding, findings_from, first_error, mistakes}
+use Rattle.format_lint.specs.Findings.{most_drawn}
 
 -- What the arguments of the program ask for.
 pub record Task : Type 0 where
@@ -62,9 +63,9 @@ start mode s =
 abbrev pub errors : Mode → Source → List (Message Place)
 errors mode s = all_errors (start mode s)
 
--- What is shown of the faults of a source.
-abbrev pub findings : Bool → Mode → Source → List Finding
-findings all mode s = findings_in all (start mode s)
+-- The faults of a source as they are shown where all are.
+abbrev pub findings : Mode → Source → List Finding
+findings mode s = findings_from false (start mode s)
 
 -- What faults are drawn in: the literal, or the text. Without a literal a byte offset is one more
 -- than in the text, so that is shown behind a line end, and its lines count from 1.
@@ -79,10 +80,6 @@ picture path s = elim s.literal [
   | Some l ↦ record { path = path; source = l; line_start = 1; literal_start = 0 }
 ]
 
--- The most faults that are drawn.
-abbrev pub most_drawn : ℕ
-most_drawn = 10
-
 -- The line that says how many faults are not drawn, if there are any.
 abbrev pub more : ℕ → List ℕ
 more n = if n == 0 then [] else codes "and " ++ (decimal n ++ codes " more\n")
@@ -91,33 +88,44 @@ more n = if n == 0 then [] else codes "and " ++ (decimal n ++ codes " more\n")
 abbrev pub id_line : Bool → List ℕ → List ℕ
 id_line follows id = (if follows then codes "follows: " else codes "fault: ") ++ (id ++ codes "\n")
 
--- The drawing of a fault. Where all faults are shown, a line before it has its id, and says whether
--- the fault follows from the one before.
-abbrev pub drawn_finding : Bool → Mode → Picture → Finding → List ℕ
-drawn_finding all mode p f =
-    (if all then id_line f.follows (fault_id f.fault) else []) ++ drawing mode p (message f.fault)
+-- The drawing of the error that the compiler shows, if there is one.
+abbrev pub shown_error : Mode → Picture → Option (Message Place) → List ℕ
+shown_error mode p None = []
+shown_error mode p (Some m) = drawing mode p m
+
+-- The drawing of a fault with a line before it, which has its id and says whether it follows from
+-- an earlier one.
+abbrev pub drawn_finding : Mode → Picture → Finding → List ℕ
+drawn_finding mode p f = id_line f.follows (fault_id f.fault) ++ drawing mode p (message f.fault)
 
 -- The drawings of faults, one after the other, and how many are left out.
-abbrev pub drawings : Bool → Mode → Picture → List Finding → List ℕ
-drawings all mode p fs =
-    flat_map (drawn_finding all mode p) (take most_drawn fs) ++ more (length fs - most_drawn)
+abbrev pub drawings : Mode → Picture → List Finding → List ℕ
+drawings mode p fs =
+    flat_map (drawn_finding mode p) (take most_drawn fs) ++ more (length fs - most_drawn)
 
--- What is written, and whether a fault is left.
+-- The drawing of the first of these faults, if there is one.
+abbrev pub first_drawing : Mode → Picture → List Finding → List ℕ
+first_drawing mode p [] = []
+first_drawing mode p (f ∷ fs) = drawing mode p (message f.fault)
+
+-- What is written, and how many mistakes are left.
 abbrev pub Shown : Type 0
-Shown = List ℕ × Bool
+Shown = List ℕ × ℕ
 
--- The drawings of a source's faults, and whether it has any.
+-- What is drawn of a source, which is the error that the compiler shows or all its faults, and how
+-- many mistakes it has.
 abbrev pub drawn : Bool → Task → Source → Shown
 drawn all a s = (
-  drawings all a.mode (picture a.path s) (findings all a.mode s),
-  nat_lt 0 (length (errors a.mode s)),
+  if all then drawings a.mode (picture a.path s) (findings a.mode s)
+      else shown_error a.mode (picture a.path s) (first_error (start a.mode s)),
+  mistakes (findings a.mode s),
 )
 
 -- A source as it is written, and a line end.
 abbrev pub written : Source → List ℕ
 written s = unwrap_or s.literal s.text ++ codes "\n"
 
--- A source is written, and then its faults are drawn.
+-- A source is written, and then the error that the compiler shows is drawn.
 abbrev pub kept : Task → Source → Shown
 kept a s = (written s ++ (drawn false a s).0, (drawn false a s).1)
 
@@ -127,7 +135,7 @@ abbrev pub tokens_in : Task → Source → List Placed
 tokens_in a s = tokens a.mode (chars s.text) s.style (Some (chars (picture a.path s).source)) false
 
 -- The tokens of a source are shown, in colours with a line end after them or each in a line, and
--- then its faults are drawn.
+-- then the error that the compiler shows.
 abbrev pub lexed : Bool → Task → Source → Shown
 lexed colours a s = (
   shown_tokens colours (chars (unwrap_or s.literal s.text)) (tokens_in a s)
@@ -136,8 +144,8 @@ lexed colours a s = (
 )
 
 -- Where l is the literal of a source: the literal with the edits that its faults suggest is
--- written, and then the faults that it still has. If there is no such literal, the source stays as
--- it is.
+-- written, and then the error that the compiler shows of that. If there is no such literal, the
+-- source stays as it is.
 abbrev pub IsMendedIn : Task → Source → List ℕ → Shown → Type 0
 IsMendedIn a s l x =
     ((f : Fixed) × IsFixed a.mode s.text s.style l false f × (x ≡ kept a
@@ -154,7 +162,7 @@ IsMended a s x = elim s.literal [
 -- What a task shows of a source.
 abbrev pub IsShown : Task → Source → Shown → Type 0
 IsShown a s x = elim a.show [
-  | ShowFaults ↦ x ≡ drawn false a s
+  | ShowFault ↦ x ≡ drawn false a s
   | ShowAll ↦ x ≡ drawn true a s
   | ShowTokens ↦ x ≡ lexed false a s
   | ShowColours ↦ x ≡ lexed true a s
@@ -175,9 +183,8 @@ IsOwed a input (Err Memory) = ⊥
 IsOwed a input (Err Write) = ⊥
 
 -- The message that is written to the error output, and the exit status.
-abbrev pub verdict : Result Bool RunFault → List ℕ × ℕ
-verdict (Ok false) = ([], 0)
-verdict (Ok true) = ([], 1)
+abbrev pub verdict : Result ℕ RunFault → List ℕ × ℕ
+verdict (Ok n) = ([], if n == 0 then 0 else 1)
 verdict (Err Words) = (codes "formatlint: invalid arguments", 2)
 verdict (Err NotLiteral) = (codes "formatlint: input is not a string literal", 2)
 verdict (Err Read) = (codes "formatlint: reading failed", 3)

@@ -1,11 +1,12 @@
--- What a contract sees of a task, of a source and of a fault that is shown.
-use Rattle.std.specs.Prelude.{option_map}
+-- What a contract sees of a task, of a source and of faults that are shown.
+use Rattle.std.specs.Prelude.{List, map, option_map}
 use Rattle.rustc_parse_format.specs.Seen.{seen_mode}
 use Rattle.rustc_parse_format.specs.SeenFaults.{seen_fault}
 use Rattle.format_lint.specs.declared.task.Task.{Task as DeclaredTask}
 use Rattle.format_lint.specs.declared.faults.Source.{Source as DeclaredSource}
 use Rattle.format_lint.specs.declared.findings.Finding.{Finding as DeclaredFinding}
-use Rattle.format_lint.specs.Findings.{Finding}
+use Rattle.format_lint.specs.declared.findings.Findings.{Findings}
+use Rattle.format_lint.specs.Findings.{AreCounted, Finding}
 use Rattle.format_lint.specs.Lint.{Source, Task}
 
 -- A task as a contract sees it.
@@ -28,3 +29,7 @@ seen_source s = record {
 -- A fault that is shown, as a contract sees it.
 abbrev pub seen_finding : DeclaredFinding → Finding
 seen_finding f = record { fault = seen_fault f.fault; follows = f.follows }
+
+-- The first of these faults are kept, and the others and the mistakes are counted.
+abbrev pub Keeps : Findings → List Finding → Type 0
+Keeps f fs = AreCounted (map seen_finding f.first.items) f.others f.mistakes fs

@@ -1,7 +1,6 @@
-//! A source, its tokens, and the faults of it that are drawn.
+//! A source, its tokens and its faults.
 
-ghost use Rattle.std.specs.Prelude.{◌≡◌, ◌-◌, ◌≤◌, [], length, map, nat_lt, take};
-ghost use Rattle.std.specs.Prelude.{IfOk, Some, chars, false, option_map};
+ghost use Rattle.std.specs.Prelude.{◌≡◌, ◌≤◌, [], IfOk, Some, chars, false, map};
 ghost use Rattle.rustc_parse_format.specs.Seen.{seen_mode};
 ghost use Rattle.rustc_parse_format.specs.World.{hashes};
 ghost use Rattle.piece_listing.specs.Program.{limit};
@@ -9,9 +8,9 @@ ghost use Rattle.format_tokens.specs.Midway.{sized};
 ghost use Rattle.format_tokens.specs.Placed.{tokens};
 ghost use Rattle.format_tokens.specs.Seen.{seen_token};
 ghost use Rattle.format_tokens.specs.Walk.{tokens_of};
-ghost use Rattle.format_lint.specs.Findings.{findings_in};
-ghost use Rattle.format_lint.specs.Lint.{errors, findings, most_drawn, start};
-ghost use Rattle.format_lint.specs.SeenLint.{seen_finding, seen_source};
+ghost use Rattle.format_lint.specs.Findings.{findings_from};
+ghost use Rattle.format_lint.specs.Lint.{findings, start};
+ghost use Rattle.format_lint.specs.SeenLint.{Keeps, seen_source};
 
 use super::findings::Findings;
 use format_tokens::{Kind, Token, label, placed};
@@ -26,33 +25,24 @@ pub struct Source<'a> {
     pub literal: Option<&'a str>,
 }
 
-/// Returns the faults of all calls of a parser without errors that are drawn, of each call the one
-/// that the compiler shows or all, and how many others there are, which are not kept. Returns `Err`
-/// if an allocation fails, or if there are more faults than a `usize` counts.
-fn faults_of<'a>(
-    alloc: Global,
-    parser: &mut Parser<'a>,
-    all: bool,
-) -> Result<Findings<'a>, AllocError>
+/// Returns the faults of all calls of a parser without errors. Returns `Err` if an allocation
+/// fails, or if there are more faults than a `usize` counts.
+fn faults_of<'a>(alloc: Global, parser: &mut Parser<'a>) -> Result<Findings<'a>, AllocError>
     requires { parser.old.errors ≡ [] }
-    ensures first { IfOk result (λ f. map seen_finding f.first.items
-        ≡ take most_drawn (findings_in all parser.old)) }
-    ensures others { IfOk result (λ f. f.others
-        ≡ length (findings_in all parser.old) - most_drawn) }
+    ensures { IfOk result (λ f. Keeps f (findings_from false parser.old)) }
 {
     let mut argument = Argument::default();
     let mut found = Vec::new(alloc);
     let mut faults = Findings::new(alloc);
     while !parser.is_at_end() {
         parser.next_with_faults(&mut argument, &mut found)?;
-        faults.add(all, &mut found)?;
+        faults.add(&mut found)?;
     }
     Ok(faults)
 }
 
-/// Returns the tokens of a source's text, each with its number of characters, and the faults that
-/// `faults_of` returns where not all are shown, by the calls of a parser at its start. Returns
-/// `Err` as `faults_of` does.
+/// Returns the tokens of a source's text, each with its number of characters, and the faults, by
+/// the calls of a parser at its start. Returns `Err` as `faults_of` does.
 fn labels_of<'a>(
     alloc: Global,
     parser: &mut Parser<'a>,
@@ -62,12 +52,8 @@ fn labels_of<'a>(
     requires { parser.old ≡ start (seen_mode mode) (seen_source source) }
     ensures labels { IfOk result (λ x. x.0.items
         ≡ map sized (tokens_of (seen_mode mode) (chars source.entry.text.now))) }
-    ensures first { IfOk result (λ x. map seen_finding x.1.first.items
-        ≡ take most_drawn (findings false (seen_mode mode) (seen_source source.entry))) }
-    ensures others { IfOk result (λ x. x.1.others
-        ≡ length (findings false (seen_mode mode) (seen_source source.entry)) - most_drawn) }
-    ensures some { IfOk result (λ x. nat_lt 0 (length (map seen_finding x.1.first.items))
-        ≡ nat_lt 0 (length (errors (seen_mode mode) (seen_source source.entry)))) }
+    ensures faults { IfOk result (λ x. Keeps x.1
+        (findings (seen_mode mode) (seen_source source.entry))) }
 {
     let text = source.text;
     let mut argument = Argument::default();
@@ -77,7 +63,7 @@ fn labels_of<'a>(
     let mut rest = text;
     while !rest.is_empty() {
         let taken = parser.next_with_faults(&mut argument, &mut found)?;
-        faults.add(false, &mut found)?;
+        faults.add(&mut found)?;
         let left = text.len().saturating_sub(parser.position());
         rest = label(&mut labels, mode, taken, &argument, left, rest)?;
     }
@@ -100,31 +86,22 @@ fn parser_of<'a>(
     Parser::new(alloc, source.text, source.style, snippet, false, mode)
 }
 
-/// Returns the faults of a source that are drawn, of each call of a parser the one that the
-/// compiler shows or all, and how many others it has, which are not kept. Returns `Err` if an
-/// allocation fails.
+/// Returns the faults of a source. Returns `Err` as `faults_of` does.
 pub fn faults_in<'a>(
     alloc: Global,
     mode: ParseMode,
     source: Source<'a>,
-    all: bool,
 ) -> Result<Findings<'a>, AllocError>
     requires { hashes source.style ≤ limit }
-    ensures first { IfOk result (λ f. map seen_finding f.first.items
-        ≡ take most_drawn (findings all (seen_mode mode) (seen_source source.entry))) }
-    ensures others { IfOk result (λ f. f.others
-        ≡ length (findings all (seen_mode mode) (seen_source source.entry)) - most_drawn) }
-    ensures some { IfOk result (λ f. nat_lt 0 (length (map seen_finding f.first.items))
-        ≡ nat_lt 0 (length (errors (seen_mode mode) (seen_source source.entry)))) }
+    ensures { IfOk result (λ f. Keeps f (findings (seen_mode mode) (seen_source source.entry))) }
 {
     let mut parser = parser_of(alloc, mode, source)?;
-    let faults = faults_of(alloc, &mut parser, all)?;
+    let faults = faults_of(alloc, &mut parser)?;
     Ok(faults)
 }
 
-/// Returns the tokens of a source with this snippet, and the faults that `faults_in` returns
-/// where not all are shown.
-/// Returns `Err` as `faults_in` does.
+/// Returns the tokens of a source with this snippet, and its faults. Returns `Err` as `faults_of`
+/// does.
 pub fn tokens_in<'a>(
     alloc: Global,
     mode: ParseMode,
@@ -134,12 +111,8 @@ pub fn tokens_in<'a>(
     requires { hashes source.style ≤ limit }
     ensures tokens { IfOk result (λ x. map seen_token x.0.items ≡ tokens (seen_mode mode)
         (chars source.entry.text.now) source.entry.style (Some (chars snippet.now)) false) }
-    ensures first { IfOk result (λ x. map seen_finding x.1.first.items
-        ≡ take most_drawn (findings false (seen_mode mode) (seen_source source.entry))) }
-    ensures others { IfOk result (λ x. x.1.others
-        ≡ length (findings false (seen_mode mode) (seen_source source.entry)) - most_drawn) }
-    ensures some { IfOk result (λ x. nat_lt 0 (length (map seen_finding x.1.first.items))
-        ≡ nat_lt 0 (length (errors (seen_mode mode) (seen_source source.entry)))) }
+    ensures faults { IfOk result (λ x. Keeps x.1
+        (findings (seen_mode mode) (seen_source source.entry))) }
 {
     let mut parser = parser_of(alloc, mode, source)?;
     let (labels, faults) = labels_of(alloc, &mut parser, mode, source)?;

@@ -1,13 +1,15 @@
 //! The program over any reader and writer: its input, what it shows, and its output.
 
-ghost use Rattle.std.specs.Prelude.{◌≡◌, ◌≢◌, List, ℕ, IfErr, IfOk, IfSome, IsErrOf, Result, Err};
-ghost use Rattle.std.specs.Prelude.{Ok};
+ghost use Rattle.std.specs.Prelude.{◌≡◌, ◌≢◌, ◌↔◌, List, [], ℕ, IfErr, IfOk, IfSome, IsErrOf};
+ghost use Rattle.std.specs.Prelude.{Err, Ok, Result};
 ghost use Rattle.std.specs.Io.KnownBytes.{Appends};
 ghost use Rattle.piece_listing.specs.declared.verdict.RunFault.TheVariants.{Words, TooLong};
 ghost use Rattle.piece_listing.specs.declared.verdict.RunFault.TheVariants.{NotText, NotLiteral};
 ghost use Rattle.piece_listing.specs.declared.verdict.RunFault.TheVariants.{Write as WriteFault};
-ghost use Rattle.format_lint.specs.Lint.{IsOwed, Shown};
-ghost use Rattle.format_lint.specs.Lint.{Task as TaskValue};
+ghost use Rattle.rustc_parse_format.specs.Types.{Mode};
+ghost use Rattle.format_lint.specs.Findings.{mistakes};
+ghost use Rattle.format_lint.specs.Lint.{IsOwed, Shown, Source, Task as TaskValue, errors};
+ghost use Rattle.format_lint.specs.Lint.{findings};
 ghost use Rattle.piece_listing.specs.declared.verdict.RunFault.{RunFault as FaultValue};
 ghost use Rattle.format_lint.specs.SeenLint.{seen_task};
 
@@ -19,7 +21,8 @@ use std::alloc::Global;
 use std::io::{Read, Write};
 
 /// Reads an input from `reader` up to its end, and writes what `task` shows of it to `writer`.
-/// Returns whether a fault is left: one of the input, or of the literal with its fixes.
+/// Returns how many faults are left that are mistakes of their own and follow from no other one:
+/// of the input, or of the literal with its fixes.
 ///
 /// The input may have at most 1,048,576 bytes. Returns `Err` if a read, a write or an allocation
 /// fails, or if the input is too long, not UTF-8, or not a string literal although the task asks
@@ -30,7 +33,7 @@ pub fn run<R: Read, W: Write>(
     reader: &mut R,
     writer: &mut W,
     task: Task<'_>,
-) -> Result<bool, RunFault>
+) -> Result<usize, RunFault>
     // What is written and the result are those that the definition `IsOwed` asks for.
     ensures shown { IfOk result (λ told. IfSome (R.remaining reader.old) (λ input. (text : List ℕ)
         × IsOwed (seen_task task.entry) input (Ok (text, told))
@@ -38,6 +41,9 @@ pub fn run<R: Read, W: Write>(
     // The definition asks for one result.
     ensures one_answer { (a : TaskValue) (input : List ℕ) (x y : Result Shown FaultValue)
         → IsOwed a input x → IsOwed a input y → x ≡ y }
+    // There is a mistake exactly if a parser has an error.
+    ensures mistakes { (mode : Mode) (s : Source)
+        → (mistakes (findings mode s) ≡ 0) ↔ (errors mode s ≡ []) }
     ensures not_words { IfErr result (λ fault. fault ≢ Words) }
     ensures too_long { IsErrOf result TooLong → IfSome (R.remaining reader.old)
         (λ input. IsOwed (seen_task task.entry) input (Err TooLong)) }

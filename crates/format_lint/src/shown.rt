@@ -1,18 +1,20 @@
 //! What is shown of an input in UTF-8.
 
 ghost use Rattle.std.specs.Prelude.{◌≡◌, ◌≢◌, ◌≤◌, ◌++◌, List, [], IfErr, IfOk, IsErrOf, OnOk};
-ghost use Rattle.std.specs.Prelude.{flat_map, length, map, nat_lt, string_bytes};
+ghost use Rattle.std.specs.Prelude.{flat_map, if◌then◌else◌, map, string_bytes};
 ghost use Rattle.rustc_parse_format.specs.FaultIds.{fault_id};
+ghost use Rattle.rustc_parse_format.specs.Faults.{message};
 ghost use Rattle.rustc_parse_format.specs.Seen.{seen_mode};
 ghost use Rattle.rustc_parse_format.specs.SeenFaults.{seen_fault};
 ghost use Rattle.rustc_parse_format.specs.World.{hashes};
 ghost use Rattle.piece_listing.specs.declared.verdict.RunFault.TheVariants.{Memory, NotLiteral};
 ghost use Rattle.piece_listing.specs.Program.{IsShort, limit};
+ghost use Rattle.drawn_faults.specs.Drawing.{drawing};
 ghost use Rattle.drawn_faults.specs.Places.{seen_picture};
 ghost use Rattle.format_lint.specs.Lint.{IsLiteralIn, IsMended, IsShown, IsSourceIn};
-ghost use Rattle.format_lint.specs.Lint.{Source as SourceValue};
-ghost use Rattle.format_lint.specs.Lint.{drawn, drawn_finding, id_line, kept, lexed, more, picture};
-ghost use Rattle.format_lint.specs.SeenLint.{seen_finding, seen_source, seen_task};
+ghost use Rattle.format_lint.specs.Lint.{Source as SourceValue, drawn, drawn_finding, findings};
+ghost use Rattle.format_lint.specs.Lint.{first_drawing, id_line, kept, lexed, more};
+ghost use Rattle.format_lint.specs.SeenLint.{Keeps, seen_finding, seen_source, seen_task};
 
 use super::faults::{Source, faults_in, tokens_in};
 use super::findings::{Finding, Findings};
@@ -40,43 +42,38 @@ fn put_id(out: &mut String, finding: &Finding<'_>) -> Result<(), AllocError>
     Ok(())
 }
 
-/// Appends the drawing of a fault to a text, where all are shown after its id. Returns `Err` if an
-/// allocation fails.
+/// Appends the drawing of a fault to a text. Returns `Err` if an allocation fails.
 fn put_finding(
     alloc: Global,
     out: &mut String,
-    all: bool,
     mode: ParseMode,
     picture: &Picture<'_>,
     finding: &Finding<'_>,
 ) -> Result<(), AllocError>
-    ensures { OnOk result (string_bytes out.new ≡ string_bytes out.old
-        ++ drawn_finding all (seen_mode mode) (seen_picture picture.now)
-        (seen_finding finding.now)) }
+    ensures { OnOk result (string_bytes out.new ≡ string_bytes out.old ++ drawing (seen_mode mode)
+        (seen_picture picture.now) (message (seen_finding finding.now).fault)) }
 {
-    if all {
-        put_id(out, finding)?;
-    }
     let error = finding.fault.error(alloc)?;
     put_drawing(out, mode, picture, &error)?;
     Ok(())
 }
 
-/// Appends the drawings of faults to a text. Returns `Err` if an allocation fails.
+/// Appends the drawings of faults to a text, each after a line with its id. Returns `Err` if an
+/// allocation fails.
 fn put_each(
     alloc: Global,
     out: &mut String,
-    all: bool,
     mode: ParseMode,
     picture: &Picture<'_>,
     findings: &[Finding<'_>],
 ) -> Result<(), AllocError>
     ensures { OnOk result (string_bytes out.new ≡ string_bytes out.old
-        ++ flat_map (drawn_finding all (seen_mode mode) (seen_picture picture.now))
+        ++ flat_map (drawn_finding (seen_mode mode) (seen_picture picture.now))
         (map seen_finding findings.now)) }
 {
     for finding in findings {
-        put_finding(alloc, out, all, mode, picture, finding)?;
+        put_id(out, finding)?;
+        put_finding(alloc, out, mode, picture, finding)?;
     }
     Ok(())
 }
@@ -94,8 +91,28 @@ fn put_more(alloc: Global, out: &mut String, count: usize) -> Result<(), AllocEr
     Ok(())
 }
 
-/// Appends the drawings of faults to a text, and says how many others there are. Returns whether
-/// there are any, and `Err` if an allocation fails.
+/// Appends the drawing of the first of these faults to a text, if there is one. Returns `Err` if an
+/// allocation fails.
+fn put_first(
+    alloc: Global,
+    out: &mut String,
+    mode: ParseMode,
+    picture: &Picture<'_>,
+    findings: &[Finding<'_>],
+) -> Result<(), AllocError>
+    ensures { OnOk result (string_bytes out.new ≡ string_bytes out.old
+        ++ first_drawing (seen_mode mode) (seen_picture picture.now)
+        (map seen_finding findings.now)) }
+{
+    if !findings.is_empty() {
+        put_finding(alloc, out, mode, picture, &findings[0])?;
+    }
+    Ok(())
+}
+
+/// Appends the drawing of the first fault to a text, or the drawings of those that are kept and how
+/// many others there are. Returns how many faults are mistakes of their own, and `Err` if an
+/// allocation fails.
 fn put_drawings(
     alloc: Global,
     out: &mut String,
@@ -103,20 +120,25 @@ fn put_drawings(
     mode: ParseMode,
     picture: &Picture<'_>,
     faults: &Findings<'_>,
-) -> Result<bool, AllocError>
+) -> Result<usize, AllocError>
     ensures drawn { OnOk result (string_bytes out.new ≡ string_bytes out.old
-        ++ (flat_map (drawn_finding all (seen_mode mode) (seen_picture picture.now))
-        (map seen_finding faults.now.first.items) ++ more faults.now.others)) }
-    ensures told { IfOk result (λ told. told
-        ≡ nat_lt 0 (length (map seen_finding faults.now.first.items))) }
+        ++ (if all then flat_map (drawn_finding (seen_mode mode) (seen_picture picture.now))
+        (map seen_finding faults.now.first.items) ++ more faults.now.others
+        else first_drawing (seen_mode mode) (seen_picture picture.now)
+        (map seen_finding faults.now.first.items))) }
+    ensures told { IfOk result (λ told. told ≡ faults.now.mistakes) }
 {
-    put_each(alloc, out, all, mode, picture, faults.first.as_slice())?;
-    put_more(alloc, out, faults.others)?;
-    Ok(faults.first.len() > 0)
+    if all {
+        put_each(alloc, out, mode, picture, faults.first.as_slice())?;
+        put_more(alloc, out, faults.others)?;
+    } else {
+        put_first(alloc, out, mode, picture, faults.first.as_slice())?;
+    }
+    Ok(faults.mistakes)
 }
 
-/// Appends the drawings of faults of a source to a text. Returns whether there are any, and `Err`
-/// if an allocation fails.
+/// Appends what is drawn of a source with these faults to a text. Returns how many of them are
+/// mistakes of their own, and `Err` if an allocation fails.
 fn put_faults(
     alloc: Global,
     out: &mut String,
@@ -124,13 +146,12 @@ fn put_faults(
     task: Task<'_>,
     source: Source<'_>,
     faults: &Findings<'_>,
-) -> Result<bool, AllocError>
+) -> Result<usize, AllocError>
+    requires { Keeps faults.now (findings (seen_mode task.mode) (seen_source source)) }
     ensures drawn { OnOk result (string_bytes out.new ≡ string_bytes out.old
-        ++ (flat_map (drawn_finding all (seen_mode task.entry.mode)
-        (picture task.entry.path.now (seen_source source.entry)))
-        (map seen_finding faults.now.first.items) ++ more faults.now.others)) }
+        ++ (drawn all (seen_task task.entry) (seen_source source.entry)).0) }
     ensures told { IfOk result (λ told. told
-        ≡ nat_lt 0 (length (map seen_finding faults.now.first.items))) }
+        ≡ (drawn all (seen_task task.entry) (seen_source source.entry)).1) }
 {
     if let Some(literal) = source.literal {
         let picture = Picture {
@@ -153,34 +174,34 @@ fn put_faults(
     put_drawings(alloc, out, all, task.mode, &picture, faults)
 }
 
-/// Appends the drawings of the faults of a source to a text. Returns whether it has faults, and
-/// `Err` if an allocation fails.
+/// Appends what is drawn of a source to a text. Returns how many mistakes it has, and `Err` if an
+/// allocation fails.
 fn put_drawn(
     alloc: Global,
     out: &mut String,
     all: bool,
     task: Task<'_>,
     source: Source<'_>,
-) -> Result<bool, AllocError>
+) -> Result<usize, AllocError>
     requires { hashes source.style ≤ limit }
     ensures drawn { OnOk result (string_bytes out.new ≡ string_bytes out.old
         ++ (drawn all (seen_task task.entry) (seen_source source.entry)).0) }
     ensures told { IfOk result (λ told. told
         ≡ (drawn all (seen_task task.entry) (seen_source source.entry)).1) }
 {
-    let faults = faults_in(alloc, task.mode, source, all)?;
+    let faults = faults_in(alloc, task.mode, source)?;
     let told = put_faults(alloc, out, all, task, source, &faults)?;
     Ok(told)
 }
 
-/// Appends a source as it is written, a line end, and the drawings of its faults to a text. Returns
-/// whether it has faults, and `Err` if an allocation fails.
+/// Appends a source as it is written, a line end, and the drawing of its first fault to a text.
+/// Returns how many mistakes it has, and `Err` if an allocation fails.
 fn put_kept(
     alloc: Global,
     out: &mut String,
     task: Task<'_>,
     source: Source<'_>,
-) -> Result<bool, AllocError>
+) -> Result<usize, AllocError>
     requires { hashes source.style ≤ limit }
     ensures kept { OnOk result (string_bytes out.new ≡ string_bytes out.old
         ++ (kept (seen_task task.entry) (seen_source source.entry)).0) }
@@ -192,15 +213,15 @@ fn put_kept(
     put_drawn(alloc, out, false, task, source)
 }
 
-/// Appends the literal of a source with the edits that its faults suggest, and the drawings of the
-/// faults that it then has, to a text. Returns whether it has faults, and `Err` if an allocation
-/// fails.
+/// Appends the literal of a source with the edits that its faults suggest, and the drawing of the
+/// first fault that it then has, to a text. Returns how many mistakes it has, and `Err` if an
+/// allocation fails.
 fn put_fixed(
     alloc: Global,
     out: &mut String,
     task: Task<'_>,
     source: Source<'_>,
-) -> Result<bool, AllocError>
+) -> Result<usize, AllocError>
     requires style { hashes source.style ≤ limit }
     requires empty { string_bytes out.old ≡ [] }
     ensures { IfOk result (λ told. IsMended (seen_task task.entry) (seen_source source.entry)
@@ -222,15 +243,15 @@ fn put_fixed(
     }
 }
 
-/// Appends the tokens of a source, in colours or each in a line, and the drawings of its faults to
-/// a text. Returns whether it has faults, and `Err` if an allocation fails.
+/// Appends the tokens of a source, in colours or each in a line, and the drawing of its first fault
+/// to a text. Returns how many mistakes it has, and `Err` if an allocation fails.
 fn put_lexed(
     alloc: Global,
     out: &mut String,
     colours: bool,
     task: Task<'_>,
     source: Source<'_>,
-) -> Result<bool, AllocError>
+) -> Result<usize, AllocError>
     requires { hashes source.style ≤ limit }
     ensures lexed { OnOk result (string_bytes out.new ≡ string_bytes out.old
         ++ (lexed colours (seen_task task.entry) (seen_source source.entry)).0) }
@@ -251,16 +272,20 @@ fn put_lexed(
     Ok(told)
 }
 
-/// Returns what a task shows of a source, and whether a fault is left. Returns `Err` if an
+/// Returns what a task shows of a source, and how many mistakes are left. Returns `Err` if an
 /// allocation fails.
-fn shown_of(alloc: Global, source: Source<'_>, task: Task<'_>) -> Result<(String, bool), AllocError>
+fn shown_of(
+    alloc: Global,
+    source: Source<'_>,
+    task: Task<'_>,
+) -> Result<(String, usize), AllocError>
     requires { hashes source.style ≤ limit }
     ensures { IfOk result (λ x. IsShown (seen_task task.entry) (seen_source source.entry)
         (string_bytes x.0, x.1)) }
 {
     let mut out = String::new(alloc);
     let told = match task.show {
-        Show::Faults => put_drawn(alloc, &mut out, false, task, source)?,
+        Show::Fault => put_drawn(alloc, &mut out, false, task, source)?,
         Show::All => put_drawn(alloc, &mut out, true, task, source)?,
         Show::Tokens => put_lexed(alloc, &mut out, false, task, source)?,
         Show::Colours => put_lexed(alloc, &mut out, true, task, source)?,
@@ -272,7 +297,7 @@ fn shown_of(alloc: Global, source: Source<'_>, task: Task<'_>) -> Result<(String
 /// Returns what a task shows of the input as a string literal, perhaps with a newline after it, and
 /// whether a fault is left. Returns `Err` if the input is not a string literal or an allocation
 /// fails.
-fn shown_of_literal(alloc: Global, input: &str, task: Task<'_>) -> Result<(String, bool), RunFault>
+fn shown_of_literal(alloc: Global, input: &str, task: Task<'_>) -> Result<(String, usize), RunFault>
     requires { IsShort input.now }
     ensures shown { IfOk result (λ x. (s : SourceValue) × IsLiteralIn input.now s
         × IsShown (seen_task task.entry) s (string_bytes x.0, x.1)) }
@@ -292,13 +317,13 @@ fn shown_of_literal(alloc: Global, input: &str, task: Task<'_>) -> Result<(Strin
     Ok(shown_of(alloc, source, task)?)
 }
 
-/// Returns what a task shows of an input, and whether a fault is left. Returns `Err` if the task
+/// Returns what a task shows of an input, and how many mistakes are left. Returns `Err` if the task
 /// asks for a string literal and the input is none, or if an allocation fails.
 pub fn shown_of_input(
     alloc: Global,
     input: &str,
     task: Task<'_>,
-) -> Result<(String, bool), RunFault>
+) -> Result<(String, usize), RunFault>
     requires { IsShort input.now }
     ensures shown { IfOk result (λ x. (s : SourceValue)
         × IsSourceIn task.entry.is_literal input.now s

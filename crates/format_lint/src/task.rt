@@ -5,16 +5,16 @@ use rustc_parse_format::ParseMode;
 /// What is shown of an input.
 #[derive(Copy, Clone, Debug, Eq, PartialEq)]
 pub enum Show {
-    /// Its faults, drawn under their source: of each call of the parser the one that the compiler
-    /// shows.
-    Faults,
-    /// All its faults, each with its id, also those that follow from another one.
+    /// The fault that the compiler shows, drawn under its source.
+    Fault,
+    /// All its faults, each with its id and whether it follows from an earlier one.
     All,
-    /// Its tokens, each in a line, and then its faults.
+    /// Its tokens, each in a line, and then the fault that the compiler shows.
     Tokens,
-    /// Its text in the colours of its tokens, and then its faults.
+    /// Its text in the colours of its tokens, and then the fault that the compiler shows.
     Colours,
-    /// The literal with the edits that its faults suggest, and the faults that it then has.
+    /// The literal with the edits that its faults suggest, and the fault that the compiler shows of
+    /// that.
     Fix,
 }
 

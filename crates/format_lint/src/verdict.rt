@@ -6,14 +6,14 @@ ghost use Rattle.format_lint.specs.Lint.{verdict};
 use piece_listing::verdict::RunFault;
 
 /// Returns the message for standard error, which is empty if there is no error, and the exit status
-/// of the program: 0 if no fault is left, 1 if one is, 2 if the arguments are invalid or the input
-/// is not a string literal, and 3 after any other error. Does not allocate.
-pub fn verdict(answer: &Result<bool, RunFault>) -> (&'static str, u8)
+/// of the program: 0 if no mistake is left, 1 if one is, 2 if the arguments are invalid or the
+/// input is not a string literal, and 3 after any other error. Does not allocate.
+pub fn verdict(answer: &Result<usize, RunFault>) -> (&'static str, u8)
     ensures { (result.0.now, result.1) ≡ verdict answer.now }
 {
     match answer {
-        Ok(false) => ("", 0),
-        Ok(true) => ("", 1),
+        Ok(0) => ("", 0),
+        Ok(_) => ("", 1),
         Err(RunFault::Words) => ("formatlint: invalid arguments", 2),
         Err(RunFault::NotLiteral) => ("formatlint: input is not a string literal", 2),
         Err(RunFault::Read) => ("formatlint: reading failed", 3),

@@ -35,7 +35,7 @@ fn fix_option<'a>(alloc: Global) -> Result<Arg<'a>, AllocError> {
     Arg::new(alloc, "fix")
         .long("fix")
         .action(ArgAction::SetTrue)
-        .help("Print the literal with the suggestions applied, and the faults that it then has")
+        .help("Print the literal with the suggestions applied, and the fault that it then has")
         .conflicts_with("text")
 }
 
@@ -44,7 +44,7 @@ fn tokens_option<'a>(alloc: Global) -> Result<Arg<'a>, AllocError> {
     Arg::new(alloc, "tokens")
         .long("tokens")
         .action(ArgAction::SetTrue)
-        .help("Print the tokens, in colours or each in a line, and then the faults")
+        .help("Print the tokens, in colours or each in a line, and then the fault")
         .conflicts_with("fix")
 }
 
@@ -53,7 +53,7 @@ fn all_option<'a>(alloc: Global) -> Result<Arg<'a>, AllocError> {
     Arg::new(alloc, "all")
         .long("all")
         .action(ArgAction::SetTrue)
-        .help("Draw also the faults that follow from another one, each with its id")
+        .help("Draw all faults, each with its id and whether it follows from an earlier one")
         .conflicts_with("fix")?
         .conflicts_with("tokens")
 }
@@ -116,7 +116,7 @@ fn show_of(rt: &HostRuntime, matches: &ArgMatches<'_>) -> Show {
     } else if matches.get_flag("all") {
         Show::All
     } else if !matches.get_flag("tokens") {
-        Show::Faults
+        Show::Fault
     } else if wants_colours(rt, matches) {
         Show::Colours
     } else {
@@ -134,8 +134,8 @@ fn task_of<'a>(rt: &HostRuntime, matches: &ArgMatches<'a>) -> Task<'a> {
     }
 }
 
-/// Runs a task on its file, or on standard input. Returns whether a fault is left, as `run` does.
-fn answer(rt: &HostRuntime, task: Task<'_>, file: Option<&str>) -> Result<bool, RunFault> {
+/// Runs a task on its file, or on standard input. Returns how many mistakes are left, as `run`.
+fn answer(rt: &HostRuntime, task: Task<'_>, file: Option<&str>) -> Result<usize, RunFault> {
     match file {
         Some(path) => match fs::open(rt, path) {
             Ok(mut file) => run(rt.alloc(), &mut file, &mut rt.stdout(), task),
@@ -145,11 +145,23 @@ fn answer(rt: &HostRuntime, task: Task<'_>, file: Option<&str>) -> Result<bool, 
     }
 }
 
+/// Says on standard error how many mistakes there are besides the first, where only that is drawn.
+fn tell_others(rt: &HostRuntime, show: Show, answer: &Result<usize, RunFault>) {
+    if let Ok(count) = answer {
+        if *count > 1 && show != Show::All {
+            let others = count - 1;
+            let _ = eprintln!(rt; "formatlint: and {others} more, which --all draws");
+        }
+    }
+}
+
 /// Reads the arguments of the program and runs their task. Returns the exit status, and `Err` if
 /// the arguments are invalid, an allocation fails, or help is asked for.
 fn status(rt: &HostRuntime, words: &[String]) -> Result<u8, Error> {
     let matches = command(rt.alloc())?.try_get_matches_from(words)?;
-    let answer = answer(rt, task_of(rt, &matches), matches.get_str("file"));
+    let task = task_of(rt, &matches);
+    let answer = answer(rt, task, matches.get_str("file"));
+    tell_others(rt, task.show, &answer);
     let (text, status) = verdict(&answer);
     if !text.is_empty() {
         let _ = rt.eprintln(text);

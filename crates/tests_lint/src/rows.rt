@@ -9,7 +9,7 @@ use std::alloc::Global;
 use std::process::Abort;
 use std::test::Fail;
 
-/// A task, an input, what is shown of it, and whether a fault is left.
+/// A task, an input, what is shown of it, and how many mistakes are left.
 #[derive(Clone, Copy)]
 pub struct Row {
     pub mode: ParseMode,
@@ -17,7 +17,7 @@ pub struct Row {
     pub show: Show,
     pub input: &'static [u8],
     pub shown: &'static str,
-    pub told: bool,
+    pub told: usize,
 }
 
 impl Row {
@@ -32,12 +32,12 @@ impl Row {
     }
 }
 
-/// The faults of a text, one for each mistake.
-const FAULTS: Task<'static> = Task {
+/// All faults of a text.
+const ALL: Task<'static> = Task {
     mode: ParseMode::Format,
     is_literal: false,
     path: "a",
-    show: Show::Faults,
+    show: Show::All,
 };
 
 /// This is shown of a row.
@@ -77,7 +77,7 @@ const LISTED: Row = Row {
         escape 21..23 \"{{\"\n\
         text 23..24 \"b\"\n\
         quote 24..25 \"\\\"\"\n",
-    told: false,
+    told: 0,
 };
 
 /// The same in colours.
@@ -90,7 +90,7 @@ const COLOURED: Row = Row {
         \u{1b}[33m>\u{1b}[0m\u{1b}[33m+\u{1b}[0m\u{1b}[33m#\u{1b}[0m\u{1b}[33m0\u{1b}[0m\
         \u{1b}[36m1\u{1b}[0m\u{1b}[35m$\u{1b}[0m\u{1b}[35m.\u{1b}[0m\u{1b}[36m*\u{1b}[0m\
         \u{1b}[32mx?\u{1b}[0m \u{1b}[35m}\u{1b}[0m\u{1b}[34m{{\u{1b}[0mb\"\n",
-    told: false,
+    told: 0,
 };
 
 /// The kinds of other modes.
@@ -101,7 +101,7 @@ const MODIFIER: Row = Row {
     input: b"{0:e}",
     shown: "open 1..2 \"{\"\ninteger 2..3 \"0\"\ncolon 3..4 \":\"\nmodifier 4..5 \"e\"\n\
         close 5..6 \"}\"\n",
-    told: false,
+    told: 0,
 };
 
 const DIAGNOSTIC: Row = Row {
@@ -110,7 +110,7 @@ const DIAGNOSTIC: Row = Row {
     show: Show::Colours,
     input: b"{T:a }",
     shown: "\u{1b}[35m{\u{1b}[0m\u{1b}[36mT\u{1b}[0m\u{1b}[35m:\u{1b}[0ma \u{1b}[35m}\u{1b}[0m\n",
-    told: false,
+    told: 0,
 };
 
 /// The kinds that come with a fault.
@@ -130,7 +130,7 @@ pub const RAW_PREFIX: Row = Row {
         \x20 |      raw identifier used here in format string\n  |      help: remove the `r#`\n\
         \x20 |\n  = note: identifiers in format strings can be keywords and don't need to be \
         prefixed with `r#`\n\n",
-    told: true,
+    told: 1,
 };
 
 pub const UNEXPECTED: Row = Row {
@@ -142,7 +142,7 @@ pub const UNEXPECTED: Row = Row {
         error: invalid format string: unmatched `}` found\n --> a:1:2\n  |\n\
         1 | \u{65e5}}\n  |   ^ unmatched `}` in format string\n  |\n\
         \x20 = note: if you intended to print `}`, you can escape it using `}}`\n\n",
-    told: true,
+    told: 1,
 };
 
 /// A literal with its suggestion.
@@ -152,37 +152,32 @@ pub const FIXED: Row = Row {
     show: Show::Fix,
     input: b"\"\\x7br#a}\"",
     shown: "\"\\x7ba}\"\n",
-    told: false,
+    told: 0,
 };
 
-/// The first call that finds a fault comes first, as rustc 1.95 shows it, also where the error of a
-/// later call comes first in the list of a parser.
-const IN_ORDER: Row = Row {
+/// The first call that finds a fault counts, as rustc 1.95 shows it, also where the error of a later
+/// call comes first in the list of a parser.
+const FIRST: Row = Row {
     mode: ParseMode::Format,
     is_literal: true,
-    show: Show::Faults,
+    show: Show::Fault,
     input: b"\"} {r#a}\"",
     shown: "error: invalid format string: unmatched `}` found\n --> a:1:2\n  |\n\
         1 | \"} {r#a}\"\n  |  ^ unmatched `}` in format string\n  |\n\
-        \x20 = note: if you intended to print `}`, you can escape it using `}}`\n\n\
-        error: invalid format string: raw identifiers are not supported\n --> a:1:5\n  |\n\
-        1 | \"} {r#a}\"\n  |     --^\n  |     |\n\
-        \x20 |     raw identifier used here in format string\n  |     help: remove the `r#`\n\
-        \x20 |\n  = note: identifiers in format strings can be keywords and don't need to be \
-        prefixed with `r#`\n\n",
-    told: true,
+        \x20 = note: if you intended to print `}`, you can escape it using `}}`\n\n",
+    told: 2,
 };
 
 /// What rustc 1.95 shows of two faults of a call.
 const ONE_OF_TWO: Row = Row {
     mode: ParseMode::Format,
     is_literal: true,
-    show: Show::Faults,
+    show: Show::Fault,
     input: b"\"{a<>\"",
     shown: "error: invalid format string: expected alignment specifier after `:` in format \
         string; example: `{:>?}`\n --> a:1:4\n  |\n\
         1 | \"{a<>\"\n  |    ^ expected `<` to occur after `:` in format string\n\n",
-    told: true,
+    told: 1,
 };
 
 /// The same with the fault that the parser finds after that, and their ids.
@@ -200,7 +195,29 @@ pub const BOTH: Row = Row {
         1 | \"{a<>\"\n  |  - ^ expected `}` in format string\n  |  |\n\
         \x20 |  because of this opening brace\n  |\n\
         \x20 = note: if you intended to print `{`, you can escape it using `{{`\n\n",
-    told: true,
+    told: 1,
+};
+
+/// The first lone brace is the one that the placeholder waits for, the second a mistake of its own.
+const WAITING: Row = Row {
+    mode: ParseMode::Format,
+    is_literal: true,
+    show: Show::All,
+    input: b"\"{a!}{} }\"",
+    shown: "fault: missing-closing-brace\n\
+        error: invalid format string: expected `}`, found `!`\n --> a:1:4\n  |\n\
+        1 | \"{a!}{} }\"\n  |  - ^ expected `}` in format string\n  |  |\n\
+        \x20 |  because of this opening brace\n  |\n\
+        \x20 = note: if you intended to print `{`, you can escape it using `{{`\n\n\
+        follows: unmatched-closing-brace\n\
+        error: invalid format string: unmatched `}` found\n --> a:1:5\n  |\n\
+        1 | \"{a!}{} }\"\n  |     ^ unmatched `}` in format string\n  |\n\
+        \x20 = note: if you intended to print `}`, you can escape it using `}}`\n\n\
+        fault: unmatched-closing-brace\n\
+        error: invalid format string: unmatched `}` found\n --> a:1:9\n  |\n\
+        1 | \"{a!}{} }\"\n  |         ^ unmatched `}` in format string\n  |\n\
+        \x20 = note: if you intended to print `}`, you can escape it using `}}`\n\n",
+    told: 2,
 };
 
 /// The suggestions of both raw identifiers are applied, though rustc 1.95 shows only the field; that
@@ -215,10 +232,10 @@ const ALL_FIXED: Row = Row {
         1 | \"{a.b}\"\n  |   ^^^ not supported in format string\n  |\n\
         \x20 = note: consider moving this expression to a local variable and then using the \
         local here instead\n\n",
-    told: true,
+    told: 1,
 };
 
-/// Two faults as rustc 1.95 shows each by itself. A template of assembly has no suggestions.
+/// The first of two faults, as rustc 1.95 shows it. A template of assembly has no suggestions.
 const ASSEMBLY: Row = Row {
     mode: ParseMode::InlineAsm,
     is_literal: true,
@@ -229,17 +246,13 @@ const ASSEMBLY: Row = Row {
         1 | \"mov {r#a} }\"\n\
         \x20 |       ^^^ raw identifier used here in asm template string\n  |\n\
         \x20 = note: identifiers in format strings can be keywords and don't need to be \
-        prefixed with `r#`\n\n\
-        error: invalid asm template string: unmatched `}` found\n --> a:1:12\n  |\n\
-        1 | \"mov {r#a} }\"\n\
-        \x20 |            ^ unmatched `}` in asm template string\n  |\n\
-        \x20 = note: if you intended to print `}`, you can escape it using `}}`\n\n",
-    told: true,
+        prefixed with `r#`\n\n",
+    told: 2,
 };
 
 #[test]
 fn shows_what_the_compiler_shows(rt: HostRuntime) -> Result<(), Fail> {
-    for row in [&IN_ORDER, &ONE_OF_TWO, &BOTH, &ALL_FIXED, &ASSEMBLY] {
+    for row in [&FIRST, &ONE_OF_TWO, &BOTH, &WAITING, &ALL_FIXED, &ASSEMBLY] {
         check(&rt, rt.alloc(), row)?;
     }
     Ok(())
@@ -256,18 +269,18 @@ fn shows_each_kind_of_token(rt: HostRuntime) -> Result<(), Fail> {
     Ok(())
 }
 
-/// What is shown of an input ends in this.
+/// All faults of a text are shown with this end, and it has so many mistakes.
 fn check_end(
     rt: &impl Abort,
     alloc: Global,
-    task: Task<'_>,
     input: &[u8],
     end: &[u8],
+    mistakes: usize,
 ) -> Result<(), Fail> {
     let mut reader = input;
     let mut written = Vec::new(alloc);
-    let answer = run(alloc, &mut reader, &mut written, task);
-    assert_eq!(rt; answer, Ok(true));
+    let answer = run(alloc, &mut reader, &mut written, ALL);
+    assert_eq!(rt; answer, Ok(mistakes));
     assert!(rt; written.as_slice().ends_with(end));
     Ok(())
 }
@@ -276,14 +289,9 @@ fn check_end(
 #[test]
 fn draws_ten_faults(rt: HostRuntime) -> Result<(), Fail> {
     let braces = b"}a}a}a}a}a}a}a}a}a}a}a}a";
-    check_end(&rt, rt.alloc(), FAULTS, braces, b"\n\nand 2 more\n")?;
+    check_end(&rt, rt.alloc(), braces, b"\n\nand 2 more\n", 12)?;
     let signs = b"{a<>{a<>{a<>{a<>{a<>{a<>{a<>{a<>{a<>{a<>{a<>";
-    check_end(&rt, rt.alloc(), FAULTS, signs, b"\n\nand 1 more\n")?;
-    let all = Task {
-        show: Show::All,
-        ..FAULTS
-    };
-    check_end(&rt, rt.alloc(), all, signs, b"\n\nand 12 more\n")
+    check_end(&rt, rt.alloc(), signs, b"\n\nand 12 more\n", 11)
 }
 
 /// Nothing is shown of this input.
@@ -310,9 +318,10 @@ fn refuses_other_inputs(rt: HostRuntime) -> Result<(), Fail> {
 }
 
 /// Each answer, with what is told and the status.
-const ANSWERS: &[(Result<bool, RunFault>, &str, u8)] = &[
-    (Ok(false), "", 0),
-    (Ok(true), "", 1),
+const ANSWERS: &[(Result<usize, RunFault>, &str, u8)] = &[
+    (Ok(0), "", 0),
+    (Ok(1), "", 1),
+    (Ok(2), "", 1),
     (Err(RunFault::Words), "formatlint: invalid arguments", 2),
     (
         Err(RunFault::NotLiteral),

@@ -66,7 +66,7 @@ fn reads(
     rt: &impl Abort,
     alloc: Global,
     before: usize,
-    wanted: Result<bool, RunFault>,
+    wanted: Result<usize, RunFault>,
 ) -> Result<usize, Fail> {
     let mut reader = Failing::new(before);
     let mut written = Vec::new(alloc);
@@ -80,7 +80,7 @@ fn reads(
 fn a_failed_read_is_not_tried_again(rt: HostRuntime) -> Result<(), Fail> {
     let count = UNEXPECTED.input.len() + 1;
     assert_eq!(rt;
-        reads(&rt, rt.alloc(), usize::MAX, Ok(true))?,
+        reads(&rt, rt.alloc(), usize::MAX, Ok(1))?,
         count,
         "the end is read too"
     );
@@ -92,7 +92,7 @@ fn a_failed_read_is_not_tried_again(rt: HostRuntime) -> Result<(), Fail> {
 }
 
 /// The writes of what is shown, one of which fails after so many others, if there are more.
-fn writes(rt: &impl Abort, alloc: Global, before: usize, wanted: Result<bool, RunFault>) -> usize {
+fn writes(rt: &impl Abort, alloc: Global, before: usize, wanted: Result<usize, RunFault>) -> usize {
     let mut reader = UNEXPECTED.input;
     let mut writer = Failing::new(before);
     let answer = run(alloc, &mut reader, &mut writer, UNEXPECTED.task());
@@ -104,7 +104,7 @@ fn writes(rt: &impl Abort, alloc: Global, before: usize, wanted: Result<bool, Ru
 fn a_failed_write_is_not_tried_again(rt: HostRuntime) {
     let count = UNEXPECTED.shown.len();
     assert_eq!(rt;
-        writes(&rt, rt.alloc(), usize::MAX, Ok(true)),
+        writes(&rt, rt.alloc(), usize::MAX, Ok(1)),
         count,
         "a write for each byte"
     );

@@ -1,6 +1,6 @@
-use Rattle.std.proofs.Common.{◌≡◌, ◌-◌, ◌++◌, IsUtf8, ap, ◌∙◌, sym, chars, length, map, nat_lt}
-use Rattle.std.proofs.Common.{false, refl, rules}
-use Rattle.std.proofs.Common.{take, true}
+use Rattle.std.proofs.Common.{◌≡◌, ◌++◌, IsUtf8, ap, ◌∙◌, sym, chars, map}
+use Rattle.std.proofs.Common.{rules}
+use Rattle.std.proofs.Common.{true}
 use Rattle.std.specs.Prelude.{option_map}
 use Rattle.rustc_parse_format.proofs.Sources.PlainPlaces.{width_chars}
 use Rattle.rustc_parse_format.specs.Call.{Call}
@@ -11,11 +11,7 @@ use Rattle.rustc_parse_format.specs.State.{State, next_call}
 use Rattle.rustc_parse_format.specs.World.{faults_in, piece_in}
 use Rattle.format_tokens.proofs.Progress.{left_after, nil_chars, piece_so_far, smaller}
 use Rattle.format_tokens.proofs.Progress.{so_far-end, so_far-next, so_far-start, some_chars}
-use Rattle.format_lint.proofs.Firsts.{first-end, first-next, first-start, no_errors, some-left}
-use Rattle.format_lint.proofs.SomeFaults.{some-first}
-use Rattle.format_lint.specs.Findings.{findings_in}
-use Rattle.format_lint.specs.Lint.{most_drawn, start}
-use Rattle.format_lint.specs.SeenLint.{seen_source}
+use Rattle.format_lint.proofs.Firsts.{found-end, found-next, found-start, no_errors, some-left}
 use Rattle.format_lint.proofs.faults.labels_of.Goals as goal
 
 pub loop-text-init : goal.loop-text-init
@@ -27,12 +23,9 @@ loop-text-init c =
           (ap (λ (s : State). s.mode) e) (ap (λ (s : State). s.input) e)
           (ap (λ (s : State). s.rest) e) (ap (λ (s : State). s.next) e));
       none_left = c.new-found.ensures.items;
-      faults = rw (c.new-faults.ensures.first, c.new-faults.ensures.others)
-          (first-start false c.args.parser.now (ap (λ (s : State). s.errors) e));
+      faults = found-start c.args.parser.now c.new-faults.result
+          (ap (λ (s : State). s.errors) e) c.new-faults.ensures.kept c.new-faults.ensures.waits;
     }
-
-pub add-requires : goal.add-requires
-add-requires c = c.loop-text.invariant.faults.added.few
 
 pub loop-text-smaller : goal.loop-text-smaller
 loop-text-smaller c =
@@ -59,12 +52,12 @@ loop-text-preserved c =
           (c.in_ok-taken.ensures.piece ∙ ap (λ (k : Call). option_map
           (piece_in c.loop-text.parser.world) k.piece) (piece_so_far _ _ _ _ _ h)) left);
       none_left = c.in_ok-add.ensures.moved;
-      faults = first-next false s c.next_with_faults.new.self _ _ _ _ _ _
+      faults = found-next s c.next_with_faults.new.self c.loop-text.faults c.add.new.self _ _
           c.loop-text.invariant.faults c.in_ok-taken.ensures.state
           (some-left _ (λ n. some (h.rest_is ∙ n)))
           (c.in_ok-taken.ensures.faults
           ∙ ap (λ gs. map seen_fault gs ++ fs) c.loop-text.invariant.none_left)
-          c.in_ok-add.ensures.first c.in_ok-add.ensures.count;
+          c.in_ok-add.ensures.kept c.in_ok-add.ensures.waits;
     }
 
 pub returns-clause-labels : goal.returns-clause-labels
@@ -72,22 +65,9 @@ returns-clause-labels c =
     let e = nil_chars _ (sym c.is_empty.ensures ∙ c.loop-text-test.false) in
     so_far-end _ _ _ _ (rw e at c.loop-text.invariant.labels)
 
-pub returns-clause-first : goal.returns-clause-first
-returns-clause-first c =
+pub returns-clause-faults : goal.returns-clause-faults
+returns-clause-faults c =
     let h : is_nil c.loop-text.parser.rest ≡ true =
     ap is_nil (sym c.loop-text.invariant.labels.rest_is
     ∙ nil_chars _ (sym c.is_empty.ensures ∙ c.loop-text-test.false)) in
-    (first-end _ _ _ _ _ c.loop-text.invariant.faults h).first_are
-    ∙ ap (λ s. take most_drawn (findings_in false s)) c.requires
-
-pub returns-clause-others : goal.returns-clause-others
-returns-clause-others c =
-    let h : is_nil c.loop-text.parser.rest ≡ true =
-    ap is_nil (sym c.loop-text.invariant.labels.rest_is
-    ∙ nil_chars _ (sym c.is_empty.ensures ∙ c.loop-text-test.false)) in
-    (first-end _ _ _ _ _ c.loop-text.invariant.faults h).count
-    ∙ ap (λ s. length (findings_in false s) - most_drawn) c.requires
-
-pub returns-clause-some : goal.returns-clause-some
-returns-clause-some c = ap (λ l. nat_lt 0 (length l)) (returns-clause-first c)
-    ∙ some-first false 9 (start (seen_mode c.args.mode) (seen_source c.args.source)) refl
+    rw c.requires at (found-end _ _ _ c.loop-text.invariant.faults h)

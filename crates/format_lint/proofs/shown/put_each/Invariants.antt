@@ -8,7 +8,7 @@ use Rattle.format_lint.proofs.shown.put_each.Given as goal
 -- The drawings so far and those of what is left are all the drawings.
 abbrev pub invariant-loop-finding : goal.invariant-loop-finding
 invariant-loop-finding l =
-    let drawing = drawn_finding l.all (seen_mode l.mode) (seen_picture l.picture) in
+    let drawing = drawn_finding (seen_mode l.mode) (seen_picture l.picture) in
     string_bytes l.out
     ++ flat_map drawing (map seen_finding (drop l.finding-index l.findings))
     ≡ string_bytes l.fn.out ++ flat_map drawing (map seen_finding l.findings)
