@@ -1,0 +1,11 @@
+//! A law of faults: the contract of a function that does nothing.
+
+ghost use Rattle.std.specs.Prelude.{◌≡◌};
+ghost use Rattle.rustc_parse_format.specs.Characters.{Text};
+ghost use Rattle.literal_faults.specs.Faults.{IsFault};
+ghost use Rattle.literal_faults.specs.declared.fault.LiteralFault.{LiteralFault};
+
+/// A text is no string literal because of one fault, at one place.
+pub fn one_fault()
+    ensures { (t : Text) (f g : LiteralFault) → IsFault t f → IsFault t g → f ≡ g }
+{}
