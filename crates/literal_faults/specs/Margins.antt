@@ -1,9 +1,8 @@
 -- What may stand around the literal in a file: the byte order mark of UTF-8 at its start, and ASCII
 -- white space (`char::is_ascii_whitespace`) before and after.
-use Rattle.std.specs.Prelude.{◌≡◌, ◌+◌, ◌-◌, ◌<◌, ◌++◌, ◌⊎◌, ℕ, List, [], ◌∷◌, false, length}
-use Rattle.std.specs.Prelude.{slice_index, true}
-use Rattle.std.specs.Char.{is_ascii_whitespace}
-use Rattle.std.specs.Prelude.{◌≤◌, Option, Some, None}
+use Rattle.std.specs.Prelude.{◌≡◌, ◌+◌, ◌-◌, ◌≤◌, ◌++◌, ◌⊎◌, ℕ, List, [], ◌∷◌, length, Option}
+use Rattle.std.specs.Prelude.{Some, None}
+use Rattle.std.specs.Str.{IsTrimAsciiEnd, IsTrimAsciiStart}
 use Rattle.rustc_parse_format.specs.Characters.{Text}
 use Rattle.literal_faults.specs.declared.fault.LiteralFault.{LiteralFault}
 use Rattle.literal_faults.specs.Faults.{IsAnyLiteral, IsFault}
@@ -12,30 +11,19 @@ use Rattle.literal_faults.specs.Faults.{IsAnyLiteral, IsFault}
 abbrev pub mark : List ℕ
 mark = 0xEF ∷ 0xBB ∷ 0xBF ∷ []
 
--- The bytes m are the mark at the start of the file, or none if there is none, and s is left.
-abbrev pub IsMarked : List ℕ → List ℕ → List ℕ → Type 0
-IsMarked file m s = (file ≡ m ++ s)
-    × ((m ≡ mark) ⊎ ((m ≡ []) × ((r : List ℕ) → file ≡ mark ++ r → ⊥)))
+-- The bytes s are the file without the mark at its start, if it has one.
+abbrev pub IsUnmarked : List ℕ → List ℕ → Type 0
+IsUnmarked file s = (file ≡ mark ++ s) ⊎ ((file ≡ s) × ((r : List ℕ) → file ≡ mark ++ r → ⊥))
 
--- All bytes are white space.
-abbrev pub IsBlank : List ℕ → Type 0
-IsBlank bs = (i : ℕ) → i < length bs → is_ascii_whitespace (slice_index bs i) ≡ true
-
--- The text begins and ends with no white space.
-pub record IsBare (text : List ℕ) : Type 0 where
-  pub first : 0 < length text → is_ascii_whitespace (slice_index text 0) ≡ false
-  pub last : 0 < length text → is_ascii_whitespace (slice_index text (length text - 1)) ≡ false
-
--- The file is its mark, white space, the text and white space. The text starts at this byte offset.
+-- The text is the file without its mark and without the white space at the start and the end of the
+-- rest. It starts at this byte offset of the file.
 pub record IsSnippet (file text : List ℕ) (start : ℕ) : Type 0 where
-  pub marking : List ℕ
-  pub front : List ℕ
-  pub back : List ℕ
-  pub is_marked : IsMarked file marking (front ++ (text ++ back))
-  pub blank_front : IsBlank front
-  pub bare : IsBare text
-  pub blank_back : IsBlank back
-  pub is_start : start ≡ length marking + length front
+  pub unmarked : List ℕ
+  pub rest : List ℕ
+  pub is_unmarked : IsUnmarked file unmarked
+  pub is_rest : IsTrimAsciiStart unmarked rest
+  pub is_text : IsTrimAsciiEnd rest text
+  pub is_start : start + length rest ≡ length file
 
 -- The text, which starts at this byte offset of a file, is a string literal and no fault is found,
 -- or it is none because of this fault.

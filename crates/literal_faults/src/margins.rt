@@ -1,7 +1,7 @@
 //! Where the text of a file is, without what may stand around a literal.
 
 ghost use Rattle.std.specs.Prelude.{ℕ, List, IfSome, IsCharBoundary, chars};
-ghost use Rattle.literal_faults.specs.Margins.{IsFaultIn, IsMarked, IsSnippet};
+ghost use Rattle.literal_faults.specs.Margins.{IsFaultIn, IsSnippet, IsUnmarked};
 
 use crate::fault::{LiteralFault, literal_fault};
 use rust_tokens::split_first;
@@ -17,7 +17,7 @@ pub struct Snippet<'a> {
 
 /// Returns what is left of a file after the byte order mark at its start, if it has one.
 fn behind_mark(file: &str) -> &str
-    ensures { (m : List ℕ) × IsMarked file.now m result.now }
+    ensures { IsUnmarked file.now result.now }
 {
     let Some((c, rest)) = split_first(file) else {
         return file;

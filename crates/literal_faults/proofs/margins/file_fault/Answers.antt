@@ -22,4 +22,4 @@ returns-clause-fault c =
 
 pub returns-clause-boundary : goal.returns-clause-boundary
 returns-clause-boundary c =
-    place _ _ _ _ c.utf8.file c.snippet_of-snippet.ensures c.in_ok-fault.ensures.boundary
+    place _ _ _ _ c.snippet_of-snippet.ensures c.in_ok-fault.ensures.boundary

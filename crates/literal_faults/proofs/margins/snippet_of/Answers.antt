@@ -1,8 +1,16 @@
-use Rattle.literal_faults.proofs.Snippets.{snippet}
+use Rattle.std.proofs.Common.{arith}
+use Rattle.literal_faults.proofs.Snippets.{rest-within}
 use Rattle.literal_faults.proofs.margins.snippet_of.Goals as goal
 
 pub returns : goal.returns
 returns c =
-    let m = c.behind_mark-unmarked.ensures in
-    snippet _ m.0 _ _ _ m.1 c.trim_ascii_start-rest.ensures.value
-    c.trim_ascii_end.ensures.value
+    let within = rest-within _ _ _ c.behind_mark-unmarked.ensures
+    c.trim_ascii_start-rest.ensures.value in
+    record {
+      unmarked = c.behind_mark-unmarked.result.now;
+      rest = c.trim_ascii_start-rest.result.now;
+      is_unmarked = c.behind_mark-unmarked.ensures;
+      is_rest = c.trim_ascii_start-rest.ensures.value;
+      is_text = c.trim_ascii_end.ensures.value;
+      is_start = omega arith;
+    }
