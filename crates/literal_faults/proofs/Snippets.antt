@@ -63,11 +63,12 @@ rest-end file u rest k (n, r, l, below, stops) = by_mark k
     }
     by_mark (inr e) = record { before = take n u; joins = e.0 ∙ joined }
 
-pub rest-within : (file u rest : List ℕ) → IsUnmarked file u → IsTrimAsciiStart u rest
-    → length rest ≤ length file
-rest-within file u rest k t =
-    let x = rest-end file u rest k t in
-    omega (arith, ap length x.joins, length-append x.before rest)
+pub rest-within : (s rest : List ℕ) → IsTrimAsciiStart s rest → length rest ≤ length s
+rest-within s rest (n, r, l, below, stops) = omega arith
+
+pub source-within : (file s : List ℕ) → IsUnmarked file s → length s ≤ length file
+source-within file s (inl e) = omega (arith, ap length e, length-append mark s)
+source-within file s (inr e) = omega (arith, ap length e.0)
 
 white-ascii : (c : ℕ) → is_ascii_whitespace c ≡ true → c < 128
 white-ascii c h = grind (arith, nat_tests)
@@ -91,17 +92,19 @@ in-front rest text o (h, t, j, w, from, last) b =
         absurd (omega arith)
 
 -- A place in the text is one of the file.
-pub place : (file text : List ℕ) (start o : ℕ) → IsSnippet file text start
-    → IsCharBoundary text o → IsCharBoundary file (start + o)
-place file text start o s b =
-    let x = rest-end file s.unmarked s.rest s.is_unmarked s.is_rest in
+pub place : (file source text : List ℕ) (start o : ℕ) → IsSnippet file source text start
+    → IsCharBoundary text o → IsCharBoundary file (length file - length source + start + o)
+place file source text start o s b =
+    let x = rest-end file source s.rest s.is_source s.is_rest in
     let whole : length file ≡ length x.before + length s.rest =
     ap length x.joins ∙ length-append x.before s.rest in
-    let size : length x.before ≡ start = let e = s.is_start in omega arith in
-    let rest : drop start file ≡ s.rest =
-    ap (λ n. drop n file) (sym size) ∙ (ap (λ y. drop (length x.before) y) x.joins
+    let within = source-within file source s.is_source in
+    let n = length file - length source + start in
+    let size : length x.before ≡ n = let e = s.is_start in omega arith in
+    let rest : drop n file ≡ s.rest =
+    ap (λ m. drop m file) (sym size) ∙ (ap (λ y. drop (length x.before) y) x.joins
     ∙ drop-append_seam x.before s.rest) in
-    IsCharBoundary-from_rest file start o (omega arith)
+    IsCharBoundary-from_rest file n o (omega arith)
     (subst (λ y. IsCharBoundary y o) (sym rest) (in-front s.rest text o s.is_text b))
 
 same-unmarked : (file s t : List ℕ) → IsUnmarked file s → IsUnmarked file t → s ≡ t
@@ -113,15 +116,14 @@ same-unmarked file s t (inl e) (inr f) = absurd (f.1 s e)
 same-unmarked file s t (inr e) (inl f) = absurd (e.1 t f)
 same-unmarked file s t (inr e) (inr f) = sym e.0 ∙ f.0
 
-pub one-snippet : (file s t : List ℕ) (m n : ℕ) → IsSnippet file s m → IsSnippet file t n
-    → (s ≡ t) × (m ≡ n)
-one-snippet file s t m n a b =
-    let unmarked : a.unmarked ≡ b.unmarked =
-    same-unmarked file a.unmarked b.unmarked a.is_unmarked b.is_unmarked in
+pub one-snippet : (file p q s t : List ℕ) (m n : ℕ) → IsSnippet file p s m → IsSnippet file q t n
+    → (p ≡ q) × (s ≡ t) × (m ≡ n)
+one-snippet file p q s t m n a b =
+    let sources : p ≡ q = same-unmarked file p q a.is_source b.is_source in
     let rests : a.rest ≡ b.rest =
-    trim_ascii_start_is a.unmarked a.rest a.is_rest
-    ∙ (ap (λ x. drop (prefix_len is_ascii_whitespace x) x) unmarked
-    ∙ sym (trim_ascii_start_is b.unmarked b.rest b.is_rest)) in
+    trim_ascii_start_is p a.rest a.is_rest
+    ∙ (ap (λ x. drop (prefix_len is_ascii_whitespace x) x) sources
+    ∙ sym (trim_ascii_start_is q b.rest b.is_rest)) in
     let texts : s ≡ t =
     trim_ascii_end_is a.rest s a.is_text
     ∙ (ap (λ x. take (length x - suffix_len is_ascii_whitespace x) x) rests
@@ -129,4 +131,5 @@ one-snippet file s t m n a b =
     let e = a.is_start in
     let f = b.is_start in
     let l : length a.rest ≡ length b.rest = ap length rests in
-    (texts, omega arith)
+    let k : length p ≡ length q = ap length sources in
+    (sources, texts, omega arith)

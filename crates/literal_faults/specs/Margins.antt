@@ -15,15 +15,14 @@ mark = 0xEF ∷ 0xBB ∷ 0xBF ∷ []
 abbrev pub IsUnmarked : List ℕ → List ℕ → Type 0
 IsUnmarked file s = (file ≡ mark ++ s) ⊎ ((file ≡ s) × ((r : List ℕ) → file ≡ mark ++ r → ⊥))
 
--- The text is the file without its mark and without the white space at the start and the end of the
--- rest. It starts at this byte offset of the file.
-pub record IsSnippet (file text : List ℕ) (start : ℕ) : Type 0 where
-  pub unmarked : List ℕ
+-- The source is the file without its mark, and the text is that without the white space at its
+-- start and its end. The text starts at this byte offset of the source.
+pub record IsSnippet (file source text : List ℕ) (start : ℕ) : Type 0 where
   pub rest : List ℕ
-  pub is_unmarked : IsUnmarked file unmarked
-  pub is_rest : IsTrimAsciiStart unmarked rest
+  pub is_source : IsUnmarked file source
+  pub is_rest : IsTrimAsciiStart source rest
   pub is_text : IsTrimAsciiEnd rest text
-  pub is_start : start + length rest ≡ length file
+  pub is_start : start + length rest ≡ length source
 
 -- The text, which starts at this byte offset of a file, is a string literal and no fault is found,
 -- or it is none because of this fault.

@@ -13,6 +13,6 @@ pub fn one_fault()
 
 /// A file has one text without its margins, at one place.
 pub fn one_snippet()
-    ensures { (file s t : List ℕ) (m n : ℕ) → IsSnippet file s m → IsSnippet file t n
-        → (s ≡ t) × (m ≡ n) }
+    ensures { (file a b s t : List ℕ) (m n : ℕ) → IsSnippet file a s m → IsSnippet file b t n
+        → (a ≡ b) × (s ≡ t) × (m ≡ n) }
 {}

@@ -1,6 +1,6 @@
 //! Where the text of a file is, without what may stand around a literal.
 
-ghost use Rattle.std.specs.Prelude.{ℕ, List, IfSome, IsCharBoundary, chars};
+ghost use Rattle.std.specs.Prelude.{◌+◌, ◌-◌, ℕ, List, IfSome, IsCharBoundary, chars, length};
 ghost use Rattle.literal_faults.specs.Margins.{IsFaultIn, IsSnippet, IsUnmarked};
 
 use crate::fault::{LiteralFault, literal_fault};
@@ -9,9 +9,11 @@ use rust_tokens::split_first;
 /// The text of a file without what may stand around a literal.
 #[derive(Clone, Copy, Debug, Drop)]
 pub struct Snippet<'a> {
+    /// The file without the byte order mark at its start.
+    pub source: &'a str,
     /// The text.
     pub text: &'a str,
-    /// The byte offset in the file at which the text starts.
+    /// The byte offset in `source` at which the text starts.
     pub start: usize,
 }
 
@@ -29,13 +31,14 @@ fn behind_mark(file: &str) -> &str
 /// space before and after the rest: the literal, if the file has a string literal and nothing else.
 /// Does not allocate.
 pub fn snippet_of(file: &str) -> Snippet<'_>
-    ensures { IsSnippet file.now result.text.now result.start }
+    ensures { IsSnippet file.now result.source.now result.text.now result.start }
 {
-    let unmarked = behind_mark(file);
-    let rest = unmarked.trim_ascii_start();
+    let source = behind_mark(file);
+    let rest = source.trim_ascii_start();
     Snippet {
+        source,
         text: rest.trim_ascii_end(),
-        start: file.len() - rest.len(),
+        start: source.len() - rest.len(),
     }
 }
 
@@ -43,14 +46,14 @@ pub fn snippet_of(file: &str) -> Snippet<'_>
 /// it does. A byte order mark at the start of the file and ASCII white space around the literal are
 /// skipped ([`snippet_of`]). Does not allocate.
 pub fn file_fault(file: &str) -> Option<LiteralFault>
-    ensures fault { (text : List ℕ) × (start : ℕ) × IsSnippet file.now text start
-        × IsFaultIn (chars text) start result }
+    ensures fault { (source text : List ℕ) × (start : ℕ) × IsSnippet file.now source text start
+        × IsFaultIn (chars text) (length file.now - length source + start) result }
     ensures boundary { IfSome result (λ f. IsCharBoundary file.now f.offset) }
 {
     let snippet = snippet_of(file);
     let fault = literal_fault(snippet.text)?;
     Some(LiteralFault {
         kind: fault.kind,
-        offset: snippet.start + fault.offset,
+        offset: file.len() - snippet.source.len() + snippet.start + fault.offset,
     })
 }

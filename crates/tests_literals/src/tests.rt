@@ -131,14 +131,14 @@ fn literals(rt: HostRuntime) {
 
 #[test]
 fn margins(rt: HostRuntime) {
-    // a file, the byte offset of its text and the text
+    // a file, the byte offset of its text without a byte order mark, and the text
     let rows = [
         ("", 0, ""),
         (" \r\n\t", 4, ""),
-        ("\u{feff}", 3, ""),
+        ("\u{feff}", 0, ""),
         ("\"a\"", 0, "\"a\""),
         ("\"a\"\r\n", 0, "\"a\""),
-        ("\u{feff}\n \"a b\" \t\n\n", 5, "\"a b\""),
+        ("\u{feff}\n \"a b\" \t\n\n", 2, "\"a b\""),
         (" \u{feff}a", 1, "\u{feff}a"),
     ];
     for (file, start, text) in rows {

@@ -4,12 +4,10 @@ use Rattle.literal_faults.proofs.margins.snippet_of.Goals as goal
 
 pub returns : goal.returns
 returns c =
-    let within = rest-within _ _ _ c.behind_mark-unmarked.ensures
-    c.trim_ascii_start-rest.ensures.value in
+    let within = rest-within _ _ c.trim_ascii_start-rest.ensures.value in
     record {
-      unmarked = c.behind_mark-unmarked.result.now;
       rest = c.trim_ascii_start-rest.result.now;
-      is_unmarked = c.behind_mark-unmarked.ensures;
+      is_source = c.behind_mark-source.ensures;
       is_rest = c.trim_ascii_start-rest.ensures.value;
       is_text = c.trim_ascii_end.ensures.value;
       is_start = omega arith;
