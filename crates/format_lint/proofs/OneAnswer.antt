@@ -1,7 +1,7 @@
 -- An input has exactly one answer.
 use Rattle.std.proofs.Common.{◌≡◌, ◌<◌, ℕ, Bool, true, false, List, Option, None, Some, refl, sym}
 use Rattle.std.proofs.Common.{ap, ◌∙◌, inl, inr, subst, arith, Result, Ok, Err, chars, length}
-use Rattle.std.proofs.Common.{option_map, IsUtf8}
+use Rattle.std.proofs.Common.{append-nil, option_map, IsUtf8}
 use Rattle.std.proofs.Math.Utf8.{encodes}
 use Rattle.std.proofs.lemmas.Option.{same_Some}
 use Rattle.std.proofs.lemmas.Str.{encodes-chars}
@@ -12,13 +12,17 @@ use Rattle.piece_listing.specs.declared.verdict.RunFault.TheVariants.{Words, Rea
 use Rattle.piece_listing.specs.declared.verdict.RunFault.TheVariants.{NotLiteral, Memory, Write}
 use Rattle.piece_listing.specs.Program.{IsShort, limit}
 use Rattle.piece_listing.specs.Source.{IsInLiteral, Source as ListedSource}
+use Rattle.literal_faults.specs.Margins.{IsSnippet}
+use Rattle.literal_faults.proofs.Snippets.{one-snippet}
+use Rattle.rustc_parse_format.specs.Characters.{Text}
+use Rattle.rustc_parse_format.specs.Literal.{IsLiteral}
 use Rattle.piece_listing.proofs.OneLiteral.{source-only as listed_source-only}
 use Rattle.format_lint.specs.declared.task.Show.{Show}
 use Rattle.format_lint.specs.declared.task.Show.TheVariants.{Fault as ShowFault, Fix as ShowFix}
 use Rattle.format_lint.specs.declared.task.Show.TheVariants.{All as ShowAll, Tokens as ShowTokens}
 use Rattle.format_lint.specs.declared.task.Show.TheVariants.{Colours as ShowColours}
 use Rattle.format_lint.specs.Lint.{IsLiteralIn, IsMended, IsMendedIn, IsOwed, IsShown, IsSourceIn}
-use Rattle.format_lint.specs.Lint.{Shown, Source, Task, drawn, kept, lexed}
+use Rattle.format_lint.specs.Lint.{Shown, Source, Task, alone, drawn, kept, lexed}
 
 -- UTF-8 of the same characters is the same.
 same_bytes : (s t : List ℕ) → IsUtf8 s → IsUtf8 t → chars s ≡ chars t → s ≡ t
@@ -32,38 +36,53 @@ as_listed s = record {
   snippet = option_map (λ l. chars l) s.literal;
 }
 
-in_literal : (input : List ℕ) (s : Source) → IsLiteralIn input s
-    → IsInLiteral (chars input) (as_listed s)
+-- The source is the literal alone.
+in_literal : (input : List ℕ) (s : Source) (h : IsLiteralIn input s)
+    → IsInLiteral (chars h.literal) (as_listed s)
 in_literal input s h = record {
   literal = chars h.literal;
-  appended = h.appended;
-  is_whole = h.is_whole;
+  appended = false;
+  is_whole = append-nil (chars h.literal);
   is_literal = h.is_literal;
   is_snippet = ap (option_map (λ l. chars l)) h.is_written;
 }
 
-same_source : (s r : Source) → s.text ≡ r.text → s.style ≡ r.style → s.literal ≡ r.literal → s ≡ r
-same_source s r e f g =
-    ap (λ (t : List ℕ). record s { text = t }) e
-    ∙ ap (λ (o : Option ℕ). record s { text = r.text; style = o }) f
-    ∙ ap (λ (o : Option (List ℕ)). record r { literal = o }) g
+same_source : (s r : Source) → s.text ≡ r.text → s.style ≡ r.style → s.literal ≡ r.literal
+    → s.lines ≡ r.lines → s.line_start ≡ r.line_start → s.start ≡ r.start → s ≡ r
+same_source s r d e f g h k = rw (d, e, f, g, h, k) refl
 
 literal_in-only : (input : List ℕ) (s r : Source) → IsLiteralIn input s → IsLiteralIn input r
     → s ≡ r
-unfolding in_literal
 literal_in-only input s r h k =
-    let e = listed_source-only true (chars input) (as_listed s) (as_listed r)
-    (in_literal input s h) (in_literal input r k) in
+    let same = one-snippet input s.lines r.lines h.literal k.literal s.start r.start h.is_snippet
+    k.is_snippet in
+    let e = listed_source-only true (chars k.literal) (as_listed s) (as_listed r)
+    (subst (λ l. IsInLiteral (chars l) (as_listed s)) same.1 (in_literal input s h))
+    (in_literal input r k) in
     let texts : chars s.text ≡ chars r.text = ap (λ (x : ListedSource). x.text) e in
     let styles : s.style ≡ r.style = ap (λ (x : ListedSource). x.style) e in
-    let snippets : Some (chars h.literal) ≡ Some (chars k.literal) =
-    sym (in_literal input s h).is_snippet ∙ ap (λ (x : ListedSource). x.snippet) e
-    ∙ (in_literal input r k).is_snippet in
-    let literals : h.literal ≡ k.literal =
-    same_bytes h.literal k.literal h.literal_utf8 k.literal_utf8
-    (same_Some (chars h.literal) (chars k.literal) snippets) in
     same_source s r (same_bytes s.text r.text h.text_utf8 k.text_utf8 texts) styles
-    (h.is_written ∙ ap Some literals ∙ sym k.is_written)
+    (h.is_written ∙ ap Some same.1 ∙ sym k.is_written) same.0 (h.is_first ∙ sym k.is_first) same.2
+
+-- Where the snippet of an input is no literal, the input has none.
+pub no-literal : (input lines literal : List ℕ) (start : ℕ) → IsSnippet input lines literal start
+    → ((style : Option ℕ) (t : Text) → IsLiteral style (chars literal) t → ⊥) → (s : Source)
+    → IsLiteralIn input s → ⊥
+no-literal input lines literal start a none s h =
+    let same = one-snippet input lines s.lines literal h.literal start s.start a h.is_snippet in
+    none s.style (chars s.text)
+    (subst (λ l. IsLiteral s.style (chars l) (chars s.text)) (sym same.1) h.is_literal)
+
+-- A text that is in no literal, drawn in these lines.
+abbrev pub with-lines : List ℕ → List ℕ → Source
+with-lines t ls = record {
+  text = t;
+  style = None;
+  literal = None;
+  lines = ls;
+  line_start = 0;
+  start = 0;
+}
 
 source-only : (is_literal : Bool) (input : List ℕ) (s r : Source) → IsSourceIn is_literal input s
     → IsSourceIn is_literal input r → s ≡ r
@@ -77,7 +96,7 @@ same_fixed f g d e =
 
 -- A source with its edits.
 abbrev with_fixed : Source → Fixed → Source
-with_fixed s f = record { text = f.text; style = s.style; literal = Some f.snippet }
+with_fixed s f = alone s.style f.text f.snippet
 
 mended_in-only : (mode : Mode) (s : Source) (l : List ℕ) (r q : Source)
     → IsMendedIn mode s l r → IsMendedIn mode s l q → r ≡ q

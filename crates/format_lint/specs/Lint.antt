@@ -11,7 +11,8 @@ use Rattle.piece_listing.specs.declared.verdict.RunFault.{RunFault}
 use Rattle.piece_listing.specs.declared.verdict.RunFault.TheVariants.{Words, Read, TooLong, NotText}
 use Rattle.piece_listing.specs.declared.verdict.RunFault.TheVariants.{NotLiteral, Memory, Write}
 use Rattle.piece_listing.specs.Program.{IsShort, limit}
-use Rattle.rustc_parse_format.specs.Literal.{IsLiteral, newline}
+use Rattle.rustc_parse_format.specs.Literal.{IsLiteral}
+use Rattle.literal_faults.specs.Margins.{IsSnippet}
 use Rattle.drawn_faults.specs.Places.{Picture}
 use Rattle.drawn_faults.specs.Drawing.{drawing}
 use Rattle.drawn_faults.specs.Fixing.{Fixed, IsFixed, all_errors}
@@ -39,21 +40,48 @@ pub record Source : Type 0 where
   pub text : List ℕ
   pub style : Option ℕ
   pub literal : Option (List ℕ)
+  -- The lines that it is drawn in, the number of the first of them, and the byte offset in them
+  -- that a span of 0 means.
+  pub lines : List ℕ
+  pub line_start : ℕ
+  pub start : ℕ
 
--- The input is a literal, with at most one newline after it.
+-- The input is a literal with a byte order mark or nothing before it, and white space around it.
 pub record IsLiteralIn (input : List ℕ) (s : Source) : Type 0 where
   pub literal : List ℕ
-  pub appended : Bool
-  pub is_whole : chars literal ++ newline appended ≡ chars input
+  pub is_snippet : IsSnippet input s.lines literal s.start
   pub is_literal : IsLiteral s.style (chars literal) (chars s.text)
   pub is_written : s.literal ≡ Some literal
-  pub literal_utf8 : IsUtf8 literal
+  pub is_first : s.line_start ≡ 1
   pub text_utf8 : IsUtf8 s.text
+
+-- A text that is in no literal. A byte offset is one more than in the text, so that is drawn behind
+-- a line end, and its lines count from 1.
+abbrev pub bare : List ℕ → Source
+bare t = record {
+  text = t;
+  style = None;
+  literal = None;
+  lines = codes "\n" ++ t;
+  line_start = 0;
+  start = 0;
+}
+
+-- A literal that is drawn alone.
+abbrev pub alone : Option ℕ → List ℕ → List ℕ → Source
+alone style t l = record {
+  text = t;
+  style = style;
+  literal = Some l;
+  lines = l;
+  line_start = 1;
+  start = 0;
+}
 
 -- What the input is. The flag says whether it is read as a literal.
 abbrev pub IsSourceIn : Bool → List ℕ → Source → Type 0
 IsSourceIn true input s = IsLiteralIn input s
-IsSourceIn false input s = s ≡ record { text = input; style = None; literal = None }
+IsSourceIn false input s = s ≡ bare input
 
 -- A parser at the start of the source.
 abbrev pub start : Mode → Source → State
@@ -68,18 +96,14 @@ errors mode s = all_errors (start mode s)
 abbrev pub findings : Mode → Source → List Finding
 findings mode s = findings_from false (start mode s)
 
--- What faults are drawn in: the literal, or the text. Without a literal a byte offset is one more
--- than in the text, so that is shown behind a line end, and its lines count from 1.
+-- What faults are drawn in.
 abbrev pub picture : List ℕ → Source → Picture
-picture path s = elim s.literal [
-  | None ↦ record {
-    path = path;
-    source = codes "\n" ++ s.text;
-    line_start = 0;
-    literal_start = 0;
-  }
-  | Some l ↦ record { path = path; source = l; line_start = 1; literal_start = 0 }
-]
+picture path s = record {
+  path = path;
+  source = s.lines;
+  line_start = s.line_start;
+  literal_start = s.start;
+}
 
 -- The line that says how many faults are not drawn, if there are any.
 abbrev pub more : ℕ → List ℕ
@@ -130,10 +154,11 @@ written s = unwrap_or s.literal s.text ++ codes "\n"
 abbrev pub kept : Task → Source → Shown
 kept a s = (written s ++ (drawn false a s).0, (drawn false a s).1)
 
--- The tokens of a source. The snippet is what faults are drawn in: the literal, or a text behind a
--- line end, which is no literal, so that the last token ends where the text does.
+-- The tokens of a source. The snippet is the literal, or a text behind a line end, which is no
+-- literal, so that the last token ends where the text does.
 abbrev pub tokens_in : Task → Source → List Placed
-tokens_in a s = tokens a.mode (chars s.text) s.style (Some (chars (picture a.path s).source)) false
+tokens_in a s =
+    tokens a.mode (chars s.text) s.style (Some (chars (unwrap_or s.literal s.lines))) false
 
 -- The tokens of a source are shown, in colours with a line end after them or each in a line, and
 -- then the error that the compiler shows.
@@ -149,7 +174,7 @@ lexed colours a s = (
 abbrev pub IsMendedIn : Mode → Source → List ℕ → Source → Type 0
 IsMendedIn mode s l r =
     ((f : Fixed) × IsFixed mode s.text s.style l false f
-    × (r ≡ record { text = f.text; style = s.style; literal = Some f.snippet }))
+    × (r ≡ alone s.style f.text f.snippet))
     ⊎ (((f : Fixed) → IsFixed mode s.text s.style l false f → ⊥) × (r ≡ s))
 
 -- The same of any source. A text has no edits.

@@ -24,6 +24,9 @@ seen_source s = record {
   text = s.text.now;
   style = s.style;
   literal = option_map (λ l. l.now) s.literal;
+  lines = s.lines.now;
+  line_start = s.line_start;
+  start = s.start;
 }
 
 -- A fault that is shown, as a contract sees it.

@@ -17,12 +17,19 @@ use format_tokens::{Kind, Token, label, placed};
 use rustc_parse_format::{Argument, ParseMode, Parser};
 use std::alloc::{AllocError, Global};
 
-/// A text, with the style of the literal that it is in and the literal as it is written.
+/// A text, with the style of the literal that it is in and the literal as it is written, and the
+/// lines that it is drawn in.
 #[derive(Copy, Clone)]
 pub struct Source<'a> {
     pub text: &'a str,
     pub style: Option<usize>,
     pub literal: Option<&'a str>,
+    /// The lines around the text.
+    pub lines: &'a str,
+    /// The number of the first of these lines.
+    pub line_start: u32,
+    /// The byte offset in the lines that a span of 0 means.
+    pub start: usize,
 }
 
 /// Returns the faults of all calls of a parser without errors. Returns `Err` if an allocation

@@ -22,7 +22,8 @@ use super::findings::{Finding, Findings};
 use super::task::{Show, Task};
 use super::tokens::put_tokens;
 use drawn_faults::{Picture, fix, put_drawing};
-use piece_listing::literal::{literal_text, without_newline};
+use literal_faults::snippet_of;
+use piece_listing::literal::literal_text;
 use piece_listing::verdict::RunFault;
 use rustc_parse_format::ParseMode;
 use std::alloc::{AllocError, Global};
@@ -154,23 +155,11 @@ fn put_faults(
     ensures told { IfOk result (λ told. told
         ≡ (drawn all (seen_task task.entry) (seen_source source.entry)).1) }
 {
-    if let Some(literal) = source.literal {
-        let picture = Picture {
-            path: task.path,
-            source: literal,
-            line_start: 1,
-            literal_start: 0,
-        };
-        return put_drawings(alloc, out, all, task.mode, &picture, faults);
-    }
-    let text = source.text;
-    // without a literal a span is one more than in the text, and so is the place in this source
-    let shown = format!(in alloc; "\n{text}")?;
     let picture = Picture {
         path: task.path,
-        source: shown.as_str(),
-        line_start: 0,
-        literal_start: 0,
+        source: source.lines,
+        line_start: source.line_start,
+        literal_start: source.start,
     };
     put_drawings(alloc, out, all, task.mode, &picture, faults)
 }
@@ -238,6 +227,9 @@ fn put_fixed(
                 text: fixed.text.as_str(),
                 style: source.style,
                 literal: Some(fixed.snippet.as_str()),
+                lines: fixed.snippet.as_str(),
+                line_start: 1,
+                start: 0,
             };
             Ok(put_kept(alloc, out, task, mended)?)
         }
@@ -261,11 +253,8 @@ fn put_lexed(
         ≡ (lexed colours (seen_task task.entry) (seen_source source.entry)).1) }
 {
     let written = source.literal.unwrap_or(source.text);
-    let snippet = match source.literal {
-        Some(literal) => String::from_str(alloc, literal)?,
-        None => format!(in alloc; "\n{written}")?,
-    };
-    let (found, faults) = tokens_in(alloc, task.mode, source, snippet.as_str())?;
+    let snippet = source.literal.unwrap_or(source.lines);
+    let (found, faults) = tokens_in(alloc, task.mode, source, snippet)?;
     put_tokens(out, colours, written, found.as_slice())?;
     if colours {
         out.push_str("\n")?;
@@ -296,9 +285,9 @@ fn shown_of(
     Ok((out, told))
 }
 
-/// Returns what a task shows of the input as a string literal, perhaps with a newline after it, and
-/// whether a fault is left. Returns `Err` if the input is not a string literal or an allocation
-/// fails.
+/// Returns what a task shows of the input as a string literal, perhaps with a byte order mark
+/// before it and white space around it, and how many mistakes are left. Returns `Err` if the input
+/// is not a string literal or an allocation fails.
 fn shown_of_literal(alloc: Global, input: &str, task: Task<'_>) -> Result<(String, usize), RunFault>
     requires { IsShort input.now }
     ensures shown { IfOk result (λ x. (s : SourceValue) × IsLiteralIn input.now s
@@ -307,14 +296,17 @@ fn shown_of_literal(alloc: Global, input: &str, task: Task<'_>) -> Result<(Strin
         → ⊥ }
     ensures others { IfErr result (λ fault. fault ≢ NotLiteral → fault ≡ Memory) }
 {
-    let literal = without_newline(input);
-    let Some((text, style)) = literal_text(alloc, literal)? else {
+    let snippet = snippet_of(input);
+    let Some((text, style)) = literal_text(alloc, snippet.text)? else {
         return Err(RunFault::NotLiteral);
     };
     let source = Source {
         text: text.as_str(),
         style,
-        literal: Some(literal),
+        literal: Some(snippet.text),
+        lines: snippet.source,
+        line_start: 1,
+        start: snippet.start,
     };
     Ok(shown_of(alloc, source, task)?)
 }
@@ -339,10 +331,15 @@ pub fn shown_of_input(
     if task.is_literal {
         return shown_of_literal(alloc, input, task);
     }
+    // without a literal a span is one more than in the text, and so is the place in these lines
+    let lines = format!(in alloc; "\n{input}")?;
     let source = Source {
         text: input,
         style: None,
         literal: None,
+        lines: lines.as_str(),
+        line_start: 0,
+        start: 0,
     };
     Ok(shown_of(alloc, source, task)?)
 }

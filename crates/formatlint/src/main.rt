@@ -1,172 +1,204 @@
 //! Draws the faults of a string literal under it, as the Rust compiler does, and shows its tokens.
 #![tactic(auto)]
 
-use clap::{Arg, ArgAction, ArgMatches, Command, Error};
+mod noted;
+mod options;
+
+use clap::error::ErrorKind;
+use clap::{ArgMatches, Error};
 use format_lint::run::run;
-use format_lint::task::{Show, Task};
-use format_lint::verdict::verdict;
+use lint_words::{put_failure, put_not_literal, system_words, wants_colours};
+use literal_faults::{file_fault, snippet_of};
+use noted::Noted;
+use options::{command, file_of, list_words, task_of, when_of};
+use piece_listing::run::{read_input, run as list};
 use piece_listing::verdict::RunFault;
-use rustc_parse_format::ParseMode;
-use std::alloc::{AllocError, Global};
-use std::io::IsTerminal;
+use std::alloc::AllocError;
+use std::io::{IsTerminal, Read};
 use std::process::ExitCode;
-use std::{env, fs};
+use std::{env, fs, io};
 
-/// Returns the option that says what the string is.
-fn mode_option<'a>(alloc: Global) -> Arg<'a> {
-    Arg::new(alloc, "mode")
-        .long("mode")
-        .value_name("MODE")
-        .value_parser(["format", "asm", "diagnostic", "diagnostic-named"].as_slice())
-        .default_value("format")
-        .help("What the string is")
+/// Why there is no answer.
+#[derive(Drop)]
+struct Failure {
+    /// What failed.
+    fault: RunFault,
+    /// The error of the system, if it has one.
+    error: Option<io::Error>,
 }
 
-/// Returns the option to read a text.
-fn text_option<'a>(alloc: Global) -> Arg<'a> {
-    Arg::new(alloc, "text")
-        .long("text")
-        .action(ArgAction::SetTrue)
-        .help("Read a text, not a string literal")
+impl From<RunFault> for Failure {
+    fn from(fault: RunFault) -> Failure {
+        Failure { fault, error: None }
+    }
 }
 
-/// Returns the option to apply suggestions. Returns `Err` if an allocation fails.
-fn fix_option<'a>(alloc: Global) -> Result<Arg<'a>, AllocError> {
-    Arg::new(alloc, "fix")
-        .long("fix")
-        .action(ArgAction::SetTrue)
-        .help("Print the literal with the suggestions applied, and the fault that it then has")
-        .conflicts_with("text")
+impl From<AllocError> for Failure {
+    fn from(_error: AllocError) -> Failure {
+        Failure::from(RunFault::Memory)
+    }
 }
 
-/// Returns the option to show tokens. Returns `Err` if an allocation fails.
-fn tokens_option<'a>(alloc: Global) -> Result<Arg<'a>, AllocError> {
-    Arg::new(alloc, "tokens")
-        .long("tokens")
-        .action(ArgAction::SetTrue)
-        .help("Print the tokens, in colours or each in a line, and then the fault")
-        .conflicts_with("fix")
+/// Reads a stream to its end.
+fn read<R: Read + Drop>(rt: &HostRuntime, stream: R) -> Result<Vec<u8>, Failure> {
+    let mut reader = Noted::new(stream);
+    match read_input(rt.alloc(), &mut reader) {
+        Ok(bytes) => Ok(bytes),
+        Err(fault) => Err(Failure {
+            fault,
+            error: reader.error,
+        }),
+    }
 }
 
-/// Returns the option to show all faults. Returns `Err` if an allocation fails.
-fn all_option<'a>(alloc: Global) -> Result<Arg<'a>, AllocError> {
-    Arg::new(alloc, "all")
-        .long("all")
-        .action(ArgAction::SetTrue)
-        .help("Draw all faults, each with its id and whether it follows from an earlier one")
-        .conflicts_with("fix")?
-        .conflicts_with("tokens")
+/// Reads a file, or standard input.
+fn input(rt: &HostRuntime, file: Option<&str>) -> Result<Vec<u8>, Failure> {
+    let Some(path) = file else {
+        if rt.stdin().is_terminal() {
+            let _ = rt.eprintln(
+                "formatlint: reads what is typed here, up to Ctrl-D; --help says more",
+            );
+        }
+        return read(rt, rt.stdin());
+    };
+    match fs::open(rt, path) {
+        Ok(file) => read(rt, file),
+        Err(error) => Err(Failure {
+            fault: RunFault::Read,
+            error: Some(error),
+        }),
+    }
 }
 
-/// Returns the option that says whether tokens are in colours.
-fn color_option<'a>(alloc: Global) -> Arg<'a> {
-    Arg::new(alloc, "color")
-        .long("color")
-        .value_name("WHEN")
-        .value_parser(["auto", "always", "never"].as_slice())
-        .default_value("auto")
-        .help("Whether --tokens has colours; auto: if standard output is a terminal")
+/// Returns whether what is written to standard output is in colours.
+fn has_colours(rt: &HostRuntime, matches: &ArgMatches<'_>) -> bool {
+    let no_color = env::var(rt, "NO_COLOR").ok();
+    let term = env::var(rt, "TERM").ok();
+    wants_colours(
+        when_of(matches),
+        rt.stdout().is_terminal(),
+        no_color.as_deref(),
+        term.as_deref(),
+    )
 }
 
-/// Returns the argument of the program.
-fn file_argument<'a>(alloc: Global) -> Arg<'a> {
-    Arg::new(alloc, "file")
-        .value_name("FILE")
-        .help("The file to read; without it, standard input is read")
+/// Returns the bytes of an input that are listed: a text, or the literal without what may stand
+/// around it.
+fn listed<'a>(matches: &ArgMatches<'_>, input: &'a [u8]) -> &'a [u8] {
+    if matches.get_flag("text") {
+        return input;
+    }
+    match str::from_utf8(input) {
+        Ok(file) => snippet_of(file).text.as_bytes(),
+        Err(_) => input,
+    }
 }
 
-/// Returns the options and the argument of the program. Returns `Err` if an allocation fails.
-fn command<'a>(alloc: Global) -> Result<Command<'a>, AllocError> {
-    let command = Command::new(alloc, "formatlint").about(
-        "Draws the faults of a string literal under it, as the Rust compiler does",
-    );
-    let with_mode = command.arg(mode_option(alloc))?;
-    let with_text = with_mode.arg(text_option(alloc))?;
-    let with_fix = with_text.arg(fix_option(alloc)?)?;
-    let with_tokens = with_fix.arg(tokens_option(alloc)?)?;
-    let with_color = with_tokens.arg(color_option(alloc))?;
-    let with_all = with_color.arg(all_option(alloc)?)?;
-    with_all.arg(file_argument(alloc))
-}
-
-/// Returns the mode that is asked for.
-fn mode_of(matches: &ArgMatches<'_>) -> ParseMode {
-    let word = matches.get_str("mode").unwrap_or("format");
-    if word == "asm" {
-        ParseMode::InlineAsm
-    } else if word == "diagnostic" {
-        ParseMode::Diagnostic
-    } else if word == "diagnostic-named" {
-        ParseMode::DiagnosticNamed
+/// Writes the answer for an input. Returns how many mistakes are left, and of a list 1 if a line is
+/// not of a piece.
+fn answer(
+    rt: &HostRuntime,
+    matches: &ArgMatches<'_>,
+    path: &str,
+    input: &[u8],
+) -> Result<usize, Failure> {
+    let alloc = rt.alloc();
+    let mut writer = Noted::new(rt.stdout());
+    let told = if matches.get_flag("list") {
+        let words = list_words(alloc, matches)?;
+        let mut reader = listed(matches, input);
+        list(alloc, &mut reader, &mut writer, words.as_slice()).map(usize::from)
     } else {
-        ParseMode::Format
+        let task = task_of(matches, path, has_colours(rt, matches));
+        let mut reader = input;
+        run(alloc, &mut reader, &mut writer, task)
+    };
+    match told {
+        Ok(count) => Ok(count),
+        Err(fault) => Err(Failure {
+            fault,
+            error: writer.error,
+        }),
     }
 }
 
-/// Returns whether tokens are to be in colours.
-fn wants_colours(rt: &HostRuntime, matches: &ArgMatches<'_>) -> bool {
-    let word = matches.get_str("color").unwrap_or("auto");
-    word == "always" || word == "auto" && rt.stdout().is_terminal()
+/// Appends the lines that say why there is no answer.
+fn put_why(
+    out: &mut String,
+    path: &str,
+    input: &[u8],
+    failure: &Failure,
+) -> Result<(), AllocError> {
+    if failure.fault == RunFault::NotLiteral {
+        if let Ok(file) = str::from_utf8(input) {
+            if let Some(fault) = file_fault(file) {
+                return put_not_literal(out, path, file, &fault);
+            }
+        }
+    }
+    let words = match &failure.error {
+        Some(error) => format!(in *out.allocator(); "{error}")?,
+        None => String::new(*out.allocator()),
+    };
+    put_failure(out, path, failure.fault, system_words(words.as_str()))
 }
 
-/// Returns what is to be shown.
-fn show_of(rt: &HostRuntime, matches: &ArgMatches<'_>) -> Show {
-    if matches.get_flag("fix") {
-        Show::Fix
-    } else if matches.get_flag("all") {
-        Show::All
-    } else if !matches.get_flag("tokens") {
-        Show::Fault
-    } else if wants_colours(rt, matches) {
-        Show::Colours
+/// The exit status where the reader of the output is gone: that of a program that ends by the
+/// signal SIGPIPE.
+const GONE: u8 = 141;
+
+/// What is said of a list of arguments that is none. No other word that the options take is invalid
+/// for the list.
+const WRONG_LIST: &str = "invalid value for '--args <LIST>': it is a number of arguments, and then \
+    names, each after a comma, as in 2,w";
+
+/// Says why there is no answer, and returns the exit status.
+fn tell(rt: &HostRuntime, path: &str, input: &[u8], failure: &Failure) -> u8 {
+    if let Some(error) = &failure.error {
+        if error.kind() == io::ErrorKind::BrokenPipe {
+            return GONE;
+        }
+    }
+    let mut out = String::new(rt.alloc());
+    let _ = match put_why(&mut out, path, input, failure) {
+        Ok(()) => rt.eprint(out.as_str()),
+        Err(_) => rt.eprintln("formatlint: out of memory"),
+    };
+    if failure.fault == RunFault::NotLiteral {
+        1
     } else {
-        Show::Tokens
-    }
-}
-
-/// Returns the task that is asked for.
-fn task_of<'a>(rt: &HostRuntime, matches: &ArgMatches<'a>) -> Task<'a> {
-    Task {
-        mode: mode_of(matches),
-        is_literal: !matches.get_flag("text"),
-        path: matches.get_str("file").unwrap_or("<stdin>"),
-        show: show_of(rt, matches),
-    }
-}
-
-/// Runs a task on its file, or on standard input. Returns how many mistakes are left, as `run`.
-fn answer(rt: &HostRuntime, task: Task<'_>, file: Option<&str>) -> Result<usize, RunFault> {
-    match file {
-        Some(path) => match fs::open(rt, path) {
-            Ok(mut file) => run(rt.alloc(), &mut file, &mut rt.stdout(), task),
-            Err(_) => Err(RunFault::Read),
-        },
-        None => run(rt.alloc(), &mut rt.stdin(), &mut rt.stdout(), task),
+        3
     }
 }
 
 /// Says on standard error how many mistakes there are besides the first, where only that is drawn.
-fn tell_others(rt: &HostRuntime, show: Show, answer: &Result<usize, RunFault>) {
-    if let Ok(count) = answer {
-        if *count > 1 && show != Show::All {
-            let others = count - 1;
-            let _ = eprintln!(rt; "formatlint: and {others} more, which --all draws");
-        }
+fn tell_others(rt: &HostRuntime, matches: &ArgMatches<'_>, count: usize) {
+    if count > 1 && !matches.get_flag("all") {
+        let others = count - 1;
+        let _ = eprintln!(rt; "formatlint: and {others} more, which --all draws");
     }
 }
 
-/// Reads the arguments of the program and runs their task. Returns the exit status, and `Err` if
-/// the arguments are invalid, an allocation fails, or help is asked for.
+/// Reads the arguments of the program and does what they ask for. Returns the exit status, and
+/// `Err` if the arguments are invalid, an allocation fails, or help or the version is asked for.
 fn status(rt: &HostRuntime, words: &[String]) -> Result<u8, Error> {
     let matches = command(rt.alloc())?.try_get_matches_from(words)?;
-    let task = task_of(rt, &matches);
-    let answer = answer(rt, task, matches.get_str("file"));
-    tell_others(rt, task.show, &answer);
-    let (text, status) = verdict(&answer);
-    if !text.is_empty() {
-        let _ = rt.eprintln(text);
+    let file = file_of(&matches);
+    let path = file.unwrap_or("<stdin>");
+    let bytes = match input(rt, file) {
+        Ok(bytes) => bytes,
+        Err(failure) => return Ok(tell(rt, path, &[], &failure)),
+    };
+    match answer(rt, &matches, path, bytes.as_slice()) {
+        Ok(count) => {
+            tell_others(rt, &matches, count);
+            Ok(u8::from(count > 0))
+        }
+        Err(failure) if failure.fault == RunFault::Words => {
+            Err(command(rt.alloc())?.error(ErrorKind::ValueValidation, WRONG_LIST)?)
+        }
+        Err(failure) => Ok(tell(rt, path, bytes.as_slice(), &failure)),
     }
-    Ok(status)
 }
 
 fn main(rt: HostRuntime) -> ExitCode {

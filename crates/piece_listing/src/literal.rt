@@ -82,7 +82,7 @@ fn in_front_of_hashes(text: &str, count: usize) -> Option<&str>
 
 /// Returns the number of hashes of a raw string literal and the text between its quotes, or `None`
 /// if it is no raw string literal.
-fn raw_text(literal: &str) -> Option<(usize, &str)>
+pub fn raw_text(literal: &str) -> Option<(usize, &str)>
     ensures text { MatchOption result
         ((n : ℕ) (t : Text) → chars literal.now ≡ raw_frame n t → ⊥)
         (λ x. chars literal.now ≡ raw_frame x.0 (chars x.1.now)) }

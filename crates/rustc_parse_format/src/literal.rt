@@ -11,7 +11,9 @@ ghost use Rattle.rustc_parse_format.specs.Literal.{IsSource, newline, ordinary_f
 ghost use Rattle.rustc_parse_format.specs.Literal.{raw_frame, raw_opening};
 ghost use Rattle.rustc_parse_format.specs.LiteralReading.{IsSourceTo, IsTaken, SameEnds, placed};
 ghost use Rattle.rustc_parse_format.specs.LiteralReading.{seen_characters, spelled_end};
-ghost use Rattle.rustc_parse_format.specs.LiteralUnits.{LiteralUnit, is_plain};
+ghost use Rattle.rustc_parse_format.specs.LiteralUnits.{LiteralUnit, at_most_one, is_plain};
+ghost use Rattle.rustc_parse_format.specs.LiteralUnits.{meaning};
+ghost use Rattle.rustc_parse_format.specs.LiteralUnits.{unit_at};
 ghost use Rattle.rustc_parse_format.specs.Characters.{Text, behind, front};
 ghost use Rattle.rustc_parse_format.specs.World.{later, literal_end, newline_places, world};
 
@@ -24,6 +26,21 @@ use std::alloc::{AllocError, Global};
 use std::ops::Range;
 use unit::byte_escape;
 pub(crate) use unit::{is_newline_escape, read_unit};
+
+/// Returns the character that the first unit of a content stands for, and what is left after the
+/// unit. The character is `None` for a string continuation, which stands for nothing. Returns
+/// `None` if the text begins with no unit: it is empty or begins with a quote, a CR or a wrong
+/// escape.
+///
+/// The rule is that of string literals in the Rust Reference. Does not allocate.
+pub fn split_first_unit(content: &str) -> Option<(Option<char>, &str)>
+    ensures { option_map (λ x. (at_most_one x.0, chars x.1.now)) result
+        ≡ meaning (unit_at (chars content.now)) }
+{
+    let mut rest = Rest::new(content);
+    let value = read_unit(&mut rest)?;
+    Some((value, rest.text()))
+}
 
 /// Returns the characters that a content stands for, each with its byte range in the content, or
 /// `None` if the text is no content, as `placed` computes them. Returns `Err` if an allocation

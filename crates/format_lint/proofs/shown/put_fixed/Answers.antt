@@ -2,15 +2,14 @@ use Rattle.std.proofs.Common.{◌≡◌, Some, false, inl, refl, string_bytes}
 use Rattle.rustc_parse_format.specs.Seen.{seen_mode}
 use Rattle.drawn_faults.specs.Fixing.{IsFixed}
 use Rattle.drawn_faults.specs.SeenEdits.{seen_fixed}
-use Rattle.format_lint.specs.Lint.{Shown, Source, kept}
+use Rattle.format_lint.specs.Lint.{Shown, Source, alone, kept}
 use Rattle.format_lint.specs.SeenLint.{seen_source, seen_task}
 use Rattle.format_lint.proofs.shown.put_fixed.Goals as goal
 
 pub returns-in_ok-put_kept-in-Some-2 : goal.returns-in_ok-put_kept-in-Some-2
 returns-in_ok-put_kept-in-Some-2 c =
     let f = seen_fixed c.in-Some-2.fixed in
-    let r : Source = record { text = f.text; style = c.args.source.style; literal = Some f.snippet }
-    in
+    let r : Source = alone c.args.source.style f.text f.snippet in
     let fixed : IsFixed (seen_mode c.args.task.mode) c.args.source.text.now c.args.source.style
     c.in-Some.literal.now false f = rw c.in-Some-2.is at c.in_ok-fixed.ensures.some in
     let shown : ◌≡◌ {A = Shown}

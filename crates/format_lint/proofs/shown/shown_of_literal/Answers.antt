@@ -1,22 +1,29 @@
 use Rattle.std.proofs.Common.{rules, refl, Some}
+use Rattle.format_lint.proofs.OneAnswer.{no-literal}
 use Rattle.format_lint.proofs.shown.shown_of_literal.Goals as goal
 
 pub returns-clause-shown : goal.returns-clause-shown
 returns-clause-shown c =
-    let literal = c.without_newline-literal in (
+    let snippet = c.snippet_of-snippet.result in (
       record {
         text = c.as_str.result.now;
         style = c.in-Some.style;
-        literal = Some literal.result.now;
+        literal = Some snippet.text.now;
+        lines = snippet.source.now;
+        line_start = 1;
+        start = snippet.start;
       },
       record {
-        literal = literal.result.now;
-        appended = literal.ensures.cut.0;
-        is_whole = literal.ensures.cut.1;
+        literal = snippet.text.now;
+        is_snippet = c.snippet_of-snippet.ensures;
         is_literal = search rules;
         is_written = refl;
-        literal_utf8 = search rules;
+        is_first = refl;
         text_utf8 = search rules;
       },
       c.in_ok-shown_of.ensures,
     )
+
+pub returns-in_default-clause-not_literal : goal.returns-in_default-clause-not_literal
+returns-in_default-clause-not_literal c _ s h =
+    no-literal c.args.input.now _ _ _ c.snippet_of-snippet.ensures c.in_default.ensures.found s h

@@ -1,0 +1,46 @@
+-- What `formatlint` writes to standard error where it has no answer: lines that begin with its name
+-- and the path of the input. A path is written as drawings have it, with nothing that a terminal
+-- obeys.
+use Rattle.std.specs.Prelude.{◌++◌, ℕ, List, codes, decimal}
+use Rattle.std.specs.Prelude.{chars}
+use Rattle.std.specs.Prelude.{take, drop, length, ◌==◌, if◌then◌else◌}
+use Rattle.drawn_faults.specs.Glyphs.{glyph_bytes}
+use Rattle.piece_listing.specs.declared.verdict.RunFault.{RunFault}
+use Rattle.piece_listing.specs.declared.verdict.RunFault.TheVariants.{Words, Read, TooLong, NotText}
+use Rattle.piece_listing.specs.declared.verdict.RunFault.TheVariants.{NotLiteral, Memory, Write}
+use Rattle.rust_trees.specs.declared.places.Place.{Place}
+use Rattle.rust_trees.specs.Places.{place_between}
+use Rattle.literal_faults.specs.declared.fault.LiteralFault.{LiteralFault}
+use Rattle.literal_faults.specs.Words.{message}
+
+-- The start of each line: the name of the program and the path.
+abbrev pub opening : List ℕ → List ℕ
+opening path = codes "formatlint: " ++ (glyph_bytes path ++ codes ":")
+
+-- Why there is no answer. For a read or a write that failed these are the words of the system, if
+-- it has any.
+abbrev pub reason : RunFault → List ℕ → List ℕ
+reason Read why = if length why == 0 then codes "reading failed" else why
+reason Write why = if length why == 0 then codes "writing failed" else why
+reason Words why = codes "invalid arguments"
+reason TooLong why = codes "longer than 1048576 bytes"
+reason NotText why = codes "not UTF-8"
+reason NotLiteral why = codes "not a string literal"
+reason Memory why = codes "out of memory"
+
+-- The line where there is no answer.
+abbrev pub failure : List ℕ → RunFault → List ℕ → List ℕ
+failure path f why = opening path ++ (codes " " ++ (reason f why ++ codes "\n"))
+
+-- The place as editors have it: the line, a colon and the column.
+abbrev pub written : Place → List ℕ
+written p = decimal p.line ++ (codes ":" ++ decimal p.column)
+
+-- The place of a byte offset of a file.
+abbrev pub place : List ℕ → ℕ → Place
+place file n = place_between (chars (take n file)) (chars (drop n file))
+
+-- The lines where the file is no string literal: the place, the reason and what can be done.
+abbrev pub not_literal : List ℕ → List ℕ → LiteralFault → List ℕ
+not_literal path file f = opening path ++ (written (place file f.offset) ++ (codes ": "
+    ++ (message f.kind ++ codes "\n  = help: with --text the input is read as it stands\n")))

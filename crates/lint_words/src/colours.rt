@@ -1,0 +1,38 @@
+//! Whether what is written is in colours.
+
+ghost use Rattle.std.specs.Prelude.{◌≡◌, option_map};
+ghost use Rattle.lint_words.specs.Colours.{wants_colours};
+
+/// When colours are written.
+#[derive(Clone, Copy, Debug, Eq, PartialEq)]
+pub enum When {
+    /// If the output is a terminal that has them.
+    Auto,
+    /// Always.
+    Always,
+    /// Never.
+    Never,
+}
+
+/// Returns whether colours are wanted, by what is known of the output and by the values of the
+/// variables `NO_COLOR` and `TERM`. With `Auto` they are if the output is a terminal, `NO_COLOR` is
+/// not there or empty, and `TERM` is there and not `dumb`.
+pub fn wants_colours(
+    when: When,
+    is_terminal: bool,
+    no_color: Option<&str>,
+    term: Option<&str>,
+) -> bool
+    ensures { result ≡ wants_colours when is_terminal (option_map (λ w. w.now) no_color.entry)
+        (option_map (λ w. w.now) term.entry) }
+{
+    match when {
+        When::Always => true,
+        When::Never => false,
+        When::Auto => {
+            is_terminal
+                && no_color.is_none_or(|word| word.is_empty())
+                && term.is_some_and(|word| word != "dumb")
+        }
+    }
+}

@@ -1,0 +1,5 @@
+pub mod Escapes
+pub mod Faults
+pub mod Margins
+pub mod Stops
+pub mod Words

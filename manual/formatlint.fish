@@ -1,0 +1,11 @@
+# completion of formatlint for fish
+complete -c formatlint -l mode -x -a 'format asm diagnostic diagnostic-named' -d 'What the string is'
+complete -c formatlint -l text -d 'Read a text, not a string literal'
+complete -c formatlint -l fix -d 'Print the literal with the suggestions applied, and the fault that it then has'
+complete -c formatlint -l tokens -d 'Print the tokens, in colours or each in a line, and then the fault'
+complete -c formatlint -l all -d 'Draw all faults, each with its id and whether it follows from an earlier one'
+complete -c formatlint -l list -d 'List the pieces and the faults, each in a line, as formatread does'
+complete -c formatlint -l args -x -d 'With --list: name arguments, as in 2,w, and list those that are missing or unused'
+complete -c formatlint -l color -x -a 'auto always never' -d 'Whether there are colours; auto: if standard output is a terminal that has them'
+complete -c formatlint -s h -l help -d 'Print help'
+complete -c formatlint -s V -l version -d 'Print version'
