@@ -3,7 +3,6 @@ use Rattle.std.proofs.Common.{◌≡◌, ◌<◌, ℕ, Bool, true, false, List, 
 use Rattle.std.proofs.Common.{ap, ◌∙◌, inl, inr, subst, arith, Result, Ok, Err, chars, length}
 use Rattle.std.proofs.Common.{append-nil, option_map, IsUtf8}
 use Rattle.std.proofs.Math.Utf8.{encodes}
-use Rattle.std.proofs.lemmas.Option.{same_Some}
 use Rattle.std.proofs.lemmas.Str.{encodes-chars}
 use Rattle.rustc_parse_format.specs.Types.{Mode}
 use Rattle.drawn_faults.specs.Fixing.{Fixed}
@@ -72,17 +71,6 @@ no-literal input lines literal start a none s h =
     let same = one-snippet input lines s.lines literal h.literal start s.start a h.is_snippet in
     none s.style (chars s.text)
     (subst (λ l. IsLiteral s.style (chars l) (chars s.text)) (sym same.1) h.is_literal)
-
--- A text that is in no literal, drawn in these lines.
-abbrev pub with-lines : List ℕ → List ℕ → Source
-with-lines t ls = record {
-  text = t;
-  style = None;
-  literal = None;
-  lines = ls;
-  line_start = 0;
-  start = 0;
-}
 
 source-only : (is_literal : Bool) (input : List ℕ) (s r : Source) → IsSourceIn is_literal input s
     → IsSourceIn is_literal input r → s ≡ r

@@ -1,7 +1,7 @@
 //! What is shown of an input in UTF-8.
 
 ghost use Rattle.std.specs.Prelude.{◌≡◌, ◌≢◌, ◌≤◌, ◌++◌, List, [], IfErr, IfOk, IsErrOf, OnOk};
-ghost use Rattle.std.specs.Prelude.{flat_map, if◌then◌else◌, map, string_bytes};
+ghost use Rattle.std.specs.Prelude.{None, codes, flat_map, if◌then◌else◌, map, string_bytes};
 ghost use Rattle.rustc_parse_format.specs.FaultIds.{fault_id};
 ghost use Rattle.rustc_parse_format.specs.Faults.{message};
 ghost use Rattle.rustc_parse_format.specs.Seen.{seen_mode};
@@ -12,7 +12,7 @@ ghost use Rattle.piece_listing.specs.Program.{IsShort, limit};
 ghost use Rattle.drawn_faults.specs.Drawing.{drawing};
 ghost use Rattle.drawn_faults.specs.Places.{seen_picture};
 ghost use Rattle.format_lint.specs.Lint.{IsHarmlessFor, IsLiteralIn, IsMended, IsShown};
-ghost use Rattle.format_lint.specs.Lint.{IsSourceIn};
+ghost use Rattle.format_lint.specs.Lint.{IsSourceIn, bare};
 ghost use Rattle.format_lint.specs.Lint.{Source as SourceValue, drawn, drawn_finding, findings};
 ghost use Rattle.format_lint.specs.Lint.{first_drawing, id_line, kept, lexed, more};
 ghost use Rattle.format_lint.specs.SeenLint.{Keeps, seen_finding, seen_source, seen_task};
@@ -311,6 +311,21 @@ fn shown_of_literal(alloc: Global, input: &str, task: Task<'_>) -> Result<(Strin
     Ok(shown_of(alloc, source, task)?)
 }
 
+/// Returns a text that is in no literal, with the lines that it is drawn in.
+fn bare<'a>(text: &'a str, lines: &'a str) -> Source<'a>
+    ensures value { lines.now ≡ codes "\n" ++ text.now → seen_source result ≡ bare text.now }
+    ensures style { result.style ≡ None }
+{
+    Source {
+        text,
+        style: None,
+        literal: None,
+        lines,
+        line_start: 0,
+        start: 0,
+    }
+}
+
 /// Returns what a task shows of an input, and how many mistakes are left. Returns `Err` if the task
 /// asks for a string literal and the input is none, or if an allocation fails.
 pub fn shown_of_input(
@@ -333,13 +348,5 @@ pub fn shown_of_input(
     }
     // without a literal a span is one more than in the text, and so is the place in these lines
     let lines = format!(in alloc; "\n{input}")?;
-    let source = Source {
-        text: input,
-        style: None,
-        literal: None,
-        lines: lines.as_str(),
-        line_start: 0,
-        start: 0,
-    };
-    Ok(shown_of(alloc, source, task)?)
+    Ok(shown_of(alloc, bare(input, lines.as_str()), task)?)
 }

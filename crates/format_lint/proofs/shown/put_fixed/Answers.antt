@@ -1,4 +1,4 @@
-use Rattle.std.proofs.Common.{◌≡◌, Some, false, inl, refl, string_bytes}
+use Rattle.std.proofs.Common.{◌≡◌, false, inl, inr, refl, string_bytes}
 use Rattle.rustc_parse_format.specs.Seen.{seen_mode}
 use Rattle.drawn_faults.specs.Fixing.{IsFixed}
 use Rattle.drawn_faults.specs.SeenEdits.{seen_fixed}
@@ -21,6 +21,7 @@ returns-in_ok-put_kept-in-Some-2 c =
       c.requires.empty,
       c.as_str.ensures.value,
       c.as_str-in-Some-2.ensures.value,
+      c.as_str-in-Some-2-2.ensures.value,
     ) refl in
     (r, rw c.in-Some.is (inl (f, fixed, refl)), shown)
 
@@ -34,3 +35,16 @@ returns-in_default c =
       c.requires.empty,
     ) refl in
     (seen_source c.args.source, rw c.in_default.is refl, shown)
+
+pub returns-in_ok-put_kept-in-None : goal.returns-in_ok-put_kept-in-None
+returns-in_ok-put_kept-in-None c =
+    let shown : ◌≡◌ {A = Shown}
+    (string_bytes c.put_kept-in-None.new.out, c.in_ok-put_kept-in-None.field-0)
+    (kept (seen_task c.args.task) (seen_source c.args.source)) =
+    rw (
+      c.in_ok-put_kept-in-None.ensures.kept,
+      c.in_ok-put_kept-in-None.ensures.told,
+      c.requires.empty,
+    ) refl in
+    let none = rw c.in-None.is at c.in_ok-fixed.ensures.none in
+    (seen_source c.args.source, rw c.in-Some.is (inr (none, refl)), shown)

@@ -1,25 +1,22 @@
-use Rattle.std.proofs.Common.{◌≡◌, None, ap, refl, string_bytes, ◌∙◌}
-use Rattle.format_lint.specs.Lint.{Source, bare}
-use Rattle.format_lint.specs.SeenLint.{seen_task}
+use Rattle.std.proofs.Common.{◌∙◌, string_bytes}
+use Rattle.format_lint.specs.SeenLint.{seen_source, seen_task}
 use Rattle.format_lint.proofs.Harmless.{ok-weaker, shown-harmless}
-use Rattle.format_lint.proofs.OneAnswer.{with-lines}
 use Rattle.format_lint.proofs.shown.shown_of_input.Goals as goal
 
 pub returns-clause-shown : goal.returns-clause-shown
-returns-clause-shown c =
-    let s = with-lines c.args.input.now c.as_str.result.now in (
-      s,
-      rw c.if-task.false (ap (with-lines c.args.input.now)
-          (c.as_str.ensures.value ∙ c.in_ok-lines.ensures.ok)),
-      c.in_ok-shown_of.ensures,
-    )
+returns-clause-shown c = (
+  seen_source c.bare.result,
+  rw c.if-task.false (c.bare.ensures.value
+      (c.as_str.ensures.value ∙ c.in_ok-lines.ensures.ok)),
+  c.in_ok-shown_of.ensures,
+)
 
 pub returns-clause-harmless : goal.returns-clause-harmless
 returns-clause-harmless c =
     let x = c.in_ok-shown_of.field-0 in
-    let s = with-lines c.args.input.now c.as_str.result.now in
-    shown-harmless (seen_task c.args.task) c.args.input.now s (string_bytes x.0, x.1)
-    (rw c.if-task.false (ap (with-lines c.args.input.now)
+    shown-harmless (seen_task c.args.task) c.args.input.now (seen_source c.bare.result)
+    (string_bytes x.0, x.1)
+    (rw c.if-task.false (c.bare.ensures.value
     (c.as_str.ensures.value ∙ c.in_ok-lines.ensures.ok))) c.in_ok-shown_of.ensures
 
 pub returns-then-task-clause-harmless : goal.returns-then-task-clause-harmless

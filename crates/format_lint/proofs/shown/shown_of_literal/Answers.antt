@@ -26,4 +26,5 @@ returns-clause-shown c =
 
 pub returns-in_default-clause-not_literal : goal.returns-in_default-clause-not_literal
 returns-in_default-clause-not_literal c _ s h =
-    no-literal c.args.input.now _ _ _ c.snippet_of-snippet.ensures c.in_default.ensures.found s h
+    let none = rw c.in_default.is at c.in_ok-text.ensures.found in
+    no-literal c.args.input.now _ _ _ c.snippet_of-snippet.ensures none s h
