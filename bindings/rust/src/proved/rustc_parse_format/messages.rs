@@ -169,7 +169,7 @@ impl Fault<'_> {
     /// Returns `Err` if an allocation fails.
     // ensures { IfOk result (λ s. seen_suggestion s
     //     ≡ (message (seen_fault self.now)).suggestion) }
-    #[inline]
+    #[inline(always)]
     pub fn suggestion(&self, alloc: Global) -> Result<Suggestion, AllocError> {
         let suggestion = match self {
             Fault::RawIdentifier(_, prefix) => Suggestion::RemoveRawIdent(prefix.start..prefix.end),
@@ -191,7 +191,6 @@ impl Fault<'_> {
 // ensures { OnOk result (seen_error into.new ≡ message (seen_fault fault.now)) }
 #[inline]
 pub fn tell(alloc: Global, into: &mut ParseError, fault: &Fault<'_>) -> Result<(), AllocError> {
-    into.suggestion = fault.suggestion(alloc)?;
     match fault {
         Fault::UnmatchedBrace(span) => say(
             alloc,
@@ -250,26 +249,33 @@ pub fn tell(alloc: Global, into: &mut ParseError, fault: &Fault<'_>) -> Result<(
             "remove this text",
             span,
         ),
-        Fault::RawIdentifier(span, _) => say(
-            alloc,
-            into,
-            "raw identifiers are not supported",
-            "identifiers in format strings can be keywords and don't need to be prefixed with `r#`",
-            "raw identifier used here",
-            span,
-        ),
+        Fault::RawIdentifier(span, _) => {
+            into.suggestion = fault.suggestion(alloc)?;
+            say(
+                alloc,
+                into,
+                "raw identifiers are not supported",
+                "identifiers in format strings can be keywords and don't need to be prefixed with `r#`",
+                "raw identifier used here",
+                span,
+            )
+        }
         Fault::LateFlag(flag, span, _) => {
+            into.suggestion = fault.suggestion(alloc)?;
             let description = expected_brace(alloc, Some(*flag))?;
             show(alloc, into, description, "expected `'}'`", span)
         }
-        Fault::MissingColon(span) => say(
-            alloc,
-            into,
-            "expected `}`, found `?`",
-            "to print `{`, you can escape it using `{{`",
-            "expected `:` before `?` to format with `Debug`",
-            span,
-        ),
+        Fault::MissingColon(span) => {
+            into.suggestion = fault.suggestion(alloc)?;
+            say(
+                alloc,
+                into,
+                "expected `}`, found `?`",
+                "to print `{`, you can escape it using `{{`",
+                "expected `:` before `?` to format with `Debug`",
+                span,
+            )
+        }
         Fault::LateDebug(word, span) => {
             into.note = Some(debug_after(alloc, word)?);
             show(
@@ -300,17 +306,20 @@ pub fn tell(alloc: Global, into: &mut ParseError, fault: &Fault<'_>) -> Result<(
             span,
             ("because of this opening brace", opening),
         ),
-        Fault::DebugPrint(span, opening) => tell_brace(
-            alloc,
-            into,
-            String::made_from(
+        Fault::DebugPrint(span, opening) => {
+            into.suggestion = fault.suggestion(alloc)?;
+            tell_brace(
                 alloc,
-                "python's f-string debug `=` is not supported in rust, use `dbg(x)` instead",
-            )?,
-            "to print `{`, you can escape it using `{{`",
-            span,
-            ("because of this opening brace", opening),
-        ),
+                into,
+                String::made_from(
+                    alloc,
+                    "python's f-string debug `=` is not supported in rust, use `dbg(x)` instead",
+                )?,
+                "to print `{`, you can escape it using `{{`",
+                span,
+                ("because of this opening brace", opening),
+            )
+        }
         Fault::LateSign(span) => say(
             alloc,
             into,
@@ -320,9 +329,11 @@ pub fn tell(alloc: Global, into: &mut ParseError, fault: &Fault<'_>) -> Result<(
             span,
         ),
         Fault::FieldAccess(span) => {
+            into.suggestion = fault.suggestion(alloc)?;
             tell_field(alloc, into, "field access isn't supported", span)
         }
         Fault::TupleIndex(span) => {
+            into.suggestion = fault.suggestion(alloc)?;
             tell_field(alloc, into, "tuple index access isn't supported", span)
         }
     }
