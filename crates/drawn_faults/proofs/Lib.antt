@@ -7,6 +7,7 @@ pub mod RowLemmas
 pub mod EditLaws
 pub mod FixLaws
 pub mod CallFaults
+pub mod RoundLaws
 pub mod Merging
 pub mod Moving
 pub mod CallMoves

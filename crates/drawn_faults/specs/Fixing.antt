@@ -58,9 +58,9 @@ pub record IsEdited (input : List ℕ) (style : Option ℕ) (literal : List ℕ)
   pub text_utf8 : IsUtf8 f.text
   pub is_source : IsSource (chars f.text) style (chars f.snippet) appended
 
--- The literal is the source literal of the input, and the result is what it is with the edits of
--- all errors.
-pub record IsFixed (mode : Mode) (input : List ℕ) (style : Option ℕ) (literal : List ℕ)
+-- One round of edits: the literal is the source literal of the input, and the result is what it is
+-- with the edits of all errors.
+pub record IsRound (mode : Mode) (input : List ℕ) (style : Option ℕ) (literal : List ℕ)
     (appended : Bool) (f : Fixed) : Type 0 where
   pub was_source : IsSource (chars input) style (chars literal) appended
   pub edited : IsEdited input style literal appended

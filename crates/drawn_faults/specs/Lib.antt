@@ -8,5 +8,6 @@ pub mod Suggestions
 pub mod Drawing
 pub mod Edits
 pub mod Fixing
+pub mod Rounds
 pub mod Losing
 pub mod SeenEdits

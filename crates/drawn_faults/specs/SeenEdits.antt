@@ -1,11 +1,13 @@
 -- What a contract sees of edits and of a fixed literal: texts as their bytes.
-use Rattle.std.specs.Prelude.{ℕ, Bool, List, string_bytes}
+use Rattle.std.specs.Prelude.{ℕ, Bool, List, option_map, string_bytes}
 use Rattle.rustc_parse_format.specs.Seen.{pair}
 use Rattle.drawn_faults.specs.declared.fixes.Edit.{Edit as DeclaredEdit}
 use Rattle.drawn_faults.specs.declared.fixes.Edited.{Edited as DeclaredEdited}
 use Rattle.drawn_faults.specs.declared.fixes.Fixed.{Fixed as DeclaredFixed}
+use Rattle.drawn_faults.specs.declared.rounds.Best.{Best as DeclaredBest}
 use Rattle.drawn_faults.specs.Edits.{Edit, joined}
 use Rattle.drawn_faults.specs.Fixing.{Fixed}
+use Rattle.drawn_faults.specs.Rounds.{Best}
 
 -- An edit as a contract sees it.
 abbrev pub seen_edit : DeclaredEdit → Edit
@@ -18,3 +20,7 @@ seen_fixed f = record { snippet = string_bytes f.snippet; text = string_bytes f.
 -- What a text in the middle of its edits becomes with further edits, and whether it has an edit.
 abbrev pub with_edits : DeclaredEdited → List Edit → List ℕ × Bool
 with_edits x es = joined x.bytes.items x.start x.end x.rest.now es
+
+-- The best of some literals as a contract sees it.
+abbrev pub seen_best : DeclaredBest → Best
+seen_best b = record { literal = option_map seen_fixed b.literal; calls = b.calls }

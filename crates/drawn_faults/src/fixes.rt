@@ -16,7 +16,7 @@ ghost use Rattle.rustc_parse_format.specs.World.{faults_in, hashes};
 ghost use Rattle.rustc_parse_format.specs.Literal.{IsSource};
 ghost use Rattle.drawn_faults.specs.Edits.{AreInOrder, Edit as EditValue, applied, edit_of};
 ghost use Rattle.drawn_faults.specs.Edits.{edits, is_empty, offered, suggested};
-ghost use Rattle.drawn_faults.specs.Fixing.{Fixed as FixedLiteral, IsFixed, all_errors};
+ghost use Rattle.drawn_faults.specs.Fixing.{Fixed as FixedLiteral, IsRound, all_errors};
 ghost use Rattle.drawn_faults.specs.Fixing.{fault_edits, literal_edits, text_edits};
 ghost use Rattle.drawn_faults.specs.SeenEdits.{seen_edit, seen_fixed, with_edits};
 
@@ -331,10 +331,8 @@ fn edited_text(alloc: Global, input: &str, mode: ParseMode) -> Result<Option<Str
 ///
 /// Returns `None` if the snippet is not the source literal of the input, so that no edit is made in
 /// a foreign literal, if there is no edit, or if the literal with its edits would not stand for the
-/// text with its own. The result may have other faults. The arguments are those of
-/// [`Parser::new`]: the number of hashes, the byte length of the input and 2 must add up to less
-/// than 2^64. Returns `Err` if an allocation fails.
-pub fn fix(
+/// text with its own. Returns `Err` if an allocation fails.
+pub fn round(
     alloc: Global,
     input: &str,
     style: Option<usize>,
@@ -343,10 +341,10 @@ pub fn fix(
     mode: ParseMode,
 ) -> Result<Option<Fixed>, AllocError>
     requires { hashes style + length input.now + 2 < 2 ^ 64 }
-    ensures some { IfOk result (λ o. IfSome o (λ f. IsFixed (seen_mode mode) input.now style
+    ensures some { IfOk result (λ o. IfSome o (λ f. IsRound (seen_mode mode) input.now style
         snippet.now appended_newline (seen_fixed f))) }
     ensures none { IfOk result (λ o. IfNone o ((f : FixedLiteral)
-        → IsFixed (seen_mode mode) input.now style snippet.now appended_newline f → ⊥)) }
+        → IsRound (seen_mode mode) input.now style snippet.now appended_newline f → ⊥)) }
     ensures foreign { (IsSource (chars input.now) style (chars snippet.now) appended_newline → ⊥)
         → IsOk result }
 {

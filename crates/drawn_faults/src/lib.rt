@@ -11,11 +11,13 @@ mod lines;
 mod long;
 mod places;
 mod printable;
+mod rounds;
 mod rows;
 mod suggestions;
 
 pub use drawing::{draw, put_drawing};
-pub use fixes::{Edit, Fixed, edits, errors_of, fix};
+pub use fixes::{Edit, Fixed, edits, errors_of};
 pub use glyphs::put_glyphs;
 pub use places::Picture;
 pub use printable::{is_ascii_or_as_is, is_drawn_as_is};
+pub use rounds::fix;

@@ -6,6 +6,7 @@ use Rattle.std.proofs.Math.Utf8.{encodes}
 use Rattle.std.proofs.lemmas.Str.{encodes-chars}
 use Rattle.rustc_parse_format.specs.Types.{Mode}
 use Rattle.drawn_faults.specs.Fixing.{Fixed}
+use Rattle.drawn_faults.proofs.RoundLaws.{fixed-one}
 use Rattle.piece_listing.specs.declared.verdict.RunFault.{RunFault}
 use Rattle.piece_listing.specs.declared.verdict.RunFault.TheVariants.{Words, Read, TooLong, NotText}
 use Rattle.piece_listing.specs.declared.verdict.RunFault.TheVariants.{NotLiteral, Memory, Write}
@@ -77,11 +78,6 @@ source-only : (is_literal : Bool) (input : List ℕ) (s r : Source) → IsSource
 source-only true input s r h k = literal_in-only input s r h k
 source-only false input s r h k = h ∙ sym k
 
-same_fixed : (f g : Fixed) → f.snippet ≡ g.snippet → f.text ≡ g.text → f ≡ g
-same_fixed f g d e =
-    ap (λ (l : List ℕ). record f { snippet = l }) d
-    ∙ ap (λ (t : List ℕ). record g { text = t }) e
-
 -- A source with its edits.
 abbrev with_fixed : Source → Fixed → Source
 with_fixed s f = alone s.style f.text f.snippet
@@ -89,8 +85,7 @@ with_fixed s f = alone s.style f.text f.snippet
 mended_in-only : (mode : Mode) (s : Source) (l : List ℕ) (r q : Source)
     → IsMendedIn mode s l r → IsMendedIn mode s l q → r ≡ q
 mended_in-only mode s l r q (inl (f, h, d)) (inl (g, k, e)) =
-    d ∙ ap (λ (f : Fixed). with_fixed s f)
-    (same_fixed f g (h.edited.snippet ∙ sym k.edited.snippet) (h.edited.text ∙ sym k.edited.text))
+    d ∙ ap (λ (f : Fixed). with_fixed s f) (fixed-one mode s.text s.style l false f g h k)
     ∙ sym e
 mended_in-only mode s l r q (inl (f, h, d)) (inr (none, e)) = absurd (none f h)
 mended_in-only mode s l r q (inr (none, d)) (inl (g, k, e)) = absurd (none g k)

@@ -15,7 +15,8 @@ use Rattle.rustc_parse_format.specs.Literal.{IsLiteral}
 use Rattle.literal_faults.specs.Margins.{IsSnippet}
 use Rattle.drawn_faults.specs.Places.{Picture}
 use Rattle.drawn_faults.specs.Drawing.{drawing}
-use Rattle.drawn_faults.specs.Fixing.{Fixed, IsFixed, all_errors}
+use Rattle.drawn_faults.specs.Fixing.{Fixed, all_errors}
+use Rattle.drawn_faults.specs.Rounds.{IsFixed}
 use Rattle.drawn_faults.specs.Glyphs.{IsHarmless}
 use Rattle.format_lint.specs.declared.task.Show.{Show}
 use Rattle.format_lint.specs.declared.task.Show.TheVariants.{Fault as ShowFault, Fix as ShowFix}

@@ -61,19 +61,14 @@ const TEXTS: &[(&str, &str)] = &[
     // several suggestions
     ("{r#a:?x} {b?} {:?#}", "{a:x?} {b:?} {:#?}"),
     ("} {r#a} } {b?}", "} {a} } {b:?}"),
-    ("{r#a.r#b}", "{a.b}"),
-    ("{r#a{r#b{r#c", "{a{b{c"),
-    // texts that have faults of their own after the edit: for these its law does not hold
-    ("{a?}}", "{a:?}}"),
-    ("{a:?#}}", "{a:#?}}"),
-    ("{:5?#}", "{:5#?}"),
-    ("{:05?#}", "{:05#?}"),
-    ("{:.3?#}", "{:.3#?}"),
-    ("{:#?#}", "{:##?}"),
-    ("{:x??}", "{:x?:?}"),
-    ("{a:?##}", "{a:#?#}"),
-    ("{r#r#a}", "{r#a}"),
+    // a fault that the edit leaves
     ("{a.:?#}", "{a.:#?}"),
+    // a suggestion that another one makes possible
+    ("{r#r#a}", "{a}"),
+    ("{:?#x}", "{:#x?}"),
+    // eight rounds, and no more
+    ("{r#r#r#r#r#r#r#r#a}", "{a}"),
+    ("{r#r#r#r#r#r#r#r#r#a}", "{r#a}"),
 ];
 
 #[test]
@@ -86,12 +81,21 @@ fn of_texts(rt: HostRuntime) -> Result<(), Fail> {
     Ok(())
 }
 
-/// In these modes nothing is suggested for these texts.
+/// In these modes nothing is suggested for these texts, or it leads to new faults.
 #[test]
-fn texts_without_a_suggestion_stay(rt: HostRuntime) -> Result<(), Fail> {
+fn texts_without_a_fix_stay(rt: HostRuntime) -> Result<(), Fail> {
     for (mode, text) in [
         (ParseMode::InlineAsm, "{a?} {r#a}"),
         (ParseMode::DiagnosticNamed, "{a?} {a:?#}"),
+        (ParseMode::Format, "{a?}}"),
+        (ParseMode::Format, "{a:?#}}"),
+        (ParseMode::Format, "{:?#?}"),
+        (ParseMode::Format, "{:5?#}"),
+        (ParseMode::Format, "{:#?#}"),
+        (ParseMode::Format, "{:x??}"),
+        (ParseMode::Format, "{r#r#a=}"),
+        (ParseMode::Format, "{r#a.r#b}"),
+        (ParseMode::Diagnostic, "{r#a} {b?}}"),
     ] {
         let literal = format!(in rt.alloc(); "\"{text}\"")?;
         let found = fix(rt.alloc(), text, None, &literal, false, mode)?;

@@ -322,18 +322,16 @@ fn edited_text(alloc: Global, input: &str, mode: ParseMode) -> Result<Option<Str
 ///
 /// Returns `None` if the snippet is not the source literal of the input, so that no edit is made in
 /// a foreign literal, if there is no edit, or if the literal with its edits would not stand for the
-/// text with its own. The result may have other faults. The arguments are those of
-/// [`Parser::new`]: the number of hashes, the byte length of the input and 2 must add up to less
-/// than 2^64. Returns `Err` if an allocation fails.
+/// text with its own. Returns `Err` if an allocation fails.
 // requires { hashes style + length input.now + 2 < 2 ^ 64 }
-// ensures some { IfOk result (λ o. IfSome o (λ f. IsFixed (seen_mode mode) input.now style
+// ensures some { IfOk result (λ o. IfSome o (λ f. IsRound (seen_mode mode) input.now style
 //     snippet.now appended_newline (seen_fixed f))) }
 // ensures none { IfOk result (λ o. IfNone o ((f : FixedLiteral)
-//     → IsFixed (seen_mode mode) input.now style snippet.now appended_newline f → ⊥)) }
+//     → IsRound (seen_mode mode) input.now style snippet.now appended_newline f → ⊥)) }
 // ensures foreign { (IsSource (chars input.now) style (chars snippet.now) appended_newline → ⊥)
 //     → IsOk result }
 #[inline]
-pub fn fix(
+pub fn round(
     alloc: Global,
     input: &str,
     style: Option<usize>,

@@ -1,6 +1,6 @@
 use Rattle.std.proofs.Common.{◌≡◌, false, inl, inr, refl, string_bytes}
 use Rattle.rustc_parse_format.specs.Seen.{seen_mode}
-use Rattle.drawn_faults.specs.Fixing.{IsFixed}
+use Rattle.drawn_faults.specs.Rounds.{IsFixed}
 use Rattle.drawn_faults.specs.SeenEdits.{seen_fixed}
 use Rattle.format_lint.specs.Lint.{Shown, Source, alone, kept}
 use Rattle.format_lint.specs.SeenLint.{seen_source, seen_task}
