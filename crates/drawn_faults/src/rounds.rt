@@ -28,14 +28,14 @@ struct Faults<'a> {
     calls: usize,
 }
 
-/// Returns the faults of a text. Returns `Err` if an allocation fails, or if the text has 2^62 bytes
+/// Returns the faults of a text. Returns `Err` if an allocation fails, or if the text has 2^59 bytes
 /// or more.
 fn faults_of(alloc: Global, text: &str, mode: ParseMode) -> Result<Faults<'_>, AllocError>
     ensures ids { IfOk result (λ f. map fault_id (map seen_fault f.list.items)
         ≡ ids (seen_mode mode) text.now) }
     ensures calls { IfOk result (λ f. f.calls ≡ faulty (seen_mode mode) text.now) }
 {
-    if text.len() >= 1 << 62 {
+    if text.len() >= 1 << 59 {
         return Err(AllocError);
     }
     let mut parser = Parser::new(alloc, text, None, None, false, mode)?;
@@ -112,7 +112,7 @@ fn offer(best: &mut Best, literal: Fixed, calls: Option<usize>)
 }
 
 /// Returns what one more round of edits makes of a literal, or `None` if there is no edit. Returns
-/// `Err` if an allocation fails, or if the literal or its text has 2^62 bytes or more.
+/// `Err` if an allocation fails, or if the literal or its text has 2^59 bytes or more.
 fn next_round(
     alloc: Global,
     reached: &Fixed,
@@ -130,10 +130,10 @@ fn next_round(
 {
     let text = reached.text.as_str();
     let snippet = reached.snippet.as_str();
-    if text.len() >= 1 << 62 {
+    if text.len() >= 1 << 59 {
         return Err(AllocError);
     }
-    if snippet.len() >= 1 << 62 {
+    if snippet.len() >= 1 << 59 {
         return Err(AllocError);
     }
     Ok(round(alloc, text, style, snippet, appended_newline, mode)?)
@@ -152,7 +152,7 @@ fn next_round(
 /// if the snippet is not the source literal of the input, so that no edit is made in a foreign
 /// literal. The arguments are those of [`Parser::new`]: the number of hashes, the byte length of the
 /// input and 2 must add up to less than 2^64. Returns `Err` if an allocation fails, or if there is an edit and a literal or its text
-/// has 2^62 bytes or more.
+/// has 2^59 bytes or more.
 pub fn fix(
     alloc: Global,
     input: &str,

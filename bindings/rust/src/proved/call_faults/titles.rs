@@ -37,7 +37,7 @@ impl CallFault<'_> {
 /// Adds a number in decimal digits.
 // ensures { OnOk result (string_bytes out.new ≡ string_bytes out.old ++ decimal number) }
 #[inline]
-fn put_number(out: &mut String, number: usize) -> Result<(), AllocError> {
+pub(crate) fn put_number(out: &mut String, number: usize) -> Result<(), AllocError> {
     let mut digits = Buffer::new();
     out.try_push_str(digits.format(number))?;
     Ok(())
@@ -64,7 +64,7 @@ fn put_count(out: &mut String, count: usize) -> Result<(), AllocError> {
 /// Adds a noun, in the plural unless there is one.
 // ensures { OnOk result (string_bytes out.new ≡ string_bytes out.old ++ plural noun.now count) }
 #[inline]
-fn put_noun(out: &mut String, noun: &str, count: usize) -> Result<(), AllocError> {
+pub(crate) fn put_noun(out: &mut String, noun: &str, count: usize) -> Result<(), AllocError> {
     out.try_push_str(noun)?;
     if count != 1 {
         out.try_push('s')?;
@@ -117,13 +117,18 @@ fn put_named(out: &mut String, text: &str, name: &str) -> Result<(), AllocError>
     Ok(())
 }
 
-/// Adds the title of a name that is used by its index.
+/// Adds a name between backquotes, between two texts.
 // ensures { OnOk result (string_bytes out.new ≡ string_bytes out.old
-//     ++ (codes "named argument " ++ (quoted (chars name.now) ++ codes " is not used by name"))) }
+//     ++ (before.now ++ (quoted (chars name.now) ++ after.now))) }
 #[inline]
-fn put_by_index(out: &mut String, name: &str) -> Result<(), AllocError> {
-    put_named(out, "named argument ", name)?;
-    out.try_push_str(" is not used by name")?;
+pub(crate) fn put_name_between(
+    out: &mut String,
+    before: &str,
+    name: &str,
+    after: &str,
+) -> Result<(), AllocError> {
+    put_named(out, before, name)?;
+    out.try_push_str(after)?;
     Ok(())
 }
 
@@ -158,7 +163,7 @@ fn has_number(piece: &Piece<'_>) -> bool {
 /// Returns whether pieces refer to an argument by a number that is written.
 // ensures { result ≡ list_any has_number (map seen pieces.now) }
 #[inline]
-fn have_numbers(pieces: &[Piece<'_>]) -> bool {
+pub(crate) fn have_numbers(pieces: &[Piece<'_>]) -> bool {
     for piece in pieces {
         if has_number(piece) {
             return true;
@@ -196,7 +201,7 @@ fn put_few_title(out: &mut String, taken: usize, count: usize) -> Result<(), All
 /// Returns the name of an argument, or an empty text if it has none.
 // ensures { chars result.now ≡ name_of (slice_get (map seen_given given.now) index) }
 #[inline]
-fn name_of<'a>(given: &[Given<'a>], index: usize) -> &'a str {
+pub(crate) fn name_of<'a>(given: &[Given<'a>], index: usize) -> &'a str {
     match given.get(index) {
         Some(given) => match given.name {
             Some(name) => name,
@@ -216,18 +221,23 @@ fn is_named(given: &[Given<'_>], index: usize) -> bool {
     }
 }
 
+/// Returns what is said of an argument that is not used.
+// ensures { result.now ≡ never_used (slice_get (map seen_given given.now) index) }
+#[inline]
+pub(crate) fn never_used(given: &[Given<'_>], index: usize) -> &'static str {
+    if is_named(given, index) {
+        "named argument never used"
+    } else {
+        "argument never used"
+    }
+}
+
 /// Returns the title of arguments that are not used.
 // ensures { result.now ≡ unused_title (map seen_given given.now) unused.now }
 #[inline]
 fn unused_title(given: &[Given<'_>], unused: &[usize]) -> &'static str {
     match unused {
-        [index] => {
-            if is_named(given, *index) {
-                "named argument never used"
-            } else {
-                "argument never used"
-            }
-        }
+        [index] => never_used(given, *index),
         _ => "multiple unused formatting arguments",
     }
 }
@@ -300,9 +310,12 @@ impl<'a> Checked<'a> {
             CallFault::RedundantArguments(redundant) => {
                 put_noun(out, "redundant argument", redundant.len())
             }
-            CallFault::NameUsedByIndex { index, .. } => {
-                put_by_index(out, name_of(self.given, *index))
-            }
+            CallFault::NameUsedByIndex { index, .. } => put_name_between(
+                out,
+                "named argument ",
+                name_of(self.given, *index),
+                " is not used by name",
+            ),
         }
     }
 }

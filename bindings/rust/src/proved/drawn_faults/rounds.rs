@@ -21,14 +21,14 @@ struct Faults<'a> {
     calls: usize,
 }
 
-/// Returns the faults of a text. Returns `Err` if an allocation fails, or if the text has 2^62 bytes
+/// Returns the faults of a text. Returns `Err` if an allocation fails, or if the text has 2^59 bytes
 /// or more.
 // ensures ids { IfOk result (λ f. map fault_id (map seen_fault f.list.items)
 //     ≡ ids (seen_mode mode) text.now) }
 // ensures calls { IfOk result (λ f. f.calls ≡ faulty (seen_mode mode) text.now) }
 #[inline]
 fn faults_of(alloc: Global, text: &str, mode: ParseMode) -> Result<Faults<'_>, AllocError> {
-    if text.len() >= 1 << (usize::BITS - 2) {
+    if text.len() >= 1 << (usize::BITS - 5) {
         return crate::shim::alloc::refuse();
     }
     let mut parser = Parser::new(alloc, text, None, None, false, mode)?;
@@ -104,7 +104,7 @@ fn offer(best: &mut Best, literal: Fixed, calls: Option<usize>) {
 }
 
 /// Returns what one more round of edits makes of a literal, or `None` if there is no edit. Returns
-/// `Err` if an allocation fails, or if the literal or its text has 2^62 bytes or more.
+/// `Err` if an allocation fails, or if the literal or its text has 2^59 bytes or more.
 // requires { hashes style ≤ length (seen_fixed reached.now).snippet }
 // ensures some { IfOk result (λ o. IfSome o (λ f. IsRound (seen_mode mode)
 //     (seen_fixed reached.now).text style (seen_fixed reached.now).snippet appended_newline
@@ -122,10 +122,10 @@ fn next_round(
 ) -> Result<Option<Fixed>, AllocError> {
     let text = reached.text.as_str();
     let snippet = reached.snippet.as_str();
-    if text.len() >= 1 << (usize::BITS - 2) {
+    if text.len() >= 1 << (usize::BITS - 5) {
         return crate::shim::alloc::refuse();
     }
-    if snippet.len() >= 1 << (usize::BITS - 2) {
+    if snippet.len() >= 1 << (usize::BITS - 5) {
         return crate::shim::alloc::refuse();
     }
     Ok(round(alloc, text, style, snippet, appended_newline, mode)?)
@@ -144,7 +144,7 @@ fn next_round(
 /// if the snippet is not the source literal of the input, so that no edit is made in a foreign
 /// literal. The arguments are those of [`Parser::new`]: the number of hashes, the byte length of the
 /// input and 2 must add up to less than 2^64. Returns `Err` if an allocation fails, or if there is an edit and a literal or its text
-/// has 2^62 bytes or more.
+/// has 2^59 bytes or more.
 // requires { hashes style + length input.now + 2 < 2 ^ 64 }
 // ensures some { IfOk result (λ o. IfSome o (λ f. IsFixed (seen_mode mode) input.now style
 //     snippet.now appended_newline (seen_fixed f))) }
