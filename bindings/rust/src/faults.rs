@@ -5,7 +5,7 @@ use crate::proved::drawn_faults::{
     draw as draw_in, edits as edits_in, errors_of as errors_of_in, fix as fix_in,
 };
 use crate::proved::rustc_parse_format::error_list::empty_error;
-use crate::proved::rustc_parse_format::messages::tell;
+use crate::proved::rustc_parse_format::messages::set_error;
 use crate::shim::alloc::{answer, Global};
 use crate::shim::parser::Parser;
 use crate::{Argument, ParseError, ParseMode};
@@ -153,17 +153,23 @@ pub fn faults_of(
 /// ```
 pub fn error_of(fault: &Fault<'_>) -> ParseError {
     let mut error = empty_error(Global);
-    answer(tell(Global, &mut error, fault));
+    answer(set_error(Global, &mut error, fault));
     error
 }
 
-/// Returns the source literal of an input with the edits of all errors up to the end of the input,
-/// and the text with the same edits, which the literal then stands for.
+/// Returns the source literal of an input with the edits that its faults suggest, and the text with
+/// the same edits, which the literal then stands for. Fewer calls of a parser over it find a fault,
+/// and each of these faults the input has too.
 ///
-/// Returns `None` if the snippet is not the source literal of the input, so that no edit is made in
-/// a foreign literal, if there is no edit, or if the literal with its edits would not stand for the
-/// text with its own. The result may have other faults. The arguments are those of
-/// [`Parser::new`](crate::Parser::new). An allocation failure aborts, as elsewhere in Rust.
+/// The edits of all faults are made in a round, and then those that the result suggests, in at most
+/// eight rounds. Of all that the literal becomes without a new fault, the result is the one with the
+/// fewest calls that find a fault, and of two with as few the earlier one. Faults are compared by
+/// their kinds, as [`Fault::id`] names them.
+///
+/// Returns `None` if there is no such literal: if there is no edit, if all lead to new faults, or if
+/// the snippet is not the source literal of the input, so that no edit is made in a foreign literal.
+/// The arguments are those of [`Parser::new`](crate::Parser::new). An allocation failure aborts, as
+/// elsewhere in Rust.
 ///
 /// ```
 /// use dephungo::faults::fix;

@@ -29,13 +29,11 @@ fn texts() {
         (Format, "한{r#a}한", "한{a}한"),
         (Format, "{r#a:?x} {b?} {:?#}", "{a:x?} {b:?} {:#?}"),
         (Format, "} {r#a} } {b?}", "} {a} } {b:?}"),
-        (Format, "{r#a.r#b}", "{a.b}"),
-        (Format, "{r#a{r#b{r#c", "{a{b{c"),
-        // these have faults of their own after the edit
-        (Format, "{a?}}", "{a:?}}"),
-        (Format, "{:05?#}", "{:05#?}"),
-        (Format, "{:x??}", "{:x?:?}"),
-        (Format, "{r#r#a}", "{r#a}"),
+        // a fault that the edit leaves
+        (Format, "{a.:?#}", "{a.:#?}"),
+        // a suggestion that another one makes possible
+        (Format, "{r#r#a}", "{a}"),
+        (Format, "{:?#x}", "{:#x?}"),
         (DiagnosticNamed, "{r#a} {a?}", "{a} {a?}"),
     ] {
         let quoted = |text: &str| format!("\"{text}\"");
@@ -97,24 +95,21 @@ fn texts_of(parts: usize) -> Vec<String> {
 const PARTS: &[&str] = &["{", "}", "{{", "a", ":", "?", "#", "r#", ".", "0", "$", " "];
 
 #[test]
-fn a_fix_leaves_no_more_faults_and_does_not_turn_round() {
+fn a_fix_leaves_fewer_faults_and_no_new_one() {
     for text in texts_of(4) {
         for mode in [Format, InlineAsm, Diagnostic, DiagnosticNamed] {
             let fix_of = |text: &str| fixed(mode, text, None, &format!("\"{text}\""));
-            let faults_of = |text: &str| errors_of(text, None, None, false, mode);
-            let mut seen = vec![text.clone()];
-            while let Some((_, next)) = fix_of(&seen[seen.len() - 1]) {
-                let (before, after) = (faults_of(&seen[seen.len() - 1]), faults_of(&next));
-                assert!(mode != InlineAsm && after.len() <= before.len(), "{text}");
-                assert!(!seen.contains(&next), "{seen:?}");
-                let is_late = |it: &ParseError| it.description.starts_with("format specifiers");
-                assert_eq!(
-                    after.iter().any(is_late),
-                    before.iter().any(is_late),
-                    "{text}"
-                );
-                seen.push(next);
-            }
+            let Some((_, fixed)) = fix_of(&text) else {
+                continue;
+            };
+            let ids_of = |text: &str| -> Vec<&str> {
+                let faults = faults_of(text, None, None, false, mode);
+                faults.iter().map(|fault| fault.id()).collect()
+            };
+            let (before, after) = (ids_of(&text), ids_of(&fixed));
+            assert!(mode != InlineAsm && after.len() < before.len(), "{text}");
+            let mut left = before.iter();
+            assert!(after.iter().all(|id| left.any(|it| it == id)), "{text}");
         }
     }
 }
@@ -125,6 +120,12 @@ fn what_is_not_fixed() {
         ("{}", None, "\"{}\""),
         ("{_}", None, "\"{_}\""),
         ("{a=}", None, "\"{a=}\""),
+        // a new fault, or as many calls that find one
+        ("{a?}}", None, "\"{a?}}\""),
+        ("{:05?#}", None, "\"{:05?#}\""),
+        ("{:?#?}", None, "\"{:?#?}\""),
+        ("{r#a.r#b}", None, "\"{r#a.r#b}\""),
+        ("{r#r#a=}", None, "\"{r#r#a=}\""),
         // snippets that are not the source literal of the input
         ("{r#a}", None, "r\"{r#a}\""),
         ("{r#a}", Some(0), "\"{r#a}\""),

@@ -26,7 +26,8 @@ use Rattle.drawn_faults.specs.Fixing.{Fixed, IsRound, all_faults}
 use Rattle.drawn_faults.specs.SeenEdits.{seen_fixed}
 use Rattle.drawn_faults.specs.declared.fixes.Fixed.{Fixed as DeclaredFixed}
 use Rattle.drawn_faults.specs.Rounds.{AreRounds, Best, IsBetter, IsFixed, count_left, ids, is_part}
-use Rattle.drawn_faults.specs.Rounds.{faulty, faulty_calls, faulty_within, finds, most_rounds, offered}
+use Rattle.drawn_faults.specs.Rounds.{faulty, faulty_calls, faulty_within, finds, most_rounds}
+use Rattle.drawn_faults.specs.Rounds.{offered}
 use Rattle.drawn_faults.proofs.CallFaults.{all_faults-step}
 
 -- The id of a fault does not depend on its spans.
@@ -230,8 +231,8 @@ rounds-front mode style appended (suc k) (suc n) f g le a = elim (cases_order (s
   | inr (inr gt) ↦ absurd (omega (arith, gt, le))
 ]
 
--- The literal is better after some round, this number is that of its calls that find a fault, and no
--- earlier round leaves as few.
+-- The literal is better after some round, this number is that of its calls that find a fault, and
+-- no earlier round leaves as few.
 pub record IsFirst (mode : Mode) (style : Option ℕ) (appended : Bool) (f g : Fixed) (fewest : ℕ) :
     Type 0 where
   pub count : fewest ≡ faulty mode g.text

@@ -1,4 +1,4 @@
--- The literal that the suggestions of its faults make of it, which has fewer faults and no new ones.
+-- The literal that the suggestions of its faults make of it, with fewer faults and no new ones.
 use Rattle.std.specs.Prelude.{◌≡◌, ◌+◌, ◌<◌, ◌≤◌, ℕ, zero, suc, Bool, true, false, IsTrue, List, []}
 use Rattle.std.specs.Prelude.{◌∷◌, Option, None, Some, chars, if◌then◌else◌, length, map, nat_lt}
 use Rattle.std.specs.Str.{bytes_eq}
@@ -79,8 +79,8 @@ pub record IsFixed (mode : Mode) (input : List ℕ) (style : Option ℕ) (litera
       → IsBetter mode style appended (record { snippet = literal; text = input }) n h
       → n < round → faulty mode g.text < faulty mode h.text
 
--- The best literal so far, if there is one, and how many of its calls find a fault, or else of those
--- at the start.
+-- The best literal so far, if there is one, and how many of its calls find a fault, or else of
+-- those at the start.
 pub record Best : Type 0 where
   pub literal : Option Fixed
   pub calls : ℕ

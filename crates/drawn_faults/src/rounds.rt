@@ -28,8 +28,8 @@ struct Faults<'a> {
     calls: usize,
 }
 
-/// Returns the faults of a text. Returns `Err` if an allocation fails, or if the text has 2^59 bytes
-/// or more.
+/// Returns the faults of a text. Returns `Err` if an allocation fails, or if the text has 2^59
+/// bytes or more.
 fn faults_of(alloc: Global, text: &str, mode: ParseMode) -> Result<Faults<'_>, AllocError>
     ensures ids { IfOk result (λ f. map fault_id (map seen_fault f.list.items)
         ≡ ids (seen_mode mode) text.now) }
@@ -98,8 +98,8 @@ struct Best {
     calls: usize,
 }
 
-/// Keeps a literal if it is better. `calls` is how many of its calls find a fault, or `None` if there
-/// is a new one.
+/// Keeps a literal if it is better. `calls` is how many of its calls find a fault, or `None` if
+/// there is a new one.
 fn offer(best: &mut Best, literal: Fixed, calls: Option<usize>)
     ensures { seen_best best.new ≡ offered (seen_best best.old) (seen_fixed literal) calls }
 {
@@ -150,9 +150,9 @@ fn next_round(
 ///
 /// Returns `None` if there is no such literal: if there is no edit, if all lead to new faults, or
 /// if the snippet is not the source literal of the input, so that no edit is made in a foreign
-/// literal. The arguments are those of [`Parser::new`]: the number of hashes, the byte length of the
-/// input and 2 must add up to less than 2^64. Returns `Err` if an allocation fails, or if there is an edit and a literal or its text
-/// has 2^59 bytes or more.
+/// literal. The arguments are those of [`Parser::new`]: the number of hashes, the byte length of
+/// the input and 2 must add up to less than 2^64. Returns `Err` if an allocation fails, or if there
+/// is an edit and a literal or its text has 2^59 bytes or more.
 pub fn fix(
     alloc: Global,
     input: &str,

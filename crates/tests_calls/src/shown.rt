@@ -166,10 +166,12 @@ fn labels_notes_and_helps_are_those_of_rustc(rt: HostRuntime) -> Result<(), Fail
     Ok(())
 }
 
+/// Every twelfth row, since each of their requests for memory is refused once.
 #[test]
 fn labels_out_of_memory_are_made_again(rt: HostRuntime) -> Result<(), Fail> {
     let alloc = rt.alloc();
-    for row in SHOWN {
+    for index in 0..8 {
+        let row = &SHOWN[12 * index];
         let said = match shown(alloc, row.text, row.arguments) {
             Ok(said) => said,
             Err(_) => {

@@ -246,16 +246,16 @@ const WAITING: Row = Row {
     told: 2,
 };
 
-/// The suggestions of both raw identifiers are applied, though rustc 1.95 shows only the field; that
-/// is what it shows of the result.
+/// The suggestion of the raw identifier is applied; then the other fault is shown, as rustc 1.95
+/// shows it.
 const ALL_FIXED: Row = Row {
     mode: ParseMode::Format,
     is_literal: true,
     show: Show::Fix,
-    input: b"\"{r#a.r#b}\"",
-    shown: "\"{a.b}\"\n\
-        error: invalid format string: field access isn't supported\n --> a:1:3\n  |\n\
-        1 | \"{a.b}\"\n  |   ^^^ not supported in format string\n  |\n\
+    input: b"\"{r#a} {b.c}\"",
+    shown: "\"{a} {b.c}\"\n\
+        error: invalid format string: field access isn't supported\n --> a:1:7\n  |\n\
+        1 | \"{a} {b.c}\"\n  |       ^^^ not supported in format string\n  |\n\
         \x20 = note: consider moving this expression to a local variable and then using the \
         local here instead\n\n",
     told: 1,

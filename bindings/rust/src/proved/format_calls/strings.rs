@@ -1,4 +1,4 @@
-//! Which argument of a call is its format string, and why none is read.
+//! The argument of a call that is its format string, or the reason why none is read.
 
 // Extracted from crates/format_calls/src/strings.rt by tools/extract: not to be edited.
 // That source is proved, and each contract here is its. That this text means the same is tested:
@@ -10,7 +10,7 @@ use crate::proved::format_calls::table::Rule;
 use crate::proved::rust_tokens::Kind;
 use crate::proved::rust_trees::{Source, Token};
 
-/// Why no format string of a call is read.
+/// The reason why no format string of a call is read.
 #[derive(Clone, Copy)]
 pub enum Reason {
     /// There are too few arguments for one.
@@ -21,7 +21,7 @@ pub enum Reason {
     Variable,
     /// It is a literal with a suffix.
     Suffix,
-    /// It is the call of a macro, as `concat!("a", "b")`.
+    /// It is the call of a macro, for example `concat!("a", "b")`.
     Macro,
     /// It is another expression, or there is more than a literal.
     Expression,
@@ -48,7 +48,7 @@ fn is_text(tokens: &[Token<'_>], argument: &Argument) -> bool {
     }
 }
 
-/// Returns why an argument that is no string literal is none.
+/// Returns the reason why an argument is no string literal.
 // ensures { result ≡ reason_of (map leaf tokens.now) argument.now }
 #[inline]
 fn reason_of(tokens: &[Token<'_>], argument: &Argument) -> Reason {
@@ -76,8 +76,8 @@ fn first_text(tokens: &[Token<'_>], arguments: &[Argument]) -> Option<usize> {
         .position(|argument| is_text(tokens, argument))
 }
 
-/// Returns the index again if the argument there is the format string, or why none is read. A last
-/// argument can be none.
+/// Returns this index if the argument with it is the format string, or the reason why none is read.
+/// The last argument may be none.
 // ensures { result ≡ argument_or (map leaf tokens.now) index (slice_get arguments.now index)
 //     (is_last_none && (index + 1) == length arguments.now) }
 #[inline]
@@ -100,7 +100,8 @@ fn string_at(
     }
 }
 
-/// Returns the index of the argument that is the format string of a call, or why none is read.
+/// Returns the index of the argument that is the format string of a call, or the reason why none is
+/// read.
 // ensures { result ≡ format_string source.now rule arguments.now is_from_2021 }
 #[inline]
 pub fn format_string(

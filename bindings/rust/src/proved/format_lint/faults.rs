@@ -5,7 +5,7 @@
 // by results from outside, and beside what is proved (.ci/bindings) and the original (tools/agree).
 
 use super::findings::Findings;
-use crate::proved::format_tokens::{label, placed, Kind, Token};
+use crate::proved::format_tokens::{label, place_labels, Kind, Token};
 use crate::proved::rustc_parse_format::{Argument, ParseMode};
 use crate::shim::alloc::{AllocError, Global};
 use crate::shim::parser::Parser;
@@ -117,7 +117,7 @@ pub fn tokens_in<'a>(
 ) -> Result<(Vec<Token>, Findings<'a>), AllocError> {
     let mut parser = parser_of(alloc, mode, source)?;
     let (labels, faults) = labels_of(alloc, &mut parser, mode, source)?;
-    let tokens = placed(
+    let tokens = place_labels(
         alloc,
         source.text,
         source.style,

@@ -1,4 +1,4 @@
-//! The program over any reader and writer: its input, what it shows, and its output.
+//! The program over any reader and writer: its input and its output.
 
 // Extracted from crates/format_lint/src/run.rt by tools/extract: not to be edited.
 // That source is proved, and each contract here is its. That this text means the same is tested:
@@ -11,24 +11,24 @@ use crate::proved::piece_listing::verdict::RunFault;
 use crate::shim::alloc::Global;
 use std::io::{Read, Write};
 
-/// Reads an input from `reader` up to its end, and writes what `task` shows of it to `writer`.
-/// Returns how many faults are left that are mistakes of their own and follow from no other one:
-/// of the input, or of the literal with its fixes.
+/// Reads an input from `reader` up to its end, and writes the output of `task` for it to `writer`.
+/// Returns the number of faults that are left as mistakes of their own and follow from no other
+/// one: of the input, or of the literal with its fixes.
 ///
 /// The input may have at most 1,048,576 bytes. Returns `Err` if a read, a write or an allocation
-/// fails, or if the input is too long, not UTF-8, or not a string literal although the task asks
-/// for one (`RunFault`, but never `Words`). A read or a write that fails is not tried again. After
-/// an error nothing is written, except that after a failed write a part may be.
-// What is written and the result are those that the definition `IsOwed` asks for.
+/// fails, or if the input is too long, not UTF-8, or not a string literal although the task needs
+/// one (`RunFault`, but never `Words`). A read or a write that fails is not tried again. After an
+/// error nothing is written, except that after a failed write a part may be.
+// The output and the result are those of the definition `IsOwed`.
 // ensures shown { IfOk result (λ told. IfSome (R.remaining reader.old) (λ input. (text : List ℕ)
 //     × IsOwed (seen_task task.entry) input (Ok (text, told))
 //     × Appends (W.contents writer.old) (W.contents writer.new) text)) }
-// A terminal obeys nothing of it but the colours that are asked for; with fixes the literal,
+// A terminal obeys nothing of the output but the colours of the task; with fixes the literal,
 // which is to be read again, is written as it is.
 // ensures harmless { IfOk result (λ told. IfSome (R.remaining reader.old)
 //     (λ input. (text : List ℕ) × IsHarmlessFor (seen_task task.entry) input text
 //     × Appends (W.contents writer.old) (W.contents writer.new) text)) }
-// The definition asks for one result.
+// The definition has only one result.
 // ensures one_answer { (a : TaskValue) (input : List ℕ) (x y : Result Shown FaultValue)
 //     → IsOwed a input x → IsOwed a input y → x ≡ y }
 // There is a mistake exactly if a parser has an error.

@@ -1,4 +1,4 @@
-//! What is shown of an input in UTF-8.
+//! The output for an input in UTF-8.
 
 // Extracted from crates/format_lint/src/shown.rt by tools/extract: not to be edited.
 // That source is proved, and each contract here is its. That this text means the same is tested:
@@ -100,9 +100,9 @@ fn put_first(
     Ok(())
 }
 
-/// Appends the drawing of the first fault to a text, or the drawings of those that are kept and how
-/// many others there are. Returns how many faults are mistakes of their own, and `Err` if an
-/// allocation fails.
+/// Appends the drawing of the first fault to a text, or the drawings of those that are kept and the
+/// number of others. Returns how many faults are mistakes of their own, and `Err` if an allocation
+/// fails.
 // ensures drawn { OnOk result (string_bytes out.new ≡ string_bytes out.old
 //     ++ (if all then flat_map (drawn_finding (seen_mode mode) (seen_picture picture.now))
 //     (map seen_finding faults.now.first.items) ++ more faults.now.others
@@ -127,7 +127,7 @@ fn put_drawings(
     Ok(faults.mistakes)
 }
 
-/// Appends what is drawn of a source with these faults to a text. Returns how many of them are
+/// Appends the drawing of a source with these faults to a text. Returns how many of them are
 /// mistakes of their own, and `Err` if an allocation fails.
 // requires { Keeps faults.now (findings (seen_mode task.mode) (seen_source source)) }
 // ensures drawn { OnOk result (string_bytes out.new ≡ string_bytes out.old
@@ -152,7 +152,7 @@ fn put_faults(
     put_drawings(alloc, out, all, task.mode, &picture, faults)
 }
 
-/// Appends what is drawn of a source to a text. Returns how many mistakes it has, and `Err` if an
+/// Appends the drawing of a source to a text. Returns how many mistakes it has, and `Err` if an
 /// allocation fails.
 // requires { hashes source.style ≤ limit }
 // ensures drawn { OnOk result (string_bytes out.new ≡ string_bytes out.old
@@ -251,8 +251,8 @@ fn put_lexed(
     Ok(told)
 }
 
-/// Returns what a task shows of a source, and how many mistakes are left. Returns `Err` if an
-/// allocation fails.
+/// Returns the output of a task for a source, and the number of mistakes that are left. Returns
+/// `Err` if an allocation fails.
 // requires { hashes source.style ≤ limit }
 // ensures { IfOk result (λ x. IsShown (seen_task task.entry) (seen_source source.entry)
 //     (string_bytes x.0, x.1)) }
@@ -273,9 +273,9 @@ fn shown_of(
     Ok((out, told))
 }
 
-/// Returns what a task shows of the input as a string literal, perhaps with a byte order mark
-/// before it and white space around it, and how many mistakes are left. Returns `Err` if the input
-/// is not a string literal or an allocation fails.
+/// Returns the output of a task for the input as a string literal, perhaps with a byte order mark
+/// before it and white space around it, and the number of mistakes that are left. Returns `Err` if
+/// the input is not a string literal or an allocation fails.
 // requires { IsShort input.now }
 // ensures shown { IfOk result (λ x. (s : SourceValue) × IsLiteralIn input.now s
 //     × IsShown (seen_task task.entry) s (string_bytes x.0, x.1)) }
@@ -318,8 +318,8 @@ fn bare<'a>(text: &'a str, lines: &'a str) -> Source<'a> {
     }
 }
 
-/// Returns what a task shows of an input, and how many mistakes are left. Returns `Err` if the task
-/// asks for a string literal and the input is none, or if an allocation fails.
+/// Returns the output of a task for an input, and the number of mistakes that are left. Returns
+/// `Err` if the task needs a string literal and the input is none, or if an allocation fails.
 // requires { IsShort input.now }
 // ensures shown { IfOk result (λ x. (s : SourceValue)
 //     × IsSourceIn task.entry.is_literal input.now s

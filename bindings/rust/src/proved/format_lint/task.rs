@@ -1,4 +1,4 @@
-//! What the program is asked for.
+//! The task of the program.
 
 // Extracted from crates/format_lint/src/task.rt by tools/extract: not to be edited.
 // That source is proved, and each contract here is its. That this text means the same is tested:
@@ -6,7 +6,7 @@
 
 use crate::proved::rustc_parse_format::ParseMode;
 
-/// What is shown of an input.
+/// The output that is wanted for an input.
 #[derive(Copy, Clone, Debug, Eq, PartialEq)]
 pub enum Show {
     /// The fault that the compiler shows, drawn under its source.

@@ -1,5 +1,5 @@
-//! How the tokens of a source are shown. What begins with `put_` appends to `out`, and returns
-//! `Err` if an allocation fails.
+//! The tokens of a source as they are shown. Each function whose name begins with `put_` appends to
+//! `out`, and returns `Err` if an allocation fails.
 
 // Extracted from crates/format_lint/src/tokens.rt by tools/extract: not to be edited.
 // That source is proved, and each contract here is its. That this text means the same is tested:
@@ -140,8 +140,8 @@ fn put_token(
     Ok(())
 }
 
-/// Returns the first characters of a text, as many as end within `width` bytes, and what is left
-/// behind them.
+/// Returns the first characters of a text, as many as end within `width` bytes, and the rest after
+/// them.
 // ensures front { chars result.0.now ≡ within width (chars text.now) }
 // ensures back { chars result.1.now ≡ behind width (chars text.now) }
 // ensures whole { text.now ≡ result.0.now ++ result.1.now }

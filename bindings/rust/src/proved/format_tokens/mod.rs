@@ -1,4 +1,4 @@
-//! The tokens of a format string: what an editor shows in colours.
+//! The tokens of a format string, as an editor shows them in colours.
 
 // Extracted from crates/format_tokens/src/lib.rt by tools/extract: not to be edited.
 // That source is proved, and each contract here is its. That this text means the same is tested:
@@ -11,5 +11,5 @@ pub(crate) mod places;
 pub(crate) mod walk;
 
 pub use kinds::{Kind, Token};
-pub use lexer::{placed, tokens};
+pub use lexer::{place_labels, tokens};
 pub use walk::label;

@@ -1,4 +1,4 @@
-//! What is written to standard error where there is no answer.
+//! The lines that are written to standard error where there is no answer.
 
 // Extracted from crates/lint_words/src/messages.rt by tools/extract: not to be edited.
 // That source is proved, and each contract here is its. That this text means the same is tested:
@@ -33,8 +33,8 @@ fn put_opening(out: &mut String, path: &str) -> Result<(), AllocError> {
     Ok(())
 }
 
-/// Returns why there is no answer, where `why` has the words of the system for a read or a write
-/// that failed, if it has any.
+/// Returns the reason why there is no answer. For a read or a write that failed, `why` has the
+/// words of the system, if it has any.
 // ensures { result.now ≡ reason fault why.now }
 #[inline]
 fn reason<'a>(fault: RunFault, why: &'a str) -> &'a str {
@@ -88,9 +88,9 @@ fn put_place(out: &mut String, place: Place) -> Result<(), AllocError> {
     Ok(())
 }
 
-/// Appends the lines that say why the file with this path holds no string literal and where, and
-/// which option reads it as a text. Returns `Err` if an allocation fails, and a part of the lines
-/// may then be appended.
+/// Appends the lines that say why the file with this path holds no string literal, at which place,
+/// and which option reads it as a text. Returns `Err` if an allocation fails, and a part of the
+/// lines may then be appended.
 // requires { IsCharBoundary file.now fault.now.offset }
 // ensures { OnOk result (string_bytes out.new
 //     ≡ string_bytes out.old ++ not_literal path.now file.now fault.now) }

@@ -1,4 +1,4 @@
-//! What is wrong with an escape.
+//! The faults of escapes.
 
 // Extracted from crates/literal_faults/src/escapes.rt by tools/extract: not to be edited.
 // That source is proved, and each contract here is its. That this text means the same is tested:
@@ -17,8 +17,8 @@ fn hex_digit(c: char) -> Option<u32> {
     c.to_digit(16)
 }
 
-/// Returns what is left after the hexadecimal digit of a byte escape, or what is wrong where no
-/// digit comes next.
+/// Returns the rest after the hexadecimal digit of a byte escape, or the fault if no digit comes
+/// next.
 // ensures { MatchResult result (λ r. after_digit (chars text.now) ≡ Ok (chars r.now))
 //     (λ k. after_digit (chars text.now) ≡ Err k) }
 #[inline]
@@ -37,7 +37,7 @@ fn after_digit(text: &str) -> Result<&str, FaultKind> {
     }
 }
 
-/// Returns what is wrong with a byte escape, by what is after its `\x`.
+/// Returns the fault of a byte escape, by the text after its `\x`.
 // ensures { result ≡ first_fault (after_digit (chars text.now)) }
 #[inline]
 fn byte_fault(text: &str) -> FaultKind {
@@ -74,7 +74,7 @@ fn number(text: &str) -> Option<u32> {
     Some(value)
 }
 
-/// Returns what is wrong with the number that the digits at the start of a text write.
+/// Returns the fault of the number that the digits at the start of a text write.
 // ensures { result ≡ number_fault (number (front is_part (chars text.now))) }
 #[inline]
 fn number_fault(text: &str) -> FaultKind {
@@ -90,7 +90,7 @@ fn number_fault(text: &str) -> FaultKind {
     }
 }
 
-/// Returns what is left of a text after the hexadecimal digits and `_` at its start.
+/// Returns the rest of a text after the hexadecimal digits and `_` at its start.
 // ensures { chars result.now ≡ behind is_part (chars text.now) }
 #[inline]
 fn behind_digits(text: &str) -> &str {
@@ -104,7 +104,7 @@ fn behind_digits(text: &str) -> &str {
     rest
 }
 
-/// Returns what is wrong with a Unicode escape, by what is after its opening brace.
+/// Returns the fault of a Unicode escape, by the text after its opening brace.
 // ensures { result ≡ braces_fault (chars text.now) }
 #[inline]
 fn braces_fault(text: &str) -> FaultKind {
@@ -121,7 +121,7 @@ fn braces_fault(text: &str) -> FaultKind {
     }
 }
 
-/// Returns what is wrong with a Unicode escape, by what is after its `\u`.
+/// Returns the fault of a Unicode escape, by the text after its `\u`.
 // ensures { result ≡ unicode_fault (chars text.now) }
 #[inline]
 fn unicode_fault(text: &str) -> FaultKind {
@@ -132,7 +132,7 @@ fn unicode_fault(text: &str) -> FaultKind {
     }
 }
 
-/// Returns what is wrong with an escape, by what is after its backslash.
+/// Returns the fault of an escape, by the text after its backslash.
 // ensures { result ≡ escape_fault (chars text.now) }
 #[inline]
 pub fn escape_fault(text: &str) -> FaultKind {

@@ -1,4 +1,4 @@
-//! Why a text is no string literal, and where.
+//! The reason why a text is no string literal, and its place.
 
 // Extracted from crates/literal_faults/src/fault.rt by tools/extract: not to be edited.
 // That source is proved, and each contract here is its. That this text means the same is tested:
@@ -9,8 +9,8 @@ use crate::proved::literal_faults::stops::behind_units;
 use crate::proved::piece_listing::literal::raw_text;
 use crate::proved::rust_tokens::{split_first, split_first_token, Kind};
 
-/// What is wrong with a text that is to be a string literal. The names of escapes are those of
-/// rustc's `EscapeError`.
+/// The kind of a fault of a text that is to be a string literal. The names of faults of escapes are
+/// those of rustc's `EscapeError`.
 #[derive(Copy, Clone, Debug, Eq, PartialEq)]
 pub enum FaultKind {
     /// The text is empty.
@@ -56,7 +56,7 @@ pub enum FaultKind {
 /// The reason why a text is no string literal.
 #[derive(Copy, Clone, Debug, Eq, PartialEq)]
 pub struct LiteralFault {
-    /// What is wrong.
+    /// The kind of the fault.
     pub kind: FaultKind,
     /// The byte offset up to which the text can be read as a string literal: that of the backslash
     /// of an escape that is wrong, and the end of the text if the literal lacks its closing quote.
@@ -70,7 +70,7 @@ fn is_id_start(c: char) -> bool {
     c == '_' || crate::shim::unicode_ident::is_xid_start(c)
 }
 
-/// Returns what follows a literal that is not alone.
+/// Returns the fault of a literal that is not alone.
 // ensures { result ≡ trailing is_suffix }
 #[inline]
 fn trailing(is_suffix: bool) -> FaultKind {
@@ -81,8 +81,8 @@ fn trailing(is_suffix: bool) -> FaultKind {
     }
 }
 
-/// Returns what is wrong at a place of an ordinary literal where no character and no escape comes
-/// next, or `None` if only the closing quote is left.
+/// Returns the fault at a place of an ordinary literal where no character and no escape comes next,
+/// or `None` if only the closing quote is left.
 // ensures { result ≡ stop_fault (chars text.now) }
 #[inline]
 fn stop_fault(text: &str) -> Option<FaultKind> {
@@ -97,7 +97,7 @@ fn stop_fault(text: &str) -> Option<FaultKind> {
     }
 }
 
-/// Returns what is left of a text after a closing quote, or the text if it does not begin with one.
+/// Returns the rest of a text after a closing quote, or the text if it does not begin with one.
 // ensures { chars result.now ≡ fault_rest (chars text.now) }
 #[inline]
 fn behind_quote(text: &str) -> &str {
@@ -130,8 +130,8 @@ fn token_fault(text: &str) -> Option<LiteralFault> {
     })
 }
 
-/// Returns the fault of a text by what is after the quote at its start, or `None` if the text is an
-/// ordinary string literal.
+/// Returns the fault of a text by the text after the quote at its start, or `None` if the text is
+/// an ordinary string literal.
 // requires { chars text.now ≡ 34 ∷ chars content.now }
 // ensures literal { IsNone result ↔ IsOrdinary (chars text.now) }
 // ensures fault { IfSome result (λ f. IsStringFault (chars text.now) f) }
@@ -146,7 +146,8 @@ fn string_fault(text: &str, content: &str) -> Option<LiteralFault> {
     })
 }
 
-/// Returns why a text is no string literal and where, or `None` if it is one.
+/// Returns the reason why a text is no string literal, with its place, or `None` if the text is
+/// one.
 ///
 /// The fault is at the first place at which the text can no longer be read as a string literal. The
 /// rules are those of the Rust Reference, except that a raw literal may hold any character, and its

@@ -1,4 +1,4 @@
-//! Where the text of a file is, without what may stand around a literal.
+//! The text of a file without the margins that may be around a literal.
 
 // Extracted from crates/literal_faults/src/margins.rt by tools/extract: not to be edited.
 // That source is proved, and each contract here is its. That this text means the same is tested:
@@ -8,7 +8,7 @@ use crate::proved::literal_faults::fault::{literal_fault, LiteralFault};
 use crate::proved::rust_tokens::split_first;
 use crate::shim::prelude::*;
 
-/// The text of a file without what may stand around a literal.
+/// The text of a file without its margins.
 #[derive(Clone, Copy, Debug)]
 pub struct Snippet<'a> {
     /// The file without the byte order mark at its start.
@@ -19,7 +19,7 @@ pub struct Snippet<'a> {
     pub start: usize,
 }
 
-/// Returns what is left of a file after the byte order mark at its start, if it has one.
+/// Returns the rest of a file after the byte order mark at its start, if it has one.
 // ensures { IsUnmarked file.now result.now }
 #[inline]
 fn behind_mark(file: &str) -> &str {
@@ -48,9 +48,9 @@ pub fn snippet_of(file: &str) -> Snippet<'_> {
     }
 }
 
-/// Returns why a file does not hold a string literal alone, and the place in the file, or `None` if
-/// it does. A byte order mark at the start of the file and ASCII white space around the literal are
-/// skipped ([`snippet_of`]). Does not allocate.
+/// Returns the reason why a file does not hold a string literal alone, with its place in the file,
+/// or `None` if it does. A byte order mark at the start of the file and ASCII white space around
+/// the literal are skipped ([`snippet_of`]). Does not allocate.
 // ensures fault { (source text : List ℕ) × (start : ℕ) × IsSnippet file.now source text start
 //     × IsFaultIn (chars text) (length file.now - length source + start) result }
 // ensures boundary { IfSome result (λ f. IsCharBoundary file.now f.offset) }

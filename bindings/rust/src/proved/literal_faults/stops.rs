@@ -1,4 +1,4 @@
-//! Where a text can no longer be read as the content of an ordinary string literal.
+//! The place at which a text can no longer be read as the content of an ordinary string literal.
 
 // Extracted from crates/literal_faults/src/stops.rt by tools/extract: not to be edited.
 // That source is proved, and each contract here is its. That this text means the same is tested:
@@ -6,8 +6,8 @@
 
 use crate::proved::rustc_parse_format::literal::split_first_unit;
 
-/// Returns what is left of a text after the characters and escapes of an ordinary string literal
-/// that it begins with.
+/// Returns the rest of a text after the characters and escapes of an ordinary string literal that
+/// it begins with.
 // ensures { StopsAt (chars content.now) (chars result.now) }
 #[inline]
 pub fn behind_units(content: &str) -> &str {

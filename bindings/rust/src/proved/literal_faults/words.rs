@@ -10,9 +10,9 @@ use crate::shim::alloc::AllocError;
 use crate::shim::prelude::*;
 
 /// Returns the title where a token of this kind stands in place of a string literal.
-// ensures { result.now ≡ found kind }
+// ensures { result.now ≡ found_title kind }
 #[inline]
-fn found(kind: Kind) -> &'static str {
+fn found_title(kind: Kind) -> &'static str {
     match kind {
         Kind::ByteStr | Kind::RawByteStr => {
             "expected a string literal, found a byte string literal"
@@ -32,7 +32,7 @@ fn found(kind: Kind) -> &'static str {
 fn title(kind: FaultKind) -> &'static str {
     match kind {
         FaultKind::Missing => "expected a string literal, found nothing",
-        FaultKind::NotString(token) => found(token),
+        FaultKind::NotString(token) => found_title(token),
         FaultKind::UnterminatedString => "unterminated double quote string",
         FaultKind::UnterminatedRawString => "unterminated raw string",
         FaultKind::InvalidEscape(_) => "unknown character escape",
@@ -58,9 +58,9 @@ fn title(kind: FaultKind) -> &'static str {
 }
 
 /// Returns the character that the message of a fault names.
-// ensures { result ≡ named kind }
+// ensures { result ≡ named_character kind }
 #[inline]
-fn named(kind: FaultKind) -> Option<char> {
+fn named_character(kind: FaultKind) -> Option<char> {
     match kind {
         FaultKind::InvalidEscape(c)
         | FaultKind::InvalidCharInHexEscape(c)
@@ -96,7 +96,7 @@ impl FaultKind {
     #[inline]
     pub fn put_message(&self, out: &mut String) -> Result<(), AllocError> {
         out.try_push_str(title(*self))?;
-        if let Some(c) = named(*self) {
+        if let Some(c) = named_character(*self) {
             out.try_push_str(": `")?;
             put_shown(out, c)?;
             out.try_push_str("`")?;

@@ -1,5 +1,5 @@
-//! The lines of the pieces of a parser, each written as its call returns it: a placeholder is read
-//! into one argument again and again, so that a long text asks for no memory for each.
+//! The lines of the pieces of a parser, each written as its call returns it: all placeholders are
+//! read into one argument, so that a long text needs no memory for each.
 
 // Extracted from crates/piece_listing/src/calls.rt by tools/extract: not to be edited.
 // That source is proved, and each contract here is its. That this text means the same is tested:
@@ -18,7 +18,7 @@ use crate::shim::parser::Parser;
 // ensures state { OnOk result (parser.new ≡ after parser.old (next_call parser.old)) }
 // ensures spare { AddsNothing parser.old (next_call parser.old) → IsOk result }
 #[inline]
-fn next_taken<'a>(
+fn next_piece<'a>(
     parser: &mut Parser<'a>,
     argument: &mut Argument<'a>,
 ) -> Result<Option<Taken<'a>>, AllocError> {
@@ -81,7 +81,7 @@ pub fn put_calls<'a>(
         position_span: 0..0,
         format: FormatSpec::default(),
     };
-    while let Some(taken) = next_taken(parser, &mut argument)? {
+    while let Some(taken) = next_piece(parser, &mut argument)? {
         put_taken(out, &taken, &argument)?;
         add_uses(used, compares, &taken, &argument)?;
     }

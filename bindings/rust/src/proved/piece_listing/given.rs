@@ -19,7 +19,7 @@ pub struct Given<'a> {
     pub names: Option<&'a str>,
 }
 
-/// Returns what is before the first comma and what is after it, or `None` if there is no comma.
+/// Returns the text before the first comma and the text after it, or `None` if there is no comma.
 // ensures parts { MatchOption result
 //     (parts text.now ≡ text.now ∷ [])
 //     (λ x. parts text.now ≡ x.0.now ∷ parts x.1.now) }

@@ -15,7 +15,7 @@ use crate::shim::prelude::*;
 //     (λ t. chars t.now ++ c ∷ [] ≡ chars text.now) }
 // ensures shorter { IfSome result (λ t. length t.now + 1 ≡ length text.now) }
 #[inline]
-fn in_front_of(text: &str, c: char) -> Option<&str> {
+fn without_last(text: &str, c: char) -> Option<&str> {
     text.strip_suffix(c)
 }
 
@@ -28,7 +28,7 @@ fn in_front_of(text: &str, c: char) -> Option<&str> {
 // ensures short { length result.now ≤ length text.now }
 #[inline]
 pub fn without_newline(text: &str) -> &str {
-    match in_front_of(text, '\n') {
+    match without_last(text, '\n') {
         Some(line) => line,
         None => text,
     }
@@ -41,19 +41,19 @@ pub fn without_newline(text: &str) -> &str {
 //     (λ t. chars text.now ≡ c ∷ chars t.now) }
 // ensures shorter { IfSome result (λ t. length t.now + 1 ≡ length text.now) }
 #[inline]
-fn behind(text: &str, c: char) -> Option<&str> {
+fn without_first(text: &str, c: char) -> Option<&str> {
     text.strip_prefix(c)
 }
 
-/// Returns the number of hashes at the start of a text, and what is after them.
+/// Returns the number of hashes at the start of a text, and the text after them.
 // ensures all { chars text.now ≡ replicate result.0 35 ++ chars result.1.now }
 // ensures no_more { (t : Text) → chars result.1.now ≡ 35 ∷ t → ⊥ }
 // ensures few { result.0 + length result.1.now ≡ length text.now }
 #[inline]
-fn behind_hashes(text: &str) -> (usize, &str) {
+fn leading_hashes(text: &str) -> (usize, &str) {
     let mut count = 0;
     let mut rest = text;
-    while let Some(more) = behind(rest, '#') {
+    while let Some(more) = without_first(rest, '#') {
         rest = more;
         count += 1;
     }
@@ -65,10 +65,10 @@ fn behind_hashes(text: &str) -> (usize, &str) {
 //     ((t : Text) → t ++ replicate count 35 ≡ chars text.now → ⊥)
 //     (λ t. chars t.now ++ replicate count 35 ≡ chars text.now) }
 #[inline]
-fn in_front_of_hashes(text: &str, count: usize) -> Option<&str> {
+fn without_last_hashes(text: &str, count: usize) -> Option<&str> {
     let mut rest = text;
     for _ in 0..count {
-        match in_front_of(rest, '#') {
+        match without_last(rest, '#') {
             Some(front) => rest = front,
             None => return None,
         }
@@ -84,9 +84,9 @@ fn in_front_of_hashes(text: &str, count: usize) -> Option<&str> {
 // ensures few { IfSome result (λ x. x.0 ≤ length literal.now) }
 #[inline]
 pub fn raw_text(literal: &str) -> Option<(usize, &str)> {
-    let (hashes, rest) = behind_hashes(behind(literal, 'r')?);
-    let rest = behind(rest, '"')?;
-    let text = in_front_of(in_front_of_hashes(rest, hashes)?, '"')?;
+    let (hashes, rest) = leading_hashes(without_first(literal, 'r')?);
+    let rest = without_first(rest, '"')?;
+    let text = without_last(without_last_hashes(rest, hashes)?, '"')?;
     Some((hashes, text))
 }
 

@@ -15,6 +15,5 @@ pub(crate) mod report_lines;
 pub mod run;
 pub(crate) mod task;
 pub mod verdict;
-
 pub use listing::put_quoted;
 pub use numbers::put_span;

@@ -5,7 +5,7 @@
 // by results from outside, and beside what is proved (.ci/bindings) and the original (tools/agree).
 
 use super::input::list_input;
-use super::task::asked;
+use super::task::task_of;
 use super::verdict::RunFault;
 use crate::shim::alloc::Global;
 use crate::shim::prelude::*;
@@ -14,7 +14,7 @@ use std::io::{Read, Write};
 /// The most bytes that an input may have.
 const LIMIT: usize = 1_048_576;
 
-/// The number of bytes that one read asks for.
+/// The number of bytes that one read requests.
 const CHUNK: usize = 4096;
 
 /// Reads all bytes of a reader up to its end. Returns `Err` if a read or an allocation fails, or if
@@ -75,14 +75,15 @@ pub fn write_whole<W: Write>(writer: &mut W, bytes: &[u8]) -> Result<(), RunFaul
 /// `--literal`, not a string literal (`RunFault`). A read or a write that fails is not tried
 /// again. After an error nothing is written, except that after a failed write a part of the listing
 /// may be.
-// The listing and the result are those that the definition `IsOwed` asks for.
-// ensures listing { IfOk result (λ told. IfSome (R.remaining reader.old) (λ input. (text : List ℕ)
-//     × IsOwed (map string_bytes words.now) input (Ok (text, told))
+// The listing and the result are those of the definition `IsOwed`.
+// ensures listing { IfOk result (λ has_ends. IfSome (R.remaining reader.old) (λ input.
+//     (text : List ℕ)
+//     × IsOwed (map string_bytes words.now) input (Ok (text, has_ends))
 //     × Appends (W.contents writer.old) (W.contents writer.new) text)) }
-// The definition asks for one result.
+// The definition has only one result.
 // ensures one_answer { (ws : List (List ℕ)) (input : List ℕ) (x y : Answer) → IsOwed ws input x
 //     → IsOwed ws input y → x ≡ y }
-// ensures words { IsErrOf result Words ↔ (asked (map string_bytes words.now) ≡ None) }
+// ensures words { IsErrOf result Words ↔ (task_of (map string_bytes words.now) ≡ None) }
 // Invalid words are found before anything is read.
 // ensures unread { IsErrOf result Words → reader.new ≡ reader.old }
 // ensures too_long { IsErrOf result TooLong → IfSome (R.remaining reader.old)
@@ -93,7 +94,7 @@ pub fn write_whole<W: Write>(writer: &mut W, bytes: &[u8]) -> Result<(), RunFaul
 //     (λ input. IsOwed (map string_bytes words.now) input (Err NotLiteral)) }
 // If the input is empty and no list of arguments is given, nothing is written, and the result
 // is `empty_answer` unless a read fails.
-// ensures empty { (mode : Mode) (literal : Bool) → asked (map string_bytes words.now)
+// ensures empty { (mode : Mode) (literal : Bool) → task_of (map string_bytes words.now)
 //     ≡ Some (record { mode = mode; is_literal = literal; given = None })
 //     → R.remaining reader.old ≡ Some [] → (writer.new ≡ writer.old)
 //     × ((result ≡ empty_answer literal) ⊎ (result ≡ Err ReadFault)) }
@@ -106,7 +107,7 @@ pub fn run<R: Read, W: Write>(
     writer: &mut W,
     words: &[String],
 ) -> Result<bool, RunFault> {
-    let task = match asked(words) {
+    let task = match task_of(words) {
         Some(task) => task,
         None => return Err(RunFault::Words),
     };
@@ -114,7 +115,7 @@ pub fn run<R: Read, W: Write>(
     let Ok(text) = std::str::from_utf8(input.as_slice()) else {
         return Err(RunFault::NotText);
     };
-    let (lines, told) = list_input(alloc, text, task)?;
+    let (lines, has_ends) = list_input(alloc, text, task)?;
     write_whole(writer, lines.as_bytes())?;
-    Ok(told)
+    Ok(has_ends)
 }

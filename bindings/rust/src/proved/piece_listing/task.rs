@@ -7,7 +7,7 @@
 use super::given::{given_by, Given};
 use crate::proved::rustc_parse_format::ParseMode;
 
-/// What the command-line arguments ask for.
+/// The task that the command-line arguments give.
 #[derive(Copy, Clone)]
 pub struct Task<'a> {
     pub mode: ParseMode,
@@ -57,10 +57,10 @@ fn task_with<'a>(word: &str, is_literal: bool, list: &'a str) -> Option<Task<'a>
     task_in(word, is_literal, Some(given))
 }
 
-/// Returns what the command-line arguments ask for, or `None` if they are invalid.
-// ensures { option_map seen_task result ≡ asked (map string_bytes words.now) }
+/// Returns the task that the command-line arguments give, or `None` if they are invalid.
+// ensures { option_map seen_task result ≡ task_of (map string_bytes words.now) }
 #[inline]
-pub fn asked(words: &[String]) -> Option<Task<'_>> {
+pub fn task_of(words: &[String]) -> Option<Task<'_>> {
     match words {
         [word] => task_in(word.as_str(), false, None),
         [word, first] => {

@@ -1,4 +1,4 @@
-//! A token without its suffix, and what is left after it.
+//! A token without its suffix, and the rest after it.
 
 // Extracted from crates/rust_tokens/src/bodies.rt by tools/extract: not to be edited.
 // That source is proved, and each contract here is its. That this text means the same is tested:
@@ -13,14 +13,14 @@ pub struct Body<'a> {
     pub kind: Kind,
     /// Whether it has its end.
     pub is_ended: bool,
-    /// What is left after it: its suffix, and what follows.
+    /// The rest after it: its suffix, and the text that follows.
     pub rest: &'a str,
 }
 
 /// Returns the token of this kind after which `rest` is left.
 // ensures { seen result ≡ (kind, true, chars rest.now) }
 #[inline]
-pub fn ended(kind: Kind, rest: &str) -> Body<'_> {
+pub fn ended_token(kind: Kind, rest: &str) -> Body<'_> {
     Body {
         kind,
         is_ended: true,
@@ -31,7 +31,7 @@ pub fn ended(kind: Kind, rest: &str) -> Body<'_> {
 /// Returns the token of this kind without its end after which `rest` is left.
 // ensures { seen result ≡ (kind, false, chars rest.now) }
 #[inline]
-pub fn unended(kind: Kind, rest: &str) -> Body<'_> {
+pub fn unended_token(kind: Kind, rest: &str) -> Body<'_> {
     Body {
         kind,
         is_ended: false,

@@ -1,11 +1,11 @@
-//! Where literals and comments have their end, found in the bytes of a text. What marks an end is
-//! ASCII, and no byte of another character is.
+//! The ends of literals and comments, found in the bytes of a text. The marks of an end are ASCII,
+//! and no byte of any other character is.
 
 // Extracted from crates/rust_tokens/src/ends.rt by tools/extract: not to be edited.
 // That source is proved, and each contract here is its. That this text means the same is tested:
 // by results from outside, and beside what is proved (.ci/bindings) and the original (tools/agree).
 
-/// Returns what is left of a text, where these bytes are left of its bytes.
+/// Returns the rest of a text, where these bytes are left of its bytes.
 // requires { IsRest text.now bytes.now }
 // ensures { result.now ≡ bytes.now }
 #[inline(always)]
@@ -13,8 +13,8 @@ fn rest_of<'a>(text: &'a str, bytes: &[u8]) -> &'a str {
     &text[text.len() - bytes.len()..]
 }
 
-/// Returns what is left after the closing quote of a string with escapes, from after its opening
-/// quote on, or `None` if it has no end.
+/// Returns the rest after the closing quote of a string with escapes, from after its opening quote
+/// on, or `None` if it has no end.
 // ensures { option_map (λ r. chars r.now) result ≡ behind_string false (chars text.now) }
 #[inline]
 pub fn behind_string(text: &str) -> Option<&str> {
@@ -33,8 +33,8 @@ pub fn behind_string(text: &str) -> Option<&str> {
     None
 }
 
-/// Returns what is left after the end of a block comment, from after its `/*` on, or `None` if it
-/// has no end.
+/// Returns the rest after the end of a block comment, from after its `/*` on, or `None` if it has
+/// no end.
 // ensures { option_map (λ r. chars r.now) result ≡ behind_comment 0 0 (chars text.now) }
 #[inline]
 pub fn behind_comment(text: &str) -> Option<&str> {
@@ -78,7 +78,7 @@ fn behind_hashes(bytes: &[u8], hashes: usize) -> Option<&[u8]> {
     Some(rest)
 }
 
-/// Returns what is left after the end of a raw string with this many hashes, from after its opening
+/// Returns the rest after the end of a raw string with this many hashes, from after its opening
 /// quote on, or `None` if it has no end.
 // ensures { option_map (λ r. chars r.now) result ≡ behind_raw hashes (chars text.now) }
 #[inline]

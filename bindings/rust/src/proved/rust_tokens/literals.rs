@@ -1,4 +1,4 @@
-//! Where characters and lifetimes end, and what a comment documents.
+//! The ends of characters and lifetimes, and the kinds of comments.
 
 // Extracted from crates/rust_tokens/src/literals.rt by tools/extract: not to be edited.
 // That source is proved, and each contract here is its. That this text means the same is tested:
@@ -9,7 +9,7 @@ use crate::proved::rust_tokens::texts::{
     begins, behind_run, is_char_content, is_id_start, split_first, strip, Class,
 };
 
-/// Returns the kind of a line comment, by what is behind its `//`.
+/// Returns the kind of a line comment, by the text after its `//`.
 // ensures { result ≡ line_kind (chars text.now) }
 #[inline]
 pub fn line_kind(text: &str) -> Kind {
@@ -25,7 +25,7 @@ pub fn line_kind(text: &str) -> Kind {
     }
 }
 
-/// Returns the kind of a block comment, by what is behind its `/*`.
+/// Returns the kind of a block comment, by the text after its `/*`.
 // ensures { result ≡ block_kind (chars text.now) }
 #[inline]
 pub fn block_kind(text: &str) -> Kind {
@@ -41,7 +41,7 @@ pub fn block_kind(text: &str) -> Kind {
     }
 }
 
-/// Returns what is left after an escape and an apostrophe, from after the backslash on, or `None`.
+/// Returns the rest after an escape and an apostrophe, from after the backslash on, or `None`.
 // ensures { option_map (λ r. chars r.now) result ≡ behind_escape (chars text.now) }
 #[inline]
 fn behind_escape(text: &str) -> Option<&str> {
@@ -51,7 +51,7 @@ fn behind_escape(text: &str) -> Option<&str> {
     strip(behind_run(rest, Class::Escape), '\'')
 }
 
-/// Returns what is left after a character literal, from after its first apostrophe on, or `None` if
+/// Returns the rest after a character literal, from after its first apostrophe on, or `None` if
 /// there is none.
 // ensures { option_map (λ r. chars r.now) result ≡ behind_char (chars text.now) }
 #[inline]
@@ -79,7 +79,7 @@ fn unless_apostrophe(text: &str) -> Option<&str> {
     }
 }
 
-/// Returns what is left after a word that no apostrophe follows, or `None`.
+/// Returns the rest after a word that no apostrophe follows, or `None`.
 // ensures { option_map (λ r. chars r.now) result ≡ behind_name (chars text.now) }
 #[inline]
 pub fn behind_name(text: &str) -> Option<&str> {
@@ -92,7 +92,7 @@ pub fn behind_name(text: &str) -> Option<&str> {
     None
 }
 
-/// Returns what is left after `r#` and a word that no apostrophe follows, or `None`.
+/// Returns the rest after `r#` and a word that no apostrophe follows, or `None`.
 // ensures { option_map (λ r. chars r.now) result ≡ behind_raw_name (chars text.now) }
 #[inline]
 pub fn behind_raw_name(text: &str) -> Option<&str> {

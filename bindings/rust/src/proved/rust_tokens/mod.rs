@@ -3,8 +3,8 @@
 //! There is one reading for all editions, that of the newest one: `c"a"` is a C string and `'r#a` a
 //! raw lifetime, which before 2021 were two and three tokens. Prefixes and quotes that newer
 //! editions only reserve, as in `f"a"` and `#"a"#`, are read as separate tokens, and reserved forms
-//! of numbers as a number and what follows it. Each character of punctuation is a token. A wrong
-//! escape, a wrong digit and the suffix `_` are faults of content, which change no token.
+//! of numbers as a number and other tokens after it. Each character of punctuation is a token. A
+//! wrong escape, a wrong digit and the suffix `_` are faults of content, which change no token.
 
 // Extracted from crates/rust_tokens/src/lib.rt by tools/extract: not to be edited.
 // That source is proved, and each contract here is its. That this text means the same is tested:

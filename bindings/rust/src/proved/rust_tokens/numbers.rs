@@ -4,11 +4,11 @@
 // That source is proved, and each contract here is its. That this text means the same is tested:
 // by results from outside, and beside what is proved (.ci/bindings) and the original (tools/agree).
 
-use crate::proved::rust_tokens::bodies::{ended, Body};
+use crate::proved::rust_tokens::bodies::{ended_token, Body};
 use crate::proved::rust_tokens::kinds::Kind;
 use crate::proved::rust_tokens::texts::{begins, behind_run, split_first, Class};
 
-/// Returns what is left after a sign, or the text if it begins with none.
+/// Returns the rest after a sign, or the text if it begins with none.
 // ensures { chars result.now ≡ behind_sign (chars text.now) }
 #[inline]
 fn behind_sign(text: &str) -> &str {
@@ -24,7 +24,7 @@ fn behind_sign(text: &str) -> &str {
     }
 }
 
-/// Returns what is left after digits, or `None` if the text begins with none.
+/// Returns the rest after digits, or `None` if the text begins with none.
 // ensures { option_map (λ r. chars r.now) result ≡ behind_digits (chars text.now) }
 #[inline]
 fn behind_digits(text: &str) -> Option<&str> {
@@ -35,7 +35,7 @@ fn behind_digits(text: &str) -> Option<&str> {
     }
 }
 
-/// Returns what is left after an exponent, or `None` if the text begins with none.
+/// Returns the rest after an exponent, or `None` if the text begins with none.
 // ensures { option_map (λ r. chars r.now) result ≡ behind_exponent (chars text.now) }
 #[inline]
 fn behind_exponent(text: &str) -> Option<&str> {
@@ -48,7 +48,7 @@ fn behind_exponent(text: &str) -> Option<&str> {
     None
 }
 
-/// Returns what is left after a point that belongs to the number before it, or `None`.
+/// Returns the rest after a point that belongs to the number before it, or `None`.
 // ensures { option_map (λ r. chars r.now) result ≡ behind_point (chars text.now) }
 #[inline]
 fn behind_point(text: &str) -> Option<&str> {
@@ -69,8 +69,8 @@ fn behind_point(text: &str) -> Option<&str> {
 #[inline]
 fn exponent_or<'a>(kind: Kind, rest: &'a str, exponent: Option<&'a str>) -> Body<'a> {
     match exponent {
-        Some(rest) => ended(Kind::Float, rest),
-        None => ended(kind, rest),
+        Some(rest) => ended_token(Kind::Float, rest),
+        None => ended_token(kind, rest),
     }
 }
 
@@ -82,7 +82,7 @@ fn behind_fraction(text: &str) -> Body<'_> {
         let rest = behind_run(text, Class::DigitPart);
         return exponent_or(Kind::Float, rest, behind_exponent(rest));
     }
-    ended(Kind::Float, text)
+    ended_token(Kind::Float, text)
 }
 
 /// Returns a decimal number, from after its first digit on.
@@ -106,15 +106,15 @@ fn first_zero(text: &str) -> Body<'_> {
     match c {
         'b' => {
             let rest = behind_run(rest, Class::DigitPart);
-            ended(Kind::BinaryInt, rest)
+            ended_token(Kind::BinaryInt, rest)
         }
         'o' => {
             let rest = behind_run(rest, Class::DigitPart);
-            ended(Kind::OctalInt, rest)
+            ended_token(Kind::OctalInt, rest)
         }
         'x' => {
             let rest = behind_run(rest, Class::HexPart);
-            ended(Kind::HexadecimalInt, rest)
+            ended_token(Kind::HexadecimalInt, rest)
         }
         _ => first_decimal(text),
     }

@@ -1,4 +1,5 @@
-//! What begins with letters and is no plain word: literals with a prefix, and raw identifiers.
+//! Tokens that begin with letters and are no plain word: literals with a prefix, and raw
+//! identifiers.
 
 // Extracted from crates/rust_tokens/src/openings.rt by tools/extract: not to be edited.
 // That source is proved, and each contract here is its. That this text means the same is tested:
@@ -22,8 +23,8 @@ pub enum Opening {
     RawWord,
 }
 
-/// Returns the opening of a raw string of this kind, and what is left after its quote, or `None` if
-/// the text does not begin with hashes and a quote.
+/// Returns the opening of a raw string of this kind, and the rest after its quote, or `None` if the
+/// text does not begin with hashes and a quote.
 // ensures { option_map (λ x. (x.0, chars x.1.now)) result ≡ raw_opening kind (chars text.now) }
 #[inline]
 fn raw_opening(kind: Kind, text: &str) -> Option<(Opening, &str)> {
@@ -33,8 +34,8 @@ fn raw_opening(kind: Kind, text: &str) -> Option<(Opening, &str)> {
     }
 }
 
-/// Returns what is left after a hash and the first character of a word, or `None` if the text does
-/// not begin with these.
+/// Returns the rest after a hash and the first character of a word, or `None` if the text does not
+/// begin with these.
 // ensures { option_map (λ x. (x.0, chars x.1.now)) result ≡ word_opening (chars text.now) }
 #[inline]
 fn word_opening(text: &str) -> Option<(Opening, &str)> {
@@ -51,7 +52,7 @@ fn word_opening(text: &str) -> Option<(Opening, &str)> {
     }
 }
 
-/// Returns the opening after a `b`, and what is left after it, or `None` if there is none.
+/// Returns the opening after a `b`, and the rest after it, or `None` if there is none.
 // ensures { option_map (λ x. (x.0, chars x.1.now)) result ≡ byte_opening (chars text.now) }
 #[inline]
 fn byte_opening(text: &str) -> Option<(Opening, &str)> {
@@ -66,7 +67,7 @@ fn byte_opening(text: &str) -> Option<(Opening, &str)> {
     }
 }
 
-/// Returns the opening after a `c`, and what is left after it, or `None` if there is none.
+/// Returns the opening after a `c`, and the rest after it, or `None` if there is none.
 // ensures { option_map (λ x. (x.0, chars x.1.now)) result ≡ c_opening (chars text.now) }
 #[inline]
 fn c_opening(text: &str) -> Option<(Opening, &str)> {
@@ -80,8 +81,7 @@ fn c_opening(text: &str) -> Option<(Opening, &str)> {
     }
 }
 
-/// Returns the opening of a token, and what is left after it, or `None` if the text begins with
-/// none.
+/// Returns the opening of a token, and the rest after it, or `None` if the text begins with none.
 // ensures { option_map (λ x. (x.0, chars x.1.now)) result ≡ first_opening (chars text.now) }
 #[inline]
 pub fn first_opening(text: &str) -> Option<(Opening, &str)> {

@@ -25,7 +25,7 @@ pub struct Token<'a> {
 }
 
 impl Token<'_> {
-    /// Returns what the token is among pairs of delimiters.
+    /// Returns the side of the token among pairs of delimiters.
     // ensures { result ≡ side (leaf self.now) }
     #[inline]
     pub fn side(&self) -> Side {
@@ -33,7 +33,7 @@ impl Token<'_> {
     }
 }
 
-/// Returns whether a token is left: it is no white space, and a comment only if it lacks its end.
+/// Returns whether a token is kept: it is no white space, and a comment only if it lacks its end.
 // ensures { result ≡ is_leaf kind is_ended }
 #[inline]
 fn is_leaf(kind: Kind, is_ended: bool) -> bool {
@@ -49,8 +49,8 @@ fn is_leaf(kind: Kind, is_ended: bool) -> bool {
     }
 }
 
-/// Returns the first token of what is left of a text, and what is left after it, or `None` if no
-/// token is left.
+/// Returns the first token of the rest of a text, and the rest after it, or `None` if no token is
+/// left.
 // requires { length rest.now ≤ length text.now }
 // ensures some { IfSome result (λ t. (ls : List Leaf)
 //     → AreLeft (record { whole = text.now; rest = t.1.now }) ls
@@ -77,7 +77,7 @@ fn split_first_leaf<'a>(text: &'a str, rest: &'a str) -> Option<(Token<'a>, &'a 
 }
 
 /// The tokens of a file without white space and comments, read one after the other. A contract sees
-/// the file and what is left of it.
+/// the file and the rest of it.
 pub struct Tokens<'a> {
     text: &'a str,
     rest: &'a str,

@@ -1,4 +1,4 @@
-//! The partner of each delimiter, and where the tokens break if they are no forest.
+//! The partner of each delimiter, and the place where the tokens break if they are no forest.
 
 // Extracted from crates/rust_trees/src/matching.rt by tools/extract: not to be edited.
 // That source is proved, and each contract here is its. That this text means the same is tested:
@@ -9,12 +9,12 @@ use crate::proved::rust_trees::sides::{is_same, Delimiter, Side};
 use crate::shim::alloc::{AllocError, Global};
 use crate::shim::prelude::*;
 
-/// Where tokens that are no forest break: the index of a token.
+/// The place where tokens that are no forest break: the index of a token.
 #[derive(Clone, Copy)]
 pub enum Break {
     /// A delimiter that is not closed: the last of these.
     Unclosed(usize),
-    /// A closing delimiter where nothing is to be closed, or another kind of delimiter.
+    /// A closing delimiter where nothing is to be closed, or a delimiter of another kind is.
     Unexpected(usize),
 }
 
@@ -29,7 +29,7 @@ pub struct Opening {
 
 /// The pairs of delimiters in the tokens so far.
 pub struct Matching {
-    /// Of each token the index of its partner.
+    /// The index of the partner of each token.
     pub partners: Vec<Option<usize>>,
     /// The delimiters that may still be closed.
     pub openings: Vec<Opening>,

@@ -9,7 +9,7 @@ use crate::shim::alloc::{AllocError, Global};
 use crate::shim::prelude::*;
 
 /// A line and a column of a text, both from 1. An LF ends a line, and a column counts characters,
-/// but no CR in front of an LF and no byte order mark at the start.
+/// but no CR before an LF and no byte order mark at the start.
 #[derive(Clone, Copy)]
 pub struct Place {
     /// The line.
@@ -31,7 +31,7 @@ fn is_lf_next(text: &str, back: &str) -> bool {
     }
 }
 
-/// Returns the place behind a character at this place, where an LF may follow.
+/// Returns the place after a character at this place, where an LF may follow.
 // requires line { place.line + 1 < 2 ^ 64 }
 // requires column { place.column + 1 < 2 ^ 64 }
 // ensures { result ≡ behind_char place c is_before_lf }
@@ -52,7 +52,7 @@ fn behind_char(place: Place, c: char, is_before_lf: bool) -> Place {
     }
 }
 
-/// Returns the place behind a text at this place, where another text follows.
+/// Returns the place after a text at this place, where another text follows.
 // requires line { place.line + length front.now < 2 ^ 64 }
 // requires column { place.column + length front.now < 2 ^ 64 }
 // ensures { result ≡ place_after place (chars front.now) (chars back.now) }
@@ -87,7 +87,7 @@ pub fn place_at(text: &str, offset: usize) -> Place {
     place_after(Place { line: 1, column: 1 }, without_mark(front), back)
 }
 
-/// How many bytes there are between two places that are known of a text.
+/// The number of bytes between two places of a text that are known.
 const STEP: usize = 4096;
 
 /// A byte offset of a text with its place.
@@ -128,8 +128,7 @@ fn add_known(known: &mut Vec<Known>, text: &str, offset: usize) -> Result<(), Al
     Ok(())
 }
 
-/// A text in which the place of a byte offset is found in a time that is not longer in a longer
-/// text.
+/// A text in which a place is found in a time that does not grow with the text.
 pub struct Places<'a> {
     text: &'a str,
     known: Vec<Known>,

@@ -28,7 +28,7 @@ pub enum Side {
     Neither,
 }
 
-/// Returns what a token of this kind with this text is.
+/// Returns the side of a token of this kind with this text.
 // ensures { result ≡ side_of kind text.now }
 #[inline]
 pub fn side_of(kind: Kind, text: &str) -> Side {

@@ -58,7 +58,7 @@ impl<'a> Source<'a> {
         }
     }
 
-    /// Returns where the tokens break, or `None` if they are a forest.
+    /// Returns the place where the tokens break, or `None` if they are a forest.
     // ensures { Breaks self.now result }
     #[inline]
     pub fn broken(&self) -> Option<Break> {

@@ -5,7 +5,7 @@
 // by results from outside, and beside what is proved (.ci/bindings) and the original (tools/agree).
 
 use crate::proved::rustc_parse_format::faults::Fault;
-use crate::proved::rustc_parse_format::messages::tell;
+use crate::proved::rustc_parse_format::messages::set_error;
 use crate::proved::rustc_parse_format::types::{ParseError, Suggestion};
 use crate::shim::alloc::{AllocError, Global};
 use crate::shim::prelude::*;
@@ -31,7 +31,7 @@ impl Fault<'_> {
     #[inline]
     pub fn error(&self, alloc: Global) -> Result<ParseError, AllocError> {
         let mut error = empty_error(alloc);
-        tell(alloc, &mut error, self)?;
+        set_error(alloc, &mut error, self)?;
         Ok(error)
     }
 }

@@ -1,6 +1,6 @@
 //! String literals as they are written in a program: the characters that a content stands for with
 //! their byte ranges, and whether a snippet is the source literal of an input. The content of a
-//! literal is what is between its quotes.
+//! literal is the text between its quotes.
 
 // Extracted from crates/rustc_parse_format/src/literal.rt by tools/extract: not to be edited.
 // That source is proved, and each contract here is its. That this text means the same is tested:
@@ -17,10 +17,10 @@ use std::ops::Range;
 use unit::byte_escape;
 pub(crate) use unit::{is_newline_escape, read_unit};
 
-/// Returns the character that the first unit of a content stands for, and what is left after the
-/// unit. The character is `None` for a string continuation, which stands for nothing. Returns
-/// `None` if the text begins with no unit: it is empty or begins with a quote, a CR or a wrong
-/// escape.
+/// Returns the character that the first unit of a content stands for, and the rest of the content
+/// after the unit. The character is `None` for a string continuation, which stands for nothing.
+/// Returns `None` if the text begins with no unit: it is empty or begins with a quote, a CR or a
+/// wrong escape.
 ///
 /// The rule is that of string literals in the Rust Reference. Does not allocate.
 // ensures { option_map (λ x. (at_most_one x.0, chars x.1.now)) result
@@ -33,10 +33,10 @@ pub fn split_first_unit(content: &str) -> Option<(Option<char>, &str)> {
 }
 
 /// Returns the characters that a content stands for, each with its byte range in the content, or
-/// `None` if the text is no content, as `placed` computes them. Returns `Err` if an allocation
-/// fails.
+/// `None` if the text is no content, as `content_characters` computes them. Returns `Err` if an
+/// allocation fails.
 // ensures computed { IfOk result (λ o. option_map (λ v. seen_characters v.items) o
-//     ≡ placed 0 (chars content.now)) }
+//     ≡ content_characters 0 (chars content.now)) }
 // ensures empty { chars content.now ≡ [] → IsOk result }
 #[inline]
 fn read_characters(
@@ -266,8 +266,8 @@ fn consume_hashes(rest: &mut Rest<'_>, hashes: usize) -> bool {
     true
 }
 
-/// Consumes what is before the text of a raw literal, `r`, the hashes and a quote, and returns
-/// whether it was there.
+/// Consumes the opening of a raw literal, `r`, the hashes and a quote, and returns whether it was
+/// there.
 // ensures { IsTaken (raw_opening hashes) rest.old result rest.new }
 #[inline]
 fn consume_opening(rest: &mut Rest<'_>, hashes: usize) -> bool {
@@ -293,8 +293,7 @@ fn consume_text(rest: &mut Rest<'_>, text: &str) -> bool {
     true
 }
 
-/// Consumes what is after the text of a raw literal, a quote and the hashes, and returns whether it
-/// was there.
+/// Consumes the closing of a raw literal, a quote and the hashes, and returns whether it was there.
 // ensures { IsTaken (raw_closing hashes) rest.old result rest.new }
 #[inline]
 fn consume_closing(rest: &mut Rest<'_>, hashes: usize) -> bool {

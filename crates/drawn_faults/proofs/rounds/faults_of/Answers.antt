@@ -6,7 +6,8 @@ use Rattle.rustc_parse_format.specs.FaultIds.{fault_id}
 use Rattle.rustc_parse_format.specs.SeenFaults.{seen_fault}
 use Rattle.rustc_parse_format.specs.State.{next_call}
 use Rattle.rustc_parse_format.specs.World.{faults_in}
-use Rattle.drawn_faults.proofs.RoundLaws.{faulty-end, faulty-more, faulty-same, ids-end, ids-shorter, ids-step}
+use Rattle.drawn_faults.proofs.RoundLaws.{faulty-end, faulty-more, faulty-same, ids-end}
+use Rattle.drawn_faults.proofs.RoundLaws.{ids-shorter, ids-step}
 use Rattle.drawn_faults.proofs.RoundLaws.{left_faulty, left_ids}
 use Rattle.drawn_faults.proofs.rounds.faults_of.Goals as goal
 

@@ -54,8 +54,9 @@ loop-rounds-preserved c =
       none = round-none mode c.args.style c.args.appended_newline start f l.rounds
           c.in_ok-reached.reached reached c.in_ok-reached.ensures.none;
       best = subst (λ (b : Best). IsBest mode c.args.style c.args.appended_newline start
-          (l.rounds + 1) b.literal b.calls) (sym c.offer.ensures) (best-offered mode c.args.style c.args.appended_newline start f
-          l.rounds (seen_best l.best) c.in_ok-calls.calls l.invariant.best reached few count);
+          (l.rounds + 1) b.literal b.calls) (sym c.offer.ensures)
+          (best-offered mode c.args.style c.args.appended_newline start f l.rounds
+          (seen_best l.best) c.in_ok-calls.calls l.invariant.best reached few count);
     }
 
 pub next_round-requires : goal.next_round-requires

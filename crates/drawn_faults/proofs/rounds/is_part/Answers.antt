@@ -24,7 +24,8 @@ loop-fault-preserved c =
     let j : l.fault-index < length ws = omega (arith, i, all) in
     let p : get_or (map fault_id ps) l.count [] ≡ c.id.result.now =
     get_or-map fault_id ps l.count (seen_fault first) [] m
-    ∙ ap fault_id (get_or-map seen_fault c.args.part.now l.count first (seen_fault first) n) ∙ sym c.id.ensures.id in
+    ∙ ap fault_id (get_or-map seen_fault c.args.part.now l.count first (seen_fault first) n)
+    ∙ sym c.id.ensures.id in
     let w : get_or (map fault_id ws) l.fault-index [] ≡ c.id-in-loop-fault.result.now =
     get_or-map fault_id ws l.fault-index (seen_fault first) [] j
     ∙ ap fault_id (get_or-map seen_fault c.args.whole.now l.fault-index first (seen_fault first) i)

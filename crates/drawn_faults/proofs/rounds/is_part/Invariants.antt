@@ -8,7 +8,8 @@ use Rattle.drawn_faults.proofs.rounds.is_part.Given as goal
 abbrev pub invariant-loop-fault : goal.invariant-loop-fault
 invariant-loop-fault l = record {
   same : is_part (drop l.count (map fault_id (map seen_fault l.fn.part)))
-      (drop l.fault-index (map fault_id (map seen_fault l.fn.whole))) ≡ is_part (map fault_id (map seen_fault l.fn.part))
+      (drop l.fault-index (map fault_id (map seen_fault l.fn.whole)))
+      ≡ is_part (map fault_id (map seen_fault l.fn.part))
       (map fault_id (map seen_fault l.fn.whole));
   within : l.count ≤ length l.fn.part;
 }
