@@ -12,6 +12,9 @@ nothing-in x h = absurd (omega (arith, h.1))
 pub here : {A : Type 0} (x : A) (xs : List A) → Contains (x ∷ xs) x
 here x xs = Contains-append_left (x ∷ []) xs x (Contains-push [] x)
 
+pub behind-here : {A : Type 0} (y : A) {ys : List A} (x : A) → Contains ys x → Contains (y ∷ ys) x
+behind-here y {ys = ys} x h = Contains-append_right (y ∷ []) ys x h
+
 in-first : {A : Type 0} (y : A) (ys : List A) (x : A) → Contains (y ∷ ys) x
     → (y ≡ x) ⊎ Contains ys x
 in-first y ys x h = by_part (Contains-append_cases (y ∷ []) ys x h)

@@ -129,7 +129,7 @@ reaches xs at to (a ∷ bs) h = omega (arith, h.1)
 pub arguments-lie : (xs : List Leaf) (at to : ℕ) (bs : List Argument) → AreArguments xs at bs to
     → AllByRecursion (λ a. LiesIn at to a) bs
 arguments-lie xs at to [] h = tt
-arguments-lie xs at to (a ∷ bs) h = by_more h.4
+arguments-lie xs at to (a ∷ bs) h = by_more h.4 (λ k. arguments-lie xs (a.end + 1) to bs k)
   where
     rises : at ≤ a.end
     rises = argument-end xs at a.end to h.2
@@ -143,15 +143,17 @@ arguments-lie xs at to (a ∷ bs) h = by_more h.4
     }
 
     by_more : ((a.end ≡ to) × (bs ≡ [])) ⊎ (IsTrue (is_mark (code ",") xs a.end)
-        × AreArguments xs (a.end + 1) bs to) → AllByRecursion (λ a. LiesIn at to a) (a ∷ bs)
-    by_more (inl e) = (
+        × AreArguments xs (a.end + 1) bs to)
+        → (AreArguments xs (a.end + 1) bs to → AllByRecursion (λ b. LiesIn (a.end + 1) to b) bs)
+        → AllByRecursion (λ b. LiesIn at to b) (a ∷ bs)
+    by_more (inl e) again = (
       lies (omega (arith, e.0)),
       subst (λ v. AllByRecursion (λ a. LiesIn at to a) v) (sym e.1) tt,
     )
-    by_more (inr m) =
+    by_more (inr m) again =
         let r = reaches xs (a.end + 1) to bs m.1 in (
           lies (omega (arith, r)),
-          lies-on at (a.end + 1) to bs (omega (arith, rises)) (arguments-lie xs (a.end + 1) to bs m.1),
+          lies-on at (a.end + 1) to bs (omega (arith, rises)) (again m.1),
         )
 
 argument-at : (xs ys : List Leaf) (g o c at end : ℕ) → Embeds xs ys g → IsPair xs o c → o < at
@@ -179,7 +181,7 @@ arguments-at xs ys g o c at (a ∷ bs) e p h k = (
   omega (arith, k.1),
   argument-at xs ys g o c at a.end e p h lies.ends k.2,
   k.3 ∙ sym (named-at xs ys g o c at e p (omega (arith, k.1))),
-  by_more k.4,
+  by_more k.4 (λ h m. arguments-at xs ys g o c (a.end + 1) bs e p h m),
 )
   where
     lies : LiesIn at c a
@@ -187,11 +189,13 @@ arguments-at xs ys g o c at (a ∷ bs) e p h k = (
 
     by_more : ((a.end ≡ c) × (bs ≡ [])) ⊎ (IsTrue (is_mark (code ",") xs a.end)
         × AreArguments xs (a.end + 1) bs c)
+        → (o < a.end + 1 → AreArguments xs (a.end + 1) bs c
+        → AreArguments ys (g + (a.end + 1)) (map (shifted g) bs) (g + c))
         → ((g + a.end ≡ g + c) × (map (shifted g) bs ≡ []))
         ⊎ (IsTrue (is_mark (code ",") ys (g + a.end))
         × AreArguments ys (g + a.end + 1) (map (shifted g) bs) (g + c))
-    by_more (inl m) = inl (ap (λ v. g + v) m.0, ap (λ v. map (shifted g) v) m.1)
-    by_more (inr m) =
+    by_more (inl m) again = inl (ap (λ v. g + v) m.0, ap (λ v. map (shifted g) v) m.1)
+    by_more (inr m) again =
         let r = reaches xs (a.end + 1) c bs m.1 in
         let w = (pair-within xs o c p).1 in
         let s = lies.rises in
@@ -200,7 +204,7 @@ arguments-at xs ys g o c at (a ∷ bs) e p h k = (
         inr (
           mark-at (code ",") xs ys g a.end (g + a.end) e refl (omega (arith, r, w)) ∙ m.0,
           subst (λ v. AreArguments ys v (map (shifted g) bs) (g + c)) n
-              (arguments-at xs ys g o c (a.end + 1) bs e p (omega (arith, h, s, t)) m.1),
+              (again (omega (arith, h, s, t)) m.1),
         )
 
 -- Whether a token leaves the number of arguments open, by what stands there and behind it.

@@ -1,6 +1,6 @@
 -- The format string of a call among other tokens, and its arguments.
 use Prim.Native.Char.{code}
-use Rattle.std.proofs.Common.{◌≡◌, ◌<◌, ◌≤◌, ◌+◌, ◌-◌, ◌⊎◌, ℕ, Bool, true, false, cond, List, [], ◌∷◌}
+use Rattle.std.proofs.Common.{◌≡◌, ◌<◌, ◌≤◌, ◌+◌, ◌-◌, ◌⊎◌, ℕ, zero, suc, Bool, true, false, cond, List, [], ◌∷◌}
 use Rattle.std.proofs.Common.{Option, Some, None, inl, inr, refl, ap, sym, subst, ◌∙◌, length}
 use Rattle.std.proofs.Common.{arith, map, drop}
 use Rattle.std.specs.Prelude.{◌&&◌, ◌||◌, ◌==◌, Result, Ok, Err, chars, not, nat_lt, position}
@@ -15,7 +15,8 @@ use Rattle.rust_trees.specs.Forests.{IsPair}
 use Rattle.rust_trees.proofs.Growing.{pair-within}
 use Rattle.format_calls.specs.declared.split.Argument.{Argument}
 use Rattle.format_calls.specs.declared.strings.Reason.{Reason}
-use Rattle.format_calls.specs.declared.strings.Reason.TheVariants.{Variable, Suffix, Macro, Expression}
+use Rattle.format_calls.specs.declared.strings.Reason.TheVariants.{Variable, Suffix, Macro}
+use Rattle.format_calls.specs.declared.strings.Reason.TheVariants.{Edition, Expression}
 use Rattle.format_calls.specs.declared.table.Rule.{Rule}
 use Rattle.format_calls.specs.declared.table.Rule.TheVariants.{At, ByEdition, AfterFields}
 use Rattle.format_calls.specs.Marks.{is_mark, is_mark_of, is_word}

@@ -98,7 +98,8 @@ fn check_string<'c>(
         → All (λ x. IsSpan site.entry.text.now x.span) findings.new.items) }
 {
     let checked = call_faults(alloc, string, given)?;
-    put_findings(alloc, findings, site, &checked, is_counted)
+    put_findings(alloc, findings, site, &checked, is_counted)?;
+    Ok(())
 }
 
 /// Reads the format string of a call, which is this literal, with the arguments behind it, and adds
@@ -205,7 +206,8 @@ pub fn read_call(
     ensures spans { OnOk result (All (λ x. IsSpan file.entry.text.now x.span) findings.old.items
         → All (λ x. IsSpan file.entry.text.now x.span) findings.new.items) }
 {
-    if is_defined(file.defined, name_at(part.tokens(), call.name)) {
+    let name = name_at(part.tokens(), call.name);
+    if is_defined(file.defined, name) {
         return Ok(CallReading::Redefined);
     }
     let Some(arguments) = arguments(alloc, part, call.close)? else {

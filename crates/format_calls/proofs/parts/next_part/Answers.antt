@@ -80,8 +80,7 @@ returns-in-Some-front_of-clause-some c =
 
 pub returns-clause-none : goal.returns-clause-none
 returns-clause-none c e =
-    let g = c.loop-token.invariant.gap in
-    (
+    let g = c.loop-token.invariant.gap in (
       _,
       g.2 [] (c.in_default.ensures.none refl).0,
       λ d k. gap-end _ g.0 _ d g.1 k,

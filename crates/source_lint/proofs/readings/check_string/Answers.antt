@@ -5,7 +5,7 @@ use Rattle.source_lint.proofs.readings.check_string.Goals as goal
 
 pub returns-clause-told : goal.returns-clause-told
 returns-clause-told c =
-    let t = c.put_findings.ensures.told in
+    let t = c.in_ok-put_findings.ensures.told in
     let k = c.in_ok-checked.ensures in (
       t.0,
       t.1,
