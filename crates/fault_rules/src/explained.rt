@@ -1,7 +1,7 @@
 //! What a rule says, as a text.
 
 ghost use Rattle.std.specs.Prelude.{◌≡◌, ◌++◌, OnOk, string_bytes};
-ghost use Rattle.fault_rules.specs.Rules.{example, explanation};
+ghost use Rattle.fault_rules.specs.Rules.{example_text, explanation_text};
 
 use crate::rules::Rule;
 use std::alloc::AllocError;
@@ -9,7 +9,7 @@ use std::alloc::AllocError;
 /// Appends a line that says what an example shows, and the example.
 fn put_example(out: &mut String, says: &str, example: &str) -> Result<(), AllocError>
     ensures { OnOk result (string_bytes out.new
-        ≡ string_bytes out.old ++ example says.now example.now) }
+        ≡ string_bytes out.old ++ example_text says.now example.now) }
 {
     out.push_str("\n")?;
     out.push_str(says)?;
@@ -23,7 +23,7 @@ fn put_example(out: &mut String, says: &str, example: &str) -> Result<(), AllocE
 /// and without the fault. Returns `Err` if an allocation fails, and a part of the text may then be
 /// appended.
 pub fn put_explanation(out: &mut String, rule: &Rule) -> Result<(), AllocError>
-    ensures { OnOk result (string_bytes out.new ≡ string_bytes out.old ++ explanation rule.now) }
+    ensures { OnOk result (string_bytes out.new ≡ string_bytes out.old ++ explanation_text rule.now) }
 {
     out.push_str(rule.id)?;
     out.push_str(": ")?;

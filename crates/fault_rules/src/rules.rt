@@ -1,7 +1,7 @@
 //! The rules.
 
-ghost use Rattle.std.specs.Prelude.{◌≡◌};
-ghost use Rattle.fault_rules.specs.Rules.{rule_for};
+ghost use Rattle.std.specs.Prelude.{◌≡◌, IfSome, is_some, map};
+ghost use Rattle.fault_rules.specs.Rules.{ids, is_id};
 
 /// What is known of a kind of fault.
 #[derive(Clone, Copy)]
@@ -174,8 +174,8 @@ pub const RULES: [Rule; COUNT] = [
         explanation: "A name without an argument is a variable where the string stands in the \
             call itself. Where a macro makes the string, and in `unreachable!` before the edition \
             2021, it has to be an argument.",
-        example: "unreachable!(\"in {state}\");",
-        mended: "unreachable!(\"in {state}\", state = state);",
+        example: "unreachable!(\"{} in {state}\", 1);",
+        mended: "unreachable!(\"{} in {state}\", 1, state = state);",
     },
     Rule {
         id: "unknown-trait",
@@ -217,14 +217,23 @@ pub const RULES: [Rule; COUNT] = [
     },
 ];
 
-/// Returns the rule with this id, or `None` if there is none.
-pub fn rule_of(id: &str) -> Option<Rule>
-    ensures { result ≡ rule_for id.now RULES }
+/// Returns the first of these rules that has an id, or `None` if none has it.
+fn found(rules: &[Rule], id: &str) -> Option<Rule>
+    ensures some { is_some result ≡ is_id id.now (map (λ r. r.id.now) rules.now) }
+    ensures rule { IfSome result (λ r. r.id.now ≡ id.now) }
 {
-    for rule in &RULES {
+    for rule in rules {
         if rule.id == id {
             return Some(*rule);
         }
     }
     None
+}
+
+/// Returns the rule with this id, or `None` if there is none.
+pub fn rule_of(id: &str) -> Option<Rule>
+    ensures some { is_some result ≡ is_id id.now ids }
+    ensures rule { IfSome result (λ r. r.id.now ≡ id.now) }
+{
+    found(RULES.as_slice(), id)
 }

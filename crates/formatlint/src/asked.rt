@@ -93,9 +93,12 @@ pub fn list_words(alloc: Global, matches: &ArgMatches<'_>) -> Result<Vec<String>
 
 /// Returns whether a text can be the name of a macro.
 fn is_name(text: &str) -> bool {
-    !text.starts_with(|c: char| c.is_ascii_digit())
-        && !text.is_empty()
-        && text.chars().all(|c| c == '_' || c.is_alphanumeric())
+    match text.chars().next() {
+        Some(first) if !first.is_ascii_digit() => {
+            text.chars().all(|c| c == '_' || c.is_alphanumeric())
+        }
+        _ => false,
+    }
 }
 
 /// Returns the macro that a word `NAME:INDEX` means, or `None` if it means none.

@@ -1,6 +1,6 @@
 //! The editions of files, by the Cargo.toml above them.
 
-use package_edition::{Declared, declared, is_from_2021, workspace_edition};
+use package_edition::{Declared, edition_in, is_from_2021, workspace_edition};
 use std::io::Read;
 use std::{fs, io};
 
@@ -54,7 +54,7 @@ enum Reading {
 /// Returns what a manifest adds to what those below it say.
 fn read_on(reading: Reading, text: &str) -> Reading {
     if matches!(reading, Reading::Nothing) {
-        match declared(text) {
+        match edition_in(text) {
             Declared::NoPackage => return Reading::Nothing,
             Declared::Nothing => return Reading::Known(false),
             Declared::Edition(edition) => return Reading::Known(is_from_2021(edition)),
@@ -69,7 +69,7 @@ fn read_on(reading: Reading, text: &str) -> Reading {
 
 /// Returns whether the edition of the files in a folder, whose path is from the root on, is 2021 or
 /// a later one.
-fn edition_in(rt: &HostRuntime, folder: &str) -> bool {
+fn edition_of(rt: &HostRuntime, folder: &str) -> bool {
     let mut reading = Reading::Nothing;
     let mut rest = folder;
     for _ in 0..=folder.len() {
@@ -106,12 +106,12 @@ impl<'a> Editions<'a> {
         }
         let folder = folder_of(path);
         if let Some(known) = self.known {
-            if self.folder == folder {
+            if self.folder.as_str() == folder {
                 return Ok(known);
             }
         }
         let found = match fs::canonicalize(rt, folder) {
-            Ok(whole) => edition_in(rt, whole.as_str()),
+            Ok(whole) => edition_of(rt, whole.as_str()),
             Err(_) => true,
         };
         self.folder = String::from_str(rt.alloc(), folder)?;

@@ -8,8 +8,8 @@ use crate::noted::Noted;
 use crate::told::Told;
 use crate::walk::Walk;
 use piece_listing::run::write_whole;
-use rust_trees::Places;
-use source_lint::{BrokenKind, Options, Report, file_faults};
+use rust_trees::{BreakKind, Places};
+use source_lint::{Options, Report, file_faults};
 use std::io::Read;
 use std::{fs, io};
 
@@ -50,11 +50,11 @@ struct Run<'a> {
 }
 
 /// Returns why a file is not read further.
-fn broken_words(kind: BrokenKind) -> &'static str {
+fn break_words(kind: BreakKind) -> &'static str {
     match kind {
-        BrokenKind::Unclosed => "this delimiter is not closed",
-        BrokenKind::Unexpected => "unexpected closing delimiter",
-        BrokenKind::Unended => "this literal or comment has no end",
+        BreakKind::Unclosed => "this delimiter is not closed",
+        BreakKind::Unexpected => "unexpected closing delimiter",
+        BreakKind::Unended => "this literal or comment has no end",
     }
 }
 
@@ -111,12 +111,18 @@ enum Extent {
 /// Returns the text at the start of a file, and how much of it that is.
 fn text_of(bytes: &[u8]) -> (&str, Extent) {
     let is_cut = bytes.len() > MOST;
-    match str::from_utf8(bytes) {
+    let read = bytes.get(..MOST).unwrap_or(bytes);
+    match str::from_utf8(read) {
         Ok(text) if is_cut => (text, Extent::Front),
         Ok(text) => (text, Extent::Whole),
         Err(error) => {
-            let front = bytes.get(..error.valid_up_to()).unwrap_or(&[]);
-            (str::from_utf8(front).unwrap_or(""), Extent::Text)
+            let front = read.get(..error.valid_up_to()).unwrap_or(&[]);
+            let text = str::from_utf8(front).unwrap_or("");
+            if is_cut && error.error_len().is_none() {
+                (text, Extent::Front)
+            } else {
+                (text, Extent::Text)
+            }
         }
     }
 }
@@ -129,9 +135,9 @@ fn tell_end(rt: &HostRuntime, told: &mut Told, file: &File<'_>, extent: Extent, 
         Extent::Front => told.fail_at(rt, file.path, end, "longer than 64 MiB"),
         Extent::Whole => {
             if let Some(broken) = &report.broken {
-                let start = file.text.floor_char_boundary(broken.span.start);
+                let start = file.text.floor_char_boundary(broken.start);
                 let place = file.places.at(start);
-                told.fail_at(rt, file.path, place, broken_words(broken.kind));
+                told.fail_at(rt, file.path, place, break_words(broken.kind));
             }
         }
     }
@@ -228,7 +234,8 @@ impl<'a> Run<'a> {
         if self.asked.paths.is_empty() {
             self.lint_folder(rt, "")?;
         }
-        for path in self.asked.paths {
+        let paths = self.asked.paths;
+        for path in paths {
             self.lint_path(rt, path)?;
         }
         put_end(&mut self.out, self.asked.form, self.told.failures == 0)?;

@@ -50,14 +50,14 @@ fn ending(number: usize) -> &'static str {
 impl Unread {
     /// Counts a call.
     fn add(&mut self, reason: Reason) {
-        count(match reason {
-            Reason::Missing => &mut self.missing,
-            Reason::Edition => &mut self.edition,
-            Reason::Variable => &mut self.variable,
-            Reason::Suffix => &mut self.suffix,
-            Reason::Macro => &mut self.inner,
-            Reason::Expression => &mut self.expression,
-        });
+        match reason {
+            Reason::Missing => count(&mut self.missing),
+            Reason::Edition => count(&mut self.edition),
+            Reason::Variable => count(&mut self.variable),
+            Reason::Suffix => count(&mut self.suffix),
+            Reason::Macro => count(&mut self.inner),
+            Reason::Expression => count(&mut self.expression),
+        }
     }
 
     /// Returns how many calls there are for each reason, with the reason.

@@ -4,14 +4,19 @@ use Rattle.std.specs.Prelude.{chars, codes, flat_map, if◌then◌else◌}
 use Rattle.std.specs.Char.{digit_char}
 use Rattle.std.specs.Int.{is_in_range}
 use Rattle.std.specs.Str.{encode_utf8_all}
-use Rattle.rustc_parse_format.specs.Characters.{Text}
+use Rattle.json.specs.Print.{escape_letter}
 
 -- What stands for a control character of ASCII in a string of JSON that has no shorter form.
 abbrev pub code_text : ℕ → List ℕ
 code_text c = codes "\\u00" ++ (digit_char (c / 16) ∷ digit_char (c % 16) ∷ [])
 
+-- What stands for a byte of ASCII in a string of JSON.
+abbrev pub byte_text : ℕ → List ℕ
+byte_text b = if nat_lt 0 (escape_letter b) then 92 ∷ escape_letter b ∷ []
+    else if nat_lt b 32 then code_text b else b ∷ []
+
 -- What stands for a character in a workflow command of GitHub: in a property, or behind them.
-abbrev pub command_char : Bool → ℕ → Text
+abbrev pub command_char : Bool → ℕ → List ℕ
 command_char is_property c =
     if c == 37 then codes "%25"
     else if c == 13 then codes "%0D"

@@ -1,12 +1,13 @@
 //! Texts as the forms have them. What begins with `put_` appends to `out`, and returns `Err` if an
 //! allocation fails.
 
-ghost use Rattle.std.specs.Prelude.{◌≡◌, ◌+◌, ◌<◌, ◌≤◌, ◌++◌, ◌∷◌, [], IfOk, IfSome, OnOk, chars};
-ghost use Rattle.std.specs.Prelude.{MatchOption, decimal, flat_map, length, string_bytes};
+ghost use Rattle.std.specs.Prelude.{◌≡◌, ◌<◌, ◌++◌, ◌∷◌, [], IfSome, MatchOption, OnOk, chars};
+ghost use Rattle.std.specs.Prelude.{decimal, length, string_bytes};
 ghost use Rattle.std.specs.Char.{digit_char, encode_utf8};
 ghost use Rattle.std.specs.Str.{encode_utf8_all};
-ghost use Rattle.json.specs.Print.{escape, quoted};
-ghost use Rattle.message_forms.specs.Escapes.{code_text, command_char, command_text, stays_in_uri};
+ghost use Rattle.json.specs.Print.{escape, escape_letter, quoted};
+ghost use Rattle.message_forms.specs.Escapes.{byte_text, code_text, command_char, command_text};
+ghost use Rattle.message_forms.specs.Escapes.{stays_in_uri};
 ghost use Rattle.message_forms.specs.Escapes.{upper_digit, uri, uri_byte};
 
 use itoa::Buffer;
@@ -68,36 +69,59 @@ fn upper_digit(digit: u8) -> char
     }
 }
 
+/// Returns the letter behind the backslash in what stands for a byte in a string of JSON, or 0 if
+/// it has no such short form.
+fn escape_letter(byte: u8) -> u8
+    ensures { result ≡ escape_letter byte }
+{
+    match byte {
+        b'"' | b'\\' => byte,
+        8 => b'b',
+        12 => b'f',
+        b'\n' => b'n',
+        b'\r' => b'r',
+        b'\t' => b't',
+        _ => 0,
+    }
+}
+
+/// Adds what stands for a byte of ASCII in a string of JSON.
+fn put_byte(out: &mut String, byte: u8) -> Result<(), AllocError>
+    requires { byte < 128 }
+    ensures { OnOk result (string_bytes out.new ≡ string_bytes out.old ++ byte_text byte) }
+{
+    let letter = escape_letter(byte);
+    if letter > 0 {
+        out.push('\\')?;
+        return Ok(out.push(letter as char)?);
+    }
+    if byte < 32 {
+        return Ok(put_code(out, byte)?);
+    }
+    Ok(out.push(byte as char)?)
+}
+
 /// Adds what stands for a character in a string of JSON.
 fn put_escape(out: &mut String, c: char) -> Result<(), AllocError>
-    ensures { OnOk result (string_bytes out.new
-        ≡ string_bytes out.old ++ escape (encode_utf8 c)) }
+    ensures { OnOk result (string_bytes out.new ≡ string_bytes out.old ++ escape (encode_utf8 c)) }
 {
-    match c {
-        '"' => out.push_str("\\\"")?,
-        '\\' => out.push_str("\\\\")?,
-        '\u{8}' => out.push_str("\\b")?,
-        '\t' => out.push_str("\\t")?,
-        '\n' => out.push_str("\\n")?,
-        '\u{c}' => out.push_str("\\f")?,
-        '\r' => out.push_str("\\r")?,
-        '\0'..='\u{1f}' => put_code(out, c as u8)?,
-        _ => out.push(c)?,
+    if c.is_ascii() {
+        return Ok(put_byte(out, c as u8)?);
     }
-    Ok(())
+    Ok(out.push(c)?)
 }
 
 /// Adds a text as a string of JSON.
 pub fn put_quoted(out: &mut String, text: &str) -> Result<(), AllocError>
     ensures { OnOk result (string_bytes out.new ≡ string_bytes out.old ++ quoted text.now) }
 {
-    out.push('"')?;
+    out.push_str("\"")?;
     let mut rest = text;
     while let Some((c, tail)) = split_first(rest) {
         put_escape(out, c)?;
         rest = tail;
     }
-    out.push('"')?;
+    out.push_str("\"")?;
     Ok(())
 }
 

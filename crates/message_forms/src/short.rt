@@ -24,7 +24,8 @@ fn put_place(out: &mut String, place: Place) -> Result<(), AllocError>
 /// The texts are written as drawings have them. Returns `Err` if an allocation fails, and a part of
 /// the line may then be appended.
 pub fn put_short(out: &mut String, message: &Message<'_>) -> Result<(), AllocError>
-    ensures written { OnOk result (string_bytes out.new ≡ string_bytes out.old ++ short message.now) }
+    ensures written { OnOk result (string_bytes out.new
+        ≡ string_bytes out.old ++ short message.now) }
     ensures harmless { IsHarmless (short message.now) }
 {
     put_glyphs(out, message.path, 0)?;

@@ -16,7 +16,7 @@ pub enum Declared<'a> {
 }
 
 /// Returns what a manifest says of the edition of its package.
-pub fn declared(manifest: &str) -> Declared<'_> {
+pub fn edition_in(manifest: &str) -> Declared<'_> {
     let mut found = Declared::NoPackage;
     let mut is_inside = false;
     for text in manifest.lines() {

@@ -1,0 +1,16 @@
+use Rattle.std.proofs.Common.{append_assoc}
+use Rattle.message_forms.proofs.Texts.{more-end, more-text, object-text}
+use Rattle.message_forms.proofs.json.put_code.Goals as goal
+
+pub returns : goal.returns
+returns c =
+    rw (
+      c.in_ok-push_str.ensures.bytes,
+      c.in_ok-put_text_or_null.ensures,
+      c.in_ok-put_text.ensures,
+      c.in_ok-put_key.ensures,
+      object-text,
+      more-text,
+      more-end,
+    )
+    (simp append_assoc)
