@@ -8,7 +8,7 @@ use Rattle.message_forms.specs.declared.message.Child.{Child}
 use Rattle.message_forms.specs.declared.message.Message.{Message}
 use Rattle.message_forms.specs.declared.message.Span.{Span}
 use Rattle.message_forms.specs.declared.message.Suggestion.{Suggestion}
-use Rattle.message_forms.specs.Texts.{number_json, text_or_null}
+use Rattle.message_forms.specs.Texts.{items_of, number_json, text_or_null}
 use Rattle.message_forms.specs.Words.{applicability, child_name, level_name}
 
 -- LF
@@ -63,24 +63,14 @@ said_members s = member (codes "is_primary") (boolean s.is_primary)
 abbrev pub span_json : List ℕ → Span → Data
 span_json path s = object (place_members path s (said_members s))
 
--- Spans.
-abbrev pub span_items : List ℕ → List Span → Items
-span_items path [] = no_items
-span_items path (s ∷ ss) = item (span_json path s) (span_items path ss)
-
 -- A note or a help.
 abbrev pub child_json : List ℕ → Child → Data
 child_json path c = object (member (codes "message") (string c.text.now)
     (member (codes "code") null
     (member (codes "level") (string (child_name c.level))
-    (member (codes "spans") (array (span_items path c.spans.now))
+    (member (codes "spans") (array (items_of (span_json path) c.spans.now))
     (member (codes "children") (array no_items)
     (member (codes "rendered") null no_members))))))
-
--- Notes and helps.
-abbrev pub child_items : List ℕ → List Child → Items
-child_items path [] = no_items
-child_items path (c ∷ cs) = item (child_json path c) (child_items path cs)
 
 -- The id of a message, in the place of rustc's code.
 abbrev pub code_json : List ℕ → Data
@@ -89,8 +79,8 @@ code_json id = object (member (codes "code") (string id)
 
 -- What stands below a message.
 abbrev pub below_members : Message → Members
-below_members m = member (codes "spans") (array (span_items m.path.now m.spans.now))
-    (member (codes "children") (array (child_items m.path.now m.children.now))
+below_members m = member (codes "spans") (array (items_of (span_json m.path.now) m.spans.now))
+    (member (codes "children") (array (items_of (child_json m.path.now) m.children.now))
     (member (codes "rendered") (string m.rendered.now) no_members))
 
 -- A message.

@@ -1,16 +1,8 @@
-use Rattle.std.proofs.Common.{append_assoc}
-use Rattle.message_forms.proofs.Texts.{more-end, more-text, object-text}
+use Rattle.std.proofs.Common.{◌∙◌}
+use Rattle.message_forms.proofs.Texts.{whole}
 use Rattle.message_forms.proofs.json.put_code.Goals as goal
 
 pub returns : goal.returns
-returns c =
-    rw (
-      c.in_ok-push_str.ensures.bytes,
-      c.in_ok-put_text_or_null.ensures,
-      c.in_ok-put_text.ensures,
-      c.in_ok-put_key.ensures,
-      object-text,
-      more-text,
-      more-end,
-    )
-    (simp append_assoc)
+returns c = whole _ _ _ (c.in_ok-put_end.ensures
+    ∙ (c.in_ok-put_text_or_null.ensures _
+    ∙ (c.in_ok-put_text.ensures _)))

@@ -1,17 +1,9 @@
-use Rattle.std.proofs.Common.{append_assoc}
-use Rattle.message_forms.proofs.Texts.{more-end, more-text, object-text}
+use Rattle.std.proofs.Common.{◌∙◌}
+use Rattle.message_forms.proofs.Texts.{whole}
 use Rattle.message_forms.proofs.json.put_line.Goals as goal
 
 pub returns : goal.returns
-returns c =
-    rw (
-      c.in_ok-push_str.ensures.bytes,
-      c.in_ok-put_count-2.ensures,
-      c.in_ok-put_count.ensures,
-      c.in_ok-put_text.ensures,
-      object-text,
-      more-text,
-      more-text,
-      more-end,
-    )
-    (simp append_assoc)
+returns c = whole _ _ _ (c.in_ok-put_end.ensures
+    ∙ (c.in_ok-put_count-2.ensures _
+    ∙ (c.in_ok-put_count.ensures _
+    ∙ (c.in_ok-put_text.ensures _))))

@@ -1,14 +1,7 @@
-use Rattle.std.proofs.Common.{append_assoc}
-use Rattle.message_forms.proofs.Texts.{more-end, object-text}
+use Rattle.std.proofs.Common.{◌∙◌}
+use Rattle.message_forms.proofs.Texts.{whole}
 use Rattle.message_forms.proofs.sarif.put_plain.Goals as goal
 
 pub returns : goal.returns
-returns c =
-    rw (
-      c.in_ok-push_str.ensures.bytes,
-      c.in_ok-put_text.ensures,
-      c.in_ok-put_key.ensures,
-      object-text,
-      more-end,
-    )
-    (simp append_assoc)
+returns c = whole _ _ _ (c.in_ok-put_end.ensures
+    ∙ (c.in_ok-put_text.ensures _))

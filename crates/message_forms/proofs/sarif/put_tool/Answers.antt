@@ -1,22 +1,7 @@
-use Rattle.std.proofs.Common.{append_assoc}
-use Rattle.message_forms.proofs.Texts.{more-end, more-text, object-text}
+use Rattle.std.proofs.Common.{◌∙◌}
+use Rattle.message_forms.proofs.Texts.{value-behind, whole}
 use Rattle.message_forms.proofs.sarif.put_tool.Goals as goal
 
 pub returns : goal.returns
-returns c =
-    rw (
-      c.in_ok-push_str.ensures.bytes,
-      c.in_ok-put_rules.ensures,
-      c.in_ok-put_key-3.ensures,
-      c.in_ok-put_text-2.ensures,
-      c.in_ok-put_text.ensures,
-      c.in_ok-put_key-2.ensures,
-      c.in_ok-put_key.ensures,
-      object-text,
-      object-text,
-      more-text,
-      more-text,
-      more-end,
-      more-end,
-    )
-    (simp append_assoc)
+returns c = whole _ _ _ (c.in_ok-put_end.ensures
+    ∙ (value-behind _ _ _ _ c.in_ok-put_driver.ensures (c.in_ok-put_key.ensures _ _)))
