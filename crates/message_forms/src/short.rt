@@ -23,6 +23,7 @@ fn put_place(out: &mut String, place: Place) -> Result<(), AllocError>
 /// Appends a message as a line that editors find places in: `PATH:LINE:COLUMN: LEVEL: TITLE [ID]`.
 /// The texts are written as drawings have them. Returns `Err` if an allocation fails, and a part of
 /// the line may then be appended.
+#[tactic(auto, using(crate::proofs::Harmless::harmless_short))]
 pub fn put_short(out: &mut String, message: &Message<'_>) -> Result<(), AllocError>
     ensures written { OnOk result (string_bytes out.new
         ≡ string_bytes out.old ++ short message.now) }
