@@ -1,6 +1,7 @@
 //! What is asked about a file, and what is found in it.
 
 use format_calls::{Reason, Table};
+use rust_trees::BreakAt;
 use std::ops::Range;
 
 /// How a file is read.
@@ -41,26 +42,6 @@ pub struct Finding {
     pub span: Range<usize>,
 }
 
-/// In which way a file breaks.
-#[derive(Clone, Copy)]
-pub enum BrokenKind {
-    /// A delimiter is not closed.
-    Unclosed,
-    /// A closing delimiter stands where nothing is to be closed, or another kind of delimiter.
-    Unexpected,
-    /// A literal or a comment has no end.
-    Unended,
-}
-
-/// Where a file is no sequence of token trees.
-#[derive(Clone, Drop)]
-pub struct Broken {
-    /// In which way.
-    pub kind: BrokenKind,
-    /// The bytes of the token. Both ends are at characters.
-    pub span: Range<usize>,
-}
-
 /// What was read of a file, and what is wrong with it.
 #[derive(Drop)]
 pub struct Report {
@@ -69,5 +50,5 @@ pub struct Report {
     /// What is wrong with these calls, one call after the other.
     pub findings: Vec<Finding>,
     /// Where the file breaks, or `None` if it does not. Calls in front of that place are read.
-    pub broken: Option<Broken>,
+    pub broken: Option<BreakAt>,
 }
