@@ -1,6 +1,6 @@
 use Rattle.std.proofs.Common.{◌∙◌}
 use Rattle.message_forms.proofs.Texts.{value-behind}
-use Rattle.message_forms.proofs.json.put_below.Goals as goal
+use Rattle.message_forms.proofs.json_lines.put_below.Goals as goal
 
 pub returns : goal.returns
 returns c = 

@@ -2,7 +2,7 @@ use Rattle.std.proofs.Common.{◌≡◌, ◌<◌, rules}
 use Rattle.message_forms.specs.Json.{line_items}
 use Rattle.message_forms.proofs.Lines.{line-end, line-step}
 use Rattle.message_forms.proofs.Texts.{array-begins}
-use Rattle.message_forms.proofs.json.put_lines.Goals as goal
+use Rattle.message_forms.proofs.json_lines.put_lines.Goals as goal
 
 pub loop-left-init : goal.loop-left-init
 loop-left-init c = (c.utf8.lines, array-begins _ _ (line_items c.args.more c.args.from c.args.to

@@ -3,7 +3,7 @@ use Rattle.std.specs.Prelude.{codes}
 use Rattle.message_forms.specs.Json.{message_json}
 use Rattle.message_forms.specs.Texts.{json_text}
 use Rattle.message_forms.proofs.Texts.{value-behind, whole}
-use Rattle.message_forms.proofs.json.put_json.Goals as goal
+use Rattle.message_forms.proofs.json_lines.put_json.Goals as goal
 
 pub returns : goal.returns
 returns c =

@@ -1,5 +1,5 @@
 use Rattle.std.proofs.Common.{◌∙◌}
-use Rattle.message_forms.proofs.json.put_places.Goals as goal
+use Rattle.message_forms.proofs.json_lines.put_places.Goals as goal
 
 pub returns : goal.returns
 returns c ms = 
