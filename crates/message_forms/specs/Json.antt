@@ -1,5 +1,5 @@
 -- A message as a value of JSON, with the members of rustc's `--error-format=json`.
-use Rattle.std.specs.Prelude.{ℕ, zero, suc, ◌+◌, ◌-◌, ◌==◌, Bool, List, [], ◌∷◌, Option, Some, None}
+use Rattle.std.specs.Prelude.{ℕ, zero, suc, ◌+◌, ◌-◌, ◌==◌, Bool, List, Option, Some, None}
 use Rattle.std.specs.Prelude.{chars, codes, length, option_map}
 use Rattle.std.specs.List.{before_first, after_first}
 use Rattle.serde_json.specs.Data.{Data, null, boolean, string, array, object}

@@ -11,8 +11,9 @@ ghost use Rattle.message_forms.specs.Json.{message_json, place_members};
 ghost use Rattle.message_forms.specs.Json.{said_members, span_json};
 ghost use Rattle.message_forms.specs.Texts.{items_of, json_text, object_text, text_or_null};
 
-use crate::members::{put_comma, put_count, put_end, put_key, put_text, put_text_or_null};
-use crate::members::put_truth;
+use crate::members::{
+    put_comma, put_count, put_end, put_key, put_text, put_text_or_null, put_truth,
+};
 use crate::message::{Child, Message, Span, Suggestion, child_name, level_name};
 use std::alloc::AllocError;
 
