@@ -23,7 +23,8 @@ fn put_example(out: &mut String, says: &str, example: &str) -> Result<(), AllocE
 /// and without the fault. Returns `Err` if an allocation fails, and a part of the text may then be
 /// appended.
 pub fn put_explanation(out: &mut String, rule: &Rule) -> Result<(), AllocError>
-    ensures { OnOk result (string_bytes out.new ≡ string_bytes out.old ++ explanation_text rule.now) }
+    ensures { OnOk result (string_bytes out.new
+        ≡ string_bytes out.old ++ explanation_text rule.now) }
 {
     out.push_str(rule.id)?;
     out.push_str(": ")?;

@@ -15,7 +15,7 @@ plain : (l : List ℕ) → AreHigh l → escape l ≡ l
 plain [] h = refl
 plain (x ∷ l) h =
     let first : 128 ≤ x = h 0 (omega arith) in
-    let rest : AreHigh l = λ k b. let e : suc k ≡ k + 1 = omega arith in h (suc k) (omega (arith, b)) in
+    let rest : AreHigh l = λ k b. h (suc k) (omega (arith, b)) in
     rw (
       escape_byte_plain x (λ e. omega (arith, first, e)) (λ e. omega (arith, first, e))
           (omega (arith, first)),

@@ -235,8 +235,8 @@ fn put_below(
 
 /// Appends a message as a line of JSON with the members that rustc writes with
 /// `--error-format=json`: all ranges that it speaks of, what stands below it, and how it is drawn
-/// for people. Its id stands in the place of rustc's code. Returns `Err` if an allocation fails, and
-/// a part of the line may then be appended.
+/// for people. Its id stands in the place of rustc's code. Returns `Err` if an allocation fails,
+/// and a part of the line may then be appended.
 pub fn put_json(
     out: &mut String,
     message: &Message<'_>,

@@ -11,7 +11,8 @@ loop-child-init c = array-begins _ _ (items_of (child_json c.args.path.now) c.ar
 pub loop-child-preserved : goal.loop-child-preserved
 loop-child-preserved c =
     let below : c.loop-child.child-index < length c.args.children.now = search rules in
-    items-step (child_json c.args.path.now) c.args.children.now c.loop-child.child-index _ _ _ _ _ below
+    items-step (child_json c.args.path.now) c.args.children.now c.loop-child.child-index
+    _ _ _ _ _ below
     c.in_ok-put_comma.ensures c.in_ok-put_child.ensures c.loop-child.invariant
 
 pub returns : goal.returns
