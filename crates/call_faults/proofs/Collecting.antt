@@ -6,7 +6,7 @@ use Rattle.std.proofs.Common.{append_assoc, arith, get_or, Option, ap, ◌∙◌
 use Rattle.std.proofs.Common.{zero}
 use Rattle.std.proofs.lemmas.Bool.{or_left, or_right}
 use Rattle.std.specs.List.{cons_option, filter_map, list_any}
-use Rattle.std.proofs.lemmas.List.{map-append, take_more}
+use Rattle.std.proofs.lemmas.List.{map-append, take_min, take_more}
 use Rattle.std.proofs.lemmas.List.Elements.{filter_map-append}
 use Rattle.std.proofs.lemmas.List.Folds.{list_any-append}
 
@@ -62,3 +62,12 @@ gathered-behind f g h xs i d before old new o l e k m =
     ∙ ap (λ ys. before ++ (filter_map h (map f (take i xs)) ++ ys)) (map-option g o)
     ∙ ap (λ p. before ++ (filter_map h (map f (take i xs)) ++ cons_option p [])) k
     ∙ ap (λ ys. before ++ ys) (sym (filter_map-next f h xs i d l))
+
+-- the first elements
+pub map-take : {A X : Type 0} (f : A → X) (n : ℕ) (xs : List A)
+    → map f (take n xs) ≡ take n (map f xs)
+map-take f zero xs = refl
+map-take f (suc n) [] = refl
+map-take f (suc n) (x ∷ xs) = ap (λ ys. f x ∷ ys) (map-take f n xs)
+
+pub ruleset fronts = (map-take, take_min)

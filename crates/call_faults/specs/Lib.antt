@@ -6,4 +6,7 @@ pub mod Texts
 pub mod Calls
 pub mod Clean
 pub mod Words
+pub mod Spots
+pub mod Labels
+pub mod Notes
 pub mod Seen

@@ -1,6 +1,6 @@
 -- What a contract sees of the values of this crate: texts as their characters, ranges as places.
 use Rattle.std.specs.Prelude.{◌≡◌, ℕ, Bool, List, Option, length, map, option_map}
-use Rattle.std.specs.Prelude.{chars, is_some}
+use Rattle.std.specs.Prelude.{chars, is_some, string_bytes}
 use Rattle.std.specs.BTreeMap.{BTreeMap, get_by}
 use Rattle.std.specs.Cmp.Lexicographic.{slice_cmp}
 use Rattle.std.specs.List.{list_any}
@@ -30,6 +30,10 @@ use Rattle.call_faults.specs.declared.checker.FormatString.{FormatString}
 use Rattle.call_faults.specs.declared.arguments.Given.{Given as DeclaredGiven}
 use Rattle.call_faults.specs.declared.arguments.Kept.{Kept as DeclaredKept}
 use Rattle.call_faults.specs.declared.arguments.Arguments.{Arguments}
+use Rattle.call_faults.specs.declared.spots.CallEdit.{CallEdit}
+use Rattle.call_faults.specs.declared.spots.CallHelp.{CallHelp}
+use Rattle.call_faults.specs.declared.spots.CallLabel.{CallLabel}
+use Rattle.call_faults.specs.declared.spots.CallNote.{CallNote}
 use Rattle.call_faults.specs.declared.lookups.Lookup.{Lookup as DeclaredLookup}
 use Rattle.call_faults.specs.declared.lookups.Lookup.TheVariants.{Refer as ReferIn}
 use Rattle.call_faults.specs.declared.lookups.Lookup.TheVariants.{NoTrait as NoTraitIn}
@@ -40,6 +44,8 @@ use Rattle.call_faults.specs.CallFaults.{CallFault, PositionalAfterNamed, Repeat
 use Rattle.call_faults.specs.CallFaults.{MissingName, UnknownTrait, MissingArguments}
 use Rattle.call_faults.specs.CallFaults.{UnusedArguments, RedundantArguments, NameUsedByIndex}
 use Rattle.call_faults.specs.Lookups.{Lookup, Refer, NoTrait}
+use Rattle.call_faults.specs.Labels.{Call}
+use Rattle.call_faults.specs.Spots.{Edit, Help, Label, Note}
 use Rattle.call_faults.specs.Words.{Told}
 
 -- An argument as a contract sees it.
@@ -98,4 +104,31 @@ told c numbers = record {
   pieces = map seen c.pieces.items;
   taken = c.parser.next;
   numbers = numbers;
+}
+
+-- A label as a contract sees it.
+abbrev pub seen_label : CallLabel → Label
+seen_label l = record { spot = l.spot; is_primary = l.is_primary; text = string_bytes l.text }
+
+-- A note as a contract sees it.
+abbrev pub seen_note : CallNote → Note
+seen_note n = record { text = string_bytes n.text; spots = n.spots.items }
+
+-- An edit as a contract sees it.
+abbrev pub seen_edit : CallEdit → Edit
+seen_edit e = record { spot = e.spot; text = string_bytes e.text }
+
+-- A help as a contract sees it.
+abbrev pub seen_help : CallHelp → Help
+seen_help h = record { text = string_bytes h.text; edits = map seen_edit h.edits.items }
+
+-- What is known of a call that was checked.
+abbrev pub seen_call : Checked → Call
+seen_call c = record {
+  given = map seen_given c.given.now;
+  kept = c.kept.items;
+  pieces = map seen c.pieces.items;
+  places = c.parser.arg_places;
+  taken = c.parser.next;
+  faults = map seen_fault c.faults.items;
 }

@@ -92,11 +92,14 @@ abbrev pub few_title : ℕ → ℕ → List ℕ
 few_title taken count = decimal taken ++ (plural (codes " positional argument") taken
     ++ (codes " in format string, but " ++ count_text count))
 
+-- An argument is not used.
+abbrev pub never_used : Option Given → List ℕ
+never_used g = if is_named g then codes "named argument never used" else codes "argument never used"
+
 -- The title of arguments that are not used.
 abbrev pub unused_title : List Given → List ℕ → List ℕ
 unused_title gs [] = codes "multiple unused formatting arguments"
-unused_title gs (i ∷ []) = if is_named (slice_get gs i) then codes "named argument never used"
-    else codes "argument never used"
+unused_title gs (i ∷ []) = never_used (slice_get gs i)
 unused_title gs (i ∷ j ∷ is) = codes "multiple unused formatting arguments"
 
 -- What a title tells of a call beside the fault: the arguments that are given and how many of them

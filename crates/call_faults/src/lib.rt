@@ -5,10 +5,16 @@ mod arguments;
 mod checker;
 mod compared;
 mod faults;
+mod helps;
+mod labels;
 mod lookups;
+mod missing_labels;
+mod notes;
+mod spots;
 mod text;
 mod titles;
 
 pub use arguments::Given;
 pub use checker::{Checked, FormatString, call_faults};
 pub use faults::{CallFault, Missing, Part, Reference};
+pub use spots::{CallEdit, CallHelp, CallLabel, CallNote, Spot};

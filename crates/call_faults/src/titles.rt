@@ -11,8 +11,8 @@ ghost use Rattle.placeholder_check.specs.Report.{IsReport, Report};
 ghost use Rattle.placeholder_check.specs.Uses.{uses};
 ghost use Rattle.call_faults.specs.Seen.{seen_fault, seen_given, told};
 ghost use Rattle.call_faults.specs.Words.{call_id, count_text, few_title, has_number, is_counted};
-ghost use Rattle.call_faults.specs.Words.{is_named, is_number, listed, name_of, numbers_title};
-ghost use Rattle.call_faults.specs.Words.{plural, quoted, separator, title, unused_title};
+ghost use Rattle.call_faults.specs.Words.{is_named, is_number, listed, name_of, never_used};
+ghost use Rattle.call_faults.specs.Words.{numbers_title, plural, quoted, separator, title, unused_title};
 
 use crate::arguments::Given;
 use crate::checker::Checked;
@@ -48,7 +48,7 @@ impl CallFault<'_> {
 }
 
 /// Adds a number in decimal digits.
-fn put_number(out: &mut String, number: usize) -> Result<(), AllocError>
+pub(crate) fn put_number(out: &mut String, number: usize) -> Result<(), AllocError>
     ensures { OnOk result (string_bytes out.new ≡ string_bytes out.old ++ decimal number) }
 {
     let mut digits = Buffer::new();
@@ -75,7 +75,7 @@ fn put_count(out: &mut String, count: usize) -> Result<(), AllocError>
 }
 
 /// Adds a noun, in the plural unless there is one.
-fn put_noun(out: &mut String, noun: &str, count: usize) -> Result<(), AllocError>
+pub(crate) fn put_noun(out: &mut String, noun: &str, count: usize) -> Result<(), AllocError>
     ensures { OnOk result (string_bytes out.new ≡ string_bytes out.old ++ plural noun.now count) }
 {
     out.push_str(noun)?;
@@ -130,13 +130,18 @@ fn put_named(out: &mut String, text: &str, name: &str) -> Result<(), AllocError>
     Ok(())
 }
 
-/// Adds the title of a name that is used by its index.
-fn put_by_index(out: &mut String, name: &str) -> Result<(), AllocError>
+/// Adds a name between backquotes, between two texts.
+pub(crate) fn put_name_between(
+    out: &mut String,
+    before: &str,
+    name: &str,
+    after: &str,
+) -> Result<(), AllocError>
     ensures { OnOk result (string_bytes out.new ≡ string_bytes out.old
-        ++ (codes "named argument " ++ (quoted (chars name.now) ++ codes " is not used by name"))) }
+        ++ (before.now ++ (quoted (chars name.now) ++ after.now))) }
 {
-    put_named(out, "named argument ", name)?;
-    out.push_str(" is not used by name")?;
+    put_named(out, before, name)?;
+    out.push_str(after)?;
     Ok(())
 }
 
@@ -169,7 +174,7 @@ fn has_number(piece: &Piece<'_>) -> bool
 }
 
 /// Returns whether pieces refer to an argument by a number that is written.
-fn have_numbers(pieces: &[Piece<'_>]) -> bool
+pub(crate) fn have_numbers(pieces: &[Piece<'_>]) -> bool
     ensures { result ≡ list_any has_number (map seen pieces.now) }
 {
     for piece in pieces {
@@ -207,7 +212,7 @@ fn put_few_title(out: &mut String, taken: usize, count: usize) -> Result<(), All
 }
 
 /// Returns the name of an argument, or an empty text if it has none.
-fn name_of<'a>(given: &[Given<'a>], index: usize) -> &'a str
+pub(crate) fn name_of<'a>(given: &[Given<'a>], index: usize) -> &'a str
     ensures { chars result.now ≡ name_of (slice_get (map seen_given given.now) index) }
 {
     match given.get(index) {
@@ -229,18 +234,23 @@ fn is_named(given: &[Given<'_>], index: usize) -> bool
     }
 }
 
+/// Returns what is said of an argument that is not used.
+pub(crate) fn never_used(given: &[Given<'_>], index: usize) -> &'static str
+    ensures { result.now ≡ never_used (slice_get (map seen_given given.now) index) }
+{
+    if is_named(given, index) {
+        "named argument never used"
+    } else {
+        "argument never used"
+    }
+}
+
 /// Returns the title of arguments that are not used.
 fn unused_title(given: &[Given<'_>], unused: &[usize]) -> &'static str
     ensures { result.now ≡ unused_title (map seen_given given.now) unused.now }
 {
     match unused {
-        [index] => {
-            if is_named(given, *index) {
-                "named argument never used"
-            } else {
-                "argument never used"
-            }
-        }
+        [index] => never_used(given, *index),
         _ => "multiple unused formatting arguments",
     }
 }
@@ -322,7 +332,12 @@ impl<'a> Checked<'a> {
                 put_noun(out, "redundant argument", redundant.len())
             }
             CallFault::NameUsedByIndex { index, .. } => {
-                put_by_index(out, name_of(self.given, *index))
+                put_name_between(
+                    out,
+                    "named argument ",
+                    name_of(self.given, *index),
+                    " is not used by name",
+                )
             }
         }
     }

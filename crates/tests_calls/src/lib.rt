@@ -3,4 +3,7 @@
 
 mod rows;
 #[cfg(test)]
+mod shown;
+mod shown_rows;
+#[cfg(test)]
 mod tests;

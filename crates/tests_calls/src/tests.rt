@@ -6,7 +6,7 @@ use std::alloc::{AllocError, Global};
 use std::test::Fail;
 
 /// Returns the format string of a text that stands for itself in an ordinary literal.
-fn plain(text: &str) -> FormatString<'_> {
+pub fn plain(text: &str) -> FormatString<'_> {
     FormatString {
         text,
         style: None,
@@ -26,7 +26,7 @@ fn expression(text: &str) -> Option<&str> {
 }
 
 /// Returns the arguments of a list with a comma and a space between them.
-fn arguments<'a>(alloc: Global, list: &'a str) -> Result<Vec<Given<'a>>, AllocError> {
+pub fn arguments<'a>(alloc: Global, list: &'a str) -> Result<Vec<Given<'a>>, AllocError> {
     let mut given = Vec::new(alloc);
     for argument in list.split(", ") {
         if argument.is_empty() {

@@ -1,0 +1,13 @@
+use Rattle.std.proofs.Common.{◌≡◌, ◌++◌, [], length, map}
+use Rattle.call_faults.specs.Seen.{seen_label}
+use Rattle.call_faults.specs.Spots.{primary}
+use Rattle.call_faults.specs.declared.spots.Spot.TheVariants.{Value}
+use Rattle.call_faults.proofs.labels.push_bare.Given as goal
+
+-- What is added, and then the labels of what is left, is all.
+abbrev pub invariant-loop-index : goal.invariant-loop-index
+invariant-loop-index l = map seen_label l.labels.items ++ map (λ i. primary (Value i) []) l.rest
+    ≡ map seen_label l.fn.labels.items ++ map (λ i. primary (Value i) []) l.indices
+
+abbrev pub decreases-loop-index : goal.decreases-loop-index
+decreases-loop-index l = length l.rest

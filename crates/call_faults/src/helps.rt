@@ -1,0 +1,219 @@
+//! What rustc suggests for faults, in its words.
+
+ghost use Rattle.std.specs.Prelude.{◌≡◌, ◌++◌, ◌∷◌, [], IfOk, OnOk, chars, map, option_map};
+ghost use Rattle.std.specs.Prelude.{string_bytes};
+ghost use Rattle.rustc_parse_format.specs.Faults.{message};
+ghost use Rattle.rustc_parse_format.specs.SeenFaults.{seen_fault as seen_text_fault};
+ghost use Rattle.call_faults.specs.Notes.{behind_name, by_index_help, name_in, placeholders};
+ghost use Rattle.call_faults.specs.Notes.{redundant_help, removal, removed_spot, replacing, text_help};
+ghost use Rattle.call_faults.specs.Notes.{unused_help};
+ghost use Rattle.call_faults.specs.Seen.{seen_call, seen_edit, seen_given, seen_help};
+
+use crate::arguments::Given;
+use crate::checker::Checked;
+use crate::faults::{CallFault, Part, Reference};
+use crate::labels::{have_names, is_last};
+use crate::notes::{are_missing, put_specifiers};
+use crate::spots::{CallEdit, CallHelp, Spot, bytes_at, index_spot};
+use crate::titles::name_of;
+use rustc_parse_format::{Fault, Suggestion};
+use std::alloc::{AllocError, Global};
+
+/// Returns a help with one edit. Returns `Err` if an allocation fails.
+fn single(alloc: Global, text: String, spot: Spot, new: String) -> Result<CallHelp, AllocError>
+    ensures { IfOk result (λ h. seen_help h ≡ record {
+      text = string_bytes text;
+      edits = record { spot = spot; text = string_bytes new } ∷ [];
+    }) }
+{
+    let mut edits = Vec::new(alloc);
+    edits.push(CallEdit { spot, text: new })?;
+    Ok(CallHelp { text, edits })
+}
+
+/// Adds this many placeholders.
+fn put_placeholders(out: &mut String, count: usize) -> Result<(), AllocError>
+    ensures { OnOk result (string_bytes out.new ≡ string_bytes out.old ++ placeholders count) }
+{
+    let mut left = count;
+    while left > 0 {
+        out.push_str("{}")?;
+        left -= 1;
+    }
+    Ok(())
+}
+
+/// Returns the help for so many unused arguments, or `None` if there is none. Returns `Err` if an
+/// allocation fails.
+fn unused_help(
+    alloc: Global,
+    call: &Checked<'_>,
+    count: usize,
+) -> Result<Option<CallHelp>, AllocError>
+    ensures { IfOk result (λ o. option_map seen_help o
+        ≡ unused_help (seen_call call.now) count) }
+{
+    if are_missing(&call.faults) || count != call.kept.len() {
+        return Ok(None);
+    }
+    let says = "format specifiers use curly braces, consider adding ";
+    let mut text = String::from_str(alloc, says)?;
+    put_specifiers(&mut text, count)?;
+    let mut new = String::new(alloc);
+    put_placeholders(&mut new, count)?;
+    let help = single(alloc, text, Spot::LiteralEnd, new)?;
+    Ok(Some(help))
+}
+
+/// Returns where the text is that is removed with an argument.
+fn removed_spot(given: &[Given<'_>], index: usize) -> Spot
+    ensures { result ≡ removed_spot (map seen_given given.now) index }
+{
+    if is_last(given, index) {
+        Spot::Value(index)
+    } else {
+        Spot::ValueUpToNext(index)
+    }
+}
+
+/// Adds the edits that remove arguments.
+fn push_removals(
+    edits: &mut Vec<CallEdit>,
+    given: &[Given<'_>],
+    indices: &[usize],
+) -> Result<(), AllocError>
+    ensures { OnOk result (map seen_edit edits.new.items ≡ map seen_edit edits.old.items
+        ++ map (removal (map seen_given given.now)) indices.now) }
+{
+    let alloc = *edits.allocator();
+    let mut rest = indices;
+    while let Some((index, others)) = rest.split_first() {
+        let text = String::new(alloc);
+        let spot = removed_spot(given, *index);
+        edits.push(CallEdit { spot, text })?;
+        rest = others;
+    }
+    Ok(())
+}
+
+/// Returns the help for redundant arguments, or `None` if there is none. Returns `Err` if an
+/// allocation fails.
+fn redundant_help(
+    alloc: Global,
+    given: &[Given<'_>],
+    redundant: &[usize],
+) -> Result<Option<CallHelp>, AllocError>
+    ensures { IfOk result (λ o. option_map seen_help o
+        ≡ redundant_help (map seen_given given.now) redundant.now) }
+{
+    if redundant.len() <= 1 || have_names(given) {
+        return Ok(None);
+    }
+    let mut edits = Vec::new(alloc);
+    push_removals(&mut edits, given, redundant)?;
+    let text = String::from_str(alloc, "this can be removed")?;
+    Ok(Some(CallHelp { text, edits }))
+}
+
+/// Returns what is behind a name in a part of a placeholder.
+fn behind_name(part: Part) -> &'static str
+    ensures { result.now ≡ behind_name part }
+{
+    match part {
+        Part::Position => "",
+        Part::Precision | Part::Width => "$",
+    }
+}
+
+/// Returns the name of an argument as a part of a placeholder has it. Returns `Err` if an
+/// allocation fails.
+fn name_in(alloc: Global, part: Part, name: &str) -> Result<String, AllocError>
+    ensures { IfOk result (λ s. string_bytes s ≡ name_in part (chars name.now)) }
+{
+    let mut text = String::from_str(alloc, name)?;
+    text.push_str(behind_name(part))?;
+    Ok(text)
+}
+
+/// Returns the help for a use by index of an argument with a name. Returns `Err` if an allocation
+/// fails.
+fn by_index_help(
+    alloc: Global,
+    call: &Checked<'_>,
+    reference: Reference,
+    index: usize,
+) -> Result<CallHelp, AllocError>
+    ensures { IfOk result (λ h. seen_help h
+        ≡ by_index_help (seen_call call.now) reference index) }
+{
+    let says = "use the named argument by name to avoid ambiguity";
+    let text = String::from_str(alloc, says)?;
+    let new = name_in(alloc, reference.part, name_of(call.given, index))?;
+    let spot = index_spot(&call.pieces, reference);
+    let help = single(alloc, text, spot, new)?;
+    Ok(help)
+}
+
+/// Returns the help that replaces a text. Returns `Err` if an allocation fails.
+fn replacing(alloc: Global, spot: Spot, new: &str) -> Result<CallHelp, AllocError>
+    ensures { IfOk result (λ h. seen_help h ≡ replacing spot new.now) }
+{
+    let mut text = String::from_str(alloc, "did you mean `")?;
+    text.push_str(new)?;
+    text.push_str("`?")?;
+    let new = String::from_str(alloc, new)?;
+    let help = single(alloc, text, spot, new)?;
+    Ok(help)
+}
+
+/// Returns the help for a fault of the string, or `None` if it has none that replaces something.
+/// Returns `Err` if an allocation fails.
+fn text_help(alloc: Global, fault: &Fault<'_>) -> Result<Option<CallHelp>, AllocError>
+    ensures { IfOk result (λ o. option_map seen_help o
+        ≡ text_help (message (seen_text_fault fault.now)).suggestion) }
+{
+    match fault.suggestion(alloc)? {
+        Suggestion::ReorderFormatParameter(span, text) => {
+            let help = replacing(alloc, bytes_at(&span), &text)?;
+            Ok(Some(help))
+        }
+        Suggestion::None
+        | Suggestion::UsePositional
+        | Suggestion::RemoveRawIdent(_)
+        | Suggestion::AddMissingColon(_)
+        | Suggestion::UseRustDebugPrintingMacro => Ok(None),
+    }
+}
+
+impl<'a> Checked<'a> {
+    ghost use Rattle.std.specs.Prelude.{◌≡◌, IfOk, option_map};
+    ghost use Rattle.call_faults.specs.Notes.{help};
+    ghost use Rattle.call_faults.specs.Seen.{seen_call, seen_fault, seen_help};
+
+    /// Returns what rustc suggests for one of the faults, or `None` if it suggests nothing or does
+    /// so in a label. The suggestions for which the source of the call is needed are left out: to
+    /// pass a field as an argument, to use `dbg!`, and those for the directives of other languages.
+    /// Returns `Err` if an allocation fails.
+    #[tactic(auto, unfolding(crate::specs::Notes::help))]
+    pub fn help(&self, alloc: Global, fault: &CallFault<'a>) -> Result<Option<CallHelp>, AllocError>
+        ensures { IfOk result (λ o. option_map seen_help o
+            ≡ help (seen_call self.now) (seen_fault fault.now)) }
+    {
+        match fault {
+            CallFault::PositionalAfterNamed { .. }
+            | CallFault::RepeatedName { .. }
+            | CallFault::MissingName { .. }
+            | CallFault::UnknownTrait { .. }
+            | CallFault::MissingArguments(_) => Ok(None),
+            CallFault::Text(fault) => text_help(alloc, fault),
+            CallFault::UnusedArguments(unused) => unused_help(alloc, self, unused.len()),
+            CallFault::RedundantArguments(redundant) => {
+                redundant_help(alloc, self.given, redundant)
+            }
+            CallFault::NameUsedByIndex { reference, index } => {
+                let help = by_index_help(alloc, self, *reference, *index)?;
+                Ok(Some(help))
+            }
+        }
+    }
+}

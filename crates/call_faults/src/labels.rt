@@ -1,0 +1,375 @@
+//! The labels of faults, in rustc's words. What begins with `push_` adds to the end of `labels`,
+//! and returns `Err` if an allocation fails.
+
+ghost use Rattle.std.specs.Prelude.{◌≡◌, ◌++◌, ◌∷◌, [], IfOk, OnOk, chars, map, string_bytes};
+ghost use Rattle.rustc_parse_format.specs.Faults.{message};
+ghost use Rattle.rustc_parse_format.specs.Seen.{pair, seen_error};
+ghost use Rattle.rustc_parse_format.specs.SeenFaults.{seen_fault as seen_text_fault};
+ghost use Rattle.call_faults.specs.Labels.{by_index_labels, by_index_text, have_names};
+ghost use Rattle.call_faults.specs.Labels.{inline_help, is_last, many_unused, named_text, one_unused};
+ghost use Rattle.call_faults.specs.Labels.{redundant_labels, removal_labels, removal_text};
+ghost use Rattle.call_faults.specs.Labels.{removal_up_to_next, second_label, second_labels};
+ghost use Rattle.call_faults.specs.Labels.{several_text, single_text, text_labels, unused_and_literal};
+ghost use Rattle.call_faults.specs.Labels.{unused_labels, use_text};
+ghost use Rattle.call_faults.specs.Seen.{seen_call, seen_given, seen_label};
+ghost use Rattle.call_faults.specs.Spots.{primary, secondary};
+ghost use Rattle.call_faults.specs.declared.spots.Spot.TheVariants.{Argument as WholeArgument};
+ghost use Rattle.call_faults.specs.declared.spots.Spot.TheVariants.{Value};
+
+use crate::arguments::Given;
+use crate::checker::Checked;
+use crate::faults::{CallFault, Reference};
+use crate::missing_labels::{few_labels, push_missing};
+use crate::spots::{
+    CallLabel, Spot, bytes_at, named_spot, push_plain, push_primary, push_secondary, type_spot,
+    use_spot,
+};
+use crate::titles::{have_numbers, name_of, never_used, put_name_between};
+use rustc_parse_format::{Fault, ParseError, Suggestion};
+use std::alloc::{AllocError, Global};
+use std::ops::Range;
+
+/// Returns what is said of an argument with a name in front of one without.
+#[tactic(auto, unfolding(crate::specs::Labels::named_text))]
+fn named_text() -> &'static str
+    ensures { result.now ≡ named_text }
+{
+    "named argument"
+}
+
+/// Adds the labels of arguments that have a name.
+#[tactic(auto, using(std::proofs::Common::append_assoc))]
+fn push_named(labels: &mut Vec<CallLabel>, named: &[usize]) -> Result<(), AllocError>
+    ensures { OnOk result (map seen_label labels.new.items ≡ map seen_label labels.old.items
+        ++ map (λ n. secondary (WholeArgument n) named_text) named.now) }
+{
+    let mut rest = named;
+    while let Some((index, others)) = rest.split_first() {
+        push_secondary(labels, Spot::Argument(*index), named_text())?;
+        rest = others;
+    }
+    Ok(())
+}
+
+/// Adds the label of a second range of an error.
+fn push_second_label(
+    labels: &mut Vec<CallLabel>,
+    error: &ParseError,
+    span: &Range<usize>,
+    text: &str,
+) -> Result<(), AllocError>
+    ensures { OnOk result (map seen_label labels.new.items ≡ map seen_label labels.old.items
+        ++ second_label (seen_error error.now).span (pair span.now) text.now ∷ []) }
+{
+    if span.start == error.span.start && span.end == error.span.end {
+        push_primary(labels, bytes_at(span), text)?;
+    } else {
+        push_secondary(labels, bytes_at(span), text)?;
+    }
+    Ok(())
+}
+
+/// Adds a help that is drawn as a label.
+fn push_inline_help(labels: &mut Vec<CallLabel>, error: &ParseError) -> Result<(), AllocError>
+    ensures { OnOk result (map seen_label labels.new.items ≡ map seen_label labels.old.items
+        ++ inline_help (seen_error error.now).span (seen_error error.now).suggestion) }
+{
+    match &error.suggestion {
+        Suggestion::RemoveRawIdent(span) => {
+            push_second_label(labels, error, span, "help: remove the `r#`")?;
+        }
+        Suggestion::AddMissingColon(span) => {
+            let text = "help: add a colon before the format specifier: `:?`";
+            push_second_label(labels, error, span, text)?;
+        }
+        Suggestion::None
+        | Suggestion::UsePositional
+        | Suggestion::ReorderFormatParameter(..)
+        | Suggestion::UseRustDebugPrintingMacro => {}
+    }
+    Ok(())
+}
+
+/// Adds the second label of an error of the string.
+fn push_second(labels: &mut Vec<CallLabel>, error: &ParseError) -> Result<(), AllocError>
+    ensures { OnOk result (map seen_label labels.new.items ≡ map seen_label labels.old.items
+        ++ second_labels (seen_error error.now).span (seen_error error.now).second
+        (seen_error error.now).suggestion) }
+{
+    match &error.secondary_label {
+        None => push_inline_help(labels, error)?,
+        Some((text, span)) => push_second_label(labels, error, span, text)?,
+    }
+    Ok(())
+}
+
+/// Adds the labels of a fault of the string.
+#[tactic(auto, using(std::proofs::Common::append_assoc))]
+fn push_text(
+    alloc: Global,
+    labels: &mut Vec<CallLabel>,
+    fault: &Fault<'_>,
+) -> Result<(), AllocError>
+    ensures { OnOk result (map seen_label labels.new.items ≡ map seen_label labels.old.items
+        ++ text_labels (message (seen_text_fault fault.now))) }
+{
+    let error = fault.error(alloc)?;
+    let mut text = String::from_str(alloc, &error.label)?;
+    text.push_str(" in format string")?;
+    push_primary(labels, bytes_at(&error.span), &text)?;
+    push_second(labels, &error)?;
+    Ok(())
+}
+
+/// Adds the labels of arguments that are not used.
+fn push_unused(
+    labels: &mut Vec<CallLabel>,
+    given: &[Given<'_>],
+    unused: &[usize],
+) -> Result<(), AllocError>
+    ensures { OnOk result (map seen_label labels.new.items ≡ map seen_label labels.old.items
+        ++ unused_labels (map seen_given given.now) unused.now) }
+{
+    let mut rest = unused;
+    while let Some((index, others)) = rest.split_first() {
+        push_primary(labels, Spot::Value(*index), never_used(given, *index))?;
+        rest = others;
+    }
+    Ok(())
+}
+
+/// Returns what is said of a literal that lacks a placeholder.
+#[tactic(auto, unfolding(crate::specs::Labels::single_text))]
+fn single_text() -> &'static str
+    ensures { result.now ≡ single_text }
+{
+    "formatting specifier missing"
+}
+
+/// Adds the labels of an argument that is not used, and that of the literal.
+#[tactic(auto, using(std::proofs::Common::append_assoc))]
+fn push_one_unused(
+    labels: &mut Vec<CallLabel>,
+    given: &[Given<'_>],
+    index: usize,
+) -> Result<(), AllocError>
+    ensures { OnOk result (map seen_label labels.new.items ≡ map seen_label labels.old.items
+        ++ one_unused (map seen_given given.now) index) }
+{
+    push_primary(labels, Spot::Value(index), never_used(given, index))?;
+    push_secondary(labels, Spot::Literal, single_text())?;
+    Ok(())
+}
+
+/// Returns what is said of a literal that lacks several placeholders.
+#[tactic(auto, unfolding(crate::specs::Labels::several_text))]
+fn several_text() -> &'static str
+    ensures { result.now ≡ several_text }
+{
+    "multiple missing formatting specifiers"
+}
+
+/// Adds the labels of several arguments that are not used, and that of the literal.
+#[tactic(auto, using(std::proofs::Common::append_assoc))]
+fn push_many_unused(
+    labels: &mut Vec<CallLabel>,
+    given: &[Given<'_>],
+    unused: &[usize],
+) -> Result<(), AllocError>
+    ensures { OnOk result (map seen_label labels.new.items ≡ map seen_label labels.old.items
+        ++ many_unused (map seen_given given.now) unused.now) }
+{
+    push_secondary(labels, Spot::Literal, several_text())?;
+    push_unused(labels, given, unused)?;
+    Ok(())
+}
+
+/// Adds the labels of arguments that are not used, and that of the literal.
+fn push_unused_and_literal(
+    labels: &mut Vec<CallLabel>,
+    given: &[Given<'_>],
+    unused: &[usize],
+) -> Result<(), AllocError>
+    ensures { OnOk result (map seen_label labels.new.items ≡ map seen_label labels.old.items
+        ++ unused_and_literal (map seen_given given.now) unused.now) }
+{
+    match unused {
+        [index] => push_one_unused(labels, given, *index)?,
+        _ => push_many_unused(labels, given, unused)?,
+    }
+    Ok(())
+}
+
+/// Returns whether an argument is the last one.
+pub(crate) fn is_last(given: &[Given<'_>], index: usize) -> bool
+    ensures { result ≡ is_last (map seen_given given.now) index }
+{
+    given.len().saturating_sub(index) == 1
+}
+
+/// Returns whether one of these arguments has a name.
+pub(crate) fn have_names(given: &[Given<'_>]) -> bool
+    ensures { result ≡ have_names (map seen_given given.now) }
+{
+    for first in given {
+        if first.name.is_some() {
+            return true;
+        }
+    }
+    false
+}
+
+/// Returns what is said of an argument that is left out.
+#[tactic(auto, unfolding(crate::specs::Labels::removal_text))]
+fn removal_text() -> &'static str
+    ensures { result.now ≡ removal_text }
+{
+    "help: this can be removed"
+}
+
+/// Adds the labels of an argument that is left out, which is not the last one.
+#[tactic(auto, using(std::proofs::Common::append_assoc))]
+fn push_removal_up_to_next(labels: &mut Vec<CallLabel>, index: usize) -> Result<(), AllocError>
+    ensures { OnOk result (map seen_label labels.new.items
+        ≡ map seen_label labels.old.items ++ removal_up_to_next index) }
+{
+    push_secondary(labels, Spot::ValueUpToNext(index), removal_text())?;
+    push_plain(labels, Spot::Value(index))?;
+    Ok(())
+}
+
+/// Adds the labels of an argument that is left out.
+fn push_removal(
+    labels: &mut Vec<CallLabel>,
+    given: &[Given<'_>],
+    index: usize,
+) -> Result<(), AllocError>
+    ensures { OnOk result (map seen_label labels.new.items ≡ map seen_label labels.old.items
+        ++ removal_labels (map seen_given given.now) index) }
+{
+    if is_last(given, index) {
+        push_primary(labels, Spot::Value(index), removal_text())?;
+    } else {
+        push_removal_up_to_next(labels, index)?;
+    }
+    Ok(())
+}
+
+/// Adds labels without a text of the values of redundant arguments.
+fn push_bare(labels: &mut Vec<CallLabel>, indices: &[usize]) -> Result<(), AllocError>
+    ensures { OnOk result (map seen_label labels.new.items ≡ map seen_label labels.old.items
+        ++ map (λ i. primary (Value i) []) indices.now) }
+{
+    let mut rest = indices;
+    while let Some((index, others)) = rest.split_first() {
+        push_plain(labels, Spot::Value(*index))?;
+        rest = others;
+    }
+    Ok(())
+}
+
+/// Adds the labels of redundant arguments.
+fn push_redundant(
+    labels: &mut Vec<CallLabel>,
+    given: &[Given<'_>],
+    redundant: &[usize],
+) -> Result<(), AllocError>
+    ensures { OnOk result (map seen_label labels.new.items ≡ map seen_label labels.old.items
+        ++ redundant_labels (map seen_given given.now) redundant.now) }
+{
+    if let [index] = redundant {
+        if !have_names(given) {
+            return push_removal(labels, given, *index);
+        }
+    }
+    push_bare(labels, redundant)
+}
+
+/// Returns what is said of an argument with a name that is used by its index.
+#[tactic(auto, unfolding(crate::specs::Labels::by_index_text))]
+fn by_index_text() -> &'static str
+    ensures { result.now ≡ by_index_text }
+{
+    "this named argument is referred to by position in formatting string"
+}
+
+/// Returns what is said of the use by index of an argument with a name. Returns `Err` if an
+/// allocation fails.
+#[tactic(auto, unfolding(crate::specs::Labels::use_text))]
+fn use_text(alloc: Global, name: &str) -> Result<String, AllocError>
+    ensures { IfOk result (λ s. string_bytes s ≡ use_text (chars name.now)) }
+{
+    let mut text = String::new(alloc);
+    let before = "this formatting argument uses named argument ";
+    put_name_between(&mut text, before, name, " by position")?;
+    Ok(text)
+}
+
+/// Adds the labels of the use by index of an argument with a name.
+#[tactic(auto, using(std::proofs::Common::append_assoc))]
+fn push_by_index(
+    labels: &mut Vec<CallLabel>,
+    call: &Checked<'_>,
+    reference: Reference,
+    index: usize,
+) -> Result<(), AllocError>
+    ensures { OnOk result (map seen_label labels.new.items ≡ map seen_label labels.old.items
+        ++ by_index_labels (seen_call call.now) reference index) }
+{
+    let text = use_text(*labels.allocator(), name_of(call.given, index))?;
+    let spot = use_spot(&call.pieces, call.parser.arg_places(), reference);
+    push_primary(labels, Spot::Name(index), by_index_text())?;
+    push_secondary(labels, spot, &text)?;
+    Ok(())
+}
+
+impl<'a> Checked<'a> {
+    ghost use Rattle.std.specs.Prelude.{◌≡◌, IfOk, map};
+    ghost use Rattle.call_faults.specs.Labels.{labels};
+    ghost use Rattle.call_faults.specs.Seen.{seen_call, seen_fault, seen_label};
+
+    /// Returns the labels of one of the faults, as rustc has them, with its first primary label
+    /// where rustc says that the fault is. A fault of the string has the labels of its error.
+    /// Returns `Err` if an allocation fails.
+    #[tactic(auto, unfolding(crate::specs::Labels::labels))]
+    pub fn labels(&self, alloc: Global, fault: &CallFault<'a>) -> Result<Vec<CallLabel>, AllocError>
+        ensures { IfOk result (λ v. map seen_label v.items
+            ≡ labels (seen_call self.now) (seen_fault fault.now)) }
+    {
+        let mut labels = Vec::new(alloc);
+        match fault {
+            CallFault::PositionalAfterNamed { index, named } => {
+                let text = "positional arguments must be before named arguments";
+                push_primary(&mut labels, Spot::Argument(*index), text)?;
+                push_named(&mut labels, named)?;
+            }
+            CallFault::RepeatedName { index, first } => {
+                push_secondary(&mut labels, Spot::Name(*first), "previously here")?;
+                push_primary(&mut labels, Spot::Name(*index), "duplicate argument")?;
+            }
+            CallFault::Text(fault) => push_text(alloc, &mut labels, fault)?,
+            CallFault::MissingName { reference, .. } => {
+                push_plain(&mut labels, named_spot(&self.pieces, *reference))?;
+            }
+            CallFault::UnknownTrait { piece, .. } => {
+                push_plain(&mut labels, type_spot(&self.pieces, *piece))?;
+            }
+            CallFault::MissingArguments(missing) => {
+                if !have_numbers(&self.pieces) {
+                    return few_labels(alloc, self);
+                }
+                push_missing(&mut labels, &self.pieces, missing)?;
+            }
+            CallFault::UnusedArguments(unused) => {
+                push_unused_and_literal(&mut labels, self.given, unused)?;
+            }
+            CallFault::RedundantArguments(redundant) => {
+                push_redundant(&mut labels, self.given, redundant)?;
+            }
+            CallFault::NameUsedByIndex { reference, index } => {
+                push_by_index(&mut labels, self, *reference, *index)?;
+            }
+        }
+        Ok(labels)
+    }
+}

@@ -1,0 +1,183 @@
+//! What is shown under the titles of faults, beside what rustc shows.
+
+use crate::shown_rows::SHOWN;
+use crate::tests::{arguments, plain};
+use call_faults::{CallHelp, CallLabel, CallNote, Spot, call_faults};
+use std::alloc::{AllocError, Global};
+use std::test::Fail;
+
+/// Where an argument is, in bytes from the start of the literal.
+#[derive(Clone, Copy)]
+struct Place {
+    start: usize,
+    /// The end of its name, or its start if it has none.
+    name_end: usize,
+    value: usize,
+    end: usize,
+}
+
+/// Returns the places of the arguments of a list, which begins at `start`.
+fn places(alloc: Global, start: usize, list: &str) -> Result<Vec<Place>, AllocError> {
+    let mut places = Vec::new(alloc);
+    let mut at = start;
+    for argument in list.split(", ") {
+        let (name_end, value) = match argument.split_once(" = ") {
+            Some((name, _)) => (at + name.len(), at + name.len() + 3),
+            None => (at, at),
+        };
+        let end = at + argument.len();
+        places.push(Place {
+            start: at,
+            name_end,
+            value,
+            end,
+        })?;
+        at = end + 2;
+    }
+    Ok(places)
+}
+
+/// Adds a place as a byte range.
+fn put_spot(
+    out: &mut String,
+    literal: usize,
+    places: &[Place],
+    spot: Spot,
+) -> Result<(), AllocError> {
+    let none = Place {
+        start: 0,
+        name_end: 0,
+        value: 0,
+        end: 0,
+    };
+    let at = |index: usize| *places.get(index).unwrap_or(&none);
+    let (start, end) = match spot {
+        Spot::Argument(index) => (at(index).start, at(index).end),
+        Spot::Name(index) => (at(index).start, at(index).name_end),
+        Spot::Value(index) => (at(index).value, at(index).end),
+        Spot::ValueUpToNext(index) => (at(index).value, at(index + 1).value),
+        Spot::Literal => (0, literal),
+        Spot::LiteralEnd => (literal - 1, literal - 1),
+        Spot::Bytes { start, end } => (start, end),
+    };
+    write!(out, "{start}..{end}")?;
+    Ok(())
+}
+
+/// Returns the line of a label: its sign, its range, and its text.
+fn line_of(
+    alloc: Global,
+    literal: usize,
+    places: &[Place],
+    label: &CallLabel,
+) -> Result<String, AllocError> {
+    let mut line = String::new(alloc);
+    line.push(if label.is_primary { '^' } else { '-' })?;
+    put_spot(&mut line, literal, places, label.spot)?;
+    line.push(' ')?;
+    line.push_str(&label.text)?;
+    line.push('\n')?;
+    Ok(line)
+}
+
+/// Adds the lines of labels, sorted.
+fn put_labels(
+    out: &mut String,
+    literal: usize,
+    places: &[Place],
+    labels: &[CallLabel],
+) -> Result<(), AllocError> {
+    let alloc = *out.allocator();
+    let mut lines = Vec::new(alloc);
+    for label in labels {
+        lines.push(line_of(alloc, literal, places, label)?)?;
+    }
+    lines.sort()?;
+    for line in &lines {
+        out.push_str(line)?;
+    }
+    Ok(())
+}
+
+/// Adds a note, and the ranges that it shows.
+fn put_note(
+    out: &mut String,
+    literal: usize,
+    places: &[Place],
+    note: &CallNote,
+) -> Result<(), AllocError> {
+    write!(out, "= {}", note.text)?;
+    for spot in &note.spots {
+        out.push(' ')?;
+        put_spot(out, literal, places, *spot)?;
+    }
+    out.push('\n')?;
+    Ok(())
+}
+
+/// Adds a help, and its edits.
+fn put_help(
+    out: &mut String,
+    literal: usize,
+    places: &[Place],
+    help: &CallHelp,
+) -> Result<(), AllocError> {
+    write!(out, "? {}", help.text)?;
+    for edit in &help.edits {
+        out.push(' ')?;
+        put_spot(out, literal, places, edit.spot)?;
+        write!(out, " `{}`", edit.text)?;
+    }
+    out.push('\n')?;
+    Ok(())
+}
+
+/// Returns what is shown under the titles of a call.
+fn shown(alloc: Global, text: &str, list: &str) -> Result<String, AllocError> {
+    let mut literal = String::from_str(alloc, "\"")?;
+    literal.push_str(text)?;
+    literal.push('"')?;
+    let places = places(alloc, literal.len() + 2, list)?;
+    let given = arguments(alloc, list)?;
+    let mut string = plain(text);
+    string.snippet = Some(literal.as_str());
+    let checked = call_faults(alloc, string, &given)?;
+    let mut out = String::new(alloc);
+    for fault in &checked.faults {
+        let labels = checked.labels(alloc, fault)?;
+        put_labels(&mut out, literal.len(), &places, &labels)?;
+        for note in &checked.notes(alloc, fault)? {
+            put_note(&mut out, literal.len(), &places, note)?;
+        }
+        if let Some(help) = &checked.help(alloc, fault)? {
+            put_help(&mut out, literal.len(), &places, help)?;
+        }
+    }
+    Ok(out)
+}
+
+#[test]
+fn labels_notes_and_helps_are_those_of_rustc(rt: HostRuntime) -> Result<(), Fail> {
+    let alloc = rt.alloc();
+    for row in SHOWN {
+        let said = shown(alloc, row.text, row.arguments)?;
+        assert_eq!(&rt; said.as_str(), row.shown, "{} {}", row.text, row.arguments);
+    }
+    Ok(())
+}
+
+#[test]
+fn labels_out_of_memory_are_made_again(rt: HostRuntime) -> Result<(), Fail> {
+    let alloc = rt.alloc();
+    for row in SHOWN {
+        let said = match shown(alloc, row.text, row.arguments) {
+            Ok(said) => said,
+            Err(_) => {
+                println!(rt; "refused")?;
+                shown(alloc, row.text, row.arguments)?
+            }
+        };
+        assert_eq!(&rt; said.as_str(), row.shown, "{} {}", row.text, row.arguments);
+    }
+    Ok(())
+}
