@@ -332,7 +332,7 @@ pub const SHOWN: [Shown; 98] = [
         arguments: "1, z = 2",
         shown: "-3..5 this formatting argument uses named argument `z` by position\n\
             ^19..20 this named argument is referred to by position in formatting string\n\
-            ? use the named argument by name to avoid ambiguity 3..4 `z`\n\
+            ? use the named argument by name to avoid ambiguity 3..5 `z$`\n\
             -7..13 this formatting argument uses named argument `z` by position\n\
             ^19..20 this named argument is referred to by position in formatting string\n\
             ? use the named argument by name to avoid ambiguity 8..8 `z`\n",
@@ -541,7 +541,7 @@ pub const SHOWN: [Shown; 98] = [
             ? use the named argument by name to avoid ambiguity 2..2 `z`\n\
             -3..5 this formatting argument uses named argument `z` by position\n\
             ^9..10 this named argument is referred to by position in formatting string\n\
-            ? use the named argument by name to avoid ambiguity 3..4 `z`\n",
+            ? use the named argument by name to avoid ambiguity 3..5 `z$`\n",
     },
     Shown {
         text: "{:5}",
@@ -569,14 +569,14 @@ pub const SHOWN: [Shown; 98] = [
         arguments: "a, z = 3",
         shown: "-3..5 this formatting argument uses named argument `z` by position\n\
             ^12..13 this named argument is referred to by position in formatting string\n\
-            ? use the named argument by name to avoid ambiguity 3..4 `z`\n",
+            ? use the named argument by name to avoid ambiguity 3..5 `z$`\n",
     },
     Shown {
         text: "{:.1$}",
         arguments: "1.0, z = 3",
         shown: "-4..6 this formatting argument uses named argument `z` by position\n\
             ^15..16 this named argument is referred to by position in formatting string\n\
-            ? use the named argument by name to avoid ambiguity 4..5 `z`\n",
+            ? use the named argument by name to avoid ambiguity 4..6 `z$`\n",
     },
     Shown {
         text: "{0} {0}",
