@@ -1,5 +1,6 @@
 -- The labels of faults, in rustc's words and order, as bytes.
-use Rattle.std.specs.Prelude.{ℕ, suc, ◌==◌, ◌++◌, ◌&&◌, Bool, true, false, if◌then◌else◌, List, [], ◌∷◌}
+use Rattle.std.specs.Prelude.{ℕ, suc, ◌==◌, ◌++◌, ◌&&◌, Bool, true, false, if◌then◌else◌, List, []}
+use Rattle.std.specs.Prelude.{◌∷◌}
 use Rattle.std.specs.Prelude.{map, not, length, codes, decimal, Option, Some, None, is_some}
 use Rattle.std.specs.List.{list_any, slice_get}
 use Rattle.rustc_parse_format.specs.Characters.{Text}
@@ -115,8 +116,8 @@ abbrev pub star_labels : ℕ → List (Piece Place) → List Label
 star_labels taken [] = []
 star_labels taken (p ∷ ps) = star_label taken p ++ star_labels taken ps
 
--- The labels of too few arguments, where none is referred to by a number that is written: those that
--- count, the precisions, and the placeholders.
+-- The labels of too few arguments, where none is referred to by a number that is written: those
+-- that count, the precisions, and the placeholders.
 abbrev pub few_labels : Call → List Label
 few_labels c =
     map (λ i. secondary (Value i) []) c.kept
@@ -188,7 +189,8 @@ by_index_text =
 
 -- What is said of the use by index of an argument with this name.
 unfoldable pub use_text : Text → List ℕ
-use_text w = codes "this formatting argument uses named argument " ++ (quoted w ++ codes " by position")
+use_text w =
+    codes "this formatting argument uses named argument " ++ (quoted w ++ codes " by position")
 
 -- The labels of a use by index of an argument with a name.
 abbrev pub by_index_labels : Call → Reference → ℕ → List Label

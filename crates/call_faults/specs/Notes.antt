@@ -136,8 +136,8 @@ unused_notes c n = note_if
     (not (list_any are_missing c.faults) && (not (n == length c.kept) && nat_lt 1 n))
     (codes "consider adding " ++ specifiers n)
 
--- The help for unused arguments, where none is used and none is missing: as many placeholders at the
--- end of the literal.
+-- The help for unused arguments, where none is used and none is missing: as many placeholders at
+-- the end of the literal.
 abbrev pub unused_help : Call → ℕ → Option Help
 unused_help c n =
     if not (list_any are_missing c.faults) && n == length c.kept then Some (record {

@@ -5,7 +5,8 @@ ghost use Rattle.std.specs.Prelude.{string_bytes};
 ghost use Rattle.rustc_parse_format.specs.Faults.{message};
 ghost use Rattle.rustc_parse_format.specs.SeenFaults.{seen_fault as seen_text_fault};
 ghost use Rattle.call_faults.specs.Notes.{behind_name, by_index_help, name_in, placeholders};
-ghost use Rattle.call_faults.specs.Notes.{redundant_help, removal, removed_spot, replacing, text_help};
+ghost use Rattle.call_faults.specs.Notes.{redundant_help, removal, removed_spot, replacing};
+ghost use Rattle.call_faults.specs.Notes.{text_help};
 ghost use Rattle.call_faults.specs.Notes.{unused_help};
 ghost use Rattle.call_faults.specs.Seen.{seen_call, seen_edit, seen_given, seen_help};
 

@@ -56,8 +56,8 @@ pub struct CallLabel {
 pub struct CallNote {
     /// Its text, in rustc's words, which may have several lines.
     pub text: String,
-    /// The places that it shows. A note without any is a row under the labels, and one with some has
-    /// a drawing of its own.
+    /// The places that it shows. A note without any is a row under the labels, and one with some
+    /// has a drawing of its own.
     pub spots: Vec<Spot>,
 }
 

@@ -6,4 +6,5 @@ use Rattle.call_faults.proofs.notes.have_stars.Given as goal
 
 -- The answer for what is left is the answer for all.
 abbrev pub invariant-loop-piece : goal.invariant-loop-piece
-invariant-loop-piece l = list_any has_star (map seen (drop l.piece-index l.pieces)) ≡ list_any has_star (map seen l.pieces)
+invariant-loop-piece l = list_any has_star (map seen (drop l.piece-index l.pieces))
+    ≡ list_any has_star (map seen l.pieces)
