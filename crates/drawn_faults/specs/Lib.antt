@@ -10,3 +10,7 @@ pub mod Edits
 pub mod Fixing
 pub mod Losing
 pub mod SeenEdits
+pub mod Marks
+pub mod Helps
+pub mod Diagnostics
+pub mod SeenDiagnostics
