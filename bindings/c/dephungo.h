@@ -30,9 +30,9 @@ typedef struct dephungo_range {
 
 /* a byte range, or none */
 typedef struct dephungo_maybe_range {
-    size_t there; /* 0 if there is no range */
-    size_t from;  /* the byte offset of its start */
-    size_t to;    /* the byte offset of its end, which is excluded */
+    size_t is_present; /* 0 if there is no range */
+    size_t from;       /* the byte offset of its start */
+    size_t to;         /* the byte offset of its end, which is excluded */
 } dephungo_maybe_range;
 
 /* the kind of text that the input is, as ParseMode of rustc_parse_format */

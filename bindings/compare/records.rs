@@ -17,7 +17,7 @@ fn range(at: Extent) -> Range<usize> {
 }
 
 fn maybe(at: MaybeExtent) -> Option<Range<usize>> {
-    (at.there != 0).then_some(at.from..at.to)
+    (at.is_present != 0).then_some(at.from..at.to)
 }
 
 /// What a number stands for.

@@ -5,7 +5,7 @@ use crate::proved::drawn_faults::{
     draw as draw_in, edits as edits_in, errors_of as errors_of_in, fix as fix_in,
 };
 use crate::proved::rustc_parse_format::error_list::empty_error;
-use crate::proved::rustc_parse_format::messages::tell;
+use crate::proved::rustc_parse_format::messages::set_error;
 use crate::shim::alloc::{answer, Global};
 use crate::shim::parser::Parser;
 use crate::{Argument, ParseError, ParseMode};
@@ -153,7 +153,7 @@ pub fn faults_of(
 /// ```
 pub fn error_of(fault: &Fault<'_>) -> ParseError {
     let mut error = empty_error(Global);
-    answer(tell(Global, &mut error, fault));
+    answer(set_error(Global, &mut error, fault));
     error
 }
 

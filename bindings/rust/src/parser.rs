@@ -2,7 +2,7 @@
 //! reader and adds what that found to the fields.
 use crate::proved::rustc_parse_format::cursor::Cursor;
 use crate::proved::rustc_parse_format::error_list::empty_error;
-use crate::proved::rustc_parse_format::messages::tell;
+use crate::proved::rustc_parse_format::messages::set_error;
 use crate::proved::rustc_parse_format::reader::Reader;
 use crate::proved::rustc_parse_format::source::{quote_offset, source_of};
 use crate::shim::alloc::{answer, Global};
@@ -102,17 +102,17 @@ impl<'input> Parser<'input> {
             self.errors = Vec::with_capacity(4);
         }
         let mut index = 0;
-        while let Some(fault) = self.reader.found.get(index) {
+        while let Some(fault) = self.reader.faults.get(index) {
             let at = if fault.is_front() {
                 0
             } else {
                 self.errors.len()
             };
             self.errors.insert(at, empty_error(Global));
-            answer(tell(Global, &mut self.errors[at], fault));
+            answer(set_error(Global, &mut self.errors[at], fault));
             index += 1;
         }
-        self.reader.found.clear();
+        self.reader.faults.clear();
     }
 
     /// Adds the last line of a source literal, unless it is already in the list.
@@ -139,13 +139,13 @@ impl<'input> Iterator for Parser<'input> {
         }
         let piece = answer(reader.piece(Global, self.mode));
         self.curarg = reader.curarg;
-        if self.reader.closed.is_some() {
-            self.arg_places.extend(self.reader.closed.take());
+        if self.reader.closed_place.is_some() {
+            self.arg_places.extend(self.reader.closed_place.take());
         }
         if !self.reader.lines.is_empty() {
             self.add_lines();
         }
-        if !self.reader.found.is_empty() && !self.keeps_faults {
+        if !self.reader.faults.is_empty() && !self.keeps_faults {
             self.add_errors();
         }
         piece

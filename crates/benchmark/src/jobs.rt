@@ -188,7 +188,7 @@ pub fn lint_each(
 const NO_EXTENT: Extent = Extent { from: 0, to: 0 };
 
 const NO_PLACE: MaybeExtent = MaybeExtent {
-    there: 0,
+    is_present: 0,
     from: 0,
     to: 0,
 };

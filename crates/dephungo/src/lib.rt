@@ -5,7 +5,7 @@
 ghost use Rattle.std.specs.Prelude.{◌≡◌, ◌<◌, IfNone, IfSome, Some};
 ghost use Rattle.rustc_parse_format.specs.Types.{Mode};
 ghost use Rattle.flat_reading.specs.Meant.{is_set};
-ghost use Rattle.flat_reading.specs.Asked.{Fits, IsCounted, IsKept, IsTold, begun, buffers};
+ghost use Rattle.flat_reading.specs.Asked.{Fits, IsCounted, IsKept, IsDescribed, begun, buffers};
 ghost use Rattle.flat_reading.specs.Asked.{mode_meant, refusal};
 
 use flat_reading::read::read;
@@ -52,8 +52,9 @@ pub extern "C" fn dephungo_read(
     ensures counted { result < 2 → (m : Mode) → mode_meant options.now.mode ≡ Some m
         → IsCounted (is_set options.now.peeks)
         (begun m options.now input.now snippet.now) answer.new }
-    ensures told { result ≡ DONE → (m : Mode) → mode_meant options.now.mode ≡ Some m
-        → IsTold (is_set options.now.peeks) (begun m options.now input.now snippet.now) input.now
+    ensures described { result ≡ DONE → (m : Mode) → mode_meant options.now.mode ≡ Some m
+        → IsDescribed (is_set options.now.peeks)
+        (begun m options.now input.now snippet.now) input.now
         (buffers steps.new specs.new faults.new texts.new lines.new) answer.new }
     ensures done { result ≡ DONE
         → Fits (buffers steps.old specs.old faults.old texts.old lines.old) answer.new }

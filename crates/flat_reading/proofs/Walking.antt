@@ -195,7 +195,7 @@ one_more peeks input s0 s new todo count used used' found found' steps steps' sp
           ∙ ap (λ l. l ++ (step_meant input specs' r ∷ map (event peeks) todo))
           (same_meant input specs' specs used (take count steps) front h.few)
           ∙ ap (λ e. map (step_meant input specs) (take count steps)
-          ++ (e ∷ map (event peeks) todo)) (added.told in_specs)
+          ++ (e ∷ map (event peeks) todo)) (added.described in_specs)
           ∙ earlier);
     }
 
@@ -224,7 +224,7 @@ kept_put input e old new orig specs count used added h = by_room (cases_lt count
     by_room (inr full) = rw (added.put.1 full) (keep_more old orig count h)
 
 -- A step tells of its call.
-pub told : (peeks : Bool) (input : List ℕ) (specs : List SpecRecord) (r : Step) (s t : State)
+pub described : (peeks : Bool) (input : List ℕ) (specs : List SpecRecord) (r : Step) (s t : State)
     → t ≡ after s (next_call s) →
     piece_meant input (spec_at input specs r.spec) r
     ≡ option_map (piece_in s.world) (next_call s).piece → maybe_place r.place
@@ -233,7 +233,7 @@ pub told : (peeks : Bool) (input : List ℕ) (specs : List SpecRecord) (r : Step
     → maybe_place r.peek ≡ looked_for peeks (place_of_first t t.rest) →
     maybe_place r.peek_ahead ≡ looked_for peeks (place_of_first t (behind_first t.rest))
     → step_meant input specs r ≡ event peeks s
-told peeks input specs r s t state piece place read next lines peek ahead =
+described peeks input specs r s t state piece place read next lines peek ahead =
     rw (piece, place, read, next, lines, peek, ahead, state) refl
 
 -- The call at the end gives nothing, finds nothing and closes nothing, and there is nothing to look
@@ -272,7 +272,7 @@ told_end peeks input specs r s t state e piece place read next lines peek ahead 
     let no_peek = ap (λ u. looked_for peeks (place_of_first t u)) none ∙ not_looked_for peeks in
     let no_ahead = ap (λ u. looked_for peeks (place_of_first t (behind_first u))) none
     ∙ not_looked_for peeks in
-    told peeks input specs r s t state (piece
+    described peeks input specs r s t state (piece
     ∙ sym (ap (option_map (piece_in s.world)) (at_end s e).0))
     (place ∙ sym (end_closes s e)) read next lines
     (peek ∙ sym no_peek) (ahead ∙ sym no_ahead)

@@ -1,5 +1,5 @@
--- What a caller of the C interface asks for, which calls are rejected, and what the records say of
--- an input that is read. The header `bindings/c/dephungo.h` describes the same for C.
+-- The task of a call of the C interface, the calls that are rejected, and the meaning of the
+-- records of an input that is read. The header `bindings/c/dephungo.h` describes the same for C.
 use Rattle.std.specs.Prelude.{◌≡◌, Bool, ℕ, ◌≤◌, ◌-◌, ◌^◌, not, ◌&&◌, ◌||◌, ◌==◌, nat_lt}
 use Rattle.std.specs.Prelude.{if◌then◌else◌, List, length, map, min, take, drop, Option, Some}
 use Rattle.std.specs.Prelude.{None, chars, is_none, option_map, unwrap_or}
@@ -88,7 +88,7 @@ pub record IsCounted (peeks : Bool) (s : State) (a : Answer) : Type 0 where
 
 -- The records describe all calls from the state s on, up to the end, and the errors and the lines
 -- at the end.
-pub record IsTold (peeks : Bool) (s : State) (input : List ℕ) (b : Buffers)
+pub record IsDescribed (peeks : Bool) (s : State) (input : List ℕ) (b : Buffers)
     (a : Answer) : Type 0 where
   pub steps : map (step_meant input (take a.specs b.specs)) (take a.steps b.steps) ≡ events peeks s
   pub errors : HoldsErrors b.texts (take a.faults b.faults) (end_of s).errors

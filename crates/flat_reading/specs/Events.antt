@@ -1,5 +1,5 @@
 -- The calls of a parser up to and including the one at the end of its input, as a caller sees them,
--- and what a step says about its call.
+-- and the call that a step describes.
 use Rattle.std.specs.Prelude.{ℕ, zero, suc, ◌-◌, ◌++◌, Bool, true, false, not, ◌&&◌, if◌then◌else◌}
 use Rattle.std.specs.Prelude.{List, [], ◌∷◌, length, map, Option, Some, None}
 use Rattle.std.specs.Prelude.{option_map, is_none, sum_by}
@@ -27,12 +27,12 @@ pub record Event : Type 0 where
   pub next : ℕ
   -- The number of lines.
   pub lines : ℕ
-  -- The places of the next character and of the one after it. Both are None unless the caller asks
-  -- for them.
+  -- The places of the next character and of the one after it. Both are None unless the caller wants
+  -- peeks.
   pub peek : Option Place
   pub peek_ahead : Option Place
 
--- How many bytes of the input are before the suffix that is left.
+-- The number of bytes of the input before the suffix that is left.
 abbrev pub position : Text → Text → ℕ
 position input rest = byte_length input - byte_length rest
 
@@ -40,12 +40,12 @@ position input rest = byte_length input - byte_length rest
 abbrev pub place_of_first : State → Text → Option Place
 place_of_first s t = option_map (λ x. x.0) (first_of s.world s.input t)
 
--- The place, if the caller asks for peeks, and otherwise None.
+-- The place, if the caller wants peeks, and otherwise None.
 abbrev pub looked_for : Bool → Option Place → Option Place
 looked_for peeks p = if peeks then p else None
 
 -- The event of the call k, which leaves the parser in the state t. The flag says whether the caller
--- asks for peeks.
+-- wants peeks.
 abbrev pub event_of : Bool → World → Call → State → Event
 event_of peeks w k t = record {
   piece = option_map (piece_in w) k.piece;
@@ -104,11 +104,11 @@ finders_from n old (k ∷ ks) = finders_from (suc n) (add_finders n old k.faults
 abbrev pub found_by : State → List ℕ
 found_by s = finders_from 0 [] (calls s)
 
--- How many of the errors of a call are added at the start of the list.
+-- The number of errors of a call that are added at the start of the list.
 abbrev pub fronts_in : Call → ℕ
 fronts_in k = length (filter is_front k.faults)
 
--- How many of the errors of all calls are added at the start of the list.
+-- The number of errors of all calls that are added at the start of the list.
 abbrev pub fronts_of : State → ℕ
 fronts_of s = sum_by fronts_in (calls s)
 
@@ -127,7 +127,7 @@ is_unknown Right = false
 is_unknown Center = false
 is_unknown Unknown = true
 
--- The specification asks for nothing, and has no span, in its fill, its alignment and its flags.
+-- The fill, the alignment and the flags of the specification are absent, and so are their spans.
 abbrev pub has_no_flags : {A : Type 0} → Spec A → Bool
 has_no_flags s =
     is_none s.fill
@@ -145,18 +145,18 @@ has_no_counts s = is_implied s.width
 abbrev pub has_no_type : {A : Type 0} → Spec A → Bool
 has_no_type s = is_nil s.ty && is_none s.ty_span
 
--- The specification asks for nothing.
+-- Each part of the specification is absent.
 abbrev pub is_default : {A : Type 0} → Spec A → Bool
 is_default s = has_no_flags s && (has_no_counts s && has_no_type s)
 
--- How many records of specifications a piece takes: one if its specification asks for anything, and
--- otherwise none.
+-- The number of records of specifications that a piece takes: one unless each part of its
+-- specification is absent.
 abbrev pub specs_in : {A : Type 0} → Option (Piece A) → ℕ
 specs_in None = 0
 specs_in (Some (Lit t)) = 0
 specs_in (Some (NextArgument a)) = if is_default a.format then 0 else 1
 
--- How many records of specifications there are: one for each specification that asks for anything.
+-- The number of records of specifications: one for each specification that has a part.
 abbrev pub spec_count : State → ℕ
 spec_count s = sum_by (λ (t : State). specs_in (given t)) (states s)
 

@@ -1,4 +1,4 @@
--- What the records of errors say, with their texts in the buffer of texts.
+-- The meaning of the records of errors, with their texts in the buffer of texts.
 use Rattle.std.specs.Prelude.{◌≡◌, ℕ, ◌+◌, ◌≤◌, ◌++◌, List, [], ◌∷◌, length, take, drop, Option}
 use Rattle.std.specs.Prelude.{Some, None, slice_range, sum_by}
 use Rattle.rustc_parse_format.specs.Faults.{Message, Suggestion, Nothing, UsePositional}
@@ -17,13 +17,13 @@ pub record Holds (texts : List ℕ) (from to : ℕ) (text : List ℕ) : Type 0 w
 
 -- The range holds the text, or both are absent.
 abbrev pub HoldsMaybe : List ℕ → MaybeExtent → Option (List ℕ) → Type 0
-HoldsMaybe texts r None = r.there ≡ 0
-HoldsMaybe texts r (Some t) = (r.there ≡ 1) × Holds texts r.from r.to t
+HoldsMaybe texts r None = r.is_present ≡ 0
+HoldsMaybe texts r (Some t) = (r.is_present ≡ 1) × Holds texts r.from r.to t
 
 -- The two ranges hold the text of a second label and its place, or there is no second label.
 abbrev pub HoldsSecond : List ℕ → MaybeExtent → Extent → Option (List ℕ × Place) → Type 0
-HoldsSecond texts r s None = r.there ≡ 0
-HoldsSecond texts r s (Some x) = (r.there ≡ 1) × Holds texts r.from r.to x.0 × (place s ≡ x.1)
+HoldsSecond texts r s None = r.is_present ≡ 0
+HoldsSecond texts r s (Some x) = (r.is_present ≡ 1) × Holds texts r.from r.to x.0 × (place s ≡ x.1)
 
 -- The kind, the span and the text in a record are those of the suggestion.
 abbrev pub HoldsSuggestion : List ℕ → ℕ → Extent → Extent → Suggestion Place → Type 0
@@ -53,22 +53,23 @@ HoldsErrors texts [] (m ∷ ms) = ⊥
 HoldsErrors texts (f ∷ fs) [] = ⊥
 HoldsErrors texts (f ∷ fs) (m ∷ ms) = HoldsError texts f m × HoldsErrors texts fs ms
 
--- The calls that found the errors, and how many errors were added at the start of the list.
+-- The calls that found the errors, and the number of errors that were added at the start of the
+-- list.
 pub record Found : Type 0 where
   pub calls : List ℕ
   pub fronts : ℕ
 
--- How many bytes an optional text takes.
+-- The number of bytes of an optional text.
 abbrev pub maybe_len : Option (List ℕ) → ℕ
 maybe_len None = 0
 maybe_len (Some t) = length t
 
--- How many bytes the text of a second label takes.
+-- The number of bytes of the text of a second label.
 abbrev pub second_len : Option (List ℕ × Place) → ℕ
 second_len None = 0
 second_len (Some x) = length x.0
 
--- How many bytes the text of a suggestion takes.
+-- The number of bytes of the text of a suggestion.
 abbrev pub suggestion_len : Suggestion Place → ℕ
 suggestion_len Nothing = 0
 suggestion_len UsePositional = 0
@@ -77,12 +78,12 @@ suggestion_len (ReorderFormatParameter s t) = length t
 suggestion_len (AddMissingColon s) = 0
 suggestion_len UseRustDebugPrintingMacro = 0
 
--- How many bytes the texts of an error take.
+-- The number of bytes of the texts of an error.
 abbrev pub message_len : Message Place → ℕ
 message_len m = length m.description + maybe_len m.note + length m.label + second_len m.second
     + suggestion_len m.suggestion
 
--- How many bytes the texts of all errors take.
+-- The number of bytes of the texts of all errors.
 abbrev pub texts_len : List (Message Place) → ℕ
 texts_len ms = sum_by message_len ms
 

@@ -1,5 +1,5 @@
--- What the flat records mean: each is the flat form of a part of a piece. Texts are ranges of the
--- bytes of the input. The header `bindings/c/dephungo.h` describes the records for C.
+-- The meaning of the flat records: each is the flat form of a part of a piece. Texts are ranges of
+-- the bytes of the input. The header `bindings/c/dephungo.h` describes the records for C.
 use Rattle.std.specs.Prelude.{ℕ, Bool, ◌==◌, not, ◌&&◌, ◌||◌, nat_le, nat_lt, if◌then◌else◌, List}
 use Rattle.std.specs.Prelude.{[], ◌∷◌, length, map, Option, Some, None, chars}
 use Rattle.std.specs.Prelude.{codes, slice_index, slice_index_or, slice_range}
@@ -47,7 +47,7 @@ is_set n = not (n == 0)
 
 -- The place that an optional range means. None if it is absent.
 abbrev pub maybe_place : MaybeExtent → Option Place
-maybe_place r = if r.there == 0 then None else Some (r.from, r.to)
+maybe_place r = if r.is_present == 0 then None else Some (r.from, r.to)
 
 -- The fill that a number stands for: the character with this code, or None for 1114112.
 abbrev pub fill_meant : ℕ → Option ℕ

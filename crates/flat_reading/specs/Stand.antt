@@ -1,4 +1,4 @@
--- Where the texts of a piece are in the input. Private definitions, for contracts of private
+-- The places of the texts of a piece in the input. Private definitions, for contracts of private
 -- functions.
 use Rattle.std.specs.Prelude.{◌≡◌, ◌≢◌, ℕ, ◌+◌, ◌-◌, ◌<◌, ◌≤◌, ◌^◌, ◌⊎◌, ◌||◌, List, [], ◌++◌}
 use Rattle.std.specs.Prelude.{length, take, drop, set, option_map, Bool, true, false, Option, Some}
@@ -40,7 +40,7 @@ abbrev pub StandsBehind : List ℕ → List ℕ → ℕ → Text → Type 0
 StandsBehind input prefix from t = StandsAt input from t
     ⊎ HasBytes input from (prefix ++ encode_utf8_all t)
 
--- The text is what was read last: it ends at the offset `read`.
+-- The text was read last: it ends at the offset `read`.
 abbrev pub IsLast : List ℕ → ℕ → Text → Type 0
 IsLast input read t = text_at input (record { from = read - byte_length t; to = read }) ≡ t
 
@@ -80,7 +80,7 @@ pub record ArgumentStands (input : List ℕ) (offset : ℕ) (a : Argument Place)
   pub position : PositionStands input (a.position_span.0 - offset) a.position
   pub format : SpecStands input offset a.format
 
--- A piece that is a run of text is what was read last.
+-- A piece that is a run of text was read last.
 abbrev pub RunStands : List ℕ → ℕ → Option (Piece Place) → Type 0
 RunStands input read None = Unit {0}
 RunStands input read (Some (Lit t)) = IsLast input read t
@@ -144,7 +144,7 @@ abbrev pub EndsWith : Text → Text → Type 0
 EndsWith input rest = (front : Text) × (input ≡ front ++ rest)
 
 -- The count of specifications grew by n. They are written after the others, as far as there is
--- room, and nothing else is written.
+-- room. Nothing else is written.
 pub record Adds (n : ℕ) (old new : SpecBuffer) : Type 0 where
   pub same : new.records.ghost_name ≡ old.records.ghost_name
   pub room : length new.records.now ≡ length old.records.now
@@ -152,8 +152,8 @@ pub record Adds (n : ℕ) (old new : SpecBuffer) : Type 0 where
   pub front : take old.used new.records.now ≡ take old.used old.records.now
   pub kept : drop new.used new.records.now ≡ drop new.used old.records.now
 
--- What is left of a walker's input is a suffix of the whole, and the places of its parser are those
--- in the input, moved by its offset, or its mode is known.
+-- The rest of a walker's input is a suffix of the whole, and the places of its parser are those in
+-- the input, moved by its offset, or its mode is known.
 pub record IsOnItsWay (w : Walker) : Type 0 where
   pub utf8 : IsUtf8 w.input.now
   pub input : chars w.input.now ≡ w.parser.input
@@ -161,7 +161,7 @@ pub record IsOnItsWay (w : Walker) : Type 0 where
   pub plain : IfNone w.escapes (IsPlain w.parser w.offset)
   pub mode : IfSome w.escapes (λ m. seen_mode m ≡ w.parser.mode)
 
--- The walker made the next call, which has this number, and recorded which errors it found.
+-- The walker made the next call, which has this number, and recorded the errors that it found.
 pub record MakesCall (number : ℕ) (old new : Walker) : Type 0 where
   pub state : new.parser ≡ after old.parser (next_call old.parser)
   pub ready : IsOnItsWay new
@@ -178,9 +178,9 @@ pub record IsAdded (input : List ℕ) (e : Event) (count used : ℕ) (old new : 
   pub step : Step
   pub put : (count < length old → new ≡ set old count step) × (length old ≤ count → new ≡ old)
   pub few : step.spec ≤ used
-  pub told : used ≤ length specs → step_meant input specs step ≡ e
+  pub described : used ≤ length specs → step_meant input specs step ≡ e
 
--- What the two steps say about the state after the call is the same.
+-- The two steps say the same about the state after the call.
 abbrev pub SameBehind : Step → Step → Type 0
 SameBehind old new =
     (new.place ≡ old.place) × (new.read ≡ old.read) × (new.next ≡ old.next)

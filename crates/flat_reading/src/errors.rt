@@ -19,8 +19,8 @@ use crate::records::{
 use rustc_parse_format::{ParseError, Suggestion};
 use std::ops::Range;
 
-/// Writes a text after the first `used` bytes of `texts`, if it fits, and adds its length to `used`
-/// in any case. Returns its byte range there.
+/// Writes a text after the first `used` bytes of `texts` if it fits, and adds its length to `used`
+/// even if it does not. Returns its byte range there.
 fn put(texts: &mut [u8], used: &mut usize, text: &str) -> Extent
     ensures grows { Grows texts.old texts.new used.old used.new }
     ensures counted { used.new ≡ min (used.old + length text.now) usize.MAX }
@@ -49,7 +49,7 @@ fn put_note(texts: &mut [u8], used: &mut usize, note: &Option<String>) -> MaybeE
         Some(note) => {
             let at = put(texts, used, note.as_str());
             MaybeExtent {
-                there: 1,
+                is_present: 1,
                 from: at.from,
                 to: at.to,
             }
@@ -78,7 +78,7 @@ fn put_second(
         Some((label, span)) => {
             let at = put(texts, used, label.as_str());
             let label = MaybeExtent {
-                there: 1,
+                is_present: 1,
                 from: at.from,
                 to: at.to,
             };

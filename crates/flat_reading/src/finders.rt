@@ -1,4 +1,4 @@
-//! Which call of the parser found each error.
+//! The call of the parser that found each error.
 
 ghost use Rattle.std.specs.Prelude.{◌≡◌, ◌++◌, OnOk, replicate};
 
@@ -8,9 +8,9 @@ use std::marker::Model;
 /// The numbers of the calls that found the errors, in the order of the list of errors.
 #[derive(Drop)]
 pub struct Finders {
-    /// Those of the errors that were put at the front of the list, in reverse order.
+    /// The numbers for the errors that were put at the front of the list, in reverse order.
     fronts: Vec<usize>,
-    /// Those of the errors after them.
+    /// The numbers for the errors after them.
     backs: Vec<usize>,
 }
 

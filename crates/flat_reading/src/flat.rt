@@ -27,7 +27,7 @@ use crate::texts::{Texts, argument_texts, name_extent};
 use rustc_parse_format::{Alignment, Argument, Count, DebugHex, FormatSpec, Position, Sign};
 use std::ops::Range;
 
-/// The byte range in a record where none is meant.
+/// The byte range in a record that has none.
 pub const NOWHERE: Extent = Extent { from: 0, to: 0 };
 
 /// Returns a byte range as a record.
@@ -42,29 +42,29 @@ pub fn extent(range: &Range<usize>) -> Extent
 
 /// The record of no byte range.
 pub const NO_EXTENT: MaybeExtent = MaybeExtent {
-    there: 0,
+    is_present: 0,
     from: 0,
     to: 0,
 };
 
-/// Returns a byte range as a record that may also hold none.
+/// Returns a byte range as a record that could hold none.
 #[inline(always)]
-pub fn there(range: &Range<usize>) -> MaybeExtent
+pub fn some_extent(range: &Range<usize>) -> MaybeExtent
     ensures { maybe_place result ≡ Some (pair range.now) }
 {
     MaybeExtent {
-        there: 1,
+        is_present: 1,
         from: range.start,
         to: range.end,
     }
 }
 
 /// Returns a byte range, or none, as a record.
-fn maybe(range: &Option<Range<usize>>) -> MaybeExtent
+fn maybe_extent(range: &Option<Range<usize>>) -> MaybeExtent
     ensures { maybe_place result ≡ option_map pair range.now }
 {
     match range {
-        Some(range) => there(range),
+        Some(range) => some_extent(range),
         None => NO_EXTENT,
     }
 }
@@ -124,7 +124,7 @@ fn debug_hex(hex: Option<DebugHex>) -> u32
 }
 
 /// Returns the record of a count that has no name.
-fn numbered(kind: u32, number: usize) -> CountRecord
+fn number_record(kind: u32, number: usize) -> CountRecord
     ensures { result ≡ record {
       kind = kind;
       number = number;
@@ -147,10 +147,10 @@ fn count(count: &Count<'_>, name: Extent) -> CountRecord
         → count_meant input result ≡ seen_count count.now }
 {
     match count {
-        Count::CountImplied => numbered(COUNT_IMPLIED, 0),
-        Count::CountIs(number) => numbered(COUNT_IS, usize::from(*number)),
-        Count::CountIsParam(number) => numbered(COUNT_IS_PARAM, *number),
-        Count::CountIsStar(number) => numbered(COUNT_IS_STAR, *number),
+        Count::CountImplied => number_record(COUNT_IMPLIED, 0),
+        Count::CountIs(number) => number_record(COUNT_IS, usize::from(*number)),
+        Count::CountIsParam(number) => number_record(COUNT_IS_PARAM, *number),
+        Count::CountIsStar(number) => number_record(COUNT_IS_STAR, *number),
         Count::CountIsName(_, span) => CountRecord {
             kind: COUNT_IS_NAME,
             number: 0,
@@ -177,10 +177,10 @@ fn spec_record(spec: &FormatSpec<'_>, texts: &Texts) -> Spec
         width: count(&spec.width, texts.width),
         precision: count(&spec.precision, texts.precision),
         ty: texts.ty,
-        fill_span: maybe(&spec.fill_span),
-        width_span: maybe(&spec.width_span),
-        precision_span: maybe(&spec.precision_span),
-        ty_span: maybe(&spec.ty_span),
+        fill_span: maybe_extent(&spec.fill_span),
+        width_span: maybe_extent(&spec.width_span),
+        precision_span: maybe_extent(&spec.precision_span),
+        ty_span: maybe_extent(&spec.ty_span),
     }
 }
 
@@ -226,7 +226,7 @@ fn is_default(spec: &FormatSpec<'_>) -> bool
 #[inline(always)]
 fn no_spec(spec: &FormatSpec<'_>) -> usize
     requires { is_default (seen_spec spec.now) ≡ true }
-    ensures told { (input : List ℕ) (specs : List SpecRecord) → spec_at input specs result
+    ensures described { (input : List ℕ) (specs : List SpecRecord) → spec_at input specs result
         ≡ seen_spec spec.now }
     ensures number { result ≡ 0 }
 {
@@ -263,7 +263,7 @@ impl<'a> SpecBuffer<'a> {
     #[inline(never)]
     fn add(&mut self, spec: &FormatSpec<'_>, texts: &Texts) -> usize
         requires room { self.old.used < usize.MAX }
-        ensures told { (input : List ℕ) → SpecAt input texts.now (seen_spec spec.now)
+        ensures described { (input : List ℕ) → SpecAt input texts.now (seen_spec spec.now)
             → self.new.used ≤ length self.old.records.now
             → spec_at input self.new.records.now result ≡ seen_spec spec.now }
         ensures number { result ≡ self.new.used }
@@ -281,7 +281,7 @@ impl<'a> SpecBuffer<'a> {
     #[inline(always)]
     fn put(&mut self, spec: &FormatSpec<'_>, texts: &Texts) -> usize
         requires room { self.old.used < usize.MAX }
-        ensures told { (input : List ℕ) → SpecAt input texts.now (seen_spec spec.now)
+        ensures described { (input : List ℕ) → SpecAt input texts.now (seen_spec spec.now)
             → self.new.used ≤ length self.old.records.now
             → spec_at input self.new.records.now result ≡ seen_spec spec.now }
         ensures number { result ≤ self.new.used }
@@ -319,7 +319,7 @@ pub fn put_argument(
     step: &mut Step,
 )
     requires room { specs.old.used < usize.MAX }
-    ensures told { (input : List ℕ)
+    ensures described { (input : List ℕ)
         → PositionAt (text_at input texts.now.text) (seen_position argument.now.position)
         → SpecAt input texts.now (seen_spec argument.now.format) → specs.new.used
         ≤ length specs.old.records.now
@@ -342,7 +342,7 @@ pub fn put_argument(
 /// Writes a piece that is no argument into its step: its kind, and the byte range of its text in
 /// the input.
 #[inline(always)]
-pub fn bare(kind: u32, text: Extent, step: &mut Step)
+pub fn put_bare_piece(kind: u32, text: Extent, step: &mut Step)
     ensures kind { step.new.kind ≡ kind }
     ensures text { step.new.text ≡ text }
     ensures spec { step.new.spec ≡ 0 }
@@ -362,7 +362,7 @@ pub fn bare(kind: u32, text: Extent, step: &mut Step)
 #[inline(always)]
 fn put_bare_argument(argument: &Argument<'_>, text: Extent, step: &mut Step)
     requires bare { is_default (seen_spec argument.now.format) ≡ true }
-    ensures told { (input : List ℕ) (specs : List SpecRecord)
+    ensures described { (input : List ℕ) (specs : List SpecRecord)
         → PositionAt (text_at input text) (seen_position argument.now.position)
         → piece_meant input (spec_at input specs step.new.spec) step.new
         ≡ Some (NextArgument (seen_argument argument.now)) }
@@ -391,7 +391,7 @@ pub fn put_plain_argument(
 )
     requires stands { ArgumentStands input.now offset (seen_argument argument.now) }
     requires room { specs.old.used < usize.MAX }
-    ensures told { specs.new.used ≤ length specs.old.records.now
+    ensures described { specs.new.used ≤ length specs.old.records.now
         → piece_meant input.now (spec_at input.now specs.new.records.now step.new.spec) step.new
         ≡ Some (NextArgument (seen_argument argument.now)) }
     ensures number { step.new.spec ≤ specs.new.used }

@@ -6,7 +6,8 @@ ghost use Rattle.std.specs.Prelude.{string_bytes, take};
 ghost use Rattle.rustc_parse_format.specs.Seen.{pair};
 ghost use Rattle.rustc_parse_format.specs.LiteralReading.{is_longer};
 ghost use Rattle.rustc_parse_format.specs.World.{hashes, quote_offset};
-ghost use Rattle.flat_reading.specs.Asked.{Fits, IsCounted, IsKept, IsTold, asked_state, buffers};
+ghost use Rattle.flat_reading.specs.Asked.{Fits, IsCounted, IsKept, IsDescribed, asked_state};
+ghost use Rattle.flat_reading.specs.Asked.{buffers};
 ghost use Rattle.flat_reading.specs.Asked.{limit};
 ghost use Rattle.flat_reading.specs.Meant.{place};
 ghost use Rattle.flat_reading.specs.Stand.{IsPlain};
@@ -21,7 +22,7 @@ use std::alloc::{AllocError, Global};
 use std::ops::Range;
 
 /// Returns a copy of a snippet. Returns `Err` if an allocation fails.
-fn owned(alloc: Global, snippet: Option<&str>) -> Result<Option<String>, AllocError>
+fn owned_snippet(alloc: Global, snippet: Option<&str>) -> Result<Option<String>, AllocError>
     ensures { IfOk result (λ s. option_map (λ t. chars (string_bytes t)) s
         ≡ option_map (λ t. chars t.now) snippet.entry) }
 {
@@ -55,32 +56,32 @@ fn is_longer(input: &str, literal: &str, appended_newline: bool) -> bool
 }
 
 /// Returns whether the literal is an ordinary one that may have escapes.
-fn may_have_escapes(asked: &Task<'_>) -> bool
-    requires { length asked.now.input.now ≤ limit }
-    ensures { IsFalse result → IsPlain (asked_state asked.now) (quote_offset asked.now.style) }
+fn may_have_escapes(task: &Task<'_>) -> bool
+    requires { length task.now.input.now ≤ limit }
+    ensures { IsFalse result → IsPlain (asked_state task.now) (quote_offset task.now.style) }
 {
-    if asked.style.is_some() {
+    if task.style.is_some() {
         return false;
     }
-    match asked.snippet {
-        Some(literal) => is_longer(asked.input, literal, asked.appended_newline),
+    match task.snippet {
+        Some(literal) => is_longer(task.input, literal, task.appended_newline),
         None => false,
     }
 }
 
 /// Returns the mode of a parser, or `None` if byte offsets in the source and in the input differ by
 /// a constant. In an ordinary source literal with escapes they do not.
-fn mode_with_escapes(parser: &Parser<'_>, asked: &Task<'_>) -> Option<ParseMode>
-    requires { length asked.now.input.now ≤ limit }
-    ensures plain { parser.now ≡ asked_state asked.now
-        → IfNone result (IsPlain parser.now (quote_offset asked.now.style)) }
-    ensures mode { IfSome result (λ m. m ≡ asked.now.mode) }
+fn mode_with_escapes(parser: &Parser<'_>, task: &Task<'_>) -> Option<ParseMode>
+    requires { length task.now.input.now ≤ limit }
+    ensures plain { parser.now ≡ asked_state task.now
+        → IfNone result (IsPlain parser.now (quote_offset task.now.style)) }
+    ensures mode { IfSome result (λ m. m ≡ task.now.mode) }
 {
     if !parser.is_source_literal() {
         return None;
     }
-    if may_have_escapes(asked) {
-        Some(asked.mode)
+    if may_have_escapes(task) {
+        Some(task.mode)
     } else {
         None
     }
@@ -106,7 +107,7 @@ fn put_lines(spans: &[Range<usize>], lines: &mut [Extent])
 fn read_by<'a>(
     alloc: Global,
     start: Parser<'a>,
-    asked: Task<'a>,
+    task: Task<'a>,
     steps: &mut [Step],
     specs: &mut [Spec],
     faults: &mut [Fault],
@@ -114,15 +115,15 @@ fn read_by<'a>(
     lines: &mut [Extent],
     answer: &mut Answer,
 ) -> Result<(), AllocError>
-    requires input_length { length asked.input.now ≤ limit }
-    requires hashes { hashes asked.style ≤ limit }
-    requires start { start ≡ asked_state asked }
-    requires short { length start.rest ≤ length asked.input.now }
+    requires input_length { length task.input.now ≤ limit }
+    requires hashes { hashes task.style ≤ limit }
+    requires start { start ≡ asked_state task }
+    requires short { length start.rest ≤ length task.input.now }
     ensures counted { OnOk result
-        (IsCounted asked.entry.peeks (asked_state asked.entry) answer.new) }
-    ensures told { OnOk result
+        (IsCounted task.entry.peeks (asked_state task.entry) answer.new) }
+    ensures described { OnOk result
         (Fits (buffers steps.old specs.old faults.old texts.old lines.old) answer.new
-        → IsTold asked.entry.peeks (asked_state asked.entry) asked.entry.input.now
+        → IsDescribed task.entry.peeks (asked_state task.entry) task.entry.input.now
         (buffers steps.new specs.new faults.new texts.new lines.new) answer.new) }
     ensures kept { OnOk result
         (IsKept answer.new (buffers steps.old specs.old faults.old texts.old lines.old)
@@ -131,13 +132,13 @@ fn read_by<'a>(
 {
     let mut peek = NO_EXTENT;
     let mut peek_ahead = NO_EXTENT;
-    let escapes = mode_with_escapes(&start, &asked);
+    let escapes = mode_with_escapes(&start, &task);
     let is_source_literal = flag(start.is_source_literal());
-    if asked.peeks {
+    if task.peeks {
         look_ahead(&start, &mut peek, &mut peek_ahead);
     }
-    let offset = offset_of(asked.style);
-    let mut walker = Walker::new(alloc, start, asked.input, offset, escapes, asked.peeks);
+    let offset = offset_of(task.style);
+    let mut walker = Walker::new(alloc, start, task.input, offset, escapes, task.peeks);
     let mut specs = SpecBuffer::new(specs);
     let count = walker.walk(steps, &mut specs)?;
     let errors = walker.parser.errors();
@@ -167,7 +168,7 @@ fn read_by<'a>(
 /// unspecified.
 pub fn read(
     alloc: Global,
-    asked: Task<'_>,
+    task: Task<'_>,
     steps: &mut [Step],
     specs: &mut [Spec],
     faults: &mut [Fault],
@@ -175,29 +176,29 @@ pub fn read(
     lines: &mut [Extent],
     answer: &mut Answer,
 ) -> Result<(), AllocError>
-    requires input_length { length asked.input.now ≤ limit }
-    requires hashes { hashes asked.style ≤ limit }
+    requires input_length { length task.input.now ≤ limit }
+    requires hashes { hashes task.style ≤ limit }
     ensures counted { OnOk result
-        (IsCounted asked.entry.peeks (asked_state asked.entry) answer.new) }
-    ensures told { OnOk result
+        (IsCounted task.entry.peeks (asked_state task.entry) answer.new) }
+    ensures described { OnOk result
         (Fits (buffers steps.old specs.old faults.old texts.old lines.old) answer.new
-        → IsTold asked.entry.peeks (asked_state asked.entry) asked.entry.input.now
+        → IsDescribed task.entry.peeks (asked_state task.entry) task.entry.input.now
         (buffers steps.new specs.new faults.new texts.new lines.new) answer.new) }
     ensures kept { OnOk result
         (IsKept answer.new (buffers steps.old specs.old faults.old texts.old lines.old)
         (buffers steps.new specs.new faults.new texts.new lines.new)) }
     ensures err { OnErr result (answer.new ≡ answer.old) }
 {
-    let literal = owned(alloc, asked.snippet)?;
+    let literal = owned_snippet(alloc, task.snippet)?;
     let start = Parser::new(
         alloc,
-        asked.input,
-        asked.style,
+        task.input,
+        task.style,
         literal,
-        asked.appended_newline,
-        asked.mode,
+        task.appended_newline,
+        task.mode,
     )?;
     read_by(
-        alloc, start, asked, steps, specs, faults, texts, lines, answer,
+        alloc, start, task, steps, specs, faults, texts, lines, answer,
     )
 }

@@ -1,6 +1,6 @@
 //! The records that are shared with C: plain integers, so that any bytes are a valid record. A
-//! range of the input is in byte offsets of the input, and one in the source is as the spans of
-//! `rustc_parse_format` are. `bindings/c/dephungo.h` describes each field and constant.
+//! range of the input is in byte offsets of the input, and a range in the source is a span as
+//! `rustc_parse_format` has it. `bindings/c/dephungo.h` describes each field and constant.
 
 /// A byte range, from the offset of its start to that of its end, which is excluded.
 #[repr(C)]
@@ -10,11 +10,11 @@ pub struct Extent {
     pub to: usize,
 }
 
-/// A byte range if `there` is not 0, and none otherwise.
+/// A byte range if `is_present` is not 0, and none otherwise.
 #[repr(C)]
 #[derive(Clone, Copy)]
 pub struct MaybeExtent {
-    pub there: usize,
+    pub is_present: usize,
     pub from: usize,
     pub to: usize,
 }
@@ -161,7 +161,7 @@ pub struct Step {
     pub spec: usize,
     /// The byte range of the placeholder that the call closed; none without a source literal.
     pub place: MaybeExtent,
-    /// The byte offset in the input up to which it is read after the call.
+    /// The byte offset up to which the input is read after the call.
     pub read: usize,
     /// The index of the next implicit argument after the call.
     pub next: usize,

@@ -60,7 +60,7 @@ fn extent_of(input: &str, from: usize, text: &str) -> Extent
 }
 
 /// Returns whether the input has these bytes at `from`.
-fn stands(input: &str, from: usize, bytes: &[u8]) -> bool
+fn has_bytes_at(input: &str, from: usize, bytes: &[u8]) -> bool
     ensures yes { IsTrue result → HasBytes input.now from bytes.now }
     ensures no { IsFalse result → ¬ (HasBytes input.now from bytes.now) }
 {
@@ -80,7 +80,9 @@ fn extent_behind(input: &str, prefix: &[u8], from: usize, text: &str) -> Extent
     requires { StandsBehind input.now prefix.now from (chars text.now) }
     ensures { text_at input.now result ≡ chars text.now }
 {
-    if stands(input, from, prefix) && stands(input, from + prefix.len(), text.as_bytes()) {
+    if has_bytes_at(input, from, prefix)
+        && has_bytes_at(input, from + prefix.len(), text.as_bytes())
+    {
         extent_of(input, from + prefix.len(), text)
     } else {
         extent_of(input, from, text)

@@ -4,7 +4,7 @@ ghost use Rattle.std.specs.Prelude.{◌≡◌, ℕ, ◌<◌, ◌≤◌, ◌^◌,
 ghost use Rattle.std.specs.Prelude.{None, Option, Some, IfNone, IfOk, IfSome, OnOk, chars, drop};
 ghost use Rattle.std.specs.Prelude.{length, map, option_map, take};
 ghost use Rattle.rustc_parse_format.specs.Characters.{behind_first};
-ghost use Rattle.rustc_parse_format.specs.Lines.{closed_in, listed};
+ghost use Rattle.rustc_parse_format.specs.Lines.{closed_in, place_list};
 ghost use Rattle.rustc_parse_format.specs.Marks.{Span};
 ghost use Rattle.rustc_parse_format.specs.Seen.{pair, seen_argument, seen_mode, seen_spec};
 ghost use Rattle.rustc_parse_format.specs.Seen.{seen_taken};
@@ -21,7 +21,9 @@ ghost use Rattle.flat_reading.specs.Stand.{Adds, IsAdded, IsOnItsWay, IsPlain, I
 ghost use Rattle.flat_reading.specs.Stand.{PlaceholderStands, RunStands, SameBehind};
 
 use crate::finders::Finders;
-use crate::flat::{NO_EXTENT, NOWHERE, SpecBuffer, bare, put_argument, put_plain_argument, there};
+use crate::flat::{
+    NO_EXTENT, NOWHERE, SpecBuffer, put_argument, put_bare_piece, put_plain_argument, some_extent,
+};
 use crate::records::{MaybeExtent, PIECE_NONE, PIECE_TEXT, POSITION_IMPLICIT, Step};
 use crate::texts::{has_texts, run_extent, texts_at};
 use rustc_parse_format::{Argument, ParseMode, Parser, Taken};
@@ -49,7 +51,7 @@ fn place_ahead(parser: &Parser<'_>) -> MaybeExtent
     ensures { maybe_place result ≡ place_of_first parser.now (behind_first parser.now.rest) }
 {
     match parser.peek_ahead() {
-        Some((place, _, _)) => there(&place),
+        Some((place, _, _)) => some_extent(&place),
         None => NO_EXTENT,
     }
 }
@@ -64,7 +66,7 @@ pub fn look_ahead(parser: &Parser<'_>, peek: &mut MaybeExtent, peek_ahead: &mut 
         ≡ place_of_first parser.now (behind_first parser.now.rest) }
 {
     if let Some((place, _, _)) = parser.peek() {
-        *peek = there(&place);
+        *peek = some_extent(&place);
         *peek_ahead = place_ahead(parser);
     }
 }
@@ -87,16 +89,16 @@ fn put_peeks(parser: &Parser<'_>, peeks: bool, peek: &mut MaybeExtent, peek_ahea
 /// Returns the byte range in the source of the placeholder that a call closed, or none. `before` is
 /// the number of such ranges before the call; only a source literal has any.
 #[inline(always)]
-fn closed(parser: &Parser<'_>, before: usize) -> MaybeExtent
+fn closed_place(parser: &Parser<'_>, before: usize) -> MaybeExtent
     ensures { (old : List Place) (k : Option Span) → before ≡ length old
-        → parser.now.arg_places ≡ old ++ listed (closed_in parser.now.world k)
+        → parser.now.arg_places ≡ old ++ place_list (closed_in parser.now.world k)
         → maybe_place result ≡ closed_in parser.now.world k }
 {
     if !parser.is_source_literal() {
         return NO_EXTENT;
     }
     match parser.arg_places().get(before) {
-        Some(place) => there(place),
+        Some(place) => some_extent(place),
         None => NO_EXTENT,
     }
 }
@@ -179,7 +181,7 @@ impl<'a> Walker<'a> {
         requires read { IsReadAt self.now.input.now (seen_mode mode) next start
             (Some (NextArgument (seen_argument self.now.argument))) }
         requires room { specs.old.used < usize.MAX }
-        ensures told { OnOk result (specs.new.used ≤ length specs.old.records.now
+        ensures described { OnOk result (specs.new.used ≤ length specs.old.records.now
             → piece_meant self.now.input.now
             (spec_at self.now.input.now specs.new.records.now step.new.spec) step.new
             ≡ Some (NextArgument (seen_argument self.now.argument))) }
@@ -218,7 +220,7 @@ impl<'a> Walker<'a> {
             (λ m. IsReadAt self.now.input.now (seen_mode m) next start
             (option_map (seen_taken self.now.argument) given.now)) }
         requires room { specs.old.used < usize.MAX }
-        ensures told { OnOk result (specs.new.used ≤ length specs.old.records.now
+        ensures described { OnOk result (specs.new.used ≤ length specs.old.records.now
             → piece_meant self.now.input.now
             (spec_at self.now.input.now specs.new.records.now step.new.spec) step.new
             ≡ option_map (seen_taken self.now.argument) given.now) }
@@ -229,8 +231,8 @@ impl<'a> Walker<'a> {
         ensures others { OnOk result (SameBehind step.old step.new) }
     {
         match given {
-            None => bare(PIECE_NONE, NOWHERE, step),
-            Some(Taken::Lit(text)) => bare(PIECE_TEXT, run_extent(step.read, text), step),
+            None => put_bare_piece(PIECE_NONE, NOWHERE, step),
+            Some(Taken::Lit(text)) => put_bare_piece(PIECE_TEXT, run_extent(step.read, text), step),
             Some(Taken::NextArgument) => match self.escapes {
                 Some(mode) => return self.put_escaped(mode, start, next, specs, step),
                 None => put_plain_argument(&self.argument, self.input, self.offset, specs, step),
@@ -250,7 +252,7 @@ impl<'a> Walker<'a> {
     ) -> Result<(), AllocError>
         requires ready { IsOnItsWay self.old }
         requires room { specs.old.used < usize.MAX }
-        ensures told { OnOk result (specs.new.used ≤ length specs.old.records.now
+        ensures described { OnOk result (specs.new.used ≤ length specs.old.records.now
             → step_meant self.old.input.now specs.new.records.now step.new
             ≡ event self.old.peeks self.old.parser) }
         ensures number { OnOk result (step.new.spec ≤ specs.new.used) }
@@ -265,7 +267,7 @@ impl<'a> Walker<'a> {
         let places = self.parser.arg_places().len();
         let (given, fronts) = self.parser.next_into(&mut self.argument)?;
         put_state(&self.parser, step);
-        step.place = closed(&self.parser, places);
+        step.place = closed_place(&self.parser, places);
         put_peeks(
             &self.parser,
             self.peeks,
@@ -334,7 +336,7 @@ impl<'a> Walker<'a> {
     #[inline(always)]
     fn put_end(&mut self, step: &mut Step) -> Result<(), AllocError>
         requires { self.old.parser.rest ≡ [] }
-        ensures told { OnOk result ((peeks : Bool) (input : List ℕ) (specs : List SpecRecord)
+        ensures described { OnOk result ((peeks : Bool) (input : List ℕ) (specs : List SpecRecord)
             → step_meant input specs step.new ≡ event peeks self.old.parser) }
         ensures number { OnOk result (step.new.spec ≡ 0) }
         ensures state { OnOk result (self.new.parser
@@ -346,7 +348,7 @@ impl<'a> Walker<'a> {
         step.place = NO_EXTENT;
         step.peek = NO_EXTENT;
         step.peek_ahead = NO_EXTENT;
-        bare(PIECE_NONE, NOWHERE, step);
+        put_bare_piece(PIECE_NONE, NOWHERE, step);
         Ok(())
     }
 

@@ -18,7 +18,7 @@ abbrev pub IsTree : List Leaf → ℕ → ℕ → Type 0
 IsTree xs i j = ((n : ℕ) × IsPair xs i n × (j ≡ n + 1))
     ⊎ (((n : ℕ) → IsPair xs i n → ⊥) × (j ≡ i + 1))
 
--- Commas are read as such.
+-- A comma is no part of a list in angles or of parameters.
 abbrev pub is_plain_mode : Mode → Bool
 is_plain_mode (Start t) = true
 is_plain_mode (Within t) = true
@@ -26,7 +26,7 @@ is_plain_mode Operator = true
 is_plain_mode (Angles n) = false
 is_plain_mode Parameters = false
 
--- A comma that ends an argument.
+-- The token i is a comma that ends an argument.
 abbrev pub is_end : List Leaf → ℕ → Mode → Bool
 is_end xs i m = is_plain_mode m && is_mark (code ",") xs i
 
@@ -45,7 +45,7 @@ pub record IsArgument (xs : List Leaf) (from end to : ℕ) : Type 0 where
   pub walks : Walks xs from (Start false) trees end mode
   pub ends : IsTrue (is_end xs end mode) ⊎ (end ≡ to)
 
--- The word at the start has `=` behind it, and that is neither `==` nor `=>`: it is the name.
+-- The word at the start has `=` after it, and that is neither `==` nor `=>`: it is the name.
 abbrev pub is_word_at : Option Leaf → Bool
 is_word_at None = false
 is_word_at (Some x) = is_word x
@@ -54,8 +54,8 @@ abbrev pub is_named : List Leaf → ℕ → Bool
 is_named xs i = is_word_at (slice_get xs i) && (is_mark (code "=") xs (i + 1)
     && (not (is_followed (code "=") xs (i + 1)) && not (is_followed (code ">") xs (i + 1))))
 
--- These are the arguments from one token to another: each begins behind the comma of the one before
--- it, and the last ends there. Behind the last comma there may be nothing.
+-- These are the arguments from one token to another: each begins after the comma of the one before
+-- it, and the last ends there. After the last comma there may be nothing.
 abbrev pub AreArguments : List Leaf → ℕ → List Argument → ℕ → Type 0
 AreArguments xs at [] to = at ≡ to
 AreArguments xs at (a ∷ more) to = (a.start ≡ at) × IsArgument xs at a.end to

@@ -14,7 +14,7 @@ abbrev pub rule_of_leaf : List Entry → Option Leaf → Option Rule
 rule_of_leaf es None = None
 rule_of_leaf es (Some x) = if is_word x then rule_of es (word x) else None
 
--- A call stands there: a word or raw word of the table, `!` and a pair of delimiters. A word behind
+-- A call stands there: a word or raw word of the table, `!` and a pair of delimiters. A word after
 -- `$` is the name of a macro variable.
 pub record IsCall (es : List Entry) (xs : List Leaf) (c : Call) : Type 0 where
   pub is_listed : rule_of_leaf es (slice_get xs c.name) ≡ Some c.rule
@@ -22,7 +22,7 @@ pub record IsCall (es : List Entry) (xs : List Leaf) (c : Call) : Type 0 where
   pub is_pair : IsPair xs (c.name + 2) c.close
   pub is_fixed : IsFalse (is_behind (code "$") xs c.name)
 
--- The names of the calls stand one behind the other between these two tokens.
+-- The names of the calls stand one after the other between these two tokens.
 abbrev pub Rises : ℕ → List Call → ℕ → Type 0
 Rises from [] to = from ≤ to
 Rises from (c ∷ cs) to = (from ≤ c.name) × Rises (c.name + 1) cs to

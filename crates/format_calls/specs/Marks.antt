@@ -38,7 +38,7 @@ is_word x = is_ident x.kind
 abbrev pub word : Leaf → List ℕ
 word x = if is_raw x.kind && nat_lt 2 (length x.text) then drop 2 x.text else x.text
 
--- The token in front of the token i is this character of punctuation.
+-- The token before the token i is this character of punctuation.
 abbrev pub is_behind : ℕ → List Leaf → ℕ → Bool
 is_behind m xs zero = false
 is_behind m xs (suc i) = is_mark m xs i

@@ -1,5 +1,5 @@
--- Where a comma ends an argument. The commas of a list in angles and of the parameters of a closure
--- end none: `f::<A, B>()`, `<A as B<C, D>>::f()`, `x as A<B, C>`, `move |a, b| a + b`.
+-- The commas that end an argument. Those of a list in angles and of the parameters of a closure end
+-- none: `f::<A, B>()`, `<A as B<C, D>>::f()`, `x as A<B, C>`, `move |a, b| a + b`.
 use Prim.Native.Char.{code}
 use Rattle.std.specs.Prelude.{ℕ, Bool, true, false, not, ◌&&◌, ◌||◌, ◌==◌, ◌+◌, ◌-◌}
 use Rattle.std.specs.Prelude.{List}
@@ -56,11 +56,11 @@ abbrev pub is_lifetime : Kind → Bool
 is_lifetime Lifetime = true
 is_lifetime k = false
 
--- The token is this word, and no raw one.
+-- The token is this word, not a raw one.
 abbrev pub is_text : Leaf → List ℕ → Bool
 is_text x w = is_non_raw_ident x.kind && bytes_eq x.text w
 
--- A keyword behind which an expression starts, or behind which a type goes on to start.
+-- A keyword after which an expression starts, or after which a type goes on to start.
 abbrev pub is_keyword : Leaf → Bool
 is_keyword x = is_text x (codes "async") || (is_text x (codes "break")
     || (is_text x (codes "const") || (is_text x (codes "if") || (is_text x (codes "in")
@@ -68,7 +68,8 @@ is_keyword x = is_text x (codes "async") || (is_text x (codes "break")
     || (is_text x (codes "return") || (is_text x (codes "static") || (is_text x (codes "while")
     || is_text x (codes "yield")))))))))))
 
--- Behind this a type that starts still starts: `&`, `*`, a lifetime or a keyword.
+-- A type that starts at the token still starts after it: the token is `&`, `*`, a lifetime or a
+-- keyword.
 abbrev pub is_prefix : Leaf → Bool
 is_prefix x = is_mark_of (code "&") (Some x) || (is_mark_of (code "*") (Some x)
     || (is_lifetime x.kind || is_keyword x))
@@ -77,12 +78,12 @@ abbrev pub is_neither : Side → Bool
 is_neither Neither = true
 is_neither s = false
 
--- An expression starts behind this character of punctuation: it is no delimiter and no `?`.
+-- An expression starts after this character of punctuation: it is no delimiter and no `?`.
 abbrev pub is_operator : Leaf → Bool
 is_operator x = is_punct x.kind && (is_neither (side x) && not (is_mark_of (code "?") (Some x)))
 
--- What is read behind the token x at i, at the start of an expression or of a type or not, and in a
--- type or not.
+-- The mode after the token x at i, at the start of an expression or of a type or not, and in a type
+-- or not.
 abbrev pub mode_behind : List Leaf → ℕ → Option Leaf → Bool → Bool → Mode
 mode_behind xs i None s t = Within false
 mode_behind xs i (Some x) s t =
@@ -92,7 +93,7 @@ mode_behind xs i (Some x) s t =
     (if is_prefix x then Start (s && t) else
     (if is_operator x then Start false else Within (t && is_word x)))))
 
--- How many lists in angles are open.
+-- The number of lists in angles that are open.
 abbrev pub depth_of : Mode → ℕ
 depth_of (Start t) = 0
 depth_of (Within t) = 0
@@ -100,7 +101,7 @@ depth_of Operator = 0
 depth_of (Angles n) = n
 depth_of Parameters = 0
 
--- What is read behind the tree at the token i.
+-- The mode after the tree at the token i.
 abbrev pub mode_after : List Leaf → ℕ → Mode → Mode
 mode_after xs i (Start t) =
     if opens_list xs i then Angles 1 else

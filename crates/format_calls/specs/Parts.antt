@@ -11,19 +11,19 @@ use Rattle.format_calls.specs.Rows.{Entry}
 use Rattle.format_calls.specs.Calls.{IsCall, rule_of_leaf}
 use Rattle.format_calls.specs.Marks.{is_mark_of}
 
--- These three tokens begin a call of a macro of the table, unless `$` stands in front of them: a
--- word of the table, `!` and an opening delimiter.
+-- These three tokens begin a call of a macro of the table, unless `$` stands before them: a word of
+-- the table, `!` and an opening delimiter.
 abbrev pub opens_call : List Entry → Leaf → Leaf → Leaf → Bool
 opens_call es n m t = is_mark_of (code "!") (Some m)
     && (is_opening (side t) && is_some (rule_of_leaf es (Some n)))
 
--- The last two tokens that were read of a file, and whether `$` stands in front of them.
+-- The last two tokens that were read of a file, and whether `$` stands before them.
 pub record Window : Type 0 where
   pub is_behind : Bool
   pub name : Option Leaf
   pub mark : Option Leaf
 
--- What a contract sees of them.
+-- These two tokens as a contract sees them.
 abbrev pub seen_window : DeclaredWindow → Window
 seen_window w = record {
   is_behind = w.is_behind;
@@ -31,7 +31,7 @@ seen_window w = record {
   mark = option_map leaf w.mark;
 }
 
--- What a contract sees of the first three tokens of a call.
+-- The first three tokens of a call as a contract sees them.
 abbrev pub seen_front : Front → List Leaf
 seen_front f = leaf f.name ∷ leaf f.mark ∷ leaf f.opening ∷ []
 
@@ -45,7 +45,7 @@ front_of_tokens es b n m t = None
 abbrev pub front_of : List Entry → Window → Leaf → Option (List Leaf)
 front_of es w t = front_of_tokens es w.is_behind w.name w.mark t
 
--- Whether `$` stands in front of the tokens behind the first of them.
+-- Whether `$` stands before the tokens after the first of them.
 abbrev pub behind_next : Bool → Option Leaf → Bool
 behind_next b None = b
 behind_next b (Some n) = is_mark_of (code "$") (Some n)
@@ -63,7 +63,7 @@ abbrev pub moved : ℕ → Call → Call
 moved n c = record { rule = c.rule; name = n + c.name; close = n + c.close }
 
 -- Of these tokens those of the gap are the name of no call; the calls that begin in the part are
--- its own; and those behind it are the calls of what is left.
+-- its own; and those after it are the calls of the rest.
 pub record IsPart (es : List Entry) (gap part left : List Leaf) : Type 0 where
   pub before : (c : Call) → IsCall es (gap ++ (part ++ left)) c → length gap ≤ c.name
   pub inside : (c : Call) → c.name < length part

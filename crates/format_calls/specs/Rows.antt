@@ -9,7 +9,7 @@ pub record Entry : Type 0 where
   pub name : List ℕ
   pub rule : Rule
 
--- What a contract sees of a row.
+-- A row as a contract sees it.
 abbrev pub entry : Row → Entry
 entry r = record { name = r.name.now; rule = r.rule }
 

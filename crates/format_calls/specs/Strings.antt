@@ -1,4 +1,4 @@
--- Which argument of a call is its format string, and why none is read.
+-- The argument of a call that is its format string, or the reason why none is read.
 use Prim.Native.Char.{code}
 use Rattle.std.specs.Prelude.{ℕ, Bool, true, false, not, ◌&&◌, ◌||◌, ◌==◌, ◌+◌, ◌-◌, List, Option}
 use Rattle.std.specs.Prelude.{Some, None, Result, Ok, Err, nat_lt, slice_get, length, position}
@@ -39,7 +39,7 @@ reason_at xs (Some x) i =
     (if is_string x.kind && x.has_suffix then Suffix else
     (if is_word x && is_mark (code "!") xs (i + 1) then Macro else Expression))
 
--- Why an argument is no string literal.
+-- The reason why an argument is no string literal.
 abbrev pub reason_of : List Leaf → Argument → Reason
 reason_of xs a = reason_at xs (slice_get xs a.start) a.start
 

@@ -44,7 +44,7 @@ pub fn is_mark(tokens: &[Token<'_>], index: usize, mark: u8) -> bool
     }
 }
 
-/// Returns whether the token in front of the one of an index is this character of punctuation.
+/// Returns whether the token before the one of an index is this character of punctuation.
 pub fn is_behind(tokens: &[Token<'_>], index: usize, mark: u8) -> bool
     ensures { result ≡ is_behind mark (map leaf tokens.now) index }
 {

@@ -1,4 +1,4 @@
-//! Where a comma ends an argument.
+//! The commas that end an argument.
 
 ghost use Rattle.std.specs.Prelude.{◌≡◌, ◌+◌, ◌<◌, ◌^◌, map, slice_get};
 ghost use Rattle.rust_trees.specs.Leaves.{leaf};
@@ -10,7 +10,7 @@ use crate::marks::{is_behind, is_mark, is_mark_of, is_word, token_at};
 use rust_tokens::Kind;
 use rust_trees::{Side, Token};
 
-/// What is read at a token of an argument.
+/// The mode in which a token of an argument is read.
 #[derive(Clone, Copy)]
 pub enum Mode {
     /// The start of an expression, or of a type, where `true` stands: `<` opens a list in angles,
@@ -77,14 +77,14 @@ fn is_double(tokens: &[Token<'_>], index: usize) -> bool
         || is_mark(tokens, index, b'<') && is_followed(tokens, index, b'<')
 }
 
-/// Returns whether the token is this word, and no raw one.
+/// Returns whether the token is this word, not a raw one.
 fn is_text(token: &Token<'_>, word: &str) -> bool
     ensures { result ≡ is_text (leaf token.now) word.now }
 {
     matches!(token.kind, Kind::Ident) && token.text == word
 }
 
-/// Returns whether the token is a keyword behind which an expression starts, or behind which a type
+/// Returns whether the token is a keyword after which an expression starts, or after which a type
 /// goes on to start.
 fn is_keyword(token: &Token<'_>) -> bool
     ensures { result ≡ is_keyword (leaf token.now) }
@@ -103,7 +103,7 @@ fn is_keyword(token: &Token<'_>) -> bool
         || is_text(token, "yield")
 }
 
-/// Returns whether a type that starts at this token still starts behind it: it is `&`, `*`, a
+/// Returns whether a type that starts at this token still starts after it: it is `&`, `*`, a
 /// lifetime or a keyword.
 fn is_prefix(token: &Token<'_>) -> bool
     ensures { result ≡ is_prefix (leaf token.now) }
@@ -114,8 +114,8 @@ fn is_prefix(token: &Token<'_>) -> bool
         || is_keyword(token)
 }
 
-/// Returns whether an expression starts behind the token: it is punctuation, but no delimiter and
-/// no `?`.
+/// Returns whether an expression starts after the token: it is punctuation, but no delimiter and no
+/// `?`.
 fn is_operator(token: &Token<'_>) -> bool
     ensures { result ≡ is_operator (leaf token.now) }
 {
@@ -124,8 +124,8 @@ fn is_operator(token: &Token<'_>) -> bool
         && !is_mark_of(token, b'?')
 }
 
-/// Returns what is read behind a token, at the start of an expression or of a type or not, and in a
-/// type or not.
+/// Returns the mode after a token, at the start of an expression or of a type or not, and in a type
+/// or not.
 fn mode_behind(tokens: &[Token<'_>], index: usize, is_start: bool, is_type: bool) -> Mode
     ensures { result ≡ mode_behind (map leaf tokens.now) index
         (slice_get (map leaf tokens.now) index) is_start is_type }
@@ -148,7 +148,7 @@ fn mode_behind(tokens: &[Token<'_>], index: usize, is_start: bool, is_type: bool
     }
 }
 
-/// Returns what is read behind the tree at a token.
+/// Returns the mode after the tree at a token.
 pub fn mode_after(tokens: &[Token<'_>], index: usize, mode: Mode) -> Mode
     requires { depth_of mode + 1 < 2 ^ 64 }
     ensures { result ≡ mode_after (map leaf tokens.now) index mode }

@@ -28,7 +28,7 @@ fn opens_call(rows: &[Row<'_>], name: &Token<'_>, mark: &Token<'_>, opening: &To
 /// The last two tokens that were read of a file: `None` where there were fewer.
 #[derive(Clone, Copy)]
 pub struct Window<'a> {
-    /// Whether `$` stands in front of the first one.
+    /// Whether `$` stands before the first one.
     pub is_behind: bool,
     /// The first one.
     pub name: Option<Token<'a>>,
@@ -44,7 +44,7 @@ pub struct Front<'a> {
     pub opening: Token<'a>,
 }
 
-/// Returns the first three tokens of a call, if the last two tokens and the one behind them are
+/// Returns the first three tokens of a call, if the last two tokens and the one after them are
 /// these.
 fn front_of<'a>(rows: &[Row<'_>], last: Window<'a>, opening: Token<'a>) -> Option<Front<'a>>
     ensures { option_map seen_front result
@@ -86,8 +86,8 @@ fn moved_on<'a>(last: Window<'a>, token: Token<'a>) -> Window<'a>
 }
 
 /// Reads a file up to the end of the next call of a macro of a table, with the calls that begin
-/// within it, and returns its tokens from the name on. Returns `None` at the end of the file if
-/// there is no call more, and `Err` if an allocation fails.
+/// within it, and returns its tokens from the name on. Returns `None` at the end of the file if no
+/// further call comes, and `Err` if an allocation fails.
 ///
 /// Only these tokens are in memory at a time, where a whole file takes some twenty times its bytes.
 /// Where the delimiters of a call do not match, its part ends at the first one that nothing allows,

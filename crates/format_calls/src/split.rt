@@ -18,7 +18,7 @@ pub struct Argument {
     pub start: usize,
     /// The index of the token after it: a comma or the closing delimiter.
     pub end: usize,
-    /// Whether it has a name: a word and `=` stand in front of its value.
+    /// Whether it has a name: a word and `=` stand before its value.
     pub is_named: bool,
 }
 
@@ -44,7 +44,7 @@ fn is_named(tokens: &[Token<'_>], index: usize) -> bool
     }
 }
 
-/// Returns the token behind the tree at a token between two delimiters that are a pair.
+/// Returns the token after the tree at a token between two delimiters that are a pair.
 fn behind_tree(source: &Source<'_>, index: usize) -> usize
     requires { (o c : ℕ) × IsPair source.now o c × (o < index) × (index < c) × (c < 2 ^ 64) }
     ensures { IsTree source.now index result }

@@ -1,4 +1,4 @@
-//! Which argument of a call is its format string, and why none is read.
+//! The argument of a call that is its format string, or the reason why none is read.
 
 ghost use Rattle.std.specs.Prelude.{◌≡◌, ◌+◌, ◌&&◌, ◌==◌, length, map, slice_get};
 ghost use Rattle.rust_trees.specs.Leaves.{leaf};
@@ -11,7 +11,7 @@ use crate::table::Rule;
 use rust_tokens::Kind;
 use rust_trees::{Source, Token};
 
-/// Why no format string of a call is read.
+/// The reason why no format string of a call is read.
 #[derive(Clone, Copy)]
 pub enum Reason {
     /// There are too few arguments for one.
@@ -22,7 +22,7 @@ pub enum Reason {
     Variable,
     /// It is a literal with a suffix.
     Suffix,
-    /// It is the call of a macro, as `concat!("a", "b")`.
+    /// It is the call of a macro, for example `concat!("a", "b")`.
     Macro,
     /// It is another expression, or there is more than a literal.
     Expression,
@@ -49,7 +49,7 @@ fn is_text(tokens: &[Token<'_>], argument: &Argument) -> bool
     }
 }
 
-/// Returns why an argument that is no string literal is none.
+/// Returns the reason why an argument is no string literal.
 fn reason_of(tokens: &[Token<'_>], argument: &Argument) -> Reason
     ensures { result ≡ reason_of (map leaf tokens.now) argument.now }
 {
@@ -77,8 +77,8 @@ fn first_text(tokens: &[Token<'_>], arguments: &[Argument]) -> Option<usize>
         .position(|argument| is_text(tokens, argument))
 }
 
-/// Returns the index again if the argument there is the format string, or why none is read. A last
-/// argument can be none.
+/// Returns this index if the argument with it is the format string, or the reason why none is read.
+/// The last argument may be none.
 fn string_at(
     tokens: &[Token<'_>],
     arguments: &[Argument],
@@ -101,7 +101,8 @@ fn string_at(
     }
 }
 
-/// Returns the index of the argument that is the format string of a call, or why none is read.
+/// Returns the index of the argument that is the format string of a call, or the reason why none is
+/// read.
 pub fn format_string(
     source: &Source<'_>,
     rule: Rule,

@@ -6,14 +6,16 @@ ghost use Rattle.format_calls.specs.Standard.{of_crates, standard};
 
 use std::alloc::{AllocError, Global};
 
-/// Which argument of a macro is its format string. The others behind it are formatted.
+/// The rule for the argument of a macro that is its format string. The arguments after it are
+/// formatted.
 #[derive(Clone, Copy)]
 pub enum Rule {
-    /// The one of this index.
+    /// The argument with this index.
     At(usize),
-    /// The one of this index. Before the edition 2021 it is any expression if it is the last.
+    /// The argument with this index. Before the edition 2021 it is any expression if it is the
+    /// last.
     ByEdition(usize),
-    /// The first one that is a string literal: fields may stand in front of it.
+    /// The first argument that is a string literal: fields may stand before it.
     AfterFields,
 }
 
@@ -26,7 +28,7 @@ pub struct Row<'a> {
     pub rule: Rule,
 }
 
-/// A table of macros. Of two with one name the first one counts.
+/// A table of macros. Of several macros with one name the first counts.
 #[derive(Drop)]
 pub struct Table<'a> {
     /// The macros.
@@ -197,8 +199,8 @@ impl<'a> Table<'a> {
         Ok(Table { rows })
     }
 
-    /// Adds a macro in front of the others. Returns `Err` if an allocation fails; the table is then
-    /// as it was.
+    /// Adds a macro before the others. Returns `Err` if an allocation fails; the table is then as
+    /// it was.
     pub fn add(&mut self, row: Row<'a>) -> Result<(), AllocError>
         ensures ok { OnOk result (map entry self.new.rows.items
             ≡ entry row.entry ∷ map entry self.old.rows.items) }

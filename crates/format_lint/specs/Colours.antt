@@ -1,4 +1,4 @@
--- How the tokens of a source are shown: in the colours of their kinds, or each in a line.
+-- The tokens of a source as they are shown: in the colours of their kinds, or each in a line.
 use Rattle.std.specs.Prelude.{◌≡◌, ℕ, ◌-◌, ◌++◌, Bool, true, false, List, [], ◌∷◌, Option, None}
 use Rattle.std.specs.Prelude.{Some, codes, drop, flat_map, length}
 use Rattle.std.specs.Char.{is_ascii_digit}
@@ -45,8 +45,8 @@ kind_name Unexpected = codes "unexpected"
 kind_name Quote = codes "quote"
 
 -- The colour of a kind, as a number of SGR, the escapes for a terminal: blue for a doubled brace,
--- magenta for what parts a placeholder, cyan for an argument or a number, yellow for the fill and
--- the flags, green for the type, red for what is wrong. What is only text has none.
+-- magenta for the marks that part a placeholder, cyan for an argument or a number, yellow for the
+-- fill and the flags, green for the type, red for text that is wrong. Plain text has none.
 unfoldable pub colour : Kind → Option (List ℕ)
 colour TextKind = None
 colour Escape = Some (codes "34")
@@ -109,11 +109,11 @@ AreSafe (Sgr n ∷ ps) = (list_all is_ascii_digit n ≡ true) × AreSafe ps
 abbrev pub IsColoured : List ℕ → Type 0
 IsColoured t = (ps : List Part) × (t ≡ flat_map part_bytes ps) × AreSafe ps
 
--- What is left of a text behind its first characters, as many as end within n bytes.
+-- The rest of a text after its first characters, as many as end within n bytes.
 abbrev pub behind : ℕ → Text → Text
 behind n t = drop (length (within n t)) t
 
--- The tokens of a text: each takes as many bytes from what is left of it as its range has.
+-- The tokens of a text: each takes as many bytes from the rest of it as its range has.
 abbrev pub shown_tokens : Bool → Text → List Placed → List ℕ
 shown_tokens colours t [] = []
 shown_tokens colours t (x ∷ xs) =

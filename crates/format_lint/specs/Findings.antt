@@ -43,7 +43,7 @@ abbrev pub is_lone_brace : Fault Place → Bool
 is_lone_brace (UnmatchedBrace s) = true
 is_lone_brace f = false
 
--- Whether a placeholder waits for its closing brace behind a fault, if `waits` says so of what is
+-- Whether a placeholder waits for its closing brace after a fault, if `waits` says so of what is
 -- before it. The next closing brace that closes nothing is the one that it waits for.
 abbrev pub waits_behind : Bool → Fault Place → Bool
 waits_behind waits (MissingBrace c s o) = true
@@ -51,7 +51,7 @@ waits_behind waits (FillBrace c s o) = true
 waits_behind waits (UnmatchedBrace s) = false
 waits_behind waits f = waits
 
--- The same behind these faults.
+-- The same after these faults.
 abbrev pub waits_behind_all : Bool → List (Fault Place) → Bool
 waits_behind_all waits [] = waits
 waits_behind_all waits (f ∷ fs) = waits_behind_all (waits_behind waits f) fs
@@ -94,8 +94,7 @@ mistakes (f ∷ fs) = (if f.follows then 0 else 1) + mistakes fs
 abbrev pub most_drawn : ℕ
 most_drawn = 10
 
--- The first of these faults, how many others there are, and how many of all are mistakes of their
--- own.
+-- The first of these faults, the number of others, and how many of all are mistakes of their own.
 pub record AreCounted (first : List Finding) (others own : ℕ) (fs : List Finding) : Type 0 where
   pub first_are : first ≡ take most_drawn fs
   pub all_are : length first + others ≡ length fs

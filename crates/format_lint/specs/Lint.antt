@@ -1,4 +1,4 @@
--- What `formatlint` writes, by its task and for any bytes as its input.
+-- The output of `formatlint`, by its task and for any bytes as its input.
 use Rattle.std.specs.Prelude.{◌≡◌, ℕ, ◌-◌, ◌<◌, ◌++◌, ◌==◌, Bool, true, false, ◌⊎◌, if◌then◌else◌}
 use Rattle.std.specs.Prelude.{List, [], ◌∷◌, length, take, Option, Some, None, option_map}
 use Rattle.std.specs.Prelude.{unwrap_or, Result, Ok, Err, chars, codes, decimal, flat_map, IsUtf8}
@@ -26,7 +26,7 @@ use Rattle.format_lint.specs.Colours.{IsColoured, shown_tokens}
 use Rattle.format_lint.specs.Findings.{Finding, findings_from, first_error, mistakes}
 use Rattle.format_lint.specs.Findings.{most_drawn}
 
--- What the arguments of the program ask for.
+-- The task that the arguments of the program give.
 pub record Task : Type 0 where
   pub mode : Mode
   -- The input is a string literal, as written in a program.
@@ -55,7 +55,7 @@ pub record IsLiteralIn (input : List ℕ) (s : Source) : Type 0 where
   pub is_first : s.line_start ≡ 1
   pub text_utf8 : IsUtf8 s.text
 
--- A text that is in no literal. A byte offset is one more than in the text, so that is drawn behind
+-- A text that is in no literal. A byte offset is one more than in the text, so that is drawn after
 -- a line end, and its lines count from 1.
 abbrev pub bare : List ℕ → Source
 bare t = record {
@@ -78,7 +78,7 @@ alone style t l = record {
   start = 0;
 }
 
--- What the input is. The flag says whether it is read as a literal.
+-- The source of the input. The flag says whether the input is read as a literal.
 abbrev pub IsSourceIn : Bool → List ℕ → Source → Type 0
 IsSourceIn true input s = IsLiteralIn input s
 IsSourceIn false input s = s ≡ bare input
@@ -92,11 +92,11 @@ start mode s =
 abbrev pub errors : Mode → Source → List (Message Place)
 errors mode s = all_errors (start mode s)
 
--- The faults of a source as they are shown where all are.
+-- The faults of a source as they are shown if all are shown.
 abbrev pub findings : Mode → Source → List Finding
 findings mode s = findings_from false (start mode s)
 
--- What faults are drawn in.
+-- The picture in which faults are drawn.
 abbrev pub picture : List ℕ → Source → Picture
 picture path s = record {
   path = path;
@@ -123,7 +123,7 @@ shown_error mode p (Some m) = drawing mode p m
 abbrev pub drawn_finding : Mode → Picture → Finding → List ℕ
 drawn_finding mode p f = id_line f.follows (fault_id f.fault) ++ drawing mode p (message f.fault)
 
--- The drawings of faults, one after the other, and how many are left out.
+-- The drawings of faults, one after the other, and the number of those that are left out.
 abbrev pub drawings : Mode → Picture → List Finding → List ℕ
 drawings mode p fs =
     flat_map (drawn_finding mode p) (take most_drawn fs) ++ more (length fs - most_drawn)
@@ -133,12 +133,12 @@ abbrev pub first_drawing : Mode → Picture → List Finding → List ℕ
 first_drawing mode p [] = []
 first_drawing mode p (f ∷ fs) = drawing mode p (message f.fault)
 
--- What is written, and how many mistakes are left.
+-- The output, and the number of mistakes that are left.
 abbrev pub Shown : Type 0
 Shown = List ℕ × ℕ
 
--- What is drawn of a source, which is the error that the compiler shows or all its faults, and how
--- many mistakes it has.
+-- The drawing of a source, of the error that the compiler shows or of all faults, and the number of
+-- its mistakes.
 abbrev pub drawn : Bool → Task → Source → Shown
 drawn all a s = (
   if all then drawings a.mode (picture a.path s) (findings a.mode s)
@@ -154,7 +154,7 @@ written s = unwrap_or s.literal s.text ++ codes "\n"
 abbrev pub kept : Task → Source → Shown
 kept a s = (written s ++ (drawn false a s).0, (drawn false a s).1)
 
--- The tokens of a source. The snippet is the literal, or a text behind a line end, which is no
+-- The tokens of a source. The snippet is the literal, or a text after a line end, which is no
 -- literal, so that the last token ends where the text does.
 abbrev pub tokens_in : Task → Source → List Placed
 tokens_in a s =
@@ -169,22 +169,22 @@ lexed colours a s = (
   (drawn false a s).1,
 )
 
--- Where l is the literal of a source: what it becomes by the edits that its faults suggest. If
--- there are none, it stays as it is.
+-- The literal of a source with the edits that its faults suggest. If there are none, it stays as it
+-- is.
 abbrev pub IsMendedIn : Mode → Source → List ℕ → Source → Type 0
 IsMendedIn mode s l r =
     ((f : Fixed) × IsFixed mode s.text s.style l false f
     × (r ≡ alone s.style f.text f.snippet))
     ⊎ (((f : Fixed) → IsFixed mode s.text s.style l false f → ⊥) × (r ≡ s))
 
--- The same of any source. A text has no edits.
+-- Any source with the edits that its faults suggest. A text has no edits.
 abbrev pub IsMended : Mode → Source → Source → Type 0
 IsMended mode s r = elim s.literal [
   | None ↦ r ≡ s
   | Some l ↦ IsMendedIn mode s l r
 ]
 
--- What a task shows of a source.
+-- The output that a task shows of a source.
 abbrev pub IsShown : Task → Source → Shown → Type 0
 IsShown a s x = elim a.show [
   | ShowFault ↦ x ≡ drawn false a s
@@ -194,8 +194,8 @@ IsShown a s x = elim a.show [
   | ShowFix ↦ (r : Source) × IsMended a.mode s r × (x ≡ kept a r)
 ]
 
--- A terminal obeys nothing of what is written for a task, but for the colours that it asks for, and
--- the source with its edits, which is the input's own text and is to be read again as it is.
+-- A terminal obeys nothing of the output for a task, but for the colours of the task, and the
+-- source with its edits, which is the input's own text and is to be read again as it is.
 abbrev pub IsHarmlessFor : Task → List ℕ → List ℕ → Type 0
 IsHarmlessFor a input t = elim a.show [
   | ShowFault ↦ IsHarmless t
@@ -206,7 +206,7 @@ IsHarmlessFor a input t = elim a.show [
       × IsMended a.mode s r × (t ≡ written r ++ d) × IsHarmless d
 ]
 
--- The answer to a task with this input: what is written, or why nothing is.
+-- The answer to a task with this input: the output, or the reason why nothing is written.
 abbrev pub IsOwed : Task → List ℕ → Result Shown RunFault → Type 0
 IsOwed a input (Ok x) = IsShort input × IsUtf8 input
     × ((s : Source) × IsSourceIn a.is_literal input s × IsShown a s x)

@@ -1,4 +1,4 @@
--- What a contract sees of a task, of a source and of faults that are shown.
+-- A task, a source and faults that are shown, as a contract sees them.
 use Rattle.std.specs.Prelude.{List, map, option_map}
 use Rattle.rustc_parse_format.specs.Seen.{seen_mode}
 use Rattle.rustc_parse_format.specs.SeenFaults.{seen_fault}

@@ -13,7 +13,7 @@ ghost use Rattle.format_lint.specs.Lint.{findings, start};
 ghost use Rattle.format_lint.specs.SeenLint.{Keeps, seen_source};
 
 use super::findings::Findings;
-use format_tokens::{Kind, Token, label, placed};
+use format_tokens::{Kind, Token, label, place_labels};
 use rustc_parse_format::{Argument, ParseMode, Parser};
 use std::alloc::{AllocError, Global};
 
@@ -123,7 +123,7 @@ pub fn tokens_in<'a>(
 {
     let mut parser = parser_of(alloc, mode, source)?;
     let (labels, faults) = labels_of(alloc, &mut parser, mode, source)?;
-    let tokens = placed(
+    let tokens = place_labels(
         alloc,
         source.text,
         source.style,

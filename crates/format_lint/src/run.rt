@@ -1,4 +1,4 @@
-//! The program over any reader and writer: its input, what it shows, and its output.
+//! The program over any reader and writer: its input and its output.
 
 ghost use Rattle.std.specs.Prelude.{◌≡◌, ◌≢◌, ◌↔◌, List, [], ℕ, IfErr, IfOk, IfSome, IsErrOf};
 ghost use Rattle.std.specs.Prelude.{Err, Ok, Result};
@@ -20,30 +20,30 @@ use piece_listing::verdict::RunFault;
 use std::alloc::Global;
 use std::io::{Read, Write};
 
-/// Reads an input from `reader` up to its end, and writes what `task` shows of it to `writer`.
-/// Returns how many faults are left that are mistakes of their own and follow from no other one:
-/// of the input, or of the literal with its fixes.
+/// Reads an input from `reader` up to its end, and writes the output of `task` for it to `writer`.
+/// Returns the number of faults that are left as mistakes of their own and follow from no other
+/// one: of the input, or of the literal with its fixes.
 ///
 /// The input may have at most 1,048,576 bytes. Returns `Err` if a read, a write or an allocation
-/// fails, or if the input is too long, not UTF-8, or not a string literal although the task asks
-/// for one (`RunFault`, but never `Words`). A read or a write that fails is not tried again. After
-/// an error nothing is written, except that after a failed write a part may be.
+/// fails, or if the input is too long, not UTF-8, or not a string literal although the task needs
+/// one (`RunFault`, but never `Words`). A read or a write that fails is not tried again. After an
+/// error nothing is written, except that after a failed write a part may be.
 pub fn run<R: Read, W: Write>(
     alloc: Global,
     reader: &mut R,
     writer: &mut W,
     task: Task<'_>,
 ) -> Result<usize, RunFault>
-    // What is written and the result are those that the definition `IsOwed` asks for.
+    // The output and the result are those of the definition `IsOwed`.
     ensures shown { IfOk result (λ told. IfSome (R.remaining reader.old) (λ input. (text : List ℕ)
         × IsOwed (seen_task task.entry) input (Ok (text, told))
         × Appends (W.contents writer.old) (W.contents writer.new) text)) }
-    // A terminal obeys nothing of it but the colours that are asked for; with fixes the literal,
+    // A terminal obeys nothing of the output but the colours of the task; with fixes the literal,
     // which is to be read again, is written as it is.
     ensures harmless { IfOk result (λ told. IfSome (R.remaining reader.old)
         (λ input. (text : List ℕ) × IsHarmlessFor (seen_task task.entry) input text
         × Appends (W.contents writer.old) (W.contents writer.new) text)) }
-    // The definition asks for one result.
+    // The definition has only one result.
     ensures one_answer { (a : TaskValue) (input : List ℕ) (x y : Result Shown FaultValue)
         → IsOwed a input x → IsOwed a input y → x ≡ y }
     // There is a mistake exactly if a parser has an error.

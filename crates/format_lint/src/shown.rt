@@ -1,4 +1,4 @@
-//! What is shown of an input in UTF-8.
+//! The output for an input in UTF-8.
 
 ghost use Rattle.std.specs.Prelude.{◌≡◌, ◌≢◌, ◌≤◌, ◌++◌, List, [], IfErr, IfOk, IsErrOf, OnOk};
 ghost use Rattle.std.specs.Prelude.{None, codes, flat_map, if◌then◌else◌, map, string_bytes};
@@ -112,9 +112,9 @@ fn put_first(
     Ok(())
 }
 
-/// Appends the drawing of the first fault to a text, or the drawings of those that are kept and how
-/// many others there are. Returns how many faults are mistakes of their own, and `Err` if an
-/// allocation fails.
+/// Appends the drawing of the first fault to a text, or the drawings of those that are kept and the
+/// number of others. Returns how many faults are mistakes of their own, and `Err` if an allocation
+/// fails.
 fn put_drawings(
     alloc: Global,
     out: &mut String,
@@ -139,7 +139,7 @@ fn put_drawings(
     Ok(faults.mistakes)
 }
 
-/// Appends what is drawn of a source with these faults to a text. Returns how many of them are
+/// Appends the drawing of a source with these faults to a text. Returns how many of them are
 /// mistakes of their own, and `Err` if an allocation fails.
 fn put_faults(
     alloc: Global,
@@ -164,7 +164,7 @@ fn put_faults(
     put_drawings(alloc, out, all, task.mode, &picture, faults)
 }
 
-/// Appends what is drawn of a source to a text. Returns how many mistakes it has, and `Err` if an
+/// Appends the drawing of a source to a text. Returns how many mistakes it has, and `Err` if an
 /// allocation fails.
 fn put_drawn(
     alloc: Global,
@@ -263,8 +263,8 @@ fn put_lexed(
     Ok(told)
 }
 
-/// Returns what a task shows of a source, and how many mistakes are left. Returns `Err` if an
-/// allocation fails.
+/// Returns the output of a task for a source, and the number of mistakes that are left. Returns
+/// `Err` if an allocation fails.
 fn shown_of(
     alloc: Global,
     source: Source<'_>,
@@ -285,9 +285,9 @@ fn shown_of(
     Ok((out, told))
 }
 
-/// Returns what a task shows of the input as a string literal, perhaps with a byte order mark
-/// before it and white space around it, and how many mistakes are left. Returns `Err` if the input
-/// is not a string literal or an allocation fails.
+/// Returns the output of a task for the input as a string literal, perhaps with a byte order mark
+/// before it and white space around it, and the number of mistakes that are left. Returns `Err` if
+/// the input is not a string literal or an allocation fails.
 fn shown_of_literal(alloc: Global, input: &str, task: Task<'_>) -> Result<(String, usize), RunFault>
     requires { IsShort input.now }
     ensures shown { IfOk result (λ x. (s : SourceValue) × IsLiteralIn input.now s
@@ -326,8 +326,8 @@ fn bare<'a>(text: &'a str, lines: &'a str) -> Source<'a>
     }
 }
 
-/// Returns what a task shows of an input, and how many mistakes are left. Returns `Err` if the task
-/// asks for a string literal and the input is none, or if an allocation fails.
+/// Returns the output of a task for an input, and the number of mistakes that are left. Returns
+/// `Err` if the task needs a string literal and the input is none, or if an allocation fails.
 pub fn shown_of_input(
     alloc: Global,
     input: &str,

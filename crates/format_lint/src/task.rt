@@ -1,8 +1,8 @@
-//! What the program is asked for.
+//! The task of the program.
 
 use rustc_parse_format::ParseMode;
 
-/// What is shown of an input.
+/// The output that is wanted for an input.
 #[derive(Copy, Clone, Debug, Eq, PartialEq)]
 pub enum Show {
     /// The fault that the compiler shows, drawn under its source.

@@ -1,5 +1,5 @@
-//! How the tokens of a source are shown. What begins with `put_` appends to `out`, and returns
-//! `Err` if an allocation fails.
+//! The tokens of a source as they are shown. Each function whose name begins with `put_` appends to
+//! `out`, and returns `Err` if an allocation fails.
 
 ghost use Rattle.std.specs.List.{list_all};
 ghost use Rattle.std.specs.Prelude.{◌≡◌, ◌++◌, ℕ, IsTrue, List, MatchOption, OnOk, chars, codes};
@@ -149,8 +149,8 @@ fn put_token(
     Ok(())
 }
 
-/// Returns the first characters of a text, as many as end within `width` bytes, and what is left
-/// behind them.
+/// Returns the first characters of a text, as many as end within `width` bytes, and the rest after
+/// them.
 fn split_within(text: &str, width: usize) -> (&str, &str)
     ensures front { chars result.0.now ≡ within width (chars text.now) }
     ensures back { chars result.1.now ≡ behind width (chars text.now) }

@@ -10,7 +10,7 @@ use Rattle.rustc_parse_format.specs.Characters.{Text, begins_with, behind, behin
 use Rattle.rustc_parse_format.specs.Characters.{behind_white, behind_word, digits, first_passes}
 use Rattle.rustc_parse_format.specs.Characters.{front, is_brace, is_no_brace, word}
 use Rattle.rustc_parse_format.specs.Grammar.{Reads, piece_values}
-use Rattle.rustc_parse_format.specs.Placeholder.{cut, placed}
+use Rattle.rustc_parse_format.specs.Placeholder.{cut, cut_of}
 use Rattle.rustc_parse_format.specs.Spelling.{IsPart, doubled, fixed, run}
 use Rattle.rustc_parse_format.specs.Syntax.{DoubledText, FieldText, PieceText, PlaceholderText}
 use Rattle.rustc_parse_format.specs.Syntax.{RunText, field_part, piece_part, placeholder_part}
@@ -93,7 +93,7 @@ placeholder-takes mode c t a space r h =
     let f = opened o.others in
     let w = opened f.others in
     let z = only w.others in
-    let e : cut mode o.seam ≡ placed mode a f.seam = cut-placed mode o.seam a f.seam f.first in
+    let e : cut mode o.seam ≡ cut_of mode a f.seam = cut-placed mode o.seam a f.seam f.first in
     let closes : behind_white (cut mode o.seam).rest ≡ 125 ∷ r =
     ap (λ x. behind_white x.rest) e ∙ (white-behind f.seam space w.seam w.first ∙ z.whole) in
     let white : front is_whitespace f.seam ≡ space =

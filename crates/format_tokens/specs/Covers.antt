@@ -1,4 +1,4 @@
--- What the byte ranges of tokens are in a source literal: they cover it, and each reads back.
+-- The byte ranges of tokens in a source literal: they cover it, and each reads back.
 use Rattle.std.specs.Prelude.{◌≡◌, ℕ, ◌<◌, ◌++◌, Bool, List, [], ◌∷◌, map, Option}
 use Rattle.rustc_parse_format.specs.Characters.{Text}
 use Rattle.rustc_parse_format.specs.ReadBack.{inside, source_units}

@@ -1,5 +1,5 @@
--- What the functions that read a part say of the tokens that they add. Of public functions only the
--- contracts of `label` and `placed` cite it, which make what `tokens` makes.
+-- The tokens that the functions for single parts add, as their contracts state them. Of public
+-- functions only the contracts of `label` and `place_labels` cite it, the halves of `tokens`.
 use Prim.Native.Char.{code}
 use Rattle.std.specs.Prelude.{◌≡◌, ℕ, ◌++◌, ◌&&◌, Bool, false, List, [], ◌∷◌, length, map, chars}
 use Rattle.std.specs.Char.{is_ascii_digit, is_whitespace}

@@ -34,8 +34,8 @@ placed w n (l ∷ ls) =
     (l.0, place_of w (record { from = Start n; to = Start (n - length l.1) }))
     ∷ placed w (n - length l.1) ls
 
--- With a source literal, what is around the text: a token from the first byte of the literal to
--- where the first character starts, and one from the end of the text to the last byte.
+-- With a source literal, two tokens around the text: one from the first byte of the literal to the
+-- start of the first character, and one from the end of the text to the last byte.
 abbrev pub quoted : World → Text → Option Text → List Placed → List Placed
 quoted w input None ts = ts
 quoted w input (Some snippet) ts =

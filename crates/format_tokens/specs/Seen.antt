@@ -1,4 +1,4 @@
--- What a contract sees of a token and of a text.
+-- A token and a text as a contract sees them.
 use denote.Ref.{Bor}
 use Rattle.std.specs.Prelude.{ℕ, List, Option, option_map, chars}
 use Rattle.rustc_parse_format.specs.Characters.{Text}

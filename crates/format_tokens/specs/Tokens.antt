@@ -67,7 +67,7 @@ format_tokens p = token Fill (fill_part p.fill).spelling
     ++ (precision_tokens p.precision
     ++ token TypeKind (type_part p.type).spelling)))))
 
--- [ ':' format_spec ], or after the colon what the mode allows.
+-- [ ':' format_spec ], or after the colon the text that the mode allows.
 abbrev pub spec_tokens : SpecText → List Label
 spec_tokens Default = []
 spec_tokens (Formatting p) = token Colon (codes ":") ++ format_tokens p
@@ -78,7 +78,7 @@ spec_tokens (DiagnosticText u) = token Colon (codes ":") ++ token DiagnosticKind
 abbrev pub field_tokens : FieldText → List Label
 field_tokens a = position_tokens a.position ++ (token White a.space ++ spec_tokens a.spec)
 
--- An opening brace, a field, and white space before what comes next.
+-- An opening brace, a field, and the white space after it.
 abbrev pub opened_tokens : FieldText → Text → List Label
 opened_tokens a space = token Open (codes "{") ++ (field_tokens a ++ token White space)
 

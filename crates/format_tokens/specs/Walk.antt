@@ -22,7 +22,7 @@ abbrev pub up_to_rest : Text → Text → Text
 up_to_rest t r = take (length t - length r) t
 
 -- The tokens of a placeholder, where t is left after its opening brace and s after the call. If no
--- brace closes it, what the call takes in place of the brace is one token.
+-- brace closes it, the characters that the call reads in place of the brace are one token.
 unfoldable pub placeholder_tokens : Mode → Text → Text → List Label
 placeholder_tokens mode t s =
     let a = cut mode t in

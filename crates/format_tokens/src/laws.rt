@@ -11,7 +11,7 @@ ghost use Rattle.format_tokens.specs.Tokens.{joined, pieces_tokens};
 ghost use Rattle.format_tokens.specs.Walk.{IsWritten, tokens_of};
 
 /// States that the characters of the tokens of an input, one after the other, are the input without
-/// an appended newline, also where it has faults. Does nothing.
+/// an appended newline, even if it has faults. Does nothing.
 pub fn joined()
     ensures { (mode : Mode) (input : Text) (appended : Bool)
         → joined (shown mode input appended) ≡ unappended appended input }

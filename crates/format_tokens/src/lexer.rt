@@ -98,7 +98,7 @@ fn starts(
 /// Returns the tokens of an input with their byte ranges in its source. `labels` has the kind of
 /// each and its number of characters; the other arguments are those of `tokens`. Returns `Err` if
 /// an allocation fails.
-pub fn placed(
+pub fn place_labels(
     alloc: Global,
     input: &str,
     style: Option<usize>,
@@ -148,10 +148,10 @@ pub fn placed(
 ///
 /// The kinds and the characters of the tokens never depend on `style` and `snippet`. If the snippet
 /// is the source literal of the input, the byte ranges are those of the snippet, and the first and
-/// the last token are what is around the text. Otherwise a byte range is what it would be in a
-/// literal that has the input unescaped, with the end of the text as the parser has it.
+/// the last token are the opening and the closing of the literal. Otherwise a byte range is that in
+/// a literal that has the input unescaped, with the end of the text as the parser has it.
 ///
-/// Returns `Err` if an allocation fails; nothing else is then returned.
+/// Returns `Err` if an allocation fails.
 pub fn tokens(
     alloc: Global,
     input: &str,
@@ -188,6 +188,6 @@ pub fn tokens(
         Some(literal) => Some(literal.as_str()),
     };
     let labels = labels(alloc, input, mode)?;
-    let tokens = placed(alloc, input, style, text, appended_newline, &labels)?;
+    let tokens = place_labels(alloc, input, style, text, appended_newline, &labels)?;
     Ok(tokens)
 }

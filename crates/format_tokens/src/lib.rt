@@ -1,4 +1,4 @@
-//! The tokens of a format string: what an editor shows in colours.
+//! The tokens of a format string, as an editor shows them in colours.
 #![tactic(auto)]
 
 mod kinds;
@@ -9,5 +9,5 @@ mod places;
 mod walk;
 
 pub use kinds::{Kind, Token};
-pub use lexer::{placed, tokens};
+pub use lexer::{place_labels, tokens};
 pub use walk::label;

@@ -1,5 +1,5 @@
 //! The tokens of the parts of a placeholder. Each function takes a part that the parser read, adds
-//! its tokens to a list, and returns what is left of the text after the part. Returns `Err` if an
+//! its tokens to a list, and returns the rest of the text after the part. Returns `Err` if an
 //! allocation fails; the list may then have some of the tokens.
 
 ghost use Rattle.std.specs.Prelude.{◌≡◌, ◌++◌, ℕ, [], IfOk, chars, codes, length, option_map};
@@ -32,8 +32,8 @@ pub fn length_of(text: &str) -> usize
     text.chars().count()
 }
 
-/// Adds a token of a text's first `bytes` bytes, and returns what is left of the text. Without
-/// bytes there is no token. Returns `Err` if an allocation fails.
+/// Adds a token of a text's first `bytes` bytes, and returns the rest of the text. Without bytes
+/// there is no token. Returns `Err` if an allocation fails.
 pub fn take<'a>(
     labels: &mut Vec<(Kind, usize)>,
     kind: Kind,
@@ -69,7 +69,7 @@ fn first(text: &str) -> Option<char>
     text.chars().next()
 }
 
-/// Returns what is left after the first character, or an empty text if there is none.
+/// Returns the text after the first character, or an empty text if there is none.
 fn behind_first(text: &str) -> &str
     ensures { chars result.now ≡ behind_first (chars text.now) }
 {
@@ -124,7 +124,7 @@ pub fn run_width(text: &str, run: Run) -> usize
     width
 }
 
-/// Returns whether a text that begins with a name has an `r#` in front of it.
+/// Returns whether a text that begins with a name has an `r#` before it.
 fn is_raw(text: &str, name: &str) -> bool
     ensures { result ≡ names_raw (chars text.now) (chars name.now) }
 {

@@ -1,4 +1,4 @@
-//! Where the characters of an input start in its source.
+//! The byte offsets where the characters of an input start in its source.
 
 ghost use Rattle.std.specs.Prelude.{◌≡◌, ◌+◌, ◌-◌, ◌<◌, ◌≤◌, ◌^◌, ◌++◌, Bool, None, Some, IfOk};
 ghost use Rattle.std.specs.Prelude.{chars};

@@ -18,8 +18,8 @@ use crate::parts::{Run, begins, position, run_width, specification, take, width_
 use rustc_parse_format::{Argument, ParseMode, Parser, Taken};
 use std::alloc::{AllocError, Global};
 
-/// Adds the tokens of a placeholder at the start of a text, and returns what is left of the text
-/// after the call that read it: `left` bytes.
+/// Adds the tokens of a placeholder at the start of a text, and returns the rest of the text after
+/// the call that read it: `left` bytes.
 fn placeholder<'a>(
     labels: &mut Vec<(Kind, usize)>,
     mode: ParseMode,
@@ -62,8 +62,8 @@ fn escape_width(text: &str) -> usize
     }
 }
 
-/// Adds the tokens of a piece of literal text at the start of a text, and returns what is left of
-/// the text after it: `left` bytes.
+/// Adds the tokens of a piece of literal text at the start of a text, and returns the rest of the
+/// text after it: `left` bytes.
 fn literal<'a>(
     labels: &mut Vec<(Kind, usize)>,
     left: usize,
@@ -86,9 +86,9 @@ fn literal<'a>(
 }
 
 /// Adds the kinds of the tokens of a call at the start of a text and the number of characters of
-/// each, and returns what is left of the text after it: `left` bytes. `taken` and `argument` are
-/// what `Parser::next_into` returned and read. Returns `Err` if an allocation fails; the list may
-/// then have some of the tokens.
+/// each, and returns the rest of the text after it: `left` bytes. `taken` is the piece that
+/// `Parser::next_into` returned, and `argument` the one into which it read a placeholder. Returns
+/// `Err` if an allocation fails; the list may then have some of the tokens.
 pub fn label<'a>(
     labels: &mut Vec<(Kind, usize)>,
     mode: ParseMode,

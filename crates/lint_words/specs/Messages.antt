@@ -1,6 +1,6 @@
--- What `formatlint` writes to standard error where it has no answer: lines that begin with its name
--- and the path of the input. A path is written as drawings have it, with nothing that a terminal
--- obeys.
+-- The lines that `formatlint` writes to standard error where it has no answer. They begin with its
+-- name and the path of the input. A path is written as drawings have it, with nothing that a
+-- terminal obeys.
 use Rattle.std.specs.Prelude.{◌++◌, ℕ, List, codes, decimal}
 use Rattle.std.specs.Prelude.{chars}
 use Rattle.std.specs.Prelude.{take, drop, length, ◌==◌, if◌then◌else◌}
@@ -17,8 +17,8 @@ use Rattle.literal_faults.specs.Words.{message}
 abbrev pub opening : List ℕ → List ℕ
 opening path = codes "formatlint: " ++ (glyph_bytes path ++ codes ":")
 
--- Why there is no answer. For a read or a write that failed these are the words of the system, if
--- it has any.
+-- The reason why there is no answer. For a read or a write that failed these are the words of the
+-- system, if it has any.
 abbrev pub reason : RunFault → List ℕ → List ℕ
 reason Read why = if length why == 0 then codes "reading failed" else why
 reason Write why = if length why == 0 then codes "writing failed" else why
@@ -40,7 +40,7 @@ written p = decimal p.line ++ (codes ":" ++ decimal p.column)
 abbrev pub place : List ℕ → ℕ → Place
 place file n = place_between (chars (take n file)) (chars (drop n file))
 
--- The lines where the file is no string literal: the place, the reason and what can be done.
+-- The lines where the file is no string literal: the place, the reason and the option that helps.
 abbrev pub not_literal : List ℕ → List ℕ → LiteralFault → List ℕ
 not_literal path file f = opening path ++ (written (place file f.offset) ++ (codes ": "
     ++ (message f.kind ++ codes "\n  = help: with --text the input is read as it stands\n")))

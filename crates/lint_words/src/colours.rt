@@ -1,9 +1,9 @@
-//! Whether what is written is in colours.
+//! Whether the output is in colours.
 
 ghost use Rattle.std.specs.Prelude.{◌≡◌, option_map};
 ghost use Rattle.lint_words.specs.Colours.{wants_colours};
 
-/// When colours are written.
+/// The choice when colours are written.
 #[derive(Clone, Copy, Debug, Eq, PartialEq)]
 pub enum When {
     /// If the output is a terminal that has them.
@@ -14,9 +14,9 @@ pub enum When {
     Never,
 }
 
-/// Returns whether colours are wanted, by what is known of the output and by the values of the
+/// Returns whether colours are wanted, by whether the output is a terminal and by the values of the
 /// variables `NO_COLOR` and `TERM`. With `Auto` they are if the output is a terminal, `NO_COLOR` is
-/// not there or empty, and `TERM` is there and not `dumb`.
+/// unset or empty, and `TERM` is set and not `dumb`.
 pub fn wants_colours(
     when: When,
     is_terminal: bool,

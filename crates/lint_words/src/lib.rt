@@ -1,4 +1,4 @@
-//! The words of the program `formatlint`: what it says where it has no answer ([`put_failure`],
+//! The words of the program `formatlint`: its lines where it has no answer ([`put_failure`],
 //! [`put_not_literal`]), and whether it uses colours ([`wants_colours`]).
 #![tactic(auto)]
 

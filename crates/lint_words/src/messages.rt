@@ -1,4 +1,4 @@
-//! What is written to standard error where there is no answer.
+//! The lines that are written to standard error where there is no answer.
 
 ghost use Rattle.std.specs.Prelude.{◌≡◌, ◌++◌, IsCharBoundary, OnOk, decimal, string_bytes};
 ghost use Rattle.lint_words.specs.Messages.{failure, not_literal, opening, reason, written};
@@ -30,8 +30,8 @@ fn put_opening(out: &mut String, path: &str) -> Result<(), AllocError>
     Ok(())
 }
 
-/// Returns why there is no answer, where `why` has the words of the system for a read or a write
-/// that failed, if it has any.
+/// Returns the reason why there is no answer. For a read or a write that failed, `why` has the
+/// words of the system, if it has any.
 fn reason<'a>(fault: RunFault, why: &'a str) -> &'a str
     ensures { result.now ≡ reason fault why.now }
 {
@@ -85,9 +85,9 @@ fn put_place(out: &mut String, place: Place) -> Result<(), AllocError>
     Ok(())
 }
 
-/// Appends the lines that say why the file with this path holds no string literal and where, and
-/// which option reads it as a text. Returns `Err` if an allocation fails, and a part of the lines
-/// may then be appended.
+/// Appends the lines that say why the file with this path holds no string literal, at which place,
+/// and which option reads it as a text. Returns `Err` if an allocation fails, and a part of the
+/// lines may then be appended.
 pub fn put_not_literal(
     out: &mut String,
     path: &str,

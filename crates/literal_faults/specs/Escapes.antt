@@ -1,4 +1,4 @@
--- What is wrong with an escape that is none of a string literal. The public rules are in the Rust
+-- The fault of an escape that is none of a string literal. The public rules are in the Rust
 -- Reference, string literals: QUOTE_ESCAPE, ASCII_ESCAPE and UNICODE_ESCAPE. The kinds and their
 -- order are those of the `EscapeError` of `rustc_lexer`. A closing quote ends an escape too early;
 -- where the text ends first, the literal has no closing quote.
@@ -23,19 +23,19 @@ use Rattle.literal_faults.specs.declared.fault.FaultKind.TheVariants.{OverlongUn
 use Rattle.literal_faults.specs.declared.fault.FaultKind.TheVariants.{LoneSurrogateUnicodeEscape}
 use Rattle.literal_faults.specs.declared.fault.FaultKind.TheVariants.{OutOfRangeUnicodeEscape}
 
--- What is left after the hexadecimal digit of a byte escape, or what is wrong where none is.
+-- The rest after the hexadecimal digit of a byte escape, or the fault if no digit comes next.
 abbrev pub after_digit : Text → Result Text FaultKind
 after_digit [] = Err UnterminatedString
 after_digit (c ∷ t) = if is_hex c then Ok t else
     Err (if c == code "\"" then TooShortHexEscape else InvalidCharInHexEscape c)
 
--- What is wrong after the first digit of a byte escape, where t is left. Two digits write a number
--- that is out of range.
+-- The fault of a byte escape after its first digit, where t is left. Two digits write a number that
+-- is out of range.
 abbrev pub second_fault : Result Text FaultKind → FaultKind
 second_fault (Err k) = k
 second_fault (Ok t) = OutOfRangeHexEscape
 
--- What is wrong with a byte escape, by what is after its `\x`.
+-- The fault of a byte escape, by the text after its `\x`.
 abbrev pub first_fault : Result Text FaultKind → FaultKind
 first_fault (Err k) = k
 first_fault (Ok t) = second_fault (after_digit t)
@@ -48,30 +48,30 @@ is_part c = is_hex c || is_underscore c
 unfoldable pub number : Text → Option ℕ
 number w = if nat_lt 6 (length (hex_digits w)) then None else Some (unicode_value w)
 
--- What is wrong with such a number, which is that of no character.
+-- The fault of such a number, which is the code of no character.
 abbrev pub number_fault : Option ℕ → FaultKind
 number_fault None = OverlongUnicodeEscape
 number_fault (Some n) =
     if nat_lt 0x10_FFFF n then OutOfRangeUnicodeEscape else LoneSurrogateUnicodeEscape
 
--- What is wrong with a Unicode escape with the digits w, by what is after these.
+-- The fault of a Unicode escape with the digits w, by the text after these.
 abbrev pub end_fault : Text → Text → FaultKind
 end_fault w [] = UnterminatedString
 end_fault w (c ∷ t) = if c == code "}" then number_fault (number w) else
     (if c == code "\"" then UnclosedUnicodeEscape else InvalidCharInUnicodeEscape c)
 
--- What is wrong with a Unicode escape, by what is after its opening brace.
+-- The fault of a Unicode escape, by the text after its opening brace.
 unfoldable pub braces_fault : Text → FaultKind
 braces_fault t = if begins_with (code "_") t then LeadingUnderscoreUnicodeEscape else
     (if begins_with (code "}") t then EmptyUnicodeEscape
     else end_fault (front is_part t) (behind is_part t))
 
--- What is wrong with a Unicode escape, by what is after its `\u`.
+-- The fault of a Unicode escape, by the text after its `\u`.
 abbrev pub unicode_fault : Text → FaultKind
 unicode_fault [] = UnterminatedString
 unicode_fault (c ∷ t) = if c == code "{" then braces_fault t else NoBraceInUnicodeEscape
 
--- What is wrong with an escape, by what is after its backslash.
+-- The fault of an escape, by the text after its backslash.
 abbrev pub escape_fault : Text → FaultKind
 escape_fault [] = UnterminatedString
 escape_fault (c ∷ t) = if c == code "x" then first_fault (after_digit t) else

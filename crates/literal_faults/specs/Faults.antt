@@ -1,4 +1,4 @@
--- Why a text is no string literal, and where.
+-- The reason why a text is no string literal, and its place.
 use Prim.Native.Char.{code}
 use Rattle.std.specs.Prelude.{◌≡◌, ◌⊎◌, ◌+◌, ◌++◌, ◌==◌, ℕ, Bool, true, false, not}
 use Rattle.std.specs.Prelude.{if◌then◌else◌, [], ◌∷◌, Option, Some, None, codes}
@@ -26,19 +26,19 @@ IsOrdinary t = (text : Text) × IsOrdinaryLiteral t text
 abbrev pub IsAnyLiteral : Text → Type 0
 IsAnyLiteral t = (style : Option ℕ) × (text : Text) × IsLiteral style t text
 
--- What follows a literal that is not alone.
+-- The fault of a literal that is not alone, by whether a suffix follows it.
 abbrev pub trailing : Bool → FaultKind
 trailing true = Suffix
 trailing false = Trailing
 
--- What is wrong at a place where no unit comes next. None if only the closing quote is left.
+-- The fault at a place where no unit comes next. None if only the closing quote is left.
 abbrev pub stop_fault : Text → Option FaultKind
 stop_fault [] = Some UnterminatedString
 stop_fault (c ∷ t) = if c == code "\"" then
     (if is_nil t then None else Some (trailing (first_passes is_id_start t))) else
     (if c == code "\\" then Some (escape_fault t) else Some BareCarriageReturn)
 
--- What is left of the text from the fault on: a closing quote is none.
+-- The rest of the text from the fault on: a closing quote is none.
 abbrev pub fault_rest : Text → Text
 fault_rest [] = []
 fault_rest (c ∷ t) = if c == code "\"" then t else c ∷ t
@@ -58,7 +58,7 @@ abbrev pub is_raw : Kind → Bool
 is_raw RawStr = true
 is_raw k = false
 
--- What is wrong with a raw string that is no literal alone.
+-- The fault of a raw string that is no literal alone.
 abbrev pub raw_fault : Lexeme → FaultKind
 raw_fault x = if x.is_ended then trailing (not (is_nil x.suffix)) else UnterminatedRawString
 

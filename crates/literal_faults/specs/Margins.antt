@@ -1,5 +1,5 @@
--- What may stand around the literal in a file: the byte order mark of UTF-8 at its start, and ASCII
--- white space (`char::is_ascii_whitespace`) before and after.
+-- The margins that may be around the literal in a file: the byte order mark of UTF-8 at its start,
+-- and ASCII white space (`char::is_ascii_whitespace`) before and after the literal.
 use Rattle.std.specs.Prelude.{◌≡◌, ◌+◌, ◌-◌, ◌≤◌, ◌++◌, ◌⊎◌, ℕ, List, [], ◌∷◌, length, Option}
 use Rattle.std.specs.Prelude.{Some, None}
 use Rattle.std.specs.Str.{IsTrimAsciiEnd, IsTrimAsciiStart}

@@ -28,21 +28,21 @@ use Rattle.literal_faults.specs.declared.fault.FaultKind.TheVariants.{OutOfRange
 use Rattle.literal_faults.specs.declared.fault.FaultKind.TheVariants.{BareCarriageReturn, Trailing}
 
 -- The title where a token of this kind stands in place of a string literal.
-abbrev pub found : Kind → List ℕ
-found ByteStr = codes "expected a string literal, found a byte string literal"
-found RawByteStr = codes "expected a string literal, found a byte string literal"
-found CStr = codes "expected a string literal, found a C string literal"
-found RawCStr = codes "expected a string literal, found a C string literal"
-found Byte = codes "expected a string literal, found a byte literal"
-found Char = codes "expected a string literal, which has double quotes"
-found Lifetime = codes "expected a string literal, which has double quotes"
-found RawLifetime = codes "expected a string literal, which has double quotes"
-found k = codes "expected a string literal"
+abbrev pub found_title : Kind → List ℕ
+found_title ByteStr = codes "expected a string literal, found a byte string literal"
+found_title RawByteStr = codes "expected a string literal, found a byte string literal"
+found_title CStr = codes "expected a string literal, found a C string literal"
+found_title RawCStr = codes "expected a string literal, found a C string literal"
+found_title Byte = codes "expected a string literal, found a byte literal"
+found_title Char = codes "expected a string literal, which has double quotes"
+found_title Lifetime = codes "expected a string literal, which has double quotes"
+found_title RawLifetime = codes "expected a string literal, which has double quotes"
+found_title k = codes "expected a string literal"
 
 -- The title of a fault.
 abbrev pub title : FaultKind → List ℕ
 title Missing = codes "expected a string literal, found nothing"
-title (NotString k) = found k
+title (NotString k) = found_title k
 title UnterminatedString = codes "unterminated double quote string"
 title UnterminatedRawString = codes "unterminated raw string"
 title (InvalidEscape c) = codes "unknown character escape"
@@ -64,11 +64,11 @@ title Suffix = codes "suffixes on string literals are invalid"
 title Trailing = codes "unexpected text after the string literal"
 
 -- The character that a message names.
-abbrev pub named : FaultKind → Option ℕ
-named (InvalidEscape c) = Some c
-named (InvalidCharInHexEscape c) = Some c
-named (InvalidCharInUnicodeEscape c) = Some c
-named k = None
+abbrev pub named_character : FaultKind → Option ℕ
+named_character (InvalidEscape c) = Some c
+named_character (InvalidCharInHexEscape c) = Some c
+named_character (InvalidCharInUnicodeEscape c) = Some c
+named_character k = None
 
 -- A character in a message: printable ASCII as it is, and any other as an escape.
 abbrev pub shown : ℕ → List ℕ
@@ -76,11 +76,11 @@ shown c = if is_in_range 0x20 0x7E c then c ∷ [] else
     (if c == code "\t" then codes "\\t" else (if c == code "\r" then codes "\\r" else
     (if c == code "\n" then codes "\\n" else codes "\\u{" ++ digits 16 false c ++ codes "}")))
 
--- What follows the title: the character that a message names, or nothing.
+-- The end of a message after its title: the character that it names, or nothing.
 abbrev pub named_end : Option ℕ → List ℕ
 named_end None = []
 named_end (Some c) = codes ": `" ++ (shown c ++ codes "`")
 
 -- The message of a fault.
 abbrev pub message : FaultKind → List ℕ
-message k = title k ++ named_end (named k)
+message k = title k ++ named_end (named_character k)

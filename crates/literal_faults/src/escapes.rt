@@ -1,4 +1,4 @@
-//! What is wrong with an escape.
+//! The faults of escapes.
 
 ghost use Rattle.std.specs.Prelude.{◌≡◌, Err, MatchResult, None, Ok, Some, chars, if◌then◌else◌};
 ghost use Rattle.std.specs.Char.{digit_value};
@@ -21,8 +21,8 @@ fn hex_digit(c: char) -> Option<u32>
     c.to_digit(16)
 }
 
-/// Returns what is left after the hexadecimal digit of a byte escape, or what is wrong where no
-/// digit comes next.
+/// Returns the rest after the hexadecimal digit of a byte escape, or the fault if no digit comes
+/// next.
 fn after_digit(text: &str) -> Result<&str, FaultKind>
     ensures { MatchResult result (λ r. after_digit (chars text.now) ≡ Ok (chars r.now))
         (λ k. after_digit (chars text.now) ≡ Err k) }
@@ -41,7 +41,7 @@ fn after_digit(text: &str) -> Result<&str, FaultKind>
     }
 }
 
-/// Returns what is wrong with a byte escape, by what is after its `\x`.
+/// Returns the fault of a byte escape, by the text after its `\x`.
 fn byte_fault(text: &str) -> FaultKind
     ensures { result ≡ first_fault (after_digit (chars text.now)) }
 {
@@ -78,7 +78,7 @@ fn number(text: &str) -> Option<u32>
     Some(value)
 }
 
-/// Returns what is wrong with the number that the digits at the start of a text write.
+/// Returns the fault of the number that the digits at the start of a text write.
 fn number_fault(text: &str) -> FaultKind
     ensures { result ≡ number_fault (number (front is_part (chars text.now))) }
 {
@@ -94,7 +94,7 @@ fn number_fault(text: &str) -> FaultKind
     }
 }
 
-/// Returns what is left of a text after the hexadecimal digits and `_` at its start.
+/// Returns the rest of a text after the hexadecimal digits and `_` at its start.
 fn behind_digits(text: &str) -> &str
     ensures { chars result.now ≡ behind is_part (chars text.now) }
 {
@@ -108,7 +108,7 @@ fn behind_digits(text: &str) -> &str
     rest
 }
 
-/// Returns what is wrong with a Unicode escape, by what is after its opening brace.
+/// Returns the fault of a Unicode escape, by the text after its opening brace.
 #[tactic(auto, unfolding(crate::specs::Escapes::braces_fault))]
 fn braces_fault(text: &str) -> FaultKind
     ensures { result ≡ braces_fault (chars text.now) }
@@ -126,7 +126,7 @@ fn braces_fault(text: &str) -> FaultKind
     }
 }
 
-/// Returns what is wrong with a Unicode escape, by what is after its `\u`.
+/// Returns the fault of a Unicode escape, by the text after its `\u`.
 fn unicode_fault(text: &str) -> FaultKind
     ensures { result ≡ unicode_fault (chars text.now) }
 {
@@ -137,7 +137,7 @@ fn unicode_fault(text: &str) -> FaultKind
     }
 }
 
-/// Returns what is wrong with an escape, by what is after its backslash.
+/// Returns the fault of an escape, by the text after its backslash.
 pub fn escape_fault(text: &str) -> FaultKind
     ensures { result ≡ escape_fault (chars text.now) }
 {

@@ -1,4 +1,4 @@
-//! Why a text is no string literal, and where.
+//! The reason why a text is no string literal, and its place.
 
 ghost use Rattle.std.specs.Prelude.{◌≡◌, ◌↔◌, [], ◌∷◌, IfSome, IsCharBoundary, IsNone, chars};
 ghost use Rattle.rustc_parse_format.specs.Characters.{is_id_start};
@@ -10,8 +10,8 @@ use crate::stops::behind_units;
 use piece_listing::literal::raw_text;
 use rust_tokens::{Kind, split_first, split_first_token};
 
-/// What is wrong with a text that is to be a string literal. The names of escapes are those of
-/// rustc's `EscapeError`.
+/// The kind of a fault of a text that is to be a string literal. The names of faults of escapes are
+/// those of rustc's `EscapeError`.
 #[derive(Copy, Clone, Debug, Eq, PartialEq)]
 pub enum FaultKind {
     /// The text is empty.
@@ -57,7 +57,7 @@ pub enum FaultKind {
 /// The reason why a text is no string literal.
 #[derive(Copy, Clone, Debug, Eq, PartialEq)]
 pub struct LiteralFault {
-    /// What is wrong.
+    /// The kind of the fault.
     pub kind: FaultKind,
     /// The byte offset up to which the text can be read as a string literal: that of the backslash
     /// of an escape that is wrong, and the end of the text if the literal lacks its closing quote.
@@ -71,7 +71,7 @@ fn is_id_start(c: char) -> bool
     c == '_' || unicode_ident::is_xid_start(c)
 }
 
-/// Returns what follows a literal that is not alone.
+/// Returns the fault of a literal that is not alone.
 fn trailing(is_suffix: bool) -> FaultKind
     ensures { result ≡ trailing is_suffix }
 {
@@ -82,8 +82,8 @@ fn trailing(is_suffix: bool) -> FaultKind
     }
 }
 
-/// Returns what is wrong at a place of an ordinary literal where no character and no escape comes
-/// next, or `None` if only the closing quote is left.
+/// Returns the fault at a place of an ordinary literal where no character and no escape comes next,
+/// or `None` if only the closing quote is left.
 fn stop_fault(text: &str) -> Option<FaultKind>
     ensures { result ≡ stop_fault (chars text.now) }
 {
@@ -98,7 +98,7 @@ fn stop_fault(text: &str) -> Option<FaultKind>
     }
 }
 
-/// Returns what is left of a text after a closing quote, or the text if it does not begin with one.
+/// Returns the rest of a text after a closing quote, or the text if it does not begin with one.
 fn behind_quote(text: &str) -> &str
     ensures { chars result.now ≡ fault_rest (chars text.now) }
 {
@@ -131,8 +131,8 @@ fn token_fault(text: &str) -> Option<LiteralFault>
     })
 }
 
-/// Returns the fault of a text by what is after the quote at its start, or `None` if the text is an
-/// ordinary string literal.
+/// Returns the fault of a text by the text after the quote at its start, or `None` if the text is
+/// an ordinary string literal.
 fn string_fault(text: &str, content: &str) -> Option<LiteralFault>
     requires { chars text.now ≡ 34 ∷ chars content.now }
     ensures literal { IsNone result ↔ IsOrdinary (chars text.now) }
@@ -147,7 +147,8 @@ fn string_fault(text: &str, content: &str) -> Option<LiteralFault>
     })
 }
 
-/// Returns why a text is no string literal and where, or `None` if it is one.
+/// Returns the reason why a text is no string literal, with its place, or `None` if the text is
+/// one.
 ///
 /// The fault is at the first place at which the text can no longer be read as a string literal. The
 /// rules are those of the Rust Reference, except that a raw literal may hold any character, and its

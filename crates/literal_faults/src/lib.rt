@@ -1,5 +1,5 @@
-//! Why a text is no string literal of Rust, and where, in the words of rustc ([`literal_fault`]).
-//! In a file white space may be around the literal ([`file_fault`]).
+//! The reason why a text is no string literal of Rust, and its place, in the words of rustc
+//! ([`literal_fault`]). In a file white space may be around the literal ([`file_fault`]).
 #![tactic(auto)]
 
 mod escapes;

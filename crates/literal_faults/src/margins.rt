@@ -1,4 +1,4 @@
-//! Where the text of a file is, without what may stand around a literal.
+//! The text of a file without the margins that may be around a literal.
 
 ghost use Rattle.std.specs.Prelude.{◌+◌, ◌-◌, ℕ, List, IfSome, IsCharBoundary, chars, length};
 ghost use Rattle.literal_faults.specs.Margins.{IsFaultIn, IsSnippet, IsUnmarked};
@@ -6,7 +6,7 @@ ghost use Rattle.literal_faults.specs.Margins.{IsFaultIn, IsSnippet, IsUnmarked}
 use crate::fault::{LiteralFault, literal_fault};
 use rust_tokens::split_first;
 
-/// The text of a file without what may stand around a literal.
+/// The text of a file without its margins.
 #[derive(Clone, Copy, Debug, Drop)]
 pub struct Snippet<'a> {
     /// The file without the byte order mark at its start.
@@ -17,7 +17,7 @@ pub struct Snippet<'a> {
     pub start: usize,
 }
 
-/// Returns what is left of a file after the byte order mark at its start, if it has one.
+/// Returns the rest of a file after the byte order mark at its start, if it has one.
 fn behind_mark(file: &str) -> &str
     ensures { IsUnmarked file.now result.now }
 {
@@ -42,9 +42,9 @@ pub fn snippet_of(file: &str) -> Snippet<'_>
     }
 }
 
-/// Returns why a file does not hold a string literal alone, and the place in the file, or `None` if
-/// it does. A byte order mark at the start of the file and ASCII white space around the literal are
-/// skipped ([`snippet_of`]). Does not allocate.
+/// Returns the reason why a file does not hold a string literal alone, with its place in the file,
+/// or `None` if it does. A byte order mark at the start of the file and ASCII white space around
+/// the literal are skipped ([`snippet_of`]). Does not allocate.
 pub fn file_fault(file: &str) -> Option<LiteralFault>
     ensures fault { (source text : List ℕ) × (start : ℕ) × IsSnippet file.now source text start
         × IsFaultIn (chars text) (length file.now - length source + start) result }

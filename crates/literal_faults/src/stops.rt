@@ -1,12 +1,12 @@
-//! Where a text can no longer be read as the content of an ordinary string literal.
+//! The place at which a text can no longer be read as the content of an ordinary string literal.
 
 ghost use Rattle.std.specs.Prelude.{chars};
 ghost use Rattle.literal_faults.specs.Stops.{StopsAt};
 
 use rustc_parse_format::literal::split_first_unit;
 
-/// Returns what is left of a text after the characters and escapes of an ordinary string literal
-/// that it begins with.
+/// Returns the rest of a text after the characters and escapes of an ordinary string literal that
+/// it begins with.
 pub fn behind_units(content: &str) -> &str
     ensures { StopsAt (chars content.now) (chars result.now) }
 {

@@ -1,15 +1,16 @@
 //! The messages of faults.
 
 ghost use Rattle.std.specs.Prelude.{◌≡◌, ◌++◌, OnOk, option_map, string_bytes};
-ghost use Rattle.literal_faults.specs.Words.{found, message, named, named_end, shown, title};
+ghost use Rattle.literal_faults.specs.Words.{found_title, message, named_character, named_end};
+ghost use Rattle.literal_faults.specs.Words.{shown, title};
 
 use crate::fault::FaultKind;
 use rust_tokens::Kind;
 use std::alloc::AllocError;
 
 /// Returns the title where a token of this kind stands in place of a string literal.
-fn found(kind: Kind) -> &'static str
-    ensures { result.now ≡ found kind }
+fn found_title(kind: Kind) -> &'static str
+    ensures { result.now ≡ found_title kind }
 {
     match kind {
         Kind::ByteStr | Kind::RawByteStr => {
@@ -30,7 +31,7 @@ fn title(kind: FaultKind) -> &'static str
 {
     match kind {
         FaultKind::Missing => "expected a string literal, found nothing",
-        FaultKind::NotString(token) => found(token),
+        FaultKind::NotString(token) => found_title(token),
         FaultKind::UnterminatedString => "unterminated double quote string",
         FaultKind::UnterminatedRawString => "unterminated raw string",
         FaultKind::InvalidEscape(_) => "unknown character escape",
@@ -56,8 +57,8 @@ fn title(kind: FaultKind) -> &'static str
 }
 
 /// Returns the character that the message of a fault names.
-fn named(kind: FaultKind) -> Option<char>
-    ensures { result ≡ named kind }
+fn named_character(kind: FaultKind) -> Option<char>
+    ensures { result ≡ named_character kind }
 {
     match kind {
         FaultKind::InvalidEscape(c)
@@ -94,7 +95,7 @@ impl FaultKind {
         ensures { OnOk result (string_bytes out.new ≡ string_bytes out.old ++ message self.now) }
     {
         out.push_str(title(*self))?;
-        if let Some(c) = named(*self) {
+        if let Some(c) = named_character(*self) {
             out.push_str(": `")?;
             put_shown(out, c)?;
             out.push_str("`")?;

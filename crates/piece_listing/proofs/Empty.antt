@@ -60,13 +60,13 @@ nothing-seen : (g : Option DeclaredGiven) → option_map seen_given g ≡ None �
 nothing-seen None e = refl
 nothing-seen (Some g) e = absurd cc
 
-pub asked-literal : (o : Option DeclaredTask) (t : DeclaredTask) (mode : Mode) (literal : Bool)
+pub task_of-literal : (o : Option DeclaredTask) (t : DeclaredTask) (mode : Mode) (literal : Bool)
     (a : Option Task) → option_map seen_task o ≡ a → o ≡ Some t
     → a ≡ Some (record { mode = mode; is_literal = literal; given = None })
     → (t.is_literal ≡ literal) × (t.given ≡ None)
-asked-literal o t mode literal a seen is asked =
+task_of-literal o t mode literal a seen is task_of =
     let same = same_Some (seen_task t) (record { mode = mode; is_literal = literal; given = None })
-    (ap (option_map seen_task) (sym is) ∙ seen ∙ asked) in
+    (ap (option_map seen_task) (sym is) ∙ seen ∙ task_of) in
     (ap (λ (a : Task). a.is_literal) same, nothing-seen t.given (ap (λ (a : Task). a.given) same))
 
 pub empty-read : (remaining : Option (List ℕ)) (items slice text : List ℕ) → remaining ≡ Some []
@@ -86,21 +86,22 @@ nothing_found (Some y) x bs literal e short found is =
     (chars (string_bytes y.0)) found
 
 -- what the program does with it
-pub empty-listed : (t : DeclaredTask) (lines : String Global) (told : Bool) (bs : List ℕ) → bs ≡ []
+pub empty-listed : (t : DeclaredTask) (lines : String Global) (has_ends : Bool) (bs : List ℕ)
+    → bs ≡ []
     → t.given ≡ None
     → (bs ≡ [] → t.is_literal ≡ true
-    → ◌≡◌ {A = Result (String Global × Bool) RunFault} (Ok (lines, told)) (Err NotLiteral))
+    → ◌≡◌ {A = Result (String Global × Bool) RunFault} (Ok (lines, has_ends)) (Err NotLiteral))
     → (s : Source) × IsSourceOf t.is_literal (chars bs) s
-    × IsListed (seen_task t) s (string_bytes lines, told)
-    → (t.is_literal ≡ false) × (string_bytes lines ≡ []) × (told ≡ false)
-empty-listed t lines told bs e bare refused found = by_literal t.is_literal refused found
+    × IsListed (seen_task t) s (string_bytes lines, has_ends)
+    → (t.is_literal ≡ false) × (string_bytes lines ≡ []) × (has_ends ≡ false)
+empty-listed t lines has_ends bs e bare refused found = by_literal t.is_literal refused found
   where
     by_literal : (literal : Bool)
         → (bs ≡ [] → literal ≡ true
-        → ◌≡◌ {A = Result (String Global × Bool) RunFault} (Ok (lines, told)) (Err NotLiteral))
+        → ◌≡◌ {A = Result (String Global × Bool) RunFault} (Ok (lines, has_ends)) (Err NotLiteral))
         → (s : Source) × IsSourceOf literal (chars bs) s
-        × IsListed (seen_task t) s (string_bytes lines, told)
-        → (literal ≡ false) × (string_bytes lines ≡ []) × (told ≡ false)
+        × IsListed (seen_task t) s (string_bytes lines, has_ends)
+        → (literal ≡ false) × (string_bytes lines ≡ []) × (has_ends ≡ false)
     by_literal true refused found = absurd (let no_listing = refused e refl in cc)
     by_literal false refused (s, is, (r, report, given)) =
         let none : r ≡ no_entries = rw bare at report in

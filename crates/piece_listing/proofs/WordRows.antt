@@ -9,7 +9,7 @@ use Rattle.placeholder_check.specs.Report.{Report}
 use Rattle.placeholder_check.proofs.Deciding.{report-decided}
 use Rattle.piece_listing.specs.Given.{Given, cut, given_by}
 use Rattle.piece_listing.specs.Listing.{flag_entries, report_lines, value_entries}
-use Rattle.piece_listing.specs.Program.{IsListed, Task, asked, errors, mode_named, pieces}
+use Rattle.piece_listing.specs.Program.{IsListed, Task, task_of, errors, mode_named, pieces}
 use Rattle.piece_listing.specs.Source.{bare_source}
 
 abbrev given_are : ℕ → List (List ℕ) → Option Given
@@ -64,43 +64,44 @@ no_list-sign : given_by (codes "+1") ≡ None
 unfolding cut
 no_list-sign = refl
 
-words-mode_alone : asked (codes "asm" ∷ []) ≡ asks InlineAsm false None
+words-mode_alone : task_of (codes "asm" ∷ []) ≡ asks InlineAsm false None
 unfolding mode_named
 words-mode_alone = refl
 
-words-names_alone : asked (codes "diagnostic-named" ∷ []) ≡ asks DiagnosticNamed false None
+words-names_alone : task_of (codes "diagnostic-named" ∷ []) ≡ asks DiagnosticNamed false None
 unfolding mode_named
 words-names_alone = refl
 
-words-literal : asked (codes "format" ∷ codes "--literal" ∷ []) ≡ asks Format true None
+words-literal : task_of (codes "format" ∷ codes "--literal" ∷ []) ≡ asks Format true None
 unfolding mode_named
 words-literal = refl
 
-words-list : asked (codes "diagnostic" ∷ codes "--args" ∷ codes "2,w" ∷ [])
+words-list : task_of (codes "diagnostic" ∷ codes "--args" ∷ codes "2,w" ∷ [])
     ≡ asks Diagnostic false (given_are 2 (codes "w" ∷ []))
 unfolding cut mode_named
 words-list = refl
 
-words-literal_and_list : asked (codes "format" ∷ codes "--literal" ∷ codes "--args" ∷ codes "0"
+words-literal_and_list : task_of (codes "format" ∷ codes "--literal" ∷ codes "--args" ∷ codes "0"
     ∷ []) ≡ asks Format true (given_are 0 [])
 unfolding cut mode_named
 words-literal_and_list = refl
 
-no_words-list_missing : asked (codes "format" ∷ codes "--args" ∷ []) ≡ None
+no_words-list_missing : task_of (codes "format" ∷ codes "--args" ∷ []) ≡ None
 unfolding mode_named
 no_words-list_missing = refl
 
-no_words-list_missing_behind_literal : asked (codes "format" ∷ codes "--literal" ∷ codes "--args"
+no_words-list_missing_behind_literal : task_of (codes "format" ∷ codes "--literal" ∷ codes "--args"
     ∷ []) ≡ None
 unfolding mode_named
 no_words-list_missing_behind_literal = refl
 
-no_words-literal_last : asked (codes "format" ∷ codes "--args" ∷ codes "1" ∷ codes "--literal" ∷ [])
+no_words-literal_last : task_of
+    (codes "format" ∷ codes "--args" ∷ codes "1" ∷ codes "--literal" ∷ [])
     ≡ None
 unfolding mode_named
 no_words-literal_last = refl
 
-no_words-no_list : asked (codes "format" ∷ codes "--args" ∷ codes "2," ∷ []) ≡ None
+no_words-no_list : task_of (codes "format" ∷ codes "--args" ∷ codes "2," ∷ []) ≡ None
 unfolding cut mode_named
 no_words-no_list = refl
 

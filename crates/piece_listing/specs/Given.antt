@@ -1,4 +1,4 @@
--- The list of arguments after `--args`: how many are given by position, and the names of the
+-- The list of arguments after `--args`: the number of those given by position, and the names of the
 -- others.
 use Prim.Native.Char.{code}
 use Rattle.std.specs.Prelude.{ℕ, Bool, not, ◌&&◌, ◌==◌, if◌then◌else◌, nat_lt, nat_le, List, []}
@@ -13,7 +13,7 @@ pub record Given : Type 0 where
   pub positional : ℕ
   pub names : List Text
 
--- What is before the first comma, and what is after each comma up to the next one.
+-- The text before the first comma, and the text after each comma up to the next one.
 unfoldable pub cut : List ℕ → List ℕ × List (List ℕ)
 cut [] = ([], [])
 cut (b ∷ bs) = if b == code "," then ([], (cut bs).0 ∷ (cut bs).1) else (b ∷ (cut bs).0, (cut bs).1)

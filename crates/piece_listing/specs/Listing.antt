@@ -118,7 +118,7 @@ piece_line (NextArgument a) =
     codes "arg " ++ (position_text a.position ++ (codes " " ++ (span_text a.position_span
     ++ (flag_entries a.format ++ (value_entries a.format ++ codes "\n")))))
 
--- The line of an error: where it is, and what it is.
+-- The line of an error: its span and its description.
 abbrev pub fault_line : Message Place → List ℕ
 fault_line m = codes "fault " ++ (span_text m.span ++ (codes " " ++ (m.description ++ codes "\n")))
 

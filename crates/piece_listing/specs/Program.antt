@@ -1,4 +1,4 @@
--- What the program has to do, by its arguments and for any bytes as its input.
+-- The answer that the program owes, by its arguments and for any bytes as its input.
 use Rattle.std.specs.Prelude.{◌≡◌, ◌≤◌, ◌<◌, ℕ, Bool, true, false, ◌&&◌, ◌||◌, if◌then◌else◌}
 use Rattle.std.specs.Prelude.{nat_lt, List, [], ◌∷◌, length}
 use Rattle.std.specs.Prelude.{Option, Some, None, Result, Ok, Err, bytes_eq, chars, codes}
@@ -22,7 +22,7 @@ use Rattle.piece_listing.specs.Given.{Given, given_by}
 abbrev pub limit : ℕ
 limit = 1048576
 
--- What the arguments of the program ask for.
+-- The task that the arguments of the program give.
 pub record Task : Type 0 where
   pub mode : Mode
   -- The input is a string literal, as written in a program.
@@ -48,18 +48,19 @@ abbrev pub task_with : Bool → Option Given → Option Mode → Option Task
 task_with literal None mode = None
 task_with literal (Some g) mode = task literal (Some g) mode
 
--- The task that the words ask for: the name of a mode, then perhaps `--literal`, then perhaps
--- `--args` and a list. None for any other words.
-abbrev pub asked : List (List ℕ) → Option Task
-asked [] = None
-asked (w ∷ []) = task false None (mode_named w)
-asked (w ∷ v ∷ []) = if bytes_eq v (codes "--literal") then task true None (mode_named w) else None
-asked (w ∷ v ∷ l ∷ []) = if bytes_eq v (codes "--args")
+-- The task that the words give: the name of a mode, then perhaps `--literal`, then perhaps `--args`
+-- and a list. None for any other words.
+abbrev pub task_of : List (List ℕ) → Option Task
+task_of [] = None
+task_of (w ∷ []) = task false None (mode_named w)
+task_of (w ∷ v ∷ []) = if bytes_eq v (codes "--literal") then task true None
+    (mode_named w) else None
+task_of (w ∷ v ∷ l ∷ []) = if bytes_eq v (codes "--args")
     then task_with false (given_by l) (mode_named w) else None
-asked (w ∷ u ∷ v ∷ l ∷ []) =
+task_of (w ∷ u ∷ v ∷ l ∷ []) =
     if bytes_eq u (codes "--literal") && bytes_eq v (codes "--args")
     then task_with true (given_by l) (mode_named w) else None
-asked (w ∷ u ∷ v ∷ l ∷ x ∷ ws) = None
+task_of (w ∷ u ∷ v ∷ l ∷ x ∷ ws) = None
 
 -- A parser at the start of this source.
 abbrev pub start : Mode → Source → State
@@ -98,7 +99,7 @@ has_entries r = nat_lt 0 (length r.missing_index)
 abbrev pub listed : Mode → Source → Report → List ℕ × Bool
 listed mode s r = (listing (pieces mode s) (errors mode s) r, is_faulty mode s || has_entries r)
 
--- The listing that the task asks for: that of the source with the report on its pieces.
+-- The listing of a task: that of the source with the report on its pieces.
 abbrev pub IsListed : Task → Source → List ℕ × Bool → Type 0
 IsListed a s x = (r : Report) × IsReportFor a.given (pieces a.mode s) r × (x ≡ listed a.mode s r)
 
@@ -106,7 +107,8 @@ IsListed a s x = (r : Report) × IsReportFor a.given (pieces a.mode s) r × (x �
 abbrev pub IsShort : List ℕ → Type 0
 IsShort input = length input ≤ limit
 
--- What is written and whether it has an error or an entry of a report, or why nothing is.
+-- The listing and whether it has an error or an entry of a report, or the reason why nothing is
+-- written.
 abbrev pub Answer : Type 0
 Answer = Result (List ℕ × Bool) RunFault
 
@@ -123,9 +125,9 @@ IsOwedFor a input (Err Read) = ⊥
 IsOwedFor a input (Err Memory) = ⊥
 IsOwedFor a input (Err Write) = ⊥
 
--- The answer to words that ask for a task, with this input.
+-- The answer to words that give a task, with this input.
 abbrev pub IsOwed : List (List ℕ) → List ℕ → Answer → Type 0
-IsOwed words input answer = (a : Task) × (asked words ≡ Some a) × IsOwedFor a input answer
+IsOwed words input answer = (a : Task) × (task_of words ≡ Some a) × IsOwedFor a input answer
 
 -- The answer for an empty input: it has no error, and is not a literal.
 abbrev pub empty_answer : Bool → Result Bool RunFault

@@ -1,4 +1,4 @@
--- What a contract sees of a task.
+-- A task and the arguments that are given, as a contract sees them.
 use Rattle.std.specs.Prelude.{ℕ, List, [], map, chars, Option, Some, None, option_map}
 use denote.Ref.{Bor}
 use Rattle.piece_listing.specs.declared.given.Given.{Given as DeclaredGiven}
@@ -8,7 +8,7 @@ use Rattle.rustc_parse_format.specs.Seen.{seen_mode}
 use Rattle.piece_listing.specs.Given.{Given, parts}
 use Rattle.piece_listing.specs.Program.{Task}
 
--- The names of a list, by what is after its first comma.
+-- The names of a list, by the text after its first comma.
 abbrev pub seen_names : Option (Bor (List ℕ)) → List Text
 seen_names None = []
 seen_names (Some w) = map chars (parts w.now)

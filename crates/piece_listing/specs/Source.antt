@@ -1,4 +1,4 @@
--- What the program gives the parser, for an input that is UTF-8.
+-- The source that the program gives the parser, for an input that is UTF-8.
 use Rattle.std.specs.Prelude.{◌≡◌, ℕ, ◌++◌, Bool, true, false, Option, Some, None}
 use Rattle.rustc_parse_format.specs.Characters.{Text}
 use Rattle.rustc_parse_format.specs.Literal.{IsLiteral, newline}
@@ -21,8 +21,8 @@ pub record IsInLiteral (input : Text) (s : Source) : Type 0 where
   pub is_literal : IsLiteral s.style literal s.text
   pub is_snippet : s.snippet ≡ Some literal
 
--- What the program gives the parser for this input. The flag says whether the input is read as a
--- literal.
+-- The source that the program gives the parser for this input. The flag says whether the input is
+-- read as a literal.
 abbrev pub IsSourceOf : Bool → Text → Source → Type 0
 IsSourceOf true input s = IsInLiteral input s
 IsSourceOf false input s = s ≡ bare_source input

@@ -1,5 +1,5 @@
-//! The lines of the pieces of a parser, each written as its call returns it: a placeholder is read
-//! into one argument again and again, so that a long text asks for no memory for each.
+//! The lines of the pieces of a parser, each written as its call returns it: all placeholders are
+//! read into one argument, so that a long text needs no memory for each.
 
 ghost use Rattle.std.specs.Prelude.{◌≡◌, ◌++◌, [], false, IfOk, IsOk, IsTrue, List, OnErr, OnOk};
 ghost use Rattle.std.specs.Prelude.{flat_map, option_map, string_bytes};
@@ -18,7 +18,7 @@ use std::alloc::AllocError;
 
 /// Makes the next call of a parser, and returns its piece. A placeholder is in `argument`. Returns
 /// `Err` if an allocation fails.
-fn next_taken<'a>(
+fn next_piece<'a>(
     parser: &mut Parser<'a>,
     argument: &mut Argument<'a>,
 ) -> Result<Option<Taken<'a>>, AllocError>
@@ -82,7 +82,7 @@ pub fn put_calls<'a>(
         position_span: 0..0,
         format: FormatSpec::default(),
     };
-    while let Some(taken) = next_taken(parser, &mut argument)? {
+    while let Some(taken) = next_piece(parser, &mut argument)? {
         put_taken(out, &taken, &argument)?;
         add_uses(used, compares, &taken, &argument)?;
     }

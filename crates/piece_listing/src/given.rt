@@ -22,7 +22,7 @@ pub struct Given<'a> {
     pub names: Option<&'a str>,
 }
 
-/// Returns what is before the first comma and what is after it, or `None` if there is no comma.
+/// Returns the text before the first comma and the text after it, or `None` if there is no comma.
 fn around_comma(text: &str) -> Option<(&str, &str)>
     ensures parts { MatchOption result
         (parts text.now ≡ text.now ∷ [])

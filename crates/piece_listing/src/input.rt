@@ -40,7 +40,8 @@ fn put_ends(
     ensures lines { OnOk result (string_bytes lines.new ≡ string_bytes lines.old
         ++ (flat_map fault_line (map seen_error errors.now)
         ++ report_lines (seen_report report.now))) }
-    ensures told { IfOk result (λ told. told ≡ (nat_lt 0 (length (map seen_error errors.now))
+    ensures has_ends { IfOk result (λ has_ends. has_ends
+        ≡ (nat_lt 0 (length (map seen_error errors.now))
         || has_entries (seen_report report.now))) }
     ensures empty { errors.now ≡ [] → seen_report report.now ≡ no_entries → IsOk result }
 {
@@ -49,7 +50,7 @@ fn put_ends(
     Ok(errors.len() > 0 || has_entries(report))
 }
 
-/// Returns the listing of what a parser reads up to the first call that returns `None`, with the
+/// Returns the listing of the pieces up to the first call of a parser that returns `None`, with the
 /// report on the arguments that are given, and whether there is a line that is not of a piece.
 /// Returns `Err` if an allocation fails.
 fn list_calls<'a>(
@@ -71,8 +72,8 @@ fn list_calls<'a>(
     let mut used = Uses::new(alloc);
     put_calls(&mut lines, &mut used, given.is_some(), parser)?;
     let report = report_for(alloc, &used, given)?;
-    let told = put_ends(&mut lines, parser.errors(), &report)?;
-    Ok((lines, told))
+    let has_ends = put_ends(&mut lines, parser.errors(), &report)?;
+    Ok((lines, has_ends))
 }
 
 /// Reads a text with a parser, and returns its listing and whether there is a line that is not of a
@@ -139,7 +140,7 @@ fn list_literal(alloc: Global, input: &str, task: Task<'_>) -> Result<(String, b
 }
 
 /// Returns the listing of an input, and whether there is a line that is not of a piece. Returns
-/// `Err` if the task asks for a string literal and the input is none, or if an allocation fails.
+/// `Err` if the task needs a string literal and the input is none, or if an allocation fails.
 pub fn list_input(alloc: Global, input: &str, task: Task<'_>) -> Result<(String, bool), RunFault>
     requires { IsShort input.now }
     ensures lines { IfOk result (λ x. (s : Source)

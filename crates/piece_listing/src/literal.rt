@@ -13,7 +13,7 @@ use rustc_parse_format::literal::{between_quotes, content_text};
 use std::alloc::{AllocError, Global};
 
 /// Returns a text without the character `c` at its end, or `None` if it does not end in `c`.
-fn in_front_of(text: &str, c: char) -> Option<&str>
+fn without_last(text: &str, c: char) -> Option<&str>
     requires { c < 128 }
     ensures front { MatchOption result
         ((t : Text) → t ++ c ∷ [] ≡ chars text.now → ⊥)
@@ -32,14 +32,14 @@ pub fn without_newline(text: &str) -> &str
         → ((t : Text) → t ++ newline true ≡ l → ⊥) → l ≡ chars result.now }
     ensures short { length result.now ≤ length text.now }
 {
-    match in_front_of(text, '\n') {
+    match without_last(text, '\n') {
         Some(line) => line,
         None => text,
     }
 }
 
 /// Returns a text without the character `c` at its start, or `None` if it does not begin with `c`.
-fn behind(text: &str, c: char) -> Option<&str>
+fn without_first(text: &str, c: char) -> Option<&str>
     requires { c < 128 }
     ensures rest { MatchOption result
         ((t : Text) → chars text.now ≡ c ∷ t → ⊥)
@@ -49,15 +49,15 @@ fn behind(text: &str, c: char) -> Option<&str>
     text.strip_prefix(c)
 }
 
-/// Returns the number of hashes at the start of a text, and what is after them.
-fn behind_hashes(text: &str) -> (usize, &str)
+/// Returns the number of hashes at the start of a text, and the text after them.
+fn leading_hashes(text: &str) -> (usize, &str)
     ensures all { chars text.now ≡ replicate result.0 35 ++ chars result.1.now }
     ensures no_more { (t : Text) → chars result.1.now ≡ 35 ∷ t → ⊥ }
     ensures few { result.0 + length result.1.now ≡ length text.now }
 {
     let mut count = 0;
     let mut rest = text;
-    while let Some(more) = behind(rest, '#') {
+    while let Some(more) = without_first(rest, '#') {
         rest = more;
         count += 1;
     }
@@ -65,14 +65,14 @@ fn behind_hashes(text: &str) -> (usize, &str)
 }
 
 /// Returns a text without `count` hashes at its end, or `None` if it does not end in as many.
-fn in_front_of_hashes(text: &str, count: usize) -> Option<&str>
+fn without_last_hashes(text: &str, count: usize) -> Option<&str>
     ensures { MatchOption result
         ((t : Text) → t ++ replicate count 35 ≡ chars text.now → ⊥)
         (λ t. chars t.now ++ replicate count 35 ≡ chars text.now) }
 {
     let mut rest = text;
     for _ in 0..count {
-        match in_front_of(rest, '#') {
+        match without_last(rest, '#') {
             Some(front) => rest = front,
             None => return None,
         }
@@ -88,9 +88,9 @@ pub fn raw_text(literal: &str) -> Option<(usize, &str)>
         (λ x. chars literal.now ≡ raw_frame x.0 (chars x.1.now)) }
     ensures few { IfSome result (λ x. x.0 ≤ length literal.now) }
 {
-    let (hashes, rest) = behind_hashes(behind(literal, 'r')?);
-    let rest = behind(rest, '"')?;
-    let text = in_front_of(in_front_of_hashes(rest, hashes)?, '"')?;
+    let (hashes, rest) = leading_hashes(without_first(literal, 'r')?);
+    let rest = without_first(rest, '"')?;
+    let text = without_last(without_last_hashes(rest, hashes)?, '"')?;
     Some((hashes, text))
 }
 

@@ -10,7 +10,7 @@ use itoa::{Buffer, write_digits};
 use std::alloc::AllocError;
 use std::ops::Range;
 
-/// The most bytes of a span behind a mark: the mark, two dots and two numbers of up to 20 digits.
+/// The most bytes of a span after a mark: the mark, two dots and two numbers of up to 20 digits.
 const SPAN_BYTES: usize = 43;
 
 /// Appends a label and then a number in decimal digits to `out`. Returns `Err` if an allocation

@@ -10,10 +10,10 @@ ghost use Rattle.piece_listing.specs.declared.verdict.RunFault.TheVariants.{Word
 ghost use Rattle.piece_listing.specs.declared.verdict.RunFault.TheVariants.{NotText, NotLiteral};
 ghost use Rattle.piece_listing.specs.declared.verdict.RunFault.TheVariants.{Read as ReadFault};
 ghost use Rattle.piece_listing.specs.declared.verdict.RunFault.TheVariants.{Write as WriteFault};
-ghost use Rattle.piece_listing.specs.Program.{Answer, IsOwed, asked, empty_answer, limit};
+ghost use Rattle.piece_listing.specs.Program.{Answer, IsOwed, task_of, empty_answer, limit};
 
 use super::input::list_input;
-use super::task::asked;
+use super::task::task_of;
 use super::verdict::RunFault;
 use std::alloc::Global;
 use std::io::{Read, Write};
@@ -21,7 +21,7 @@ use std::io::{Read, Write};
 /// The most bytes that an input may have.
 const LIMIT: usize = 1_048_576;
 
-/// The number of bytes that one read asks for.
+/// The number of bytes that one read requests.
 const CHUNK: usize = 4096;
 
 /// Reads all bytes of a reader up to its end. Returns `Err` if a read or an allocation fails, or if
@@ -88,14 +88,15 @@ pub fn run<R: Read, W: Write>(
     writer: &mut W,
     words: &[String],
 ) -> Result<bool, RunFault>
-    // The listing and the result are those that the definition `IsOwed` asks for.
-    ensures listing { IfOk result (λ told. IfSome (R.remaining reader.old) (λ input. (text : List ℕ)
-        × IsOwed (map string_bytes words.now) input (Ok (text, told))
+    // The listing and the result are those of the definition `IsOwed`.
+    ensures listing { IfOk result (λ has_ends. IfSome (R.remaining reader.old) (λ input.
+        (text : List ℕ)
+        × IsOwed (map string_bytes words.now) input (Ok (text, has_ends))
         × Appends (W.contents writer.old) (W.contents writer.new) text)) }
-    // The definition asks for one result.
+    // The definition has only one result.
     ensures one_answer { (ws : List (List ℕ)) (input : List ℕ) (x y : Answer) → IsOwed ws input x
         → IsOwed ws input y → x ≡ y }
-    ensures words { IsErrOf result Words ↔ (asked (map string_bytes words.now) ≡ None) }
+    ensures words { IsErrOf result Words ↔ (task_of (map string_bytes words.now) ≡ None) }
     // Invalid words are found before anything is read.
     ensures unread { IsErrOf result Words → reader.new ≡ reader.old }
     ensures too_long { IsErrOf result TooLong → IfSome (R.remaining reader.old)
@@ -106,14 +107,14 @@ pub fn run<R: Read, W: Write>(
         (λ input. IsOwed (map string_bytes words.now) input (Err NotLiteral)) }
     // If the input is empty and no list of arguments is given, nothing is written, and the result
     // is `empty_answer` unless a read fails.
-    ensures empty { (mode : Mode) (literal : Bool) → asked (map string_bytes words.now)
+    ensures empty { (mode : Mode) (literal : Bool) → task_of (map string_bytes words.now)
         ≡ Some (record { mode = mode; is_literal = literal; given = None })
         → R.remaining reader.old ≡ Some [] → (writer.new ≡ writer.old)
         × ((result ≡ empty_answer literal) ⊎ (result ≡ Err ReadFault)) }
     // After any error other than a failed write, nothing is written.
     ensures unwritten { IfErr result (λ fault. fault ≢ WriteFault → writer.new ≡ writer.old) }
 {
-    let task = match asked(words) {
+    let task = match task_of(words) {
         Some(task) => task,
         None => return Err(RunFault::Words),
     };
@@ -121,7 +122,7 @@ pub fn run<R: Read, W: Write>(
     let Ok(text) = str::from_utf8(input.as_slice()) else {
         return Err(RunFault::NotText);
     };
-    let (lines, told) = list_input(alloc, text, task)?;
+    let (lines, has_ends) = list_input(alloc, text, task)?;
     write_whole(writer, lines.as_bytes())?;
-    Ok(told)
+    Ok(has_ends)
 }

@@ -3,13 +3,13 @@
 ghost use Rattle.std.specs.Prelude.{◌≡◌, map, option_map, string_bytes};
 ghost use Rattle.rustc_parse_format.specs.Seen.{seen_mode};
 ghost use Rattle.piece_listing.specs.Given.{given_by};
-ghost use Rattle.piece_listing.specs.Program.{asked, mode_named, task, task_with};
+ghost use Rattle.piece_listing.specs.Program.{task_of, mode_named, task, task_with};
 ghost use Rattle.piece_listing.specs.SeenTask.{seen_given, seen_task};
 
 use super::given::{Given, given_by};
 use rustc_parse_format::ParseMode;
 
-/// What the command-line arguments ask for.
+/// The task that the command-line arguments give.
 #[derive(Copy, Clone)]
 pub struct Task<'a> {
     pub mode: ParseMode,
@@ -60,9 +60,9 @@ fn task_with<'a>(word: &str, is_literal: bool, list: &'a str) -> Option<Task<'a>
     task_in(word, is_literal, Some(given))
 }
 
-/// Returns what the command-line arguments ask for, or `None` if they are invalid.
-pub fn asked(words: &[String]) -> Option<Task<'_>>
-    ensures { option_map seen_task result ≡ asked (map string_bytes words.now) }
+/// Returns the task that the command-line arguments give, or `None` if they are invalid.
+pub fn task_of(words: &[String]) -> Option<Task<'_>>
+    ensures { option_map seen_task result ≡ task_of (map string_bytes words.now) }
 {
     match words {
         [word] => task_in(word.as_str(), false, None),

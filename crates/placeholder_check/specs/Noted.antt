@@ -1,4 +1,4 @@
--- What is known of the uses while they are collected.
+-- The uses of arguments while they are collected.
 use Rattle.std.specs.Prelude.{◌≡◌, ℕ, Bool, false, ◌||◌, ◌==◌, List, [], ◌++◌, get_or, take}
 use Rattle.std.specs.BTreeSet.{BTreeSet, contains, contains_by}
 use Rattle.std.specs.Ordering.{nat_cmp}

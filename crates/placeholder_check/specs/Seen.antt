@@ -1,4 +1,4 @@
--- What a contract sees of a report and of names: texts as their characters.
+-- A report and names as a contract sees them: texts as their characters.
 use Rattle.std.specs.Prelude.{ℕ, List, map, chars}
 use denote.Ref.{Bor}
 use Rattle.rustc_parse_format.specs.Characters.{Text}

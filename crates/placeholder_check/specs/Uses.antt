@@ -1,4 +1,4 @@
--- Which arguments the placeholders of a text use. The public rules are in the documentation of
+-- The arguments that the placeholders of a text use. The public rules are in the documentation of
 -- `std::fmt`: positional parameters, named parameters, and `n$`, `name$` and `.*` as a width or a
 -- precision.
 use Rattle.std.specs.Prelude.{ℕ, List, [], ◌∷◌, ◌++◌, Option, Some, None, flat_map}

@@ -11,4 +11,4 @@ mod uses;
 
 pub use checker::{Report, check, check_uses};
 pub use reading::read_and_check;
-pub use uses::Uses;
+pub use uses::{Uses, uses_of};

@@ -28,9 +28,8 @@ use std::alloc::{AllocError, Global};
 /// `names` by name. The number of hashes, the length of the input in bytes, and 2 must together fit
 /// into a `usize`.
 ///
-/// The grammar is that of the documentation of `std::fmt`, as rustc's parser reads it. Errors in
-/// the input are in the `errors` of the parser. Returns `Err` if an allocation fails; nothing else
-/// is then returned.
+/// The grammar is that of the documentation of `std::fmt`, as rustc's parser reads it. The errors
+/// of the input are in the `errors` of the parser. Returns `Err` if an allocation fails.
 pub fn read_and_check<'a>(
     alloc: Global,
     input: &'a str,

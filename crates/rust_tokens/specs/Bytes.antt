@@ -21,8 +21,8 @@ is_plain_start b = (b == code "_" || is_ascii_alphabetic b)
 abbrev pub is_prefix_letter : ℕ → Bool
 is_prefix_letter b = b == code "b" || (b == code "c" || b == code "r")
 
--- These two bytes begin a word: the first cannot begin a prefix, or the second does not go on with
--- one.
+-- These two bytes begin a word: the first cannot begin a prefix, or the second does not continue
+-- it.
 abbrev pub begins_word : ℕ → ℕ → Bool
 begins_word b d = is_plain_start b
     || (is_prefix_letter b && (is_ascii_in is_id_continue d && not (d == code "r")))

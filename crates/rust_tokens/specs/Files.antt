@@ -19,7 +19,7 @@ is_gap LineComment = true
 is_gap BlockComment = true
 is_gap k = false
 
--- What stands in front of the tokens of a file.
+-- A token that stands before the others of a file.
 abbrev pub is_head : Kind → Bool
 is_head ByteOrderMark = true
 is_head Shebang = true
@@ -33,7 +33,7 @@ is_bracket c = c == code "["
 abbrev pub is_mark : ℕ → Bool
 is_mark c = c == 0xFEFF
 
--- The text goes on with `[` behind white space and comments.
+-- The text goes on with `[` after white space and comments.
 abbrev pub OpensAttribute : Text → Type 0
 OpensAttribute t = (xs : List Lexeme) × (r : Text) × ReadsTo t xs r
     × IsTrue (list_all (λ x. is_gap x.kind) xs) × IsTrue (first_passes is_bracket r)
@@ -42,7 +42,7 @@ OpensAttribute t = (xs : List Lexeme) × (r : Text) × ReadsTo t xs r
 abbrev pub mark : Lexeme
 mark = record { kind = ByteOrderMark; is_ended = true; body = 0xFEFF ∷ []; suffix = [] }
 
--- The shebang with this text behind its `#!`.
+-- The shebang with this text after its `#!`.
 abbrev pub shebang : Text → Lexeme
 shebang u = record { kind = Shebang; is_ended = true; body = codes "#!" ++ u; suffix = [] }
 

@@ -22,7 +22,7 @@ is_exponent_mark c = c == code "e" || c == code "E"
 abbrev pub is_sign : ℕ → Bool
 is_sign c = c == code "+" || c == code "-"
 
--- What may not stand behind the point of a number.
+-- The character may not stand after the point of a number.
 abbrev pub is_point_or_start : ℕ → Bool
 is_point_or_start c = c == code "." || is_id_start c
 
@@ -30,29 +30,29 @@ is_point_or_start c = c == code "." || is_id_start c
 abbrev pub IsDigits : Text → Type 0
 IsDigits t = IsRun is_digit is_digit_part t
 
--- FLOAT_EXPONENT, by its mark, its sign, the `_`s behind that, the first digit and the rest.
+-- FLOAT_EXPONENT, by its mark, its sign, the `_`s after that, the first digit and the rest.
 abbrev pub IsExponent : Text → Type 0
 IsExponent t = (c : ℕ) × (s us : Text) × (d : ℕ) × (w : Text) × IsTrue (is_exponent_mark c)
     × ((s ≡ []) ⊎ ((m : ℕ) × IsTrue (is_sign m) × (s ≡ m ∷ [])))
     × IsTrue (list_all is_underscore us) × IsTrue (is_digit d) × IsTrue (list_all is_digit_part w)
     × (t ≡ c ∷ (s ++ (us ++ d ∷ w)))
 
--- What is left behind a sign, or all if there is none.
+-- The rest after a sign, or all if there is none.
 abbrev pub behind_sign : Text → Text
 behind_sign [] = []
 behind_sign (c ∷ t) = if is_sign c then t else c ∷ t
 
--- What is left behind digits that have begun.
+-- The rest after digits that have begun.
 abbrev pub behind_digits : Text → Option Text
 behind_digits t = if first_passes is_digit t then Some (behind is_digit_part t) else None
 
--- What is left behind an exponent. None if the text begins with none.
+-- The rest after an exponent. None if the text begins with none.
 abbrev pub behind_exponent : Text → Option Text
 behind_exponent [] = None
 behind_exponent (c ∷ t) = if is_exponent_mark c
     then behind_digits (behind is_underscore (behind_sign t)) else None
 
--- What is left behind a point that belongs to the number in front. None if there is none.
+-- The rest after a point that belongs to the number before it. None if there is none.
 abbrev pub behind_point : Text → Option Text
 behind_point [] = None
 behind_point (c ∷ t) =
@@ -65,12 +65,13 @@ is_based (c ∷ []) = false
 is_based (c ∷ d ∷ t) =
     c == code "0" && (d == code "b" || (d == code "o" || d == code "x"))
 
--- The digits b, with the text a behind them, are a whole number.
+-- The digits b, with the text a after them, are a whole number.
 abbrev pub IsDecimal : Text → Text → Type 0
 IsDecimal b a = IsDigits b × IsTrue (stops is_digit_part a) × (behind_point a ≡ None)
     × HasNoFront IsExponent a × (is_based (b ++ a) ≡ false)
 
--- A base's letter, digits of a class with `_`, and no more of them in the text a behind.
+-- A base's letter, digits of a class with `_`, and no more of them at the start of the text a after
+-- them.
 abbrev pub IsBased : ℕ → (ℕ → Bool) → Text → Text → Type 0
 IsBased letter p b a = (w : Text) × IsTrue (list_all p w) × (b ≡ code "0" ∷ letter ∷ w)
     × IsTrue (stops p a)

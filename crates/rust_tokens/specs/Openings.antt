@@ -1,4 +1,5 @@
--- What begins with letters and is no plain word: literals with a prefix, and raw identifiers.
+-- Tokens that begin with letters and are no plain word: literals with a prefix, and raw
+-- identifiers.
 use Prim.Native.Char.{code}
 use Rattle.std.specs.Prelude.{◌≡◌, ◌⊎◌, ◌++◌, ◌&&◌, ◌==◌, ℕ, if◌then◌else◌, IsTrue, [], ◌∷◌}
 use Rattle.std.specs.Prelude.{Option, Some, None, option_map, codes, replicate}
@@ -20,13 +21,13 @@ IsRawOpening p = (n : ℕ) × ((p ≡ codes "r" ++ (replicate n (code "#") ++ co
     ⊎ ((p ≡ codes "br" ++ (replicate n (code "#") ++ codes "\""))
     ⊎ (p ≡ codes "cr" ++ (replicate n (code "#") ++ codes "\""))))
 
--- What begins a literal in quotes or a raw identifier: an opening as above, or `r#` and the first
--- character of a word.
+-- The text begins a literal in quotes or a raw identifier: an opening as above, or `r#` and the
+-- first character of a word.
 abbrev pub IsOpening : Text → Type 0
 IsOpening p = IsQuoteOpening p ⊎ (IsRawOpening p
     ⊎ ((c : ℕ) × IsTrue (is_id_start c) × (p ≡ codes "r#" ++ (c ∷ []))))
 
--- Hashes and a quote: the opening of a raw string of this kind, and what is left behind it.
+-- Hashes and a quote: the opening of a raw string of this kind, and the rest after it.
 abbrev pub raw_opening : Kind → Text → Option (Opening × Text)
 raw_opening k t = option_map (λ u. (Raw k (count is_hash t), u)) (strip (code "\"")
     (behind is_hash t))
@@ -37,21 +38,21 @@ word_opening [] = None
 word_opening (c ∷ []) = None
 word_opening (c ∷ d ∷ t) = if c == code "#" && is_id_start d then Some (RawWord, t) else None
 
--- Behind a `b`: `b"`, `b'`, `br"`, `br#"` and so on.
+-- The opening that has a `b` before this text: `b"`, `b'`, `br"`, `br#"` and so on.
 abbrev pub byte_opening : Text → Option (Opening × Text)
 byte_opening [] = None
 byte_opening (c ∷ t) = if c == code "\"" then Some (Quote ByteStr, t) else
     (if c == code "'" then Some (ByteQuote, t) else
     (if c == code "r" then raw_opening RawByteStr t else None))
 
--- Behind a `c`: `c"`, `cr"`, `cr#"` and so on.
+-- The opening that has a `c` before this text: `c"`, `cr"`, `cr#"` and so on.
 abbrev pub c_opening : Text → Option (Opening × Text)
 c_opening [] = None
 c_opening (c ∷ t) = if c == code "\"" then Some (Quote CStr, t) else
     (if c == code "r" then raw_opening RawCStr t else None)
 
--- The opening of a literal in quotes, of a byte or of a raw identifier, and what is left behind it:
--- `"`, `b"`, `c"`, `b'`; `r`, `br` or `cr` with any number of hashes and `"`; `r#` and the first
+-- The opening of a literal in quotes, of a byte or of a raw identifier, and the rest after it: `"`,
+-- `b"`, `c"`, `b'`; `r`, `br` or `cr` with any number of hashes and `"`; `r#` and the first
 -- character of a word. None if none of these is at the start.
 abbrev pub first_opening : Text → Option (Opening × Text)
 first_opening [] = None

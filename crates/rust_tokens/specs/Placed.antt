@@ -1,4 +1,4 @@
--- Where the tokens of a text are, in bytes.
+-- The byte ranges of the tokens of a text.
 use Rattle.std.specs.Prelude.{ℕ, true, ◌+◌, List, [], ◌∷◌, nat_lt, if◌then◌else◌}
 use Rattle.std.specs.Char.{len_utf8}
 use Rattle.rust_tokens.specs.declared.kinds.Kind.{Kind}
@@ -11,7 +11,7 @@ abbrev pub byte_length : Text → ℕ
 byte_length [] = 0
 byte_length (c ∷ t) = len_utf8 c + byte_length t
 
--- Where the token ends that begins at this offset.
+-- The end of the token that begins at this offset.
 abbrev pub end_of : ℕ → Lexeme → ℕ
 end_of at x = at + byte_length x.body + byte_length x.suffix
 
@@ -29,7 +29,7 @@ abbrev pub placed : ℕ → List Lexeme → List Token
 placed at [] = []
 placed at (x ∷ xs) = token_at at x ∷ placed (end_of at x) xs
 
--- Where the last one ends.
+-- The end of the last of these tokens.
 abbrev pub end_of_all : ℕ → List Lexeme → ℕ
 end_of_all at [] = at
 end_of_all at (x ∷ xs) = end_of_all (end_of at x) xs

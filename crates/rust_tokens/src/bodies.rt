@@ -1,4 +1,4 @@
-//! A token without its suffix, and what is left after it.
+//! A token without its suffix, and the rest after it.
 
 ghost use Rattle.std.specs.Prelude.{◌≡◌, chars, false, true};
 ghost use Rattle.rust_tokens.specs.Seen.{seen};
@@ -12,12 +12,12 @@ pub struct Body<'a> {
     pub kind: Kind,
     /// Whether it has its end.
     pub is_ended: bool,
-    /// What is left after it: its suffix, and what follows.
+    /// The rest after it: its suffix, and the text that follows.
     pub rest: &'a str,
 }
 
 /// Returns the token of this kind after which `rest` is left.
-pub fn ended(kind: Kind, rest: &str) -> Body<'_>
+pub fn ended_token(kind: Kind, rest: &str) -> Body<'_>
     ensures { seen result ≡ (kind, true, chars rest.now) }
 {
     Body {
@@ -28,7 +28,7 @@ pub fn ended(kind: Kind, rest: &str) -> Body<'_>
 }
 
 /// Returns the token of this kind without its end after which `rest` is left.
-pub fn unended(kind: Kind, rest: &str) -> Body<'_>
+pub fn unended_token(kind: Kind, rest: &str) -> Body<'_>
     ensures { seen result ≡ (kind, false, chars rest.now) }
 {
     Body {

@@ -1,5 +1,5 @@
-//! Where literals and comments have their end, found in the bytes of a text. What marks an end is
-//! ASCII, and no byte of another character is.
+//! The ends of literals and comments, found in the bytes of a text. The marks of an end are ASCII,
+//! and no byte of any other character is.
 
 ghost use Rattle.std.specs.Prelude.{◌≡◌, chars, false, option_map};
 ghost use Rattle.rust_tokens.specs.Comments.{behind_comment};
@@ -8,7 +8,7 @@ ghost use Rattle.rust_tokens.specs.Runs.{behind, is_in_line};
 ghost use Rattle.rust_tokens.specs.Strings.{behind_string};
 ghost use Rattle.rust_tokens.specs.Texts.{IsRest};
 
-/// Returns what is left of a text, where these bytes are left of its bytes.
+/// Returns the rest of a text, where these bytes are left of its bytes.
 #[inline(always)]
 fn rest_of<'a>(text: &'a str, bytes: &[u8]) -> &'a str
     requires { IsRest text.now bytes.now }
@@ -17,8 +17,8 @@ fn rest_of<'a>(text: &'a str, bytes: &[u8]) -> &'a str
     &text[text.len() - bytes.len()..]
 }
 
-/// Returns what is left after the closing quote of a string with escapes, from after its opening
-/// quote on, or `None` if it has no end.
+/// Returns the rest after the closing quote of a string with escapes, from after its opening quote
+/// on, or `None` if it has no end.
 #[tactic(auto, unfolding(crate::specs::Strings::behind_string), using(crate::proofs::AsciiMarks::string_ends))]
 pub fn behind_string(text: &str) -> Option<&str>
     ensures { option_map (λ r. chars r.now) result ≡ behind_string false (chars text.now) }
@@ -38,8 +38,8 @@ pub fn behind_string(text: &str) -> Option<&str>
     None
 }
 
-/// Returns what is left after the end of a block comment, from after its `/*` on, or `None` if it
-/// has no end.
+/// Returns the rest after the end of a block comment, from after its `/*` on, or `None` if it has
+/// no end.
 #[tactic(auto, unfolding(crate::specs::Comments::behind_comment), using(crate::proofs::AsciiMarks::comment_ends))]
 pub fn behind_comment(text: &str) -> Option<&str>
     ensures { option_map (λ r. chars r.now) result ≡ behind_comment 0 0 (chars text.now) }
@@ -85,7 +85,7 @@ fn behind_hashes(bytes: &[u8], hashes: usize) -> Option<&[u8]>
     Some(rest)
 }
 
-/// Returns what is left after the end of a raw string with this many hashes, from after its opening
+/// Returns the rest after the end of a raw string with this many hashes, from after its opening
 /// quote on, or `None` if it has no end.
 #[tactic(auto, unfolding(crate::specs::RawStrings::behind_raw), using(crate::proofs::AsciiMarks::raw_ends))]
 pub fn behind_raw(text: &str, hashes: usize) -> Option<&str>

@@ -9,7 +9,7 @@ ghost use Rattle.rust_tokens.specs.Seen.{seen};
 ghost use Rattle.rust_tokens.specs.Texts.{Text};
 ghost use Rattle.rust_tokens.specs.Tokens.{is_literal};
 
-use crate::bodies::{Body, ended, unended};
+use crate::bodies::{Body, ended_token, unended_token};
 use crate::bytes::{is_plain_start, is_prefix_letter, is_sign, is_space_byte, is_word_byte};
 use crate::ends::{behind_comment, behind_line, behind_raw, behind_string};
 use crate::kinds::Kind;
@@ -21,12 +21,12 @@ use crate::texts::{
 };
 
 /// Returns the token with this end, or the one that is not ended, which takes all.
-fn closed<'a>(kind: Kind, end: Option<&'a str>) -> Body<'a>
+fn closed_token<'a>(kind: Kind, end: Option<&'a str>) -> Body<'a>
     ensures { seen result ≡ closed kind (option_map (λ r. chars r.now) end.entry) }
 {
     match end {
-        Some(rest) => ended(kind, rest),
-        None => unended(kind, ""),
+        Some(rest) => ended_token(kind, rest),
+        None => unended_token(kind, ""),
     }
 }
 
@@ -35,16 +35,16 @@ fn first_slashed(text: &str) -> Body<'_>
     ensures { seen result ≡ first_slashed (chars text.now) }
 {
     let Some((c, rest)) = split_first(text) else {
-        return ended(Kind::Punct, text);
+        return ended_token(Kind::Punct, text);
     };
     if c == '/' {
         let kind = line_kind(rest);
-        return ended(kind, behind_line(rest));
+        return ended_token(kind, behind_line(rest));
     }
     if c == '*' {
-        return closed(block_kind(rest), behind_comment(rest));
+        return closed_token(block_kind(rest), behind_comment(rest));
     }
-    ended(Kind::Punct, text)
+    ended_token(Kind::Punct, text)
 }
 
 /// Returns the token that begins with an apostrophe before the text.
@@ -52,15 +52,15 @@ fn first_quoted(text: &str) -> Body<'_>
     ensures { seen result ≡ first_quoted (chars text.now) }
 {
     if let Some(rest) = behind_char(text) {
-        return ended(Kind::Char, rest);
+        return ended_token(Kind::Char, rest);
     }
     if let Some(rest) = behind_raw_name(text) {
-        return ended(Kind::RawLifetime, rest);
+        return ended_token(Kind::RawLifetime, rest);
     }
     if let Some(rest) = behind_name(text) {
-        return ended(Kind::Lifetime, rest);
+        return ended_token(Kind::Lifetime, rest);
     }
-    unended(Kind::Char, text)
+    unended_token(Kind::Char, text)
 }
 
 /// Returns the token that begins with `c` before the text and has no opening.
@@ -69,7 +69,7 @@ fn first_plain(c: char, text: &str) -> Body<'_>
 {
     if is_id_start(c) {
         let rest = behind_run(text, Class::Continue);
-        return ended(Kind::Ident, rest);
+        return ended_token(Kind::Ident, rest);
     }
     if c.is_ascii_digit() {
         return first_number(c, text);
@@ -85,25 +85,25 @@ fn first_plain(c: char, text: &str) -> Body<'_>
     } else {
         Kind::Unknown
     };
-    ended(kind, text)
+    ended_token(kind, text)
 }
 
 /// Returns the token that goes on with the text after this opening.
-fn opened(opening: Opening, text: &str) -> Body<'_>
+fn opened_token(opening: Opening, text: &str) -> Body<'_>
     ensures { (c : ℕ) (t : Text) → seen result ≡ by_opening c t (Some (opening, chars text.now)) }
 {
     match opening {
-        Opening::Quote(kind) => closed(kind, behind_string(text)),
-        Opening::Raw(kind, hashes) => closed(kind, behind_raw(text, hashes)),
+        Opening::Quote(kind) => closed_token(kind, behind_string(text)),
+        Opening::Raw(kind, hashes) => closed_token(kind, behind_raw(text, hashes)),
         Opening::ByteQuote => {
             match behind_char(text) {
-                Some(rest) => ended(Kind::Byte, rest),
-                None => unended(Kind::Byte, text),
+                Some(rest) => ended_token(Kind::Byte, rest),
+                None => unended_token(Kind::Byte, text),
             }
         }
         Opening::RawWord => {
             let rest = behind_run(text, Class::Continue);
-            ended(Kind::RawIdent, rest)
+            ended_token(Kind::RawIdent, rest)
         }
     }
 }
@@ -117,10 +117,10 @@ pub fn first_body(text: &str) -> Option<Body<'_>>
     };
     if is_space(c) {
         let rest = behind_run(rest, Class::Space);
-        return Some(ended(Kind::Whitespace, rest));
+        return Some(ended_token(Kind::Whitespace, rest));
     }
     match first_opening(text) {
-        Some((opening, rest)) => Some(opened(opening, rest)),
+        Some((opening, rest)) => Some(opened_token(opening, rest)),
         None => Some(first_plain(c, rest)),
     }
 }
@@ -147,7 +147,7 @@ fn is_literal(kind: Kind) -> bool
     )
 }
 
-/// Returns what is left after a token with its suffix.
+/// Returns the rest after a token with its suffix.
 pub fn behind_suffix(body: Body<'_>) -> &str
     ensures { chars result.now
         ≡ behind_suffix (is_literal body.entry.kind && body.entry.is_ended)
@@ -168,7 +168,7 @@ pub fn behind_suffix(body: Body<'_>) -> &str
 
 /// Returns the second byte, or 0 if there is none.
 #[inline(always)]
-fn second(bytes: &[u8]) -> u8
+fn second_byte(bytes: &[u8]) -> u8
     ensures { result ≡ slice_index bytes.now 1 }
 {
     if bytes.len() > 1 { bytes[1] } else { 0 }
@@ -183,14 +183,14 @@ fn begins_word(bytes: &[u8]) -> bool
     if is_plain_start(bytes[0]) {
         return true;
     }
-    let second = second(bytes);
+    let second = second_byte(bytes);
     is_prefix_letter(bytes[0]) && is_word_byte(second) && second != b'r'
 }
 
-/// Returns the kind of the first token and what is left after it if it is one of those of which
-/// there are most, which are no literals: punctuation, and white space and words of ASCII. Returns
-/// `None` of other tokens, of some words that begin as a prefix does, of a word or white space with
-/// a character outside ASCII right behind it, and of the empty text.
+/// Returns the kind of the first token and the rest after it, if the token is of the most frequent
+/// kinds, which are no literals: punctuation, and white space and words of ASCII. Returns `None`
+/// for other tokens, for some words that begin as a prefix does, for a word or white space with a
+/// character outside ASCII right after it, and for the empty text.
 #[inline(always)]
 pub fn plain_token(text: &str) -> Option<(Kind, &str)>
     ensures first { IfSome result

@@ -8,25 +8,25 @@ use std::ops::Range;
 pub enum Kind {
     /// White space: Unicode's `Pattern_White_Space`.
     Whitespace,
-    /// A comment of one line, without its LF. A CR in front of that LF belongs to it.
+    /// A comment of one line, without its LF. A CR before that LF belongs to it.
     LineComment,
-    /// `/// ..`: a line of documentation of what follows. `////` is no documentation.
+    /// `/// ..`: a line of documentation of the item after it. `////` is no documentation.
     OuterLineDoc,
-    /// `//! ..`: a line of documentation of what is around it.
+    /// `//! ..`: a line of documentation of the item around it.
     InnerLineDoc,
     /// A comment in `/* */`, with the comments inside it.
     BlockComment,
-    /// `/** .. */`: documentation of what follows. `/**/` and `/***/` are no documentation.
+    /// `/** .. */`: documentation of the item after it. `/**/` and `/***/` are no documentation.
     OuterBlockDoc,
-    /// `/*! .. */`: documentation of what is around it.
+    /// `/*! .. */`: documentation of the item around it.
     InnerBlockDoc,
     /// An identifier, a keyword or `_`.
     Ident,
-    /// An identifier with `r#` in front.
+    /// An identifier with `r#` before it.
     RawIdent,
     /// A lifetime or a label.
     Lifetime,
-    /// A lifetime or a label with `r#` behind its apostrophe.
+    /// A lifetime or a label with `r#` after its apostrophe.
     RawLifetime,
     /// `0b` and digits.
     BinaryInt,

@@ -21,7 +21,7 @@ pub fn every_text_reads()
 {}
 
 /// The token that a text begins with is the longest, suffixes aside: no longer front of the text is
-/// a token of any kind that may stand before what follows that front.
+/// a token of any kind that may stand before the text after that front.
 pub fn longest_token()
     ensures { (x : Lexeme) (whole r : Text) (k : Kind) (e : Bool) (b a s : Text)
         → Begins x whole r → Stands k e b a → whole ≡ b ++ s → IsTrue (is_allowed k b s)

@@ -30,8 +30,8 @@ struct Step<'a> {
     rest: &'a str,
 }
 
-/// Returns the token at the start of a text, or `None` if the text is empty: the slow way, for what
-/// `plain_token` does not know.
+/// Returns the token at the start of a text, or `None` if the text is empty: the slow way, for
+/// tokens that `plain_token` does not know.
 #[inline(never)]
 fn any_step(text: &str) -> Option<Step<'_>>
     ensures begins { IfSome result (λ s. (x : Lexeme) × Begins x (chars text.now) (chars s.rest.now)
@@ -74,7 +74,7 @@ fn next_step(text: &str) -> Option<Step<'_>>
     any_step(text)
 }
 
-/// Returns the first token of a text that is not the start of a file, and what is left after it, or
+/// Returns the first token of a text that is not the start of a file, and the rest after it, or
 /// `None` if the text is empty.
 pub fn split_first_token(text: &str) -> Option<(Token, &str)>
     ensures begins { IfSome result (λ t. (x : Lexeme) × Begins x (chars text.now) (chars t.1.now)
@@ -132,7 +132,7 @@ fn opens_attribute(text: &str) -> bool
     false
 }
 
-/// Returns what is left after a byte order mark, or the text if it begins with none.
+/// Returns the rest after a byte order mark, or the text if it begins with none.
 fn behind_mark(text: &str) -> &str
     ensures within { length result.now ≤ length text.now }
     ensures marked { (xs : List Lexeme) × IsMarked (chars text.now) xs (chars result.now)
@@ -145,7 +145,7 @@ fn behind_mark(text: &str) -> &str
     }
 }
 
-/// Returns what is left after a shebang, or the text if it begins with none.
+/// Returns the rest after a shebang, or the text if it begins with none.
 fn behind_shebang(text: &str) -> &str
     ensures within { length result.now ≤ length text.now }
     ensures shebanged { (xs : List Lexeme) × IsShebanged (chars text.now) xs (chars result.now)
@@ -166,7 +166,7 @@ fn behind_shebang(text: &str) -> &str
     }
 }
 
-/// Returns what is left of a file after its byte order mark and its shebang.
+/// Returns the rest of a file after its byte order mark and its shebang.
 pub fn behind_head(text: &str) -> &str
     // The tokens hs are the mark and the shebang. With the tokens of the rest they are the file's.
     ensures { (hs : List Lexeme) × IsTrue (list_all (λ x. is_head x.kind) hs)

@@ -1,4 +1,4 @@
-//! Where characters and lifetimes end, and what a comment documents.
+//! The ends of characters and lifetimes, and the kinds of comments.
 
 ghost use Rattle.std.specs.Prelude.{◌≡◌, chars, option_map};
 ghost use Rattle.rust_tokens.specs.Characters.{behind_char, behind_escape, behind_name};
@@ -8,7 +8,7 @@ ghost use Rattle.rust_tokens.specs.Comments.{block_kind, line_kind};
 use crate::kinds::Kind;
 use crate::texts::{Class, begins, behind_run, is_char_content, is_id_start, split_first, strip};
 
-/// Returns the kind of a line comment, by what is behind its `//`.
+/// Returns the kind of a line comment, by the text after its `//`.
 pub fn line_kind(text: &str) -> Kind
     ensures { result ≡ line_kind (chars text.now) }
 {
@@ -24,7 +24,7 @@ pub fn line_kind(text: &str) -> Kind
     }
 }
 
-/// Returns the kind of a block comment, by what is behind its `/*`.
+/// Returns the kind of a block comment, by the text after its `/*`.
 pub fn block_kind(text: &str) -> Kind
     ensures { result ≡ block_kind (chars text.now) }
 {
@@ -40,7 +40,7 @@ pub fn block_kind(text: &str) -> Kind
     }
 }
 
-/// Returns what is left after an escape and an apostrophe, from after the backslash on, or `None`.
+/// Returns the rest after an escape and an apostrophe, from after the backslash on, or `None`.
 fn behind_escape(text: &str) -> Option<&str>
     ensures { option_map (λ r. chars r.now) result ≡ behind_escape (chars text.now) }
 {
@@ -50,7 +50,7 @@ fn behind_escape(text: &str) -> Option<&str>
     strip(behind_run(rest, Class::Escape), '\'')
 }
 
-/// Returns what is left after a character literal, from after its first apostrophe on, or `None` if
+/// Returns the rest after a character literal, from after its first apostrophe on, or `None` if
 /// there is none.
 pub fn behind_char(text: &str) -> Option<&str>
     ensures { option_map (λ r. chars r.now) result ≡ behind_char (chars text.now) }
@@ -78,7 +78,7 @@ fn unless_apostrophe(text: &str) -> Option<&str>
     }
 }
 
-/// Returns what is left after a word that no apostrophe follows, or `None`.
+/// Returns the rest after a word that no apostrophe follows, or `None`.
 pub fn behind_name(text: &str) -> Option<&str>
     ensures { option_map (λ r. chars r.now) result ≡ behind_name (chars text.now) }
 {
@@ -91,7 +91,7 @@ pub fn behind_name(text: &str) -> Option<&str>
     None
 }
 
-/// Returns what is left after `r#` and a word that no apostrophe follows, or `None`.
+/// Returns the rest after `r#` and a word that no apostrophe follows, or `None`.
 pub fn behind_raw_name(text: &str) -> Option<&str>
     ensures { option_map (λ r. chars r.now) result ≡ behind_raw_name (chars text.now) }
 {

@@ -7,11 +7,11 @@ ghost use Rattle.rust_tokens.specs.Numbers.{behind_digits, behind_exponent, behi
 ghost use Rattle.rust_tokens.specs.Numbers.{behind_sign};
 ghost use Rattle.rust_tokens.specs.Seen.{seen};
 
-use crate::bodies::{Body, ended};
+use crate::bodies::{Body, ended_token};
 use crate::kinds::Kind;
 use crate::texts::{Class, begins, behind_run, split_first};
 
-/// Returns what is left after a sign, or the text if it begins with none.
+/// Returns the rest after a sign, or the text if it begins with none.
 fn behind_sign(text: &str) -> &str
     ensures { chars result.now ≡ behind_sign (chars text.now) }
 {
@@ -21,7 +21,7 @@ fn behind_sign(text: &str) -> &str
     }
 }
 
-/// Returns what is left after digits, or `None` if the text begins with none.
+/// Returns the rest after digits, or `None` if the text begins with none.
 fn behind_digits(text: &str) -> Option<&str>
     ensures { option_map (λ r. chars r.now) result ≡ behind_digits (chars text.now) }
 {
@@ -32,7 +32,7 @@ fn behind_digits(text: &str) -> Option<&str>
     }
 }
 
-/// Returns what is left after an exponent, or `None` if the text begins with none.
+/// Returns the rest after an exponent, or `None` if the text begins with none.
 fn behind_exponent(text: &str) -> Option<&str>
     ensures { option_map (λ r. chars r.now) result ≡ behind_exponent (chars text.now) }
 {
@@ -45,7 +45,7 @@ fn behind_exponent(text: &str) -> Option<&str>
     None
 }
 
-/// Returns what is left after a point that belongs to the number before it, or `None`.
+/// Returns the rest after a point that belongs to the number before it, or `None`.
 fn behind_point(text: &str) -> Option<&str>
     ensures { option_map (λ r. chars r.now) result ≡ behind_point (chars text.now) }
 {
@@ -66,8 +66,8 @@ fn exponent_or<'a>(kind: Kind, rest: &'a str, exponent: Option<&'a str>) -> Body
         (option_map (λ r. chars r.now) exponent.entry) }
 {
     match exponent {
-        Some(rest) => ended(Kind::Float, rest),
-        None => ended(kind, rest),
+        Some(rest) => ended_token(Kind::Float, rest),
+        None => ended_token(kind, rest),
     }
 }
 
@@ -79,7 +79,7 @@ fn behind_fraction(text: &str) -> Body<'_>
         let rest = behind_run(text, Class::DigitPart);
         return exponent_or(Kind::Float, rest, behind_exponent(rest));
     }
-    ended(Kind::Float, text)
+    ended_token(Kind::Float, text)
 }
 
 /// Returns a decimal number, from after its first digit on.
@@ -103,15 +103,15 @@ fn first_zero(text: &str) -> Body<'_>
     match c {
         'b' => {
             let rest = behind_run(rest, Class::DigitPart);
-            ended(Kind::BinaryInt, rest)
+            ended_token(Kind::BinaryInt, rest)
         }
         'o' => {
             let rest = behind_run(rest, Class::DigitPart);
-            ended(Kind::OctalInt, rest)
+            ended_token(Kind::OctalInt, rest)
         }
         'x' => {
             let rest = behind_run(rest, Class::HexPart);
-            ended(Kind::HexadecimalInt, rest)
+            ended_token(Kind::HexadecimalInt, rest)
         }
         _ => first_decimal(text),
     }

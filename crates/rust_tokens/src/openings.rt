@@ -1,4 +1,5 @@
-//! What begins with letters and is no plain word: literals with a prefix, and raw identifiers.
+//! Tokens that begin with letters and are no plain word: literals with a prefix, and raw
+//! identifiers.
 
 ghost use Rattle.std.specs.Prelude.{◌≡◌, chars, option_map};
 ghost use Rattle.rust_tokens.specs.Openings.{byte_opening, c_opening, first_opening, raw_opening};
@@ -20,8 +21,8 @@ pub enum Opening {
     RawWord,
 }
 
-/// Returns the opening of a raw string of this kind, and what is left after its quote, or `None` if
-/// the text does not begin with hashes and a quote.
+/// Returns the opening of a raw string of this kind, and the rest after its quote, or `None` if the
+/// text does not begin with hashes and a quote.
 fn raw_opening(kind: Kind, text: &str) -> Option<(Opening, &str)>
     ensures { option_map (λ x. (x.0, chars x.1.now)) result ≡ raw_opening kind (chars text.now) }
 {
@@ -31,8 +32,8 @@ fn raw_opening(kind: Kind, text: &str) -> Option<(Opening, &str)>
     }
 }
 
-/// Returns what is left after a hash and the first character of a word, or `None` if the text does
-/// not begin with these.
+/// Returns the rest after a hash and the first character of a word, or `None` if the text does not
+/// begin with these.
 fn word_opening(text: &str) -> Option<(Opening, &str)>
     ensures { option_map (λ x. (x.0, chars x.1.now)) result ≡ word_opening (chars text.now) }
 {
@@ -49,7 +50,7 @@ fn word_opening(text: &str) -> Option<(Opening, &str)>
     }
 }
 
-/// Returns the opening after a `b`, and what is left after it, or `None` if there is none.
+/// Returns the opening after a `b`, and the rest after it, or `None` if there is none.
 fn byte_opening(text: &str) -> Option<(Opening, &str)>
     ensures { option_map (λ x. (x.0, chars x.1.now)) result ≡ byte_opening (chars text.now) }
 {
@@ -64,7 +65,7 @@ fn byte_opening(text: &str) -> Option<(Opening, &str)>
     }
 }
 
-/// Returns the opening after a `c`, and what is left after it, or `None` if there is none.
+/// Returns the opening after a `c`, and the rest after it, or `None` if there is none.
 fn c_opening(text: &str) -> Option<(Opening, &str)>
     ensures { option_map (λ x. (x.0, chars x.1.now)) result ≡ c_opening (chars text.now) }
 {
@@ -78,8 +79,7 @@ fn c_opening(text: &str) -> Option<(Opening, &str)>
     }
 }
 
-/// Returns the opening of a token, and what is left after it, or `None` if the text begins with
-/// none.
+/// Returns the opening of a token, and the rest after it, or `None` if the text begins with none.
 pub fn first_opening(text: &str) -> Option<(Opening, &str)>
     ensures { option_map (λ x. (x.0, chars x.1.now)) result ≡ first_opening (chars text.now) }
 {

@@ -36,7 +36,8 @@ pub enum Class {
     Slash,
     /// `*` and `/`
     StarOrSlash,
-    /// What may not stand behind the point of a number: a point and what begins a word.
+    /// Characters that may not stand after the point of a number: a point, and the first characters
+    /// of words.
     PointOrStart,
 }
 
@@ -124,7 +125,7 @@ pub fn is_char_content(c: char) -> bool
     !(c == '\'' || c == '\\' || c == '\n' || c == '\r' || c == '\t')
 }
 
-/// Returns the first character and what is left, or `None` if the text is empty.
+/// Returns the first character and the rest, or `None` if the text is empty.
 pub fn split_first(text: &str) -> Option<(char, &str)>
     ensures value { option_map (λ x. (x.0, chars x.1.now)) result ≡ split_first (chars text.now) }
     ensures shorter { IfSome result (λ x. length x.1.now < length text.now) }
@@ -136,7 +137,7 @@ pub fn split_first(text: &str) -> Option<(char, &str)>
     }
 }
 
-/// Returns what is left after the character, or `None` if the text does not begin with it.
+/// Returns the rest after the character, or `None` if the text does not begin with it.
 pub fn strip(text: &str, first: char) -> Option<&str>
     ensures { option_map (λ r. chars r.now) result ≡ strip first (chars text.now) }
 {
@@ -156,8 +157,8 @@ pub fn begins(text: &str, class: Class) -> bool
     }
 }
 
-/// Returns what is left after the longest front of the text whose characters are in the class,
-/// which need not be ASCII.
+/// Returns the rest after the longest front of the text whose characters are in the class, which
+/// need not be ASCII.
 #[inline(always)]
 fn behind_wide_run(text: &str, class: Class) -> &str
     ensures { chars result.now ≡ behind (passes class) (chars text.now) }
@@ -198,7 +199,7 @@ fn is_wide(bytes: &[u8], at: usize) -> bool
     at < bytes.len() && bytes[at] >= 128
 }
 
-/// Returns what is left after the longest front of the text whose characters are in the class, or
+/// Returns the rest after the longest front of the text whose characters are in the class, or
 /// `None` if a character that is not ASCII comes in it or after it.
 #[inline(always)]
 pub fn behind_ascii_run(text: &str, class: Class) -> Option<&str>
@@ -211,7 +212,7 @@ pub fn behind_ascii_run(text: &str, class: Class) -> Option<&str>
     Some(&text[width..])
 }
 
-/// Returns what is left after the longest front of the text whose characters are in the class.
+/// Returns the rest after the longest front of the text whose characters are in the class.
 #[inline(always)]
 pub fn behind_run(text: &str, class: Class) -> &str
     ensures { chars result.now ≡ behind (passes class) (chars text.now) }
@@ -222,7 +223,7 @@ pub fn behind_run(text: &str, class: Class) -> &str
     }
 }
 
-/// Returns how many hashes the text begins with.
+/// Returns the number of hashes at the start of the text.
 pub fn count_hashes(text: &str) -> usize
     ensures { result ≡ count is_hash (chars text.now) }
 {

@@ -1,4 +1,4 @@
--- Where tokens that are no forest break.
+-- The place where tokens that are no forest break.
 use Rattle.std.specs.Prelude.{◌≡◌, ◌++◌, ℕ, List, [], ◌∷◌, length, Option, Some, None}
 use Rattle.rust_trees.specs.declared.sides.Delimiter.{Delimiter}
 use Rattle.rust_trees.specs.declared.sides.Side.TheVariants.{Opens}

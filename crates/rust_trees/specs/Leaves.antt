@@ -21,7 +21,7 @@ pub record Leaf : Type 0 where
   pub text : List ℕ
   pub start : ℕ
 
--- What a contract sees of a token.
+-- A token as a contract sees it.
 abbrev pub leaf : Token → Leaf
 leaf t = record {
   kind = t.kind;
@@ -31,11 +31,11 @@ leaf t = record {
   start = t.start;
 }
 
--- What a token is among pairs of delimiters.
+-- The side of a token among pairs of delimiters.
 abbrev pub side : Leaf → Side
 side x = side_of x.kind x.text
 
--- The token is left: it is no white space, and a comment only if it lacks its end.
+-- The token is kept: it is no white space, and a comment only if it lacks its end.
 abbrev pub is_leaf : Kind → Bool → Bool
 is_leaf Whitespace e = false
 is_leaf LineComment e = false
@@ -63,18 +63,18 @@ leaf_at at x = record {
   start = at;
 }
 
--- Of these tokens, of which the first begins at this byte offset, those that are left.
+-- The tokens that are kept of these, of which the first begins at this byte offset.
 abbrev pub leaves : ℕ → List Lexeme → List Leaf
 leaves at [] = []
 leaves at (x ∷ xs) = if is_leaf x.kind x.is_ended then leaf_at at x ∷ leaves (end_of at x) xs
     else leaves (end_of at x) xs
 
--- A file that is read, and what is left of it, both in bytes.
+-- A file that is read, and the rest of it, both in bytes.
 pub record Unread : Type 0 where
   pub whole : List ℕ
   pub rest : List ℕ
 
--- These are the tokens of what is left of a file.
+-- These are the tokens of the rest of a file.
 abbrev pub AreLeft : Unread → List Leaf → Type 0
 AreLeft u ls = (xs : List Lexeme) × Reads (chars u.rest) xs
     × (ls ≡ leaves (length u.whole - length u.rest) xs)

@@ -1,4 +1,4 @@
--- What is known of pairs while tokens are read from left to right.
+-- The pairs of delimiters while tokens are read from left to right.
 use Rattle.std.specs.Prelude.{◌≡◌, ◌++◌, ℕ, List, [], ◌∷◌, Option, Some, None, length, map}
 use Rattle.std.specs.Prelude.{reverse, slice_index_or}
 use Rattle.rust_trees.specs.declared.sides.Delimiter.{Delimiter}
@@ -10,12 +10,12 @@ use Rattle.rust_trees.specs.Forests.{ArePartners, IsPair}
 use Rattle.rust_trees.specs.Breaks.{IsUnexpected}
 use Rattle.rust_trees.specs.Scans.{scan}
 
--- No token to come has its partner among these: behind each opening one they break.
+-- No token to come has its partner among these: after each opening one they break.
 abbrev pub Sealed : List Leaf → Type 0
 Sealed w = (u v : List Leaf) (a : Leaf) (d : Delimiter) → w ≡ u ++ a ∷ v → side a ≡ Opens d
     → scan (Some []) v ≡ None
 
--- These openings may still be closed, the last one first: behind each there is a forest, and then
+-- These openings may still be closed, the last one first: after each there is a forest, and then
 -- the next.
 abbrev pub Alive : List Opening → List Leaf → Type 0
 Alive [] w = Sealed w
@@ -26,7 +26,7 @@ Alive (o ∷ os) w = (u v : List Leaf) × (a : Leaf) × (w ≡ u ++ a ∷ v) × 
 abbrev pub partner : List (Option ℕ) → ℕ → Option ℕ
 partner ps i = slice_index_or ps i None
 
--- What was noted is a partner.
+-- Each partner that was noted is one.
 abbrev pub IsSound : List Leaf → List (Option ℕ) → Type 0
 IsSound w ps = (i j : ℕ) → partner ps i ≡ Some j → ArePartners w i j
 

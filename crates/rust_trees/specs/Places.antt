@@ -1,5 +1,5 @@
 -- Places in a text as an editor shows them: lines, and in them characters, both from 1. An LF ends
--- a line. A CR in front of an LF and a byte order mark at the start are no characters of a line.
+-- a line. A CR before an LF and a byte order mark at the start are no characters of a line.
 use Rattle.std.specs.Prelude.{ℕ, Bool, ◌≡◌, ◌+◌, ◌≤◌, ◌==◌, ◌&&◌, ◌++◌, List, [], ◌∷◌, chars, drop}
 use Rattle.std.specs.Prelude.{if◌then◌else◌, take}
 use Rattle.std.specs.Str.{IsCharBoundary}
@@ -12,12 +12,12 @@ use Rattle.rust_trees.specs.declared.places.Place.{Place}
 abbrev pub is_lf : ℕ → Bool
 is_lf c = c == 10
 
--- The place behind a character at this place. The test says whether an LF follows.
+-- The place after a character at this place. The test says whether an LF follows.
 abbrev pub behind_char : Place → ℕ → Bool → Place
 behind_char p c b = if is_lf c then record { line = p.line + 1; column = 1 }
     else (if c == 13 && b then p else record { line = p.line; column = p.column + 1 })
 
--- The place behind the text front at this place, where the text back follows.
+-- The place after the text front at this place, where the text back follows.
 abbrev pub place_after : Place → Text → Text → Place
 place_after p [] back = p
 place_after p (c ∷ front) back =

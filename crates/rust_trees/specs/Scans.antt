@@ -6,8 +6,8 @@ use Rattle.rust_trees.specs.declared.sides.Side.TheVariants.{Opens, Closes, Neit
 use Rattle.rust_trees.specs.Leaves.{Leaf, side}
 use Rattle.rust_trees.specs.Sides.{is_same}
 
--- The delimiters that are open behind a token, the last of them first. None if the token closes
--- none of them, or if there were none of these.
+-- The delimiters that are open after a token, the last of them first. None if the token closes none
+-- of them, or if there were none of these.
 abbrev pub open_after : Side → Option (List Delimiter) → Option (List Delimiter)
 open_after s None = None
 open_after Neither (Some ds) = Some ds
@@ -15,7 +15,7 @@ open_after (Opens d) (Some ds) = Some (d ∷ ds)
 open_after (Closes d) (Some []) = None
 open_after (Closes d) (Some (e ∷ ds)) = if is_same e d then Some ds else None
 
--- The same behind these tokens.
+-- The delimiters that are open after these tokens.
 abbrev pub scan : Option (List Delimiter) → List Leaf → Option (List Delimiter)
 scan o [] = o
 scan o (x ∷ xs) = scan (open_after (side x) o) xs

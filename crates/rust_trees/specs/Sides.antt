@@ -14,7 +14,7 @@ abbrev pub is_punct : Kind → Bool
 is_punct Punct = true
 is_punct k = false
 
--- What the character of a token of punctuation is.
+-- The side of a token of punctuation, by its character.
 abbrev pub side_of_mark : ℕ → Side
 side_of_mark c =
     if c == code "(" then Opens Parenthesis else
@@ -24,7 +24,7 @@ side_of_mark c =
     (if c == code "{" then Opens Brace else
     (if c == code "}" then Closes Brace else Neither)))))
 
--- What a token of this kind with this text, in bytes, is.
+-- The side of a token of this kind with this text, in bytes.
 abbrev pub side_of : Kind → List ℕ → Side
 side_of k t = if is_punct k then side_of_mark (slice_index t 0) else Neither
 

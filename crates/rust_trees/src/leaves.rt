@@ -27,7 +27,7 @@ pub struct Token<'a> {
 }
 
 impl Token<'_> {
-    /// Returns what the token is among pairs of delimiters.
+    /// Returns the side of the token among pairs of delimiters.
     pub fn side(&self) -> Side
         ensures { result ≡ side (leaf self.now) }
     {
@@ -35,7 +35,7 @@ impl Token<'_> {
     }
 }
 
-/// Returns whether a token is left: it is no white space, and a comment only if it lacks its end.
+/// Returns whether a token is kept: it is no white space, and a comment only if it lacks its end.
 fn is_leaf(kind: Kind, is_ended: bool) -> bool
     ensures { result ≡ is_leaf kind is_ended }
 {
@@ -51,8 +51,8 @@ fn is_leaf(kind: Kind, is_ended: bool) -> bool
     }
 }
 
-/// Returns the first token of what is left of a text, and what is left after it, or `None` if no
-/// token is left.
+/// Returns the first token of the rest of a text, and the rest after it, or `None` if no token is
+/// left.
 #[inline(always)]
 fn split_first_leaf<'a>(text: &'a str, rest: &'a str) -> Option<(Token<'a>, &'a str)>
     requires { length rest.now ≤ length text.now }
@@ -80,7 +80,7 @@ fn split_first_leaf<'a>(text: &'a str, rest: &'a str) -> Option<(Token<'a>, &'a 
 }
 
 /// The tokens of a file without white space and comments, read one after the other. A contract sees
-/// the file and what is left of it.
+/// the file and the rest of it.
 #[derive(Drop)]
 pub struct Tokens<'a> {
     text: &'a str,

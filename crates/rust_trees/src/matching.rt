@@ -1,4 +1,4 @@
-//! The partner of each delimiter, and where the tokens break if they are no forest.
+//! The partner of each delimiter, and the place where the tokens break if they are no forest.
 
 ghost use Rattle.std.specs.Prelude.{◌≡◌, ◌++◌, [], ◌∷◌, IfOk, IsTrue, List, map};
 ghost use Rattle.rust_trees.specs.Breaks.{Breaks};
@@ -9,12 +9,12 @@ use crate::leaves::Token;
 use crate::sides::{Delimiter, Side, is_same};
 use std::alloc::{AllocError, Global};
 
-/// Where tokens that are no forest break: the index of a token.
+/// The place where tokens that are no forest break: the index of a token.
 #[derive(Clone, Copy)]
 pub enum Break {
     /// A delimiter that is not closed: the last of these.
     Unclosed(usize),
-    /// A closing delimiter where nothing is to be closed, or another kind of delimiter.
+    /// A closing delimiter where nothing is to be closed, or a delimiter of another kind is.
     Unexpected(usize),
 }
 
@@ -30,7 +30,7 @@ pub struct Opening {
 /// The pairs of delimiters in the tokens so far.
 #[derive(Drop)]
 pub struct Matching {
-    /// Of each token the index of its partner.
+    /// The index of the partner of each token.
     pub partners: Vec<Option<usize>>,
     /// The delimiters that may still be closed.
     pub openings: Vec<Opening>,

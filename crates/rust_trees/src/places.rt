@@ -12,7 +12,7 @@ use std::alloc::{AllocError, Global};
 use std::marker::Model;
 
 /// A line and a column of a text, both from 1. An LF ends a line, and a column counts characters,
-/// but no CR in front of an LF and no byte order mark at the start.
+/// but no CR before an LF and no byte order mark at the start.
 #[derive(Clone, Copy)]
 pub struct Place {
     /// The line.
@@ -34,7 +34,7 @@ fn is_lf_next(text: &str, back: &str) -> bool
     }
 }
 
-/// Returns the place behind a character at this place, where an LF may follow.
+/// Returns the place after a character at this place, where an LF may follow.
 fn behind_char(place: Place, c: char, is_before_lf: bool) -> Place
     requires line { place.line + 1 < 2 ^ 64 }
     requires column { place.column + 1 < 2 ^ 64 }
@@ -55,7 +55,7 @@ fn behind_char(place: Place, c: char, is_before_lf: bool) -> Place
     }
 }
 
-/// Returns the place behind a text at this place, where another text follows.
+/// Returns the place after a text at this place, where another text follows.
 pub fn place_after(place: Place, front: &str, back: &str) -> Place
     requires line { place.line + length front.now < 2 ^ 64 }
     requires column { place.column + length front.now < 2 ^ 64 }
@@ -90,7 +90,7 @@ pub fn place_at(text: &str, offset: usize) -> Place
     place_after(Place { line: 1, column: 1 }, without_mark(front), back)
 }
 
-/// How many bytes there are between two places that are known of a text.
+/// The number of bytes between two places of a text that are known.
 const STEP: usize = 4096;
 
 /// A byte offset of a text with its place.
@@ -131,8 +131,7 @@ fn add_known(known: &mut Vec<Known>, text: &str, offset: usize) -> Result<(), Al
     Ok(())
 }
 
-/// A text in which the place of a byte offset is found in a time that is not longer in a longer
-/// text.
+/// A text in which a place is found in a time that does not grow with the text.
 #[derive(Drop)]
 pub struct Places<'a> {
     text: &'a str,

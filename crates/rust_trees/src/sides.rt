@@ -29,7 +29,7 @@ pub enum Side {
     Neither,
 }
 
-/// Returns what a token of this kind with this text is.
+/// Returns the side of a token of this kind with this text.
 pub fn side_of(kind: Kind, text: &str) -> Side
     ensures { result ≡ side_of kind text.now }
 {

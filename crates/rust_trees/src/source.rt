@@ -56,9 +56,9 @@ impl<'a> Source<'a> {
         Ok(source_of(tokens, found))
     }
 
-    /// Reads on behind tokens of a file, up to the closing delimiter behind which none of them is
-    /// open, or to the end of the file if there is none. Returns all these tokens. Returns `Err` if
-    /// an allocation fails; what was read is then left out.
+    /// Reads the tokens of a file after these, up to the closing delimiter that closes the last
+    /// open one of them, or to the end of the file if there is none. Returns all these tokens.
+    /// Returns `Err` if an allocation fails; what was read is then left out.
     pub fn read_group(
         alloc: Global,
         front: &[Token<'a>],
@@ -102,7 +102,7 @@ impl<'a> Source<'a> {
         }
     }
 
-    /// Returns where the tokens break, or `None` if they are a forest.
+    /// Returns the place where the tokens break, or `None` if they are a forest.
     pub fn broken(&self) -> Option<Break>
         ensures { Breaks self.now result }
     {

@@ -1,19 +1,20 @@
--- What a cursor has given back, to be read again. Reading forward changes nothing here, so only the
--- contracts of functions that may give a word back mention it.
+-- The characters that a cursor has given back, to be read again. Reading forward changes nothing
+-- here, so only the contracts of functions that may give a word back mention them.
 use Rattle.std.specs.Prelude.{ℕ, ◌+◌, ◌-◌, ◌≤◌, ◌||◌, Bool, length}
 use Rattle.rustc_parse_format.specs.Characters.{Text, is_id_start, is_id_continue, behind}
 
 pub record Back : Type 0 where
-  -- How many characters the cursor went back over.
+  -- The number of characters that the cursor went back over.
   pub again : ℕ
-  -- How many characters were left when it last went back. Before that, how many the input has.
+  -- The number of characters that were left when it last went back. Before that, the number that
+  -- the input has.
   pub left : ℕ
 
 -- The character may be part of a word.
 abbrev pub is_word_part : ℕ → Bool
 is_word_part c = is_id_start c || is_id_continue c
 
--- How many characters are left after the part of a word at the start of t.
+-- The number of characters that are left after the part of a word at the start of t.
 abbrev pub behind_part : Text → ℕ
 behind_part t = length (behind is_word_part t)
 
@@ -31,6 +32,7 @@ pub record IsPaid (input rest : Text) (b : Back) : Type 0 where
 abbrev pub nothing_back : Text → Back
 nothing_back t = record { again = 0; left = length t }
 
--- What was given back after also going back from u to t, which are both left of the input.
+-- The characters that are given back after also going back from u to t, which are both suffixes of
+-- the input.
 abbrev pub given_back : Text → Text → Back → Back
 given_back u t b = record { again = b.again + (length t - length u); left = length u }

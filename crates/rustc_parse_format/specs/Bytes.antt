@@ -32,8 +32,8 @@ pub record IsSharedFront (p : ℕ → Bool) (bytes others : List ℕ) (n : ℕ) 
   pub same : take n bytes ≡ take n others
   pub pass : list_all p (take n bytes) ≡ true
 
--- The byte is none at which a run ends: it is at least `low` and at most `high`, where 255 is no
--- bound, and none of the four others.
+-- A run goes on at the byte: it is at least `low` and at most `high`, where 255 is no bound, and
+-- none of the four others.
 abbrev pub is_no_stop : Stops → ℕ → Bool
 is_no_stop s x = not (nat_lt x s.low) && ((s.high == 255 || not (nat_lt s.high x))
     && (not (x == s.first) && (not (x == s.second) && (not (x == s.third) && not (x == s.fourth)))))

@@ -1,12 +1,13 @@
--- What one call of the parser does, with spans that are pairs of marks, and the walk of calls up to
--- the first that returns no piece. Neither depends on the style of the literal or on the snippet.
+-- The effect of one call of the parser, with spans that are pairs of marks, and the walk of calls
+-- up to the first that returns no piece. Neither depends on the style of the literal or on the
+-- snippet.
 use Prim.Native.Char.{code}
 use Rattle.std.specs.Prelude.{◌≡◌, ℕ, suc, zero, ◌++◌, ◌==◌, if◌then◌else◌, List, [], ◌∷◌, length}
 use Rattle.std.specs.Prelude.{Option, Some, None}
 use Rattle.rustc_parse_format.specs.Characters.{Text, is_brace, is_no_brace, front, behind}
 use Rattle.rustc_parse_format.specs.Characters.{behind_white, first, behind_first, begins_with}
 use Rattle.rustc_parse_format.specs.Types.{Mode, Spec, Piece, Lit, NextArgument}
-use Rattle.rustc_parse_format.specs.Marks.{Span, up_to, through, over_first, marked}
+use Rattle.rustc_parse_format.specs.Marks.{Span, up_to, through, over_first, run_texts}
 use Rattle.rustc_parse_format.specs.Placeholder.{cut, Cut}
 use Rattle.rustc_parse_format.specs.Values.{number_after_field}
 use Rattle.rustc_parse_format.specs.Meaning.{argument, spec_texts}
@@ -21,9 +22,10 @@ pub record Call : Type 0 where
   pub faults : List (Fault Span)
   pub rest : Text
   pub next : ℕ
-  -- The characters that the call reads as text, each with how many characters are left from it on.
+  -- The characters that the call reads as text, each with the number of characters that are left
+  -- from it on.
   pub texts : List (ℕ × ℕ)
-  -- What is left of the input at each word that the call tries for a count and gives back.
+  -- The rest of the input from each word on that the call tries for a count and gives back.
   pub tries : List Text
   -- The span of the placeholder that the call closes, from its opening to its closing brace. None
   -- if it closes none.
@@ -42,7 +44,7 @@ text_call c l t = record {
   faults = [];
   rest = behind is_no_brace t;
   next = c;
-  texts = marked (front is_no_brace t) (behind is_no_brace t);
+  texts = run_texts (front is_no_brace t) (behind is_no_brace t);
   tries = [];
   closes = None;
 }
@@ -59,9 +61,9 @@ closed_call mode c opening a r = record {
   closes = Some (through opening r);
 }
 
--- A call that reads the placeholder at `opening`, where r begins with something else than its
--- closing brace. The fault of the missing brace comes after those of the field, and those of the
--- recovery come after it.
+-- A call that reads the placeholder at `opening`, where r does not begin with its closing brace.
+-- The fault of the missing brace comes after those of the field, and those of the recovery come
+-- after it.
 abbrev pub unclosed_call : Mode → ℕ → Text → Cut → Text → Call
 unclosed_call mode c opening a r =
     let k = recovery mode (number_after_field c a.field) opening (argument c a) r in
@@ -107,7 +109,7 @@ end_call c = record {
   closes = None;
 }
 
--- What a call does where t is left of the input and c is the next number.
+-- The call where t is left of the input and c is the next number.
 unfoldable pub call : Mode → ℕ → Text → Call
 call mode c [] = end_call c
 call mode c (b ∷ t) =

@@ -24,7 +24,7 @@ is_id_continue c = is_xid_continue c
 abbrev pub is_brace : ℕ → Bool
 is_brace c = (c == code "{") || (c == code "}")
 
--- The character is not a brace, and so may be in a run of text.
+-- The character is not a brace, so it may be in a run of text.
 abbrev pub is_no_brace : ℕ → Bool
 is_no_brace c = not (is_brace c)
 
@@ -41,7 +41,7 @@ abbrev pub front : (ℕ → Bool) → Text → Text
 front p [] = []
 front p (c ∷ t) = if p c then c ∷ front p t else []
 
--- What is left of a text after the longest prefix whose characters all pass the test p.
+-- The rest of a text after the longest prefix whose characters all pass the test p.
 abbrev pub behind : (ℕ → Bool) → Text → Text
 behind p [] = []
 behind p (c ∷ t) = if p c then behind p t else c ∷ t
@@ -51,7 +51,7 @@ unfoldable pub word : Text → Text
 word [] = []
 word (c ∷ t) = if is_id_start c then c ∷ front is_id_continue t else []
 
--- What is left of a text after the word at its start.
+-- The rest of a text after the word at its start.
 unfoldable pub behind_word : Text → Text
 behind_word [] = []
 behind_word (c ∷ t) = if is_id_start c then behind is_id_continue t else c ∷ t
@@ -60,11 +60,11 @@ behind_word (c ∷ t) = if is_id_start c then behind is_id_continue t else c ∷
 unfoldable pub digits : Text → Text
 digits t = front is_ascii_digit t
 
--- What is left of a text after the digits at its start.
+-- The rest of a text after the digits at its start.
 unfoldable pub behind_digits : Text → Text
 behind_digits t = behind is_ascii_digit t
 
--- What is left of a text after the white space at its start.
+-- The rest of a text after the white space at its start.
 unfoldable pub behind_white : Text → Text
 behind_white t = behind is_whitespace t
 
@@ -108,11 +108,11 @@ begins_raw t = begins_with (code "r") t
     && (begins_with (code "#") (behind_first t)
     && first_passes is_id_start (behind_first (behind_first t)))
 
--- What is left of a text after such an `r#`.
+-- The rest of a text after the `r#` of a raw identifier.
 abbrev pub behind_prefix : Text → Text
 behind_prefix t = behind_first (behind_first t)
 
--- What is left of a text after a closing brace. A text that does not begin with one is unchanged.
+-- The rest of a text after a closing brace. A text that does not begin with one is unchanged.
 abbrev pub behind_brace : Text → Text
 behind_brace t = if begins_with (code "}") t then behind_first t else t
 

@@ -1,5 +1,5 @@
--- The count, the width and the precision at the start of a text, computed, each with what is left
--- after it. They are those that `Syntax` defines by the grammar of `std::fmt`.
+-- The count, the width and the precision at the start of a text, computed, each with the rest after
+-- it. They are those that `Syntax` defines by the grammar of `std::fmt`.
 use Prim.Native.Char.{code}
 use Rattle.std.specs.Prelude.{if◌then◌else◌, [], ◌∷◌, ◌==◌}
 use Rattle.std.specs.Char.{is_ascii_digit}
@@ -20,7 +20,7 @@ abbrev pub behind_name : Text → Text → Text → CountText × Text
 behind_name t w [] = (NoCount, t)
 behind_name t w (c ∷ r) = if c == code "$" then (NameCount w, r) else (NoCount, t)
 
--- The count at the start of a text, and what is left after it.
+-- The count at the start of a text, and the rest after it.
 abbrev pub count : Text → CountText × Text
 count [] = (NoCount, [])
 count (c ∷ t) =
@@ -29,18 +29,18 @@ count (c ∷ t) =
     else (NoCount, c ∷ t))
 
 -- The width with the count at the start of t, with the flag `0` or without it.
-abbrev pub counted : (CountText → WidthText) → Text → WidthText × Text
-counted make t = (make (count t).0, (count t).1)
+abbrev pub width_with : (CountText → WidthText) → Text → WidthText × Text
+width_with make t = (make (count t).0, (count t).1)
 
 -- The width after a `0`, where t is left.
 abbrev pub behind_zero : Text → WidthText × Text
-behind_zero [] = counted PaddedWidth []
-behind_zero (c ∷ t) = if c == code "$" then (ZeroIndexWidth, t) else counted PaddedWidth (c ∷ t)
+behind_zero [] = width_with PaddedWidth []
+behind_zero (c ∷ t) = if c == code "$" then (ZeroIndexWidth, t) else width_with PaddedWidth (c ∷ t)
 
--- The width at the start of a text, and what is left after it.
+-- The width at the start of a text, and the rest after it.
 abbrev pub width : Text → WidthText × Text
-width [] = counted PlainWidth []
-width (c ∷ t) = if c == code "0" then behind_zero t else counted PlainWidth (c ∷ t)
+width [] = width_with PlainWidth []
+width (c ∷ t) = if c == code "0" then behind_zero t else width_with PlainWidth (c ∷ t)
 
 -- The precision after a `.`, where t is left.
 abbrev pub behind_dot : Text → PrecisionText × Text
@@ -48,7 +48,7 @@ behind_dot [] = (DotPrecision NoCount, [])
 behind_dot (c ∷ t) = if c == code "*" then (StarPrecision, t)
     else (DotPrecision (count (c ∷ t)).0, (count (c ∷ t)).1)
 
--- The precision at the start of a text, and what is left after it.
+-- The precision at the start of a text, and the rest after it.
 abbrev pub precision : Text → PrecisionText × Text
 precision [] = (NoPrecision, [])
 precision (c ∷ t) = if c == code "." then behind_dot t else (NoPrecision, c ∷ t)

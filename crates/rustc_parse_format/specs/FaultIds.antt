@@ -26,7 +26,7 @@ fault_id (LateSign s) = codes "sign-before-colon"
 fault_id (FieldAccess s) = codes "field-access"
 fault_id (TupleIndex s) = codes "tuple-index"
 
--- The number of a fault's kind, in the order of the kinds.
+-- The number of a fault's kind.
 unfoldable pub kind : {A : Type 0} → Fault A → ℕ
 kind (UnmatchedBrace s) = 0
 kind (MissingBrace c s o) = 1

@@ -1,5 +1,6 @@
--- The faults, over any type of span, and the error that each becomes, with its texts as bytes. No
--- public document has this rule: it is this project's, and follows the code of rustc's parser.
+-- The faults, over any type of span, and the error that is made of each, with its texts as bytes. A
+-- fault is what is wrong, as plain data; an error is the message about it. No public document has
+-- this rule: it is this project's, and follows the code of rustc's parser.
 use Prim.Native.Char.{code}
 use Rattle.std.specs.Prelude.{◌≡◌, ℕ, Bool, true, false, ◌++◌, ◌==◌, if◌then◌else◌, List, [], ◌∷◌}
 use Rattle.std.specs.Prelude.{Option, Some, None, option_map, codes, encode_utf8}
@@ -10,7 +11,7 @@ use Rattle.rustc_parse_format.specs.Written.{written}
 pub data Fault (Span : Type 0) : Type 0 where
   -- A closing brace that closes nothing.
   UnmatchedBrace : Span → Fault Span
-  -- A missing closing brace: the character found instead, or None at the end; where it is; and the
+  -- A missing closing brace: the character found instead, or None at the end; its place; and the
   -- opening brace.
   MissingBrace : Option ℕ → Span → Span → Fault Span
   -- A missing closing brace where the fill is a closing brace. The last span is that of the fill.
@@ -58,7 +59,8 @@ abbrev pub no_brace : {A : Type 0} → Option A → Option ℕ → A → A → F
 no_brace None found s opening = MissingBrace found s opening
 no_brace (Some fill) found s opening = FillBrace found s fill
 
--- The error of the fault is added at the start of the list of errors, and not at its end.
+-- The error of the fault is added at the start of the list of errors. Otherwise it is added at the
+-- end.
 abbrev pub is_front : {A : Type 0} → Fault A → Bool
 is_front (UnmatchedBrace s) = false
 is_front (MissingBrace c s o) = false
@@ -98,7 +100,7 @@ map_fault f (LateSign s) = LateSign (f s)
 map_fault f (FieldAccess s) = FieldAccess (f s)
 map_fault f (TupleIndex s) = TupleIndex (f s)
 
--- What an error suggests, over any type of span.
+-- The suggestion of an error, over any type of span.
 pub data Suggestion (Span : Type 0) : Type 0 where
   Nothing : Suggestion Span
   UsePositional : Suggestion Span

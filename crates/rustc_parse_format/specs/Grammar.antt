@@ -67,7 +67,7 @@ pub record IsCleanFormat (p : FormatText) : Type 0 where
   pub precision : IsCleanPrecision p.precision
   pub type : IsCleanType p.type
 
--- What follows the colon is clean. The text in a diagnostic is not a word, so `_` is clean there.
+-- The part after the colon is clean. The text in a diagnostic is not a word, so `_` is clean there.
 -- In the mode DiagnosticNamed it has to be empty.
 abbrev pub IsCleanSpec : Mode → SpecText → Type 0
 IsCleanSpec mode Default = Unit {0}
@@ -109,7 +109,7 @@ abbrev pub IsInGrammar : Mode → Text → Type 0
 IsInGrammar mode t = (ps : List (Piece (Unit {0}))) × Reads mode 0 t ps
 
 -- Some of the pieces, the first ones, are the reading of a prefix of the text. The prefix ends
--- before the end of the text, and what is left begins with no piece, whatever the next number is.
+-- before the end of the text, and the rest begins with no piece, whatever the next number is.
 pub record StopsInside (mode : Mode) (c : ℕ) (t : Text) (ps : List (Piece (Unit {0}))) :
     Type 0 where
   pub pieces : ℕ

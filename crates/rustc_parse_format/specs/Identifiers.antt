@@ -9,7 +9,7 @@ pub record IsIdentifier {A : Type 0} (a : Argument A) : Type 0 where
   pub name : Text
   -- The position is the name.
   pub position : a.position ≡ Named name
-  -- The specification asks for nothing.
+  -- Each part of the specification is absent.
   pub format : a.format ≡ default_spec
 
 -- The alignment is absent.
@@ -27,7 +27,7 @@ is_implied (Param n) = false
 is_implied (Star n) = false
 is_implied Implied = true
 
--- The specification asks for nothing and has no span.
+-- Each part of the specification is absent, and so is each span.
 unfoldable pub is_default : {A : Type 0} → Spec A → Bool
 is_default s =
     is_none s.fill && is_none s.fill_span && is_unknown s.align && is_none s.sign && not s.alternate

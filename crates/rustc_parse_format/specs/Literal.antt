@@ -1,8 +1,8 @@
 -- String literals as they are written in a program: the content of an ordinary literal, the
 -- characters that it stands for and their places, raw literals, and which snippet is the source
 -- literal of an input. The public rules are in the Rust Reference, string literals and raw string
--- literals. These definitions differ in one way: the text of a raw literal may hold anything, also
--- its own closing sequence or a CR. In an ordinary content a CR is only in continuations.
+-- literals. These definitions differ in one way: the text of a raw literal may hold anything, its
+-- own closing sequence and a CR too. In an ordinary content a CR is only in continuations.
 use Prim.Native.Char.{code}
 use Rattle.std.specs.Prelude.{◌≡◌, ℕ, suc, zero, ◌+◌, ◌++◌, Bool, if◌then◌else◌, List, [], ◌∷◌}
 use Rattle.std.specs.Prelude.{length, map, Option, Some, None, IsTrue, replicate, flat_map}
@@ -22,7 +22,7 @@ abbrev pub more : LiteralUnit → Option (List LiteralUnit) → Option (List Lit
 more u None = None
 more u (Some us) = Some (u ∷ us)
 
--- The unit at the start, and the units of what is left after it.
+-- The unit at the start, and the units of the rest after it.
 abbrev pub first_and_rest : (Text → Option (List LiteralUnit)) → Option (LiteralUnit × Text)
     → Option (List LiteralUnit)
 first_and_rest rest None = None
@@ -49,7 +49,7 @@ placed_characters at [] = []
 placed_characters at (u ∷ us) = map (λ c. ((at, at + byte_length (spelling u)), c)) (value u)
     ++ placed_characters (at + byte_length (spelling u)) us
 
--- The text t is a content of these units, and of no others.
+-- The text t is a content of these units and of no others.
 pub record IsOnlyContent (t : Text) (us : List LiteralUnit) : Type 0 where
   pub is_content : IsContent t us
   pub is_only : (vs : List LiteralUnit) → IsContent t vs → vs ≡ us
@@ -66,11 +66,11 @@ IsNoContent t = (us : List LiteralUnit) → IsContent t us → ⊥
 abbrev pub ordinary_frame : Text → Text
 ordinary_frame content = codes "\"" ++ content ++ codes "\""
 
--- What is before the text of a raw literal with n hashes: `r`, the hashes and a quote.
+-- The opening of a raw literal with n hashes: `r`, the hashes and a quote.
 abbrev pub raw_opening : ℕ → Text
 raw_opening n = codes "r" ++ replicate n (code "#") ++ codes "\""
 
--- What is after the text of a raw literal with n hashes: a quote and the hashes.
+-- The closing of a raw literal with n hashes: a quote and the hashes.
 abbrev pub raw_closing : ℕ → Text
 raw_closing n = codes "\"" ++ replicate n (code "#")
 
@@ -78,7 +78,7 @@ raw_closing n = codes "\"" ++ replicate n (code "#")
 abbrev pub raw_frame : ℕ → Text → Text
 raw_frame n t = raw_opening n ++ t ++ raw_closing n
 
--- What a macro such as `println!` appends to the input: a newline, or nothing.
+-- The text that a macro such as `println!` appends to the input: a newline, or nothing.
 abbrev pub newline : Bool → Text
 newline appended = if appended then codes "\n" else []
 

@@ -1,5 +1,5 @@
--- String literals, computed as the functions read them: what a content stands for, and what is left
--- after a prefix. Private definitions.
+-- String literals, computed as the functions read them: the text that a content stands for, and the
+-- rest after a prefix. Private definitions.
 use Rattle.std.specs.Prelude.{◌≡◌, ◌≤◌, length, ℕ, Bool, ◌==◌, if◌then◌else◌, List, [], ◌∷◌}
 use Rattle.std.specs.Prelude.{map, Option, Some, None, option_map, bytes_eq, not, ◌+◌, ◌++◌, false}
 use Rattle.std.specs.Prelude.{IsTrue}
@@ -19,10 +19,10 @@ seen_characters cs = map (λ x. (pair x.0, x.1)) cs
 
 -- The characters that a content stands for, each with its place. The content starts at the byte
 -- `at`. None if the text is not a content.
-unfoldable pub placed : ℕ → Text → Option (List (Place × ℕ))
-placed at t = option_map (placed_characters at) (units t)
+unfoldable pub content_characters : ℕ → Text → Option (List (Place × ℕ))
+content_characters at t = option_map (placed_characters at) (units t)
 
--- What is left of a text after the prefix p. None if it does not begin with p.
+-- The rest of a text after the prefix p. None if it does not begin with p.
 abbrev pub after_prefix : Text → Text → Option Text
 after_prefix [] t = Some t
 after_prefix (c ∷ p) [] = None
@@ -64,8 +64,8 @@ abbrev pub IsSourceTo : Text → Option ℕ → Text → Bool → ℕ → Type 0
 IsSourceTo input style snippet appended e = IsSource input style snippet appended
     × (e ≡ literal_end style snippet)
 
--- What a search for the source literal of an input returns: the byte where its text ends, or None
--- if the snippet is not the source literal or there is none.
+-- The result of a search for the source literal of an input: the byte where its text ends, or None
+-- if there is no snippet or it is not the source literal.
 abbrev pub IsFound : Text → Option ℕ → Option Text → Bool → Option ℕ → Type 0
 IsFound input style snippet appended None = HasSource input style snippet appended → ⊥
 IsFound input style None appended (Some e) = ⊥
@@ -79,7 +79,7 @@ is_longer input None None appended = false
 is_longer input None (Some snippet) appended =
     not (byte_length snippet == byte_length input + (if appended then 1 else 2))
 
--- The byte where a text ends that has no source literal.
+-- The byte where the text of an input without a source literal ends.
 abbrev pub plain_end : Text → Option Text → Bool → ℕ
 plain_end input None appended = input_end input appended
 plain_end input (Some snippet) appended = foreign_end snippet

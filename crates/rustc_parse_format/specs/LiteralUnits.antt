@@ -1,7 +1,7 @@
 -- The units of an ordinary string literal: how each is written, which characters it stands for, and
--- which unit a text begins with. The public rule is in the Rust Reference, string literals, for
--- what is between the quotes. A continuation (`STRING_CONTINUE` there) takes all HT, LF, CR and
--- space after its LF, over any number of lines.
+-- which unit a text begins with. The public rule is in the Rust Reference, string literals, for the
+-- text between the quotes. A continuation (`STRING_CONTINUE` there) takes all HT, LF, CR and space
+-- after its LF, over any number of lines.
 use Prim.Native.Char.{code}
 use Rattle.std.specs.Prelude.{ℕ, Bool, true, not, ◌&&◌, ◌||◌, ◌==◌, ◌++◌, if◌then◌else◌, nat_lt}
 use Rattle.std.specs.Prelude.{nat_le, [], ◌∷◌, length, Option, Some, None, is_some, codes}
@@ -83,7 +83,7 @@ is_plain c = not ((c == code "\"" || c == code "\\") || c == code "\r")
 abbrev pub is_skipped : ℕ → Bool
 is_skipped c = ((c == code "\t" || c == code "\n") || c == code "\r") || c == code " "
 
--- The number is the code of a character: at most 10FFFF, and not a surrogate.
+-- The number is the code of a character: at most 10FFFF and no surrogate.
 abbrev pub is_scalar : ℕ → Bool
 is_scalar c = nat_lt c 0xD800 || (nat_lt 0xDFFF c && nat_lt c 0x11_0000)
 
@@ -111,7 +111,7 @@ may_precede (ByteEscape h l) r = true
 may_precede (UnicodeEscape w) r = true
 may_precede (Continuation w) r = not (first_passes is_skipped r)
 
--- The unit u with what is left after it, if u is well formed.
+-- The unit u with the rest after it, if u is well formed.
 abbrev pub with_rest : Text → LiteralUnit → Option (LiteralUnit × Text)
 with_rest r u = if is_unit u then Some (u, r) else None
 
@@ -144,12 +144,13 @@ escape_at (l ∷ t) =
     else (if l == code "x" then byte_at t
     else (if l == code "u" then unicode_at t else with_rest t (SimpleEscape l)))
 
--- The unit at the start of a text, and what is left after it. None if no well-formed unit is there.
+-- The unit at the start of a text, and the rest after it. None if no well-formed unit begins the
+-- text.
 unfoldable pub unit_at : Text → Option (LiteralUnit × Text)
 unit_at [] = None
 unit_at (c ∷ t) = if c == code "\\" then escape_at t else with_rest t (Plain c)
 
--- What the unit stands for, and what is left after it.
+-- The text that the unit stands for, and the rest after it.
 abbrev pub meaning : Option (LiteralUnit × Text) → Option (Text × Text)
 meaning None = None
 meaning (Some x) = Some (value x.0, x.1)

@@ -1,6 +1,6 @@
--- A mark is a position in the input, given by how many characters are left from a character on. A
--- mark with none left is at the end of the text. So a span is made of what is left of the text at
--- its start and at its end.
+-- A mark is a position in the input, given by the number of characters that are left from a
+-- character on. A mark with none left is at the end of the text. So a span is made of the rests of
+-- the text at its start and at its end.
 use Rattle.std.specs.Prelude.{ℕ, ◌++◌, List, [], ◌∷◌, length}
 use Rattle.rustc_parse_format.specs.Characters.{Text}
 
@@ -27,8 +27,8 @@ through t r = record { from = Start (length t); to = End (length r) }
 abbrev pub over_first : Text → Span
 over_first t = through t t
 
--- The characters of a run of text that is followed by r, each with how many characters are left
--- from it on.
-abbrev pub marked : Text → Text → List (ℕ × ℕ)
-marked [] r = []
-marked (c ∷ u) r = (c, length (c ∷ u ++ r)) ∷ marked u r
+-- The characters of a run of text that is followed by r, each with the number of characters that
+-- are left from it on.
+abbrev pub run_texts : Text → Text → List (ℕ × ℕ)
+run_texts [] r = []
+run_texts (c ∷ u) r = (c, length (c ∷ u ++ r)) ∷ run_texts u r

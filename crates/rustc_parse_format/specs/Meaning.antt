@@ -1,11 +1,11 @@
--- The meaning of a cut, where c is the next number: the same argument as in `Values`, and with
--- spans that are pairs of marks. Where a part is said to be at t with r after it, t is what is left
--- of the input at the start of the part, and r is what is left at its end.
+-- The meaning of a cut, where c is the next number: the same argument as in `Values`, with spans
+-- that are pairs of marks. Where a part is said to be at t with r after it, t is the rest of the
+-- input at the start of the part, and r is the rest at its end.
 use Rattle.std.specs.Prelude.{ℕ, ◌++◌, List, [], ◌∷◌, Option, Some, None, codes}
 use Rattle.rustc_parse_format.specs.Characters.{Text, behind_first, number}
 use Rattle.rustc_parse_format.specs.Types.{Count, Is, Name, Param, Star, Implied, Spec, Argument}
 use Rattle.rustc_parse_format.specs.Types.{default_spec}
-use Rattle.rustc_parse_format.specs.Marks.{Span, up_to, through, over_first, marked}
+use Rattle.rustc_parse_format.specs.Marks.{Span, up_to, through, over_first, run_texts}
 use Rattle.rustc_parse_format.specs.Placeholder.{Cut}
 use Rattle.rustc_parse_format.specs.Syntax.{CountText, NumberCount, IndexCount, NameCount, NoCount}
 use Rattle.rustc_parse_format.specs.Syntax.{WidthText, PaddedWidth, ZeroIndexWidth, PlainWidth}
@@ -70,15 +70,15 @@ abbrev pub fill_span : Text → Option ℕ → Option Span
 fill_span t None = None
 fill_span t (Some c) = Some (over_first t)
 
--- What is left of the input at the start of the type, where r is left after the specification.
+-- The rest of the input from the type on, where r is left after the specification.
 abbrev pub from_type : FormatText → Text → Text
 from_type p r = (type_part p.type).spelling ++ r
 
--- What is left of the input at the start of the precision, where r is left after the specification.
+-- The rest of the input from the precision on, where r is left after the specification.
 abbrev pub from_precision : FormatText → Text → Text
 from_precision p r = (precision_part p.precision).spelling ++ from_type p r
 
--- What is left of the input at the start of the width, where r is left after the specification.
+-- The rest of the input from the width on, where r is left after the specification.
 abbrev pub from_width : FormatText → Text → Text
 from_width p r = (width_part p.width).spelling ++ from_precision p r
 
@@ -100,7 +100,7 @@ format_of c t p r = record {
   ty_span = type_span (from_type p r) p.type r;
 }
 
--- The meaning of what is at t where a specification may be, with r after it.
+-- The meaning of the specification, or of its absence, at t with r after it.
 abbrev pub spec_of : ℕ → Text → SpecText → Text → Spec Span
 spec_of c t Default r = default_spec
 spec_of c t (Formatting p) r = format_of c (behind_first t) p r
@@ -119,9 +119,9 @@ argument c a = record {
 }
 
 -- The characters of a specification that are read as text, where r is left after it. In a
--- diagnostic they are all that follows the colon; elsewhere there are none.
+-- diagnostic they are all characters after the colon; elsewhere there are none.
 abbrev pub spec_texts : SpecText → Text → List (ℕ × ℕ)
 spec_texts Default r = []
 spec_texts (Formatting p) r = []
 spec_texts (Modifier w) r = []
-spec_texts (DiagnosticText u) r = marked u r
+spec_texts (DiagnosticText u) r = run_texts u r

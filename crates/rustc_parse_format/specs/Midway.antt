@@ -1,4 +1,5 @@
--- What contracts see in the middle of a call. Only private contracts use it.
+-- The state of a parser in the middle of a call, as contracts see it. Only private contracts use
+-- it.
 use Prim.Native.Char.{code}
 use Rattle.std.specs.Prelude.{chars, Bool, not, ◌&&◌, if◌then◌else◌, ◌≡◌, ◌<◌, ◌≤◌, ◌+◌, ◌-◌, ℕ}
 use Rattle.std.specs.Prelude.{◌++◌, true, List, [], ◌∷◌, length, Option, Some, None}
@@ -7,24 +8,24 @@ use Rattle.rustc_parse_format.specs.declared.source.Source.{Source}
 use Rattle.rustc_parse_format.specs.Characters.{Text, front, behind, behind_first, begins_with}
 use Rattle.rustc_parse_format.specs.Characters.{is_no_brace}
 use Rattle.rustc_parse_format.specs.Back.{Back, IsPaid}
-use Rattle.rustc_parse_format.specs.Marks.{Span, marked, through}
+use Rattle.rustc_parse_format.specs.Marks.{Span, run_texts, through}
 use Rattle.rustc_parse_format.specs.Faults.{Fault}
 use Rattle.rustc_parse_format.specs.World.{World, Place, StartBehind, faults_in, place_at}
 use Rattle.rustc_parse_format.specs.Call.{Call, unclosed_fault}
 use Rattle.rustc_parse_format.specs.Recovery.{Recovery, recovery}
 use Rattle.rustc_parse_format.specs.Types.{Mode, Argument}
 use Rattle.rustc_parse_format.specs.SeenSource.{seen_world}
-use Rattle.rustc_parse_format.specs.Tries.{tried}
+use Rattle.rustc_parse_format.specs.Tries.{back_after}
 use Rattle.rustc_parse_format.specs.Lines.{lines_in, closed_in, read_lines}
 
--- What a cursor counts: how many characters it has read, also those that it gave back, and how many
--- were left when it last went back.
+-- The numbers that a cursor counts: of the characters that it has read, those that it gave back
+-- included, and of the characters that were left when it last went back.
 pub record Passed : Type 0 where
   pub made : ℕ
   pub left : ℕ
 
--- What was given back, where t is left of the input n. It counts the characters that were read
--- again.
+-- The characters that were given back, where t is left of the input n, by the number of those that
+-- were read again.
 abbrev pub back_at : Text → Text → Passed → Back
 back_at n t p = record { again = (p.made + length t) - length n; left = p.left }
 
@@ -34,33 +35,34 @@ pub record IsCounted (n t : Text) (p : Passed) : Type 0 where
   pub made : length n ≤ p.made + length t
   pub paid : IsPaid n t (back_at n t p)
 
--- What a cursor has left to read: a suffix of an input, in the world of its source.
+-- The text that a cursor has left to read: a suffix of an input, in the world of its source.
 pub record Unread : Type 0 where
   pub source : Source
   pub world : World
   pub input : Text
   pub rest : Text
   pub back : Back
-  -- How often the cursor was put back after an allocation failure. The steps of such a call do not
-  -- count.
-  pub undone : ℕ
+  -- The number of times that the cursor was put back after an allocation failure. The steps of such
+  -- a call do not count.
+  pub undo_count : ℕ
 
--- The state of a parser in the middle of a call: what its cursor has left to read, the number that
--- the next implicit argument takes, and what the call has found so far.
+-- The state of a parser in the middle of a call: the text that its cursor has left to read, the
+-- number that the next implicit argument takes, and the faults, lines and place that the call has
+-- found so far.
 pub record Midway : Type 0 where
   pub source : Source
   pub world : World
   pub input : Text
   pub rest : Text
   pub back : Back
-  pub undone : ℕ
+  pub undo_count : ℕ
   pub next : ℕ
   pub faults : List (Fault Place)
   -- The byte offset where the current line starts, and the lines that ended in this call.
   pub line_start : ℕ
   pub lines : List Place
   -- The place of the placeholder that was closed.
-  pub closed : Option Place
+  pub closed_place : Option Place
 
 -- A placeholder begins here: there is an opening brace, and no second one after it.
 abbrev pub opens_placeholder : Text → Bool
@@ -75,19 +77,19 @@ midway u n start = record {
   input = u.input;
   rest = u.rest;
   back = u.back;
-  undone = u.undone;
+  undo_count = u.undo_count;
   next = n;
   faults = [];
   line_start = start;
   lines = [];
-  closed = None;
+  closed_place = None;
 }
 
 -- The call has found nothing yet.
 abbrev pub HasFoundNothing : Midway → Type 0
-HasFoundNothing s = (s.faults ≡ []) × (s.lines ≡ []) × (s.closed ≡ None)
+HasFoundNothing s = (s.faults ≡ []) × (s.lines ≡ []) × (s.closed_place ≡ None)
 
--- What a cursor has left to read that is at the start of the suffix `rest` of a source's input.
+-- The text that a cursor has left to read at the start of the suffix `rest` of a source's input.
 abbrev pub unread_at : Source → List ℕ → Back → ℕ → Unread
 unread_at s rest b n = record {
   source = s;
@@ -95,7 +97,7 @@ unread_at s rest b n = record {
   input = chars s.input.now;
   rest = chars rest;
   back = b;
-  undone = n;
+  undo_count = n;
 }
 
 -- The state after reading up to r, with n as the next number and these faults found.
@@ -104,7 +106,7 @@ read_to s r n fs = record s { rest = r; next = n; faults = s.faults ++ faults_in
 
 -- The state after trying the words at these suffixes for a count.
 abbrev pub read_tries : Midway → List Text → Midway
-read_tries s ts = record s { back = tried s.back ts }
+read_tries s ts = record s { back = back_after s.back ts }
 
 -- The state after reading these characters as text.
 abbrev pub read_texts : Midway → List (ℕ × ℕ) → Midway
@@ -114,10 +116,10 @@ read_texts s cs =
       lines = s.lines ++ (lines_in s.world s.line_start cs).1;
     }
 
--- The state after reading the run of text at the start of what is left.
+-- The state after reading the run of text at the start of the rest.
 abbrev pub read_run : Midway → Midway
 read_run s =
-    record (read_texts s (marked (front is_no_brace s.rest) (behind is_no_brace s.rest))) {
+    record (read_texts s (run_texts (front is_no_brace s.rest) (behind is_no_brace s.rest))) {
       rest =
           behind is_no_brace s.rest;
     }
@@ -142,7 +144,7 @@ IsPastIndent c start w t = (is_whitespace c ≡ true → start < (place_at w (le
 abbrev pub FindsNothing : Midway → List (Fault Span) → List (ℕ × ℕ) → Type 0
 FindsNothing s fs cs = (fs ≡ []) × ((read_texts s cs).lines ≡ s.lines)
 
--- Reading the run of text at the start of what is left ends no line.
+-- Reading the run of text at the start of the rest ends no line.
 abbrev pub IsInOneLine : Midway → Type 0
 IsInOneLine s = (read_run s).lines ≡ s.lines
 
@@ -155,8 +157,8 @@ closed_then old (Some p) = Some p
 abbrev pub read_call : Midway → Call → Midway
 read_call s k =
     record (read_texts (read_tries (read_to s k.rest k.next k.faults) k.tries) k.texts) {
-      closed =
-          closed_then s.closed (closed_in s.world k.closes);
+      closed_place =
+          closed_then s.closed_place (closed_in s.world k.closes);
     }
 
 -- The state after reading the character with this fault. Without a fault it is unchanged.
@@ -175,7 +177,7 @@ behind_closing mode o a s =
     if begins_with (code "}") s.rest
     then record s {
       rest = behind_first s.rest;
-      closed = closed_then s.closed (closed_in s.world (Some (through o s.rest)));
+      closed_place = closed_then s.closed_place (closed_in s.world (Some (through o s.rest)));
     }
     else recovered (read_to s s.rest s.next (unclosed_fault o a.format s.rest ∷ []))
     (recovery mode s.next o a s.rest)

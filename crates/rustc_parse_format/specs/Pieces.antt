@@ -1,4 +1,4 @@
--- What a caller sees of calls of a parser, and of the iterator over its pieces.
+-- The iterator over the pieces of a parser, and the calls that it makes, as a caller sees them.
 use Rattle.std.specs.Prelude.{◌≡◌, ℕ, suc, Bool, true, false, not, if◌then◌else◌, length}
 use Rattle.std.specs.Prelude.{Option, Some, None, option_map, Result, Ok, Err}
 use Rattle.std.specs.declared.alloc.AllocError.{AllocError}
@@ -20,7 +20,7 @@ lender_of it = it.parser.ghost_name
 
 -- The iterator has returned its last item.
 abbrev pub has_ended : Pieces → Bool
-has_ended it = it.ended
+has_ended it = it.has_ended
 
 -- The next call of a parser in the state s leaves it in the state t, and the iterator returns this
 -- item. The item is the piece, or None if the call returns no piece, or Err if an allocation fails.

@@ -10,7 +10,7 @@ use Rattle.rustc_parse_format.specs.Syntax.{PositionText, Digits, Word, RawWord,
 use Rattle.rustc_parse_format.specs.Syntax.{FieldText, field_part, spec_part}
 use Rattle.rustc_parse_format.specs.Specification.{specification}
 
--- A field with what is left of the text at its position, at its specification and after it.
+-- A field with the rests of the text from its position on, from its specification on and after it.
 pub record Cut : Type 0 where
   pub field : FieldText
   pub position_at : Text
@@ -18,19 +18,19 @@ pub record Cut : Type 0 where
   pub rest : Text
 
 -- The cut of the field a that is followed by r.
-abbrev pub placed : Mode → FieldText → Text → Cut
-placed mode a r = record {
+abbrev pub cut_of : Mode → FieldText → Text → Cut
+cut_of mode a r = record {
   field = a;
   position_at = (field_part mode a).spelling ++ r;
   spec_at = (spec_part mode a.spec).spelling ++ r;
   rest = r;
 }
 
--- The raw identifier after an `r#`, where t is left, and what is left after it.
+-- The raw identifier after an `r#`, where t is left, and the rest after it.
 abbrev pub raw_word : Text → PositionText × Text
 raw_word t = (RawWord (word t), behind_word t)
 
--- The position at the start of a text, and what is left after it.
+-- The position at the start of a text, and the rest after it.
 abbrev pub position : Text → PositionText × Text
 position [] = (NoPosition, [])
 position (c ∷ t) =

@@ -44,12 +44,13 @@ inside p at (u ∷ us) =
     (if nat_le p.0 at && nat_le (at + byte_length (spelling u)) p.1 then value u else [])
     ++ inside p (at + byte_length (spelling u)) us
 
--- How many of the n characters of a text are before a mark. The end of a character is after it.
+-- The number of characters, of the n of a text, that are before a mark. The end of a character is
+-- after it.
 abbrev pub count_before : ℕ → Mark → ℕ
 count_before n (Start k) = n - k
 count_before n (End k) = suc n - k
 
--- How many characters are left from the character of a mark on.
+-- The number of characters that are left from the character of a mark on.
 abbrev pub left_at : Mark → ℕ
 left_at (Start k) = k
 left_at (End k) = k
@@ -77,7 +78,7 @@ pub record ReadsBack (input : Text) (style : Option ℕ) (snippet : Text) (appen
       ≡ drop (count_before (length input) s.from)
       (take (count_before (length input) s.to) (unappended appended input))
 
--- The place is a byte range inside the snippet, and does not run backwards.
+-- The place is a byte range inside the snippet that does not run backwards.
 pub record IsInside (snippet : Text) (p : Place) : Type 0 where
   pub in_order : p.0 ≤ p.1
   pub within : p.1 ≤ byte_length snippet

@@ -1,4 +1,4 @@
--- What a function that reads does: it reads up to a point of the input, or an allocation fails.
+-- The effect of a function that reads: it reads up to a point of the input, or an allocation fails.
 use Rattle.std.specs.Prelude.{◌≡◌, ℕ, List, [], Result, IsOk, OnErr, OnOk}
 use Rattle.std.specs.declared.alloc.AllocError.{AllocError}
 use Rattle.rustc_parse_format.specs.Characters.{Text}

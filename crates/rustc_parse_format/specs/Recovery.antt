@@ -1,6 +1,6 @@
--- Recovery: what a call does after the fault of a missing closing brace. The first two characters
--- that are found there decide. No public document has this rule: it is this project's, and follows
--- the code of rustc's parser.
+-- Recovery: the steps of a call after the fault of a missing closing brace. The first two
+-- characters that are found there decide. No public document has this rule: it is this project's,
+-- and follows the code of rustc's parser.
 use Prim.Native.Char.{code}
 use Rattle.std.specs.Prelude.{ℕ, ◌++◌, ◌&&◌, ◌==◌, not, if◌then◌else◌, List, [], ◌∷◌, Option, Some}
 use Rattle.std.specs.Prelude.{None}
@@ -22,10 +22,10 @@ pub record Recovery : Type 0 where
   pub faults : List (Fault Span)
   pub rest : Text
   pub next : ℕ
-  -- The characters that the recovery reads as text, each with how many characters are left from it
-  -- on.
+  -- The characters that the recovery reads as text, each with the number of characters that are
+  -- left from it on.
   pub texts : List (ℕ × ℕ)
-  -- What is left of the input at each word that the recovery tries for a count.
+  -- The rest of the input from each word on that the recovery tries for a count.
   pub tries : List Text
 
 -- A recovery that finds these faults, leaves r and takes no number.

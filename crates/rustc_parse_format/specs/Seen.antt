@@ -1,4 +1,4 @@
--- What a contract sees of the values of the declared types: texts as their characters, messages as
+-- The values of the declared types as a contract sees them: texts as their characters, messages as
 -- their bytes, ranges as pairs.
 use Rattle.std.specs.Prelude.{ℕ, Option, Some, None, option_map, chars, string_bytes}
 use Rattle.std.specs.declared.string.String.{String}

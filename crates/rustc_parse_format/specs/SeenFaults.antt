@@ -1,4 +1,4 @@
--- What a contract sees of a fault that was found.
+-- A fault as a contract sees it.
 use Rattle.std.specs.Prelude.{chars, List, [], ◌∷◌, Option, Some, None, map}
 use Rattle.rustc_parse_format.specs.declared.faults.Fault.{Fault as DeclaredFault}
 use Rattle.rustc_parse_format.specs.declared.faults.Fault.TheVariants.{UnmatchedBrace as LoneBrace}

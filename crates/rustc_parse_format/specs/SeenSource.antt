@@ -1,5 +1,5 @@
--- What a contract sees of where an input is in its source. Private contracts use it, and the views
--- of a cursor and of a parser.
+-- The place of an input in its source, as a contract sees it. Private contracts use it, and so do
+-- the views of a cursor and of a parser.
 use Prim.Native.Char.{code}
 use Rattle.std.specs.Prelude.{◌≡◌, ℕ, ◌≤◌, ◌<◌, ◌+◌, ◌^◌, ◌-◌, ◌&&◌, ◌++◌, ◌==◌, ◌⊎◌, Bool, true}
 use Rattle.std.specs.Prelude.{not, List, [], ◌∷◌, length, take, drop, flat_map}
@@ -30,32 +30,32 @@ world_of_literal snippet appended = ordinary_world (units_between snippet) appen
 abbrev pub world_with : Option (String Global) → Source → World
 world_with None s = plain_world s.is_literal s.offset (chars s.input.now) s.end
 world_with (Some snippet) s =
-    record (world_of_literal (chars (string_bytes snippet)) s.appended) {
+    record (world_of_literal (chars (string_bytes snippet)) s.appended_newline) {
       has_source =
           s.is_literal;
     }
 
 -- The world of a source, as a contract sees it.
 abbrev pub seen_world : Source → World
-seen_world s = world_with s.kept s
+seen_world s = world_with s.kept_snippet s
 
 -- The text begins with a continuation.
 abbrev pub begins_continuation : Text → Bool
 begins_continuation t = begins_with (code "\\") t && begins_with (code "\n") (behind_first t)
 
--- How many bytes the unit before r takes, or 0 if it stands for no character.
-abbrev pub taken_by : Text → Text → Text → ℕ
-taken_by t [] r = 0
-taken_by t (c ∷ v) r = byte_length t - byte_length r
+-- The number of bytes of the unit before r, or 0 if it stands for no character.
+abbrev pub width_before : Text → Text → Text → ℕ
+width_before t [] r = 0
+width_before t (c ∷ v) r = byte_length t - byte_length r
 
--- How many bytes a unit takes, by its meaning, or 0 if it stands for no character.
-abbrev pub taken : Text → Option (Text × Text) → ℕ
-taken t None = 0
-taken t (Some x) = taken_by t x.0 x.1
+-- The number of bytes of a unit, by its meaning, or 0 if it stands for no character.
+abbrev pub unit_width : Text → Option (Text × Text) → ℕ
+unit_width t None = 0
+unit_width t (Some x) = width_before t x.0 x.1
 
--- How many bytes the unit at the start of a text takes, or 0 if it stands for no character.
+-- The number of bytes of the unit at the start of a text, or 0 if it stands for no character.
 unfoldable pub character_width : Text → ℕ
-character_width t = taken t (meaning (unit_at t))
+character_width t = unit_width t (meaning (unit_at t))
 
 -- Units as they are written.
 abbrev pub spelled_units : List LiteralUnit → Text
@@ -67,13 +67,13 @@ after_continuations [] = []
 after_continuations (Continuation w ∷ us) = after_continuations us
 after_continuations (u ∷ us) = u ∷ us
 
--- How many bytes are between the start of the units us and the start of those after them, or 0 if
--- none are after them.
+-- The number of bytes from the start of the units us to the start of those after them, or 0 if none
+-- are after them.
 abbrev pub gap_to : List LiteralUnit → List LiteralUnit → ℕ
 gap_to us [] = 0
 gap_to us (v ∷ vs) = byte_length (spelled_units us) - byte_length (spelled_units (v ∷ vs))
 
--- How many bytes the continuations at the start take, or 0 if no character comes after them.
+-- The number of bytes of the continuations at the start, or 0 if no character comes after them.
 abbrev pub gap : List LiteralUnit → ℕ
 gap us = gap_to us (after_continuations us)
 
@@ -82,13 +82,13 @@ abbrev pub closed_by_quote : Text → Text
 closed_by_quote content = content ++ codes "\""
 
 -- The first of the units stands for a character, or none of them does. So continuations before a
--- character are skipped, and those at the end are not.
+-- character are skipped, but those at the end are not.
 abbrev pub IsAhead : List LiteralUnit → Type 0
 IsAhead [] = Unit {0}
 IsAhead (u ∷ us) = ((c : ℕ) × (value u ≡ c ∷ [])) ⊎ (content_value (u ∷ us) ≡ [])
 
--- What is left of the input is what the snippet holds from the byte `at` on. The next character
--- starts there, or, if none is left, the text ends there.
+-- The rest of the input is the text that the snippet stands for from the byte `at` on. The next
+-- character starts there, or, if none is left, the text ends there.
 pub record IsHere (snippet : List ℕ) (w : World) (rest : Text) (at : ℕ) : Type 0 where
   pub within : at ≤ length snippet
   pub valid : is_utf8 (drop at snippet) ≡ true
@@ -114,13 +114,13 @@ pub record IsUnescaped (snippet : List ℕ) (at n : ℕ) : Type 0 where
   pub inside : at + n < length snippet
   pub unescaped : list_all is_unescaped (take n (drop at snippet)) ≡ true
 
--- What was left at the anchor is what the snippet holds from its offset on, and as many bytes as it
--- says stand for themselves there.
+-- The rest of the input at the anchor is the text that the snippet stands for from its offset on,
+-- and as many bytes as it says stand for themselves there.
 abbrev pub IsAnchor : List ℕ → World → Anchor → Type 0
 IsAnchor snippet w a = IsHere snippet w (chars a.rest.now) a.offset
     × IsUnescaped snippet a.offset a.unescaped
 
--- The text `rest` is a suffix of what was left at an anchor in this snippet.
+-- The text `rest` is a suffix of the rest at an anchor in this snippet.
 pub record Leads (snippet : List ℕ) (a : Anchor) (rest : List ℕ) : Type 0 where
   pub after : IsLeft a.rest.now rest
   pub here : (w : World) × IsAnchor snippet w a
@@ -134,7 +134,7 @@ IsAnchorIn (Some snippet) w a = IsAnchor (string_bytes snippet) w a
 pub record IsAnchored (s : Source) (rest : List ℕ) (a : Anchor) : Type 0 where
   pub is_left : IsLeft s.input.now rest
   pub is_after : IsLeft a.rest.now rest
-  pub is_anchor : IsAnchorIn s.kept (seen_world s) a
+  pub is_anchor : IsAnchorIn s.kept_snippet (seen_world s) a
   pub fits : s.offset + length s.input.now < 2 ^ 64
   pub ending : s.end ≡ (seen_world s).end
 
@@ -151,8 +151,8 @@ pub record IsOrdinary (input : Text) (snippet : Text) (appended : Bool) (end : �
 abbrev pub IsKeptIn : Option (String Global) → Source → Type 0
 IsKeptIn None s = Unit {0}
 IsKeptIn (Some snippet) s = IsOrdinary (chars s.input.now)
-    (chars (string_bytes snippet)) s.appended s.end
+    (chars (string_bytes snippet)) s.appended_newline s.end
 
 -- The snippet that a source keeps, if any, is an ordinary literal that stands for its input.
 abbrev pub IsKept : Source → Type 0
-IsKept s = IsKeptIn s.kept s
+IsKept s = IsKeptIn s.kept_snippet s

@@ -11,7 +11,7 @@ use Rattle.rustc_parse_format.specs.Literal.{newline, IsSource}
 abbrev pub unappended : Bool → Text → Text
 unappended appended t = if appended then take (length t - 1) t else t
 
--- What is between the first and the last character of a text.
+-- The text between its first and its last character.
 abbrev pub between : Text → Text
 between t = take (length t - 2) (drop 1 t)
 

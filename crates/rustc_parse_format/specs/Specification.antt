@@ -1,5 +1,5 @@
--- What follows the position of a placeholder, computed. Each mode has its own rule for what follows
--- the colon. The parts are those that `Syntax` defines by the grammar of `std::fmt`.
+-- The specification after the position of a placeholder, computed. Each mode has its own rule for
+-- the part after the colon. The parts are those that `Syntax` defines by the grammar of `std::fmt`.
 use Prim.Native.Char.{code}
 use Rattle.std.specs.Prelude.{ℕ, Bool, true, false, if◌then◌else◌, ◌==◌, [], ◌∷◌, Option, Some}
 use Rattle.std.specs.Prelude.{None}
@@ -14,8 +14,8 @@ use Rattle.rustc_parse_format.specs.Syntax.{FormatText, SpecText, Default, Forma
 use Rattle.rustc_parse_format.specs.Syntax.{DiagnosticText}
 use Rattle.rustc_parse_format.specs.Counts.{width, precision}
 
--- Each part of a format specification is read at the start of a text, and returned with what is
--- left after it.
+-- Each part of a format specification is read at the start of a text, and returned with the rest
+-- after it.
 
 -- The fill at the start of a text: a character that an alignment follows.
 abbrev pub fill : Text → Option ℕ × Text
@@ -54,32 +54,32 @@ type (c ∷ t) =
     else (if c == code "?" then (CharacterType c, t)
     else (WordType (word (c ∷ t)), behind_word (c ∷ t))))
 
--- What is left of t at the alignment of a format specification, which begins at t. The fill is
+-- The rest of t from the alignment of a format specification on, which begins at t. The fill is
 -- before it.
 abbrev pub align_at : Text → Text
 align_at t = (fill t).1
 
--- What is left of t at the sign.
+-- The rest of t from the sign on.
 abbrev pub sign_at : Text → Text
 sign_at t = (align (align_at t)).1
 
--- What is left of t at the flag `#`.
+-- The rest of t from the flag `#` on.
 abbrev pub alternate_at : Text → Text
 alternate_at t = (sign (sign_at t)).1
 
--- What is left of t at the width.
+-- The rest of t from the width on.
 abbrev pub width_at : Text → Text
 width_at t = (alternate (alternate_at t)).1
 
--- What is left of t at the precision.
+-- The rest of t from the precision on.
 abbrev pub precision_at : Text → Text
 precision_at t = (width (width_at t)).1
 
--- What is left of t at the type.
+-- The rest of t from the type on.
 abbrev pub type_at : Text → Text
 type_at t = (precision (precision_at t)).1
 
--- The format specification at the start of a text, and what is left after it.
+-- The format specification at the start of a text, and the rest after it.
 unfoldable pub format_text : Text → FormatText × Text
 format_text t = (
   record {
@@ -94,14 +94,14 @@ format_text t = (
   (type (type_at t)).1,
 )
 
--- What follows the colon, where t is left after it.
+-- The part after the colon, where t is left after the colon, and the rest after that part.
 abbrev pub behind_colon : Mode → Text → SpecText × Text
 behind_colon Format t = (Formatting (format_text t).0, (format_text t).1)
 behind_colon InlineAsm t = (Modifier (word t), behind_word t)
 behind_colon Diagnostic t = (DiagnosticText (front is_no_brace t), behind is_no_brace t)
 behind_colon DiagnosticNamed t = (DiagnosticText (front is_no_brace t), behind is_no_brace t)
 
--- The specification at the start of a text, and what is left after it.
+-- The specification at the start of a text, and the rest after it.
 abbrev pub specification : Mode → Text → SpecText × Text
 specification mode [] = (Default, [])
 specification mode (c ∷ t) = if c == code ":" then behind_colon mode t else (Default, c ∷ t)

@@ -1,6 +1,6 @@
--- The parts of a written text: how a part is spelled, whether it is well formed, and what may
--- follow it. A part that may be left out is spelled as the empty text, and only where it does not
--- begin. A run, an integer or a word ends where no further character belongs to it.
+-- The parts of a written text: the spelling of a part, whether it is well formed, and the texts
+-- that may follow it. A part that may be left out is spelled as the empty text, and only where it
+-- does not begin. A run, an integer or a word ends where no further character belongs to it.
 use Rattle.std.specs.Prelude.{◌≡◌, ℕ, Bool, true, false, not, ◌&&◌, ◌||◌, ◌++◌, IsTrue, List, []}
 use Rattle.std.specs.Prelude.{◌∷◌}
 use Rattle.std.specs.List.{list_all}
@@ -83,13 +83,13 @@ abbrev pub optional_identifier : Text → Part
 optional_identifier [] = absent (first_passes is_id_start)
 optional_identifier (c ∷ w) = identifier (c ∷ w)
 
--- Some prefix of the text, with what is left after it, passes the test p.
+-- Some prefix of the text, with the rest after it, passes the test p.
 abbrev pub some_front : Text → (Text → Text → Bool) → Bool
 some_front [] p = p [] []
 some_front (c ∷ t) p = p [] (c ∷ t) || some_front t (λ u r. p (c ∷ u) r)
 
--- The text begins with a well-formed part of this kind, followed by what may follow it. The kind
--- makes a part of each text, which has to be spelled as that text.
+-- The text begins with a well-formed part of this kind, followed by a text that may follow it. The
+-- kind makes a part of each text, which has to be spelled as that text.
 abbrev pub begins_with_part : (Text → Part) → Text → Bool
 begins_with_part part t = some_front t (λ u r. (part u).is_formed && (part u).may_precede r)
 

@@ -1,15 +1,15 @@
--- What a caller sees of a parser between two calls.
+-- A parser between two calls, as a caller sees it.
 use Rattle.std.specs.Prelude.{◌≡◌, ◌++◌, ◌&&◌, ℕ, ◌-◌, Bool, false, if◌then◌else◌, List, [], ◌∷◌}
 use Rattle.std.specs.Prelude.{length, Option, Some, None, option_map}
 use Rattle.rustc_parse_format.specs.Characters.{Text, byte_length, is_nil}
 use Rattle.rustc_parse_format.specs.Back.{Back, nothing_back}
-use Rattle.rustc_parse_format.specs.Tries.{tried}
+use Rattle.rustc_parse_format.specs.Tries.{back_after}
 use Rattle.rustc_parse_format.specs.Types.{Mode, Piece, bare}
 use Rattle.rustc_parse_format.specs.Faults.{Message, add_errors}
 use Rattle.rustc_parse_format.specs.World.{World, Place, place_at, world, quote_offset, faults_in}
 use Rattle.rustc_parse_format.specs.World.{pieces_in}
 use Rattle.rustc_parse_format.specs.Literal.{IsSource}
-use Rattle.rustc_parse_format.specs.Lines.{IsLines, noted, lines_in, closed_places, with_last}
+use Rattle.rustc_parse_format.specs.Lines.{IsLines, texts_in, lines_in, closed_places, with_last}
 use Rattle.rustc_parse_format.specs.Call.{Call, GivesAtMostText, call, walk, IsWalk, pieces_of}
 
 -- The first character of t, which is left of the input: its place, its byte offset in the input,
@@ -26,13 +26,13 @@ pub record State : Type 0 where
   pub mode : Mode
   pub world : World
   pub input : Text
-  -- What is left of the input.
+  -- The rest of the input.
   pub rest : Text
-  -- What was given back, to be read again.
+  -- The characters that were given back, to be read again.
   pub back : Back
-  -- How often the cursor was put back after an allocation failure. The steps of such a call do not
-  -- count.
-  pub undone : ℕ
+  -- The number of times that the cursor was put back after an allocation failure. The steps of such
+  -- a call do not count.
+  pub undo_count : ℕ
   -- The number that the next implicit argument takes.
   pub next : ℕ
   pub errors : List (Message Place)
@@ -51,7 +51,7 @@ fresh mode w input start = record {
   input = input;
   rest = input;
   back = nothing_back input;
-  undone = 0;
+  undo_count = 0;
   next = 0;
   errors = [];
   arg_places = [];
@@ -59,13 +59,13 @@ fresh mode w input start = record {
   line_spans = [];
 }
 
--- A parser at the start, by what it is given: an input, the style of its literal, a snippet, and
+-- A parser at the start, by its arguments: an input, the style of its literal, a snippet, and
 -- whether a newline was appended to the input.
 abbrev pub first_state : Mode → Text → Option ℕ → Option Text → Bool → State
 first_state mode input style snippet appended =
     fresh mode (world input style snippet appended) input (quote_offset style)
 
--- What the next call does.
+-- The next call.
 abbrev pub next_call : State → Call
 next_call s = call s.mode s.next s.rest
 
@@ -75,10 +75,10 @@ abbrev pub last_lines : State → List Place → List Place
 last_lines s ls = if s.world.has_source && is_nil s.rest
     then with_last (s.line_start, s.world.end) ls else ls
 
--- The new state is that after an allocation failure: the old one, but for how often the cursor was
--- put back.
+-- The new state is the one after an allocation failure: the old state, but for the number of times
+-- that the cursor was put back.
 abbrev pub IsPutBack : State → State → Type 0
-IsPutBack s new = new ≡ record s { undone = new.undone }
+IsPutBack s new = new ≡ record s { undo_count = new.undo_count }
 
 -- The state after the call k.
 abbrev pub after : State → Call → State
@@ -86,7 +86,7 @@ after s k =
     let lines = lines_in s.world s.line_start k.texts in
     record s {
       rest = k.rest;
-      back = tried s.back k.tries;
+      back = back_after s.back k.tries;
       next = k.next;
       errors = add_errors s.errors (faults_in s.world k.faults);
       arg_places = s.arg_places ++ closed_places s.world k.closes;
@@ -144,7 +144,7 @@ reach_end t (k ∷ l ∷ ks) = reach_end k.rest (l ∷ ks)
 -- line is added exactly if the walk reached the end, with errors or without.
 pub record AreLines (s : State) (ks : List Call) (new : State) : Type 0 where
   pub lines : List Place
-  pub are_lines : IsLines s.line_start (noted s.world (texts_of ks)) lines new.line_start
+  pub are_lines : IsLines s.line_start (texts_in s.world (texts_of ks)) lines new.line_start
   pub kept : new.line_spans ≡ (let all = s.line_spans ++ lines in
       if reach_end s.rest ks then with_last (new.line_start, s.world.end) all else all)
 

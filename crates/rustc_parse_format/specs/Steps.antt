@@ -1,15 +1,16 @@
--- How many steps a cursor takes. Reading one character is one step. Looking ahead is none, and
--- going back is none. So the steps are the characters that were read and those that were given back
--- to be read again.
+-- The number of steps that a cursor takes. Reading one character is one step. Looking ahead is
+-- none, and going back is none. So the steps are the characters that were read and those that were
+-- given back to be read again.
 use Rattle.std.specs.Prelude.{ℕ, ◌+◌, ◌-◌, ◌*◌, ◌≤◌, length, max}
 use Rattle.rustc_parse_format.specs.Characters.{Text}
 use Rattle.rustc_parse_format.specs.Back.{Back}
 
--- How many characters have been read.
+-- The number of characters that have been read.
 abbrev pub position : Text → Text → ℕ
 position input rest = length input - length rest
 
--- How many steps were taken: the characters that were read, and those that were given back.
+-- The number of steps that were taken: the characters that were read, and those that were given
+-- back.
 abbrev pub steps : Text → Text → Back → ℕ
 steps input rest b = position input rest + b.again
 

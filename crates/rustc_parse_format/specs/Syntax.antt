@@ -1,8 +1,8 @@
--- A format string as it is written: its pieces and their parts, how each is spelled, and what may
--- follow it. The public rule is the grammar of format strings in the documentation of `std::fmt`.
--- Each rule is quoted before its definition, and what this language adds is said after the
--- quotation. A part is as long as it can be, from left to right, and an optional part is left out
--- only where it does not begin.
+-- A format string as it is written: its pieces and their parts, the spelling of each, and the texts
+-- that may follow it. The public rule is the grammar of format strings in the documentation of
+-- `std::fmt`. Each rule is quoted before its definition, and additions of this language are said
+-- after the quotation. A part is as long as it can be, from left to right, and an optional part is
+-- left out only where it does not begin.
 use Prim.Native.Char.{code}
 use Rattle.std.specs.Prelude.{◌≡◌, ℕ, Bool, true, false, not, ◌||◌, ◌==◌, [], ◌∷◌, Option, Some}
 use Rattle.std.specs.Prelude.{None, codes}
@@ -25,8 +25,8 @@ pub data PositionText : Type 0 where
   RawWord : Text → PositionText
   NoPosition : PositionText
 
--- argument := integer | identifier. A raw identifier is also read, and is a fault. Where one
--- begins, no word begins.
+-- argument := integer | identifier. A raw identifier is read too, and is a fault. Where one begins,
+-- no word begins.
 abbrev pub position_part : PositionText → Part
 position_part (Digits ds) = integer ds
 position_part (Word w) = row (absent begins_raw ∷ identifier w ∷ [])
@@ -149,7 +149,7 @@ format_part p = row (fill_part p.fill ∷ align_part p.align ∷ sign_part p.sig
     ∷ alternate_part p.alternate
     ∷ width_part p.width ∷ precision_part p.precision ∷ type_part p.type ∷ [])
 
--- What is written where a specification may be.
+-- The specification as it is written, or its absence.
 pub data SpecText : Type 0 where
   -- Nothing: there is no colon.
   Default : SpecText
@@ -176,7 +176,7 @@ spec_part DiagnosticNamed (Formatting p) = never
 spec_part DiagnosticNamed (Modifier w) = never
 spec_part DiagnosticNamed (DiagnosticText u) = row (fixed (codes ":") ∷ run is_no_brace u ∷ [])
 
--- What is between the braces of a placeholder, without the white space before the closing brace.
+-- The text between the braces of a placeholder, without the white space before the closing brace.
 pub record FieldText : Type 0 where
   pub position : PositionText
   -- The white space after the position.
@@ -188,8 +188,8 @@ abbrev pub field_part : Mode → FieldText → Part
 field_part mode a = row (position_part a.position ∷ run is_whitespace a.space
     ∷ spec_part mode a.spec ∷ [])
 
--- format := '{' [ argument ] [ ':' format_spec ] [ ws ] * '}'. White space may also be before the
--- colon.
+-- format := '{' [ argument ] [ ':' format_spec ] [ ws ] * '}'. White space may be before the colon
+-- too.
 abbrev pub placeholder_part : Mode → FieldText → Text → Part
 placeholder_part mode a space =
     row (fixed (codes "{") ∷ field_part mode a ∷ run is_whitespace space ∷ fixed (codes "}") ∷ [])

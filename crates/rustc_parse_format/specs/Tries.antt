@@ -1,5 +1,5 @@
 -- The words that are tried for a count. If no `$` follows such a word, it is given back and read
--- again as what it is. Each is given by what is left of the input at its start.
+-- again as the type. Each is given by the rest of the input from it on.
 use Rattle.std.specs.Prelude.{◌++◌, if◌then◌else◌, List, [], ◌∷◌}
 use Rattle.rustc_parse_format.specs.Characters.{Text, behind_first, behind_word, first_passes}
 use Rattle.rustc_parse_format.specs.Characters.{is_id_start}
@@ -10,12 +10,12 @@ use Rattle.rustc_parse_format.specs.Syntax.{StarPrecision, DotPrecision, FormatT
 use Rattle.rustc_parse_format.specs.Syntax.{Formatting}
 use Rattle.rustc_parse_format.specs.Meaning.{from_width, from_precision}
 
--- What has been given back after these words, one after the other.
-abbrev pub tried : Back → List Text → Back
-tried b [] = b
-tried b (t ∷ ts) = tried (given_back (behind_word t) t b) ts
+-- The characters that have been given back after these words, one after the other.
+abbrev pub back_after : Back → List Text → Back
+back_after b [] = b
+back_after b (t ∷ ts) = back_after (given_back (behind_word t) t b) ts
 
--- The word that is tried for a count at t, if it is not one.
+-- The word that is tried for a count at t, if there is no count.
 abbrev pub count_tries : Text → CountText → List Text
 count_tries t NoCount = if first_passes is_id_start t then t ∷ [] else []
 count_tries t k = []

@@ -10,14 +10,14 @@ pub data Mode : Type 0 where
   -- A diagnostic in which each argument is a name and has nothing after its colon.
   DiagnosticNamed : Mode
 
--- The mode accepts only arguments that are names. It asks nothing of how a name is spelled.
+-- The mode accepts only arguments that are names, however they are spelled.
 abbrev pub wants_names : Mode → Bool
 wants_names Format = false
 wants_names InlineAsm = false
 wants_names Diagnostic = false
 wants_names DiagnosticNamed = true
 
--- The alignment that a specification asks for. `Unknown` means that it asks for none.
+-- The alignment of a specification. `Unknown` means that it has none.
 pub data Alignment : Type 0 where
   Left : Alignment
   Right : Alignment
@@ -34,8 +34,8 @@ pub data DebugHex : Type 0 where
   Lower : DebugHex
   Upper : DebugHex
 
--- The argument that is meant: the next one, with the number that it takes; the one with a given
--- number; or the one with a name.
+-- The argument that a position means: the next one, with the number that it takes; the one with a
+-- given number; or the one with a name.
 pub data Position : Type 0 where
   Implicit : ℕ → Position
   Index : ℕ → Position
@@ -71,23 +71,23 @@ pub record Spec (Span : Type 0) : Type 0 where
   pub ty : Text
   pub ty_span : Option Span
 
--- A placeholder: which argument it means, where that is written, and how to format it.
+-- A placeholder: the argument that it means, the span where that is written, and the format.
 pub record Argument (Span : Type 0) : Type 0 where
   pub position : Position
   pub position_span : Span
   pub format : Spec Span
 
--- What a call returns: text, or an argument to be formatted.
+-- A piece: text, or an argument to be formatted.
 pub data Piece (Span : Type 0) : Type 0 where
   Lit : Text → Piece Span
   NextArgument : Argument Span → Piece Span
 
--- The piece is text, and not a placeholder.
+-- The piece is text.
 abbrev pub IsText : {A : Type 0} → Piece A → Type 0
 IsText (Lit t) = Unit {0}
 IsText (NextArgument a) = ⊥
 
--- The specification that asks for nothing, as `{}` has it.
+-- The specification whose parts are all absent, as in `{}`.
 abbrev pub default_spec : {A : Type 0} → Spec A
 default_spec = record {
   fill = None;

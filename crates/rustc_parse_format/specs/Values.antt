@@ -1,5 +1,5 @@
--- What a piece as written means, without spans, and which number the next implicit argument takes.
--- The number c is the next one before the piece. The public rules are in the documentation of
+-- The meaning of a piece as written, without spans, and the number that the next implicit argument
+-- takes. The number c is that number before the piece. The public rules are in the documentation of
 -- `std::fmt`: positional parameters, width and precision.
 use Rattle.std.specs.Prelude.{ℕ, Bool, true, false, suc, if◌then◌else◌, [], ◌∷◌, Option, Some, None}
 use Rattle.std.specs.Prelude.{codes, is_some, unwrap_or}
@@ -43,7 +43,7 @@ precision_value c NoPrecision = Implied
 precision_value c StarPrecision = Star c
 precision_value c (DotPrecision k) = count_value k
 
--- The type that is meant. In `x?` and `X?` it is `?`.
+-- The meaning of a type. That of `x?` and `X?` is `?`.
 abbrev pub type_of : TypeText → Text
 type_of (DebugHexType h) = codes "?"
 type_of (CharacterType c) = c ∷ []
@@ -69,7 +69,7 @@ format_value c p = record default_spec {
   ty = type_of p.type;
 }
 
--- The meaning of what follows a colon in any mode, where c is the next number.
+-- The meaning of the part after a colon in any mode, where c is the next number.
 abbrev pub spec_value : ℕ → SpecText → Spec (Unit {0})
 spec_value c Default = default_spec
 spec_value c (Formatting p) = format_value c p

@@ -1,6 +1,6 @@
--- A world says which bytes each character of the input is at, and so which byte offset a mark is.
--- With a source literal they are the bytes of the literal that stand for the character. The rules
--- are those of string literals in the Rust Reference, and the code of rustc's parser.
+-- A world gives each character of the input its bytes in the source, and so each mark its byte
+-- offset. With a source literal they are the bytes of the literal that stand for the character. The
+-- rules are those of string literals in the Rust Reference, and the code of rustc's parser.
 use Rattle.std.specs.Prelude.{ℕ, suc, ◌+◌, ◌-◌, ◌<◌, ◌≤◌, ◌++◌, Bool, true, false, if◌then◌else◌}
 use Rattle.std.specs.Prelude.{List, [], ◌∷◌, length, map, Option, Some, None}
 use Rattle.std.specs.Prelude.{slice_index_or}
@@ -57,7 +57,7 @@ content_places at us = map (λ (x : Place × ℕ). x.0) (placed_characters at us
 abbrev pub later : ℕ → Place → Place
 later k p = (k + p.0, k + p.1)
 
--- Where the last of these places ends, or e if there are none.
+-- The end of the last of these places, or e if there are none.
 abbrev pub last_stop : ℕ → List Place → ℕ
 last_stop e [] = e
 last_stop e (p ∷ ps) = last_stop p.1 ps

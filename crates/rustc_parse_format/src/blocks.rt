@@ -1,7 +1,7 @@
 //! Prefixes of bytes, found sixteen bytes at a time. The last block ends where the bytes end, so it
-//! may overlap the one before it. Where there are fewer bytes than a block has, each byte is
-//! examined. The kit's crate memchr is slower up to some twenty bytes, faster from some thousands
-//! on, and does not compare two texts.
+//! may overlap the one before it. If there are fewer bytes than a block has, each byte is examined.
+//! The kit's crate memchr is slower up to some twenty bytes, faster from some thousands on, and
+//! does not compare two texts.
 
 ghost use Rattle.std.specs.Int.{bit_at};
 ghost use Rattle.std.specs.List.{list_all};

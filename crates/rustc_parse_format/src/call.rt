@@ -1,5 +1,4 @@
-//! One call of the parser: it reads a placeholder, or what is not one, and adds faults as they are
-//! found.
+//! One call of the parser: it reads a placeholder or a text, and adds faults as they are found.
 
 use crate::faults::Fault;
 use crate::laws::default_of_spec;
@@ -56,14 +55,14 @@ impl<'input> Reader<'input> {
     fn consume_closing_brace(&mut self, start: usize)
         ensures state { self.new ≡ record self.old {
           rest = behind_first self.old.rest;
-          closed = if self.old.world.has_source
+          closed_place = if self.old.world.has_source
               then Some (start, number_of self.old.world (End (length self.old.rest)))
-              else self.old.closed;
+              else self.old.closed_place;
         } }
     {
         if self.cursor.is_source_literal() {
             let brace = self.cursor.consume_place();
-            self.closed = Some(start..brace.end);
+            self.closed_place = Some(start..brace.end);
         } else {
             self.cursor.skip_char();
         }
@@ -120,9 +119,8 @@ impl<'input> Reader<'input> {
         Ok(())
     }
 
-    /// Reads what is not a placeholder. Returns the text, or `None` at the end of the input and
-    /// after a closing brace that closes nothing, which is a fault. Returns `Err` if an allocation
-    /// fails.
+    /// Reads a text, where no placeholder begins. Returns `None` at the end of the input and after
+    /// a closing brace that closes nothing, which is a fault. Returns `Err` if an allocation fails.
     #[tactic(auto, using(crate::proofs::Readers::Steps::part_le), unfolding(crate::specs::Call::call))]
     pub fn text(&mut self) -> Result<Option<&'input str>, AllocError>
         requires bare { opens_placeholder self.old.rest ≡ false }
@@ -183,7 +181,7 @@ impl<'input> Reader<'input> {
     /// Reads the next piece, a placeholder into `into`. Returns `None` at the end of the input and
     /// after a closing brace that closes nothing. Returns `Err` if an allocation fails.
     #[inline(always)]
-    pub fn taken(
+    pub fn piece_into(
         &mut self,
         mode: ParseMode,
         into: &mut Argument<'input>,

@@ -130,7 +130,7 @@ pub fn begins_word(text: &str) -> bool
     first(text).is_some_and(is_id_start)
 }
 
-/// Returns what is left after the first character, or an empty text if there is none.
+/// Returns the text after the first character, or an empty text if there is none.
 #[inline(always)]
 pub fn behind_first(text: &str) -> &str
     ensures rest { chars result.now ≡ behind_first (chars text.now) }
@@ -155,7 +155,7 @@ pub fn begins_white(text: &str) -> bool
     first(text).is_some_and(|c| c.is_whitespace())
 }
 
-/// Returns the stops below `low` and these four, without an upper bound.
+/// Returns the stops that are the bytes below `low` and these four, without an upper bound.
 #[inline(always)]
 fn stops(low: u8, first: u8, second: u8, third: u8, fourth: u8) -> Stops
     ensures { (x : ℕ) → is_no_stop result x ≡ (not (nat_lt x low) && (not (x == first)
@@ -189,7 +189,7 @@ pub fn run_width(bytes: &[u8], class: Class) -> usize
     front_width(bytes, stops)
 }
 
-/// Returns what is left after the longest prefix of characters in the class. The class has all
+/// Returns the text after the longest prefix of characters in the class. The class has all
 /// characters outside ASCII, so the bytes alone show where the prefix ends.
 #[inline(always)]
 pub fn behind_run(text: &str, class: Class) -> &str
@@ -201,7 +201,7 @@ pub fn behind_run(text: &str, class: Class) -> &str
     &text[width..]
 }
 
-/// Splits a text behind the longest prefix of characters in the class. The class has all characters
+/// Splits a text after the longest prefix of characters in the class. The class has all characters
 /// outside ASCII, so the bytes alone show where the prefix ends.
 #[inline(always)]
 pub fn split_run(text: &str, class: Class) -> (&str, &str)
@@ -213,7 +213,7 @@ pub fn split_run(text: &str, class: Class) -> (&str, &str)
     text.split_at(width)
 }
 
-/// Returns what is left after the longest prefix of characters in the class.
+/// Returns the text after the longest prefix of characters in the class.
 #[inline(always)]
 pub fn behind_while(text: &str, class: Class) -> &str
     ensures rest { chars result.now ≡ behind (passes class) (chars text.now) }
@@ -256,7 +256,7 @@ fn is_wide(bytes: &[u8], at: usize) -> bool
     at < bytes.len() && bytes[at] >= 128
 }
 
-/// Splits a text behind the word that begins it. Most often that is ASCII.
+/// Splits a text after the word that begins it. Most often the word is ASCII.
 #[inline(always)]
 pub fn split_word(text: &str) -> (&str, &str)
     requires { first_passes is_id_start (chars text.now) ≡ true }
@@ -272,7 +272,7 @@ pub fn split_word(text: &str) -> (&str, &str)
     text.split_at(width)
 }
 
-/// Splits a text behind the word that begins it, which need not be ASCII.
+/// Splits a text after the word that begins it, which need not be ASCII.
 #[tactic(auto, using(crate::proofs::Grammar::Fronts::behind_word_some))]
 #[inline(never)]
 fn split_wide_word(text: &str) -> (&str, &str)
@@ -285,26 +285,40 @@ fn split_wide_word(text: &str) -> (&str, &str)
     (before(text, rest), rest)
 }
 
-/// Returns the value of the ASCII digits at the start of the text modulo 65536, whether that value
-/// exceeds 65535, and what is left after them.
+/// The number that the ASCII digits at the start of a text write.
+#[derive(Clone, Copy)]
+pub struct LeadingNumber<'a> {
+    /// The number, modulo 65536.
+    pub value: u16,
+    /// Whether the number exceeds 65535.
+    pub is_over: bool,
+    /// The text after the digits.
+    pub rest: &'a str,
+}
+
+/// Returns the number that the ASCII digits at the start of the text write: 0 if there are none.
 #[tactic(auto, unfolding(crate::specs::Characters::digits, crate::specs::Characters::behind_digits))]
 #[inline(always)]
-pub fn behind_number(text: &str) -> (u16, bool, &str)
-    ensures value { result.0 ≡ number (digits (chars text.now)) }
-    ensures over { result.1 ≡ is_over (digits (chars text.now)) }
-    ensures rest { chars result.2.now ≡ behind_digits (chars text.now) }
-    ensures left { (input : List ℕ) → IsLeft input text.now → IsLeft input result.2.now }
+pub fn leading_number(text: &str) -> LeadingNumber<'_>
+    ensures value { result.value ≡ number (digits (chars text.now)) }
+    ensures over { result.is_over ≡ is_over (digits (chars text.now)) }
+    ensures rest { chars result.rest.now ≡ behind_digits (chars text.now) }
+    ensures left { (input : List ℕ) → IsLeft input text.now → IsLeft input result.rest.now }
 {
     let mut value = 0;
-    let mut over = false;
+    let mut is_over = false;
     let mut rest = text;
     while let Some(digit) = first_digit(rest) {
         let more = with_digit(value, digit);
         value = more.0;
-        over |= more.1;
+        is_over |= more.1;
         rest = behind_first(rest);
     }
-    (value, over, rest)
+    LeadingNumber {
+        value,
+        is_over,
+        rest,
+    }
 }
 
 /// Returns the part of `text` before its suffix `behind`.

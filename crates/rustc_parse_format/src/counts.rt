@@ -1,5 +1,5 @@
-//! Reads integers, words and counts, and what is made of them: the width and the precision of a
-//! format specification.
+//! Reads integers, words and counts, and the parts of a format specification that are made of them:
+//! its width and its precision.
 
 use crate::faults::Fault;
 use crate::reader::Reader;
@@ -119,7 +119,7 @@ impl<'input> Reader<'input> {
     /// if an allocation fails.
     #[tactic(auto, using(crate::proofs::Readers::Steps::part_le))]
     #[inline(always)]
-    fn counted(&mut self, format: &mut FormatSpec<'input>) -> Result<(), AllocError>
+    fn width_count(&mut self, format: &mut FormatSpec<'input>) -> Result<(), AllocError>
         requires width { seen_count format.old.width ≡ Implied }
         requires span { option_map pair format.old.width_span ≡ None }
         requires furthest { IsFurthest self.old.rest self.old.back }
@@ -164,12 +164,12 @@ impl<'input> Reader<'input> {
             (width_tries self.old.rest w.0)) }
     {
         if !self.cursor.is_next('0') {
-            return self.counted(format);
+            return self.width_count(format);
         }
         if !self.cursor.is_ahead('$') {
             self.cursor.skip_char();
             format.zero_pad = true;
-            return self.counted(format);
+            return self.width_count(format);
         }
         let start = self.cursor.start();
         self.cursor.skip_char();

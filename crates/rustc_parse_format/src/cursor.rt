@@ -16,7 +16,7 @@ pub struct Cursor<'input> {
     rest: &'input str,
     anchor: Anchor<'input>,
     tally: Tally,
-    undone: Steps,
+    undo_count: Steps,
 }
 
 /// An earlier position of a cursor, with the count of its steps there.
@@ -37,7 +37,7 @@ impl<'input> Model for Cursor<'input> {
     // The view shows the number of characters passed plus that of those left, less the length of
     // the input. So a move that is not counted changes the view.
     ghost view = { λ c. unread_at c.source c.rest.now
-        (back_at (chars c.source.input.now) (chars c.rest.now) c.tally) c.undone.made };
+        (back_at (chars c.source.input.now) (chars c.rest.now) c.tally) c.undo_count.made };
 
     ghost invariant = { λ c. IsAnchored c.source c.rest.now c.anchor
         × IsCounted (chars c.source.input.now) (chars c.rest.now) c.tally };
@@ -75,7 +75,7 @@ impl<'input> Cursor<'input> {
             rest: input,
             anchor,
             tally: Tally::new(input),
-            undone: Steps::start(),
+            undo_count: Steps::start(),
         }
     }
 
@@ -84,7 +84,7 @@ impl<'input> Cursor<'input> {
     pub fn checkpoint(&self) -> Checkpoint<'input>
         ensures at { self.now ≡ unread_at self.now.source result.rest.now
             (back_at (chars self.now.source.input.now) (chars result.rest.now) result.tally)
-            self.now.undone }
+            self.now.undo_count }
         ensures anchored { IsAnchored self.now.source result.rest.now result.anchor }
         ensures counted { IsCounted (chars self.now.source.input.now)
             (chars result.rest.now) result.tally }
@@ -160,7 +160,7 @@ impl<'input> Cursor<'input> {
         requires earlier { length self.old.rest ≤ length (chars to.rest.now) }
         requires word { behind_part (chars to.rest.now) ≤ length self.old.rest }
         ensures { self.new ≡ unread_at self.old.source to.entry.rest.now (given_back self.old.rest
-            (chars to.entry.rest.now) self.old.back) self.old.undone }
+            (chars to.entry.rest.now) self.old.back) self.old.undo_count }
     {
         self.tally.rewind(self.rest);
         self.rest = to.rest;
@@ -175,12 +175,12 @@ impl<'input> Cursor<'input> {
             (chars to.rest.now) to.tally }
         ensures { self.new ≡ unread_at self.old.source to.entry.rest.now
             (back_at (chars self.old.source.input.now) (chars to.entry.rest.now) to.entry.tally)
-            (self.old.undone + 1) }
+            (self.old.undo_count + 1) }
     {
         self.rest = to.rest;
         self.anchor = to.anchor;
         self.tally = to.tally;
-        self.undone = Steps::more(&self.undone, &1);
+        self.undo_count = Steps::more(&self.undo_count, &1);
     }
 
     /// Proves that what is left is a suffix of the input. Does nothing when the program runs.
@@ -216,7 +216,7 @@ impl<'input> Cursor<'input> {
     pub fn move_anchor(&mut self)
         ensures { self.new ≡ self.old }
     {
-        if let Some(snippet) = &self.source.kept {
+        if let Some(snippet) = &self.source.kept_snippet {
             self.anchor.move_anchor(snippet.as_str(), self.rest);
         }
     }

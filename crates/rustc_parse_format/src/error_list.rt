@@ -7,7 +7,7 @@ ghost use Rattle.rustc_parse_format.specs.Seen.{seen_error};
 ghost use Rattle.rustc_parse_format.specs.SeenFaults.{seen_fault};
 
 use crate::faults::Fault;
-use crate::messages::tell;
+use crate::messages::set_error;
 use crate::types::{ParseError, Suggestion};
 use std::alloc::{AllocError, Global};
 use std::marker::Model;
@@ -63,7 +63,7 @@ impl Fault<'_> {
         ensures { IfOk result (λ e. seen_error e ≡ message (seen_fault self.now)) }
     {
         let mut error = empty_error(alloc);
-        tell(alloc, &mut error, self)?;
+        set_error(alloc, &mut error, self)?;
         Ok(error)
     }
 }
@@ -98,11 +98,11 @@ fn push_error(
 {
     let last = entries.len();
     entries.push(empty_error(alloc))?;
-    let told = tell(alloc, &mut entries[last], fault);
-    if told.is_err() {
+    let outcome = set_error(alloc, &mut entries[last], fault);
+    if outcome.is_err() {
         entries.truncate(last);
     }
-    told
+    outcome
 }
 
 impl ErrorList {
@@ -142,8 +142,8 @@ impl ErrorList {
     }
 
     /// Adds the error of a fault at the front. Returns `Err` if an allocation fails, and the list
-    /// is then unchanged. If no entry is free, makes as many as there are errors, so the number of
-    /// errors moved in all calls is proportional to the number added.
+    /// is then unchanged. If no entry is free, makes as many free entries as there are errors, so
+    /// that the number of errors moved in all calls is proportional to the number added.
     pub fn push_front(&mut self, alloc: Global, fault: &Fault<'_>) -> Result<(), AllocError>
         ensures ok { OnOk result (self.new ≡ message (seen_fault fault.now) ∷ self.old) }
         ensures err { OnErr result (self.new ≡ self.old) }
@@ -159,7 +159,7 @@ impl ErrorList {
         }
         let first = self.room - 1;
         entries[first] = empty_error(alloc);
-        tell(alloc, &mut entries[first], fault)?;
+        set_error(alloc, &mut entries[first], fault)?;
         self.room = first;
         Ok(())
     }

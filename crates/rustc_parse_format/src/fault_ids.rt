@@ -39,7 +39,7 @@ impl Fault<'_> {
     ghost use Rattle.rustc_parse_format.specs.SeenFaults.{seen_fault};
     ghost use Rattle.rustc_parse_format.specs.World.{Place};
 
-    /// Returns the id of the fault in kebab case, as `missing-closing-brace`: the same for all
+    /// Returns the id of the fault in kebab case, such as `missing-closing-brace`: the same for all
     /// faults of a kind, and another for each kind. Does not allocate.
     #[tactic(auto, using(crate::proofs::FaultIds::one_kind))]
     pub fn id(&self) -> &'static str

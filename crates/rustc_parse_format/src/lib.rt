@@ -2,15 +2,17 @@
 //! and the texts of diagnostic attributes.
 //!
 //! [`Parser`] reads an input piece by piece, [`read_all`] reads a whole input, and [`literal`] is
-//! about the string literals that an input may come from. A fault of the input is recorded as a
-//! [`ParseError`], and parsing goes on.
+//! about the string literals that an input may come from. A *fault* is what is wrong in an input,
+//! as plain data ([`Fault`]); an *error* is the message that a parser makes of it ([`ParseError`]).
+//! After a fault, parsing goes on.
 //!
 //! All offsets and lengths are in bytes, and spans and places are byte ranges of the source. If the
-//! snippet is the source literal of the input, the source is the snippet. Otherwise a span is what
-//! it would be in a literal that has the input unescaped after its opening quote: 1 more than in
-//! the input, or for a raw literal its number of hashes plus 2 more. But then the end of the text
-//! is at the length of the snippet, or without a snippet at that of the input less an appended
-//! newline, and no quote is counted: a span up to the end may be empty or end before it starts.
+//! snippet is the source literal of the input, the source is the snippet. Otherwise a span is that
+//! in a literal that has the input unescaped after its opening quote: 1 more than in the input, or
+//! for a raw literal its number of hashes plus 2 more. Only the end of the text is then elsewhere:
+//! at the length of the snippet, or without a snippet at the length of the input less an appended
+//! newline. No quote is counted there, so a span up to the end may be empty or end before it
+//! starts.
 //!
 //! A call that may allocate takes the allocator, `alloc`, or uses the one that its parser was
 //! created with. On an allocation failure it returns `AllocError`, and the parser is then

@@ -1,10 +1,11 @@
-//! The lists of what a parser has found in all its calls so far, and the errors that faults become.
+//! The lists of the errors, places and lines that a parser has found in all its calls so far. The
+//! errors are made here, of faults.
 
 ghost use Rattle.std.specs.Prelude.{◌≡◌, ◌<◌, ◌^◌, ◌++◌, ◌∷◌, [], IfOk, IsOk, None, OnErr, OnOk};
 ghost use Rattle.std.specs.Prelude.{length, map, option_map, take};
 ghost use Rattle.std.specs.List.{filter};
 ghost use Rattle.rustc_parse_format.specs.Faults.{add_errors, is_front};
-ghost use Rattle.rustc_parse_format.specs.Lines.{ends_with, listed};
+ghost use Rattle.rustc_parse_format.specs.Lines.{ends_with, place_list};
 ghost use Rattle.rustc_parse_format.specs.Midway.{HasFoundNothing};
 ghost use Rattle.rustc_parse_format.specs.Seen.{pair};
 ghost use Rattle.rustc_parse_format.specs.SeenFaults.{seen_fault};
@@ -38,17 +39,17 @@ fn add_error(alloc: Global, errors: &mut ErrorList, fault: &Fault<'_>) -> Result
 fn add_errors(
     alloc: Global,
     errors: &mut ErrorList,
-    found: &Faults<'_>,
+    faults: &Faults<'_>,
 ) -> Result<usize, AllocError>
-    requires { length found.now < 2 ^ 64 }
-    ensures ok { OnOk result (errors.new ≡ add_errors errors.old found.now) }
-    ensures fronts { IfOk result (λ n. n ≡ length (filter is_front found.now)) }
+    requires { length faults.now < 2 ^ 64 }
+    ensures ok { OnOk result (errors.new ≡ add_errors errors.old faults.now) }
+    ensures fronts { IfOk result (λ n. n ≡ length (filter is_front faults.now)) }
     ensures err { OnErr result (errors.new ≡ errors.old) }
 {
     let count = errors.as_slice().len();
     let mut fronts = 0;
     let mut index = 0;
-    while let Some(fault) = found.get(index) {
+    while let Some(fault) = faults.get(index) {
         match add_error(alloc, errors, fault) {
             Ok(added) => fronts += added,
             Err(refused) => {
@@ -81,44 +82,45 @@ impl Lists {
         }
     }
 
-    /// Adds the errors of faults, the byte ranges of lines and that of a placeholder, and takes
-    /// them out of `found`, `lines` and `closed`. Returns how many errors were added at the front.
-    /// Returns `Err` if an allocation fails: the errors are then unchanged, and the other lists may
-    /// have new ranges at their ends.
+    /// Adds the errors of faults, the byte ranges of lines and the byte range of a placeholder, and
+    /// empties `faults`, `lines` and `closed_place`. Returns how many errors were added at the
+    /// front. Returns `Err` if an allocation fails: the errors are then unchanged, and the other
+    /// lists may have new ranges at their ends.
     #[inline(always)]
     fn add(
         &mut self,
         alloc: Global,
-        found: &mut Faults<'_>,
+        faults: &mut Faults<'_>,
         lines: &mut Vec<Range<usize>>,
-        closed: &mut Option<Range<usize>>,
+        closed_place: &mut Option<Range<usize>>,
     ) -> Result<usize, AllocError>
-        ensures errors { OnOk result ((self.new.errors ≡ add_errors self.old.errors found.old)
-            × (found.new ≡ [])) }
-        ensures fronts { IfOk result (λ n. n ≡ length (filter is_front found.old)) }
+        ensures errors { OnOk result ((self.new.errors ≡ add_errors self.old.errors faults.old)
+            × (faults.new ≡ [])) }
+        ensures fronts { IfOk result (λ n. n ≡ length (filter is_front faults.old)) }
         ensures places { OnOk result ((self.new.arg_places
-            ≡ self.old.arg_places ++ listed (option_map pair closed.old)) × (closed.new ≡ None)) }
+            ≡ self.old.arg_places ++ place_list (option_map pair closed_place.old))
+            × (closed_place.new ≡ None)) }
         ensures lines { OnOk result ((self.new.line_spans
             ≡ self.old.line_spans ++ map pair lines.old.items) × (lines.new.items ≡ [])) }
         ensures err { OnErr result ((self.new.errors ≡ self.old.errors)
             × (take (length self.old.arg_places) self.new.arg_places ≡ self.old.arg_places)
             × (take (length self.old.line_spans) self.new.line_spans ≡ self.old.line_spans)) }
     {
-        if let Some(place) = closed.take() {
+        if let Some(place) = closed_place.take() {
             self.arg_places.push(place)?;
         }
         if !lines.is_empty() {
             self.line_spans.append(lines)?;
         }
-        if found.is_empty() {
+        if faults.is_empty() {
             return Ok(0);
         }
-        let fronts = add_errors(alloc, &mut self.errors, found)?;
-        found.clear();
+        let fronts = add_errors(alloc, &mut self.errors, faults)?;
+        faults.clear();
         Ok(fronts)
     }
 
-    /// Takes all that a call has found out of `reader` and adds it. Returns how many errors were
+    /// Moves all that a call has found from `reader` into the lists. Returns how many errors were
     /// added at the front. Returns `Err` if an allocation fails: the lists are then unchanged, and
     /// `reader` is to be restored with `rewind`. Does not allocate if the call has found nothing.
     #[inline(always)]
@@ -126,12 +128,12 @@ impl Lists {
         ensures errors { OnOk result (self.new.errors
             ≡ add_errors self.old.errors reader.old.faults) }
         ensures places { OnOk result (self.new.arg_places
-            ≡ self.old.arg_places ++ listed reader.old.closed) }
+            ≡ self.old.arg_places ++ place_list reader.old.closed_place) }
         ensures lines { OnOk result (self.new.line_spans
             ≡ self.old.line_spans ++ reader.old.lines) }
         ensures fronts { IfOk result (λ n. n ≡ length (filter is_front reader.old.faults)) }
         ensures reader { OnOk result (reader.new
-            ≡ record reader.old { faults = []; lines = []; closed = None }) }
+            ≡ record reader.old { faults = []; lines = []; closed_place = None }) }
         ensures source { OnErr result (reader.new.source ≡ reader.old.source) }
         ensures err { OnErr result ((self.new.errors ≡ self.old.errors)
             × (self.new.arg_places ≡ self.old.arg_places)
@@ -145,9 +147,9 @@ impl Lists {
         let lines = self.line_spans.len();
         let added = self.add(
             alloc,
-            &mut reader.found,
+            &mut reader.faults,
             &mut reader.lines,
-            &mut reader.closed,
+            &mut reader.closed_place,
         );
         if added.is_err() {
             self.arg_places.truncate(places);

@@ -1,6 +1,6 @@
 //! String literals as they are written in a program: the characters that a content stands for with
 //! their byte ranges, and whether a snippet is the source literal of an input. The content of a
-//! literal is what is between its quotes.
+//! literal is the text between its quotes.
 
 ghost use Rattle.std.specs.Prelude.{◌≡◌, ◌↔◌, ◌++◌, ◌∷◌, ℕ, Bool, List, [], Some, None, IsTrue};
 ghost use Rattle.std.specs.Prelude.{IfOk, IsOk, IfSome, IfNone, MatchOption, chars, map};
@@ -9,7 +9,8 @@ ghost use Rattle.rustc_parse_format.specs.Literal.{IsNoContent, IsOnlyContent, I
 ghost use Rattle.rustc_parse_format.specs.Literal.{IsReadAs, content_value};
 ghost use Rattle.rustc_parse_format.specs.Literal.{IsSource, newline, ordinary_frame, raw_closing};
 ghost use Rattle.rustc_parse_format.specs.Literal.{raw_frame, raw_opening};
-ghost use Rattle.rustc_parse_format.specs.LiteralReading.{IsSourceTo, IsTaken, SameEnds, placed};
+ghost use Rattle.rustc_parse_format.specs.LiteralReading.{IsSourceTo, IsTaken, SameEnds};
+ghost use Rattle.rustc_parse_format.specs.LiteralReading.{content_characters};
 ghost use Rattle.rustc_parse_format.specs.LiteralReading.{seen_characters, spelled_end};
 ghost use Rattle.rustc_parse_format.specs.LiteralUnits.{LiteralUnit, at_most_one, is_plain};
 ghost use Rattle.rustc_parse_format.specs.LiteralUnits.{meaning};
@@ -27,10 +28,10 @@ use std::ops::Range;
 use unit::byte_escape;
 pub(crate) use unit::{is_newline_escape, read_unit};
 
-/// Returns the character that the first unit of a content stands for, and what is left after the
-/// unit. The character is `None` for a string continuation, which stands for nothing. Returns
-/// `None` if the text begins with no unit: it is empty or begins with a quote, a CR or a wrong
-/// escape.
+/// Returns the character that the first unit of a content stands for, and the rest of the content
+/// after the unit. The character is `None` for a string continuation, which stands for nothing.
+/// Returns `None` if the text begins with no unit: it is empty or begins with a quote, a CR or a
+/// wrong escape.
 ///
 /// The rule is that of string literals in the Rust Reference. Does not allocate.
 pub fn split_first_unit(content: &str) -> Option<(Option<char>, &str)>
@@ -43,14 +44,14 @@ pub fn split_first_unit(content: &str) -> Option<(Option<char>, &str)>
 }
 
 /// Returns the characters that a content stands for, each with its byte range in the content, or
-/// `None` if the text is no content, as `placed` computes them. Returns `Err` if an allocation
-/// fails.
+/// `None` if the text is no content, as `content_characters` computes them. Returns `Err` if an
+/// allocation fails.
 fn read_characters(
     alloc: Global,
     content: &str,
 ) -> Result<Option<Vec<(Range<usize>, char)>>, AllocError>
     ensures computed { IfOk result (λ o. option_map (λ v. seen_characters v.items) o
-        ≡ placed 0 (chars content.now)) }
+        ≡ content_characters 0 (chars content.now)) }
     ensures empty { chars content.now ≡ [] → IsOk result }
 {
     let mut found = Vec::new(alloc);
@@ -277,8 +278,8 @@ fn consume_hashes(rest: &mut Rest<'_>, hashes: usize) -> bool
     true
 }
 
-/// Consumes what is before the text of a raw literal, `r`, the hashes and a quote, and returns
-/// whether it was there.
+/// Consumes the opening of a raw literal, `r`, the hashes and a quote, and returns whether it was
+/// there.
 #[tactic(auto, using(crate::proofs::Literals::Prefixes::prefix_steps))]
 fn consume_opening(rest: &mut Rest<'_>, hashes: usize) -> bool
     ensures { IsTaken (raw_opening hashes) rest.old result rest.new }
@@ -305,8 +306,7 @@ fn consume_text(rest: &mut Rest<'_>, text: &str) -> bool
     true
 }
 
-/// Consumes what is after the text of a raw literal, a quote and the hashes, and returns whether it
-/// was there.
+/// Consumes the closing of a raw literal, a quote and the hashes, and returns whether it was there.
 #[tactic(auto, using(crate::proofs::Literals::Prefixes::prefix_steps))]
 fn consume_closing(rest: &mut Rest<'_>, hashes: usize) -> bool
     ensures { IsTaken (raw_closing hashes) rest.old result rest.new }

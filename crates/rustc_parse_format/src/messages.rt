@@ -80,7 +80,7 @@ fn align_after(alloc: Global, sign: char) -> Result<String, AllocError>
 
 /// Sets the description, the label and the span of an error. Returns `Err` if an allocation fails.
 #[inline(always)]
-fn show(
+fn set_texts(
     alloc: Global,
     into: &mut ParseError,
     description: String,
@@ -102,7 +102,7 @@ fn show(
 /// Sets the description, the note, the label and the span of an error. Returns `Err` if an
 /// allocation fails.
 #[inline(always)]
-fn say(
+fn set_texts_with_note(
     alloc: Global,
     into: &mut ParseError,
     description: &str,
@@ -119,12 +119,12 @@ fn say(
 {
     let description = String::from_str(alloc, description)?;
     into.note = Some(String::from_str(alloc, note)?);
-    show(alloc, into, description, label, span)
+    set_texts(alloc, into, description, label, span)
 }
 
 /// Sets the description, the note, the span and the secondary label of an error whose label is that
 /// of a missing closing brace. Returns `Err` if an allocation fails.
-fn tell_brace(
+fn set_brace_error(
     alloc: Global,
     into: &mut ParseError,
     description: String,
@@ -145,12 +145,12 @@ fn tell_brace(
         String::from_str(alloc, second.0)?,
         second.1.start..second.1.end,
     ));
-    show(alloc, into, description, "expected `}`", span)
+    set_texts(alloc, into, description, "expected `}`", span)
 }
 
 /// Sets the texts and the span of the error of a field access. Returns `Err` if an allocation
 /// fails.
-fn tell_field(
+fn set_field_error(
     alloc: Global,
     into: &mut ParseError,
     description: &str,
@@ -159,7 +159,7 @@ fn tell_field(
     requires { seen_error into.old ≡ suggesting UsePositional (error [] None [] (0, 0) None) }
     ensures { OnOk result (seen_error into.new ≡ local_variable description.now (pair span.now)) }
 {
-    say(
+    set_texts_with_note(
         alloc,
         into,
         description,
@@ -175,7 +175,7 @@ impl Fault<'_> {
     ghost use Rattle.rustc_parse_format.specs.Seen.{seen_suggestion};
     ghost use Rattle.rustc_parse_format.specs.SeenFaults.{seen_fault};
 
-    /// Returns what the error of the fault suggests, and makes none of the error's other texts.
+    /// Returns the suggestion of the fault's error, and makes none of the error's other texts.
     /// Returns `Err` if an allocation fails.
     #[inline(always)]
     #[tactic(auto, unfolding(crate::specs::Faults::message))]
@@ -200,12 +200,12 @@ impl Fault<'_> {
 
 /// Sets an error, which is still empty, to that of a fault. Returns `Err` if an allocation fails.
 #[tactic(auto, unfolding(crate::specs::Faults::message))]
-pub fn tell(alloc: Global, into: &mut ParseError, fault: &Fault<'_>) -> Result<(), AllocError>
+pub fn set_error(alloc: Global, into: &mut ParseError, fault: &Fault<'_>) -> Result<(), AllocError>
     requires { seen_error into.old ≡ error [] None [] (0, 0) None }
     ensures { OnOk result (seen_error into.new ≡ message (seen_fault fault.now)) }
 {
     match fault {
-        Fault::UnmatchedBrace(span) => say(
+        Fault::UnmatchedBrace(span) => set_texts_with_note(
             alloc,
             into,
             "unmatched `}` found",
@@ -213,7 +213,7 @@ pub fn tell(alloc: Global, into: &mut ParseError, fault: &Fault<'_>) -> Result<(
             "unmatched `}`",
             span,
         ),
-        Fault::MissingBrace(found, span, opening) => tell_brace(
+        Fault::MissingBrace(found, span, opening) => set_brace_error(
             alloc,
             into,
             expected_brace(alloc, *found)?,
@@ -221,7 +221,7 @@ pub fn tell(alloc: Global, into: &mut ParseError, fault: &Fault<'_>) -> Result<(
             span,
             ("because of this opening brace", opening),
         ),
-        Fault::FillBrace(found, span, fill) => tell_brace(
+        Fault::FillBrace(found, span, fill) => set_brace_error(
             alloc,
             into,
             expected_brace(alloc, *found)?,
@@ -232,7 +232,7 @@ pub fn tell(alloc: Global, into: &mut ParseError, fault: &Fault<'_>) -> Result<(
                 fill,
             ),
         ),
-        Fault::Underscore(span) => say(
+        Fault::Underscore(span) => set_texts_with_note(
             alloc,
             into,
             "invalid argument name `_`",
@@ -240,14 +240,14 @@ pub fn tell(alloc: Global, into: &mut ParseError, fault: &Fault<'_>) -> Result<(
             "invalid argument name",
             span,
         ),
-        Fault::TooLarge(digits, span) => show(
+        Fault::TooLarge(digits, span) => set_texts(
             alloc,
             into,
             out_of_range(alloc, digits)?,
             "integer out of range for `u16`",
             span,
         ),
-        Fault::Unnamed(span) => say(
+        Fault::Unnamed(span) => set_texts_with_note(
             alloc,
             into,
             "expected a named argument",
@@ -255,7 +255,7 @@ pub fn tell(alloc: Global, into: &mut ParseError, fault: &Fault<'_>) -> Result<(
             "expected a name",
             span,
         ),
-        Fault::TextAfterColon(span) => show(
+        Fault::TextAfterColon(span) => set_texts(
             alloc,
             into,
             String::from_str(alloc, "format specifiers are not allowed")?,
@@ -264,7 +264,7 @@ pub fn tell(alloc: Global, into: &mut ParseError, fault: &Fault<'_>) -> Result<(
         ),
         Fault::RawIdentifier(span, _) => {
             into.suggestion = fault.suggestion(alloc)?;
-            say(
+            set_texts_with_note(
                 alloc,
                 into,
                 "raw identifiers are not supported",
@@ -276,11 +276,11 @@ pub fn tell(alloc: Global, into: &mut ParseError, fault: &Fault<'_>) -> Result<(
         Fault::LateFlag(flag, span, _) => {
             into.suggestion = fault.suggestion(alloc)?;
             let description = expected_brace(alloc, Some(*flag))?;
-            show(alloc, into, description, "expected `'}'`", span)
+            set_texts(alloc, into, description, "expected `'}'`", span)
         }
         Fault::MissingColon(span) => {
             into.suggestion = fault.suggestion(alloc)?;
-            say(
+            set_texts_with_note(
                 alloc,
                 into,
                 "expected `}`, found `?`",
@@ -291,7 +291,7 @@ pub fn tell(alloc: Global, into: &mut ParseError, fault: &Fault<'_>) -> Result<(
         }
         Fault::LateDebug(word, span) => {
             into.note = Some(debug_after(alloc, word)?);
-            show(
+            set_texts(
                 alloc,
                 into,
                 String::from_str(alloc, "expected format parameter to occur after `:`")?,
@@ -308,7 +308,7 @@ pub fn tell(alloc: Global, into: &mut ParseError, fault: &Fault<'_>) -> Result<(
             )?;
             Ok(())
         }
-        Fault::Grouping(span, opening) => tell_brace(
+        Fault::Grouping(span, opening) => set_brace_error(
             alloc,
             into,
             String::from_str(
@@ -321,7 +321,7 @@ pub fn tell(alloc: Global, into: &mut ParseError, fault: &Fault<'_>) -> Result<(
         ),
         Fault::DebugPrint(span, opening) => {
             into.suggestion = fault.suggestion(alloc)?;
-            tell_brace(
+            set_brace_error(
                 alloc,
                 into,
                 String::from_str(
@@ -333,7 +333,7 @@ pub fn tell(alloc: Global, into: &mut ParseError, fault: &Fault<'_>) -> Result<(
                 ("because of this opening brace", opening),
             )
         }
-        Fault::LateSign(span) => say(
+        Fault::LateSign(span) => set_texts_with_note(
             alloc,
             into,
             "the `+` sign flag must appear after `:` in a format string",
@@ -343,11 +343,11 @@ pub fn tell(alloc: Global, into: &mut ParseError, fault: &Fault<'_>) -> Result<(
         ),
         Fault::FieldAccess(span) => {
             into.suggestion = fault.suggestion(alloc)?;
-            tell_field(alloc, into, "field access isn't supported", span)
+            set_field_error(alloc, into, "field access isn't supported", span)
         }
         Fault::TupleIndex(span) => {
             into.suggestion = fault.suggestion(alloc)?;
-            tell_field(alloc, into, "tuple index access isn't supported", span)
+            set_field_error(alloc, into, "tuple index access isn't supported", span)
         }
     }
 }

@@ -38,7 +38,7 @@ impl<'input> Model for Parser<'input> {
       input = p.reader.input;
       rest = p.reader.rest;
       back = p.reader.back;
-      undone = p.reader.undone;
+      undo_count = p.reader.undo_count;
       next = p.reader.next;
       errors = p.lists.errors;
       arg_places = p.lists.arg_places;
@@ -60,7 +60,7 @@ impl<'input> Parser<'input> {
     ghost use Rattle.std.specs.List.{filter};
     ghost use Rattle.rustc_parse_format.specs.Faults.{Keeps, add_errors, bare_fault, bare_message};
     ghost use Rattle.rustc_parse_format.specs.Faults.{is_front};
-    ghost use Rattle.rustc_parse_format.specs.Lines.{IsLines, listed, noted};
+    ghost use Rattle.rustc_parse_format.specs.Lines.{IsLines, place_list, texts_in};
     ghost use Rattle.rustc_parse_format.specs.ReadBack.{AllSpans, IsInside, LiesInside, ReadsBack};
     ghost use Rattle.rustc_parse_format.specs.Grammar.{Begins};
     ghost use Rattle.rustc_parse_format.specs.Meaning.{argument};
@@ -75,15 +75,15 @@ impl<'input> Parser<'input> {
     ghost use Rattle.rustc_parse_format.specs.Spelling.{IsPart};
     ghost use Rattle.rustc_parse_format.specs.State.{NeedsNoMemory};
     ghost use Rattle.rustc_parse_format.specs.Steps.{AreFew};
-    ghost use Rattle.rustc_parse_format.specs.Placeholder.{placed};
+    ghost use Rattle.rustc_parse_format.specs.Placeholder.{cut_of};
     ghost use Rattle.rustc_parse_format.specs.Syntax.{FieldText, opened_part};
     ghost use Rattle.rustc_parse_format.specs.World.{Place, hashes, piece_in, place_of, text_end};
 
     /// Creates a parser at the start of an input. Does not allocate, and always returns `Ok`.
     ///
     /// - `alloc` is the allocator that the later calls use.
-    /// - `style` is that of the literal that the input comes from: `None` for an ordinary literal,
-    ///   `Some(n)` for a raw one with n hashes.
+    /// - `style` is the style of the literal that the input comes from: `None` for an ordinary
+    ///   literal, `Some(n)` for a raw one with n hashes.
     /// - `snippet` is that literal as it is in the source. If it is not the source literal of the
     ///   input (see `literal::is_source_literal`), it changes nothing but where the text ends.
     /// - `appended_newline` is whether the input ends in a newline that the source does not have.
@@ -178,7 +178,7 @@ impl<'input> Parser<'input> {
             → IsPart self.old.rest (opened_part self.old.mode a) r
             → option_map seen p
             ≡ Some (piece_in self.old.world
-            (NextArgument (argument self.old.next (placed self.old.mode a r))))) }
+            (NextArgument (argument self.old.next (cut_of self.old.mode a r))))) }
 
         // Apart from their spans, the piece and the errors do not depend on the world.
         ensures worlds { IfOk result
@@ -212,10 +212,10 @@ impl<'input> Parser<'input> {
             → (lines : List Place)
             × (self.new.line_spans ≡ self.old.line_spans ++ lines)
             × IsLines self.old.line_start
-            (noted self.old.world (next_call self.old).texts) lines self.new.line_start) }
+            (texts_in self.old.world (next_call self.old).texts) lines self.new.line_start) }
         ensures places { OnOk result (self.old.world.has_source ≡ true
             → self.new.arg_places ≡ self.old.arg_places
-            ++ listed (option_map (place_of self.old.world) (next_call self.old).closes)) }
+            ++ place_list (option_map (place_of self.old.world) (next_call self.old).closes)) }
         ensures sourceless { OnOk result (self.old.world.has_source ≡ false
             → (self.new.arg_places ≡ self.old.arg_places)
             × (self.new.line_spans ≡ self.old.line_spans)) }
@@ -236,8 +236,8 @@ impl<'input> Parser<'input> {
     }
 
     /// Returns the next piece as [`Parser::next`] does, but reads a placeholder into `argument`
-    /// instead of allocating one. Also returns how many errors of this call were put before all
-    /// earlier ones; its other errors come after them.
+    /// instead of allocating one. Also returns the number of errors of this call that come before
+    /// all earlier ones; its other errors come after them.
     ///
     /// Returns `Err` if an allocation fails, and the parser is then unchanged. A call allocates
     /// only to keep an error, the place of a placeholder or a line; any other call always returns
@@ -262,10 +262,10 @@ impl<'input> Parser<'input> {
             return Ok((None, 0));
         }
         let start = self.reader.call_start();
-        if let Ok(taken) = self.reader.taken(self.mode, argument) {
+        if let Ok(piece) = self.reader.piece_into(self.mode, argument) {
             if let Ok(fronts) = self.lists.take_over(self.alloc, &mut self.reader) {
                 self.steps_are_few();
-                return Ok((taken, fronts));
+                return Ok((piece, fronts));
             }
         }
         self.reader.rewind(self.alloc, start);
@@ -303,8 +303,8 @@ impl<'input> Parser<'input> {
         self.reader.cursor.peek().is_none()
     }
 
-    /// Returns how many bytes of the input were read: the byte offset of the next character, or the
-    /// length of the input at its end.
+    /// Returns the number of bytes of the input that were read: the byte offset of the next
+    /// character, or the length of the input at its end.
     #[inline(always)]
     pub fn position(&self) -> usize
         ensures { result ≡ byte_length self.now.input - byte_length self.now.rest }

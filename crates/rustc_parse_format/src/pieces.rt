@@ -5,15 +5,15 @@ use crate::types::Piece;
 use std::alloc::AllocError;
 use std::iter::FusedIterator;
 
-/// An iterator over the pieces of a parser, from its position on. Each item is what one call of
-/// [`Parser::next`] returns: a piece, or `AllocError` if an allocation fails, and the parser is
+/// An iterator over the pieces of a parser, from its position on. Each item is the result of one
+/// call of [`Parser::next`]: a piece, or `AllocError` if an allocation fails, and the parser is
 /// then unchanged. The iterator ends for good at the first call that returns `None`, and after the
 /// first error; [`Parser::pieces`] then returns a new one, which goes on.
 // It has no model: the prover follows the borrow of the parser by its name, which a model hides.
 #[derive(Drop)]
 pub struct Pieces<'a, 'input> {
     parser: &'a mut Parser<'input>,
-    ended: bool,
+    has_ended: bool,
 }
 
 impl<'input> Parser<'input> {
@@ -43,7 +43,7 @@ impl<'input> Parser<'input> {
     {
         Pieces {
             parser: self,
-            ended: false,
+            has_ended: false,
         }
     }
 }
@@ -59,11 +59,11 @@ impl<'input> Iterator for Pieces<'_, 'input> {
     ghost remaining = { λ it. at_most (items_left it) };
 
     fn next(&mut self) -> Option<Result<Piece<'input>, AllocError>> {
-        if self.ended {
+        if self.has_ended {
             return None;
         }
         let item = self.parser.next().transpose();
-        self.ended = !matches!(item, Some(Ok(_)));
+        self.has_ended = !matches!(item, Some(Ok(_)));
         item
     }
 }

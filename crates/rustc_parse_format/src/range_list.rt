@@ -9,13 +9,13 @@ use std::marker::Model;
 use std::mem;
 use std::ops::Range;
 
-/// A list of byte ranges. It is either the first `held` entries of `few`, and then `many` is empty,
-/// or `held` is 0 and it is `many`. Most texts are one line with one or two placeholders, and an
+/// A list of byte ranges: the first `few_len` entries of `few` while `many` is empty, and otherwise
+/// `many`, with `few_len` 0. Most texts are one line with one or two placeholders, and an
 /// allocation takes longer than reading them.
 #[derive(Drop)]
 pub struct RangeList {
     few: [Range<usize>; 2],
-    held: usize,
+    few_len: usize,
     many: Vec<Range<usize>>,
 }
 
@@ -26,9 +26,10 @@ impl Model for RangeList {
 
     ghost Value = { List Place };
 
-    ghost view = { λ l. map pair (take l.held l.few ++ l.many.items) };
+    ghost view = { λ l. map pair (take l.few_len l.few ++ l.many.items) };
 
-    ghost invariant = { λ l. (length l.few ≡ 2) × (l.held ≤ 2) × (l.held ≢ 0 → l.many.items ≡ []) };
+    ghost invariant = { λ l. (length l.few ≡ 2) × (l.few_len ≤ 2)
+        × (l.few_len ≢ 0 → l.many.items ≡ []) };
 }
 
 /// Returns a list of the two ranges, with room for six more. Returns `Err` if an allocation fails.
@@ -51,7 +52,7 @@ impl RangeList {
     {
         RangeList {
             few: [0..0, 0..0],
-            held: 0,
+            few_len: 0,
             many: Vec::new(alloc),
         }
     }
@@ -60,7 +61,7 @@ impl RangeList {
     pub fn len(&self) -> usize
         ensures { result ≡ length self.now }
     {
-        self.held + self.many.len()
+        self.few_len + self.many.len()
     }
 
     /// Returns whether there are no ranges.
@@ -74,10 +75,10 @@ impl RangeList {
     pub fn as_slice(&self) -> &[Range<usize>]
         ensures { map pair result.now ≡ self.now }
     {
-        if self.held == 0 {
+        if self.few_len == 0 {
             return self.many.as_slice();
         }
-        &self.few[..self.held]
+        &self.few[..self.few_len]
     }
 
     /// Adds a range at the end. Returns `Err` if an allocation fails, and the list is then
@@ -88,13 +89,13 @@ impl RangeList {
         ensures err { OnErr result (self.new ≡ self.old) }
     {
         if self.many.is_empty() {
-            if self.held < 2 {
-                self.few[self.held] = range;
-                self.held += 1;
+            if self.few_len < 2 {
+                self.few[self.few_len] = range;
+                self.few_len += 1;
                 return Ok(());
             }
             self.many = list_of_two(*self.many.allocator(), &self.few)?;
-            self.held = 0;
+            self.few_len = 0;
         }
         self.many.push(range)?;
         Ok(())
@@ -104,8 +105,8 @@ impl RangeList {
     pub fn truncate(&mut self, count: usize)
         ensures { self.new ≡ take count self.old }
     {
-        if count < self.held {
-            self.held = count;
+        if count < self.few_len {
+            self.few_len = count;
             return;
         }
         self.many.truncate(count);
@@ -120,7 +121,7 @@ impl RangeList {
         ensures err { OnErr result (self.new ≡ self.old) }
     {
         if self.is_empty() && ranges.len() > 1 {
-            self.held = 0;
+            self.few_len = 0;
             self.many = mem::replace(ranges, Vec::new(*ranges.allocator()));
             return Ok(());
         }

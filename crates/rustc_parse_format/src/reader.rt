@@ -1,5 +1,5 @@
 //! The state of a parser during one call: its cursor, the index of the next implicit argument, and
-//! what the call has found so far.
+//! the faults, lines and place that the call has found so far.
 
 ghost use Rattle.std.specs.Prelude.{◌≡◌, ◌≢◌, ◌++◌, ◌+◌, ◌<◌, ◌^◌, ◌∷◌, [], ◌↔◌};
 ghost use Rattle.std.specs.Prelude.{IfOk, IsOk, IsTrue, None, OnErr, OnOk, Some, chars, length};
@@ -32,13 +32,13 @@ pub struct Reader<'input> {
     /// The index that the next implicit argument gets.
     pub curarg: usize,
     /// The faults found in this call.
-    pub found: Faults<'input>,
+    pub faults: Faults<'input>,
     /// The byte offset in the source at which the current line starts.
     pub line_start: usize,
     /// The byte ranges of the lines that ended in this call.
     pub lines: Vec<Range<usize>>,
     /// The byte range of the placeholder that this call closed, if any.
-    pub closed: Option<Range<usize>>,
+    pub closed_place: Option<Range<usize>>,
 }
 
 impl<'input> Model for Reader<'input> {
@@ -49,9 +49,9 @@ impl<'input> Model for Reader<'input> {
     ghost Value = { Midway };
 
     ghost view = { λ r. record (midway r.cursor r.curarg r.line_start) {
-      faults = r.found;
+      faults = r.faults;
       lines = map pair r.lines.items;
-      closed = option_map pair r.closed;
+      closed_place = option_map pair r.closed_place;
     } };
 }
 
@@ -72,10 +72,10 @@ impl<'input> Reader<'input> {
         Reader {
             cursor,
             curarg: 0,
-            found: Faults::new(alloc),
+            faults: Faults::new(alloc),
             line_start,
             lines: Vec::new(alloc),
-            closed: None,
+            closed_place: None,
         }
     }
 
@@ -84,7 +84,7 @@ impl<'input> Reader<'input> {
         requires { HasFoundNothing self.now }
         ensures at { self.now ≡ midway (unread_at self.now.source result.at.rest.now
             (back_at (chars self.now.source.input.now) (chars result.at.rest.now) result.at.tally)
-            self.now.undone) result.curarg result.line_start }
+            self.now.undo_count) result.curarg result.line_start }
         ensures counted { IsCounted (chars self.now.source.input.now)
             (chars result.at.rest.now) result.at.tally }
         ensures anchored { IsAnchored self.now.source result.at.rest.now result.at.anchor }
@@ -96,7 +96,7 @@ impl<'input> Reader<'input> {
         }
     }
 
-    /// Restores the state from before a call, and discards what the call has found. Does not
+    /// Restores the state from before a call, and discards all that the call has found. Does not
     /// allocate.
     pub fn rewind(&mut self, alloc: Global, start: CallStart<'input>)
         requires anchored { IsAnchored self.old.source start.at.rest.now start.at.anchor }
@@ -104,15 +104,15 @@ impl<'input> Reader<'input> {
             (chars start.at.rest.now) start.at.tally }
         ensures { self.new ≡ midway (unread_at self.old.source start.entry.at.rest.now
             (back_at (chars self.old.source.input.now)
-            (chars start.entry.at.rest.now) start.entry.at.tally) (self.old.undone + 1))
+            (chars start.entry.at.rest.now) start.entry.at.tally) (self.old.undo_count + 1))
             start.entry.curarg start.entry.line_start }
     {
         self.cursor.undo(start.at);
         self.curarg = start.curarg;
-        self.found = Faults::new(alloc);
+        self.faults = Faults::new(alloc);
         self.line_start = start.line_start;
         self.lines = Vec::new(alloc);
-        self.closed = None;
+        self.closed_place = None;
     }
 
     /// Adds a fault. Returns `Err` if an allocation fails; the first fault of a call needs none.
@@ -122,7 +122,7 @@ impl<'input> Reader<'input> {
         ensures source { self.new.source ≡ self.old.source }
         ensures spare { self.old.faults ≡ [] → IsOk result }
     {
-        self.found.push(fault)?;
+        self.faults.push(fault)?;
         Ok(())
     }
 
@@ -136,7 +136,7 @@ impl<'input> Reader<'input> {
         ensures kept { take (length faults.old.items) faults.new.items ≡ faults.old.items }
         ensures spare { self.old.faults ≡ [] → IsOk result }
     {
-        self.found.move_to(faults)
+        self.faults.move_to(faults)
     }
 
     /// Returns whether no input is left.
@@ -146,11 +146,12 @@ impl<'input> Reader<'input> {
         self.cursor.peek().is_none()
     }
 
-    /// Returns whether this call has found no fault, no end of a line and no closed placeholder.
+    /// Returns whether this call has found no fault and no end of a line, and has closed no
+    /// placeholder.
     pub fn has_found_nothing(&self) -> bool
         ensures { IsTrue result ↔ HasFoundNothing self.now }
     {
-        self.found.is_empty() && self.lines.is_empty() && self.closed.is_none()
+        self.faults.is_empty() && self.lines.is_empty() && self.closed_place.is_none()
     }
 
     /// Returns the index of the next implicit argument, and increments it.

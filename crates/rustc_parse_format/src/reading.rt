@@ -22,10 +22,10 @@ use crate::parser::Parser;
 use crate::types::{ParseMode, Piece};
 use std::alloc::{AllocError, Global};
 
-/// How many bytes of an input are taken for one piece when a list makes room.
+/// The number of bytes of an input for which a list makes room for one piece.
 const PIECE_BYTES: usize = 10;
 
-/// The most pieces behind the first one that a list makes room for.
+/// The most pieces after the first one for which a list makes room.
 const MOST_ROOM: usize = 16;
 
 /// Makes room in an empty list for a piece and those that are likely to follow it in so many bytes.
@@ -68,8 +68,8 @@ fn read_pieces<'input>(
 /// input ends in a newline that the source does not have. The number of hashes, the byte length of
 /// the input and 2 must add up to less than 2^64.
 ///
-/// The pieces are those up to the first call of [`Parser::next`] that returns `None`. That may be a
-/// call for an unmatched `}`: then the rest of the input is not read, and the parser has an error
+/// The pieces are those up to the first call of [`Parser::next`] that returns `None`. This call may
+/// be one for an unmatched `}`: then the rest of the input is not read, and the parser has an error
 /// for it. If the parser has no error, the whole input was read and is in the grammar of its mode.
 /// Returns `Err` if an allocation fails.
 pub fn read_all<'input>(

@@ -15,7 +15,7 @@ pub use anchor::Anchor;
 use anchor::continuations_width;
 use std::ops::Range;
 
-/// Where an input is in its source.
+/// The place of an input in its source.
 #[derive(Drop)]
 pub struct Source<'input> {
     pub input: &'input str,
@@ -25,11 +25,11 @@ pub struct Source<'input> {
     pub end: usize,
     /// The snippet, if it is an ordinary source literal with escapes. Otherwise `None`, and byte
     /// offsets are computed from the input.
-    pub kept: Option<String>,
+    pub kept_snippet: Option<String>,
     /// Whether the snippet is the source literal of the input.
     pub is_literal: bool,
     /// Whether the input ends in a newline that was appended to the text of the literal.
-    pub appended: bool,
+    pub appended_newline: bool,
 }
 
 impl<'input> Source<'input> {
@@ -50,7 +50,7 @@ impl<'input> Source<'input> {
         if rest.is_empty() {
             return self.end;
         }
-        match &self.kept {
+        match &self.kept_snippet {
             Some(snippet) => anchor.offset_of(snippet.as_str(), rest),
             None => self.offset + (self.input.len() - rest.len()),
         }
@@ -66,15 +66,15 @@ impl<'input> Source<'input> {
         if rest.is_empty() {
             return self.end;
         }
-        match &self.kept {
+        match &self.kept_snippet {
             Some(snippet) => anchor.stop_of(snippet.as_str(), rest),
             None => self.offset + (self.input.len() - behind_first(rest).len()),
         }
     }
 
-    /// Returns the byte range in the source of the first character of `rest`, and what is left
-    /// after it. If `rest` is empty, returns the empty range where the text ends. May move the
-    /// anchor up to what is left.
+    /// Returns the byte range in the source of the first character of `rest`, and the text after
+    /// it. If `rest` is empty, returns the empty range where the text ends. May move the anchor up
+    /// to the text that is left.
     #[inline(always)]
     pub fn pass(
         &self,
@@ -89,7 +89,7 @@ impl<'input> Source<'input> {
         if rest.is_empty() {
             return (self.end..self.end, rest);
         }
-        match &self.kept {
+        match &self.kept_snippet {
             Some(snippet) => anchor.pass(snippet.as_str(), rest),
             None => {
                 let behind = behind_first(rest);
@@ -125,8 +125,8 @@ impl<'input> Source<'input> {
     }
 }
 
-/// Returns the length in bytes of what precedes the text of a literal: a quote, or an `r`, the
-/// hashes and a quote.
+/// Returns the length in bytes of the opening of a literal: a quote, or an `r`, the hashes and a
+/// quote.
 pub fn quote_offset(style: Option<usize>) -> usize
     requires { hashes style + 2 < 2 ^ 64 }
     ensures { result ≡ quote_offset style }
@@ -167,8 +167,8 @@ fn found_end(
     }
 }
 
-/// Returns whether an ordinary source literal is longer than the text it stands for and its quotes,
-/// so that it has escapes. Returns false for a raw literal and without a snippet.
+/// Returns whether an ordinary source literal is longer than its quotes and the text that it stands
+/// for, so that it has escapes. Returns false for a raw literal and without a snippet.
 fn is_longer(
     input: &str,
     style: Option<usize>,
@@ -217,14 +217,14 @@ pub fn source_of<'input>(
     let is_literal = found.is_some();
     let is_kept = is_literal && is_longer(input, style, &snippet, appended_newline);
     let end = found.unwrap_or(plain_end(input, &snippet, appended_newline));
-    let kept = kept_if(is_kept, snippet);
+    let kept_snippet = kept_if(is_kept, snippet);
     Source {
         input,
         offset,
         end,
-        kept,
+        kept_snippet,
         is_literal,
-        appended: appended_newline,
+        appended_newline,
     }
 }
 
@@ -233,9 +233,9 @@ pub fn source_of<'input>(
 pub fn first_anchor<'input>(source: &Source<'input>) -> Anchor<'input>
     requires { IsKept source.now }
     ensures rest { result.rest.now ≡ source.now.input.now }
-    ensures anchor { IsAnchorIn source.now.kept (seen_world source.now) result }
+    ensures anchor { IsAnchorIn source.now.kept_snippet (seen_world source.now) result }
 {
-    match &source.kept {
+    match &source.kept_snippet {
         Some(snippet) => {
             let offset = 1 + continuations_width(&snippet.as_str()[1..]);
             Anchor::new(snippet.as_str(), source.input, offset)

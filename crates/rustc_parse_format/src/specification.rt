@@ -1,5 +1,5 @@
-//! Reads what comes after the colon of a placeholder: a format specification, the modifier of
-//! inline assembly, or the text of a diagnostic.
+//! Reads the part of a placeholder after its colon: a format specification, the modifier of inline
+//! assembly, or the text of a diagnostic.
 
 use crate::characters::first;
 use crate::faults::Fault;
@@ -234,8 +234,9 @@ impl<'input> Reader<'input> {
         Ok(())
     }
 
-    /// Reads a colon and what `mode` has after it into `format`, which is still the default. Reads
-    /// nothing if the next character is not a colon. Returns `Err` if an allocation fails.
+    /// Reads a colon and the part that `mode` has after it into `format`, which is still the
+    /// default. Reads nothing if the next character is not a colon. Returns `Err` if an allocation
+    /// fails.
     #[tactic(auto, using(crate::proofs::Readers::Steps::part_le, crate::proofs::Readers::Steps::at_colon))]
     #[inline(always)]
     pub fn specification(

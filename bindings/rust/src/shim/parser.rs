@@ -56,7 +56,7 @@ impl<'input> Parser<'input> {
         self.parser.keeps_faults = true;
         let (taken, _) = self.next_into(argument)?;
         self.parser.keeps_faults = false;
-        self.parser.reader.found.move_to(faults)?;
+        self.parser.reader.faults.move_to(faults)?;
         Ok(taken)
     }
 

@@ -19,7 +19,8 @@ use Rattle.rustc_parse_format.specs.Syntax.{NoPrecision, StarPrecision, DotPreci
 use Rattle.rustc_parse_format.specs.Syntax.{precision_part}
 use Rattle.rustc_parse_format.specs.Syntax.{PositionText, Digits, Word, RawWord, NoPosition}
 use Rattle.rustc_parse_format.specs.Syntax.{position_part}
-use Rattle.rustc_parse_format.specs.Counts.{behind_number, behind_name, count, counted, behind_zero}
+use Rattle.rustc_parse_format.specs.Counts.{behind_number, behind_name, count, width_with}
+use Rattle.rustc_parse_format.specs.Counts.{behind_zero}
 use Rattle.rustc_parse_format.specs.Counts.{width, behind_dot, precision}
 use Rattle.rustc_parse_format.specs.Placeholder.{raw_word, position}
 use Rattle.rustc_parse_format.proofs.Grammar.PartLaws.{Finds, IsPart-moved, unless-there}
@@ -216,12 +217,12 @@ count-complete t NoCount r h = ap count h.whole ∙ count-none r (no_count-read 
 
 -- widths
 plain : (t : Text) → begins_with (code "0") t ≡ false
-    → IsPart t (width_part (counted PlainWidth t).0) (counted PlainWidth t).1
+    → IsPart t (width_part (width_with PlainWidth t).0) (width_with PlainWidth t).1
 plain t e = row-two t t (absent (begins_with (code "0"))) (count_part (count t).0) (count t).1
     (absent-here t (begins_with (code "0")) e) (count-sound t)
 
 padded : (t : Text) → begins_with (code "$") t ≡ false
-    → IsPart (codes "0" ++ t) (width_part (counted PaddedWidth t).0) (counted PaddedWidth t).1
+    → IsPart (codes "0" ++ t) (width_part (width_with PaddedWidth t).0) (width_with PaddedWidth t).1
 padded t e =
     row-two (codes "0" ++ t) t (unless (codes "0") (begins_with (code "$")))
     (count_part (count t).0) (count t).1
@@ -230,7 +231,7 @@ padded t e =
 zero-sound : (t : Text) → IsPart (codes "0" ++ t) (width_part (behind_zero t).0) (behind_zero t).1
 zero-sound [] = padded [] refl
 zero-sound (c ∷ t) =
-    cond_both {A = WidthText × Text} (c == code "$") _ (counted PaddedWidth (c ∷ t))
+    cond_both {A = WidthText × Text} (c == code "$") _ (width_with PaddedWidth (c ∷ t))
     (λ x. IsPart (codes "0" ++ c ∷ t) (width_part x.0) x.1)
     (λ e. IsPart-moved _ _ _ t (ap (λ x. codes "0" ++ x ∷ t) (eqb-true c (code "$") e))
     (fixed-there (codes "0$") t))
@@ -239,21 +240,21 @@ zero-sound (c ∷ t) =
 width-sound : (t : Text) → IsPart t (width_part (width t).0) (width t).1
 width-sound [] = plain [] refl
 width-sound (c ∷ t) =
-    cond_both {A = WidthText × Text} (c == code "0") _ (counted PlainWidth (c ∷ t))
+    cond_both {A = WidthText × Text} (c == code "0") _ (width_with PlainWidth (c ∷ t))
     (λ x. IsPart (c ∷ t) (width_part x.0) x.1)
     (λ e. IsPart-moved _ _ _ _ (ap (λ x. x ∷ t) (eqb-true c (code "0") e)) (zero-sound t))
     (λ e. plain (c ∷ t) e)
 
-zero-flag : (t : Text) → begins_with (code "$") t ≡ false → behind_zero t ≡ counted PaddedWidth t
+zero-flag : (t : Text) → begins_with (code "$") t ≡ false → behind_zero t ≡ width_with PaddedWidth t
 zero-flag [] e = refl
 zero-flag (c ∷ t) e = cond-false (c == code "$") _ _ e
 
-width-plain : (t : Text) → begins_with (code "0") t ≡ false → width t ≡ counted PlainWidth t
+width-plain : (t : Text) → begins_with (code "0") t ≡ false → width t ≡ width_with PlainWidth t
 width-plain [] e = refl
 width-plain (c ∷ t) e = cond-false (c == code "0") _ _ e
 
 counted-as : (make : CountText → WidthText) (t : Text) (k : CountText) (r : Text)
-    → IsPart t (count_part k) r → counted make t ≡ (make k, r)
+    → IsPart t (count_part k) r → width_with make t ≡ (make k, r)
 counted-as make t k r h = ap (λ x. (make x.0, x.1)) (count-complete t k r h)
 
 width-complete : (t : Text) (w : WidthText) (r : Text) → IsPart t (width_part w) r

@@ -7,7 +7,7 @@ use Rattle.rustc_parse_format.specs.Spelling.{run}
 use Rattle.rustc_parse_format.specs.Syntax.{SpecText, spec_part, PositionText, position_part}
 use Rattle.rustc_parse_format.specs.Syntax.{FieldText, field_part, IsCut, IsOnlyCut}
 use Rattle.rustc_parse_format.specs.Specification.{specification}
-use Rattle.rustc_parse_format.specs.Placeholder.{position, cut, Cut, placed}
+use Rattle.rustc_parse_format.specs.Placeholder.{position, cut, Cut, cut_of}
 use Rattle.rustc_parse_format.proofs.Grammar.PartLaws.{IsRow, then, last, opened, only}
 use Rattle.rustc_parse_format.proofs.Grammar.PartFronts.{run-finds}
 use Rattle.rustc_parse_format.proofs.Grammar.PartCounts.{position-finds}
@@ -35,7 +35,7 @@ same_with p q v w s z t u x y r o e1 e2 e3 e4 e5 e6 = cc
 
 -- and each cut that it has is this one.
 pub cut-placed : (mode : Mode) (t : Text) (a : FieldText) (r : Text) → IsCut mode t a r
-    → cut mode t ≡ placed mode a r
+    → cut mode t ≡ cut_of mode a r
 unfolding cut behind_white with_parts
 cut-placed mode t a r h =
     let whole : IsRow t (position_part a.position ∷ run is_whitespace a.space

@@ -5,7 +5,7 @@ use Rattle.rustc_parse_format.specs.Characters.{Text, front, behind_white}
 use Rattle.rustc_parse_format.specs.Spelling.{IsPart, fixed, run}
 use Rattle.rustc_parse_format.specs.Types.{Mode}
 use Rattle.rustc_parse_format.specs.Syntax.{FieldText, field_part, placeholder_part}
-use Rattle.rustc_parse_format.specs.Placeholder.{cut, placed}
+use Rattle.rustc_parse_format.specs.Placeholder.{cut, cut_of}
 use Rattle.rustc_parse_format.proofs.Grammar.PartLaws.{fixed-there, IsRow, then, last, opened, only}
 use Rattle.rustc_parse_format.proofs.Grammar.PartFronts.{run-finds}
 use Rattle.rustc_parse_format.proofs.Grammar.PartCuts.{cut-sound, cut-placed}
@@ -31,7 +31,7 @@ by_cut mode t a space r h =
     let f = opened o.others in
     let w = opened f.others in
     let z = only w.others in
-    let e : cut mode o.seam ≡ placed mode a f.seam = cut-placed mode o.seam a f.seam f.first in
+    let e : cut mode o.seam ≡ cut_of mode a f.seam = cut-placed mode o.seam a f.seam f.first in
     record {
       inside = o.seam;
       opens = o.first.whole;

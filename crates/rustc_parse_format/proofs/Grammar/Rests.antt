@@ -10,7 +10,7 @@ use Rattle.rustc_parse_format.specs.Characters.{begins_raw}
 use Rattle.rustc_parse_format.specs.Types.{Mode, Format, InlineAsm, Diagnostic, DiagnosticNamed}
 use Rattle.rustc_parse_format.specs.Types.{DebugHex, Lower, Upper}
 use Rattle.rustc_parse_format.specs.Syntax.{PaddedWidth, PlainWidth}
-use Rattle.rustc_parse_format.specs.Counts.{count, behind_number, behind_name, width, counted}
+use Rattle.rustc_parse_format.specs.Counts.{count, behind_number, behind_name, width, width_with}
 use Rattle.rustc_parse_format.specs.Counts.{behind_zero, precision, behind_dot}
 use Rattle.rustc_parse_format.specs.Specification.{fill, align, sign, alternate, type, behind_hex}
 use Rattle.rustc_parse_format.specs.Specification.{align_at, sign_at, alternate_at, width_at}
@@ -105,12 +105,12 @@ count_rest (c ∷ t) =
 
 zero_rest : (t : Text) → IsRest t (behind_zero t).1
 zero_rest [] = IsRest-self []
-zero_rest (c ∷ t) = picked (c == 36) (_, t) (counted PaddedWidth (c ∷ t)) (c ∷ t)
+zero_rest (c ∷ t) = picked (c == 36) (_, t) (width_with PaddedWidth (c ∷ t)) (c ∷ t)
     (IsRest-cons c (IsRest-self t)) (count_rest (c ∷ t))
 
 width_rest : (t : Text) → IsRest t (width t).1
 width_rest [] = IsRest-self []
-width_rest (c ∷ t) = picked (c == 48) _ (counted PlainWidth (c ∷ t)) (c ∷ t)
+width_rest (c ∷ t) = picked (c == 48) _ (width_with PlainWidth (c ∷ t)) (c ∷ t)
     (IsRest-cons c (zero_rest t)) (count_rest (c ∷ t))
 
 dot_rest : (t : Text) → IsRest t (behind_dot t).1

@@ -10,9 +10,10 @@ use Rattle.std.proofs.lemmas.List.{map-append}
 use Rattle.std.proofs.lemmas.Bool.{cond-true, and_parts, and_from, not-true, ne_eqb, eq-eqb}
 use Rattle.rustc_parse_format.specs.Characters.{Text}
 use Rattle.rustc_parse_format.specs.World.{World, Place, place_at}
-use Rattle.rustc_parse_format.specs.Marks.{marked}
+use Rattle.rustc_parse_format.specs.Marks.{run_texts}
 use Rattle.rustc_parse_format.specs.Midway.{Midway, read_texts}
-use Rattle.rustc_parse_format.specs.Lines.{Noted, noted, is_newline, is_indent, indented, IsLines}
+use Rattle.rustc_parse_format.specs.Lines.{PlacedCharacter, texts_in, is_newline, is_indent}
+use Rattle.rustc_parse_format.specs.Lines.{indented, IsLines}
 use Rattle.rustc_parse_format.specs.Lines.{read_lines, lines_in}
 
 -- Reading from a line start on, and then more from where that stopped.
@@ -23,10 +24,10 @@ abbrev pub then_read : Reading → Reading → Reading
 then_read r q = (q.0, r.1 ++ q.1)
 
 -- where the line starts behind a character that is no newline
-abbrev pub moved : ℕ → Noted → ℕ
+abbrev pub moved : ℕ → PlacedCharacter → ℕ
 moved start x = if is_indent start x then x.1.1 else start
 
-pub read_lines-append : (start : ℕ) (xs ys : List Noted) →
+pub read_lines-append : (start : ℕ) (xs ys : List PlacedCharacter) →
     read_lines start (xs ++ ys)
     ≡ then_read (read_lines start xs) (read_lines (read_lines start xs).0 ys)
 read_lines-append start [] ys = refl
@@ -46,14 +47,14 @@ read_lines-append start (x ∷ xs) ys =
     by_test false newline newline_both other other_both e f = f
 
 -- Characters and their places.
-pub noted-append : (w : World) (cs ds : List (ℕ × ℕ)) → noted w (cs ++ ds)
-    ≡ noted w cs ++ noted w ds
+pub noted-append : (w : World) (cs ds : List (ℕ × ℕ)) → texts_in w (cs ++ ds)
+    ≡ texts_in w cs ++ texts_in w ds
 noted-append w cs ds = map-append (λ (x : ℕ × ℕ). (x.0, place_at w x.1)) cs ds
 
-pub marked-append : (u v r : Text) → marked (u ++ v) r ≡ marked u (v ++ r) ++ marked v r
+pub marked-append : (u v r : Text) → run_texts (u ++ v) r ≡ run_texts u (v ++ r) ++ run_texts v r
 marked-append [] v r = refl
 marked-append (c ∷ u) v r =
-    ap (λ (t : Text). (c, length (c ∷ t)) ∷ marked (u ++ v) r) (append_assoc u v r)
+    ap (λ (t : Text). (c, length (c ∷ t)) ∷ run_texts (u ++ v) r) (append_assoc u v r)
     ∙ ap (λ (cs : List (ℕ × ℕ)). (c, length (c ∷ (u ++ (v ++ r)))) ∷ cs) (marked-append u v r)
 
 -- The same in a world, whether or not it has a source literal.
@@ -61,22 +62,24 @@ pub lines_in-append : (w : World) (start : ℕ) (cs ds : List (ℕ × ℕ)) →
     lines_in w start (cs ++ ds)
     ≡ then_read (lines_in w start cs) (lines_in w (lines_in w start cs).0 ds)
 lines_in-append w start cs ds =
-    by_test w.has_source (read_lines start (noted w cs)) (read_lines start (noted w (cs ++ ds)))
+    by_test w.has_source (read_lines start (texts_in w cs)) (read_lines start (texts_in w (cs
+    ++ ds)))
     (ap (read_lines start) (noted-append w cs ds)
-    ∙ read_lines-append start (noted w cs) (noted w ds))
+    ∙ read_lines-append start (texts_in w cs) (texts_in w ds))
   where
     by_test : (b : Bool) (first both : Reading) → both
-        ≡ then_read first (read_lines first.0 (noted w ds)) →
+        ≡ then_read first (read_lines first.0 (texts_in w ds)) →
         cond b both (start, [])
         ≡ then_read (cond b first (start, []))
-        (cond b (read_lines (cond b first (start, [])).0 (noted w ds))
+        (cond b (read_lines (cond b first (start, [])).0 (texts_in w ds))
         ((cond b first (start, [])).0, []))
     by_test true first both e = e
     by_test false first both e = refl
 
 pub lines_in-source : (w : World) (start : ℕ) (cs : List (ℕ × ℕ)) → w.has_source ≡ true
-    → lines_in w start cs ≡ read_lines start (noted w cs)
-lines_in-source w start cs e = cond-true w.has_source (read_lines start (noted w cs)) (start, []) e
+    → lines_in w start cs ≡ read_lines start (texts_in w cs)
+lines_in-source w start cs e = cond-true w.has_source (read_lines start (texts_in w cs))
+    (start, []) e
 
 -- and in the middle of a call
 pub read_texts-append : (s : Midway) (cs ds : List (ℕ × ℕ))
@@ -90,21 +93,24 @@ read_texts-append s cs ds =
     (sym (append_assoc s.lines r.1 q.1))
 
 -- One character at a time: a newline ends the line,
-pub read_lines-newline : (start : ℕ) (x : Noted) (xs : List Noted) → is_newline x ≡ true →
+pub read_lines-newline : (start : ℕ) (x : PlacedCharacter) (xs : List PlacedCharacter)
+    → is_newline x ≡ true →
     read_lines start (x ∷ xs) ≡ ((read_lines x.1.1 xs).0, (start, x.1.0) ∷ (read_lines x.1.1 xs).1)
 read_lines-newline start x xs e =
     ap (λ b. cond b ((read_lines x.1.1 xs).0, (start, x.1.0) ∷ (read_lines x.1.1 xs).1)
     (read_lines (moved start x) xs)) e
 
 -- and no other character does. White space at the start of the line moves that start behind itself,
-pub read_lines-step : (start : ℕ) (x : Noted) (xs : List Noted) → is_newline x ≡ false →
+pub read_lines-step : (start : ℕ) (x : PlacedCharacter) (xs : List PlacedCharacter)
+    → is_newline x ≡ false →
     read_lines start (x ∷ xs) ≡ read_lines (moved start x) xs
 read_lines-step start x xs e =
     ap (λ b. cond b ((read_lines x.1.1 xs).0, (start, x.1.0) ∷ (read_lines x.1.1 xs).1)
     (read_lines (moved start x) xs)) e
 
 -- and any other character moves nothing.
-pub read_lines-other : (start : ℕ) (x : Noted) (xs : List Noted) → is_newline x ≡ false
+pub read_lines-other : (start : ℕ) (x : PlacedCharacter) (xs : List PlacedCharacter)
+    → is_newline x ≡ false
     → is_indent start x ≡ false →
     read_lines start (x ∷ xs) ≡ read_lines start xs
 read_lines-other start x xs e f = read_lines-step start x xs e
@@ -125,19 +131,19 @@ indent-no w start c k h = by_test (is_whitespace c)
     by_test false f = refl
 
 pub note-newline : (w : World) (start c k : ℕ) → c ≡ code "\n" →
-    read_lines start (noted w ((c, k) ∷ [])) ≡ ((place_at w k).1, (start, (place_at w k).0) ∷ [])
+    read_lines start (texts_in w ((c, k) ∷ [])) ≡ ((place_at w k).1, (start, (place_at w k).0) ∷ [])
 note-newline w start c k e = read_lines-newline start (c, place_at w k) [] (newline-yes w c k e)
 
 -- no newline among them
-abbrev pub has_no_newline : List Noted → Bool
+abbrev pub has_no_newline : List PlacedCharacter → Bool
 has_no_newline xs = list_all (λ x. not (is_newline x)) xs
 
 -- none of them is white space that starts at start
-abbrev pub has_no_indent : ℕ → List Noted → Bool
+abbrev pub has_no_indent : ℕ → List PlacedCharacter → Bool
 has_no_indent start xs = list_all (λ x. not (is_indent start x)) xs
 
 -- Characters with no newline give no line,
-pub read_lines-one_line : (start : ℕ) (xs : List Noted) → has_no_newline xs ≡ true
+pub read_lines-one_line : (start : ℕ) (xs : List PlacedCharacter) → has_no_newline xs ≡ true
     → read_lines start xs ≡ (indented start xs, [])
 read_lines-one_line start [] a = refl
 read_lines-one_line start (x ∷ xs) a =
@@ -147,7 +153,7 @@ read_lines-one_line start (x ∷ xs) a =
     ∙ read_lines-one_line (moved start x) xs h.1
 
 -- and where none of them is white space at the start of the line, that start stays.
-pub read_lines-skip : (start : ℕ) (xs : List Noted) → has_no_newline xs ≡ true
+pub read_lines-skip : (start : ℕ) (xs : List PlacedCharacter) → has_no_newline xs ≡ true
     → has_no_indent start xs ≡ true → read_lines start xs ≡ (start, [])
 read_lines-skip start [] a b = refl
 read_lines-skip start (x ∷ xs) a b =
@@ -159,7 +165,8 @@ read_lines-skip start (x ∷ xs) a b =
     ∙ read_lines-skip start xs h.1 k.1
 
 -- The lines that are read are those of the cut,
-cut-further : (start : ℕ) (x : Noted) (xs : List Noted) (ls : List Place) (next : ℕ)
+cut-further : (start : ℕ) (x : PlacedCharacter) (xs : List PlacedCharacter) (ls : List Place)
+    (next : ℕ)
     → is_newline x ≡ false →
     IsLines (moved start x) xs ls next → IsLines start (x ∷ xs) ls next
 cut-further start x xs [] next e h = (and_from (not (is_newline x)) _ (ap not e) h.0, h.1)
@@ -167,14 +174,14 @@ cut-further start x xs (line ∷ lines) next e (front, behind, newline, split, n
   x ∷ front,
   behind,
   newline,
-  ap (λ (ys : List Noted). x ∷ ys) split,
+  ap (λ (ys : List PlacedCharacter). x ∷ ys) split,
   and_from (not (is_newline x)) _ (ap not e) none,
   is,
   l,
   rest,
 )
 
-pub read_lines-cut : (start : ℕ) (xs : List Noted)
+pub read_lines-cut : (start : ℕ) (xs : List PlacedCharacter)
     → IsLines start xs (read_lines start xs).1 (read_lines start xs).0
 read_lines-cut start [] = (refl, refl)
 read_lines-cut start (x ∷ xs) =
@@ -193,7 +200,8 @@ read_lines-cut start (x ∷ xs) =
     by_test false e newline other = cut-further start x xs _ _ e other
 
 -- and no others are.
-pub cut-only : (start : ℕ) (xs : List Noted) (ls : List Place) (next : ℕ) → IsLines start xs ls next
+pub cut-only : (start : ℕ) (xs : List PlacedCharacter) (ls : List Place) (next : ℕ)
+    → IsLines start xs ls next
     → (next, ls) ≡ read_lines start xs
 cut-only start xs [] next h = ap (λ (n : ℕ). (n, [])) h.1 ∙ sym (read_lines-one_line start xs h.0)
 cut-only start xs (line ∷ lines) next (front, behind, newline, split, none, is, l, rest) =

@@ -16,7 +16,7 @@ use Rattle.rustc_parse_format.specs.Spelling.{IsPart, fixed, run}
 use Rattle.rustc_parse_format.specs.Syntax.{SpecText, Default, Formatting, Modifier, DiagnosticText}
 use Rattle.rustc_parse_format.specs.Syntax.{spec_part}
 use Rattle.rustc_parse_format.specs.Placeholder.{cut}
-use Rattle.rustc_parse_format.specs.Marks.{Mark, Start, Span, marked, over_first}
+use Rattle.rustc_parse_format.specs.Marks.{Mark, Start, Span, run_texts, over_first}
 use Rattle.rustc_parse_format.specs.Faults.{Fault, UnmatchedBrace, MissingBrace, FillBrace}
 use Rattle.rustc_parse_format.specs.Faults.{Underscore}
 use Rattle.rustc_parse_format.specs.Faults.{TooLarge, Unnamed, TextAfterColon, RawIdentifier}
@@ -35,8 +35,8 @@ use Rattle.rustc_parse_format.specs.LiteralUnits.{LiteralUnit}
 use Rattle.rustc_parse_format.specs.Literal.{IsSource, content_value, newline}
 use Rattle.rustc_parse_format.specs.World.{World, Place, world, quote_offset, content_places}
 use Rattle.rustc_parse_format.specs.World.{place_at, place_of, faults_in}
-use Rattle.rustc_parse_format.specs.Lines.{is_indent, is_newline, noted, read_lines, lines_in}
-use Rattle.rustc_parse_format.specs.Lines.{closed_places, listed, ends_with, with_last}
+use Rattle.rustc_parse_format.specs.Lines.{is_indent, is_newline, texts_in, read_lines, lines_in}
+use Rattle.rustc_parse_format.specs.Lines.{closed_places, place_list, ends_with, with_last}
 use Rattle.rustc_parse_format.specs.State.{State, ComesFrom, after, after_all, calls, first_state}
 use Rattle.rustc_parse_format.specs.State.{last_lines, next_call}
 use Rattle.rustc_parse_format.specs.ReadBack.{IsInside, IsLineInside, HasBegun, LiesInside}
@@ -129,23 +129,23 @@ between-wider from to start stop [] h k b = omega arith
 between-wider from to start stop (x ∷ cs) h k (n, e, l, b) =
     (n, e, omega arith, between-wider n to n stop cs (omega arith) k b)
 
-marked-between : (u r : Text) → AreBetween (length (u ++ r)) (marked u r) (length r)
+marked-between : (u r : Text) → AreBetween (length (u ++ r)) (run_texts u r) (length r)
 marked-between [] r = omega arith
 marked-between (c ∷ u) r = (length (u ++ r), refl, omega arith, marked-between u r)
 
 run-between : (t : Text)
-    → AreBetween (length t) (marked (front is_no_brace t) (behind is_no_brace t))
+    → AreBetween (length t) (run_texts (front is_no_brace t) (behind is_no_brace t))
     (length (behind is_no_brace t))
 run-between t =
-    subst (λ u. AreBetween (length u) (marked (front is_no_brace t) (behind is_no_brace t))
+    subst (λ u. AreBetween (length u) (run_texts (front is_no_brace t) (behind is_no_brace t))
     (length (behind is_no_brace t)))
     (sym (front-behind is_no_brace t)) (marked-between (front is_no_brace t) (behind is_no_brace t))
 
 text-between : (t u r : Text) → IsPart t (spec_part Diagnostic (DiagnosticText u)) r
-    → AreBetween (length t) (marked u r) (length r)
+    → AreBetween (length t) (run_texts u r) (length r)
 text-between t u r h =
     let s = two-split t (fixed (codes ":")) (run is_no_brace u) r h in
-    between-wider (length (u ++ r)) (length r) (length t) (length r) (marked u r)
+    between-wider (length (u ++ r)) (length r) (length t) (length r) (run_texts u r)
     (omega (arith, ap length s.first.whole, ap length s.second.whole)) (omega arith)
     (marked-between u r)
 
@@ -259,8 +259,8 @@ begun-later snippet b w at n start i j l h (inr (a, k, e)) = inr (a, omega arith
 read-inside : (snippet : Text) (b : Bool) (w : World) (at n start from to : ℕ) (cs : List (ℕ × ℕ))
     → IsLaidOut snippet b w at n → from ≤ n →
     HasBegun w b start from → AreBetween from cs to →
-    AllByRecursion (IsLineInside snippet b w.end) (read_lines start (noted w cs)).1
-    × HasBegun w b (read_lines start (noted w cs)).0 to
+    AllByRecursion (IsLineInside snippet b w.end) (read_lines start (texts_in w cs)).1
+    × HasBegun w b (read_lines start (texts_in w cs)).0 to
 read-inside snippet b w at n start from to [] l h begun k =
     (tt, begun-later snippet b w at n start from to l k begun)
 read-inside snippet b w at n start from to (x ∷ cs) l h begun (m, e, k, later) =
@@ -276,8 +276,8 @@ read-inside snippet b w at n start from to (x ∷ cs) l h begun (m, e, k, later)
     let here = begun-later snippet b w at n start from x.1 l (omega arith) begun in
     ((inl (line-inside x.1 (omega arith) here), (rest p.1 stopped).0), (rest p.1 stopped).1))
     (λ no. cond_both {A = ℕ} (is_indent start (x.0, p)) p.1 start
-    (λ s. AllByRecursion (IsLineInside snippet b w.end) (read_lines s (noted w cs)).1
-    × HasBegun w b (read_lines s (noted w cs)).0 to)
+    (λ s. AllByRecursion (IsLineInside snippet b w.end) (read_lines s (texts_in w cs)).1
+    × HasBegun w b (read_lines s (texts_in w cs)).0 to)
     (λ white. rest p.1 stopped) (λ other. rest start next))
   where
     line-inside : (i : ℕ) → 0 < i → HasBegun w b start i
@@ -363,10 +363,10 @@ closed-inside : (P : Place → Type 0) (w : World) (o : Option Span)
     → AllByRecursion (λ m. P (place_of w m)) (optional o) → AllByRecursion P (closed_places w o)
 closed-inside P w o h =
     cond_both {A = Option Place} w.has_source (option_map (place_of w) o) None
-    (λ x. AllByRecursion P (listed x)) (λ yes. placed o h) (λ no. tt)
+    (λ x. AllByRecursion P (place_list x)) (λ yes. placed o h) (λ no. tt)
   where
     placed : (o : Option Span) → AllByRecursion (λ m. P (place_of w m)) (optional o)
-        → AllByRecursion P (listed (option_map (place_of w) o))
+        → AllByRecursion P (place_list (option_map (place_of w) o))
     placed None h = tt
     placed (Some s) h = h
 
@@ -384,7 +384,7 @@ call_lies_inside s style snippet appended r f h =
     subst (λ v. IsLaidOut snippet appended v (quote_offset style) n) (sym f.world_is)
     (laid_out s.input style snippet appended f.is_source) in
     let between : AreBetween from k.texts (length k.rest) = call-between s.mode s.next s.rest in
-    let read = cond_both {A = Reading} w.has_source (read_lines s.line_start (noted w k.texts))
+    let read = cond_both {A = Reading} w.has_source (read_lines s.line_start (texts_in w k.texts))
     (s.line_start, [])
     (λ x. AllByRecursion (IsLineInside snippet appended w.end) x.1
     × HasBegun w appended x.0 (length k.rest))

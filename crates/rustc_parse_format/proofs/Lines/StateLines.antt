@@ -8,7 +8,7 @@ use Rattle.std.proofs.lemmas.List.{nil_from_length}
 use Rattle.std.proofs.lemmas.List.{append-nil}
 use Rattle.rustc_parse_format.specs.Characters.{Text}
 use Rattle.rustc_parse_format.specs.Call.{Call, call}
-use Rattle.rustc_parse_format.specs.Lines.{lines_in, closed_in, listed, ends_with, with_last}
+use Rattle.rustc_parse_format.specs.Lines.{lines_in, closed_in, place_list, ends_with, with_last}
 use Rattle.rustc_parse_format.specs.World.{World, Place, place_at}
 use Rattle.rustc_parse_format.specs.Midway.{FindsNothing, HasFoundNothing, Midway, closed_then}
 use Rattle.rustc_parse_format.specs.Midway.{read_call}
@@ -101,7 +101,7 @@ no_line s k some n =
     nothing_appended s.line_spans lines (sym (not_last s s.rest (s.line_spans ++ lines) refl some)
     ∙ n.2)
 
-none_listed : (p : Option Place) → listed p ≡ [] → p ≡ None
+none_listed : (p : Option Place) → place_list p ≡ [] → p ≡ None
 none_listed None e = refl
 none_listed (Some p) e = cc
 

@@ -10,7 +10,7 @@ use Rattle.rustc_parse_format.specs.LiteralUnits.{LiteralUnit, spelling, value, 
 use Rattle.rustc_parse_format.specs.LiteralUnits.{at_most_one}
 use Rattle.rustc_parse_format.specs.Literal.{IsContent, IsNoContent, IsOnlyContent, IsReadAs, more}
 use Rattle.rustc_parse_format.specs.Literal.{units, placed_characters}
-use Rattle.rustc_parse_format.specs.LiteralReading.{seen_characters, placed}
+use Rattle.rustc_parse_format.specs.LiteralReading.{seen_characters, content_characters}
 use Rattle.rustc_parse_format.specs.Seen.{pair}
 use Rattle.rustc_parse_format.proofs.Literals.Widths.{width-append}
 use Rattle.rustc_parse_format.proofs.Literals.UnitLaws.{unit_at-front}
@@ -19,8 +19,9 @@ use Rattle.rustc_parse_format.proofs.Literals.Contents.{units-only, units-no_con
 use Rattle.rustc_parse_format.proofs.Literals.Meanings.{Means, meaning-none, meaning-some}
 
 -- The characters of a content with their places.
-placed-none : (at : ℕ) (t : Text) → t ≢ [] → meaning (unit_at t) ≡ None → placed at t ≡ None
-unfolding placed
+placed-none : (at : ℕ) (t : Text) → t ≢ [] → meaning (unit_at t) ≡ None
+    → content_characters at t ≡ None
+unfolding content_characters
 placed-none at [] n e = absurd (n refl)
 placed-none at (c ∷ t) n e = ap (option_map (placed_characters at))
     (units-none c t (meaning-none _ e))
@@ -35,8 +36,8 @@ past at end t v r e m = omega (
 
 placed-nothing : (at end : ℕ) (t r : Text) → meaning (unit_at t) ≡ Some ([], r)
     → at + byte_length t ≡ end + byte_length r →
-    placed at t ≡ placed end r
-unfolding placed
+    content_characters at t ≡ content_characters end r
+unfolding content_characters
 placed-nothing at end t r e l =
     let m = meaning-some (unit_at t) [] r e in
     ap (option_map (placed_characters at)) (units-some t m.unit r m.is_it)
@@ -50,8 +51,8 @@ placed-nothing at end t r e l =
 
 placed-character : (at end : ℕ) (t r : Text) (c : ℕ) → meaning (unit_at t) ≡ Some (c ∷ [], r)
     → at + byte_length t ≡ end + byte_length r →
-    placed at t ≡ option_map (λ ps. ((at, end), c) ∷ ps) (placed end r)
-unfolding placed
+    content_characters at t ≡ option_map (λ ps. ((at, end), c) ∷ ps) (content_characters end r)
+unfolding content_characters
 placed-character at end t r c e l =
     let m = meaning-some (unit_at t) (c ∷ []) r e in
     ap (option_map (placed_characters at)) (units-some t m.unit r m.is_it)
@@ -64,8 +65,8 @@ placed-character at end t r c e l =
     by_rest u v k None = refl
     by_rest u v k (Some us) = rw (v, k) refl
 
-placed-nil : (at : ℕ) → placed at [] ≡ Some []
-unfolding placed
+placed-nil : (at : ℕ) → content_characters at [] ≡ Some []
+unfolding content_characters
 placed-nil at = ap (option_map (placed_characters at)) units-nil
 
 -- one more character that was found
@@ -83,7 +84,8 @@ found-push xs x (Some ps) = ap Some (by_list xs)
 
 -- What a reader has found, and what it will find, are what the whole gives.
 abbrev pub IsSoFar : List (Range ℕ × ℕ) → ℕ → Text → Text → Type 0
-IsSoFar xs at t whole = option_map (λ ps. seen_characters xs ++ ps) (placed at t) ≡ placed 0 whole
+IsSoFar xs at t whole = option_map (λ ps. seen_characters xs ++ ps) (content_characters at t)
+    ≡ content_characters 0 whole
 
 pub found-character : (at end c : ℕ) (t r whole : Text) (v : Option ℕ) (xs ys : List (Range ℕ × ℕ))
     → IsSoFar xs at t whole →
@@ -91,8 +93,8 @@ pub found-character : (at end c : ℕ) (t r whole : Text) (v : Option ℕ) (xs y
     at + byte_length t ≡ end + byte_length r → ys ≡ xs ++ (record { start = at; end = end }, c) ∷ []
     → IsSoFar ys end r whole
 found-character at end c t r whole v xs ys so_far e f l g =
-    ap (λ zs. option_map (λ ps. seen_characters zs ++ ps) (placed end r)) g
-    ∙ (found-push xs (record { start = at; end = end }, c) (placed end r)
+    ap (λ zs. option_map (λ ps. seen_characters zs ++ ps) (content_characters end r)) g
+    ∙ (found-push xs (record { start = at; end = end }, c) (content_characters end r)
     ∙ (ap (option_map (λ ps. seen_characters xs ++ ps)) (sym (placed-character at end t r c (e
     ∙ ap (λ x. Some (at_most_one x, r)) f) l)) ∙ so_far))
 
@@ -106,22 +108,23 @@ found-nothing at end t r whole v xs so_far e f l =
 
 pub found-all : (at : ℕ) (t whole : Text) (xs : List (Range ℕ × ℕ)) → IsSoFar xs at t whole
     → t ≡ [] →
-    Some (seen_characters xs) ≡ placed 0 whole
+    Some (seen_characters xs) ≡ content_characters 0 whole
 found-all at t whole xs so_far e =
     ap Some (sym (append-nil (seen_characters xs)))
-    ∙ (ap (option_map (λ ps. seen_characters xs ++ ps)) (sym (ap (placed at) e ∙ placed-nil at))
+    ∙ (ap (option_map (λ ps. seen_characters xs ++ ps)) (sym (ap (content_characters at) e
+    ∙ placed-nil at))
     ∙ so_far)
 
 pub found-none : (at : ℕ) (t whole : Text) (xs : List (Range ℕ × ℕ)) → IsSoFar xs at t whole
     → t ≢ [] →
-    meaning (unit_at t) ≡ None → None ≡ placed 0 whole
+    meaning (unit_at t) ≡ None → None ≡ content_characters 0 whole
 found-none at t whole xs so_far n e =
     ap (option_map (λ ps. seen_characters xs ++ ps)) (sym (placed-none at t n e)) ∙ so_far
 
 -- What computing gives is the only row of units.
-pub placed-content : (t : Text) (ps : List (Place × ℕ)) → Some ps ≡ placed 0 t →
+pub placed-content : (t : Text) (ps : List (Place × ℕ)) → Some ps ≡ content_characters 0 t →
     (us : List LiteralUnit) × IsOnlyContent t us × (ps ≡ placed_characters 0 us)
-unfolding placed
+unfolding content_characters
 placed-content t ps e = by_units (units t) refl e
   where
     by_units : (o : Option (List LiteralUnit)) → units t ≡ o → Some ps
@@ -130,9 +133,10 @@ placed-content t ps e = by_units (units t) refl e
     by_units None f e = absurd (none-some ps (sym e))
     by_units (Some us) f e = (us, units-only t us f, same_Some ps (placed_characters 0 us) e)
 
-pub placed-no_content : (t : Text) → None ≡ placed 0 t → (us : List LiteralUnit) → IsContent t us
+pub placed-no_content : (t : Text) → None ≡ content_characters 0 t → (us : List LiteralUnit)
+    → IsContent t us
     → ⊥
-unfolding placed
+unfolding content_characters
 placed-no_content t e us h = by_units (units t) refl e
   where
     by_units : (o : Option (List LiteralUnit)) → units t ≡ o → None
@@ -142,13 +146,14 @@ placed-no_content t e us h = by_units (units t) refl e
 
 -- the same of what a reader answers
 pub read-found : {X E : Type 0} (r : Result (Option X) E) (f : X → List (Place × ℕ)) (t : Text) →
-    IfOk r (λ o. option_map f o ≡ placed 0 t) → IfOk r (λ o. IfSome o (λ x. IsReadAs t (f x)))
+    IfOk r (λ o. option_map f o ≡ content_characters 0 t)
+    → IfOk r (λ o. IfSome o (λ x. IsReadAs t (f x)))
 read-found (Ok None) f t e = tt
 read-found (Ok (Some x)) f t e = placed-content t (f x) e
 read-found (Err x) f t e = tt
 
 pub read-none : {X E : Type 0} (r : Result (Option X) E) (f : X → List (Place × ℕ)) (t : Text) →
-    IfOk r (λ o. option_map f o ≡ placed 0 t) → IfOk r (λ o. IfNone o (IsNoContent t))
+    IfOk r (λ o. option_map f o ≡ content_characters 0 t) → IfOk r (λ o. IfNone o (IsNoContent t))
 read-none (Ok None) f t e = placed-no_content t e
 read-none (Ok (Some x)) f t e = tt
 read-none (Err x) f t e = tt

@@ -17,7 +17,7 @@ use Rattle.rustc_parse_format.specs.PartFaults.{spec_faults}
 use Rattle.rustc_parse_format.specs.Meaning.{spec_texts}
 use Rattle.rustc_parse_format.specs.Back.{Back, given_back}
 use Rattle.rustc_parse_format.specs.Midway.{Midway, read_texts, read_to, read_tries}
-use Rattle.rustc_parse_format.specs.Tries.{spec_tries, tried}
+use Rattle.rustc_parse_format.specs.Tries.{spec_tries, back_after}
 use Rattle.rustc_parse_format.specs.World.{World, Place, faults_in, place_of}
 
 -- where nothing is read
@@ -42,7 +42,8 @@ read_three s r q o n m k fs gs hs = ap (λ (x : Midway). read_to x o k hs) (read
     ∙ read_on s q o m k (fs ++ gs) hs
 
 -- words tried, and then others
-pub tried-append : (b : Back) (ts us : List Text) → tried (tried b ts) us ≡ tried b (ts ++ us)
+pub tried-append : (b : Back) (ts us : List Text) → back_after (back_after b ts) us
+    ≡ back_after b (ts ++ us)
 tried-append b [] us = refl
 tried-append b (t ∷ ts) us = tried-append (given_back (behind_word t) t b) ts us
 

@@ -122,8 +122,12 @@ pub brace-closes : (s new : Midway) (mode : Mode) (opening : Place)
     → begins_with 125 s.rest ≡ true →
     new ≡ record s {
       rest = behind_first s.rest;
-      closed = if s.world.has_source then Some (opening.0, number_of s.world (End (length s.rest)))
-          else s.closed;
+      closed_place = if s.world.has_source then Some (
+        opening.0,
+        number_of s.world (End
+            (length s.rest)),
+      )
+          else s.closed_place;
     } → (o : Text) (a : Argument Span) → opening ≡ place_of s.world (over_first o)
     → new ≡ behind_closing mode o a s
 brace-closes s new mode opening b e o a f =
@@ -131,8 +135,8 @@ brace-closes s new mode opening b e o a f =
     let here : (opening.0, number_of s.world (End (length s.rest)))
     ≡ place_of s.world (through o s.rest) =
     ap (λ (n : ℕ). (n, number_of s.world (End (length s.rest)))) at in
-    e ∙ (ap (λ (p : Option Place). record s { rest = behind_first s.rest; closed = p })
-    (closed_where s.world.has_source s.closed (through o s.rest) s.world _ refl here)
+    e ∙ (ap (λ (p : Option Place). record s { rest = behind_first s.rest; closed_place = p })
+    (closed_where s.world.has_source s.closed_place (through o s.rest) s.world _ refl here)
     ∙ sym (cond-true (begins_with 125 s.rest) _ _ b))
 
 -- and where it is missing, its fault is noted, and the recovery is read.

@@ -7,8 +7,8 @@ use Rattle.std.proofs.lemmas.Option.{none-some}
 use Rattle.std.proofs.lemmas.Bool.{ne_eqb}
 use Rattle.rustc_parse_format.specs.Characters.{Text, front, behind, is_no_brace, first}
 use Rattle.rustc_parse_format.specs.World.{Place, place_at}
-use Rattle.rustc_parse_format.specs.Marks.{marked}
-use Rattle.rustc_parse_format.specs.Lines.{Noted, read_lines}
+use Rattle.rustc_parse_format.specs.Marks.{run_texts}
+use Rattle.rustc_parse_format.specs.Lines.{PlacedCharacter, read_lines}
 use Rattle.rustc_parse_format.specs.Midway.{Midway, read_texts, read_run, noted_next, passed_next}
 use Rattle.rustc_parse_format.specs.Midway.{IsInOneLine}
 use Rattle.rustc_parse_format.proofs.Grammar.Fronts.{front-behind}
@@ -27,13 +27,14 @@ step_here s c t source passes =
     let u : Text = front is_no_brace t in
     let r : Text = behind is_no_brace t in
     let first : ℕ × ℕ = (c, length (c ∷ t)) in
-    ap (λ b. read_up_to here (marked (cond b (c ∷ u) []) (cond b r (c ∷ t))) (cond b r (c ∷ t)))
+    ap (λ b. read_up_to here (run_texts (cond b (c ∷ u) []) (cond b r (c ∷ t))) (cond b r (c ∷ t)))
     passes
-    ∙ (ap (λ (v : Text). read_up_to here ((c, length (c ∷ v)) ∷ marked u r) r)
+    ∙ (ap (λ (v : Text). read_up_to here ((c, length (c ∷ v)) ∷ run_texts u r) r)
     (sym (front-behind is_no_brace t))
-    ∙ (ap (λ (m : Midway). record m { rest = r }) (read_texts-append here (first ∷ []) (marked u r))
+    ∙ (ap (λ (m : Midway). record m { rest = r }) (read_texts-append here (first ∷ [])
+    (run_texts u r))
     ∙ ap (λ (q : Reading). read_up_to (record here { line_start = q.0; lines = s.lines ++ q.1 })
-    (marked u r) r)
+    (run_texts u r) r)
     (lines_in-source s.world s.line_start (first ∷ []) source)))
 
 step_at : (s : Midway) (c : ℕ) (t : Text) → s.world.has_source ≡ true → first t ≡ Some c
@@ -53,7 +54,7 @@ run-step s c source e passes = sym (step_at s c s.rest source e passes)
 -- A run in one line begins with no newline, and goes on in that line behind any other character.
 noted_line : (s : Midway) (c : ℕ) → c ≢ code "\n" → (noted_next c s).lines ≡ s.lines
 noted_line s c other =
-    let x : Noted = (c, place_at s.world (length s.rest)) in
+    let x : PlacedCharacter = (c, place_at s.world (length s.rest)) in
     ap (λ (q : Reading). s.lines ++ q.1)
     (read_lines-step s.line_start x [] (ne_eqb c (code "\n") other)) ∙ append-nil s.lines
 

@@ -10,8 +10,8 @@ use Rattle.std.proofs.lemmas.Bool.{cond-true, and_from, and_parts}
 use Rattle.rustc_parse_format.specs.Characters.{Text, front, behind, behind_first, is_no_brace}
 use Rattle.rustc_parse_format.specs.Characters.{is_in_line, first}
 use Rattle.rustc_parse_format.specs.World.{World, StartBehind, place_at}
-use Rattle.rustc_parse_format.specs.Marks.{marked}
-use Rattle.rustc_parse_format.specs.Lines.{noted}
+use Rattle.rustc_parse_format.specs.Marks.{run_texts}
+use Rattle.rustc_parse_format.specs.Lines.{texts_in}
 use Rattle.rustc_parse_format.specs.Midway.{Midway, read_texts, read_run, IsInOneLine, IsPastIndent}
 use Rattle.rustc_parse_format.proofs.Grammar.Fronts.{front-behind, list_all-front, list_all-weaker}
 use Rattle.rustc_parse_format.proofs.Readers.Steps.{behind-le}
@@ -56,7 +56,7 @@ in_line-no_newline t =
 -- indent, change nothing.
 past-no_indent : (w : World) (start c : ℕ) (t u r : Text) → first t ≡ Some c
     → IsPastIndent c start w t → t ≡ u ++ r →
-    has_no_indent start (noted w (marked u r)) ≡ true
+    has_no_indent start (texts_in w (run_texts u r)) ≡ true
 past-no_indent w start c t [] r e past split = refl
 past-no_indent w start c t (d ∷ u) r e past split =
     let same : d ≡ c = ap (λ (o : Option ℕ). unwrap_or o c) (ap first (sym split) ∙ e) in
@@ -75,11 +75,12 @@ past-no_indent w start c t (d ∷ u) r e past split =
     none w start k same more = omega arith
 
 read_nothing : (s : Midway) (u r : Text) → s.world.has_source ≡ true → no_newline u ≡ true →
-    has_no_indent s.line_start (noted s.world (marked u r)) ≡ true → read_texts s (marked u r) ≡ s
+    has_no_indent s.line_start (texts_in s.world (run_texts u r)) ≡ true
+    → read_texts s (run_texts u r) ≡ s
 read_nothing s u r source none past =
     ap (λ (q : Reading). record s { line_start = q.0; lines = s.lines ++ q.1 })
-    (lines_in-source s.world s.line_start (marked u r) source
-    ∙ read_lines-skip s.line_start (noted s.world (marked u r))
+    (lines_in-source s.world s.line_start (run_texts u r) source
+    ∙ read_lines-skip s.line_start (texts_in s.world (run_texts u r))
     (noted-no_newline s.world u r none) past)
     ∙ ap (λ ls. record s { lines = ls }) (append-nil s.lines)
 
@@ -94,17 +95,17 @@ run-skip s c source e past =
     let split : t ≡ u ++ (v ++ r) =
     front-behind is_in_line t
     ∙ ap (λ (x : Text). u ++ x) (front-behind is_no_brace (behind is_in_line t)) in
-    let none : read_texts s (marked u (v ++ r)) ≡ s =
+    let none : read_texts s (run_texts u (v ++ r)) ≡ s =
     read_nothing s u (v ++ r) source (in_line-no_newline t)
     (past-no_indent s.world s.line_start c t u (v ++ r) e past split) in
-    sym (ap (λ (x : Text). read_up_to s (marked (front is_no_brace t) x) x)
+    sym (ap (λ (x : Text). read_up_to s (run_texts (front is_no_brace t) x) x)
     (behind-inside is_no_brace is_in_line t in_line-no_brace)
-    ∙ (ap (λ (x : Text). read_up_to s (marked x r) r)
+    ∙ (ap (λ (x : Text). read_up_to s (run_texts x r) r)
     (front-inside is_no_brace is_in_line t in_line-no_brace)
     ∙ (ap (λ cs. read_up_to s cs r) (marked-append u v r)
     ∙ (ap (λ (m : Midway). record m { rest = r })
-    (read_texts-append s (marked u (v ++ r)) (marked v r))
-    ∙ ap (λ (m : Midway). read_up_to m (marked v r) r) none))))
+    (read_texts-append s (run_texts u (v ++ r)) (run_texts v r))
+    ∙ ap (λ (m : Midway). read_up_to m (run_texts v r) r) none))))
 
 pub one_line-skip : (s : Midway) (c : ℕ) → s.world.has_source ≡ true → first s.rest ≡ Some c
     → IsPastIndent c s.line_start s.world s.rest →

@@ -8,7 +8,7 @@ use Rattle.rustc_parse_format.specs.Types.{DebugHex, Lower, Upper}
 use Rattle.rustc_parse_format.specs.Syntax.{PaddedWidth, PlainWidth, NoPrecision, StarPrecision}
 use Rattle.rustc_parse_format.specs.Syntax.{DotPrecision, TypeText, DebugHexType, CharacterType}
 use Rattle.rustc_parse_format.specs.Syntax.{WordType}
-use Rattle.rustc_parse_format.specs.Counts.{count, counted, width, precision}
+use Rattle.rustc_parse_format.specs.Counts.{count, width_with, width, precision}
 use Rattle.rustc_parse_format.specs.PartFaults.{type_faults}
 use Rattle.rustc_parse_format.specs.Values.{type_of}
 use Rattle.rustc_parse_format.specs.Specification.{behind_hex, type}
@@ -106,12 +106,12 @@ pub ruleset types_at_front = (
   upper_faults,
 )
 
-pub width_elsewhere : (t : Text) → begins_with 48 t ≡ false → width t ≡ counted PlainWidth t
+pub width_elsewhere : (t : Text) → begins_with 48 t ≡ false → width t ≡ width_with PlainWidth t
 width_elsewhere [] h = refl
 width_elsewhere (c ∷ t) h = rw h refl
 
 pub width_zero : (t : Text) → begins_with 48 t ≡ true → begins_with 36 (behind_first t) ≡ false
-    → width t ≡ counted PaddedWidth (behind_first t)
+    → width t ≡ width_with PaddedWidth (behind_first t)
 width_zero [] h k = cc h
 width_zero (c ∷ []) h k = rw h refl
 width_zero (c ∷ d ∷ t) h k = rw (h, k) refl

@@ -6,8 +6,8 @@ use Rattle.rustc_parse_format.specs.Types.{Format}
 use Rattle.rustc_parse_format.specs.Source.{is_source}
 use Rattle.rustc_parse_format.specs.World.{World, world, place_at}
 use Rattle.rustc_parse_format.specs.Call.{call, walk}
-use Rattle.rustc_parse_format.specs.Marks.{marked}
-use Rattle.rustc_parse_format.specs.Lines.{noted, read_lines, with_last}
+use Rattle.rustc_parse_format.specs.Marks.{run_texts}
+use Rattle.rustc_parse_format.specs.Lines.{texts_in, read_lines, with_last}
 use Rattle.rustc_parse_format.specs.State.{State, first_state, calls, after, after_all, next_call}
 use Rattle.rustc_parse_format.proofs.Rows.Literals.{finding_units}
 
@@ -33,7 +33,8 @@ escaped_space-has_these_places : escaped_space.places ≡ (3, 9) ∷ (9, 10) ∷
 unfolding computing_lines
 escaped_space-has_these_places = refl
 
-escaped_space-moves_no_line : read_lines 1 (noted escaped_space (marked (codes " a") [])) ≡ (1, [])
+escaped_space-moves_no_line : read_lines 1 (texts_in escaped_space (run_texts (codes " a") []))
+    ≡ (1, [])
 unfolding computing_lines
 escaped_space-moves_no_line = refl
 

@@ -6,7 +6,7 @@ use Rattle.rustc_parse_format.specs.Characters.{Text, word, behind_word}
 use Rattle.rustc_parse_format.specs.Back.{Back, given_back, nothing_back}
 use Rattle.rustc_parse_format.specs.Steps.{position, reach, steps}
 use Rattle.rustc_parse_format.specs.State.{State, after, after_all, calls, next_call}
-use Rattle.rustc_parse_format.specs.Tries.{tried}
+use Rattle.rustc_parse_format.specs.Tries.{back_after}
 use Rattle.rustc_parse_format.proofs.Grammar.Fronts.{word-behind}
 use Rattle.rustc_parse_format.proofs.Rows.Definitions.{computing, start}
 
@@ -16,7 +16,7 @@ tried_length [] = 0
 tried_length (t ∷ ts) = length (word t) + tried_length ts
 
 -- Each word that is given back is read once more.
-pub tried-again : (b : Back) (ts : List Text) → (tried b ts).again ≡ b.again + tried_length ts
+pub tried-again : (b : Back) (ts : List Text) → (back_after b ts).again ≡ b.again + tried_length ts
 tried-again b [] = omega arith
 tried-again b (t ∷ ts) =
     let once : (b.again + (length t - length (behind_word t))) + tried_length ts
@@ -48,7 +48,7 @@ width-takes_no_more = refl
 
 -- after the word was given back
 abbrev there : Back
-there = tried (nothing_back (codes "{:abc}")) (codes "abc}" ∷ [])
+there = back_after (nothing_back (codes "{:abc}")) (codes "abc}" ∷ [])
 
 word-given_back : steps (codes "{:abc}") (codes "abc}") there ≡ 5
 unfolding computing

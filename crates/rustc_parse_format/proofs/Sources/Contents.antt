@@ -15,7 +15,7 @@ use Rattle.rustc_parse_format.specs.LiteralUnits.{spelling, meaning, escaped, is
 use Rattle.rustc_parse_format.specs.LiteralUnits.{is_unit, may_precede, unit_at}
 use Rattle.rustc_parse_format.specs.Literal.{IsContent}
 use Rattle.rustc_parse_format.specs.SeenSource.{after_continuations, begins_continuation}
-use Rattle.rustc_parse_format.specs.SeenSource.{character_width, taken, closed_by_quote, gap}
+use Rattle.rustc_parse_format.specs.SeenSource.{character_width, unit_width, closed_by_quote, gap}
 use Rattle.rustc_parse_format.specs.SeenSource.{gap_to, spelled_units}
 use Rattle.rustc_parse_format.proofs.Literals.Widths.{width-cons, width-append}
 use Rattle.rustc_parse_format.proofs.Literals.Plain.{ascii-first}
@@ -46,7 +46,7 @@ closed-unit_at t q u r e w m f = ap unit_at (closed-split t q u r e f)
 pub width-read : (t r : Text) (c : ℕ) → meaning (unit_at t) ≡ Some (c ∷ [], r)
     → character_width t ≡ byte_length t - byte_length r
 unfolding character_width
-width-read t r c e = ap (taken t) e
+width-read t r c e = ap (unit_width t) e
 
 -- What is behind a front takes no more than the whole.
 pub behind-narrower : (p : ℕ → Bool) (t : Text) → byte_length (behind p t) ≤ byte_length t

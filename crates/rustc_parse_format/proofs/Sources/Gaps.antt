@@ -62,36 +62,40 @@ first-here bs input appended end n w same u o f =
     (settle bs w input 1 o.units b)
 
 -- in the words of a source
-pub kept-ordinary : (s : Source) (snippet : String Global) → s.kept ≡ Some snippet → IsKept s →
-    IsOrdinary (chars s.input.now) (chars (string_bytes snippet)) s.appended s.end
+pub kept-ordinary : (s : Source) (snippet : String Global) → s.kept_snippet ≡ Some snippet
+    → IsKept s →
+    IsOrdinary (chars s.input.now) (chars (string_bytes snippet)) s.appended_newline s.end
 kept-ordinary s snippet e k = rw e at k
 
-pub first-boundary : (s : Source) (snippet : String Global) → s.kept ≡ Some snippet → IsKept s
+pub first-boundary : (s : Source) (snippet : String Global) → s.kept_snippet ≡ Some snippet
+    → IsKept s
     → IsCharBoundary (string_bytes snippet) 1
 first-boundary s snippet e k =
-    let b = opened (string_bytes snippet) (chars s.input.now) s.appended s.end
+    let b = opened (string_bytes snippet) (chars s.input.now) s.appended_newline s.end
     (world_with (Some snippet) s) (refl, refl)
     (IsUtf8-string_bytes snippet) (kept-ordinary s snippet e k) in
     IsCharBoundary-from_drop (string_bytes snippet) 1 b.within b.is_text
 
-pub first-found : (s : Source) (snippet : String Global) (n : ℕ) → s.kept ≡ Some snippet → IsKept s
+pub first-found : (s : Source) (snippet : String Global) (n : ℕ) → s.kept_snippet ≡ Some snippet
+    → IsKept s
     → Closes (drop 1 (string_bytes snippet)) n →
     IsHere (string_bytes snippet) (world_with (Some snippet) s) (chars s.input.now) (1 + n)
 first-found s snippet n e k f =
-    first-here (string_bytes snippet) (chars s.input.now) s.appended s.end n
+    first-here (string_bytes snippet) (chars s.input.now) s.appended_newline s.end n
     (world_with (Some snippet) s) (refl, refl)
     (IsUtf8-string_bytes snippet) (kept-ordinary s snippet e k) f
 
-pub first-inside : (s : Source) (snippet : String Global) (n : ℕ) → s.kept ≡ Some snippet → IsKept s
+pub first-inside : (s : Source) (snippet : String Global) (n : ℕ) → s.kept_snippet
+    ≡ Some snippet → IsKept s
     → Closes (drop 1 (string_bytes snippet)) n →
     1 + n ≤ length (string_bytes snippet)
 first-inside s snippet n e k f = (first-found s snippet n e k f).within
 
 pub first-anchor : (s : Source) (snippet : String Global) (n : ℕ) (a : Anchor)
-    → s.kept ≡ Some snippet → IsKept s →
+    → s.kept_snippet ≡ Some snippet → IsKept s →
     Closes (drop 1 (string_bytes snippet)) n →
     ((w : World) → IsHere (string_bytes snippet) w (chars s.input.now) (1 + n)
     → IsAnchor (string_bytes snippet) w a) →
-    IsAnchorIn s.kept (seen_world s) a
+    IsAnchorIn s.kept_snippet (seen_world s) a
 first-anchor s snippet n a e k f look =
     rw e (look (world_with (Some snippet) s) (first-found s snippet n e k f))

@@ -68,7 +68,7 @@ kept_here (Some snippet) s rest a l m h =
     let us : List LiteralUnit = unwrap_or (units (between (chars (string_bytes snippet)))) [] in
     record {
       from = 1;
-      in_order = ordinary-in_order us s.appended;
+      in_order = ordinary-in_order us s.appended_newline;
       enough = omega (
         arith,
         here-enough (string_bytes snippet) (world_with (Some snippet) s)
@@ -80,7 +80,7 @@ kept_here (Some snippet) s rest a l m h =
 
 pub anchored-places : (s : Source) (rest : List ℕ) (a : Anchor) → IsAnchored s rest a
     → HasPlaces (seen_world s) (length (chars rest))
-anchored-places s rest a h = kept_here s.kept s rest a h.is_left h.is_after h.is_anchor
+anchored-places s rest a h = kept_here s.kept_snippet s rest a h.is_left h.is_after h.is_anchor
 
 -- What the first of the last n characters does not start in front of, all after it start behind,
 pub start_from : (w : World) (n byte : ℕ) → HasPlaces w n → byte ≤ (place_at w n).0 → (k : ℕ)

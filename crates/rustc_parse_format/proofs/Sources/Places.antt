@@ -30,19 +30,20 @@ anchor_by o w a snippet h e = rw e at h
 
 -- where the snippet is kept, it has the anchor
 pub anchor_in : (s : Source) (rest : List ℕ) (a : Anchor) (snippet : String Global)
-    → IsAnchored s rest a → s.kept ≡ Some snippet →
+    → IsAnchored s rest a → s.kept_snippet ≡ Some snippet →
     IsAnchor (string_bytes snippet) (seen_world s) a
-anchor_in s rest a snippet h e = anchor_by s.kept (seen_world s) a snippet h.is_anchor e
+anchor_in s rest a snippet h e = anchor_by s.kept_snippet (seen_world s) a snippet h.is_anchor e
 
 literal_in : (o : Option (String Global)) (s : Source) → s.is_literal ≡ (world_with o s).has_source
 literal_in None s = refl
 literal_in (Some snippet) s = refl
 
 pub source_literal : (s : Source) → s.is_literal ≡ (seen_world s).has_source
-source_literal s = literal_in s.kept s
+source_literal s = literal_in s.kept_snippet s
 
 -- in a plain world
-pub plain_start : (s : Source) (rest : List ℕ) (a : Anchor) → IsAnchored s rest a → s.kept ≡ None
+pub plain_start : (s : Source) (rest : List ℕ) (a : Anchor) → IsAnchored s rest a
+    → s.kept_snippet ≡ None
     → (length rest ≡ 0 → ⊥) →
     s.offset + (length s.input.now - length rest)
     ≡ (place_at (seen_world s) (length (chars rest))).0
@@ -50,7 +51,7 @@ plain_start s rest a h e some =
     rw e (sym (start_left s.is_literal s.offset s.end s.input.now rest h.is_left some))
 
 pub plain_stop : (s : Source) (rest behind : List ℕ) (a : Anchor) → IsAnchored s rest a
-    → s.kept ≡ None → IsUtf8 behind → (length rest ≡ 0 → ⊥) →
+    → s.kept_snippet ≡ None → IsUtf8 behind → (length rest ≡ 0 → ⊥) →
     chars behind ≡ behind_first (chars rest) → s.offset + (length s.input.now - length behind)
     ≡ (place_at (seen_world s) (length (chars rest))).1
 plain_stop s rest behind a h e u some b =
@@ -84,7 +85,8 @@ kept_ends (Some snippet) s k =
 -- at the start of an input
 pub first_anchored : (s : Source) (input : List ℕ) (a : Anchor) → IsUtf8 input → s.input.now ≡ input
     → s.offset + length input < 2 ^ 64 →
-    a.rest.now ≡ s.input.now → IsAnchorIn s.kept (seen_world s) a → IsKept s → IsAnchored s input a
+    a.rest.now ≡ s.input.now → IsAnchorIn s.kept_snippet (seen_world s) a → IsKept s
+    → IsAnchored s input a
 first_anchored s input a u e fits same h k =
     let self = left_self input (is_utf8-from_IsUtf8 input u) in
     record {
@@ -92,7 +94,7 @@ first_anchored s input a u e fits same h k =
       is_after = rw (same, e) self;
       is_anchor = h;
       fits = rw e fits;
-      ending = kept_ends s.kept s k;
+      ending = kept_ends s.kept_snippet s k;
     }
 
 -- A suffix of what is left is left too,

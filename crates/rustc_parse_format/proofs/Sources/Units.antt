@@ -13,7 +13,8 @@ use Rattle.rustc_parse_format.specs.LiteralUnits.{spelling, value, meaning, esca
 use Rattle.rustc_parse_format.specs.LiteralUnits.{unit_at, byte_value, unicode_value}
 use Rattle.rustc_parse_format.specs.Literal.{IsContent, content_value, placed_characters}
 use Rattle.rustc_parse_format.specs.SeenSource.{IsAhead, after_continuations, character_width}
-use Rattle.rustc_parse_format.specs.SeenSource.{closed_by_quote, spelled_units, taken, taken_by}
+use Rattle.rustc_parse_format.specs.SeenSource.{closed_by_quote, spelled_units, unit_width}
+use Rattle.rustc_parse_format.specs.SeenSource.{width_before}
 use Rattle.rustc_parse_format.specs.World.{Place, content_places}
 use Rattle.rustc_parse_format.proofs.Literals.Widths.{width-append}
 use Rattle.rustc_parse_format.proofs.Literals.UnitLaws.{unit_at-front}
@@ -69,9 +70,9 @@ pub no_width : (t q : Text) (us : List LiteralUnit) → IsContent q us → t ≡
 unfolding character_width unit_at
 no_width t q [] h e n = ap character_width (e ∙ ap closed_by_quote h)
 no_width t q (u ∷ us) (r, w, m, f, h) e n =
-    ap (λ o. taken t (meaning o)) (closed-unit_at t q u r e w m f) ∙ of_value (value u) n
+    ap (λ o. unit_width t (meaning o)) (closed-unit_at t q u r e w m f) ∙ of_value (value u) n
   where
-    of_value : (v : Text) → v ++ content_value us ≡ [] → taken_by t v (closed_by_quote r) ≡ 0
+    of_value : (v : Text) → v ++ content_value us ≡ [] → width_before t v (closed_by_quote r) ≡ 0
     of_value [] n = refl
     of_value (c ∷ v) n = absurd cc
 
@@ -84,8 +85,8 @@ first_width t q us h e k = of_units (subst (IsContent q) k.are h)
     of_units : IsContent q (k.unit ∷ k.others) → character_width t ≡ byte_length (spelling k.unit)
     of_units (r, w, m, f, h) =
         let found = closed-unit_at t q k.unit r e w m f in
-        ap (λ o. taken t (meaning o)) found
-        ∙ (ap (λ v. taken_by t v (closed_by_quote r)) k.stands_for
+        ap (λ o. unit_width t (meaning o)) found
+        ∙ (ap (λ v. width_before t v (closed_by_quote r)) k.stands_for
         ∙ omega (
           arith,
           ap byte_length (unit_at-front t k.unit (closed_by_quote r) found).split,
@@ -107,7 +108,7 @@ is_wide t = of_unit (unit_at t) refl
     nothing e = record { front = []; rest = t; split = refl; bytes = e }
 
     of_value : (u : LiteralUnit) (v r : Text) → t ≡ spelling u ++ r
-        → character_width t ≡ taken_by t v r → IsWide t
+        → character_width t ≡ width_before t v r → IsWide t
     of_value u [] r f e = nothing e
     of_value u (c ∷ v) r f e = record {
       front = spelling u;
@@ -117,9 +118,9 @@ is_wide t = of_unit (unit_at t) refl
     }
 
     of_unit : (o : Option (LiteralUnit × Text)) → unit_at t ≡ o → IsWide t
-    of_unit None e = nothing (ap (λ o. taken t (meaning o)) e)
+    of_unit None e = nothing (ap (λ o. unit_width t (meaning o)) e)
     of_unit (Some (u, r)) e = of_value u (value u) r (unit_at-front t u r e).split
-        (ap (λ o. taken t (meaning o)) e)
+        (ap (λ o. unit_width t (meaning o)) e)
 
 -- What is left after the continuations at the front: they take some text, and stand for nothing.
 pub record IsAfter (us vs : List LiteralUnit) : Type 0 where

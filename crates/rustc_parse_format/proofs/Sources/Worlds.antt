@@ -45,14 +45,14 @@ world-foreign input style s appended h =
 
 -- an ordinary literal, in the words of what is kept
 pub kept-literal : (source : Source) (s : Text)
-    → IsSourceTo (chars source.input.now) None s source.appended source.end →
-    IsOrdinary (chars source.input.now) s source.appended source.end
+    → IsSourceTo (chars source.input.now) None s source.appended_newline source.end →
+    IsOrdinary (chars source.input.now) s source.appended_newline source.end
 kept-literal source s ((t, (content, us, frame, is_content, value), e), f) = record {
   content = content;
   units = us;
   is_literal = frame;
   is_content = is_content;
-  stands_for = ap (λ x. x ++ newline source.appended) value ∙ e;
+  stands_for = ap (λ x. x ++ newline source.appended_newline) value ∙ e;
   ending = f ∙ ap ordinary_end (frame-units s content us frame is_content);
 }
 
@@ -87,16 +87,16 @@ as_long q v s input false e f n = omega (
 )
 
 kept-plain : (source : Source) (s : Text)
-    (k : IsOrdinary (chars source.input.now) s source.appended source.end) →
-    is_longer (chars source.input.now) None (Some s) source.appended ≡ false →
+    (k : IsOrdinary (chars source.input.now) s source.appended_newline source.end) →
+    is_longer (chars source.input.now) None (Some s) source.appended_newline ≡ false →
     plain_world true 1 (chars source.input.now) source.end
-    ≡ ordinary_world (units_between s) source.appended
+    ≡ ordinary_world (units_between s) source.appended_newline
 kept-plain source s k n =
     let found = frame-units s k.content k.units k.is_literal k.is_content in
     let long = as_long k.content (content_value k.units) s
-    (chars source.input.now) source.appended k.is_literal k.stands_for n in
+    (chars source.input.now) source.appended_newline k.is_literal k.stands_for n in
     rw (found, k.ending, ← k.stands_for)
-    (sym (ordinary-plain k.content k.units source.appended k.is_content long))
+    (sym (ordinary-plain k.content k.units source.appended_newline k.is_content long))
 
 -- what is kept
 abbrev pub kept_of : Option ℕ → Text → Option ℕ → Option (String Global) → Bool
@@ -110,11 +110,13 @@ pub record IsSourceWith (source : Source) (style : Option ℕ) (snippet : Option
   pub offset : source.offset ≡ quote_offset style
   pub is_literal : source.is_literal ≡ is_some o
   pub end : source.end
-      ≡ unwrap_or o (plain_end (chars source.input.now) (seen_snippet snippet) source.appended)
-  pub found : IsFound (chars source.input.now) style (seen_snippet snippet) source.appended o
+      ≡ unwrap_or o (plain_end (chars source.input.now)
+      (seen_snippet snippet) source.appended_newline)
+  pub found : IsFound (chars source.input.now) style
+      (seen_snippet snippet) source.appended_newline o
 
 kept : (source : Source) (s : String Global) (e : ℕ) → IsSourceWith source None (Some s) (Some e) →
-    IsOrdinary (chars source.input.now) (chars (string_bytes s)) source.appended source.end
+    IsOrdinary (chars source.input.now) (chars (string_bytes s)) source.appended_newline source.end
 kept source s e k = kept-literal source (chars (string_bytes s)) (k.found.0, k.end ∙ k.found.1)
 
 -- worlds by their parts
@@ -124,46 +126,47 @@ same_world v w a b c = rw (a, b, c) refl
 
 kept-world : (source : Source) (s : String Global) → source.is_literal ≡ true →
     world_with (Some s) source
-    ≡ ordinary_world (units_between (chars (string_bytes s))) source.appended
+    ≡ ordinary_world (units_between (chars (string_bytes s))) source.appended_newline
 kept-world source s e =
     let found : (world_with (Some s) source).has_source ≡ true = cc in
     same_world (world_with (Some s) source)
-    (ordinary_world (units_between (chars (string_bytes s))) source.appended) found refl refl
+    (ordinary_world (units_between (chars
+    (string_bytes s))) source.appended_newline) found refl refl
 
 pub source-world : (source : Source) (style : Option ℕ) (snippet : Option (String Global))
     (o : Option ℕ) → IsSourceWith source style snippet o →
-    world_with (kept_of o (chars source.input.now) style snippet source.appended) source
-    ≡ world (chars source.input.now) style (seen_snippet snippet) source.appended
+    world_with (kept_of o (chars source.input.now) style snippet source.appended_newline) source
+    ≡ world (chars source.input.now) style (seen_snippet snippet) source.appended_newline
 unfolding world
 source-world source style None None k = rw (k.offset, k.is_literal, k.end) refl
 source-world source style None (Some e) k = absurd k.found
 source-world source style (Some s) None k =
     rw (k.offset, k.is_literal, k.end)
     (sym (world-foreign (chars source.input.now) style
-    (chars (string_bytes s)) source.appended k.found))
+    (chars (string_bytes s)) source.appended_newline k.found))
 source-world source (Some n) (Some s) (Some e) k =
     rw (k.offset, k.is_literal, k.end, k.found.1)
     (sym (world-found (chars source.input.now) (Some n)
-    (chars (string_bytes s)) source.appended k.found.0))
+    (chars (string_bytes s)) source.appended_newline k.found.0))
 source-world source None (Some s) (Some e) k =
     cond_both (is_longer (chars source.input.now) None
-    (Some (chars (string_bytes s))) source.appended) (Some s) None
+    (Some (chars (string_bytes s))) source.appended_newline) (Some s) None
     (λ o. world_with o source
-    ≡ ordinary_world (units_between (chars (string_bytes s))) source.appended)
+    ≡ ordinary_world (units_between (chars (string_bytes s))) source.appended_newline)
     (λ yes. kept-world source s k.is_literal)
     (λ none. rw (k.offset, k.is_literal)
     (kept-plain source (chars (string_bytes s)) (kept source s e k) none))
     ∙ sym (world-found (chars source.input.now) None
-    (chars (string_bytes s)) source.appended k.found.0)
+    (chars (string_bytes s)) source.appended_newline k.found.0)
 
 pub source-kept : (source : Source) (style : Option ℕ) (snippet : Option (String Global))
     (o : Option ℕ) → IsSourceWith source style snippet o →
-    IsKeptIn (kept_of o (chars source.input.now) style snippet source.appended) source
+    IsKeptIn (kept_of o (chars source.input.now) style snippet source.appended_newline) source
 source-kept source style None None k = tt
 source-kept source style None (Some e) k = absurd k.found
 source-kept source style (Some s) None k = tt
 source-kept source (Some n) (Some s) (Some e) k = tt
 source-kept source None (Some s) (Some e) k =
     cond_both (is_longer (chars source.input.now) None
-    (Some (chars (string_bytes s))) source.appended) (Some s) None
+    (Some (chars (string_bytes s))) source.appended_newline) (Some s) None
     (λ o. IsKeptIn o source) (λ yes. kept source s e k) (λ none. tt)

@@ -16,8 +16,8 @@ use Rattle.rustc_parse_format.specs.Literal.{placed_characters, content_value, n
 use Rattle.rustc_parse_format.specs.World.{World, Place, plain_places, content_places, last_stop}
 use Rattle.rustc_parse_format.specs.World.{newline_places, ordinary_world}
 use Rattle.rustc_parse_format.specs.World.{place_at}
-use Rattle.rustc_parse_format.specs.Marks.{marked}
-use Rattle.rustc_parse_format.specs.Lines.{noted}
+use Rattle.rustc_parse_format.specs.Marks.{run_texts}
+use Rattle.rustc_parse_format.specs.Lines.{texts_in}
 use Rattle.rustc_parse_format.proofs.Literals.Widths.{width-cons}
 use Rattle.rustc_parse_format.proofs.Literals.Contents.{some_length}
 use Rattle.rustc_parse_format.proofs.Lines.LineLaws.{has_no_newline, has_no_indent, indent-no}
@@ -133,7 +133,7 @@ abbrev pub no_newline : Text → Bool
 no_newline t = list_all (λ c. not (c == code "\n")) t
 
 pub noted-no_newline : (w : World) (u r : Text) → no_newline u ≡ true
-    → has_no_newline (noted w (marked u r)) ≡ true
+    → has_no_newline (texts_in w (run_texts u r)) ≡ true
 noted-no_newline w [] r a = refl
 noted-no_newline w (c ∷ u) r a =
     let h : (not (c == code "\n") ≡ true) × (no_newline u ≡ true) =
@@ -143,7 +143,7 @@ noted-no_newline w (c ∷ u) r a =
 -- Where each character of a run starts behind the start of the line, none is white space there.
 pub behind-no_indent : (w : World) (start : ℕ) (u r : Text) →
     ((k : ℕ) → 0 < k → k ≤ length (u ++ r) → start < (place_at w k).0)
-    → has_no_indent start (noted w (marked u r)) ≡ true
+    → has_no_indent start (texts_in w (run_texts u r)) ≡ true
 behind-no_indent w start [] r h = refl
 behind-no_indent w start (c ∷ u) r h =
     let first : start < (place_at w (length (c ∷ (u ++ r)))).0 =

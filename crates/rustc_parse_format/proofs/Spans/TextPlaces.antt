@@ -27,7 +27,7 @@ use Rattle.rustc_parse_format.specs.Syntax.{SpecText}
 use Rattle.rustc_parse_format.specs.Syntax.{Default, Formatting, Modifier, DiagnosticText}
 use Rattle.rustc_parse_format.specs.Syntax.{spec_part, FieldText, IsCut}
 use Rattle.std.specs.Char.{is_whitespace}
-use Rattle.rustc_parse_format.specs.Placeholder.{Cut, cut, placed}
+use Rattle.rustc_parse_format.specs.Placeholder.{Cut, cut, cut_of}
 use Rattle.rustc_parse_format.specs.Values.{number_after_spec, position_of, type_of}
 use Rattle.rustc_parse_format.specs.Meaning.{argument, count_of, format_of, from_precision}
 use Rattle.rustc_parse_format.specs.Meaning.{from_type, from_width, precision_of, spec_of}
@@ -362,7 +362,7 @@ ArgumentStands mode t a = ArgumentTexts (λ (s : Span) w. NameStands t s.from w)
     (λ (s : Span) w. StandsAt t s.from w) mode a
 
 placed_stands : (mode : Mode) (n : ℕ) (t : Text) (a : FieldText) (r : Text) → IsCut mode t a r
-    → ArgumentStands mode t (argument n (placed mode a r))
+    → ArgumentStands mode t (argument n (cut_of mode a r))
 unfolding argument
 placed_stands mode n t a r h =
     let whole : IsRow t (position_part a.position ∷ run is_whitespace a.space

@@ -14,7 +14,7 @@ use Rattle.rustc_parse_format.specs.World.{Place, faults_in, piece_in}
 use Rattle.std.proofs.lemmas.Bool.{not-true}
 use Rattle.rustc_parse_format.specs.Spelling.{IsPart, unless}
 use Rattle.rustc_parse_format.specs.Syntax.{FieldText, field_part, opened_part}
-use Rattle.rustc_parse_format.specs.Placeholder.{cut, placed}
+use Rattle.rustc_parse_format.specs.Placeholder.{cut, cut_of}
 use Rattle.rustc_parse_format.specs.Meaning.{argument}
 use Rattle.rustc_parse_format.proofs.Grammar.PartLaws.{two-split}
 use Rattle.rustc_parse_format.proofs.Grammar.PartCuts.{cut-placed}
@@ -44,7 +44,7 @@ opened_call mode c t e = rw e (placeholder-piece mode c (123 ∷ t) t)
 -- after a single brace the piece is the argument of the cut
 pub cut_given : (s : State) (a : FieldText) (r : Text) → IsPart s.rest (opened_part s.mode a) r →
     option_map (piece_in s.world) (next_call s).piece
-    ≡ Some (piece_in s.world (NextArgument (argument s.next (placed s.mode a r))))
+    ≡ Some (piece_in s.world (NextArgument (argument s.next (cut_of s.mode a r))))
 cut_given s a r h =
     let o = two-split s.rest (unless (codes "{") (begins_with 123)) (field_part s.mode a) r h in
     ap (λ t. option_map (piece_in s.world) (call s.mode s.next t).piece) o.first.whole

@@ -27,7 +27,7 @@ use Rattle.rustc_parse_format.specs.Meaning.{argument}
 use Rattle.rustc_parse_format.proofs.Readers.Recoveries.{recovery_rest}
 use Rattle.rustc_parse_format.specs.Call.{Call, IsWalk, GoesOn, call, closed_call, unclosed_call}
 use Rattle.rustc_parse_format.specs.Call.{placeholder, faults_of, pieces_of}
-use Rattle.rustc_parse_format.specs.Lines.{IsLines, lines_in, listed, noted, closed_in}
+use Rattle.rustc_parse_format.specs.Lines.{IsLines, lines_in, place_list, texts_in, closed_in}
 use Rattle.rustc_parse_format.specs.Lines.{closed_places, with_last}
 use Rattle.rustc_parse_format.specs.Literal.{IsSource}
 use Rattle.rustc_parse_format.specs.ReadBack.{AllSpans, IsInside, ReadsBack}
@@ -208,7 +208,7 @@ closed_in-source w o h = rw h refl
 -- The lines that a call before the end adds.
 pub call_lines : (s : State) → s.rest ≢ [] → s.world.has_source ≡ true → (lines : List Place)
     × ((after s (next_call s)).line_spans ≡ s.line_spans ++ lines)
-    × IsLines s.line_start (noted s.world (next_call s).texts) lines
+    × IsLines s.line_start (texts_in s.world (next_call s).texts) lines
     (after s (next_call s)).line_start
 call_lines s some h =
     let k = next_call s in
@@ -216,13 +216,13 @@ call_lines s some h =
     let e = lines_in-source s.world s.line_start k.texts h in (
       r.1,
       not_last s s.rest (s.line_spans ++ r.1) refl some,
-      rw e (read_lines-cut s.line_start (noted s.world k.texts)),
+      rw e (read_lines-cut s.line_start (texts_in s.world k.texts)),
     )
 
 pub call_places : (s : State) → s.world.has_source ≡ true →
     (after s (next_call s)).arg_places ≡ s.arg_places
-    ++ listed (option_map (place_of s.world) (next_call s).closes)
-call_places s h = ap (λ o. s.arg_places ++ listed o)
+    ++ place_list (option_map (place_of s.world) (next_call s).closes)
+call_places s h = ap (λ o. s.arg_places ++ place_list o)
     (closed_in-source s.world (next_call s).closes h)
 
 -- Without a source literal there is neither a line nor a place,
@@ -351,7 +351,7 @@ are_lines s ks h w =
     let e = lines_in-source s.world s.line_start (texts_of ks) h in
     record {
       lines = (walked s ks).1;
-      are_lines = rw (d.start, e) (read_lines-cut s.line_start (noted s.world (texts_of ks)));
+      are_lines = rw (d.start, e) (read_lines-cut s.line_start (texts_in s.world (texts_of ks)));
       kept = d.lines;
     }
 

@@ -1,4 +1,4 @@
-//! The number of steps that a cursor has made, for contracts alone: nothing is done when the
+//! The number of steps that a cursor has made, for contracts alone: it costs nothing when the
 //! program runs.
 
 ghost use Rattle.std.specs.Prelude.{◌≡◌, ℕ, ◌+◌, ◌++◌, chars, length};
@@ -35,7 +35,8 @@ impl Steps {
     }
 }
 
-/// How many characters a cursor has passed, and how many were left when it last went back.
+/// The number of characters that a cursor has passed, and the number that were left when it last
+/// went back.
 #[derive(Drop)]
 pub struct Tally {
     made: Steps,

@@ -1,4 +1,4 @@
-//! What is left of a text, which is consumed one character at a time.
+//! The rest of a text, which is consumed one character at a time.
 
 ghost use Rattle.std.specs.Prelude.{◌≡◌, ◌↔◌, ◌∷◌, ◌<◌, ◌≤◌, List, ℕ, [], chars, IfSome, IsFalse};
 ghost use Rattle.std.specs.Prelude.{IsTrue};
@@ -16,7 +16,7 @@ use crate::blocks::plain_front;
 use crate::characters::{Class, behind_first, first, split_run};
 use std::marker::Model;
 
-/// What is left of a text.
+/// The rest of a text.
 #[derive(Drop)]
 pub struct Rest<'a> {
     text: &'a str,
@@ -37,7 +37,7 @@ impl<'a> Rest<'a> {
         Rest { text }
     }
 
-    /// Returns what is left.
+    /// Returns the rest as a text.
     #[inline(always)]
     pub fn text(&self) -> &'a str
         ensures { chars result.now ≡ self.now }
@@ -45,7 +45,7 @@ impl<'a> Rest<'a> {
         self.text
     }
 
-    /// Returns how many bytes are left.
+    /// Returns the number of bytes that are left.
     #[inline(always)]
     pub fn len(&self) -> usize
         ensures { result ≡ byte_length self.now }
@@ -137,7 +137,7 @@ impl<'a> Rest<'a> {
         other.text = left;
     }
 
-    /// Returns whether what is left begins with a string continuation: a backslash and an LF.
+    /// Returns whether the rest begins with a string continuation: a backslash and an LF.
     #[inline(always)]
     pub fn begins_continuation(&self) -> bool
         ensures { result ≡ begins_continuation self.now }
@@ -145,8 +145,7 @@ impl<'a> Rest<'a> {
         self.begins_with('\\') && first(behind_first(self.text)) == Some('\n')
     }
 
-    /// Skips all string continuations at the start of what is left of a content with its closing
-    /// quote.
+    /// Skips all string continuations at the start of the rest of a content with its closing quote.
     pub fn skip_continuations(&mut self)
         ensures after { (q : Text) (us : List LiteralUnit) → IsContent q us
             → self.old ≡ closed_by_quote q
@@ -178,7 +177,7 @@ fn byte_count(text: &str) -> usize
     text.len()
 }
 
-/// Returns what is after this ASCII character, or `None` if the text does not begin with it.
+/// Returns the text after this ASCII character, or `None` if the text does not begin with it.
 #[inline(always)]
 fn behind_ascii(text: &str, byte: u8) -> Option<&str>
     requires { byte < 128 }
@@ -221,8 +220,8 @@ fn begin_alike(bytes: &[u8], others: &[u8]) -> bool {
     !bytes.is_empty() && bytes[0] != b'\\' && !others.is_empty() && bytes[0] == others[0]
 }
 
-/// Returns what is left of both texts after the plain characters with which they begin alike. If
-/// they first differ inside a character, that is left in both.
+/// Returns the rests of both texts after the plain characters with which they begin alike. If they
+/// first differ inside a character, both rests begin with that character.
 #[inline(always)]
 fn behind_plain<'a, 'b>(text: &'a str, other: &'b str) -> (&'a str, &'b str)
     ensures { SharePlain (chars text.now) (chars other.now) (chars result.0.now)

@@ -1,5 +1,4 @@
-//! One call of a parser: it takes effect as a whole, or an allocation fails and the parser is
-//! unchanged.
+//! One call of a parser: it happens as a whole, or an allocation fails and the parser is unchanged.
 
 use crate::lists::ends_with;
 use crate::parser::Parser;
@@ -19,7 +18,8 @@ impl<'input> Parser<'input> {
     ghost use Rattle.rustc_parse_format.specs.Types.{Lit, NextArgument, default_spec};
     ghost use Rattle.rustc_parse_format.specs.World.{piece_in};
 
-    /// Makes one call, and returns its piece. If an allocation fails, the parser is unchanged.
+    /// Makes one call, and returns its piece. Returns `Err` if an allocation fails, and the parser
+    /// is then unchanged.
     pub(super) fn step(&mut self) -> Result<Option<Piece<'input>>, AllocError>
         ensures piece { IfOk result (λ p. option_map seen p
             ≡ option_map (piece_in self.old.world) (next_call self.old).piece) }
@@ -44,8 +44,8 @@ impl<'input> Parser<'input> {
         Err(AllocError)
     }
 
-    /// Adds the last line of a source literal at the end of the input, unless it is there already.
-    /// If an allocation fails, the parser is unchanged.
+    /// Adds the last line of a source literal at the end of the input, unless the list has it
+    /// already. Returns `Err` if an allocation fails, and the parser is then unchanged.
     pub(super) fn end_line(&mut self) -> Result<(), AllocError>
         requires { self.old.rest ≡ [] }
         ensures state { OnOk result (self.new

@@ -45,11 +45,11 @@ impl<'input> Parser<'input> {
         }
         let start = self.reader.call_start();
         let count = faults.len();
-        if let Ok(taken) = self.reader.taken(self.mode, argument) {
+        if let Ok(piece) = self.reader.piece_into(self.mode, argument) {
             if let Ok(_) = self.reader.move_faults(faults) {
                 if let Ok(_) = self.lists.take_over(self.alloc, &mut self.reader) {
                     self.steps_are_few();
-                    return Ok(taken);
+                    return Ok(piece);
                 }
             }
         }

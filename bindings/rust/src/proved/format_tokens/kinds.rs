@@ -44,16 +44,16 @@ pub enum Kind {
     Dot,
     /// The `*` of a precision.
     Asterisk,
-    /// The type, as `x?`, at the end of a format specification.
+    /// The type, for example `x?`, at the end of a format specification.
     Type,
     /// The modifier of an assembly template.
     Modifier,
     /// The text after the colon in a diagnostic.
     DiagnosticText,
-    /// What has no place in the grammar: a `}` that closes nothing, and what the parser skips in
-    /// place of a closing brace that is missing.
+    /// Text that has no place in the grammar: a `}` that closes nothing, and the characters that
+    /// the parser skips in place of a missing closing brace.
     Unexpected,
-    /// What is around the text in a source literal.
+    /// The opening or the closing of a source literal, around its text.
     Quote,
 }
 
@@ -62,7 +62,7 @@ pub enum Kind {
 pub struct Token {
     /// The kind.
     pub kind: Kind,
-    /// From where the token's first character starts to where the next character starts, or to the
-    /// end of the text.
+    /// The byte range from the start of the token's first character to the start of the next
+    /// character, or to the end of the text.
     pub span: Range<usize>,
 }

@@ -93,7 +93,7 @@ fn starts(
 //     → labels.now ≡ map sized (tokens_of mode (chars input.now)) → map seen_token v.items
 //     ≡ tokens mode (chars input.now) style (seen_text snippet.entry) appended_newline) }
 #[inline]
-pub fn placed(
+pub fn place_labels(
     alloc: Global,
     input: &str,
     style: Option<usize>,
@@ -138,10 +138,10 @@ pub fn placed(
 ///
 /// The kinds and the characters of the tokens never depend on `style` and `snippet`. If the snippet
 /// is the source literal of the input, the byte ranges are those of the snippet, and the first and
-/// the last token are what is around the text. Otherwise a byte range is what it would be in a
-/// literal that has the input unescaped, with the end of the text as the parser has it.
+/// the last token are the opening and the closing of the literal. Otherwise a byte range is that in
+/// a literal that has the input unescaped, with the end of the text as the parser has it.
 ///
-/// Returns `Err` if an allocation fails; nothing else is then returned.
+/// Returns `Err` if an allocation fails.
 // requires { hashes style + length input.now + 2 < 2 ^ 64 }
 // ensures tokens { IfOk result (λ v. map seen_token v.items ≡ tokens (seen_mode mode)
 //     (chars input.now) style (seen_snippet snippet) appended_newline) }
@@ -176,6 +176,6 @@ pub fn tokens(
         Some(literal) => Some(literal.as_str()),
     };
     let labels = labels(alloc, input, mode)?;
-    let tokens = placed(alloc, input, style, text, appended_newline, &labels)?;
+    let tokens = place_labels(alloc, input, style, text, appended_newline, &labels)?;
     Ok(tokens)
 }

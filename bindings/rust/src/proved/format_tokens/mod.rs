@@ -1,4 +1,4 @@
-//! The tokens of a format string: what an editor shows in colours.
+//! The tokens of a format string, as an editor shows them in colours.
 
 // Extracted from crates/format_tokens/src/lib.rt by tools/extract: not to be edited.
 // That source is proved, and each contract here is its. That this text means the same is tested:

@@ -1,5 +1,5 @@
 //! The tokens of the parts of a placeholder. Each function takes a part that the parser read, adds
-//! its tokens to a list, and returns what is left of the text after the part. Returns `Err` if an
+//! its tokens to a list, and returns the rest of the text after the part. Returns `Err` if an
 //! allocation fails; the list may then have some of the tokens.
 
 // Extracted from crates/format_tokens/src/parts.rt by tools/extract: not to be edited.
@@ -20,8 +20,8 @@ pub fn length_of(text: &str) -> usize {
     text.chars().count()
 }
 
-/// Adds a token of a text's first `bytes` bytes, and returns what is left of the text. Without
-/// bytes there is no token. Returns `Err` if an allocation fails.
+/// Adds a token of a text's first `bytes` bytes, and returns the rest of the text. Without bytes
+/// there is no token. Returns `Err` if an allocation fails.
 // ensures { IfOk result (λ left. (u r : Text) → chars text.now ≡ u ++ r → bytes ≡ byte_length u
 //     → Took (token kind u) r labels.old.items labels.new.items left.now) }
 #[inline]
@@ -57,7 +57,7 @@ fn first(text: &str) -> Option<char> {
     text.chars().next()
 }
 
-/// Returns what is left after the first character, or an empty text if there is none.
+/// Returns the text after the first character, or an empty text if there is none.
 // ensures { chars result.now ≡ behind_first (chars text.now) }
 #[inline]
 fn behind_first(text: &str) -> &str {
@@ -112,7 +112,7 @@ pub fn run_width(text: &str, run: Run) -> usize {
     width
 }
 
-/// Returns whether a text that begins with a name has an `r#` in front of it.
+/// Returns whether a text that begins with a name has an `r#` before it.
 // ensures { result ≡ names_raw (chars text.now) (chars name.now) }
 #[inline]
 fn is_raw(text: &str, name: &str) -> bool {

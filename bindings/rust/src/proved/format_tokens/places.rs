@@ -1,4 +1,4 @@
-//! Where the characters of an input start in its source.
+//! The byte offsets where the characters of an input start in its source.
 
 // Extracted from crates/format_tokens/src/places.rt by tools/extract: not to be edited.
 // That source is proved, and each contract here is its. That this text means the same is tested:

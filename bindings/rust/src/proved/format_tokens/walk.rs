@@ -13,8 +13,8 @@ use crate::shim::alloc::{AllocError, Global};
 use crate::shim::parser::Parser;
 use crate::shim::prelude::*;
 
-/// Adds the tokens of a placeholder at the start of a text, and returns what is left of the text
-/// after the call that read it: `left` bytes.
+/// Adds the tokens of a placeholder at the start of a text, and returns the rest of the text after
+/// the call that read it: `left` bytes.
 // ensures { IfOk result (λ after. (n : ℕ) (t : Text) → chars text.now ≡ codes "{" ++ t
 //     → bare_argument (seen_argument argument.now)
 //     ≡ argument_value n (cut (seen_mode mode) t).field
@@ -57,8 +57,8 @@ fn escape_width(text: &str) -> usize {
     }
 }
 
-/// Adds the tokens of a piece of literal text at the start of a text, and returns what is left of
-/// the text after it: `left` bytes.
+/// Adds the tokens of a piece of literal text at the start of a text, and returns the rest of the
+/// text after it: `left` bytes.
 // ensures { IfOk result (λ after. (mode : Mode) (n : ℕ) (l : Text) →
 //     (let k = call mode n (chars text.now) in
 //     k.piece ≡ Some (LitPiece l) → left ≡ byte_length k.rest
@@ -81,9 +81,9 @@ fn literal<'a>(
 }
 
 /// Adds the kinds of the tokens of a call at the start of a text and the number of characters of
-/// each, and returns what is left of the text after it: `left` bytes. `taken` and `argument` are
-/// what `Parser::next_into` returned and read. Returns `Err` if an allocation fails; the list may
-/// then have some of the tokens.
+/// each, and returns the rest of the text after it: `left` bytes. `taken` is the piece that
+/// `Parser::next_into` returned, and `argument` the one into which it read a placeholder. Returns
+/// `Err` if an allocation fails; the list may then have some of the tokens.
 // ensures { IfOk result (λ after. (w : World) (n : ℕ) →
 //     (let k = call (seen_mode mode) n (chars text.now) in
 //     option_map (seen_taken argument.now) taken.entry ≡ option_map (piece_in w) k.piece

@@ -1,6 +1,6 @@
 //! Sets of indices of arguments. Most indices rise from 0 with the placeholders, so that they are
-//! marked in a list; others are in a set. Lists are filled by `push`: `collect` asks for more room
-//! first, and for less if that fails.
+//! marked in a list; others are in a set. Lists are filled by `push`: `collect` allocates more room
+//! first, and less if that fails.
 
 // Extracted from crates/placeholder_check/src/indices.rt by tools/extract: not to be edited.
 // That source is proved, and each contract here is its. That this text means the same is tested:
@@ -10,16 +10,16 @@ use crate::shim::alloc::{AllocError, Global};
 use crate::shim::prelude::*;
 use std::collections::BTreeSet;
 
-/// An index that is this far behind the marks, or farther, is not marked.
+/// An index that is this far after the marks, or farther, is not marked.
 const GAP: usize = 16;
 
 /// A set of indices.
 pub struct Indices {
     /// Whether each of the first indices was marked.
     pub marks: Vec<bool>,
-    /// Those that were too far from the marked ones.
+    /// The indices that were too far from the marked ones.
     pub others: BTreeSet<usize>,
-    /// How many there are.
+    /// The number of indices.
     pub count: usize,
 }
 

@@ -1,4 +1,4 @@
-//! Sets of names, in the order in which they were added. Those behind the first few are in an
+//! Sets of names, in the order in which they were added. The names after the first few are in an
 //! ordered set too, since a text may be hostile and the kit's hash has a fixed seed.
 
 // Extracted from crates/placeholder_check/src/names.rt by tools/extract: not to be edited.
@@ -9,14 +9,14 @@ use crate::shim::alloc::{AllocError, Global};
 use crate::shim::prelude::*;
 use std::collections::BTreeSet;
 
-/// How many names are looked for one after the other.
+/// The number of names that are compared one after the other.
 const FEW: usize = 16;
 
 /// Names, each once, in the order in which they were first added.
 pub struct Names<'a> {
     /// The names.
     pub list: Vec<&'a str>,
-    /// Those behind the first [`FEW`].
+    /// The names after the first [`FEW`].
     pub later: BTreeSet<&'a str>,
 }
 

@@ -1,5 +1,4 @@
-//! One call of the parser: it reads a placeholder, or what is not one, and adds faults as they are
-//! found.
+//! One call of the parser: it reads a placeholder or a text, and adds faults as they are found.
 
 // Extracted from crates/rustc_parse_format/src/call.rt by tools/extract: not to be edited.
 // That source is proved, and each contract here is its. That this text means the same is tested:
@@ -42,15 +41,15 @@ impl<'input> Reader<'input> {
     /// source literal, records the byte range of the placeholder.
     // ensures state { self.new ≡ record self.old {
     //   rest = behind_first self.old.rest;
-    //   closed = if self.old.world.has_source
+    //   closed_place = if self.old.world.has_source
     //       then Some (start, number_of self.old.world (End (length self.old.rest)))
-    //       else self.old.closed;
+    //       else self.old.closed_place;
     // } }
     #[inline]
     fn consume_closing_brace(&mut self, start: usize) {
         if self.cursor.is_source_literal() {
             let brace = self.cursor.consume_place();
-            self.closed = Some(start..brace.end);
+            self.closed_place = Some(start..brace.end);
         } else {
             self.cursor.skip_char();
         }
@@ -105,9 +104,8 @@ impl<'input> Reader<'input> {
         Ok(())
     }
 
-    /// Reads what is not a placeholder. Returns the text, or `None` at the end of the input and
-    /// after a closing brace that closes nothing, which is a fault. Returns `Err` if an allocation
-    /// fails.
+    /// Reads a text, where no placeholder begins. Returns `None` at the end of the input and after
+    /// a closing brace that closes nothing, which is a fault. Returns `Err` if an allocation fails.
     // requires bare { opens_placeholder self.old.rest ≡ false }
     // ensures piece { IfOk result (λ p. (m : Mode) → option_map (λ t. Lit (chars t.now)) p
     //     ≡ option_map (piece_in self.old.world) (call m self.old.next self.old.rest).piece) }

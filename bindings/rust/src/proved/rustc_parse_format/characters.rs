@@ -110,7 +110,7 @@ pub fn begins_word(text: &str) -> bool {
     first(text).map_or(false, is_id_start)
 }
 
-/// Returns what is left after the first character, or an empty text if there is none.
+/// Returns the text after the first character, or an empty text if there is none.
 // ensures rest { chars result.now ≡ behind_first (chars text.now) }
 // ensures left { (input : List ℕ) → IsLeft input text.now → IsLeft input result.now }
 #[inline(always)]
@@ -132,7 +132,7 @@ pub fn begins_white(text: &str) -> bool {
     first(text).map_or(false, |c| c.is_whitespace())
 }
 
-/// Returns the stops below `low` and these four, without an upper bound.
+/// Returns the stops that are the bytes below `low` and these four, without an upper bound.
 // ensures { (x : ℕ) → is_no_stop result x ≡ (not (nat_lt x low) && (not (x == first)
 //     && (not (x == second) && (not (x == third) && not (x == fourth))))) }
 #[inline(always)]
@@ -164,7 +164,7 @@ pub fn run_width(bytes: &[u8], class: Class) -> usize {
     front_width(bytes, stops)
 }
 
-/// Returns what is left after the longest prefix of characters in the class. The class has all
+/// Returns the text after the longest prefix of characters in the class. The class has all
 /// characters outside ASCII, so the bytes alone show where the prefix ends.
 // requires { IsOfAscii (passes class) }
 // ensures rest { chars result.now ≡ behind (passes class) (chars text.now) }
@@ -175,7 +175,7 @@ pub fn behind_run(text: &str, class: Class) -> &str {
     &text[width..]
 }
 
-/// Returns what is left after the longest prefix of characters in the class.
+/// Returns the text after the longest prefix of characters in the class.
 // ensures rest { chars result.now ≡ behind (passes class) (chars text.now) }
 // ensures left { (input : List ℕ) → IsLeft input text.now → IsLeft input result.now }
 #[inline(always)]
@@ -215,7 +215,7 @@ fn is_wide(bytes: &[u8], at: usize) -> bool {
     at < bytes.len() && bytes[at] >= 128
 }
 
-/// Splits a text behind the word that begins it. Most often that is ASCII.
+/// Splits a text after the word that begins it. Most often the word is ASCII.
 // requires { first_passes is_id_start (chars text.now) ≡ true }
 // ensures word { chars result.0.now ≡ word (chars text.now) }
 // ensures rest { chars result.1.now ≡ behind_word (chars text.now) }
@@ -230,7 +230,7 @@ pub fn split_word(text: &str) -> (&str, &str) {
     text.split_at(width)
 }
 
-/// Splits a text behind the word that begins it, which need not be ASCII.
+/// Splits a text after the word that begins it, which need not be ASCII.
 // requires { first_passes is_id_start (chars text.now) ≡ true }
 // ensures word { chars result.0.now ≡ word (chars text.now) }
 // ensures rest { chars result.1.now ≡ behind_word (chars text.now) }
@@ -241,24 +241,38 @@ fn split_wide_word(text: &str) -> (&str, &str) {
     (before(text, rest), rest)
 }
 
-/// Returns the value of the ASCII digits at the start of the text modulo 65536, whether that value
-/// exceeds 65535, and what is left after them.
-// ensures value { result.0 ≡ number (digits (chars text.now)) }
-// ensures over { result.1 ≡ is_over (digits (chars text.now)) }
-// ensures rest { chars result.2.now ≡ behind_digits (chars text.now) }
-// ensures left { (input : List ℕ) → IsLeft input text.now → IsLeft input result.2.now }
+/// The number that the ASCII digits at the start of a text write.
+#[derive(Clone, Copy)]
+pub struct LeadingNumber<'a> {
+    /// The number, modulo 65536.
+    pub value: u16,
+    /// Whether the number exceeds 65535.
+    pub is_over: bool,
+    /// The text after the digits.
+    pub rest: &'a str,
+}
+
+/// Returns the number that the ASCII digits at the start of the text write: 0 if there are none.
+// ensures value { result.value ≡ number (digits (chars text.now)) }
+// ensures over { result.is_over ≡ is_over (digits (chars text.now)) }
+// ensures rest { chars result.rest.now ≡ behind_digits (chars text.now) }
+// ensures left { (input : List ℕ) → IsLeft input text.now → IsLeft input result.rest.now }
 #[inline(always)]
-pub fn behind_number(text: &str) -> (u16, bool, &str) {
+pub fn leading_number(text: &str) -> LeadingNumber<'_> {
     let mut value = 0;
-    let mut over = false;
+    let mut is_over = false;
     let mut rest = text;
     while let Some(digit) = first_digit(rest) {
         let more = with_digit(value, digit);
         value = more.0;
-        over |= more.1;
+        is_over |= more.1;
         rest = behind_first(rest);
     }
-    (value, over, rest)
+    LeadingNumber {
+        value,
+        is_over,
+        rest,
+    }
 }
 
 /// Returns the part of `text` before its suffix `behind`.

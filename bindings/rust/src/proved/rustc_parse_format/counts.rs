@@ -1,5 +1,5 @@
-//! Reads integers, words and counts, and what is made of them: the width and the precision of a
-//! format specification.
+//! Reads integers, words and counts, and the parts of a format specification that are made of them:
+//! its width and its precision.
 
 // Extracted from crates/rustc_parse_format/src/counts.rt by tools/extract: not to be edited.
 // That source is proved, and each contract here is its. That this text means the same is tested:
@@ -108,7 +108,7 @@ impl<'input> Reader<'input> {
     //     ReadsTo self.old result self.new k.1 self.old.next (argument_faults self.old.rest)
     //     (count_tries self.old.rest k.0)) }
     #[inline(always)]
-    fn counted(&mut self, format: &mut FormatSpec<'input>) -> Result<(), AllocError> {
+    fn width_count(&mut self, format: &mut FormatSpec<'input>) -> Result<(), AllocError> {
         let start = self.cursor.start();
         self.count(&mut format.width)?;
         match format.width {
@@ -139,12 +139,12 @@ impl<'input> Reader<'input> {
     #[inline(always)]
     pub fn width(&mut self, format: &mut FormatSpec<'input>) -> Result<(), AllocError> {
         if !self.cursor.is_next('0') {
-            return self.counted(format);
+            return self.width_count(format);
         }
         if !self.cursor.is_ahead('$') {
             self.cursor.skip_char();
             format.zero_pad = true;
-            return self.counted(format);
+            return self.width_count(format);
         }
         let start = self.cursor.start();
         self.cursor.skip_char();

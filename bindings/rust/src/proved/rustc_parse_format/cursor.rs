@@ -44,7 +44,7 @@ impl<'input> Cursor<'input> {
     /// Returns the current position, for `since`, `rewind` and `undo`.
     // ensures at { self.now ≡ unread_at self.now.source result.rest.now
     //     (back_at (chars self.now.source.input.now) (chars result.rest.now) result.tally)
-    //     self.now.undone }
+    //     self.now.undo_count }
     // ensures anchored { IsAnchored self.now.source result.rest.now result.anchor }
     // ensures counted { IsCounted (chars self.now.source.input.now)
     //     (chars result.rest.now) result.tally }
@@ -114,7 +114,7 @@ impl<'input> Cursor<'input> {
     // requires earlier { length self.old.rest ≤ length (chars to.rest.now) }
     // requires word { behind_part (chars to.rest.now) ≤ length self.old.rest }
     // ensures { self.new ≡ unread_at self.old.source to.entry.rest.now (given_back self.old.rest
-    //     (chars to.entry.rest.now) self.old.back) self.old.undone }
+    //     (chars to.entry.rest.now) self.old.back) self.old.undo_count }
     #[inline]
     pub fn rewind(&mut self, to: Checkpoint<'input>) {
         self.rest = to.rest;
@@ -144,7 +144,7 @@ impl<'input> Cursor<'input> {
     // ensures { self.new ≡ self.old }
     #[inline(always)]
     pub fn move_anchor(&mut self) {
-        if let Some(snippet) = &self.source.kept {
+        if let Some(snippet) = &self.source.kept_snippet {
             self.anchor.move_anchor(snippet.as_str(), self.rest);
         }
     }

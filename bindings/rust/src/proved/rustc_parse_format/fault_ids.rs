@@ -32,7 +32,7 @@ fn id_of(fault: &Fault<'_>) -> &'static str {
 }
 
 impl Fault<'_> {
-    /// Returns the id of the fault in kebab case, as `missing-closing-brace`: the same for all
+    /// Returns the id of the fault in kebab case, such as `missing-closing-brace`: the same for all
     /// faults of a kind, and another for each kind. Does not allocate.
     // ensures id { result.now ≡ fault_id (seen_fault self.now) }
     // ensures one_kind { (f : FaultValue Place) → fault_id f ≡ result.now

@@ -9,15 +9,16 @@ use crate::shim::prelude::*;
 use std::mem;
 use std::ops::Range;
 
-/// A fault of an input. The ranges are byte ranges in the source.
+/// A fault of an input: what is wrong there, as plain data, of which a parser makes an error. The
+/// ranges are byte ranges of the source.
 pub enum Fault<'input> {
     /// A closing brace that closes nothing.
     UnmatchedBrace(Range<usize>),
-    /// A missing closing brace: the character found in its place, if any, where that is, and the
-    /// opening brace.
+    /// A missing closing brace: the character in its place, if any, the empty range before that
+    /// character, and the range of the opening brace.
     MissingBrace(Option<char>, Range<usize>, Range<usize>),
-    /// A missing closing brace after the fill `}`: the character found in its place, if any, where
-    /// that is, and the fill.
+    /// A missing closing brace after the fill `}`: the character in its place, if any, the empty
+    /// range before that character, and the range of the fill.
     FillBrace(Option<char>, Range<usize>, Range<usize>),
     /// The word `_` in place of a name.
     Underscore(Range<usize>),
@@ -27,19 +28,20 @@ pub enum Fault<'input> {
     Unnamed(Range<usize>),
     /// Text after a colon, in a mode that allows only names.
     TextAfterColon(Range<usize>),
-    /// A raw identifier, and its prefix `r#`.
+    /// A raw identifier: its range, and the range of its prefix `r#`.
     RawIdentifier(Range<usize>, Range<usize>),
-    /// A flag after the type `?`: the flag, where that is, and both together.
+    /// A flag after the type `?`: the flag, its range, and the range of the `?` with the flag.
     LateFlag(char, Range<usize>, Range<usize>),
     /// A `?` in place of a closing brace and directly before one.
     MissingColon(Range<usize>),
-    /// A `?:` in place of a closing brace: the word after it, and the `?`.
+    /// A `?:` in place of a closing brace: the word after it, and the range of the `?`.
     LateDebug(&'input str, Range<usize>),
-    /// An alignment in place of a closing brace: `<`, `>` or `^`.
+    /// An alignment in place of a closing brace: the character `<`, `>` or `^`, and its range.
     LateAlign(char, Range<usize>),
-    /// A `,` in place of a closing brace, and the opening brace.
+    /// A `,` in place of a closing brace: its range, and the range of the opening brace.
     Grouping(Range<usize>, Range<usize>),
-    /// A `=` in place of a closing brace and directly before one, and the opening brace.
+    /// A `=` in place of a closing brace and directly before one: its range, and the range of the
+    /// opening brace.
     DebugPrint(Range<usize>, Range<usize>),
     /// A `+` in place of a closing brace.
     LateSign(Range<usize>),
@@ -50,8 +52,8 @@ pub enum Fault<'input> {
 }
 
 impl Fault<'_> {
-    /// Returns whether the error of the fault comes before all earlier errors of a parser, and not
-    /// after them.
+    /// Returns whether the error of the fault comes before all earlier errors of a parser. If not,
+    /// it comes after them.
     // ensures { result ≡ is_front (seen_fault self.now) }
     #[inline]
     pub fn is_front(&self) -> bool {
@@ -77,7 +79,8 @@ impl Fault<'_> {
 }
 
 /// The faults of a call, in the order in which they were found. The first two need no allocation:
-/// most calls with a fault find one, or a missing brace and what stands in its place.
+/// most calls with a fault find one, or a missing brace and the fault of the character in its
+/// place.
 pub struct Faults<'input> {
     first: Option<Fault<'input>>,
     second: Option<Fault<'input>>,
@@ -135,8 +138,8 @@ impl<'input> Faults<'input> {
         self.more.get(index - 2)
     }
 
-    /// Moves all faults to the end of `list`. Returns `Err` if an allocation fails: the faults are
-    /// then dropped, except for some that are at the end of `list`.
+    /// Moves all faults to the end of `list`. Returns `Err` if an allocation fails: some of the
+    /// faults may then be at the end of `list`, and the others are dropped.
     // ensures moved { OnOk result (map seen_fault list.new.items
     //     ≡ map seen_fault list.old.items ++ self.old) }
     // ensures empty { self.new ≡ [] }

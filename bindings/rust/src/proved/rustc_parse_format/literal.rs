@@ -1,6 +1,6 @@
 //! String literals as they are written in a program: the characters that a content stands for with
 //! their byte ranges, and whether a snippet is the source literal of an input. The content of a
-//! literal is what is between its quotes.
+//! literal is the text between its quotes.
 
 // Extracted from crates/rustc_parse_format/src/literal.rt by tools/extract: not to be edited.
 // That source is proved, and each contract here is its. That this text means the same is tested:
@@ -16,10 +16,10 @@ use unit::byte_escape;
 pub(crate) use unit::{is_newline_escape, read_unit};
 
 /// Returns the characters that a content stands for, each with its byte range in the content, or
-/// `None` if the text is no content, as `placed` computes them. Returns `Err` if an allocation
-/// fails.
+/// `None` if the text is no content, as `content_characters` computes them. Returns `Err` if an
+/// allocation fails.
 // ensures computed { IfOk result (λ o. option_map (λ v. seen_characters v.items) o
-//     ≡ placed 0 (chars content.now)) }
+//     ≡ content_characters 0 (chars content.now)) }
 // ensures empty { chars content.now ≡ [] → IsOk result }
 #[inline]
 fn read_characters(
@@ -185,8 +185,8 @@ fn consume_hashes(rest: &mut Rest<'_>, hashes: usize) -> bool {
     true
 }
 
-/// Consumes what is before the text of a raw literal, `r`, the hashes and a quote, and returns
-/// whether it was there.
+/// Consumes the opening of a raw literal, `r`, the hashes and a quote, and returns whether it was
+/// there.
 // ensures { IsTaken (raw_opening hashes) rest.old result rest.new }
 #[inline]
 fn consume_opening(rest: &mut Rest<'_>, hashes: usize) -> bool {
@@ -212,8 +212,7 @@ fn consume_text(rest: &mut Rest<'_>, text: &str) -> bool {
     true
 }
 
-/// Consumes what is after the text of a raw literal, a quote and the hashes, and returns whether it
-/// was there.
+/// Consumes the closing of a raw literal, a quote and the hashes, and returns whether it was there.
 // ensures { IsTaken (raw_closing hashes) rest.old result rest.new }
 #[inline]
 fn consume_closing(rest: &mut Rest<'_>, hashes: usize) -> bool {

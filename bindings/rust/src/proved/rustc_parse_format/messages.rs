@@ -82,7 +82,7 @@ fn align_after(alloc: Global, sign: char) -> Result<String, AllocError> {
 //   span = pair span.now;
 // }) }
 #[inline(always)]
-fn show(
+fn set_texts(
     alloc: Global,
     into: &mut ParseError,
     description: String,
@@ -104,7 +104,7 @@ fn show(
 //   span = pair span.now;
 // }) }
 #[inline(always)]
-fn say(
+fn set_texts_with_note(
     alloc: Global,
     into: &mut ParseError,
     description: &str,
@@ -114,7 +114,7 @@ fn say(
 ) -> Result<(), AllocError> {
     let description = String::made_from(alloc, description)?;
     into.note = Some(String::made_from(alloc, note)?);
-    show(alloc, into, description, label, span)
+    set_texts(alloc, into, description, label, span)
 }
 
 /// Sets the description, the note, the span and the secondary label of an error whose label is that
@@ -127,7 +127,7 @@ fn say(
 //   second = Some (second.entry.0.now, pair second.entry.1.now);
 // }) }
 #[inline]
-fn tell_brace(
+fn set_brace_error(
     alloc: Global,
     into: &mut ParseError,
     description: String,
@@ -140,7 +140,7 @@ fn tell_brace(
         String::made_from(alloc, second.0)?,
         second.1.start..second.1.end,
     ));
-    show(alloc, into, description, "expected `}`", span)
+    set_texts(alloc, into, description, "expected `}`", span)
 }
 
 /// Sets the texts and the span of the error of a field access. Returns `Err` if an allocation
@@ -148,13 +148,13 @@ fn tell_brace(
 // requires { seen_error into.old ≡ suggesting UsePositional (error [] None [] (0, 0) None) }
 // ensures { OnOk result (seen_error into.new ≡ local_variable description.now (pair span.now)) }
 #[inline]
-fn tell_field(
+fn set_field_error(
     alloc: Global,
     into: &mut ParseError,
     description: &str,
     span: &Range<usize>,
 ) -> Result<(), AllocError> {
-    say(
+    set_texts_with_note(
         alloc,
         into,
         description,
@@ -165,7 +165,7 @@ fn tell_field(
 }
 
 impl Fault<'_> {
-    /// Returns what the error of the fault suggests, and makes none of the error's other texts.
+    /// Returns the suggestion of the fault's error, and makes none of the error's other texts.
     /// Returns `Err` if an allocation fails.
     // ensures { IfOk result (λ s. seen_suggestion s
     //     ≡ (message (seen_fault self.now)).suggestion) }
@@ -190,9 +190,13 @@ impl Fault<'_> {
 // requires { seen_error into.old ≡ error [] None [] (0, 0) None }
 // ensures { OnOk result (seen_error into.new ≡ message (seen_fault fault.now)) }
 #[inline]
-pub fn tell(alloc: Global, into: &mut ParseError, fault: &Fault<'_>) -> Result<(), AllocError> {
+pub fn set_error(
+    alloc: Global,
+    into: &mut ParseError,
+    fault: &Fault<'_>,
+) -> Result<(), AllocError> {
     match fault {
-        Fault::UnmatchedBrace(span) => say(
+        Fault::UnmatchedBrace(span) => set_texts_with_note(
             alloc,
             into,
             "unmatched `}` found",
@@ -200,7 +204,7 @@ pub fn tell(alloc: Global, into: &mut ParseError, fault: &Fault<'_>) -> Result<(
             "unmatched `}`",
             span,
         ),
-        Fault::MissingBrace(found, span, opening) => tell_brace(
+        Fault::MissingBrace(found, span, opening) => set_brace_error(
             alloc,
             into,
             expected_brace(alloc, *found)?,
@@ -208,7 +212,7 @@ pub fn tell(alloc: Global, into: &mut ParseError, fault: &Fault<'_>) -> Result<(
             span,
             ("because of this opening brace", opening),
         ),
-        Fault::FillBrace(found, span, fill) => tell_brace(
+        Fault::FillBrace(found, span, fill) => set_brace_error(
             alloc,
             into,
             expected_brace(alloc, *found)?,
@@ -219,7 +223,7 @@ pub fn tell(alloc: Global, into: &mut ParseError, fault: &Fault<'_>) -> Result<(
                 fill,
             ),
         ),
-        Fault::Underscore(span) => say(
+        Fault::Underscore(span) => set_texts_with_note(
             alloc,
             into,
             "invalid argument name `_`",
@@ -227,14 +231,14 @@ pub fn tell(alloc: Global, into: &mut ParseError, fault: &Fault<'_>) -> Result<(
             "invalid argument name",
             span,
         ),
-        Fault::TooLarge(digits, span) => show(
+        Fault::TooLarge(digits, span) => set_texts(
             alloc,
             into,
             out_of_range(alloc, digits)?,
             "integer out of range for `u16`",
             span,
         ),
-        Fault::Unnamed(span) => say(
+        Fault::Unnamed(span) => set_texts_with_note(
             alloc,
             into,
             "expected a named argument",
@@ -242,7 +246,7 @@ pub fn tell(alloc: Global, into: &mut ParseError, fault: &Fault<'_>) -> Result<(
             "expected a name",
             span,
         ),
-        Fault::TextAfterColon(span) => show(
+        Fault::TextAfterColon(span) => set_texts(
             alloc,
             into,
             String::made_from(alloc, "format specifiers are not allowed")?,
@@ -251,7 +255,7 @@ pub fn tell(alloc: Global, into: &mut ParseError, fault: &Fault<'_>) -> Result<(
         ),
         Fault::RawIdentifier(span, _) => {
             into.suggestion = fault.suggestion(alloc)?;
-            say(
+            set_texts_with_note(
                 alloc,
                 into,
                 "raw identifiers are not supported",
@@ -263,11 +267,11 @@ pub fn tell(alloc: Global, into: &mut ParseError, fault: &Fault<'_>) -> Result<(
         Fault::LateFlag(flag, span, _) => {
             into.suggestion = fault.suggestion(alloc)?;
             let description = expected_brace(alloc, Some(*flag))?;
-            show(alloc, into, description, "expected `'}'`", span)
+            set_texts(alloc, into, description, "expected `'}'`", span)
         }
         Fault::MissingColon(span) => {
             into.suggestion = fault.suggestion(alloc)?;
-            say(
+            set_texts_with_note(
                 alloc,
                 into,
                 "expected `}`, found `?`",
@@ -278,7 +282,7 @@ pub fn tell(alloc: Global, into: &mut ParseError, fault: &Fault<'_>) -> Result<(
         }
         Fault::LateDebug(word, span) => {
             into.note = Some(debug_after(alloc, word)?);
-            show(
+            set_texts(
                 alloc,
                 into,
                 String::made_from(alloc, "expected format parameter to occur after `:`")?,
@@ -295,7 +299,7 @@ pub fn tell(alloc: Global, into: &mut ParseError, fault: &Fault<'_>) -> Result<(
             )?;
             Ok(())
         }
-        Fault::Grouping(span, opening) => tell_brace(
+        Fault::Grouping(span, opening) => set_brace_error(
             alloc,
             into,
             String::made_from(
@@ -308,7 +312,7 @@ pub fn tell(alloc: Global, into: &mut ParseError, fault: &Fault<'_>) -> Result<(
         ),
         Fault::DebugPrint(span, opening) => {
             into.suggestion = fault.suggestion(alloc)?;
-            tell_brace(
+            set_brace_error(
                 alloc,
                 into,
                 String::made_from(
@@ -320,7 +324,7 @@ pub fn tell(alloc: Global, into: &mut ParseError, fault: &Fault<'_>) -> Result<(
                 ("because of this opening brace", opening),
             )
         }
-        Fault::LateSign(span) => say(
+        Fault::LateSign(span) => set_texts_with_note(
             alloc,
             into,
             "the `+` sign flag must appear after `:` in a format string",
@@ -330,11 +334,11 @@ pub fn tell(alloc: Global, into: &mut ParseError, fault: &Fault<'_>) -> Result<(
         ),
         Fault::FieldAccess(span) => {
             into.suggestion = fault.suggestion(alloc)?;
-            tell_field(alloc, into, "field access isn't supported", span)
+            set_field_error(alloc, into, "field access isn't supported", span)
         }
         Fault::TupleIndex(span) => {
             into.suggestion = fault.suggestion(alloc)?;
-            tell_field(alloc, into, "tuple index access isn't supported", span)
+            set_field_error(alloc, into, "tuple index access isn't supported", span)
         }
     }
 }

@@ -1,5 +1,5 @@
 //! The state of a parser during one call: its cursor, the index of the next implicit argument, and
-//! what the call has found so far.
+//! the faults, lines and place that the call has found so far.
 
 // Extracted from crates/rustc_parse_format/src/reader.rt by tools/extract: not to be edited.
 // That source is proved, and each contract here is its. That this text means the same is tested:
@@ -20,13 +20,13 @@ pub struct Reader<'input> {
     /// The index that the next implicit argument gets.
     pub curarg: usize,
     /// The faults found in this call.
-    pub found: Faults<'input>,
+    pub faults: Faults<'input>,
     /// The byte offset in the source at which the current line starts.
     pub line_start: usize,
     /// The byte ranges of the lines that ended in this call.
     pub lines: Vec<Range<usize>>,
     /// The byte range of the placeholder that this call closed, if any.
-    pub closed: Option<Range<usize>>,
+    pub closed_place: Option<Range<usize>>,
 }
 
 impl<'input> Reader<'input> {
@@ -38,10 +38,10 @@ impl<'input> Reader<'input> {
         Reader {
             cursor,
             curarg: 0,
-            found: Faults::new(alloc),
+            faults: Faults::new(alloc),
             line_start,
             lines: Vec::made_in(alloc),
-            closed: None,
+            closed_place: None,
         }
     }
 
@@ -52,7 +52,7 @@ impl<'input> Reader<'input> {
     // ensures spare { self.old.faults ≡ [] → IsOk result }
     #[inline]
     pub fn note(&mut self, fault: Fault<'input>) -> Result<(), AllocError> {
-        self.found.try_push(fault)?;
+        self.faults.try_push(fault)?;
         Ok(())
     }
 

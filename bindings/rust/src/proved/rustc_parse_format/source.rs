@@ -12,7 +12,7 @@ use anchor::continuations_width;
 pub use anchor::Anchor;
 use std::ops::Range;
 
-/// Where an input is in its source.
+/// The place of an input in its source.
 pub struct Source<'input> {
     pub input: &'input str,
     /// The byte offset in the source at which the input starts.
@@ -21,11 +21,11 @@ pub struct Source<'input> {
     pub end: usize,
     /// The snippet, if it is an ordinary source literal with escapes. Otherwise `None`, and byte
     /// offsets are computed from the input.
-    pub kept: Option<String>,
+    pub kept_snippet: Option<String>,
     /// Whether the snippet is the source literal of the input.
     pub is_literal: bool,
     /// Whether the input ends in a newline that was appended to the text of the literal.
-    pub appended: bool,
+    pub appended_newline: bool,
 }
 
 impl<'input> Source<'input> {
@@ -38,7 +38,7 @@ impl<'input> Source<'input> {
         if rest.is_empty() {
             return self.end;
         }
-        match &self.kept {
+        match &self.kept_snippet {
             Some(snippet) => anchor.offset_of(snippet.as_str(), rest),
             None => self.offset + (self.input.len() - rest.len()),
         }
@@ -53,15 +53,15 @@ impl<'input> Source<'input> {
         if rest.is_empty() {
             return self.end;
         }
-        match &self.kept {
+        match &self.kept_snippet {
             Some(snippet) => anchor.stop_of(snippet.as_str(), rest),
             None => self.offset + (self.input.len() - behind_first(rest).len()),
         }
     }
 
-    /// Returns the byte range in the source of the first character of `rest`, and what is left
-    /// after it. If `rest` is empty, returns the empty range where the text ends. May move the
-    /// anchor up to what is left.
+    /// Returns the byte range in the source of the first character of `rest`, and the text after
+    /// it. If `rest` is empty, returns the empty range where the text ends. May move the anchor up
+    /// to the text that is left.
     // requires { IsAnchored self.now rest.now anchor.old }
     // ensures place { pair result.0 ≡ place_at (seen_world self.now) (length (chars rest.now)) }
     // ensures rest { chars result.1.now ≡ behind_first (chars rest.now) }
@@ -75,7 +75,7 @@ impl<'input> Source<'input> {
         if rest.is_empty() {
             return (self.end..self.end, rest);
         }
-        match &self.kept {
+        match &self.kept_snippet {
             Some(snippet) => anchor.pass(snippet.as_str(), rest),
             None => {
                 let behind = behind_first(rest);
@@ -109,8 +109,8 @@ impl<'input> Source<'input> {
     }
 }
 
-/// Returns the length in bytes of what precedes the text of a literal: a quote, or an `r`, the
-/// hashes and a quote.
+/// Returns the length in bytes of the opening of a literal: a quote, or an `r`, the hashes and a
+/// quote.
 // requires { hashes style + 2 < 2 ^ 64 }
 // ensures { result ≡ quote_offset style }
 #[inline]
@@ -151,8 +151,8 @@ fn found_end(
     }
 }
 
-/// Returns whether an ordinary source literal is longer than the text it stands for and its quotes,
-/// so that it has escapes. Returns false for a raw literal and without a snippet.
+/// Returns whether an ordinary source literal is longer than its quotes and the text that it stands
+/// for, so that it has escapes. Returns false for a raw literal and without a snippet.
 // requires { length input.now + 2 < 2 ^ 64 }
 // ensures { result ≡ is_longer (chars input.now) style
 //     (seen_snippet snippet.now) appended_newline }
@@ -204,24 +204,24 @@ pub fn source_of<'input>(
     let is_literal = found.is_some();
     let is_kept = is_literal && is_longer(input, style, &snippet, appended_newline);
     let end = found.unwrap_or(plain_end(input, &snippet, appended_newline));
-    let kept = kept_if(is_kept, snippet);
+    let kept_snippet = kept_if(is_kept, snippet);
     Source {
         input,
         offset,
         end,
-        kept,
+        kept_snippet,
         is_literal,
-        appended: appended_newline,
+        appended_newline,
     }
 }
 
 /// Returns the anchor at the first character of the input of `source`.
 // requires { IsKept source.now }
 // ensures rest { result.rest.now ≡ source.now.input.now }
-// ensures anchor { IsAnchorIn source.now.kept (seen_world source.now) result }
+// ensures anchor { IsAnchorIn source.now.kept_snippet (seen_world source.now) result }
 #[inline(always)]
 pub fn first_anchor<'input>(source: &Source<'input>) -> Anchor<'input> {
-    match &source.kept {
+    match &source.kept_snippet {
         Some(snippet) => {
             let offset = 1 + continuations_width(&snippet.as_str()[1..]);
             Anchor::new(snippet.as_str(), source.input, offset)

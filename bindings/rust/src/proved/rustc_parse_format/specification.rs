@@ -1,5 +1,5 @@
-//! Reads what comes after the colon of a placeholder: a format specification, the modifier of
-//! inline assembly, or the text of a diagnostic.
+//! Reads the part of a placeholder after its colon: a format specification, the modifier of inline
+//! assembly, or the text of a diagnostic.
 
 // Extracted from crates/rustc_parse_format/src/specification.rt by tools/extract: not to be edited.
 // That source is proved, and each contract here is its. That this text means the same is tested:
@@ -207,8 +207,9 @@ impl<'input> Reader<'input> {
         Ok(())
     }
 
-    /// Reads a colon and what `mode` has after it into `format`, which is still the default. Reads
-    /// nothing if the next character is not a colon. Returns `Err` if an allocation fails.
+    /// Reads a colon and the part that `mode` has after it into `format`, which is still the
+    /// default. Reads nothing if the next character is not a colon. Returns `Err` if an allocation
+    /// fails.
     // requires blank { seen_spec format.old ≡ default_spec }
     // requires numbers { self.old.next + length self.old.rest < 2 ^ 64 }
     // ensures value { (let s = specification (seen_mode mode) self.old.rest in

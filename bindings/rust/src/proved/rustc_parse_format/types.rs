@@ -42,19 +42,19 @@ pub enum Taken<'input> {
     NextArgument,
 }
 
-/// The contents of a placeholder: which argument it refers to, and how that is formatted. Spans are
-/// byte ranges of the source.
+/// The contents of a placeholder: the argument that it refers to, and the format of that argument.
+/// Spans are byte ranges of the source.
 #[derive(Clone, Debug, PartialEq)]
 pub struct Argument<'input> {
-    /// Which argument the placeholder refers to.
+    /// The argument that the placeholder refers to.
     pub position: Position<'input>,
     /// The span of the position, with the `r#` of a raw identifier and the white space after it.
     pub position_span: Range<usize>,
-    /// How the argument is formatted.
+    /// The format of the argument.
     pub format: FormatSpec<'input>,
 }
 
-/// A format specification: what comes after the colon, in a format string by the rule `format_spec`
+/// A format specification: the part after the colon, in a format string by the rule `format_spec`
 /// in the documentation of `std::fmt`. Each part is optional, and absent by default. Spans are byte
 /// ranges of the source, and `None` if the part is absent.
 #[derive(Clone, Debug, PartialEq, Default)]
@@ -84,13 +84,13 @@ pub struct FormatSpec<'input> {
     /// The type of a format string, the modifier of an assembly template, or the text after the
     /// colon in a diagnostic. It is empty if there is none.
     pub ty: &'input str,
-    /// The span of `ty`. A word has one unless it is empty. That of the text in a diagnostic
-    /// includes the colon, so it is there even if the text is empty. The types `x`, `X`, `?`, `x?`
-    /// and `X?` have none.
+    /// The span of `ty`. A word has a span unless it is empty. The span of the text in a diagnostic
+    /// includes the colon, so even an empty text has one. The types `x`, `X`, `?`, `x?` and `X?`
+    /// have none.
     pub ty_span: Option<Range<usize>>,
 }
 
-/// Which argument a placeholder refers to.
+/// The argument that a placeholder refers to.
 #[derive(Clone, Debug, PartialEq)]
 pub enum Position<'input> {
     /// The next argument, which has this index.
@@ -102,7 +102,7 @@ pub enum Position<'input> {
     ArgumentNamed(&'input str),
 }
 
-/// How a value is aligned in its width.
+/// The alignment of a value in its width.
 #[derive(Copy, Clone, Debug, PartialEq, Default)]
 pub enum Alignment {
     /// `<`: left-aligned.
@@ -150,9 +150,9 @@ pub enum Count<'input> {
     CountImplied,
 }
 
-/// A fault of the input, as a diagnostic reports it. Spans are byte ranges of the source. Which
-/// fault is found, its texts and its span are those of rustc's parser, except for the differences
-/// that `docs/DIFFERENCES.md` lists.
+/// The error that the parser makes of a fault: its texts, as a diagnostic has them, and its spans,
+/// which are byte ranges of the source. Faults, texts and spans are those of rustc's parser, except
+/// for the differences that `docs/DIFFERENCES.md` lists.
 pub struct ParseError {
     /// The message.
     pub description: String,

@@ -3,6 +3,6 @@ use Rattle.flat_reading.proofs.Specs.{default_is, spec_at-default}
 use Rattle.rustc_parse_format.specs.Seen.{seen_spec}
 use Rattle.flat_reading.proofs.flat.no_spec.Goals as goal
 
-pub returns-clause-told : goal.returns-clause-told
-returns-clause-told c = λ input specs. spec_at-default input specs
+pub returns-clause-described : goal.returns-clause-described
+returns-clause-described c = λ input specs. spec_at-default input specs
     ∙ default_is (seen_spec c.args.spec.now) c.requires

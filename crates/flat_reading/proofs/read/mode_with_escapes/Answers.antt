@@ -7,7 +7,7 @@ use Rattle.flat_reading.proofs.read.mode_with_escapes.Goals as goal
 pub returns-then-not-is_source_literal-clause-plain
     : goal.returns-then-not-is_source_literal-clause-plain
 returns-then-not-is_source_literal-clause-plain c = λ start.
-    let a = c.args.asked.now in
+    let a = c.args.task.now in
     rw start
     (sourceless_plain (seen_mode a.mode) (chars a.input.now) a.style _ a.appended_newline _ refl
     (ap (λ (s : State). s.world.has_source) (sym start) ∙ sym c.is_source_literal.ensures

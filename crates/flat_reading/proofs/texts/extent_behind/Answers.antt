@@ -3,8 +3,8 @@ use Rattle.std.proofs.lemmas.Str.{encodes-chars}
 use Rattle.flat_reading.specs.Stand.{HasBytes, StandsAt, StandsBehind}
 use Rattle.flat_reading.proofs.Cuts.{has_behind, has_prefix, has_text}
 use Rattle.flat_reading.proofs.texts.extent_behind.Goals as goal
-use Rattle.flat_reading.proofs.texts.extent_behind.Goals.{else-stands-via-then-stands+else-stands-2}
-use Rattle.flat_reading.proofs.texts.extent_behind.Goals.{else-stands-via-else-stands}
+use Rattle.flat_reading.proofs.texts.extent_behind.Goals.{else-has_bytes_at-via-then-has_bytes_at+else-has_bytes_at-2}
+use Rattle.flat_reading.proofs.texts.extent_behind.Goals.{else-has_bytes_at-via-else-has_bytes_at}
 
 no_prefix : (bs prefix text : List ℕ) (from : ℕ) → IsUtf8 text
     → StandsBehind bs prefix from (chars text)
@@ -18,15 +18,18 @@ no_prefix bs prefix text from u (inr h) never =
 pub extent_of-requires : goal.extent_of-requires
 extent_of-requires c =
     has_text c.args.input.now c.args.text.now _ c.utf8.text
-    (rw c.as_bytes.ensures.value at c.stands-then-stands.ensures.yes c.if-stands-2.true)
+    (rw c.as_bytes.ensures.value at c.has_bytes_at-then-has_bytes_at.ensures.yes
+    c.if-has_bytes_at-2.true)
 
-pub extent_of-requires-else-stands : goal.extent_of-requires-else-stands
-extent_of-requires-else-stands c = elim c.else-stands.branch [
-  | else-stands-via-then-stands+else-stands-2 w ↦ no_prefix c.args.input.now c.args.prefix.now
-      c.args.text.now c.args.from c.utf8.text c.requires
-      (λ one two. w.stands-then-stands.ensures.no w.if-stands-2.false
+pub extent_of-requires-else-has_bytes_at : goal.extent_of-requires-else-has_bytes_at
+extent_of-requires-else-has_bytes_at c = elim c.else-has_bytes_at.branch [
+  | else-has_bytes_at-via-then-has_bytes_at+else-has_bytes_at-2 w ↦
+      no_prefix c.args.input.now c.args.prefix.now c.args.text.now c.args.from c.utf8.text
+      c.requires
+      (λ one two. w.has_bytes_at-then-has_bytes_at.ensures.no w.if-has_bytes_at-2.false
       (rw w.as_bytes.ensures.value two))
-  | else-stands-via-else-stands w ↦ no_prefix c.args.input.now c.args.prefix.now c.args.text.now
-      c.args.from c.utf8.text c.requires
-      (λ one two. c.stands.ensures.no w.if-stands.false one)
+  | else-has_bytes_at-via-else-has_bytes_at w ↦
+      no_prefix c.args.input.now c.args.prefix.now c.args.text.now c.args.from c.utf8.text
+      c.requires
+      (λ one two. c.has_bytes_at.ensures.no w.if-has_bytes_at.false one)
 ]

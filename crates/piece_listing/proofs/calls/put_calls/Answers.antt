@@ -36,16 +36,16 @@ loop-taken-init c = record {
 
 pub loop-taken-smaller : goal.loop-taken-smaller
 loop-taken-smaller c =
-    piece_moves (seen_taken c.next_taken.new.argument) c.loop-taken.parser c.next_taken.new.parser
+    piece_moves (seen_taken c.next_piece.new.argument) c.loop-taken.parser c.next_piece.new.parser
     c.in-Some.taken (rw c.in-Some.is at c.in_ok-taken.ensures.piece) c.in_ok-taken.ensures.state
 
 pub loop-taken-preserved : goal.loop-taken-preserved
 loop-taken-preserved c =
     let s = c.loop-taken.parser in
-    let new = c.next_taken.new.parser in
+    let new = c.next_piece.new.parser in
     let w = c.args.parser.now.world in
     let done = c.loop-taken.invariant.done in
-    let seen = seen_taken c.next_taken.new.argument in
+    let seen = seen_taken c.next_piece.new.argument in
     let x : Piece Place = seen c.in-Some.taken in
     let given : ◌≡◌ {A = Option (Piece Place)} (Some x)
     (option_map (piece_in s.world) (next_call s).piece) =
@@ -81,23 +81,23 @@ returns-in_err-taken-clause-empty c e h =
 pub returns-in_err-put_taken-clause-empty : goal.returns-in_err-put_taken-clause-empty
 returns-in_err-put_taken-clause-empty c e h =
     let none =
-    rw c.in-Some.is at (next_ends (seen_taken c.next_taken.new.argument) c.loop-taken.parser
-    c.next_taken.new.parser _ c.in_ok-taken.ensures.piece c.in_ok-taken.ensures.state
+    rw c.in-Some.is at (next_ends (seen_taken c.next_piece.new.argument) c.loop-taken.parser
+    c.next_piece.new.parser _ c.in_ok-taken.ensures.piece c.in_ok-taken.ensures.state
     (c.loop-taken.invariant.empty e)).0 in
     absurd (false≢true (sym none))
 
 pub returns-in_err-add_uses-clause-empty : goal.returns-in_err-add_uses-clause-empty
 returns-in_err-add_uses-clause-empty c e h =
     let none =
-    rw c.in-Some.is at (next_ends (seen_taken c.next_taken.new.argument) c.loop-taken.parser
-    c.next_taken.new.parser _ c.in_ok-taken.ensures.piece c.in_ok-taken.ensures.state
+    rw c.in-Some.is at (next_ends (seen_taken c.next_piece.new.argument) c.loop-taken.parser
+    c.next_piece.new.parser _ c.in_ok-taken.ensures.piece c.in_ok-taken.ensures.state
     (c.loop-taken.invariant.empty e)).0 in
     absurd (false≢true (sym none))
 
 -- What was done is all, and the parser is at its end.
 all_done : (c : goal.In_default) → ◌≡◌ {A = Option (Piece Place)} None
     (option_map (piece_in c.loop-taken.parser.world) (next_call c.loop-taken.parser).piece)
-all_done c = ap (option_map (seen_taken c.next_taken.new.argument)) (sym c.in_default.is)
+all_done c = ap (option_map (seen_taken c.next_piece.new.argument)) (sym c.in_default.is)
     ∙ c.in_ok-taken.ensures.piece
 
 pub returns-clause-lines : goal.returns-clause-lines
@@ -113,5 +113,5 @@ returns-clause-used c b us h = subst (λ ps. Holds (us ++ uses ps) c.loop-taken.
 
 pub returns-clause-state : goal.returns-clause-state
 returns-clause-state c =
-    state_end c.loop-taken.parser c.next_taken.new.parser _ (all_done c)
+    state_end c.loop-taken.parser c.next_piece.new.parser _ (all_done c)
     c.in_ok-taken.ensures.state c.loop-taken.invariant.state

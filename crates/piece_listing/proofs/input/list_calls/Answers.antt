@@ -21,13 +21,13 @@ returns-clause-lines c =
     c.in_ok-put_calls.ensures.lines
     ∙ ap (λ l. l ++ flat_map piece_line ps) c.new-lines.ensures.bytes in
     let lines : string_bytes c.put_ends.new.lines ≡ listing ps es r =
-    c.in_ok-told.ensures.lines
+    c.in_ok-has_ends.ensures.lines
     ∙ ap (λ l. l ++ (flat_map fault_line (map seen_error c.errors.result.now)
     ++ report_lines r)) front
     ∙ ap (λ ms. flat_map piece_line ps ++ (flat_map fault_line ms ++ report_lines r)) errors in
-    let told : c.in_ok-told.told ≡ (nat_lt 0 (length es) || has_entries r) =
-    c.in_ok-told.ensures.told ∙ ap (λ ms. nat_lt 0 (length ms) || has_entries r) errors in
+    let has_ends : c.in_ok-has_ends.has_ends ≡ (nat_lt 0 (length es) || has_entries r) =
+    c.in_ok-has_ends.ensures.has_ends ∙ ap (λ ms. nat_lt 0 (length ms) || has_entries r) errors in
     let held = λ (some : IsSome c.args.given).
     let given : IsTrue c.is_some.result = search rules in
     c.in_ok-put_calls.ensures.used given [] c.new-used.ensures.holds in
-    (r, c.in_ok-report.ensures.report ps held, rw (lines, told) refl)
+    (r, c.in_ok-report.ensures.report ps held, rw (lines, has_ends) refl)

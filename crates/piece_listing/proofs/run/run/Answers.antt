@@ -5,7 +5,7 @@ use Rattle.std.proofs.lemmas.Option.{IfSome_then}
 use Rattle.piece_listing.specs.declared.verdict.RunFault.TheVariants.{NotText}
 use Rattle.piece_listing.specs.Program.{IsOwed, IsShort, empty_answer}
 use Rattle.piece_listing.specs.SeenTask.{seen_task}
-use Rattle.piece_listing.proofs.Empty.{asked-literal, empty-listed, empty-read}
+use Rattle.piece_listing.proofs.Empty.{task_of-literal, empty-listed, empty-read}
 use Rattle.piece_listing.proofs.OneAnswer.{owed-only}
 use Rattle.piece_listing.proofs.run.run.Goals as goal
 
@@ -14,7 +14,7 @@ returns-in_default-clause-not_text g c _ =
     IfSome_then _ {Q = λ input. IsOwed (map string_bytes c.args.words.now) input (Err NotText)}
     c.in_ok-input.ensures.bytes (λ input e. (
       seen_task c.in-Some.task,
-      sym c.asked.ensures ∙ ap (option_map seen_task) c.in-Some.is,
+      sym c.task_of.ensures ∙ ap (option_map seen_task) c.in-Some.is,
       (
         subst IsShort e c.in_ok-input.ensures.short,
         λ u. c.in_default.ensures.cases.0 (subst IsUtf8 (sym (c.as_slice.ensures.value ∙ e)) u),
@@ -46,9 +46,10 @@ returns-in_err-write_whole-clause-empty g c mode literal a e =
     empty-read _ c.in_ok-input.input.items c.as_slice.result.now c.in-Ok.text.now e
     c.in_ok-input.ensures.bytes
     c.as_slice.ensures.value c.in-Ok.ensures.cases.0 in
-    let asks = asked-literal c.asked.result task mode literal _ c.asked.ensures c.in-Some.is a in
+    let asks = task_of-literal c.task_of.result task mode literal _ c.task_of.ensures
+    c.in-Some.is a in
     let listed =
-    empty-listed task c.in_ok-lines.lines c.in_ok-lines.told c.in-Ok.text.now none asks.1
+    empty-listed task c.in_ok-lines.lines c.in_ok-lines.has_ends c.in-Ok.text.now none asks.1
     c.in_ok-lines.ensures.empty_literal c.in_ok-lines.ensures.lines in
     absurd (false≢true (c.in_err-write_whole.ensures.empty (c.as_bytes.ensures.value ∙ listed.1)).0)
 
@@ -59,9 +60,10 @@ returns-clause-empty g c mode literal a e =
     empty-read _ c.in_ok-input.input.items c.as_slice.result.now c.in-Ok.text.now e
     c.in_ok-input.ensures.bytes
     c.as_slice.ensures.value c.in-Ok.ensures.cases.0 in
-    let asks = asked-literal c.asked.result task mode literal _ c.asked.ensures c.in-Some.is a in
+    let asks = task_of-literal c.task_of.result task mode literal _ c.task_of.ensures
+    c.in-Some.is a in
     let listed =
-    empty-listed task c.in_ok-lines.lines c.in_ok-lines.told c.in-Ok.text.now none asks.1
+    empty-listed task c.in_ok-lines.lines c.in_ok-lines.has_ends c.in-Ok.text.now none asks.1
     c.in_ok-lines.ensures.empty_literal c.in_ok-lines.ensures.lines in (
       (c.in_ok-write_whole.ensures.empty (c.as_bytes.ensures.value ∙ listed.1)).1,
       inl (ap Ok listed.2 ∙ ap empty_answer (sym listed.0 ∙ asks.0)),

@@ -8,7 +8,7 @@ use Rattle.rustc_parse_format.proofs.lists.add_errors.Goals as goal
 pub loop-fault-preserved : goal.loop-fault-preserved
 loop-fault-preserved c =
     record {
-      added = added-more c.args.found.now _ (drop (c.loop-fault.index + 1) c.args.found.now)
+      added = added-more c.args.faults.now _ (drop (c.loop-fault.index + 1) c.args.faults.now)
           c.args.errors.now c.loop-fault.errors c.add_error.new.errors
           (seen_fault c.in-Some.fault.now) c.loop-fault.fronts c.in-Ok.added
           c.loop-fault.invariant.added c.in-Some.ensures c.in-Ok.ensures.ok c.in-Ok.ensures.fronts;
@@ -16,7 +16,7 @@ loop-fault-preserved c =
 
 pub overflow_add-fronts : goal.overflow_add-fronts
 overflow_add-fronts c =
-    let more = added-more c.args.found.now _ (drop (c.loop-fault.index + 1) c.args.found.now)
+    let more = added-more c.args.faults.now _ (drop (c.loop-fault.index + 1) c.args.faults.now)
     c.args.errors.now c.loop-fault.errors c.add_error.new.errors
     (seen_fault c.in-Some.fault.now) c.loop-fault.fronts c.in-Ok.added
     c.loop-fault.invariant.added c.in-Some.ensures c.in-Ok.ensures.ok c.in-Ok.ensures.fronts in

@@ -4,8 +4,8 @@ use Rattle.rustc_parse_format.proofs.lists.add_errors.Given as goal
 
 abbrev pub invariant-loop-fault : goal.invariant-loop-fault
 invariant-loop-fault l = record {
-  added : Added l.fn.found (drop l.index l.fn.found) l.fn.errors l.errors l.fronts;
+  added : Added l.fn.faults (drop l.index l.fn.faults) l.fn.errors l.errors l.fronts;
 }
 
 abbrev pub decreases-loop-fault : goal.decreases-loop-fault
-decreases-loop-fault l = length l.fn.found - l.index
+decreases-loop-fault l = length l.fn.faults - l.index

@@ -16,8 +16,8 @@ made c = record {
   is_literal = c.is_some-is_literal.result;
   offset = c.quote_offset-offset.result;
   end = c.unwrap_or-end.result;
-  kept = c.kept_if-kept.result;
-  appended = c.args.appended_newline;
+  kept_snippet = c.kept_if-kept_snippet.result;
+  appended_newline = c.args.appended_newline;
 }
 
 -- and what is known of it, with what it keeps
@@ -31,7 +31,7 @@ made_with c = record {
 }
 
 kept : (c : goal.After-input-1) →
-    c.kept_if-kept.result
+    c.kept_if-kept_snippet.result
     ≡ kept_of c.found_end-found.result
     (chars c.args.input.now) c.args.style c.args.snippet c.args.appended_newline
 kept c =
@@ -45,7 +45,7 @@ kept c =
           ∙ (w.if-is_literal.false
           ∙ ap (λ b. b && longer) (sym w.if-is_literal.false ∙ c.is_some-is_literal.ensures))
     ] in
-    c.kept_if-kept.ensures ∙ ap (λ b. if b then c.args.snippet else None) is_kept
+    c.kept_if-kept_snippet.ensures ∙ ap (λ b. if b then c.args.snippet else None) is_kept
 
 pub returns-clause-world : goal.returns-clause-world
 returns-clause-world c =

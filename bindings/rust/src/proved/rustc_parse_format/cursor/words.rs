@@ -6,7 +6,8 @@
 
 use super::Cursor;
 use crate::proved::rustc_parse_format::characters::{
-    before, begins_white, behind_number, behind_while, is_underscore, split_word, Class,
+    before, begins_white, behind_while, is_underscore, leading_number, split_word, Class,
+    LeadingNumber,
 };
 use std::ops::Range;
 
@@ -36,7 +37,7 @@ impl<'input> Cursor<'input> {
         self.skip_while(Class::White);
     }
 
-    /// Returns the byte range in the source of what is before `rest`, a suffix of what is left. It
+    /// Returns the byte range in the source of the text before `rest`, a suffix of what is left. It
     /// is not inlined, since few words are a fault.
     // requires { (read : Text) × (self.now.rest ≡ read ++ chars rest.now) }
     // ensures { pair result ≡ place_of self.now.world (up_to self.now.rest (chars rest.now)) }
@@ -68,8 +69,8 @@ impl<'input> Cursor<'input> {
         (word, underscore)
     }
 
-    /// Returns what is before `rest`, a suffix of what is left, and its byte range in the source
-    /// with that of the character after it. It is not inlined, since few numbers are a fault.
+    /// Returns the text before `rest`, a suffix of what is left, and the byte range in the source
+    /// of that text with the character after it. It is not inlined, since few numbers are a fault.
     // requires { (read : Text) × (self.now.rest ≡ read ++ chars rest.now) }
     // ensures text { (read : Text) → self.now.rest ≡ read ++ chars rest.now
     //     → chars result.0.now ≡ read }
@@ -83,8 +84,8 @@ impl<'input> Cursor<'input> {
     }
 
     /// Reads the ASCII digits at the cursor, and returns their value modulo 65536. If that value
-    /// exceeds 65535, also returns the digits, and their byte range in the source with that of the
-    /// character after them.
+    /// exceeds 65535, also returns the digits, and the byte range in the source of the digits with
+    /// the character after them.
     // ensures value { result.0 ≡ number (digits self.old.rest) }
     // ensures rest { self.new ≡ record self.old { rest = behind_digits self.old.rest } }
     // ensures over { option_map {U = Text × Place} (λ x. (chars x.0.now, pair x.1)) result.1
@@ -96,7 +97,11 @@ impl<'input> Cursor<'input> {
     //     else None }
     #[inline(always)]
     pub fn number(&mut self) -> (u16, Option<(&'input str, Range<usize>)>) {
-        let (number, is_over, rest) = behind_number(self.rest);
+        let LeadingNumber {
+            value: number,
+            is_over,
+            rest,
+        } = leading_number(self.rest);
         let over = if is_over {
             Some(self.digits_before(rest))
         } else {

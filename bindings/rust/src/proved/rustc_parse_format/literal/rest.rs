@@ -1,4 +1,4 @@
-//! What is left of a text, which is consumed one character at a time.
+//! The rest of a text, which is consumed one character at a time.
 
 // Extracted from crates/rustc_parse_format/src/literal/rest.rt by tools/extract: not to be edited.
 // That source is proved, and each contract here is its. That this text means the same is tested:
@@ -8,7 +8,7 @@ use crate::proved::rustc_parse_format::blocks::plain_front;
 use crate::proved::rustc_parse_format::characters::{behind_first, first};
 use crate::shim::prelude::*;
 
-/// What is left of a text.
+/// The rest of a text.
 pub struct Rest<'a> {
     text: &'a str,
 }
@@ -21,14 +21,14 @@ impl<'a> Rest<'a> {
         Rest { text }
     }
 
-    /// Returns what is left.
+    /// Returns the rest as a text.
     // ensures { chars result.now ≡ self.now }
     #[inline(always)]
     pub fn text(&self) -> &'a str {
         self.text
     }
 
-    /// Returns how many bytes are left.
+    /// Returns the number of bytes that are left.
     // ensures { result ≡ byte_length self.now }
     #[inline(always)]
     pub fn len(&self) -> usize {
@@ -99,15 +99,14 @@ impl<'a> Rest<'a> {
         other.text = left;
     }
 
-    /// Returns whether what is left begins with a string continuation: a backslash and an LF.
+    /// Returns whether the rest begins with a string continuation: a backslash and an LF.
     // ensures { result ≡ begins_continuation self.now }
     #[inline(always)]
     pub fn begins_continuation(&self) -> bool {
         self.begins_with('\\') && first(behind_first(self.text)) == Some('\n')
     }
 
-    /// Skips all string continuations at the start of what is left of a content with its closing
-    /// quote.
+    /// Skips all string continuations at the start of the rest of a content with its closing quote.
     // ensures after { (q : Text) (us : List LiteralUnit) → IsContent q us
     //     → self.old ≡ closed_by_quote q
     //     → self.new ≡ closed_by_quote (spelled_units (after_continuations us)) }
@@ -137,7 +136,7 @@ fn byte_count(text: &str) -> usize {
     text.len()
 }
 
-/// Returns what is after this ASCII character, or `None` if the text does not begin with it.
+/// Returns the text after this ASCII character, or `None` if the text does not begin with it.
 // requires { byte < 128 }
 // ensures { IfSome result (λ r. chars text.now ≡ byte ∷ chars r.now) }
 #[inline(always)]
@@ -177,8 +176,8 @@ fn begin_alike(bytes: &[u8], others: &[u8]) -> bool {
     !bytes.is_empty() && bytes[0] != b'\\' && !others.is_empty() && bytes[0] == others[0]
 }
 
-/// Returns what is left of both texts after the plain characters with which they begin alike. If
-/// they first differ inside a character, that is left in both.
+/// Returns the rests of both texts after the plain characters with which they begin alike. If they
+/// first differ inside a character, both rests begin with that character.
 // ensures { SharePlain (chars text.now) (chars other.now) (chars result.0.now)
 //     (chars result.1.now) }
 #[inline(always)]

@@ -61,7 +61,7 @@ fn hex_digit(byte: u8) -> Option<u8> {
     }
 }
 
-/// Returns the byte that a `\x` escape at the start of the text stands for, and what is after it,
+/// Returns the byte that a `\x` escape at the start of the text stands for, and the text after it,
 /// or `None` if there is no such escape. It looks at bytes, for speed, since a literal may be made
 /// of such escapes.
 // ensures meaning { IfSome result (λ x. meaning (unit_at (chars text.now))
@@ -78,8 +78,8 @@ pub fn byte_escape(text: &str) -> Option<(u8, &str)> {
     Some((high * 16 + low, &text[4..]))
 }
 
-/// Reads what is after `\u`, the braces with their digits, and returns the character that they
-/// stand for, or `None` if they stand for none.
+/// Reads the braces after `\u` with their digits, and returns the character that they stand for, or
+/// `None` if they stand for none.
 // ensures { meaning (unicode_at rest.old) ≡ option_map (λ c. (c ∷ [], rest.new)) result }
 #[inline(always)]
 fn read_unicode(rest: &mut Rest<'_>) -> Option<char> {
@@ -117,8 +117,8 @@ fn escaped(letter: char) -> Option<char> {
     }
 }
 
-/// Reads what is after a backslash, and returns the character that the escape stands for:
-/// `Some(None)` for a string continuation, which stands for none, and `None` if there is no escape.
+/// Reads an escape after its backslash, and returns the character that it stands for: `Some(None)`
+/// for a string continuation, which stands for none, and `None` if there is no escape.
 // ensures { meaning (escape_at rest.old) ≡ option_map (λ v. (at_most_one v, rest.new)) result }
 #[inline(always)]
 fn read_escape(rest: &mut Rest<'_>) -> Option<Option<char>> {

@@ -2,7 +2,7 @@
 //! character in the snippet is computed.
 //!
 //! Such a snippet is an ordinary literal with escapes, so the byte offset of a character in it is
-//! not simply the one in the input and 1:
+//! not simply 1 more than in the input:
 //!
 //! ```text
 //! offset        0   4    9  12
@@ -26,7 +26,7 @@ use std::ops::Range;
 /// The position in a snippet that was last examined.
 #[derive(Clone, Copy)]
 pub struct Anchor<'input> {
-    /// What is left of the input at that position.
+    /// The rest of the input at that position.
     pub rest: &'input str,
     /// The byte offset of that position in the snippet, at which `rest` starts.
     pub offset: usize,
@@ -76,24 +76,38 @@ pub fn continuations_width(text: &str) -> usize {
     }
 }
 
-/// Returns, for the character that starts at the byte offset `at` of a snippet, the byte offset at
-/// which it ends and the one at which the next character starts. An appended newline counts as one
-/// byte.
+/// The byte offsets in a snippet that follow from where a character starts.
+#[derive(Clone, Copy)]
+struct CharacterEnd {
+    /// The byte offset at which the character ends.
+    stop: usize,
+    /// The byte offset at which the next character starts.
+    next: usize,
+}
+
+/// Returns the end of the character that starts at the byte offset `at` of a snippet. An appended
+/// newline counts as one byte.
 // requires within { at ≤ length snippet.now }
 // requires valid { is_utf8 (drop at snippet.now) ≡ true }
 // ensures stop { (w : World) (c : ℕ) (rest : Text) → IsHere snippet.now w (c ∷ rest) at
-//     → result.0 ≡ (place_at w (length (c ∷ rest))).1 }
+//     → result.stop ≡ (place_at w (length (c ∷ rest))).1 }
 // ensures after { (w : World) (rest : Text) → IsHere snippet.now w rest at
-//     → IsHere snippet.now w (behind_first rest) result.1 }
+//     → IsHere snippet.now w (behind_first rest) result.next }
 #[inline(always)]
-fn character_at(snippet: &str, at: usize) -> (usize, usize) {
+fn character_at(snippet: &str, at: usize) -> CharacterEnd {
     let text = &snippet[at..];
     let width = character_width(text);
     if width == 0 {
-        return (at + 1, at);
+        return CharacterEnd {
+            stop: at + 1,
+            next: at,
+        };
     }
     let stop = at + width;
-    (stop, stop + continuations_width(&text[width..]))
+    CharacterEnd {
+        stop,
+        next: stop + continuations_width(&text[width..]),
+    }
 }
 
 /// Returns the number of bytes from the byte offset `at` on up to the next backslash, or up to the
@@ -106,8 +120,8 @@ fn unescaped_width(snippet: &str, at: usize) -> usize {
     run_width(&bytes[at..bytes.len() - 1], Class::Unescaped)
 }
 
-/// Returns what is left of `text` after this number of bytes, or after fewer if they end inside a
-/// character. If that is shorter than `rest`, a suffix of `text`, returns `rest`.
+/// Returns the suffix of `text` after this number of bytes, or after fewer if they end inside a
+/// character. If that is shorter than `rest`, another suffix of `text`, returns `rest`.
 // requires { IsLeft text.now rest.now }
 // ensures after { IsLeft text.now result.now }
 // ensures over { IsLeft result.now rest.now }
@@ -136,7 +150,7 @@ impl<'input> Anchor<'input> {
     }
 
     /// Skips the bytes that stand for themselves, at most up to `rest`, and the continuations after
-    /// them. Returns what is then left of the input, and its byte offset in the snippet.
+    /// them. Returns the rest of the input there, and its byte offset in the snippet.
     // requires { Leads snippet.now self.now rest.now }
     // ensures after { IsLeft result.0.now rest.now }
     // ensures shorter { length result.0.now ≤ length self.now.rest.now }
@@ -162,7 +176,7 @@ impl<'input> Anchor<'input> {
     fn offset_by_look(&self, snippet: &str, rest: &'input str) -> usize {
         let mut at = self.behind_unescaped(snippet, rest);
         while at.0.len() > rest.len() {
-            let next = character_at(snippet, at.1).1;
+            let next = character_at(snippet, at.1).next;
             at = Anchor::new(snippet, behind_first(at.0), next).behind_unescaped(snippet, rest);
         }
         at.1
@@ -189,7 +203,7 @@ impl<'input> Anchor<'input> {
     //     → result ≡ (place_at w (length (chars rest.now))).1 }
     #[inline(never)]
     pub fn stop_of(&self, snippet: &str, rest: &'input str) -> usize {
-        character_at(snippet, self.offset_of(snippet, rest)).0
+        character_at(snippet, self.offset_of(snippet, rest)).stop
     }
 
     /// Moves the anchor to `rest`, unless the byte offset of `rest` is known without reading the
@@ -224,12 +238,12 @@ impl<'input> Anchor<'input> {
         behind: &'input str,
     ) -> (Range<usize>, Anchor<'input>) {
         let start = self.offset_of(snippet, rest);
-        let (stop, next) = character_at(snippet, start);
+        let CharacterEnd { stop, next } = character_at(snippet, start);
         (start..stop, Anchor::new(snippet, behind, next))
     }
 
-    /// Returns the byte range in the snippet of the first character of `rest`, and what is left
-    /// after it. Moves the anchor there, unless the character stands for itself.
+    /// Returns the byte range in the snippet of the first character of `rest`, and the text after
+    /// it. Moves the anchor to that text, unless the character stands for itself.
     // requires leads { Leads snippet.now self.old rest.now }
     // requires some { length rest.now ≡ 0 → ⊥ }
     // ensures place { (w : World) → IsAnchor snippet.now w self.old

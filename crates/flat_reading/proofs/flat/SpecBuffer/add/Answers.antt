@@ -3,8 +3,8 @@ use Rattle.flat_reading.proofs.Specs.{spec_at-put}
 use Rattle.flat_reading.proofs.flat.SpecBuffer.add.Goals as goal
 use Rattle.flat_reading.proofs.flat.SpecBuffer.add.Goals.{then-self, else-self}
 
-pub returns-clause-told : goal.returns-clause-told
-returns-clause-told c = λ input at room. elim c.if-self.branch [
+pub returns-clause-described : goal.returns-clause-described
+returns-clause-described c = λ input at room. elim c.if-self.branch [
   | then-self w ↦ rw w.self-is
       (spec_at-put input c.args.self.now.records.now c.args.self.now.used w.spec_record.result
       w.if-self.true

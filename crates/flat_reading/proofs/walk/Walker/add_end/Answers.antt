@@ -6,7 +6,7 @@ returns-then-number-steps-clause-added c = λ peeks input used specs. record {
   step = c.put_end.new.step;
   put = (λ room. absurd (omega (arith, room, c.if-number-steps.true)), λ full. refl);
   few = omega (arith, c.in_ok-put_end.ensures.number);
-  told = λ room. c.in_ok-put_end.ensures.told peeks input specs;
+  described = λ room. c.in_ok-put_end.ensures.described peeks input specs;
 }
 
 pub returns-clause-added : goal.returns-clause-added
@@ -14,5 +14,5 @@ returns-clause-added c = λ peeks input used specs. record {
   step = c.put_end-2.new.step;
   put = (λ room. refl, λ full. absurd (omega (arith, full, c.if-number-steps.false)));
   few = omega (arith, c.in_ok-put_end-2.ensures.number);
-  told = λ room. c.in_ok-put_end-2.ensures.told peeks input specs;
+  described = λ room. c.in_ok-put_end-2.ensures.described peeks input specs;
 }

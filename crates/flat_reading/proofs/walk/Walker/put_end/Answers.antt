@@ -3,13 +3,13 @@ use Rattle.flat_reading.specs.Meant.{maybe_place, spec_at}
 use Rattle.flat_reading.proofs.Walking.{no_piece, told_end}
 use Rattle.flat_reading.proofs.walk.Walker.put_end.Goals as goal
 
-pub returns-clause-told : goal.returns-clause-told
-returns-clause-told c = λ peeks input specs.
-    let step = c.bare.new.step in
-    let kept = c.bare.ensures.others in
+pub returns-clause-described : goal.returns-clause-described
+returns-clause-described c = λ peeks input specs.
+    let step = c.put_bare_piece.new.step in
+    let kept = c.put_bare_piece.ensures.others in
     told_end peeks input specs step c.args.self.now.parser c.next_into.new.self
     c.in_ok-_none.ensures.state c.requires
-    (no_piece input (spec_at input specs step.spec) step c.bare.ensures.kind)
+    (no_piece input (spec_at input specs step.spec) step c.put_bare_piece.ensures.kind)
     (ap maybe_place kept.0)
     (kept.1 ∙ c.put_state.ensures.read)
     (kept.2 ∙ c.put_state.ensures.next)

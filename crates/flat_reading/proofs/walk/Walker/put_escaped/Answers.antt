@@ -9,7 +9,7 @@ put_plain_argument-requires-clause-stands c =
     c.args.next c.args.start (seen_argument c.args.self.now.argument) c.requires.read
     (sym c.has_texts.ensures ∙ c.if-not-has_texts.true)
 
-pub returns-clause-told : goal.returns-clause-told
-returns-clause-told c = λ room.
+pub returns-clause-described : goal.returns-clause-described
+returns-clause-described c = λ room.
     let texts = c.in_ok-texts.ensures (seen_argument c.args.self.now.argument) c.requires.read in
-    c.put_argument.ensures.told c.args.self.now.input.now texts.0 texts.1 room
+    c.put_argument.ensures.described c.args.self.now.input.now texts.0 texts.1 room

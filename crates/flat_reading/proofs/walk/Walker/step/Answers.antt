@@ -3,7 +3,7 @@ use Rattle.std.proofs.lemmas.List.{length-map}
 use Rattle.rustc_parse_format.specs.Seen.{pair, seen_error}
 use Rattle.rustc_parse_format.specs.State.{State, next_call}
 use Rattle.flat_reading.specs.Meant.{maybe_place}
-use Rattle.flat_reading.proofs.Walking.{told}
+use Rattle.flat_reading.proofs.Walking.{described}
 use Rattle.flat_reading.specs.Events.{fronts_in, position}
 use Rattle.flat_reading.proofs.Escaped.{read_at}
 use Rattle.flat_reading.proofs.Standing.{last, stands, still_ends}
@@ -54,16 +54,16 @@ add-requires c =
     c.in_ok-given.ensures.fronts in
     omega (arith, before, behind, grown, few, fronts)
 
-pub returns-clause-told : goal.returns-clause-told
-returns-clause-told c = λ room.
+pub returns-clause-described : goal.returns-clause-described
+returns-clause-described c = λ room.
     let w = c.args.self.now in
     let s = w.parser in
     let state = c.in_ok-given.ensures.state in
     let kept = c.in_ok-put_given.ensures.others in
-    let place = rw state at c.closed-step.ensures in
+    let place = rw state at c.closed_place-step.ensures in
     let t = c.next_into.new.self in
-    told w.peeks w.input.now c.put_given.new.specs.records.now c.put_given.new.step s t state
-    (c.in_ok-put_given.ensures.told room ∙ c.in_ok-given.ensures.piece)
+    described w.peeks w.input.now c.put_given.new.specs.records.now c.put_given.new.step s t state
+    (c.in_ok-put_given.ensures.described room ∙ c.in_ok-given.ensures.piece)
     (ap maybe_place kept.0
     ∙ place s.arg_places (next_call s).closes (sym (length-map c.arg_places-places.result.now pair)
     ∙ ap length c.arg_places-places.ensures) refl)

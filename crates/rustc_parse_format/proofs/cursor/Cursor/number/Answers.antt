@@ -11,20 +11,20 @@ digits_before-requires c =
     let t = chars c.self.inside.rest.now in (
       digits t,
       sym (ap (λ (u : Unread). u.rest) c.self.view_is)
-          ∙ rw c.behind_number-number.ensures.rest (digits-behind t),
+          ∙ rw c.leading_number-number.ensures.rest (digits-behind t),
     )
 
 pub count_before-requires : goal.count_before-requires
 count_before-requires c =
     let t = chars c.self.inside.rest.now in
-    (digits t, rw c.behind_number-number.ensures.rest (digits-behind t))
+    (digits t, rw c.leading_number-number.ensures.rest (digits-behind t))
 
 pub invariant_of-self : goal.invariant_of-self
 invariant_of-self c =
     let t = chars c.self.inside.rest.now in
-    let passed = rw c.behind_number-number.ensures.rest at c.count_before.ensures in (
+    let passed = rw c.leading_number-number.ensures.rest at c.count_before.ensures in (
       search rules,
-      rw (c.behind_number-number.ensures.rest, c.pass.ensures)
+      rw (c.leading_number-number.ensures.rest, c.pass.ensures)
           (counted_on _ _ _ _ _ passed (behind_digits-part t) c.self.invariant.1),
     )
 
@@ -32,9 +32,9 @@ pub returns-clause-over : goal.returns-clause-over
 returns-clause-over c =
     let t = chars c.self.inside.rest.now in
     let view = ap (λ (u : Unread). u.rest) c.self.view_is in
-    let whole : c.args.self.now.rest ≡ digits t ++ chars c.behind_number-number.result.2.now =
-    sym view ∙ rw c.behind_number-number.ensures.rest (digits-behind t) in
-    let test = c.behind_number-number.ensures.over
+    let whole : c.args.self.now.rest ≡ digits t ++ chars c.leading_number-number.result.rest.now =
+    sym view ∙ rw c.leading_number-number.ensures.rest (digits-behind t) in
+    let test = c.leading_number-number.ensures.over
     ∙ ap (λ (u : Unread). is_over (digits u.rest)) c.self.view_is in
     elim c.if-is_over.branch [
       | then-is_over w ↦

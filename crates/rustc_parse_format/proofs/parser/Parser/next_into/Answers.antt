@@ -37,10 +37,10 @@ pub returns-in-Ok-take_over-clause-fronts : goal.returns-in-Ok-take_over-clause-
 returns-in-Ok-take_over-clause-fronts c =
     let r = c.self.inside.reader in
     let s = c.args.self.now in
-    let read : ◌≡◌ {A = Midway} c.taken.new.self (read_call r (next_call s)) =
+    let read : ◌≡◌ {A = Midway} c.piece_into.new.self (read_call r (next_call s)) =
     c.in-Ok.ensures.reads.state
     ∙ ap (λ (x : State). read_call r (next_call x)) c.self.view_is in
-    let found : c.taken.new.self.faults ≡ faults_in s.world (next_call s).faults =
+    let found : c.piece_into.new.self.faults ≡ faults_in s.world (next_call s).faults =
     ap (λ (m : Midway). m.faults) read
     ∙ ap (λ (fs : List (Fault Place)). fs
     ++ faults_in r.world (next_call s).faults) c.self.invariant.1.0
@@ -56,9 +56,9 @@ returns-clause-spare c n =
     let some : s.rest ≢ [] = subst (λ (x : State). x.rest ≢ []) c.self.view_is left in
     let same = ap (λ (x : State). x.world) c.self.view_is in
     let start = ap (λ (x : State). x.line_start) c.self.view_is in
-    elim c.match-taken.branch [
+    elim c.match-piece_into.branch [
       | in-Ok+in_default-take_over w ↦
-          let read : ◌≡◌ {A = Midway} c.taken.new.self (read_call r (next_call s)) =
+          let read : ◌≡◌ {A = Midway} c.piece_into.new.self (read_call r (next_call s)) =
           w.in-Ok.ensures.reads.state
           ∙ ap (λ (x : State). read_call r (next_call x)) c.self.view_is in
           w.in_default-take_over.ensures.none
@@ -78,6 +78,7 @@ invariant_of-self c =
     c.self.inside.reader.rest in
     let fits = c.self.invariant.0 in
     let taken : ◌≡◌ {A = Midway} c.take_over.new.reader
-    (record c.taken.new.self { faults = []; lines = []; closed = None }) = search rules in
+    (record c.piece_into.new.self { faults = []; lines = []; closed_place = None }) =
+    search rules in
     rw (taken, c.in-Ok.ensures.reads.state)
     (omega arith, (refl, refl, refl))

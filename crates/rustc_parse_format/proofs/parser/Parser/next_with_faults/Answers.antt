@@ -37,14 +37,14 @@ returns-then-is_at_end-clause-faults c =
 pub returns-clause-kept : goal.returns-clause-kept
 returns-clause-kept c =
     let old = c.args.faults.now.items in
-    let kept = elim c.match-taken.branch as (λ _.
-    take (length old) c.match-taken.faults.items ≡ old) [
+    let kept = elim c.match-piece_into.branch as (λ _.
+    take (length old) c.match-piece_into.faults.items ≡ old) [
       | in-Ok+in-Ok-move_faults+in_default-take_over w ↦ rw w.faults-is w.move_faults.ensures.kept
       | in-Ok+in_default-move_faults w ↦ rw w.faults-is w.in_default-move_faults.ensures.kept
       | in_default w ↦ rw w.faults-is (take-length old)
     ] in
     let count : c.len-count.result ≡ length old = search rules in
-    c.truncate.ensures.items ∙ ap (λ n. take n c.match-taken.faults.items) count ∙ kept
+    c.truncate.ensures.items ∙ ap (λ n. take n c.match-piece_into.faults.items) count ∙ kept
 
 pub returns-clause-spare : goal.returns-clause-spare
 returns-clause-spare c n =
@@ -54,12 +54,12 @@ returns-clause-spare c n =
     let some : s.rest ≢ [] = subst (λ (x : State). x.rest ≢ []) c.self.view_is left in
     let same = ap (λ (x : State). x.world) c.self.view_is in
     let start = ap (λ (x : State). x.line_start) c.self.view_is in
-    let nothing = λ (read : ◌≡◌ {A = Midway} c.taken.new.self
+    let nothing = λ (read : ◌≡◌ {A = Midway} c.piece_into.new.self
     (read_call r (call (seen_mode c.self.inside.mode) r.next r.rest))).
     subst HasFoundNothing
     (sym (read ∙ ap (λ (x : State). read_call r (next_call x)) c.self.view_is))
     (nothing_found s r (next_call s) some c.self.invariant.1 same start n) in
-    elim c.match-taken.branch [
+    elim c.match-piece_into.branch [
       | in-Ok+in-Ok-move_faults+in_default-take_over w ↦
           let m = nothing w.in-Ok.ensures.reads.state in
           w.in_default-take_over.ensures.none
@@ -80,6 +80,7 @@ invariant_of-self c =
     c.self.inside.reader.rest in
     let fits = c.self.invariant.0 in
     let taken : ◌≡◌ {A = Midway} c.take_over.new.reader
-    (record c.taken.new.self { faults = []; lines = []; closed = None }) = search rules in
+    (record c.piece_into.new.self { faults = []; lines = []; closed_place = None }) =
+    search rules in
     rw (taken, c.in-Ok.ensures.reads.state)
     (omega arith, (refl, refl, refl))

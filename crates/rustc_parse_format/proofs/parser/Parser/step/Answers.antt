@@ -62,6 +62,6 @@ invariant_of-self c =
     c.self.inside.reader.rest in
     let fits = c.self.invariant.0 in
     let taken : ◌≡◌ {A = Midway} c.take_over.new.reader
-    (record c.piece.new.self { faults = []; lines = []; closed = None }) = search rules in
+    (record c.piece.new.self { faults = []; lines = []; closed_place = None }) = search rules in
     rw (taken, c.in-Ok.ensures.reads.state)
     (omega arith, (refl, refl, refl))

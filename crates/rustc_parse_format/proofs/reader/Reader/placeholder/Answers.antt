@@ -34,9 +34,9 @@ pub returns-clause-reads : goal.returns-clause-reads
 returns-clause-reads c =
     let u = c.self.inside.cursor in
     let s = record (midway u c.self.inside.curarg c.self.inside.line_start) {
-      faults = c.self.inside.found;
+      faults = c.self.inside.faults;
       lines = map pair c.self.inside.lines.items;
-      closed = option_map pair c.self.inside.closed;
+      closed_place = option_map pair c.self.inside.closed_place;
     } in
     let given = rw c.consume_place-opening.ensures.rest at c.in_ok-argument.ensures in
     let e = c.self-2.view_is ∙ given.reads.state in
@@ -57,9 +57,9 @@ pub returns-in_err-argument-clause-reads : goal.returns-in_err-argument-clause-r
 returns-in_err-argument-clause-reads c =
     let u = c.self.inside.cursor in
     let s = record (midway u c.self.inside.curarg c.self.inside.line_start) {
-      faults = c.self.inside.found;
+      faults = c.self.inside.faults;
       lines = map pair c.self.inside.lines.items;
-      closed = option_map pair c.self.inside.closed;
+      closed_place = option_map pair c.self.inside.closed_place;
     } in
     let spare = rw c.consume_place-opening.ensures.rest at c.in_err-argument.ensures.reads.spare in
     let opens = call_opens (seen_mode c.args.mode) c.args.self.now.next c.args.self.now.rest
@@ -76,9 +76,9 @@ pub returns-in_err-closing_brace-clause-reads : goal.returns-in_err-closing_brac
 returns-in_err-closing_brace-clause-reads c =
     let u = c.self.inside.cursor in
     let s = record (midway u c.self.inside.curarg c.self.inside.line_start) {
-      faults = c.self.inside.found;
+      faults = c.self.inside.faults;
       lines = map pair c.self.inside.lines.items;
-      closed = option_map pair c.self.inside.closed;
+      closed_place = option_map pair c.self.inside.closed_place;
     } in
     let mode = seen_mode c.args.mode in
     let given = rw c.consume_place-opening.ensures.rest at c.in_ok-argument.ensures in

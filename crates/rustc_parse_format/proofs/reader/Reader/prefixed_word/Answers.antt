@@ -49,9 +49,9 @@ returns-then-not-is_word_ahead-clause-reads c =
     let r = c.self.inside in
     let here = alone c.before.before in
     let moved = ap (λ (u : Unread). record (midway u r.curarg r.line_start) {
-      faults = r.found;
+      faults = r.faults;
       lines = map pair r.lines.items;
-      closed = option_map pair r.closed;
+      closed_place = option_map pair r.closed_place;
     }) c.skip_char.ensures.rest ∙ ap
     (λ (m : Midway). record m { rest = behind_first m.rest }) c.self.view_is in
     record {

@@ -13,9 +13,9 @@ abbrev after : After-skip_while → Midway
 after c =
     let r = c.self-then-is_past_indent.inside in
     record (midway c.skip_while.new.self r.curarg r.line_start) {
-      faults = r.found;
+      faults = r.faults;
       lines = map pair r.lines.items;
-      closed = option_map pair r.closed;
+      closed_place = option_map pair r.closed_place;
     }
 
 -- What is left of the line is skipped.
@@ -25,9 +25,9 @@ passed : (c : After-skip_while)
 passed c =
     let r = c.self-then-is_past_indent.inside in
     ap (λ (u : Unread). record (midway u r.curarg r.line_start) {
-      faults = r.found;
+      faults = r.faults;
       lines = map pair r.lines.items;
-      closed = option_map pair r.closed;
+      closed_place = option_map pair r.closed_place;
     }) c.skip_while.ensures.rest
     ∙ ap (λ (m : Midway). record m { rest = behind is_in_line m.rest })
     (c.self-then-is_past_indent.view_is ∙ c.is_past_indent.ensures.state)

@@ -28,10 +28,10 @@ returns-clause-place c w h =
     let here = c.offset_of-start.ensures w h in
     let b = begun rest (IsUtf8-from_is_utf8 rest c.requires.leads.after.valid_rest) c.requires.some
     in
-    let stop : c.character_at-stop.result.0 ≡ (place_at w (length (chars rest))).1 =
+    let stop : c.character_at-stop.result.stop ≡ (place_at w (length (chars rest))).1 =
     rw b.chars_are (c.character_at-stop.ensures.stop w b.head b.tail (rw b.chars_are at here)) in
     place_by (place_at w (length (chars rest))) c.offset_of-start.result
-    c.character_at-stop.result.0
+    c.character_at-stop.result.stop
     (sym (here_start c.args.snippet.now w (chars rest) c.offset_of-start.result here)) stop
 
 pub returns-clause-here : goal.returns-clause-here

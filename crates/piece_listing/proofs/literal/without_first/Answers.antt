@@ -1,6 +1,6 @@
 use Rattle.std.proofs.lemmas.Str.Pattern.{strip_prefix_char}
 use Rattle.rustc_parse_format.proofs.Literals.Edges.{chars-first}
-use Rattle.piece_listing.proofs.literal.behind.Goals as goal
+use Rattle.piece_listing.proofs.literal.without_first.Goals as goal
 
 pub returns-clause-rest : goal.returns-clause-rest
 returns-clause-rest c =

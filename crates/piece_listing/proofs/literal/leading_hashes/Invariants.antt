@@ -1,7 +1,7 @@
 use Rattle.std.proofs.Common.{◌≡◌, ◌+◌, ◌++◌, length, chars, replicate}
 use denote.Shadow.{shadow}
 use denote.Text.{Utf8}
-use Rattle.piece_listing.proofs.literal.behind_hashes.Given as goal
+use Rattle.piece_listing.proofs.literal.leading_hashes.Given as goal
 
 -- The hashes so far and what is left are the whole text.
 abbrev pub invariant-loop-more : goal.invariant-loop-more

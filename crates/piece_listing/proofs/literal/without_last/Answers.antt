@@ -1,6 +1,6 @@
 use Rattle.std.proofs.lemmas.Str.Pattern.{strip_suffix_char}
 use Rattle.rustc_parse_format.proofs.Literals.Edges.{chars-last}
-use Rattle.piece_listing.proofs.literal.in_front_of.Goals as goal
+use Rattle.piece_listing.proofs.literal.without_last.Goals as goal
 
 pub returns-clause-front : goal.returns-clause-front
 returns-clause-front c =

@@ -1,6 +1,6 @@
 use Rattle.std.proofs.Common.{chars}
 use Rattle.piece_listing.proofs.Literals.{replicate-last}
-use Rattle.piece_listing.proofs.literal.in_front_of_hashes.Goals as goal
+use Rattle.piece_listing.proofs.literal.without_last_hashes.Goals as goal
 
 pub returns-in-None : goal.returns-in-None
 returns-in-None c = λ t e. c.in-None.ensures.front _

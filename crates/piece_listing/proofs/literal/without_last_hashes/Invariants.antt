@@ -1,7 +1,7 @@
 use Rattle.std.proofs.Common.{◌≡◌, ◌++◌, chars, replicate}
 use denote.Shadow.{shadow}
 use denote.Text.{Utf8}
-use Rattle.piece_listing.proofs.literal.in_front_of_hashes.Given as goal
+use Rattle.piece_listing.proofs.literal.without_last_hashes.Given as goal
 
 -- The hashes so far come after what is left.
 abbrev pub invariant-loop : goal.invariant-loop

@@ -5,7 +5,7 @@ use Rattle.format_tokens.specs.Placed.{tokens}
 use Rattle.format_tokens.specs.Seen.{seen_text, seen_token}
 use Rattle.format_tokens.specs.Starts.{placed_sizes, starts_of}
 use Rattle.format_tokens.proofs.Lexing.{assembled, kept-is, kept-small, plain-tokens, quoted-tokens}
-use Rattle.format_tokens.proofs.lexer.placed.Goals as goal
+use Rattle.format_tokens.proofs.lexer.place_labels.Goals as goal
 
 pub place-requires : goal.place-requires
 place-requires c =
