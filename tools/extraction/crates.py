@@ -9,7 +9,9 @@ from extraction.tokens import Refused
 
 TOP = Path(__file__).resolve().parent.parent.parent
 RUST = TOP / "bindings/rust/src"
-CRATES = ("rustc_parse_format", "placeholder_check", "format_tokens", "drawn_faults")
+CRATES = ("rustc_parse_format", "placeholder_check", "format_tokens", "drawn_faults", "rust_tokens",
+          "rust_trees", "format_calls", "call_faults", "piece_listing", "literal_faults",
+          "format_lint", "lint_words", "formatread", "formatlint")
 NOTICE = """\
 // Extracted from {place} by tools/extract: not to be edited.
 // That source is proved, and each contract here is its. That this text means the same is tested:
@@ -45,7 +47,7 @@ def extracted(crates, callers):
         if needs.has(source.crate, *module_of(source.name)):
             text = in_place(source.path, rust_of, source, needs, list(crates), empty, cloned)
             target = source.name.replace(".rt", ".rs")
-            made.append((f"{source.crate}/{'mod.rs' if target == 'lib.rs' else target}", text))
+            made.append((f"{source.crate}/{target if module_of(source.name) else 'mod.rs'}", text))
     return made
 
 
@@ -86,14 +88,16 @@ class Needs:
         that it calls. What it exports is shown: all public methods of that are needed that take no
         allocator."""
         end = len(caller.tokens) - 1
-        self.methods |= {it for it in caller.names_in(0, end) if isinstance(it, tuple)}
+        methods = {it for it in caller.names_in(0, end) if isinstance(it, tuple)}
         for at in (it for it in caller.places(0, end) if caller.tokens[it].is_word("use")):
-            for path, _ in Import(caller, caller.next(at)).paths():
+            for path, called in Import(caller, caller.next(at)).paths():
                 if "proved" in path:
                     found = self.resolved(path[path.index("proved") + 1 :])
                     self.items.add(found)
+                    methods |= {(found[1], it[1]) for it in methods if it[0] == called}
                     if caller.text(caller.prev(at)) == "pub":
                         self.shown.add(found)
+        self.methods |= methods
 
     def resolved(self, path):
         """The file and the name of what a path from the crates on leads to, past what other files
@@ -157,7 +161,7 @@ class Needs:
 
     def is_needed(self, source, item, part):
         if item.kind != "impl":
-            is_item = part.kind in ("fn", "struct", "enum", "const", "type")
+            is_item = part.kind in ("fn", "struct", "enum", "const", "static", "type")
             return is_item and (source.path, part.name) in self.items
         path = source.imports().get(item.name)
         of = self.resolved(self.absolute(source, path)) if path else (source.path, item.name)
@@ -173,7 +177,7 @@ class Needs:
 def module_of(name):
     """The modules that lead to a file, from its crate on."""
     words = name.removesuffix(".rt").split("/")
-    return [] if words == ["lib"] else words
+    return [] if words in (["lib"], ["main"]) else words
 
 
 def clones_in(source, item):
@@ -232,6 +236,7 @@ def item_rewritten(source, item, crates, empty, cloned):
     if left:
         source.refuse(item.head, f"`{left.pop()}`, of which nothing is there, is still named")
     uses_shim = False
+    rules.known_traits(source, item)
     for part in [part for part in item.parts if part.is_kept] or [item]:
         uses_shim |= rules.rewrite(source, part, source.crate, crates)
         head_of(source, part)
@@ -244,6 +249,9 @@ def head_of(source, item):
     """Puts the clauses of a function behind its documentation, and lets it be inlined if nothing is
     said of that: rustc compiles a crate in parts, and Rattle as a whole."""
     if item.kind == "fn":
+        if (source.name, item.name) == ("main.rt", "main"):
+            # a program of the crate for Rust calls it
+            source.tokens[item.head].text = "pub fn"
         words = source.texts(item.start, item.head)
         inline = "" if "inline" in words else "#[inline]\n"
         source.tokens[item.start].text = item.clauses + inline + source.tokens[item.start].text

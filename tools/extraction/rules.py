@@ -4,43 +4,61 @@ from extraction.source import Import
 
 # What of the library may be named, and what replaces it. A path that is not here is refused. What
 # reads the parser by its calls reads that of the layer, so that there is one.
-LIBRARY = {"itoa": "crate::shim::itoa",
+LIBRARY = {"clap": "crate::shim::clap", "itoa": "crate::shim::itoa",
            "rustc_parse_format::Parser": "crate::shim::parser::Parser",
-           "std::alloc": "crate::shim::alloc", "std::collections::BTreeSet": None,
+           "rustc_parse_format::read_all": "crate::shim::parser::read_all",
+           "std::alloc": "crate::shim::alloc", "std::collections::BTreeMap": None,
+           "std::collections::BTreeSet": None, "std::env": "crate::shim::host::env",
+           "std::fs": "crate::shim::host::fs",
+           "std::io::IsTerminal": "crate::shim::host::IsTerminal", "std::io": None,
            "std::iter::FusedIterator": None, "std::marker::Model": None, "std::mem": None,
-           "std::ops::Range": None, "std::simd::prelude": "crate::shim::simd",
+           "std::ops::Range": None, "std::process::ExitCode": None,
+           "std::simd::prelude": "crate::shim::simd",
            "unicode_ident": "crate::shim::unicode_ident",
            "unicode_width": "crate::shim::unicode_width"}
 # Calls that take the allocator, or return an allocation failure. In Rust they are methods of the
 # shim's traits.
 CONSTRUCTORS = {"new": "made_in", "with_capacity": "made_for", "from_str": "made_from"}
+# What of a module of the library may be named by itself or behind it.
+NAMED = {"env": {"args", "var"}, "fs": {"canonicalize", "metadata", "open", "read_dir"},
+         "io": {"Error", "ErrorKind", "Read", "Result", "Write"}}
 # Constructors that ask for no memory.
 PLAIN = ("from_utf8",)
 METHODS = {
     "push": "try_push",
     "push_str": "try_push_str",
-    "insert": "try_insert",
+    "insert": "insert_in",
     "append": "try_append",
     "extend": "try_extend",
     "extend_from_slice": "try_extend_from_slice",
     "reserve": "try_reserve_more",
+    "sort": "sort_in",
     "clone": "try_clone",
+    "collect": "collect_in",
     # of the standard library for some types, and not yet stable
     "allocator": "own_allocator",
     # of the standard library only since Rust 1.91
     "floor_char_boundary": "boundary_at_most",
     # of the standard library only since Rust 1.80
     "split_at_checked": "parts_at",
+    "trim_ascii_start": "behind_ascii_space",
+    "trim_ascii_end": "before_ascii_space",
 }
+# Methods of `Option` that are only in younger libraries, and the value that they have for `None`.
+TESTS = {"is_some_and": "false", "is_none_or": "true"}
 # What a path may begin with besides what a file names.
-KNOWN = ("super", "char", "str", "u8", "u8x16", "u16", "u32", "u64", "usize")
-MACROS = {"matches": "matches", "format": "crate::shim::format_in"}
+KNOWN = ("super", "char", "u8", "u8x16", "u16", "u32", "u64", "usize")
+MACROS = {"matches": "matches", "format": "crate::shim::format_in", "vec": "crate::shim::vec_in",
+          "eprint": "crate::shim::eprint_in", "eprintln": "crate::shim::eprintln_in"}
 # Traits that are named only where they are imported, by the calls of their methods.
-TRAITS = {(".", "width", 0): "UnicodeWidthChar"}
+TRAITS = {(".", "width", 0): "UnicodeWidthChar", (".", "is_terminal", 0): "IsTerminal",
+          (".", "read_to_end", 1): "Read", (".", "read_to_string", 1): "Read"}
 ATTRIBUTES = {"cold", "default", "derive", "doc", "inline", "tactic"}
-DERIVES = {"Clone", "Copy", "Debug", "Default", "Drop", "Eq", "PartialEq"}
+DERIVES = {"Clone", "Copy", "Debug", "Default", "Drop", "Eq", "Ord", "PartialEq", "PartialOrd"}
 # Members that what calls the crates has to write, for which they have no call.
 OPENED = {"Cursor": {"source"}}
+# Words behind which an expression may begin.
+KEYWORDS = ("else", "if", "in", "match", "return", "while")
 # Words of forms that are not known to mean the same in both languages, or are known not to.
 UNKNOWN = {"anyhow", "as_mut_ptr", "as_ptr", "async", "await", "dyn", "extern", "ghost",
            "macro_rules", "size_of", "spawn", "static", "trait", "try_from", "try_into", "try_recv",
@@ -63,7 +81,13 @@ def rewrite(source, item, crate, crates):
                 source.tokens[at].text = LIBRARY[text]
             elif text == "std":
                 source.refuse(at, "a path of the library where no `use` names it")
-            elif text in ("Vec", "String", "Box", "BTreeSet"):
+            elif text == "str" and source.text(source.next(at, 2)) == "from_utf8":
+                # of the type itself only since Rust 1.87
+                source.tokens[at].text = "std::str"
+            elif text in NAMED and source.imports().get(text) == ["std", text]:
+                if source.text(source.next(at, 2)) not in NAMED[text]:
+                    source.refuse(at, f"`{text}::{source.text(source.next(at, 2))}`, which is not known")
+            elif text in ("Vec", "String", "Box", "BTreeMap", "BTreeSet"):
                 called = source.next(at, 2)
                 if source.text(source.next(called)) == "(" and source.text(called) in CONSTRUCTORS:
                     source.tokens[called].text = CONSTRUCTORS[source.text(called)]
@@ -78,19 +102,47 @@ def rewrite(source, item, crate, crates):
                 source.refuse(at, "a clone whose refusal is not answered on the spot")
             source.tokens[at].text = METHODS[text]
             uses_shim = True
-        elif text == "is_some_and" and before == ".":
-            # of the standard library only since Rust 1.70
-            opening = source.next(at)
+        elif text in TESTS and before == "." and behind == "(":
             source.tokens[at].text = "map_or"
-            source.tokens[opening].text = "(false, "
+            source.tokens[source.next(at)].text = f"({TESTS[text]}, "
         elif (text == "AllocError" and before == "(" and source.text(source.prev(at, 2)) == "Err"
               and behind == ")"):
             refusal(source, at)
-        elif text == "!" and source.is_word(source.prev(at)) and behind in ("(", "[", "{"):
+        elif (text == "!" and source.is_word(source.prev(at)) and before not in KEYWORDS
+              and behind in ("(", "[", "{")):
             macro(source, source.prev(at))
-        else:
+        elif text == "unsafe":
+            checked_text(source, at)
+        elif text == "HostRuntime" and behind != "::":
+            source.tokens[at].text = "crate::shim::host::HostRuntime"
+        elif text != "static" or at != item.head:
             refuse_unknown(source, at)
     return uses_shim
+
+
+def known_traits(source, item):
+    """Refuses a trait of the library that this file has by another name, or another one by its
+    name."""
+    wanted = {name for at, _, bounds in source.streams if item.start <= at <= item.last
+              for name in bounds} | {item.trait} & {"From", "Read", "Write"}
+    for name in sorted(wanted):
+        if source.imports().get(name) != (None if name == "From" else ["std", "io", name]):
+            source.refuse(item.head, f"`{name}`, which is not the library's")
+
+
+def checked_text(source, at):
+    """Writes a text of bytes that are proved to be UTF-8 anew: here that is checked, and a mistake
+    panics."""
+    form = ["unsafe", "{", "str", "::", "from_utf8_unchecked", "("]
+    places = [source.next(at, count) for count in range(6)]
+    if [source.text(it) for it in places] != form:
+        source.refuse(at, "`unsafe`")
+    end = source.next(source.close(places[5]))
+    if end != source.close(places[1]):
+        source.refuse(at, "`unsafe`")
+    for it in (*places[:5], end):
+        source.tokens[it].text = ""
+    source.tokens[at].text = "crate::shim::proved_text"
 
 
 def macro(source, at):
@@ -98,11 +150,28 @@ def macro(source, at):
     if name not in MACROS:
         source.refuse(at, f"a macro `{name}!`")
     inner = source.next(opening)
-    if name == "format":
+    if name in ("format", "vec"):
         if source.text(inner) != "in":
-            source.refuse(at, "a `format!` without an allocator")
-        source.tokens[inner].text = ""
+            source.refuse(at, f"a `{name}!` without an allocator")
+        if name == "vec" and not repeats(source, inner, source.close(opening)):
+            source.refuse(at, "a `vec!` of other items than a plain one, again and again")
+        source.cut(inner, source.next(inner) - 1)
+    if (name in ("eprint", "eprintln")
+            and [source.text(inner), source.text(source.next(inner))] != ["rt", ";"]):
+        source.refuse(at, f"an `{name}!` without the process")
     source.tokens[at].text = MACROS[name]
+
+
+def repeats(source, at, end):
+    """Whether what a macro is given is an allocator, a plain value and a count."""
+    marks = []
+    while at < end:
+        if source.text(at) == ";":
+            marks.append(at)
+        at = source.next(source.skip(at))
+    plain = source.next(marks[0]) if marks else end
+    is_plain = source.tokens[plain].kind == "number" or source.text(plain) in ("false", "true")
+    return len(marks) == 2 and is_plain and source.next(plain) == marks[1]
 
 
 def refusal(source, at):
@@ -110,6 +179,10 @@ def refusal(source, at):
     one of the standard library does. The proof counts by 64 bits; where there are 32, as many are
     left for sums. No other answer to a refusal of memory ever comes in Rust."""
     before = [source.text(source.prev(at, count)) for count in range(14, 0, -1)]
+    if before[8:] == [")", "else", "{", "return", "Err", "("] and is_sum(source, at):
+        source.tokens[source.prev(at, 2)].text = "crate::shim::alloc::refuse"
+        source.tokens[at].text = ""
+        return
     bits = before[9]
     length = [".", "len", "(", ")", ">", "=", "1", "<", "<", bits, "{", "return", "Err", "("]
     if before != length or not bits.isdecimal():
@@ -117,6 +190,19 @@ def refusal(source, at):
     source.tokens[source.prev(at, 5)].text = f"(usize::BITS - {64 - int(bits)})"
     source.tokens[source.prev(at, 2)].text = "crate::shim::alloc::refuse"
     source.tokens[at].text = ""
+
+
+def is_sum(source, at):
+    """Whether the answer stands where a sum is larger than a number can be: `let Some(x) =
+    y.checked_add(z) else { return Err(AllocError); };`."""
+    otherwise, start = source.prev(at, 5), at
+    while source.text(start) not in (";", "let", ""):
+        start = source.prev(start)
+    texts = [source.text(source.next(start, count)) for count in range(6)]
+    sums = [source.close(source.next(it)) for it in source.places(start, otherwise)
+            if source.text(it) == "checked_add" and source.text(source.next(it)) == "("]
+    return texts[:3] + texts[4:] == ["let", "Some", "(", ")", "="] and any(
+        source.next(it) == otherwise for it in sums)
 
 
 def refuse_unknown(source, at):
@@ -184,6 +270,8 @@ def imported(source, item, crate, crates, named):
             continue
         known = in_library(path)
         if known is not None:
+            if known == "std::io" and path[2:] and path[2] not in NAMED["io"]:
+                source.refuse(item.head, f"`{'::'.join(path)}`, which is not known")
             if LIBRARY[known]:
                 path = LIBRARY[known].split("::") + path[len(known.split("::")) :]
         elif path[0] in ("crate", *crates):

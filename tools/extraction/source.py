@@ -1,8 +1,11 @@
 """A source as items: what it contains, what each item defines, and what each names."""
 from extraction.tokens import TRIVIA, Refused, closing, tokens_of
 
-KINDS = ("fn", "struct", "enum", "impl", "mod", "use", "const", "type", "ghost")
-TRAITS = ("Default", "FusedIterator", "Iterator", "Model")
+KINDS = ("fn", "struct", "enum", "impl", "mod", "use", "const", "static", "type", "ghost")
+TRAITS = ("Default", "From", "FusedIterator", "Iterator", "Model", "Read", "Write")
+# The bounds that a parameter which is a type may have: it is a stream, or a type of which a value
+# may be let go, as each may in Rust.
+BOUNDS = ("Drop", "Read", "Write")
 
 
 class Item:
@@ -22,7 +25,7 @@ class Source:
 
     def __init__(self, name, text, has_items=True):
         self.name, self.tokens, self.items, self.doubts = name, tokens_of(text), [], []
-        self.lookers = set()
+        self.lookers, self.streams = set(), []
         at = 0
         while at < len(self.tokens) and (self.tokens[at].kind == "space"
                                          or self.tokens[at].text.startswith("//!")):
@@ -104,6 +107,8 @@ class Source:
             at, kind = self.next(at), "fn"
         if kind not in KINDS:
             self.refuse(at, f"an item that begins with `{kind}`")
+        if kind == "static" and self.text(self.next(at)) == "mut":
+            self.refuse(at, "`static mut`")
         item = Item(kind, first, start, at, self.item_end(kind, at))
         item.is_public = is_public
         if kind == "impl":
@@ -121,7 +126,7 @@ class Source:
             if self.text(at) == ";" or kind == "mod" and self.text(at) == "{":
                 return at
             if self.tokens[at].is_sign("(", "[", "{"):
-                is_body = self.text(at) == "{" and kind not in ("use", "const")
+                is_body = self.text(at) == "{" and kind not in ("use", "const", "static")
                 at = self.close(at)
                 if is_body:
                     return at
@@ -136,15 +141,37 @@ class Source:
         return at
 
     def parameters(self, at, refused):
-        """What comes after parameters in angles, if there are any; only lifetimes may be among
-        them."""
+        """What comes after parameters in angles, if there are any: lifetimes, and types of which
+        nothing but a few bounds is known."""
         if self.text(at) != "<":
             return at
         while self.text(at) != ">":
             at = self.next(at)
             if self.is_word(at):
-                self.refuse(at, refused)
+                at = self.bounds(at, refused)
         return self.next(at)
+
+    def bounds(self, at, refused):
+        """What comes after a parameter that is a type. Its bound `Drop`, which is another one in
+        Rust, is left out."""
+        mark, kept = self.next(at), []
+        if self.text(mark) != ":":
+            self.refuse(at, refused)
+        while self.text(mark) in (":", "+"):
+            bound = self.next(mark)
+            behind = self.next(bound)
+            if self.text(bound) not in BOUNDS:
+                self.refuse(bound, refused)
+            elif self.text(bound) == "Drop":
+                self.cut(mark, bound)
+            else:
+                self.tokens[mark].text = "+" if kept else ":"
+                kept.append(self.text(bound))
+            mark = behind
+        if self.text(mark) not in (",", ">"):
+            self.refuse(mark, refused)
+        self.streams.append((at, self.text(at), kept))
+        return mark
 
     def impl(self, item):
         """What an impl is of, its trait, and its parts. A model is for the prover alone."""
@@ -152,11 +179,16 @@ class Source:
         item.open = self.opening(at)
         words = self.texts(at, item.open - 1)
         if "for" in words:
-            item.trait, words = words[words.index("for") - 1], words[words.index("for") + 1 :]
-            if item.trait not in TRAITS:
-                self.refuse(item.head, f"an `impl` of `{item.trait}`")
+            trait, words = words[: words.index("for")], words[words.index("for") + 1 :]
+            # (a trait with a parameter has one that is a type without parameters of its own)
+            is_known = trait[1:2] + trait[3:] in ([], ["<", ">"])
+            item.trait = trait[0] if is_known else "".join(trait)
+            if item.trait not in TRAITS or (item.trait == "From") != (len(trait) == 4):
+                self.refuse(item.head, f"an `impl` of `{''.join(trait)}`")
             item.kind = "ghost" if item.trait == "Model" else "impl"
         item.name = words[0]
+        if any(item.head < at < item.open and name == item.name for at, name, _ in self.streams):
+            self.refuse(item.head, "an `impl` for each type")
         item.parts = self.items_between(item.open + 1, item.last)
         for part in [item] + item.parts:
             part.of = item.name

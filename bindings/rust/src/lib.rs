@@ -4,20 +4,14 @@
 pub mod faults;
 pub mod literal;
 mod parser;
-// These sources are extracted from another language, which lacks some forms that clippy asks for.
-#[allow(
-    dead_code,
-    clippy::manual_map,
-    clippy::needless_lifetimes,
-    clippy::needless_question_mark,
-    clippy::needless_range_loop,
-    clippy::question_mark,
-    clippy::type_complexity,
-    clippy::while_let_on_iterator
-)]
+pub mod programs;
+// These sources are extracted from another language. It lacks some forms that clippy asks for, and has
+// parameters that only its contracts read; what is public in one of its crates may be unused here.
+#[allow(dead_code, unused_variables, clippy::all)]
 mod proved;
 mod report;
 mod shim;
+pub mod source;
 pub mod tokens;
 
 pub use parser::Parser;

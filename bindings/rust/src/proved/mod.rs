@@ -1,6 +1,16 @@
 // The crates that are extracted. Made by tools/extract: not to be edited.
 
+pub mod call_faults;
 pub mod drawn_faults;
+pub mod format_calls;
+pub mod format_lint;
 pub mod format_tokens;
+pub mod formatlint;
+pub mod formatread;
+pub mod lint_words;
+pub mod literal_faults;
+pub mod piece_listing;
 pub mod placeholder_check;
+pub mod rust_tokens;
+pub mod rust_trees;
 pub mod rustc_parse_format;

@@ -1,7 +1,7 @@
 //! Allocation. In Rust an allocation failure aborts, so it is never returned as an error:
 //! `AllocError` has no value, a `Result` with it is always `Ok`, and each `?` on one compiles to
 //! nothing.
-use std::collections::BTreeSet;
+use std::collections::{BTreeMap, BTreeSet};
 
 /// The allocator that is passed to calls.
 #[derive(Clone, Copy)]
@@ -10,6 +10,12 @@ pub struct Global;
 /// An allocation failure, which is never returned: the type has no value.
 #[derive(Debug)]
 pub enum AllocError {}
+
+impl From<AllocError> for std::io::Error {
+    fn from(error: AllocError) -> std::io::Error {
+        match error {}
+    }
+}
 
 /// Returns the value of a call that allocates.
 #[inline(always)]
@@ -43,6 +49,7 @@ pub trait VecIn<T>: Sized {
     fn made_in(alloc: Global) -> Self;
     fn made_for(alloc: Global, room: usize) -> Result<Self, AllocError>;
     fn try_push(&mut self, item: T) -> Result<(), AllocError>;
+    fn insert_in(&mut self, at: usize, item: T) -> Result<(), AllocError>;
     fn try_append(&mut self, items: &mut Self) -> Result<(), AllocError>;
     fn try_extend_from_slice(&mut self, items: &[T]) -> Result<(), AllocError>
     where
@@ -64,6 +71,12 @@ impl<T> VecIn<T> for Vec<T> {
     #[inline(always)]
     fn try_push(&mut self, item: T) -> Result<(), AllocError> {
         self.push(item);
+        Ok(())
+    }
+
+    #[inline(always)]
+    fn insert_in(&mut self, at: usize, item: T) -> Result<(), AllocError> {
+        self.insert(at, item);
         Ok(())
     }
 
@@ -91,7 +104,7 @@ impl<T> VecIn<T> for Vec<T> {
 /// The methods of `BTreeSet` that take an allocator or return an allocation failure.
 pub trait SetIn<T>: Sized {
     fn made_in(alloc: Global) -> Self;
-    fn try_insert(&mut self, item: T) -> Result<bool, AllocError>;
+    fn insert_in(&mut self, item: T) -> Result<bool, AllocError>;
 }
 
 impl<T: Ord> SetIn<T> for BTreeSet<T> {
@@ -101,8 +114,26 @@ impl<T: Ord> SetIn<T> for BTreeSet<T> {
     }
 
     #[inline(always)]
-    fn try_insert(&mut self, item: T) -> Result<bool, AllocError> {
+    fn insert_in(&mut self, item: T) -> Result<bool, AllocError> {
         Ok(self.insert(item))
+    }
+}
+
+/// The methods of `BTreeMap` that take an allocator or return an allocation failure.
+pub trait MapIn<K, V>: Sized {
+    fn made_in(alloc: Global) -> Self;
+    fn insert_in(&mut self, key: K, value: V) -> Result<Option<V>, AllocError>;
+}
+
+impl<K: Ord, V> MapIn<K, V> for BTreeMap<K, V> {
+    #[inline(always)]
+    fn made_in(_: Global) -> BTreeMap<K, V> {
+        BTreeMap::new()
+    }
+
+    #[inline(always)]
+    fn insert_in(&mut self, key: K, value: V) -> Result<Option<V>, AllocError> {
+        Ok(self.insert(key, value))
     }
 }
 
@@ -166,6 +197,14 @@ pub trait StrIn {
     /// Returns what is before a byte offset and what is from there on, or `None` if that is no
     /// character boundary. In the standard library this is `split_at_checked`, which is recent.
     fn parts_at(&self, at: usize) -> Option<(&str, &str)>;
+
+    /// Returns the text without the ASCII white space at its start. In the standard library this is
+    /// `trim_ascii_start`, which is recent.
+    fn behind_ascii_space(&self) -> &str;
+
+    /// Returns the text without the ASCII white space at its end. In the standard library this is
+    /// `trim_ascii_end`, which is recent.
+    fn before_ascii_space(&self) -> &str;
 }
 
 impl StrIn for str {
@@ -185,6 +224,23 @@ impl StrIn for str {
     fn parts_at(&self, at: usize) -> Option<(&str, &str)> {
         Some((self.get(..at)?, self.get(at..)?))
     }
+
+    #[inline(always)]
+    fn behind_ascii_space(&self) -> &str {
+        self.trim_start_matches(|c: char| c.is_ascii_whitespace())
+    }
+
+    #[inline(always)]
+    fn before_ascii_space(&self) -> &str {
+        self.trim_end_matches(|c: char| c.is_ascii_whitespace())
+    }
+}
+
+/// Returns the text of bytes that are proved to be UTF-8. That is tried all the same, and a mistake
+/// panics.
+#[inline(always)]
+pub fn proved_text(bytes: &[u8]) -> &str {
+    std::str::from_utf8(bytes).expect("bytes that are proved to be UTF-8")
 }
 
 #[cfg(test)]

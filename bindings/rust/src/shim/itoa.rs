@@ -13,16 +13,24 @@ impl Buffer {
 
     /// Returns the digits of a number.
     pub fn format(&mut self, number: usize) -> &str {
-        let mut left = number;
-        let mut at = self.bytes.len() - 1;
-        self.bytes[at] = b'0' + (left % 10) as u8;
-        while left >= 10 {
-            left /= 10;
-            at -= 1;
-            self.bytes[at] = b'0' + (left % 10) as u8;
-        }
+        let end = self.bytes.len();
+        let at = write_digits(number as u64, &mut self.bytes, end);
         std::str::from_utf8(&self.bytes[at..]).expect("digits are UTF-8")
     }
+}
+
+/// Writes the digits of a number so that they end at `end`, and returns where they start.
+#[inline]
+pub fn write_digits(number: u64, bytes: &mut [u8], end: usize) -> usize {
+    let mut left = number;
+    let mut at = end - 1;
+    bytes[at] = b'0' + (left % 10) as u8;
+    while left >= 10 {
+        left /= 10;
+        at -= 1;
+        bytes[at] = b'0' + (left % 10) as u8;
+    }
+    at
 }
 
 #[cfg(test)]

@@ -1,6 +1,11 @@
 //! What the extracted modules use in place of the standard library of the language that they are
 //! proved in.
 pub mod alloc;
+// The programs use a part of these two.
+#[allow(dead_code)]
+pub mod clap;
+#[allow(dead_code)]
+pub mod host;
 pub mod itoa;
 pub mod parser;
 pub mod simd;
@@ -12,7 +17,8 @@ mod xid;
 /// The traits that give the types of Rust's standard library the methods that the extracted modules
 /// call.
 pub mod prelude {
-    pub use super::alloc::{BoxIn, SetIn, StrIn, StringIn, VecIn};
+    pub use super::alloc::{BoxIn, MapIn, SetIn, StrIn, StringIn, VecIn};
+    pub use super::host::IterIn;
 }
 
 /// `format!(in alloc; ..)`: returns the text, or `Err` if an allocation fails.
@@ -23,6 +29,25 @@ macro_rules! format_in {
     }};
 }
 pub(crate) use format_in;
+
+/// `vec![in alloc; item; count]`: returns the list, or `Err` if an allocation fails.
+macro_rules! vec_in {
+    ($alloc:expr; $item:expr; $count:expr) => {{
+        let _: $crate::shim::alloc::Global = $alloc;
+        Ok::<_, $crate::shim::alloc::AllocError>(vec![$item; $count])
+    }};
+}
+pub(crate) use vec_in;
+
+/// `eprintln!(rt; ..)`: writes a line to standard error, and returns why that failed.
+macro_rules! eprintln_in {
+    ($rt:expr; $($words:tt)*) => {
+        $rt.eprintln(format_args!($($words)*))
+    };
+}
+pub(crate) use eprintln_in;
+
+pub use alloc::proved_text;
 
 #[cfg(test)]
 mod tests {

@@ -3,6 +3,7 @@ use crate::proved::rustc_parse_format::faults::Fault;
 use crate::proved::rustc_parse_format::types::Taken;
 use crate::shim::alloc::{AllocError, Global};
 use crate::{Argument, ParseError, ParseMode, Piece};
+use std::ops::Range;
 
 /// A parser over an input, which reads one piece at a time.
 pub struct Parser<'input> {
@@ -70,8 +71,37 @@ impl<'input> Parser<'input> {
         self.parser.reader.cursor.position()
     }
 
+    /// Returns the errors of all calls so far.
+    pub fn errors(&self) -> &[ParseError] {
+        &self.parser.errors
+    }
+
+    /// Returns the places of the placeholders that a brace closed.
+    pub fn arg_places(&self) -> &[Range<usize>] {
+        &self.parser.arg_places
+    }
+
+    /// Returns the index that the next implicit argument takes.
+    pub fn curarg(&self) -> usize {
+        self.parser.curarg
+    }
+
     /// Takes the errors of all calls so far out of the parser.
     pub fn take_errors(&mut self) -> Vec<ParseError> {
         std::mem::take(&mut self.parser.errors)
     }
+}
+
+/// Returns the pieces of an input up to the first call that returns none, and the parser after them.
+pub fn read_all<'input>(
+    alloc: Global,
+    input: &'input str,
+    style: Option<usize>,
+    snippet: Option<String>,
+    appended_newline: bool,
+    mode: ParseMode,
+) -> Result<(Vec<Piece<'input>>, Parser<'input>), AllocError> {
+    let mut parser = Parser::new(alloc, input, style, snippet, appended_newline, mode)?;
+    let pieces = parser.parser.by_ref().collect();
+    Ok((pieces, parser))
 }

@@ -16,6 +16,8 @@ pub(crate) mod printable;
 pub(crate) mod rows;
 pub(crate) mod suggestions;
 
-pub use drawing::draw;
+pub use drawing::{draw, put_drawing};
 pub use fixes::{edits, errors_of, fix, Edit, Fixed};
+pub use glyphs::put_glyphs;
 pub use places::Picture;
+pub use printable::{is_ascii_or_as_is, is_drawn_as_is};

@@ -28,6 +28,16 @@ const AS_IS: Stops = Stops {
     fourth: LEAD_OF_2000,
 };
 
+/// The stops of a text whose characters beyond ASCII are drawn as they are: the first bytes above.
+const BEYOND_ASCII: Stops = Stops {
+    low: 0,
+    high: 255,
+    first: LEAD_OF_80,
+    second: LEAD_OF_600,
+    third: LEAD_OF_2000,
+    fourth: LEAD_OF_2000,
+};
+
 /// The stops of a text of printable characters of ASCII.
 const PRINTABLE: Stops = Stops {
     low: b' ',
@@ -59,4 +69,22 @@ pub fn split_printable(text: &str, most: usize) -> (&str, &str) {
 pub fn split_as_is(text: &str) -> (&str, &str) {
     let width = text.boundary_at_most(front_width(text.as_bytes(), AS_IS));
     text.split_at(width)
+}
+
+/// Returns `true` only if each part of a text is drawn as it is, so that [`put_glyphs`] appends it
+/// as `push_str` does. For some texts of which that holds it returns `false`.
+///
+/// [`put_glyphs`]: crate::put_glyphs
+// ensures { IsTrue result → list_all is_drawn_as_is text.now ≡ true }
+#[inline]
+pub fn is_drawn_as_is(text: &str) -> bool {
+    front_width(text.as_bytes(), AS_IS) == text.len()
+}
+
+/// Returns `true` only if each part of a text without ASCII is drawn as it is. For some texts of
+/// which that holds it returns `false`.
+// ensures { IsTrue result → list_all is_ascii_or_as_is text.now ≡ true }
+#[inline]
+pub fn is_ascii_or_as_is(text: &str) -> bool {
+    front_width(text.as_bytes(), BEYOND_ASCII) == text.len()
 }

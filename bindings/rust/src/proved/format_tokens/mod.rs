@@ -11,4 +11,5 @@ pub(crate) mod places;
 pub(crate) mod walk;
 
 pub use kinds::{Kind, Token};
-pub use lexer::tokens;
+pub use lexer::{placed, tokens};
+pub use walk::label;

@@ -68,7 +68,7 @@ fn mark(marks: &mut Vec<bool>, index: usize) -> Result<(), AllocError> {
 #[inline]
 pub fn insert_index(set: &mut Indices, index: usize) -> Result<(), AllocError> {
     let is_new = if index.saturating_sub(set.marks.len()) >= GAP {
-        set.others.try_insert(index)?
+        set.others.insert_in(index)?
     } else if has_index(set, index) {
         false
     } else {

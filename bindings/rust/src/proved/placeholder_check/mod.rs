@@ -10,4 +10,5 @@ pub(crate) mod indices;
 pub(crate) mod names;
 pub(crate) mod uses;
 
-pub use checker::{check, Report};
+pub use checker::{check, check_uses, Report};
+pub use uses::Uses;

@@ -69,7 +69,7 @@ pub fn has_name<'a>(names: &Names<'a>, name: &'a str) -> bool {
 //     ≡ (bytes_eq t (chars name.now) || has_text set.old t)) }
 #[inline]
 fn insert_later<'a>(set: &mut BTreeSet<&'a str>, name: &'a str) -> Result<(), AllocError> {
-    set.try_insert(name)?;
+    set.insert_in(name)?;
     Ok(())
 }
 

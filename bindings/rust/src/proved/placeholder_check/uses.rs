@@ -28,6 +28,16 @@ impl<'a> Uses<'a> {
             names: no_names(alloc),
         }
     }
+
+    /// Adds the arguments that a placeholder uses: by its position, its width and its precision, in
+    /// this order. Returns `Err` if an allocation fails; the first of them may then be added.
+    // ensures { OnOk result ((us : List Use) → Holds us self.old
+    //     → Holds (us ++ argument_uses (seen_argument argument.now)) self.new) }
+    #[inline]
+    pub fn add(&mut self, argument: &Argument<'a>) -> Result<(), AllocError> {
+        add_argument(self, argument)?;
+        Ok(())
+    }
 }
 
 /// Adds a use of an index. Returns `Err` if an allocation fails.

@@ -175,6 +175,17 @@ pub fn behind_run(text: &str, class: Class) -> &str {
     &text[width..]
 }
 
+/// Splits a text behind the longest prefix of characters in the class. The class has all characters
+/// outside ASCII, so the bytes alone show where the prefix ends.
+// requires { IsOfAscii (passes class) }
+// ensures front { chars result.0.now ≡ front (passes class) (chars text.now) }
+// ensures rest { chars result.1.now ≡ behind (passes class) (chars text.now) }
+#[inline(always)]
+pub fn split_run(text: &str, class: Class) -> (&str, &str) {
+    let width = run_width(text.as_bytes(), class);
+    text.split_at(width)
+}
+
 /// Returns what is left after the longest prefix of characters in the class.
 // ensures rest { chars result.now ≡ behind (passes class) (chars text.now) }
 // ensures left { (input : List ℕ) → IsLeft input text.now → IsLeft input result.now }

@@ -4,8 +4,10 @@
 // That source is proved, and each contract here is its. That this text means the same is tested:
 // by results from outside, and beside what is proved (.ci/bindings) and the original (tools/agree).
 
+use crate::proved::rustc_parse_format::faults::Fault;
+use crate::proved::rustc_parse_format::messages::tell;
 use crate::proved::rustc_parse_format::types::{ParseError, Suggestion};
-use crate::shim::alloc::Global;
+use crate::shim::alloc::{AllocError, Global};
 use crate::shim::prelude::*;
 
 /// Returns an error whose texts are empty. Does not allocate.
@@ -19,5 +21,17 @@ pub fn empty_error(alloc: Global) -> ParseError {
         span: 0..0,
         secondary_label: None,
         suggestion: Suggestion::None,
+    }
+}
+
+impl Fault<'_> {
+    /// Returns the error of the fault, as a parser has it in its list. Returns `Err` if an
+    /// allocation fails.
+    // ensures { IfOk result (λ e. seen_error e ≡ message (seen_fault self.now)) }
+    #[inline]
+    pub fn error(&self, alloc: Global) -> Result<ParseError, AllocError> {
+        let mut error = empty_error(alloc);
+        tell(alloc, &mut error, self)?;
+        Ok(error)
     }
 }

@@ -9,11 +9,28 @@
 use crate::shim::prelude::*;
 pub(crate) mod rest;
 pub(crate) mod unit;
+
+use crate::proved::rustc_parse_format::characters::Class;
 use crate::shim::alloc::{AllocError, Global};
 pub(crate) use rest::Rest;
 use std::ops::Range;
 use unit::byte_escape;
 pub(crate) use unit::{is_newline_escape, read_unit};
+
+/// Returns the character that the first unit of a content stands for, and what is left after the
+/// unit. The character is `None` for a string continuation, which stands for nothing. Returns
+/// `None` if the text begins with no unit: it is empty or begins with a quote, a CR or a wrong
+/// escape.
+///
+/// The rule is that of string literals in the Rust Reference. Does not allocate.
+// ensures { option_map (λ x. (at_most_one x.0, chars x.1.now)) result
+//     ≡ meaning (unit_at (chars content.now)) }
+#[inline]
+pub fn split_first_unit(content: &str) -> Option<(Option<char>, &str)> {
+    let mut rest = Rest::new(content);
+    let value = read_unit(&mut rest)?;
+    Some((value, rest.text()))
+}
 
 /// Returns the characters that a content stands for, each with its byte range in the content, or
 /// `None` if the text is no content, as `placed` computes them. Returns `Err` if an allocation
@@ -67,6 +84,70 @@ pub fn read_content(
     content: &str,
 ) -> Result<Option<Vec<(Range<usize>, char)>>, AllocError> {
     read_characters(alloc, content)
+}
+
+/// Appends the plain characters that come next to a text. Returns `Err` if an allocation fails.
+// ensures text { OnOk result (chars (string_bytes text.new)
+//     ≡ chars (string_bytes text.old) ++ front is_plain rest.old) }
+// ensures rest { rest.new ≡ behind is_plain rest.old }
+// ensures empty { rest.old ≡ [] → IsOk result }
+#[inline(always)]
+fn put_plain(text: &mut String, rest: &mut Rest<'_>) -> Result<(), AllocError> {
+    let plain = rest.take_run(Class::Plain);
+    if !plain.is_empty() {
+        text.try_push_str(plain)?;
+    }
+    Ok(())
+}
+
+/// Appends a character to a text. Returns `Err` if an allocation fails.
+// ensures { OnOk result (chars (string_bytes text.new) ≡ chars (string_bytes text.old)
+//     ++ c ∷ []) }
+#[inline(always)]
+fn put_char(text: &mut String, c: char) -> Result<(), AllocError> {
+    text.try_push(c)?;
+    Ok(())
+}
+
+/// The most bytes that a text gets room for before any of it is read.
+const FIRST_ROOM: usize = 4096;
+
+/// Gives back the room that a text does not need, if it needs less than half of it.
+// ensures { string_bytes text.new ≡ string_bytes text.old }
+#[inline]
+fn shrink(text: &mut String) {
+    if text.len() < text.capacity() / 2 {
+        text.shrink_to_fit();
+    }
+}
+
+/// Returns the text that the content of an ordinary string literal stands for: the characters that
+/// [`read_content`] returns, without their byte ranges. Returns `None` if the text is not the
+/// content of such a literal.
+///
+/// The text is allocated with `alloc`: returns `Err` if an allocation fails. For an empty content
+/// it always returns `Ok`.
+// ensures found { IfOk result (λ o. IfSome o (λ s. (us : List LiteralUnit)
+//     × IsOnlyContent (chars content.now) us × (content_value us ≡ chars (string_bytes s)))) }
+// ensures none { IfOk result (λ o. IfNone o (IsNoContent (chars content.now))) }
+// ensures empty { content.now ≡ [] → IsOk result }
+#[inline]
+pub fn content_text(alloc: Global, content: &str) -> Result<Option<String>, AllocError> {
+    // no unit is shorter than what it stands for; a longer content may be refused at its start
+    let mut text = String::made_for(alloc, content.len().min(FIRST_ROOM))?;
+    let mut rest = Rest::new(content);
+    put_plain(&mut text, &mut rest)?;
+    while !rest.is_empty() {
+        let Some(value) = read_unit(&mut rest) else {
+            return Ok(None);
+        };
+        if let Some(c) = value {
+            put_char(&mut text, c)?;
+        }
+        put_plain(&mut text, &mut rest)?;
+    }
+    shrink(&mut text);
+    Ok(Some(text))
 }
 
 /// Returns the text before the newline at its end, or `None` if the text does not end with one.

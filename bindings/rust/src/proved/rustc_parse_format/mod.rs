@@ -47,3 +47,5 @@ pub use types::{
     Alignment, Argument, Count, DebugHex, FormatSpec, ParseError, ParseMode, Piece, Position, Sign,
     Suggestion, Taken,
 };
+#[doc(hidden)]
+pub use written::{put_all_written, put_written};

@@ -5,7 +5,7 @@
 // by results from outside, and beside what is proved (.ci/bindings) and the original (tools/agree).
 
 use crate::proved::rustc_parse_format::blocks::plain_front;
-use crate::proved::rustc_parse_format::characters::{behind_first, first};
+use crate::proved::rustc_parse_format::characters::{behind_first, first, split_run, Class};
 use crate::shim::prelude::*;
 
 /// What is left of a text.
@@ -88,6 +88,18 @@ impl<'a> Rest<'a> {
             }
             None => false,
         }
+    }
+
+    /// Consumes and returns the characters in the class that come next. The class has all
+    /// characters outside ASCII.
+    // requires { IsOfAscii (passes class) }
+    // ensures run { chars result.now ≡ front (passes class) self.old }
+    // ensures rest { self.new ≡ behind (passes class) self.old }
+    #[inline(always)]
+    pub fn take_run(&mut self, class: Class) -> &'a str {
+        let (run, rest) = split_run(self.text, class);
+        self.text = rest;
+        run
     }
 
     /// Skips in both texts the plain characters with which they go on alike.

@@ -1,0 +1,18 @@
+//! The programs `formatread` and `formatlint`, which `cargo install` makes of this crate: with the
+//! arguments, the streams, the files and the environment of the process they do what the proved
+//! programs do.
+use crate::proved::formatlint::main as formatlint_in;
+use crate::proved::formatread::main as formatread_in;
+use crate::shim::host::HostRuntime;
+use std::process::ExitCode;
+
+/// Runs the program that lists the pieces and the faults of a format string, and returns its exit
+/// status.
+pub fn formatread() -> ExitCode {
+    formatread_in(HostRuntime)
+}
+
+/// Runs the program that tells and draws the faults of format strings, and returns its exit status.
+pub fn formatlint() -> ExitCode {
+    formatlint_in(HostRuntime)
+}

@@ -1,0 +1,168 @@
+//! The list of arguments of a call.
+
+// Extracted from crates/call_faults/src/arguments.rt by tools/extract: not to be edited.
+// That source is proved, and each contract here is its. That this text means the same is tested:
+// by results from outside, and beside what is proved (.ci/bindings) and the original (tools/agree).
+
+use crate::proved::call_faults::faults::CallFault;
+use crate::shim::alloc::{AllocError, Global};
+use crate::shim::prelude::*;
+use std::collections::BTreeMap;
+
+/// An argument of a call, as far as its placeholders can tell it from others.
+#[derive(Clone, Copy)]
+pub struct Given<'a> {
+    /// Its name, without the `r#` of a raw identifier, as `a` in `a = 1`.
+    pub name: Option<&'a str>,
+    /// The variable that it is, without `r#`, as `a` in `println!("{}", a)`. `None` if it is any
+    /// other expression.
+    pub variable: Option<&'a str>,
+}
+
+/// An argument that counts, since its name is not that of an earlier one.
+#[derive(Clone, Copy)]
+pub(crate) struct Kept<'a> {
+    /// Its index among all that are given.
+    pub index: usize,
+    pub given: Given<'a>,
+}
+
+/// The arguments that count.
+pub(crate) struct Arguments<'a> {
+    pub list: Vec<Kept<'a>>,
+    /// The index of the argument with each name, among all that are given.
+    pub indices: BTreeMap<&'a str, usize>,
+    /// Whether any has a name.
+    pub has_names: bool,
+}
+
+/// Returns no arguments. Does not allocate.
+// ensures { Holds [] result }
+#[inline]
+pub(crate) fn no_arguments<'a>(alloc: Global) -> Arguments<'a> {
+    Arguments {
+        list: Vec::made_in(alloc),
+        indices: BTreeMap::made_in(alloc),
+        has_names: false,
+    }
+}
+
+/// Returns the index that a map has for a name, or `None` if it has none.
+// ensures { result ≡ found_in indices.now (chars name.now) }
+#[inline]
+pub(crate) fn index_of<'a>(indices: &BTreeMap<&'a str, usize>, name: &'a str) -> Option<usize> {
+    indices.get(&name).copied()
+}
+
+/// Puts a name into a map that does not have it. Returns `Err` if an allocation fails.
+// ensures { OnOk result ((w : Text) → found_in indices.new w
+//     ≡ (if bytes_eq w (chars name.now) then Some index else found_in indices.old w)) }
+#[inline]
+pub(crate) fn insert<'a>(
+    indices: &mut BTreeMap<&'a str, usize>,
+    name: &'a str,
+    index: usize,
+) -> Result<(), AllocError> {
+    indices.insert_in(name, index)?;
+    Ok(())
+}
+
+/// Returns the index of the argument with the name that an argument has, or `None` if it has none
+/// or there is none.
+// ensures { (ks : List KeptValue) → Holds ks arguments.now
+//     → result ≡ first_of ks (seen_given given.now) }
+#[inline]
+fn first_of<'a>(arguments: &Arguments<'a>, given: &Given<'a>) -> Option<usize> {
+    match given.name {
+        None => None,
+        Some(name) => index_of(&arguments.indices, name),
+    }
+}
+
+/// Adds an argument to those that count. Returns `Err` if an allocation fails.
+// ensures { OnOk result ((ks : List KeptValue) → Holds ks arguments.old
+//     → first_of ks (seen_given given.entry) ≡ None
+//     → Holds (ks ++ record { index = index; given = seen_given given.entry } ∷ [])
+//     arguments.new) }
+#[inline]
+fn keep<'a>(
+    arguments: &mut Arguments<'a>,
+    index: usize,
+    given: Given<'a>,
+) -> Result<(), AllocError> {
+    if let Some(name) = given.name {
+        insert(&mut arguments.indices, name, index)?;
+        arguments.has_names = true;
+    }
+    arguments.list.try_push(Kept { index, given })?;
+    Ok(())
+}
+
+/// Adds an argument to those that count, unless an earlier one has its name, which is then a fault.
+/// Returns `Err` if an allocation fails.
+// ensures kept { OnOk result ((ks : List KeptValue) → Holds ks arguments.old
+//     → Holds (with_given ks index (seen_given given.entry)) arguments.new) }
+// ensures told { OnOk result ((ks : List KeptValue) → Holds ks arguments.old
+//     → map seen_fault faults.new.items ≡ map seen_fault faults.old.items
+//     ++ repeated index (first_of ks (seen_given given.entry))) }
+#[inline]
+fn add<'a>(
+    arguments: &mut Arguments<'a>,
+    faults: &mut Vec<CallFault<'a>>,
+    index: usize,
+    given: Given<'a>,
+) -> Result<(), AllocError> {
+    match first_of(arguments, &given) {
+        Some(first) => faults.try_push(CallFault::RepeatedName { index, first })?,
+        None => keep(arguments, index, given)?,
+    }
+    Ok(())
+}
+
+/// Returns whether an argument has no name, although one that counts has one.
+// ensures { (ks : List KeptValue) → Holds ks arguments.now
+//     → result ≡ is_late ks (seen_given given.now) }
+#[inline]
+fn is_late<'a>(arguments: &Arguments<'a>, given: &Given<'a>) -> bool {
+    given.name.is_none() && arguments.has_names
+}
+
+/// Returns the indices of those of arguments that have a name. Returns `Err` if an allocation
+/// fails.
+// ensures { IfOk result (λ v. v.items ≡ named_of (map seen_kept list.now)) }
+#[inline]
+fn named_of(alloc: Global, list: &[Kept<'_>]) -> Result<Vec<usize>, AllocError> {
+    let mut named = Vec::made_in(alloc);
+    for kept in list {
+        if kept.given.name.is_some() {
+            named.try_push(kept.index)?;
+        }
+    }
+    Ok(named)
+}
+
+/// Returns the arguments that count, or `None` if the first one without a name behind one with a
+/// name ends the list. Adds the faults of the list. Returns `Err` if an allocation fails.
+// ensures told { OnOk result (map seen_fault faults.new.items ≡ map seen_fault faults.old.items
+//     ++ list_faults [] 0 (map seen_given given.now)) }
+// ensures some { IfOk result (λ o. IfSome o (λ a.
+//     Holds (kept_after [] 0 (map seen_given given.now)) a)) }
+// ensures ends { IfOk result (λ o.
+//     list_any is_last (list_faults [] 0 (map seen_given given.now)) ≡ not (is_some o)) }
+#[inline]
+pub(crate) fn arguments_of<'a>(
+    alloc: Global,
+    faults: &mut Vec<CallFault<'a>>,
+    given: &[Given<'a>],
+) -> Result<Option<Arguments<'a>>, AllocError> {
+    let mut arguments = no_arguments(alloc);
+    for (index, argument) in given.iter().enumerate() {
+        if is_late(&arguments, argument) {
+            let named = named_of(alloc, &arguments.list)?;
+            faults.try_push(CallFault::PositionalAfterNamed { index, named })?;
+            return Ok(None);
+        }
+        add(&mut arguments, faults, index, *argument)?;
+    }
+    Ok(Some(arguments))
+}

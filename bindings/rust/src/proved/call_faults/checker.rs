@@ -1,0 +1,164 @@
+//! What is wrong with a call.
+
+// Extracted from crates/call_faults/src/checker.rt by tools/extract: not to be edited.
+// That source is proved, and each contract here is its. That this text means the same is tested:
+// by results from outside, and beside what is proved (.ci/bindings) and the original (tools/agree).
+
+use crate::proved::call_faults::arguments::{arguments_of, Given};
+use crate::proved::call_faults::compared::{compare, indices_of};
+use crate::proved::call_faults::faults::CallFault;
+use crate::proved::call_faults::lookups::lookups_of;
+use crate::proved::call_faults::text::text_fault;
+use crate::proved::rustc_parse_format::{Fault, ParseMode, Piece};
+use crate::shim::alloc::{AllocError, Global};
+use crate::shim::parser::{read_all, Parser};
+use crate::shim::prelude::*;
+
+/// The format string of a call.
+#[derive(Clone, Copy)]
+pub struct FormatString<'a> {
+    /// The text that it stands for.
+    pub text: &'a str,
+    /// `None` for an ordinary literal, and `Some` of the number of hashes for a raw one.
+    pub style: Option<usize>,
+    /// The literal as it is in the source, if it is known.
+    pub snippet: Option<&'a str>,
+    /// Whether the text ends in a newline that the source does not have, as that of `println!`.
+    pub appended_newline: bool,
+    /// Whether a name that no argument has is a variable, as it is where the literal stands in the
+    /// call itself.
+    pub captures: bool,
+}
+
+/// A call that was checked.
+pub struct Checked<'a> {
+    /// The arguments that are given.
+    pub given: &'a [Given<'a>],
+    /// The indices of the arguments that count: of those whose name is not that of an earlier one.
+    /// Empty if an argument without a name behind one with a name ended the check.
+    pub kept: Vec<usize>,
+    /// The pieces of the format string.
+    pub pieces: Vec<Piece<'a>>,
+    /// The parser after them, which has the places of the placeholders.
+    pub parser: Parser<'a>,
+    /// What is wrong, in the order in which rustc tells it.
+    pub faults: Vec<CallFault<'a>>,
+}
+
+/// Returns a text as a string. Returns `Err` if an allocation fails.
+// ensures { IfOk result (λ o. seen_snippet o ≡ option_map seen_text text.entry) }
+#[inline]
+fn owned(alloc: Global, text: Option<&str>) -> Result<Option<String>, AllocError> {
+    match text {
+        None => Ok(None),
+        Some(text) => Ok(Some(String::made_from(alloc, text)?)),
+    }
+}
+
+/// Returns the fault of a format string that rustc shows, or `None` if it is in the grammar.
+/// Returns `Err` if an allocation fails.
+// requires { hashes string.style + length string.text.now + 2 < 2 ^ 64 }
+// ensures { IfOk result (λ o. option_map seen_text_fault o ≡ text_fault (start string.entry)) }
+#[inline]
+fn fault_of<'a>(alloc: Global, string: FormatString<'a>) -> Result<Option<Fault<'a>>, AllocError> {
+    let snippet = owned(alloc, string.snippet)?;
+    let mut parser = Parser::new(
+        alloc,
+        string.text,
+        string.style,
+        snippet,
+        string.appended_newline,
+        ParseMode::Format,
+    )?;
+    let fault = text_fault(alloc, &mut parser)?;
+    Ok(fault)
+}
+
+/// Returns what is wrong with a call whose format string has these pieces, and puts the indices of
+/// the arguments that count into `kept`. `is_read` is whether the string is in the grammar. Returns
+/// `Err` if an allocation fails.
+// requires { hashes string.style + length string.text.now + 2 < 2 ^ 64 }
+// ensures kept { OnOk result (kept.old.items ≡ []
+//     → kept.new.items ≡ kept_indices (map seen_given given.now)) }
+// ensures faults { IfOk result (λ v. is_none (text_fault (start string.entry)) ≡ is_read
+//     → map seen_fault v.items ≡ call_faults string.entry.captures (map seen_given given.now)
+//     (text_fault (start string.entry)) (map seen pieces.now)) }
+#[inline]
+fn faults_of<'a>(
+    alloc: Global,
+    string: FormatString<'a>,
+    is_read: bool,
+    pieces: &[Piece<'a>],
+    given: &[Given<'a>],
+    kept: &mut Vec<usize>,
+) -> Result<Vec<CallFault<'a>>, AllocError> {
+    let mut faults = Vec::made_in(alloc);
+    let Some(mut arguments) = arguments_of(alloc, &mut faults, given)? else {
+        return Ok(faults);
+    };
+    *kept = indices_of(alloc, &arguments.list)?;
+    if !is_read {
+        if let Some(fault) = fault_of(alloc, string)? {
+            faults.try_push(CallFault::Text(fault))?;
+        }
+        return Ok(faults);
+    }
+    let lookups = lookups_of(alloc, pieces)?;
+    compare(
+        alloc,
+        &mut faults,
+        string.captures,
+        &mut arguments,
+        given.len(),
+        &lookups,
+    )?;
+    Ok(faults)
+}
+
+/// Checks a call of a macro that takes a format string: reads the string, compares its placeholders
+/// with the arguments that are given, in the order of the source, and returns its pieces and what
+/// is wrong, as rustc tells it. A placeholder's spans are those of the parser.
+///
+/// The number of hashes, the length of the text in bytes, and 2 must together fit into a `usize`.
+/// Returns `Err` if an allocation fails.
+// requires { hashes string.style + length string.text.now + 2 < 2 ^ 64 }
+// The pieces and the parser are those of the calls of a parser at the start of the string, and
+// the faults are those that the definition names, in its order.
+// ensures walk { IfOk result (λ x. let s = start string.entry in
+//     (map seen x.pieces.items ≡ pieces_in s.world (pieces_of (calls s)))
+//     × (x.parser ≡ after_all s (calls s))) }
+// ensures given { IfOk result (λ x. x.given ≡ given.entry) }
+// ensures kept { IfOk result (λ x. x.kept.items ≡ kept_indices (map seen_given given.now)) }
+// ensures faults { IfOk result (λ x. map seen_fault x.faults.items
+//     ≡ call_faults string.entry.captures (map seen_given given.now)
+//     (text_fault (start string.entry)) (map seen x.pieces.items)) }
+// Nothing but warnings is found exactly if the call is clean.
+// ensures clean { IfOk result (λ x. All (λ f. IsTrue (is_warning f)) (map seen_fault
+//     x.faults.items)
+//     ↔ IsClean string.entry.captures (map seen_given given.now) (chars string.entry.text.now)) }
+#[inline]
+pub fn call_faults<'a>(
+    alloc: Global,
+    string: FormatString<'a>,
+    given: &'a [Given<'a>],
+) -> Result<Checked<'a>, AllocError> {
+    let snippet = owned(alloc, string.snippet)?;
+    let (pieces, parser) = read_all(
+        alloc,
+        string.text,
+        string.style,
+        snippet,
+        string.appended_newline,
+        ParseMode::Format,
+    )?;
+    let is_read = parser.errors().is_empty();
+    let mut kept = Vec::made_in(alloc);
+    let faults = faults_of(alloc, string, is_read, &pieces, given, &mut kept)?;
+    Ok(Checked {
+        given,
+        kept,
+        pieces,
+        parser,
+        faults,
+    })
+}

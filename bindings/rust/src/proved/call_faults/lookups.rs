@@ -1,0 +1,132 @@
+//! What is looked up for the placeholders of a format string, in rustc's order.
+
+// Extracted from crates/call_faults/src/lookups.rt by tools/extract: not to be edited.
+// That source is proved, and each contract here is its. That this text means the same is tested:
+// by results from outside, and beside what is proved (.ci/bindings) and the original (tools/agree).
+
+use crate::proved::call_faults::faults::{Part, Reference};
+use crate::proved::rustc_parse_format::{Argument, Count, Piece, Position};
+use crate::shim::alloc::{AllocError, Global};
+use crate::shim::prelude::*;
+
+/// The argument that a reference wants.
+#[derive(Clone, Copy)]
+pub(crate) enum Wanted<'a> {
+    /// The one of this index.
+    Index(usize),
+    /// The one with this name.
+    Name(&'a str),
+}
+
+/// What is looked up for a placeholder.
+#[derive(Clone, Copy)]
+pub(crate) enum Lookup<'a> {
+    /// An argument.
+    Refer(Reference, Wanted<'a>),
+    /// A trait that does not exist, for the placeholder of this index with this type.
+    NoTrait(usize, &'a str),
+}
+
+/// Returns what a position wants.
+// ensures { seen_use result ≡ position_use (seen_position position.now) }
+#[inline]
+fn wanted_by<'a>(position: &Position<'a>) -> Wanted<'a> {
+    match position {
+        Position::ArgumentImplicitlyIs(n) | Position::ArgumentIs(n) => Wanted::Index(*n),
+        Position::ArgumentNamed(name) => Wanted::Name(name),
+    }
+}
+
+/// Adds the reference of a precision or of a width, if it is one. Returns `Err` if an allocation
+/// fails.
+// ensures { OnOk result (map seen_lookup list.new.items ≡ map seen_lookup list.old.items
+//     ++ refer reference.piece reference.part (count_uses (seen_count count.now))) }
+#[inline]
+fn push_count<'a>(
+    list: &mut Vec<Lookup<'a>>,
+    reference: Reference,
+    count: &Count<'a>,
+) -> Result<(), AllocError> {
+    match count {
+        Count::CountIsParam(n) | Count::CountIsStar(n) => {
+            list.try_push(Lookup::Refer(reference, Wanted::Index(*n)))?;
+        }
+        Count::CountIsName(name, _) => {
+            list.try_push(Lookup::Refer(reference, Wanted::Name(name)))?;
+        }
+        Count::CountIs(_) | Count::CountImplied => {}
+    }
+    Ok(())
+}
+
+/// Returns whether a character is a type that names a trait.
+// ensures { result ≡ list_any (λ d. c == d) (codes "?oxXpbeE") }
+#[inline]
+fn names_trait(c: char) -> bool {
+    matches!(c, '?' | 'o' | 'x' | 'X' | 'p' | 'b' | 'e' | 'E')
+}
+
+/// Returns whether the type of a format specification names a trait.
+// ensures { result ≡ is_known (chars ty.now) }
+#[inline]
+fn is_known(ty: &str) -> bool {
+    let mut characters = ty.chars();
+    match characters.next() {
+        None => true,
+        Some(c) => names_trait(c) && characters.next().is_none(),
+    }
+}
+
+/// Adds what is looked up for a placeholder. Returns `Err` if an allocation fails.
+// ensures { OnOk result (map seen_lookup list.new.items ≡ map seen_lookup list.old.items
+//     ++ argument_lookups piece (seen_argument argument.now)) }
+#[inline]
+fn push_argument<'a>(
+    list: &mut Vec<Lookup<'a>>,
+    piece: usize,
+    argument: &Argument<'a>,
+) -> Result<(), AllocError> {
+    let part = Part::Position;
+    list.try_push(Lookup::Refer(
+        Reference { piece, part },
+        wanted_by(&argument.position),
+    ))?;
+    let ty = argument.format.ty;
+    if !is_known(ty) {
+        list.try_push(Lookup::NoTrait(piece, ty))?;
+    }
+    let part = Part::Precision;
+    push_count(list, Reference { piece, part }, &argument.format.precision)?;
+    let part = Part::Width;
+    push_count(list, Reference { piece, part }, &argument.format.width)?;
+    Ok(())
+}
+
+/// Adds what is looked up for a piece. Returns `Err` if an allocation fails.
+// ensures { OnOk result (map seen_lookup list.new.items ≡ map seen_lookup list.old.items
+//     ++ piece_lookups index (seen piece.now)) }
+#[inline]
+fn push_piece<'a>(
+    list: &mut Vec<Lookup<'a>>,
+    index: usize,
+    piece: &Piece<'a>,
+) -> Result<(), AllocError> {
+    match piece {
+        Piece::Lit(_) => Ok(()),
+        Piece::NextArgument(argument) => push_argument(list, index, argument),
+    }
+}
+
+/// Returns what is looked up for pieces. Returns `Err` if an allocation fails.
+// ensures { IfOk result (λ v. map seen_lookup v.items ≡ lookups_from 0 (map seen pieces.now)) }
+#[inline]
+pub(crate) fn lookups_of<'a>(
+    alloc: Global,
+    pieces: &[Piece<'a>],
+) -> Result<Vec<Lookup<'a>>, AllocError> {
+    let mut list = Vec::made_in(alloc);
+    for (index, piece) in pieces.iter().enumerate() {
+        push_piece(&mut list, index, piece)?;
+    }
+    Ok(list)
+}

@@ -1,0 +1,17 @@
+//! What is wrong with a format string and the arguments of its call, as rustc tells it.
+
+// Extracted from crates/call_faults/src/lib.rt by tools/extract: not to be edited.
+// That source is proved, and each contract here is its. That this text means the same is tested:
+// by results from outside, and beside what is proved (.ci/bindings) and the original (tools/agree).
+
+pub(crate) mod arguments;
+pub(crate) mod checker;
+pub(crate) mod compared;
+pub(crate) mod faults;
+pub(crate) mod lookups;
+pub(crate) mod text;
+pub(crate) mod titles;
+
+pub use arguments::Given;
+pub use checker::{call_faults, Checked, FormatString};
+pub use faults::{CallFault, Missing, Part, Reference};

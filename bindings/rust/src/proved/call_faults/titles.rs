@@ -1,0 +1,308 @@
+//! The ids and the titles of faults, in rustc's words. What begins with `put_` appends to `out`,
+//! and returns `Err` if an allocation fails.
+
+// Extracted from crates/call_faults/src/titles.rt by tools/extract: not to be edited.
+// That source is proved, and each contract here is its. That this text means the same is tested:
+// by results from outside, and beside what is proved (.ci/bindings) and the original (tools/agree).
+
+use crate::proved::call_faults::arguments::Given;
+use crate::proved::call_faults::checker::Checked;
+use crate::proved::call_faults::faults::CallFault;
+use crate::proved::placeholder_check::check;
+use crate::proved::rustc_parse_format::{Count, Fault, Piece, Position};
+use crate::shim::alloc::{AllocError, Global};
+use crate::shim::itoa::Buffer;
+use crate::shim::prelude::*;
+
+impl CallFault<'_> {
+    /// Returns the id of the fault in kebab case, as `unused-argument`: the same for all faults of
+    /// a kind. That of a fault of the format string is the id of [`Fault`]. Does not allocate.
+    // ensures { result.now ≡ call_id (seen_fault self.now) }
+    #[inline]
+    pub fn id(&self) -> &'static str {
+        match self {
+            CallFault::PositionalAfterNamed { .. } => "positional-after-named",
+            CallFault::RepeatedName { .. } => "repeated-name",
+            CallFault::Text(fault) => fault.id(),
+            CallFault::MissingName { .. } => "missing-name",
+            CallFault::UnknownTrait { .. } => "unknown-trait",
+            CallFault::MissingArguments(_) => "missing-argument",
+            CallFault::UnusedArguments(_) => "unused-argument",
+            CallFault::RedundantArguments(_) => "redundant-argument",
+            CallFault::NameUsedByIndex { .. } => "name-used-by-index",
+        }
+    }
+}
+
+/// Adds a number in decimal digits.
+// ensures { OnOk result (string_bytes out.new ≡ string_bytes out.old ++ decimal number) }
+#[inline]
+fn put_number(out: &mut String, number: usize) -> Result<(), AllocError> {
+    let mut digits = Buffer::new();
+    out.try_push_str(digits.format(number))?;
+    Ok(())
+}
+
+/// Adds how many arguments are given.
+// ensures { OnOk result (string_bytes out.new ≡ string_bytes out.old ++ count_text count) }
+#[inline]
+fn put_count(out: &mut String, count: usize) -> Result<(), AllocError> {
+    if count == 0 {
+        out.try_push_str("no arguments were given")?;
+        return Ok(());
+    }
+    if count == 1 {
+        out.try_push_str("there is 1 argument")?;
+        return Ok(());
+    }
+    out.try_push_str("there are ")?;
+    put_number(out, count)?;
+    out.try_push_str(" arguments")?;
+    Ok(())
+}
+
+/// Adds a noun, in the plural unless there is one.
+// ensures { OnOk result (string_bytes out.new ≡ string_bytes out.old ++ plural noun.now count) }
+#[inline]
+fn put_noun(out: &mut String, noun: &str, count: usize) -> Result<(), AllocError> {
+    out.try_push_str(noun)?;
+    if count != 1 {
+        out.try_push('s')?;
+    }
+    Ok(())
+}
+
+/// Adds what stands between a number and those behind it.
+// ensures { OnOk result (string_bytes out.new ≡ string_bytes out.old ++ separator others.now) }
+#[inline]
+fn put_separator(out: &mut String, others: &[usize]) -> Result<(), AllocError> {
+    match others {
+        [] => {}
+        [_] => out.try_push_str(" and ")?,
+        _ => out.try_push_str(", ")?,
+    }
+    Ok(())
+}
+
+/// Adds numbers one after the other.
+// ensures { OnOk result (string_bytes out.new ≡ string_bytes out.old ++ listed numbers.now) }
+#[inline]
+fn put_numbers(out: &mut String, numbers: &[usize]) -> Result<(), AllocError> {
+    let mut rest = numbers;
+    while let Some((first, others)) = rest.split_first() {
+        put_number(out, *first)?;
+        put_separator(out, others)?;
+        rest = others;
+    }
+    Ok(())
+}
+
+/// Adds a name between backquotes.
+// ensures { OnOk result (string_bytes out.new ≡ string_bytes out.old ++ quoted (chars name.now)) }
+#[inline]
+fn put_quoted(out: &mut String, name: &str) -> Result<(), AllocError> {
+    out.try_push('`')?;
+    out.try_push_str(name)?;
+    out.try_push('`')?;
+    Ok(())
+}
+
+/// Adds a text and a name between backquotes.
+// ensures { OnOk result (string_bytes out.new
+//     ≡ string_bytes out.old ++ (text.now ++ quoted (chars name.now))) }
+#[inline]
+fn put_named(out: &mut String, text: &str, name: &str) -> Result<(), AllocError> {
+    out.try_push_str(text)?;
+    put_quoted(out, name)?;
+    Ok(())
+}
+
+/// Adds the title of a name that is used by its index.
+// ensures { OnOk result (string_bytes out.new ≡ string_bytes out.old
+//     ++ (codes "named argument " ++ (quoted (chars name.now) ++ codes " is not used by name"))) }
+#[inline]
+fn put_by_index(out: &mut String, name: &str) -> Result<(), AllocError> {
+    put_named(out, "named argument ", name)?;
+    out.try_push_str(" is not used by name")?;
+    Ok(())
+}
+
+/// Returns whether a width or a precision is an argument by a number that is written.
+// ensures { result ≡ is_counted (seen_count count.now) }
+#[inline]
+fn is_counted(count: &Count<'_>) -> bool {
+    matches!(count, Count::CountIsParam(_))
+}
+
+/// Returns whether a position is a number that is written.
+// ensures { result ≡ is_number (seen_position position.now) }
+#[inline]
+fn is_number(position: &Position<'_>) -> bool {
+    matches!(position, Position::ArgumentIs(_))
+}
+
+/// Returns whether a piece refers to an argument by a number that is written.
+// ensures { result ≡ has_number (seen piece.now) }
+#[inline]
+fn has_number(piece: &Piece<'_>) -> bool {
+    match piece {
+        Piece::Lit(_) => false,
+        Piece::NextArgument(argument) => {
+            is_number(&argument.position)
+                || is_counted(&argument.format.width)
+                || is_counted(&argument.format.precision)
+        }
+    }
+}
+
+/// Returns whether pieces refer to an argument by a number that is written.
+// ensures { result ≡ list_any has_number (map seen pieces.now) }
+#[inline]
+fn have_numbers(pieces: &[Piece<'_>]) -> bool {
+    for piece in pieces {
+        if has_number(piece) {
+            return true;
+        }
+    }
+    false
+}
+
+/// Adds the title of numbers that are too large, where `count` arguments are given.
+// ensures { OnOk result (string_bytes out.new
+//     ≡ string_bytes out.old ++ numbers_title numbers.now count) }
+#[inline]
+fn put_numbers_title(out: &mut String, numbers: &[usize], count: usize) -> Result<(), AllocError> {
+    out.try_push_str("invalid reference to positional ")?;
+    put_noun(out, "argument", numbers.len())?;
+    out.try_push(' ')?;
+    put_numbers(out, numbers)?;
+    out.try_push_str(" (")?;
+    put_count(out, count)?;
+    out.try_push(')')?;
+    Ok(())
+}
+
+/// Adds the title of too few arguments, where `count` are given and the placeholders take `taken`.
+// ensures { OnOk result (string_bytes out.new ≡ string_bytes out.old ++ few_title taken count) }
+#[inline]
+fn put_few_title(out: &mut String, taken: usize, count: usize) -> Result<(), AllocError> {
+    put_number(out, taken)?;
+    put_noun(out, " positional argument", taken)?;
+    out.try_push_str(" in format string, but ")?;
+    put_count(out, count)?;
+    Ok(())
+}
+
+/// Returns the name of an argument, or an empty text if it has none.
+// ensures { chars result.now ≡ name_of (slice_get (map seen_given given.now) index) }
+#[inline]
+fn name_of<'a>(given: &[Given<'a>], index: usize) -> &'a str {
+    match given.get(index) {
+        Some(given) => match given.name {
+            Some(name) => name,
+            None => "",
+        },
+        None => "",
+    }
+}
+
+/// Returns whether an argument has a name.
+// ensures { result ≡ is_named (slice_get (map seen_given given.now) index) }
+#[inline]
+fn is_named(given: &[Given<'_>], index: usize) -> bool {
+    match given.get(index) {
+        Some(given) => given.name.is_some(),
+        None => false,
+    }
+}
+
+/// Returns the title of arguments that are not used.
+// ensures { result.now ≡ unused_title (map seen_given given.now) unused.now }
+#[inline]
+fn unused_title(given: &[Given<'_>], unused: &[usize]) -> &'static str {
+    match unused {
+        [index] => {
+            if is_named(given, *index) {
+                "named argument never used"
+            } else {
+                "argument never used"
+            }
+        }
+        _ => "multiple unused formatting arguments",
+    }
+}
+
+/// Adds the title of a fault of the format string.
+// ensures { OnOk result (string_bytes out.new ≡ string_bytes out.old
+//     ++ (codes "invalid format string: " ++ (message (seen_text_fault fault.now)).description)) }
+#[inline]
+fn put_text_title(alloc: Global, out: &mut String, fault: &Fault<'_>) -> Result<(), AllocError> {
+    let error = fault.error(alloc)?;
+    out.try_push_str("invalid format string: ")?;
+    out.try_push_str(&error.description)?;
+    Ok(())
+}
+
+/// Adds the title of missing arguments.
+// ensures { OnOk result ((r : Report) → IsReport (uses (map seen call.now.pieces.items))
+//     (length call.now.kept.items) [] r → string_bytes out.new ≡ string_bytes out.old
+//     ++ (if list_any has_number (map seen call.now.pieces.items)
+//     then numbers_title r.missing_index (length call.now.kept.items)
+//     else few_title call.now.parser.next (length call.now.kept.items))) }
+#[inline]
+fn put_missing(out: &mut String, call: &Checked<'_>) -> Result<(), AllocError> {
+    let count = call.kept.len();
+    if have_numbers(&call.pieces) {
+        let alloc = *call.pieces.own_allocator();
+        let report = check(alloc, &call.pieces, count, &[])?;
+        put_numbers_title(out, &report.missing_index, count)?;
+        return Ok(());
+    }
+    put_few_title(out, call.parser.curarg(), count)?;
+    Ok(())
+}
+
+impl<'a> Checked<'a> {
+    /// Adds the title of one of the faults to the end of `out`, as rustc has it. Returns `Err` if
+    /// an allocation fails; a part may then be at the end of `out`.
+    // ensures { OnOk result ((r : Report) → IsReport (uses (map seen self.now.pieces.items))
+    //     (length self.now.kept.items) [] r → string_bytes out.new ≡ string_bytes out.old
+    //     ++ title (told self.now r.missing_index) (seen_fault fault.now)) }
+    #[inline]
+    pub fn put_title(&self, out: &mut String, fault: &CallFault<'a>) -> Result<(), AllocError> {
+        match fault {
+            CallFault::PositionalAfterNamed { .. } => {
+                out.try_push_str("positional arguments cannot follow named arguments")?;
+                Ok(())
+            }
+            CallFault::RepeatedName { index, .. } => put_named(
+                out,
+                "duplicate argument named ",
+                name_of(self.given, *index),
+            ),
+            CallFault::Text(fault) => put_text_title(*self.pieces.own_allocator(), out, fault),
+            CallFault::MissingName { name, .. } => {
+                put_named(out, "there is no argument named ", name)?;
+                Ok(())
+            }
+            CallFault::UnknownTrait { ty, .. } => {
+                put_named(out, "unknown format trait ", ty)?;
+                Ok(())
+            }
+            CallFault::MissingArguments(_) => {
+                put_missing(out, self)?;
+                Ok(())
+            }
+            CallFault::UnusedArguments(unused) => {
+                out.try_push_str(unused_title(self.given, unused))?;
+                Ok(())
+            }
+            CallFault::RedundantArguments(redundant) => {
+                put_noun(out, "redundant argument", redundant.len())
+            }
+            CallFault::NameUsedByIndex { index, .. } => {
+                put_by_index(out, name_of(self.given, *index))
+            }
+        }
+    }
+}

@@ -1,0 +1,17 @@
+//! Calls of macros that take a format string, in Rust source text.
+
+// Extracted from crates/format_calls/src/lib.rt by tools/extract: not to be edited.
+// That source is proved, and each contract here is its. That this text means the same is tested:
+// by results from outside, and beside what is proved (.ci/bindings) and the original (tools/agree).
+
+pub(crate) mod listing;
+pub(crate) mod marks;
+pub(crate) mod modes;
+pub(crate) mod split;
+pub(crate) mod strings;
+pub(crate) mod table;
+
+pub use listing::calls;
+pub use split::{arguments, Argument};
+pub use strings::{format_string, Reason};
+pub use table::{Row, Rule, Table};

@@ -1,0 +1,191 @@
+//! Where a comma ends an argument.
+
+// Extracted from crates/format_calls/src/modes.rt by tools/extract: not to be edited.
+// That source is proved, and each contract here is its. That this text means the same is tested:
+// by results from outside, and beside what is proved (.ci/bindings) and the original (tools/agree).
+
+use crate::proved::format_calls::marks::{is_behind, is_mark, is_mark_of, is_word, token_at};
+use crate::proved::rust_tokens::Kind;
+use crate::proved::rust_trees::{Side, Token};
+
+/// What is read at a token of an argument.
+#[derive(Clone, Copy)]
+pub enum Mode {
+    /// The start of an expression, or of a type, where `true` stands: `<` opens a list in angles,
+    /// and `|` the parameters of a closure.
+    Start(bool),
+    /// An expression or a type goes on. Only in a type `<` opens a list in angles.
+    Within(bool),
+    /// The second character of `||` or `<<`.
+    Operator,
+    /// A list in this many angles.
+    Angles(usize),
+    /// The parameters of a closure.
+    Parameters,
+}
+
+/// Returns whether a token follows another without white space and comments.
+// ensures { result ≡ is_joint (leaf token.now) (leaf next.now) }
+#[inline]
+fn is_joint(token: &Token<'_>, next: &Token<'_>) -> bool {
+    token.start <= next.start && next.start - token.start == token.text.len()
+}
+
+/// Returns whether this character of punctuation follows a token without white space and comments.
+// ensures { result ≡ is_followed mark (map leaf tokens.now) index }
+#[inline]
+pub fn is_followed(tokens: &[Token<'_>], index: usize, mark: u8) -> bool {
+    match token_at(tokens, index) {
+        Some(token) => match token_at(tokens, index + 1) {
+            Some(next) => is_joint(&token, &next) && is_mark(tokens, index + 1, mark),
+            None => false,
+        },
+        None => false,
+    }
+}
+
+/// Returns whether `<` opens a list in angles where one may stand: it does not begin `<=`.
+// ensures { result ≡ opens_list (map leaf tokens.now) index }
+#[inline]
+fn opens_list(tokens: &[Token<'_>], index: usize) -> bool {
+    is_mark(tokens, index, b'<') && !is_followed(tokens, index, b'=')
+}
+
+/// Returns whether the token is the `>` of `->`.
+// ensures { result ≡ is_arrow (map leaf tokens.now) index }
+#[inline]
+fn is_arrow(tokens: &[Token<'_>], index: usize) -> bool {
+    is_mark(tokens, index, b'>')
+        && is_behind(tokens, index, b'-')
+        && is_followed(tokens, index - 1, b'>')
+}
+
+/// Returns whether `>` closes a list in angles: it is not the end of `->`.
+// ensures { result ≡ closes_list (map leaf tokens.now) index }
+#[inline]
+fn closes_list(tokens: &[Token<'_>], index: usize) -> bool {
+    is_mark(tokens, index, b'>') && !is_arrow(tokens, index)
+}
+
+/// Returns whether the token is the first character of `||` or `<<`.
+// ensures { result ≡ is_double (map leaf tokens.now) index }
+#[inline]
+fn is_double(tokens: &[Token<'_>], index: usize) -> bool {
+    is_mark(tokens, index, b'|') && is_followed(tokens, index, b'|')
+        || is_mark(tokens, index, b'<') && is_followed(tokens, index, b'<')
+}
+
+/// Returns whether the token is this word, and no raw one.
+// ensures { result ≡ is_text (leaf token.now) word.now }
+#[inline]
+fn is_text(token: &Token<'_>, word: &str) -> bool {
+    matches!(token.kind, Kind::Ident) && token.text == word
+}
+
+/// Returns whether the token is a keyword behind which an expression starts, or behind which a type
+/// goes on to start.
+// ensures { result ≡ is_keyword (leaf token.now) }
+#[inline]
+fn is_keyword(token: &Token<'_>) -> bool {
+    is_text(token, "async")
+        || is_text(token, "break")
+        || is_text(token, "const")
+        || is_text(token, "if")
+        || is_text(token, "in")
+        || is_text(token, "match")
+        || is_text(token, "move")
+        || is_text(token, "mut")
+        || is_text(token, "return")
+        || is_text(token, "static")
+        || is_text(token, "while")
+        || is_text(token, "yield")
+}
+
+/// Returns whether a type that starts at this token still starts behind it: it is `&`, `*`, a
+/// lifetime or a keyword.
+// ensures { result ≡ is_prefix (leaf token.now) }
+#[inline]
+fn is_prefix(token: &Token<'_>) -> bool {
+    is_mark_of(token, b'&')
+        || is_mark_of(token, b'*')
+        || matches!(token.kind, Kind::Lifetime)
+        || is_keyword(token)
+}
+
+/// Returns whether an expression starts behind the token: it is punctuation, but no delimiter and
+/// no `?`.
+// ensures { result ≡ is_operator (leaf token.now) }
+#[inline]
+fn is_operator(token: &Token<'_>) -> bool {
+    matches!(token.kind, Kind::Punct)
+        && matches!(token.side(), Side::Neither)
+        && !is_mark_of(token, b'?')
+}
+
+/// Returns what is read behind a token, at the start of an expression or of a type or not, and in a
+/// type or not.
+// ensures { result ≡ mode_behind (map leaf tokens.now) index
+//     (slice_get (map leaf tokens.now) index) is_start is_type }
+#[inline]
+fn mode_behind(tokens: &[Token<'_>], index: usize, is_start: bool, is_type: bool) -> Mode {
+    let Some(token) = token_at(tokens, index) else {
+        return Mode::Within(false);
+    };
+    if is_double(tokens, index) {
+        Mode::Operator
+    } else if is_text(&token, "as") || is_arrow(tokens, index) {
+        Mode::Start(true)
+    } else if is_mark_of(&token, b':') {
+        Mode::Start(is_type)
+    } else if is_prefix(&token) {
+        Mode::Start(is_start && is_type)
+    } else if is_operator(&token) {
+        Mode::Start(false)
+    } else {
+        Mode::Within(is_type && is_word(&token))
+    }
+}
+
+/// Returns what is read behind the tree at a token.
+// requires { depth_of mode + 1 < 2 ^ 64 }
+// ensures { result ≡ mode_after (map leaf tokens.now) index mode }
+#[inline]
+pub fn mode_after(tokens: &[Token<'_>], index: usize, mode: Mode) -> Mode {
+    match mode {
+        Mode::Start(is_type) => {
+            if opens_list(tokens, index) {
+                Mode::Angles(1)
+            } else if is_mark(tokens, index, b'|') {
+                Mode::Parameters
+            } else {
+                mode_behind(tokens, index, true, is_type)
+            }
+        }
+        Mode::Within(is_type) => {
+            if is_type && opens_list(tokens, index) {
+                Mode::Angles(1)
+            } else {
+                mode_behind(tokens, index, false, is_type)
+            }
+        }
+        Mode::Operator => Mode::Start(false),
+        Mode::Angles(depth) => {
+            if is_mark(tokens, index, b'<') {
+                Mode::Angles(depth + 1)
+            } else if !closes_list(tokens, index) {
+                Mode::Angles(depth)
+            } else if depth > 1 {
+                Mode::Angles(depth - 1)
+            } else {
+                Mode::Within(false)
+            }
+        }
+        Mode::Parameters => {
+            if is_mark(tokens, index, b'|') {
+                Mode::Start(false)
+            } else {
+                Mode::Parameters
+            }
+        }
+    }
+}

@@ -1,0 +1,133 @@
+//! The arguments of a call.
+
+// Extracted from crates/format_calls/src/split.rt by tools/extract: not to be edited.
+// That source is proved, and each contract here is its. That this text means the same is tested:
+// by results from outside, and beside what is proved (.ci/bindings) and the original (tools/agree).
+
+use crate::proved::format_calls::marks::{is_mark, is_word, token_at};
+use crate::proved::format_calls::modes::{is_followed, mode_after, Mode};
+use crate::proved::rust_trees::{Source, Token};
+use crate::shim::alloc::{AllocError, Global};
+use crate::shim::prelude::*;
+
+/// An argument of a call.
+#[derive(Clone, Copy)]
+pub struct Argument {
+    /// The index of the token where it starts.
+    pub start: usize,
+    /// The index of the token after it: a comma or the closing delimiter.
+    pub end: usize,
+    /// Whether it has a name: a word and `=` stand in front of its value.
+    pub is_named: bool,
+}
+
+/// Returns whether a comma at this token ends an argument.
+// ensures { result ≡ is_end (map leaf tokens.now) index mode }
+#[inline]
+fn is_end(tokens: &[Token<'_>], index: usize, mode: Mode) -> bool {
+    !matches!(mode, Mode::Angles(_) | Mode::Parameters) && is_mark(tokens, index, b',')
+}
+
+/// Returns whether an argument that starts at this token has a name.
+// ensures { result ≡ is_named (map leaf tokens.now) index }
+#[inline]
+fn is_named(tokens: &[Token<'_>], index: usize) -> bool {
+    match token_at(tokens, index) {
+        Some(token) => {
+            is_word(&token)
+                && is_mark(tokens, index + 1, b'=')
+                && !is_followed(tokens, index + 1, b'=')
+                && !is_followed(tokens, index + 1, b'>')
+        }
+        None => false,
+    }
+}
+
+/// Returns the token behind the tree at a token between two delimiters that are a pair.
+// requires { (o c : ℕ) × IsPair source.now o c × (o < index) × (index < c) × (c < 2 ^ 64) }
+// ensures { IsTree source.now index result }
+#[inline]
+fn behind_tree(source: &Source<'_>, index: usize) -> usize {
+    match source.partner(index) {
+        Some(close) => {
+            if close > index {
+                close + 1
+            } else {
+                index + 1
+            }
+        }
+        None => index + 1,
+    }
+}
+
+/// Returns the end of the argument that starts at a token between delimiters, of which `to` closes
+/// the pair.
+// requires pair { IsPair source.now opening to }
+// requires start { (opening < from) × (from ≤ to) }
+// ensures is_argument { IsArgument source.now from result to }
+// ensures within { (from ≤ result) × (result ≤ to) }
+#[inline]
+fn argument_end(source: &Source<'_>, opening: usize, from: usize, to: usize) -> usize {
+    let tokens = source.tokens();
+    let mut mode = Mode::Start(false);
+    let mut end = from;
+    while end < to && !is_end(tokens, end, mode) {
+        mode = mode_after(tokens, end, mode);
+        end = behind_tree(source, end);
+    }
+    end
+}
+
+/// Returns the arguments between two delimiters that are a pair. Returns `Err` if an allocation
+/// fails.
+// requires { IsPair source.now opening close }
+// ensures { IfOk result (λ v. AreArguments source.now (opening + 1) v.items close) }
+#[inline]
+fn between(
+    alloc: Global,
+    source: &Source<'_>,
+    opening: usize,
+    close: usize,
+) -> Result<Vec<Argument>, AllocError> {
+    let tokens = source.tokens();
+    let mut found = Vec::made_in(alloc);
+    let mut start = opening + 1;
+    while start < close {
+        let end = argument_end(source, opening, start, close);
+        let is_named = is_named(tokens, start);
+        found.try_push(Argument {
+            start,
+            end,
+            is_named,
+        })?;
+        if end == close {
+            return Ok(found);
+        }
+        start = end + 1;
+    }
+    Ok(found)
+}
+
+/// Returns the arguments of the call that ends with this closing delimiter, or `None` if the token
+/// closes no pair. Returns `Err` if an allocation fails.
+// ensures some { IfOk result (λ o. IfSome o (λ v. (n : ℕ) × IsPair source.now n close
+//     × AreArguments source.now (n + 1) v.items close)) }
+// ensures none { IfOk result (λ o. IsNone o → (n : ℕ) → IsPair source.now n close → ⊥) }
+#[inline]
+pub fn arguments(
+    alloc: Global,
+    source: &Source<'_>,
+    close: usize,
+) -> Result<Option<Vec<Argument>>, AllocError> {
+    match source.partner(close) {
+        Some(opening) => {
+            if opening < close {
+                let found = between(alloc, source, opening, close)?;
+                Ok(Some(found))
+            } else {
+                Ok(None)
+            }
+        }
+        None => Ok(None),
+    }
+}

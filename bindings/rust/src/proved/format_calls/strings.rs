@@ -1,0 +1,121 @@
+//! Which argument of a call is its format string, and why none is read.
+
+// Extracted from crates/format_calls/src/strings.rt by tools/extract: not to be edited.
+// That source is proved, and each contract here is its. That this text means the same is tested:
+// by results from outside, and beside what is proved (.ci/bindings) and the original (tools/agree).
+
+use crate::proved::format_calls::marks::{is_mark, is_word, token_at};
+use crate::proved::format_calls::split::Argument;
+use crate::proved::format_calls::table::Rule;
+use crate::proved::rust_tokens::Kind;
+use crate::proved::rust_trees::{Source, Token};
+
+/// Why no format string of a call is read.
+#[derive(Clone, Copy)]
+pub enum Reason {
+    /// There are too few arguments for one.
+    Missing,
+    /// Before the edition 2021 the last argument of some macros is any expression.
+    Edition,
+    /// It is a variable of a macro, which `$` begins, or `#` in `quote!`.
+    Variable,
+    /// It is a literal with a suffix.
+    Suffix,
+    /// It is the call of a macro, as `concat!("a", "b")`.
+    Macro,
+    /// It is another expression, or there is more than a literal.
+    Expression,
+}
+
+/// Returns whether a token is a string literal that has its end and no suffix.
+// ensures { result ≡ is_text_leaf (leaf token.now) }
+#[inline]
+fn is_text_leaf(token: &Token<'_>) -> bool {
+    matches!(token.kind, Kind::Str | Kind::RawStr) && token.is_ended && !token.has_suffix
+}
+
+/// Returns whether an argument is one string literal.
+// ensures { result ≡ is_text (map leaf tokens.now) argument.now }
+#[inline]
+fn is_text(tokens: &[Token<'_>], argument: &Argument) -> bool {
+    match token_at(tokens, argument.start) {
+        Some(token) => {
+            argument.start < argument.end
+                && argument.end - argument.start == 1
+                && is_text_leaf(&token)
+        }
+        None => false,
+    }
+}
+
+/// Returns why an argument that is no string literal is none.
+// ensures { result ≡ reason_of (map leaf tokens.now) argument.now }
+#[inline]
+fn reason_of(tokens: &[Token<'_>], argument: &Argument) -> Reason {
+    let start = argument.start;
+    let Some(token) = token_at(tokens, start) else {
+        return Reason::Expression;
+    };
+    if is_mark(tokens, start, b'$') || is_mark(tokens, start, b'#') {
+        Reason::Variable
+    } else if matches!(token.kind, Kind::Str | Kind::RawStr) && token.has_suffix {
+        Reason::Suffix
+    } else if is_word(&token) && is_mark(tokens, start + 1, b'!') {
+        Reason::Macro
+    } else {
+        Reason::Expression
+    }
+}
+
+/// Returns the index of the first argument that is a string literal, or `None` if there is none.
+// ensures { result ≡ first_text (map leaf tokens.now) arguments.now }
+#[inline]
+fn first_text(tokens: &[Token<'_>], arguments: &[Argument]) -> Option<usize> {
+    arguments
+        .iter()
+        .position(|argument| is_text(tokens, argument))
+}
+
+/// Returns the index again if the argument there is the format string, or why none is read. A last
+/// argument can be none.
+// ensures { result ≡ argument_or (map leaf tokens.now) index (slice_get arguments.now index)
+//     (is_last_none && (index + 1) == length arguments.now) }
+#[inline]
+fn string_at(
+    tokens: &[Token<'_>],
+    arguments: &[Argument],
+    index: usize,
+    is_last_none: bool,
+) -> Result<usize, Reason> {
+    if index >= arguments.len() {
+        return Err(Reason::Missing);
+    }
+    let argument = &arguments[index];
+    if is_last_none && index + 1 == arguments.len() {
+        Err(Reason::Edition)
+    } else if is_text(tokens, argument) {
+        Ok(index)
+    } else {
+        Err(reason_of(tokens, argument))
+    }
+}
+
+/// Returns the index of the argument that is the format string of a call, or why none is read.
+// ensures { result ≡ format_string source.now rule arguments.now is_from_2021 }
+#[inline]
+pub fn format_string(
+    source: &Source<'_>,
+    rule: Rule,
+    arguments: &[Argument],
+    is_from_2021: bool,
+) -> Result<usize, Reason> {
+    let tokens = source.tokens();
+    match rule {
+        Rule::At(index) => string_at(tokens, arguments, index, false),
+        Rule::ByEdition(index) => string_at(tokens, arguments, index, !is_from_2021),
+        Rule::AfterFields => match first_text(tokens, arguments) {
+            Some(index) => Ok(index),
+            None => Err(Reason::Expression),
+        },
+    }
+}

@@ -1,0 +1,223 @@
+//! Macros that take a format string.
+
+// Extracted from crates/format_calls/src/table.rt by tools/extract: not to be edited.
+// That source is proved, and each contract here is its. That this text means the same is tested:
+// by results from outside, and beside what is proved (.ci/bindings) and the original (tools/agree).
+
+use crate::shim::alloc::{AllocError, Global};
+use crate::shim::prelude::*;
+
+/// Which argument of a macro is its format string. The others behind it are formatted.
+#[derive(Clone, Copy)]
+pub enum Rule {
+    /// The one of this index.
+    At(usize),
+    /// The one of this index. Before the edition 2021 it is any expression if it is the last.
+    ByEdition(usize),
+    /// The first one that is a string literal: fields may stand in front of it.
+    AfterFields,
+}
+
+/// A macro of a table.
+#[derive(Clone, Copy)]
+pub struct Row<'a> {
+    /// Its name.
+    pub name: &'a str,
+    /// Its rule.
+    pub rule: Rule,
+}
+
+/// A table of macros. Of two with one name the first one counts.
+pub struct Table<'a> {
+    /// The macros.
+    pub rows: Vec<Row<'a>>,
+}
+
+/// The macros of the standard library.
+const STANDARD: [Row<'static>; 20] = [
+    Row {
+        name: "format",
+        rule: Rule::At(0),
+    },
+    Row {
+        name: "format_args",
+        rule: Rule::At(0),
+    },
+    Row {
+        name: "print",
+        rule: Rule::At(0),
+    },
+    Row {
+        name: "println",
+        rule: Rule::At(0),
+    },
+    Row {
+        name: "eprint",
+        rule: Rule::At(0),
+    },
+    Row {
+        name: "eprintln",
+        rule: Rule::At(0),
+    },
+    Row {
+        name: "write",
+        rule: Rule::At(1),
+    },
+    Row {
+        name: "writeln",
+        rule: Rule::At(1),
+    },
+    Row {
+        name: "panic",
+        rule: Rule::ByEdition(0),
+    },
+    Row {
+        name: "unreachable",
+        rule: Rule::ByEdition(0),
+    },
+    Row {
+        name: "todo",
+        rule: Rule::At(0),
+    },
+    Row {
+        name: "unimplemented",
+        rule: Rule::At(0),
+    },
+    Row {
+        name: "assert",
+        rule: Rule::ByEdition(1),
+    },
+    Row {
+        name: "debug_assert",
+        rule: Rule::ByEdition(1),
+    },
+    Row {
+        name: "assert_eq",
+        rule: Rule::At(2),
+    },
+    Row {
+        name: "assert_ne",
+        rule: Rule::At(2),
+    },
+    Row {
+        name: "debug_assert_eq",
+        rule: Rule::At(2),
+    },
+    Row {
+        name: "debug_assert_ne",
+        rule: Rule::At(2),
+    },
+    Row {
+        name: "assert_matches",
+        rule: Rule::At(2),
+    },
+    Row {
+        name: "debug_assert_matches",
+        rule: Rule::At(2),
+    },
+];
+
+/// Macros of the crates log, tracing, slog, anyhow and eyre.
+const CRATES: [Row<'static>; 13] = [
+    Row {
+        name: "error",
+        rule: Rule::AfterFields,
+    },
+    Row {
+        name: "warn",
+        rule: Rule::AfterFields,
+    },
+    Row {
+        name: "info",
+        rule: Rule::AfterFields,
+    },
+    Row {
+        name: "debug",
+        rule: Rule::AfterFields,
+    },
+    Row {
+        name: "trace",
+        rule: Rule::AfterFields,
+    },
+    Row {
+        name: "crit",
+        rule: Rule::AfterFields,
+    },
+    Row {
+        name: "log",
+        rule: Rule::AfterFields,
+    },
+    Row {
+        name: "event",
+        rule: Rule::AfterFields,
+    },
+    Row {
+        name: "anyhow",
+        rule: Rule::At(0),
+    },
+    Row {
+        name: "eyre",
+        rule: Rule::At(0),
+    },
+    Row {
+        name: "format_err",
+        rule: Rule::At(0),
+    },
+    Row {
+        name: "bail",
+        rule: Rule::At(0),
+    },
+    Row {
+        name: "ensure",
+        rule: Rule::At(1),
+    },
+];
+
+impl<'a> Table<'a> {
+    /// Returns the macros of the standard library. Returns `Err` if an allocation fails.
+    // ensures { IfOk result (λ t. map entry t.rows.items ≡ standard) }
+    #[inline]
+    pub fn standard(alloc: Global) -> Result<Self, AllocError> {
+        let mut rows = Vec::made_in(alloc);
+        for row in &STANDARD {
+            rows.try_push(*row)?;
+        }
+        Ok(Table { rows })
+    }
+
+    /// Returns macros of the crates log, tracing, slog, anyhow and eyre. Returns `Err` if an
+    /// allocation fails.
+    // ensures { IfOk result (λ t. map entry t.rows.items ≡ of_crates) }
+    #[inline]
+    pub fn of_crates(alloc: Global) -> Result<Self, AllocError> {
+        let mut rows = Vec::made_in(alloc);
+        for row in &CRATES {
+            rows.try_push(*row)?;
+        }
+        Ok(Table { rows })
+    }
+
+    /// Adds a macro in front of the others. Returns `Err` if an allocation fails; the table is then
+    /// as it was.
+    // ensures ok { OnOk result (map entry self.new.rows.items
+    //     ≡ entry row.entry ∷ map entry self.old.rows.items) }
+    // ensures err { OnErr result (map entry self.new.rows.items
+    //     ≡ map entry self.old.rows.items) }
+    #[inline]
+    pub fn add(&mut self, row: Row<'a>) -> Result<(), AllocError> {
+        self.rows.insert_in(0, row)?;
+        Ok(())
+    }
+}
+
+/// Returns the rule of the first macro of this name, or `None` if there is none.
+// ensures { result ≡ rule_of (map entry rows.now) word.now }
+#[inline]
+pub fn rule_of(rows: &[Row<'_>], word: &[u8]) -> Option<Rule> {
+    for row in rows {
+        if row.name.as_bytes() == word {
+            return Some(row.rule);
+        }
+    }
+    None
+}

@@ -1,0 +1,129 @@
+//! A source, its tokens and its faults.
+
+// Extracted from crates/format_lint/src/faults.rt by tools/extract: not to be edited.
+// That source is proved, and each contract here is its. That this text means the same is tested:
+// by results from outside, and beside what is proved (.ci/bindings) and the original (tools/agree).
+
+use super::findings::Findings;
+use crate::proved::format_tokens::{label, placed, Kind, Token};
+use crate::proved::rustc_parse_format::{Argument, ParseMode};
+use crate::shim::alloc::{AllocError, Global};
+use crate::shim::parser::Parser;
+use crate::shim::prelude::*;
+
+/// A text, with the style of the literal that it is in and the literal as it is written, and the
+/// lines that it is drawn in.
+#[derive(Copy, Clone)]
+pub struct Source<'a> {
+    pub text: &'a str,
+    pub style: Option<usize>,
+    pub literal: Option<&'a str>,
+    /// The lines around the text.
+    pub lines: &'a str,
+    /// The number of the first of these lines.
+    pub line_start: u32,
+    /// The byte offset in the lines that a span of 0 means.
+    pub start: usize,
+}
+
+/// Returns the faults of all calls of a parser without errors. Returns `Err` if an allocation
+/// fails, or if there are more faults than a `usize` counts.
+// requires { parser.old.errors ≡ [] }
+// ensures { IfOk result (λ f. Keeps f (findings_from false parser.old)) }
+#[inline]
+fn faults_of<'a>(alloc: Global, parser: &mut Parser<'a>) -> Result<Findings<'a>, AllocError> {
+    let mut argument = Argument::default();
+    let mut found = Vec::made_in(alloc);
+    let mut faults = Findings::new(alloc);
+    while !parser.is_at_end() {
+        parser.next_with_faults(&mut argument, &mut found)?;
+        faults.add(&mut found)?;
+    }
+    Ok(faults)
+}
+
+/// Returns the tokens of a source's text, each with its number of characters, and the faults, by
+/// the calls of a parser at its start. Returns `Err` as `faults_of` does.
+// requires { parser.old ≡ start (seen_mode mode) (seen_source source) }
+// ensures labels { IfOk result (λ x. x.0.items
+//     ≡ map sized (tokens_of (seen_mode mode) (chars source.entry.text.now))) }
+// ensures faults { IfOk result (λ x. Keeps x.1
+//     (findings (seen_mode mode) (seen_source source.entry))) }
+#[inline]
+fn labels_of<'a>(
+    alloc: Global,
+    parser: &mut Parser<'a>,
+    mode: ParseMode,
+    source: Source<'a>,
+) -> Result<(Vec<(Kind, usize)>, Findings<'a>), AllocError> {
+    let text = source.text;
+    let mut argument = Argument::default();
+    let mut labels = Vec::made_in(alloc);
+    let mut found = Vec::made_in(alloc);
+    let mut faults = Findings::new(alloc);
+    let mut rest = text;
+    while !rest.is_empty() {
+        let taken = parser.next_with_faults(&mut argument, &mut found)?;
+        faults.add(&mut found)?;
+        let left = text.len().saturating_sub(parser.position());
+        rest = label(&mut labels, mode, taken, &argument, left, rest)?;
+    }
+    Ok((labels, faults))
+}
+
+/// Returns a parser at the start of a source. Returns `Err` if an allocation fails.
+// requires { hashes source.style ≤ limit }
+// ensures { IfOk result (λ p. p ≡ start (seen_mode mode) (seen_source source.entry)) }
+#[inline]
+fn parser_of<'a>(
+    alloc: Global,
+    mode: ParseMode,
+    source: Source<'a>,
+) -> Result<Parser<'a>, AllocError> {
+    let snippet = match source.literal {
+        Some(literal) => Some(String::made_from(alloc, literal)?),
+        None => None,
+    };
+    Parser::new(alloc, source.text, source.style, snippet, false, mode)
+}
+
+/// Returns the faults of a source. Returns `Err` as `faults_of` does.
+// requires { hashes source.style ≤ limit }
+// ensures { IfOk result (λ f. Keeps f (findings (seen_mode mode) (seen_source source.entry))) }
+#[inline]
+pub fn faults_in<'a>(
+    alloc: Global,
+    mode: ParseMode,
+    source: Source<'a>,
+) -> Result<Findings<'a>, AllocError> {
+    let mut parser = parser_of(alloc, mode, source)?;
+    let faults = faults_of(alloc, &mut parser)?;
+    Ok(faults)
+}
+
+/// Returns the tokens of a source with this snippet, and its faults. Returns `Err` as `faults_of`
+/// does.
+// requires { hashes source.style ≤ limit }
+// ensures tokens { IfOk result (λ x. map seen_token x.0.items ≡ tokens (seen_mode mode)
+//     (chars source.entry.text.now) source.entry.style (Some (chars snippet.now)) false) }
+// ensures faults { IfOk result (λ x. Keeps x.1
+//     (findings (seen_mode mode) (seen_source source.entry))) }
+#[inline]
+pub fn tokens_in<'a>(
+    alloc: Global,
+    mode: ParseMode,
+    source: Source<'a>,
+    snippet: &str,
+) -> Result<(Vec<Token>, Findings<'a>), AllocError> {
+    let mut parser = parser_of(alloc, mode, source)?;
+    let (labels, faults) = labels_of(alloc, &mut parser, mode, source)?;
+    let tokens = placed(
+        alloc,
+        source.text,
+        source.style,
+        Some(snippet),
+        false,
+        labels.as_slice(),
+    )?;
+    Ok((tokens, faults))
+}

@@ -1,0 +1,344 @@
+//! What is shown of an input in UTF-8.
+
+// Extracted from crates/format_lint/src/shown.rt by tools/extract: not to be edited.
+// That source is proved, and each contract here is its. That this text means the same is tested:
+// by results from outside, and beside what is proved (.ci/bindings) and the original (tools/agree).
+
+use super::faults::{faults_in, tokens_in, Source};
+use super::findings::{Finding, Findings};
+use super::task::{Show, Task};
+use super::tokens::put_tokens;
+use crate::proved::drawn_faults::{fix, put_drawing, Picture};
+use crate::proved::literal_faults::snippet_of;
+use crate::proved::piece_listing::literal::literal_text;
+use crate::proved::piece_listing::verdict::RunFault;
+use crate::proved::rustc_parse_format::ParseMode;
+use crate::shim::alloc::{AllocError, Global};
+use crate::shim::prelude::*;
+
+/// Appends a line with the id of a fault, which says whether it follows from the one before.
+/// Returns `Err` if an allocation fails.
+// ensures { OnOk result (string_bytes out.new ≡ string_bytes out.old
+//     ++ id_line finding.now.follows (fault_id (seen_fault finding.now.fault))) }
+#[inline]
+fn put_id(out: &mut String, finding: &Finding<'_>) -> Result<(), AllocError> {
+    out.try_push_str(if finding.follows {
+        "follows: "
+    } else {
+        "fault: "
+    })?;
+    out.try_push_str(finding.fault.id())?;
+    out.try_push('\n')?;
+    Ok(())
+}
+
+/// Appends the drawing of a fault to a text. Returns `Err` if an allocation fails.
+// ensures { OnOk result (string_bytes out.new ≡ string_bytes out.old ++ drawing (seen_mode mode)
+//     (seen_picture picture.now) (message (seen_finding finding.now).fault)) }
+#[inline]
+fn put_finding(
+    alloc: Global,
+    out: &mut String,
+    mode: ParseMode,
+    picture: &Picture<'_>,
+    finding: &Finding<'_>,
+) -> Result<(), AllocError> {
+    let error = finding.fault.error(alloc)?;
+    put_drawing(out, mode, picture, &error)?;
+    Ok(())
+}
+
+/// Appends the drawings of faults to a text, each after a line with its id. Returns `Err` if an
+/// allocation fails.
+// ensures { OnOk result (string_bytes out.new ≡ string_bytes out.old
+//     ++ flat_map (drawn_finding (seen_mode mode) (seen_picture picture.now))
+//     (map seen_finding findings.now)) }
+#[inline]
+fn put_each(
+    alloc: Global,
+    out: &mut String,
+    mode: ParseMode,
+    picture: &Picture<'_>,
+    findings: &[Finding<'_>],
+) -> Result<(), AllocError> {
+    for finding in findings {
+        put_id(out, finding)?;
+        put_finding(alloc, out, mode, picture, finding)?;
+    }
+    Ok(())
+}
+
+/// Appends a line that says how many faults are not drawn, if there are any. Returns `Err` if an
+/// allocation fails.
+// ensures { OnOk result (string_bytes out.new ≡ string_bytes out.old ++ more count) }
+#[inline]
+fn put_more(alloc: Global, out: &mut String, count: usize) -> Result<(), AllocError> {
+    if count == 0 {
+        return Ok(());
+    }
+    let line = crate::shim::format_in!(alloc; "and {count} more\n")?;
+    out.try_push_str(line.as_str())?;
+    Ok(())
+}
+
+/// Appends the drawing of the first of these faults to a text, if there is one. Returns `Err` if an
+/// allocation fails.
+// ensures { OnOk result (string_bytes out.new ≡ string_bytes out.old
+//     ++ first_drawing (seen_mode mode) (seen_picture picture.now)
+//     (map seen_finding findings.now)) }
+#[inline]
+fn put_first(
+    alloc: Global,
+    out: &mut String,
+    mode: ParseMode,
+    picture: &Picture<'_>,
+    findings: &[Finding<'_>],
+) -> Result<(), AllocError> {
+    if !findings.is_empty() {
+        put_finding(alloc, out, mode, picture, &findings[0])?;
+    }
+    Ok(())
+}
+
+/// Appends the drawing of the first fault to a text, or the drawings of those that are kept and how
+/// many others there are. Returns how many faults are mistakes of their own, and `Err` if an
+/// allocation fails.
+// ensures drawn { OnOk result (string_bytes out.new ≡ string_bytes out.old
+//     ++ (if all then flat_map (drawn_finding (seen_mode mode) (seen_picture picture.now))
+//     (map seen_finding faults.now.first.items) ++ more faults.now.others
+//     else first_drawing (seen_mode mode) (seen_picture picture.now)
+//     (map seen_finding faults.now.first.items))) }
+// ensures told { IfOk result (λ told. told ≡ faults.now.mistakes) }
+#[inline]
+fn put_drawings(
+    alloc: Global,
+    out: &mut String,
+    all: bool,
+    mode: ParseMode,
+    picture: &Picture<'_>,
+    faults: &Findings<'_>,
+) -> Result<usize, AllocError> {
+    if all {
+        put_each(alloc, out, mode, picture, faults.first.as_slice())?;
+        put_more(alloc, out, faults.others)?;
+    } else {
+        put_first(alloc, out, mode, picture, faults.first.as_slice())?;
+    }
+    Ok(faults.mistakes)
+}
+
+/// Appends what is drawn of a source with these faults to a text. Returns how many of them are
+/// mistakes of their own, and `Err` if an allocation fails.
+// requires { Keeps faults.now (findings (seen_mode task.mode) (seen_source source)) }
+// ensures drawn { OnOk result (string_bytes out.new ≡ string_bytes out.old
+//     ++ (drawn all (seen_task task.entry) (seen_source source.entry)).0) }
+// ensures told { IfOk result (λ told. told
+//     ≡ (drawn all (seen_task task.entry) (seen_source source.entry)).1) }
+#[inline]
+fn put_faults(
+    alloc: Global,
+    out: &mut String,
+    all: bool,
+    task: Task<'_>,
+    source: Source<'_>,
+    faults: &Findings<'_>,
+) -> Result<usize, AllocError> {
+    let picture = Picture {
+        path: task.path,
+        source: source.lines,
+        line_start: source.line_start,
+        literal_start: source.start,
+    };
+    put_drawings(alloc, out, all, task.mode, &picture, faults)
+}
+
+/// Appends what is drawn of a source to a text. Returns how many mistakes it has, and `Err` if an
+/// allocation fails.
+// requires { hashes source.style ≤ limit }
+// ensures drawn { OnOk result (string_bytes out.new ≡ string_bytes out.old
+//     ++ (drawn all (seen_task task.entry) (seen_source source.entry)).0) }
+// ensures told { IfOk result (λ told. told
+//     ≡ (drawn all (seen_task task.entry) (seen_source source.entry)).1) }
+#[inline]
+fn put_drawn(
+    alloc: Global,
+    out: &mut String,
+    all: bool,
+    task: Task<'_>,
+    source: Source<'_>,
+) -> Result<usize, AllocError> {
+    let faults = faults_in(alloc, task.mode, source)?;
+    let told = put_faults(alloc, out, all, task, source, &faults)?;
+    Ok(told)
+}
+
+/// Appends a source as it is written, a line end, and the drawing of its first fault to a text.
+/// Returns how many mistakes it has, and `Err` if an allocation fails.
+// requires { hashes source.style ≤ limit }
+// ensures kept { OnOk result (string_bytes out.new ≡ string_bytes out.old
+//     ++ (kept (seen_task task.entry) (seen_source source.entry)).0) }
+// ensures told { IfOk result (λ told. told
+//     ≡ (kept (seen_task task.entry) (seen_source source.entry)).1) }
+#[inline]
+fn put_kept(
+    alloc: Global,
+    out: &mut String,
+    task: Task<'_>,
+    source: Source<'_>,
+) -> Result<usize, AllocError> {
+    out.try_push_str(source.literal.unwrap_or(source.text))?;
+    out.try_push_str("\n")?;
+    put_drawn(alloc, out, false, task, source)
+}
+
+/// Appends the literal of a source with the edits that its faults suggest, and the drawing of the
+/// first fault that it then has, to a text. Returns how many mistakes it has, and `Err` if an
+/// allocation fails.
+// requires style { hashes source.style ≤ limit }
+// requires empty { string_bytes out.old ≡ [] }
+// ensures { IfOk result (λ told. (r : SourceValue)
+//     × IsMended (seen_mode task.entry.mode) (seen_source source.entry) r
+//     × ((string_bytes out.new, told) ≡ kept (seen_task task.entry) r)) }
+#[inline]
+fn put_fixed(
+    alloc: Global,
+    out: &mut String,
+    task: Task<'_>,
+    source: Source<'_>,
+) -> Result<usize, AllocError> {
+    let Some(literal) = source.literal else {
+        return Ok(put_kept(alloc, out, task, source)?);
+    };
+    match fix(alloc, source.text, source.style, literal, false, task.mode)? {
+        Some(fixed) => {
+            let mended = Source {
+                text: fixed.text.as_str(),
+                style: source.style,
+                literal: Some(fixed.snippet.as_str()),
+                lines: fixed.snippet.as_str(),
+                line_start: 1,
+                start: 0,
+            };
+            Ok(put_kept(alloc, out, task, mended)?)
+        }
+        None => Ok(put_kept(alloc, out, task, source)?),
+    }
+}
+
+/// Appends the tokens of a source, in colours or each in a line, and the drawing of its first fault
+/// to a text. Returns how many mistakes it has, and `Err` if an allocation fails.
+// requires { hashes source.style ≤ limit }
+// ensures lexed { OnOk result (string_bytes out.new ≡ string_bytes out.old
+//     ++ (lexed colours (seen_task task.entry) (seen_source source.entry)).0) }
+// ensures told { IfOk result (λ told. told
+//     ≡ (lexed colours (seen_task task.entry) (seen_source source.entry)).1) }
+#[inline]
+fn put_lexed(
+    alloc: Global,
+    out: &mut String,
+    colours: bool,
+    task: Task<'_>,
+    source: Source<'_>,
+) -> Result<usize, AllocError> {
+    let written = source.literal.unwrap_or(source.text);
+    let snippet = source.literal.unwrap_or(source.lines);
+    let (found, faults) = tokens_in(alloc, task.mode, source, snippet)?;
+    put_tokens(out, colours, written, found.as_slice())?;
+    if colours {
+        out.try_push_str("\n")?;
+    }
+    let told = put_faults(alloc, out, false, task, source, &faults)?;
+    Ok(told)
+}
+
+/// Returns what a task shows of a source, and how many mistakes are left. Returns `Err` if an
+/// allocation fails.
+// requires { hashes source.style ≤ limit }
+// ensures { IfOk result (λ x. IsShown (seen_task task.entry) (seen_source source.entry)
+//     (string_bytes x.0, x.1)) }
+#[inline]
+fn shown_of(
+    alloc: Global,
+    source: Source<'_>,
+    task: Task<'_>,
+) -> Result<(String, usize), AllocError> {
+    let mut out = String::made_in(alloc);
+    let told = match task.show {
+        Show::Fault => put_drawn(alloc, &mut out, false, task, source)?,
+        Show::All => put_drawn(alloc, &mut out, true, task, source)?,
+        Show::Tokens => put_lexed(alloc, &mut out, false, task, source)?,
+        Show::Colours => put_lexed(alloc, &mut out, true, task, source)?,
+        Show::Fix => put_fixed(alloc, &mut out, task, source)?,
+    };
+    Ok((out, told))
+}
+
+/// Returns what a task shows of the input as a string literal, perhaps with a byte order mark
+/// before it and white space around it, and how many mistakes are left. Returns `Err` if the input
+/// is not a string literal or an allocation fails.
+// requires { IsShort input.now }
+// ensures shown { IfOk result (λ x. (s : SourceValue) × IsLiteralIn input.now s
+//     × IsShown (seen_task task.entry) s (string_bytes x.0, x.1)) }
+// ensures not_literal { IsErrOf result NotLiteral → (s : SourceValue) → IsLiteralIn input.now s
+//     → ⊥ }
+// ensures others { IfErr result (λ fault. fault ≢ NotLiteral → fault ≡ Memory) }
+#[inline]
+fn shown_of_literal(
+    alloc: Global,
+    input: &str,
+    task: Task<'_>,
+) -> Result<(String, usize), RunFault> {
+    let snippet = snippet_of(input);
+    let Some((text, style)) = literal_text(alloc, snippet.text)? else {
+        return Err(RunFault::NotLiteral);
+    };
+    let source = Source {
+        text: text.as_str(),
+        style,
+        literal: Some(snippet.text),
+        lines: snippet.source,
+        line_start: 1,
+        start: snippet.start,
+    };
+    Ok(shown_of(alloc, source, task)?)
+}
+
+/// Returns a text that is in no literal, with the lines that it is drawn in.
+// ensures value { lines.now ≡ codes "\n" ++ text.now → seen_source result ≡ bare text.now }
+// ensures style { result.style ≡ None }
+#[inline]
+fn bare<'a>(text: &'a str, lines: &'a str) -> Source<'a> {
+    Source {
+        text,
+        style: None,
+        literal: None,
+        lines,
+        line_start: 0,
+        start: 0,
+    }
+}
+
+/// Returns what a task shows of an input, and how many mistakes are left. Returns `Err` if the task
+/// asks for a string literal and the input is none, or if an allocation fails.
+// requires { IsShort input.now }
+// ensures shown { IfOk result (λ x. (s : SourceValue)
+//     × IsSourceIn task.entry.is_literal input.now s
+//     × IsShown (seen_task task.entry) s (string_bytes x.0, x.1)) }
+// ensures harmless { IfOk result (λ x. IsHarmlessFor (seen_task task.entry) input.now
+//     (string_bytes x.0)) }
+// ensures not_literal { IsErrOf result NotLiteral → (s : SourceValue)
+//     → IsSourceIn task.entry.is_literal input.now s → ⊥ }
+// ensures others { IfErr result (λ fault. fault ≢ NotLiteral → fault ≡ Memory) }
+#[inline]
+pub fn shown_of_input(
+    alloc: Global,
+    input: &str,
+    task: Task<'_>,
+) -> Result<(String, usize), RunFault> {
+    if task.is_literal {
+        return shown_of_literal(alloc, input, task);
+    }
+    // without a literal a span is one more than in the text, and so is the place in these lines
+    let lines = crate::shim::format_in!(alloc; "\n{input}")?;
+    Ok(shown_of(alloc, bare(input, lines.as_str()), task)?)
+}

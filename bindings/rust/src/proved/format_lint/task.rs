@@ -1,0 +1,34 @@
+//! What the program is asked for.
+
+// Extracted from crates/format_lint/src/task.rt by tools/extract: not to be edited.
+// That source is proved, and each contract here is its. That this text means the same is tested:
+// by results from outside, and beside what is proved (.ci/bindings) and the original (tools/agree).
+
+use crate::proved::rustc_parse_format::ParseMode;
+
+/// What is shown of an input.
+#[derive(Copy, Clone, Debug, Eq, PartialEq)]
+pub enum Show {
+    /// The fault that the compiler shows, drawn under its source.
+    Fault,
+    /// All its faults, each with its id and whether it follows from an earlier one.
+    All,
+    /// Its tokens, each in a line, and then the fault that the compiler shows.
+    Tokens,
+    /// Its text in the colours of its tokens, and then the fault that the compiler shows.
+    Colours,
+    /// The literal with the edits that its faults suggest, and the fault that the compiler shows of
+    /// that.
+    Fix,
+}
+
+/// A task of the program.
+#[derive(Copy, Clone)]
+pub struct Task<'a> {
+    pub mode: ParseMode,
+    /// Whether the input is a string literal, as written in a program. Otherwise it is a text.
+    pub is_literal: bool,
+    /// The path that is shown for the input.
+    pub path: &'a str,
+    pub show: Show,
+}

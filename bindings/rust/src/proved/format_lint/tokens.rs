@@ -1,0 +1,192 @@
+//! How the tokens of a source are shown. What begins with `put_` appends to `out`, and returns
+//! `Err` if an allocation fails.
+
+// Extracted from crates/format_lint/src/tokens.rt by tools/extract: not to be edited.
+// That source is proved, and each contract here is its. That this text means the same is tested:
+// by results from outside, and beside what is proved (.ci/bindings) and the original (tools/agree).
+
+use crate::proved::drawn_faults::{is_ascii_or_as_is, is_drawn_as_is, put_glyphs};
+use crate::proved::format_tokens::{Kind, Token};
+use crate::proved::piece_listing::{put_quoted, put_span};
+use crate::shim::alloc::AllocError;
+use crate::shim::prelude::*;
+
+/// Returns the name of a kind in a list of tokens.
+// ensures { result.now ≡ kind_name kind }
+#[inline]
+fn kind_name(kind: Kind) -> &'static str {
+    match kind {
+        Kind::Text => "text",
+        Kind::Escape => "escape",
+        Kind::Open => "open",
+        Kind::Close => "close",
+        Kind::Integer => "integer",
+        Kind::Identifier => "identifier",
+        Kind::RawPrefix => "raw-prefix",
+        Kind::White => "white",
+        Kind::Colon => "colon",
+        Kind::Fill => "fill",
+        Kind::Align => "align",
+        Kind::Sign => "sign",
+        Kind::NumberSign => "number-sign",
+        Kind::Zero => "zero",
+        Kind::DollarSign => "dollar-sign",
+        Kind::Dot => "dot",
+        Kind::Asterisk => "asterisk",
+        Kind::Type => "type",
+        Kind::Modifier => "modifier",
+        Kind::DiagnosticText => "diagnostic-text",
+        Kind::Unexpected => "unexpected",
+        Kind::Quote => "quote",
+    }
+}
+
+/// Returns the escape of SGR that sets the colour of a kind on a terminal, or `None` if the kind is
+/// only text.
+// ensures { MatchOption result
+//     ((u : List ℕ) → in_colour (colour kind) u ≡ u)
+//     (λ s. (u : List ℕ) → in_colour (colour kind) u ≡ s.now ++ (u ++ codes "\u{1b}[0m")) }
+#[inline]
+fn colour_escape(kind: Kind) -> Option<&'static str> {
+    match kind {
+        Kind::Text | Kind::White | Kind::DiagnosticText | Kind::Quote => None,
+        Kind::Escape => Some("\u{1b}[34m"),
+        Kind::Open | Kind::Close | Kind::Colon | Kind::DollarSign | Kind::Dot => Some("\u{1b}[35m"),
+        Kind::Integer | Kind::Identifier | Kind::RawPrefix | Kind::Asterisk => Some("\u{1b}[36m"),
+        Kind::Fill | Kind::Align | Kind::Sign | Kind::NumberSign | Kind::Zero => Some("\u{1b}[33m"),
+        Kind::Type | Kind::Modifier => Some("\u{1b}[32m"),
+        Kind::Unexpected => Some("\u{1b}[31m"),
+    }
+}
+
+/// Adds a text as it is drawn. If `as_is`, each of its characters is drawn as it is.
+// requires { IsTrue as_is → list_all is_drawn_as_is text.now ≡ true }
+// ensures { OnOk result (string_bytes out.new ≡ string_bytes out.old ++ glyph_bytes text.now) }
+#[inline]
+fn put_drawn(out: &mut String, as_is: bool, text: &str) -> Result<(), AllocError> {
+    if as_is {
+        return Ok(out.try_push_str(text)?);
+    }
+    put_glyphs(out, text, 0)?;
+    Ok(())
+}
+
+/// Adds a text in the colour of a kind, if that has one. If `as_is`, each of its characters is
+/// drawn as it is.
+// requires { IsTrue as_is → list_all is_drawn_as_is text.now ≡ true }
+// ensures { OnOk result (string_bytes out.new ≡ string_bytes out.old
+//     ++ in_colour (colour kind) (glyph_bytes text.now)) }
+#[inline]
+fn put_in_colour(out: &mut String, as_is: bool, kind: Kind, text: &str) -> Result<(), AllocError> {
+    match colour_escape(kind) {
+        Some(escape) => {
+            out.try_push_str(escape)?;
+            put_drawn(out, as_is, text)?;
+            out.try_push_str("\u{1b}[0m")?;
+        }
+        None => put_drawn(out, as_is, text)?,
+    }
+    Ok(())
+}
+
+/// Adds a text in quotes as that is drawn. If `as_is`, each of its characters beyond ASCII is drawn
+/// as it is.
+// requires { IsTrue as_is → list_all is_ascii_or_as_is text.now ≡ true }
+// ensures { OnOk result (string_bytes out.new
+//     ≡ string_bytes out.old ++ glyph_bytes (quoted (chars text.now))) }
+#[inline]
+fn put_drawn_quoted(out: &mut String, as_is: bool, text: &str) -> Result<(), AllocError> {
+    if as_is {
+        return put_quoted(out, text);
+    }
+    let mut quoted = String::made_in(*out.own_allocator());
+    put_quoted(&mut quoted, text)?;
+    put_glyphs(out, quoted.as_str(), 0)?;
+    Ok(())
+}
+
+/// Adds a line with the kind, the byte range and the text of a token. If `as_is`, each character of
+/// that beyond ASCII is drawn as it is.
+// requires { IsTrue as_is → list_all is_ascii_or_as_is text.now ≡ true }
+// ensures { OnOk result (string_bytes out.new ≡ string_bytes out.old
+//     ++ shown_token false (seen_token token.now) (chars text.now)) }
+#[inline]
+fn put_line(out: &mut String, as_is: bool, token: &Token, text: &str) -> Result<(), AllocError> {
+    out.try_push_str(kind_name(token.kind))?;
+    put_span(out, ' ', &token.span)?;
+    out.try_push(' ')?;
+    put_drawn_quoted(out, as_is, text)?;
+    out.try_push('\n')?;
+    Ok(())
+}
+
+/// Adds a token with this text. If `as_is`, the text is shown as it is, or quoted as it is.
+// requires { IsTrue as_is → list_all (stays colours) text.now ≡ true }
+// ensures { OnOk result (string_bytes out.new ≡ string_bytes out.old
+//     ++ shown_token colours (seen_token token.now) (chars text.now)) }
+#[inline]
+fn put_token(
+    out: &mut String,
+    colours: bool,
+    as_is: bool,
+    token: &Token,
+    text: &str,
+) -> Result<(), AllocError> {
+    if colours {
+        put_in_colour(out, as_is, token.kind, text)?;
+    } else {
+        put_line(out, as_is, token, text)?;
+    }
+    Ok(())
+}
+
+/// Returns the first characters of a text, as many as end within `width` bytes, and what is left
+/// behind them.
+// ensures front { chars result.0.now ≡ within width (chars text.now) }
+// ensures back { chars result.1.now ≡ behind width (chars text.now) }
+// ensures whole { text.now ≡ result.0.now ++ result.1.now }
+#[inline]
+fn split_within(text: &str, width: usize) -> (&str, &str) {
+    text.split_at(text.boundary_at_most(width))
+}
+
+/// Returns `true` only if each part of a text is shown as it is, or quoted as it is.
+// ensures { IsTrue result → list_all (stays colours) text.now ≡ true }
+#[inline]
+fn stays(colours: bool, text: &str) -> bool {
+    if colours {
+        is_drawn_as_is(text)
+    } else {
+        is_ascii_or_as_is(text)
+    }
+}
+
+/// About how many bytes a token in a colour takes besides its text: two escapes.
+const ESCAPES_WIDTH: usize = 9;
+
+/// About how many bytes the line of a token takes besides its text: a kind, a range and quotes.
+const LINE_WIDTH: usize = 24;
+
+/// Adds the tokens of a text, in colours or each in a line.
+// ensures { OnOk result (string_bytes out.new ≡ string_bytes out.old
+//     ++ shown_tokens colours (chars text.now) (map seen_token tokens.now)) }
+#[inline]
+pub fn put_tokens(
+    out: &mut String,
+    colours: bool,
+    text: &str,
+    tokens: &[Token],
+) -> Result<(), AllocError> {
+    let each = if colours { ESCAPES_WIDTH } else { LINE_WIDTH };
+    // most often enough for all of them, so that what was written is not moved again and again
+    out.try_reserve_more(text.len().saturating_add(tokens.len().saturating_mul(each)))?;
+    let as_is = stays(colours, text);
+    let mut rest = text;
+    for token in tokens {
+        let width = token.span.end.saturating_sub(token.span.start);
+        let (text, behind) = split_within(rest, width);
+        put_token(out, colours, as_is, token, text)?;
+        rest = behind;
+    }
+    Ok(())
+}

@@ -1,0 +1,46 @@
+//! Reads a format string from standard input and writes a listing of its pieces and errors to
+//! standard output.
+
+// Extracted from crates/formatread/src/main.rt by tools/extract: not to be edited.
+// That source is proved, and each contract here is its. That this text means the same is tested:
+// by results from outside, and beside what is proved (.ci/bindings) and the original (tools/agree).
+
+use crate::proved::piece_listing::run::run;
+use crate::proved::piece_listing::verdict::{verdict, RunFault};
+use crate::shim::host::env;
+use crate::shim::prelude::*;
+use std::process::ExitCode;
+
+/// Returns the command-line arguments after the program's name. Returns `Err` if they are not
+/// available or an allocation fails.
+#[inline]
+fn words(rt: &crate::shim::host::HostRuntime) -> Result<Vec<String>, RunFault> {
+    let mut words = match env::args(rt) {
+        Ok(words) => words,
+        Err(_) => return Err(RunFault::Words),
+    };
+    let _name = words.next();
+    Ok(words.collect_in(rt.alloc())?)
+}
+
+/// Runs the program with its command-line arguments, standard input and standard output. Returns
+/// whether there is a line that is not of a piece, as `run` does.
+#[inline]
+fn answer(rt: &crate::shim::host::HostRuntime) -> Result<bool, RunFault> {
+    let words = words(rt)?;
+    run(
+        rt.alloc(),
+        &mut rt.stdin(),
+        &mut rt.stdout(),
+        words.as_slice(),
+    )
+}
+
+#[inline]
+pub fn main(rt: crate::shim::host::HostRuntime) -> ExitCode {
+    let (text, status) = verdict(&answer(&rt));
+    if !text.is_empty() {
+        let _ = rt.eprintln(text);
+    }
+    ExitCode::from(status)
+}

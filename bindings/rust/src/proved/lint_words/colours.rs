@@ -1,0 +1,39 @@
+//! Whether what is written is in colours.
+
+// Extracted from crates/lint_words/src/colours.rt by tools/extract: not to be edited.
+// That source is proved, and each contract here is its. That this text means the same is tested:
+// by results from outside, and beside what is proved (.ci/bindings) and the original (tools/agree).
+
+/// When colours are written.
+#[derive(Clone, Copy, Debug, Eq, PartialEq)]
+pub enum When {
+    /// If the output is a terminal that has them.
+    Auto,
+    /// Always.
+    Always,
+    /// Never.
+    Never,
+}
+
+/// Returns whether colours are wanted, by what is known of the output and by the values of the
+/// variables `NO_COLOR` and `TERM`. With `Auto` they are if the output is a terminal, `NO_COLOR` is
+/// not there or empty, and `TERM` is there and not `dumb`.
+// ensures { result ≡ wants_colours when is_terminal (option_map (λ w. w.now) no_color.entry)
+//     (option_map (λ w. w.now) term.entry) }
+#[inline]
+pub fn wants_colours(
+    when: When,
+    is_terminal: bool,
+    no_color: Option<&str>,
+    term: Option<&str>,
+) -> bool {
+    match when {
+        When::Always => true,
+        When::Never => false,
+        When::Auto => {
+            is_terminal
+                && no_color.map_or(true, |word| word.is_empty())
+                && term.map_or(false, |word| word != "dumb")
+        }
+    }
+}

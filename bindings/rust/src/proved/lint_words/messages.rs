@@ -1,0 +1,110 @@
+//! What is written to standard error where there is no answer.
+
+// Extracted from crates/lint_words/src/messages.rt by tools/extract: not to be edited.
+// That source is proved, and each contract here is its. That this text means the same is tested:
+// by results from outside, and beside what is proved (.ci/bindings) and the original (tools/agree).
+
+use crate::proved::drawn_faults::put_glyphs;
+use crate::proved::literal_faults::LiteralFault;
+use crate::proved::piece_listing::verdict::RunFault;
+use crate::proved::rust_trees::{place_at, Place};
+use crate::shim::alloc::AllocError;
+use crate::shim::itoa::Buffer;
+use crate::shim::prelude::*;
+
+/// Returns the words of the system in the text of an error of reading or writing, without the
+/// number that std adds.
+#[inline]
+pub fn system_words(text: &str) -> &str {
+    match text.split_once(" (os error ") {
+        Some((words, _)) => words,
+        None => text,
+    }
+}
+
+/// Appends the start of a line: the name of the program and the path. Returns `Err` if an
+/// allocation fails.
+// ensures { OnOk result (string_bytes out.new ≡ string_bytes out.old ++ opening path.now) }
+#[inline]
+fn put_opening(out: &mut String, path: &str) -> Result<(), AllocError> {
+    out.try_push_str("formatlint: ")?;
+    put_glyphs(out, path, 0)?;
+    out.try_push_str(":")?;
+    Ok(())
+}
+
+/// Returns why there is no answer, where `why` has the words of the system for a read or a write
+/// that failed, if it has any.
+// ensures { result.now ≡ reason fault why.now }
+#[inline]
+fn reason<'a>(fault: RunFault, why: &'a str) -> &'a str {
+    match fault {
+        RunFault::Read if why.is_empty() => "reading failed",
+        RunFault::Write if why.is_empty() => "writing failed",
+        RunFault::Read | RunFault::Write => why,
+        RunFault::Words => "invalid arguments",
+        RunFault::TooLong => "longer than 1048576 bytes",
+        RunFault::NotText => "not UTF-8",
+        RunFault::NotLiteral => "not a string literal",
+        RunFault::Memory => "out of memory",
+    }
+}
+
+/// Appends the line that says why there is no answer for the input with this path. For a read or a
+/// write that failed `why` has the words of the system, if it has any. Returns `Err` if an
+/// allocation fails, and a part of the line may then be appended.
+// ensures { OnOk result (string_bytes out.new
+//     ≡ string_bytes out.old ++ failure path.now fault why.now) }
+#[inline]
+pub fn put_failure(
+    out: &mut String,
+    path: &str,
+    fault: RunFault,
+    why: &str,
+) -> Result<(), AllocError> {
+    put_opening(out, path)?;
+    out.try_push_str(" ")?;
+    out.try_push_str(reason(fault, why))?;
+    out.try_push_str("\n")?;
+    Ok(())
+}
+
+/// Appends a number in decimal digits. Returns `Err` if an allocation fails.
+// ensures { OnOk result (string_bytes out.new ≡ string_bytes out.old ++ decimal number) }
+#[inline]
+fn put_number(out: &mut String, number: usize) -> Result<(), AllocError> {
+    let mut buffer = Buffer::new();
+    out.try_push_str(buffer.format(number))?;
+    Ok(())
+}
+
+/// Appends a place: the line, a colon and the column. Returns `Err` if an allocation fails.
+// ensures { OnOk result (string_bytes out.new ≡ string_bytes out.old ++ written place) }
+#[inline]
+fn put_place(out: &mut String, place: Place) -> Result<(), AllocError> {
+    put_number(out, place.line)?;
+    out.try_push_str(":")?;
+    put_number(out, place.column)?;
+    Ok(())
+}
+
+/// Appends the lines that say why the file with this path holds no string literal and where, and
+/// which option reads it as a text. Returns `Err` if an allocation fails, and a part of the lines
+/// may then be appended.
+// requires { IsCharBoundary file.now fault.now.offset }
+// ensures { OnOk result (string_bytes out.new
+//     ≡ string_bytes out.old ++ not_literal path.now file.now fault.now) }
+#[inline]
+pub fn put_not_literal(
+    out: &mut String,
+    path: &str,
+    file: &str,
+    fault: &LiteralFault,
+) -> Result<(), AllocError> {
+    put_opening(out, path)?;
+    put_place(out, place_at(file, fault.offset))?;
+    out.try_push_str(": ")?;
+    fault.kind.put_message(out)?;
+    out.try_push_str("\n  = help: with --text the input is read as it stands\n")?;
+    Ok(())
+}

@@ -1,0 +1,145 @@
+//! What is wrong with an escape.
+
+// Extracted from crates/literal_faults/src/escapes.rt by tools/extract: not to be edited.
+// That source is proved, and each contract here is its. That this text means the same is tested:
+// by results from outside, and beside what is proved (.ci/bindings) and the original (tools/agree).
+
+use crate::proved::literal_faults::fault::FaultKind;
+use crate::proved::rust_tokens::split_first;
+
+/// The most digits that a Unicode escape may have.
+const MOST_DIGITS: usize = 6;
+
+/// Returns the value of a hexadecimal digit, or `None` if the character is none.
+// ensures { result ≡ (if is_hex c then Some (digit_value c) else None) }
+#[inline]
+fn hex_digit(c: char) -> Option<u32> {
+    c.to_digit(16)
+}
+
+/// Returns what is left after the hexadecimal digit of a byte escape, or what is wrong where no
+/// digit comes next.
+// ensures { MatchResult result (λ r. after_digit (chars text.now) ≡ Ok (chars r.now))
+//     (λ k. after_digit (chars text.now) ≡ Err k) }
+#[inline]
+fn after_digit(text: &str) -> Result<&str, FaultKind> {
+    match split_first(text) {
+        None => Err(FaultKind::UnterminatedString),
+        Some((c, rest)) => {
+            if hex_digit(c).is_some() {
+                Ok(rest)
+            } else if c == '"' {
+                Err(FaultKind::TooShortHexEscape)
+            } else {
+                Err(FaultKind::InvalidCharInHexEscape(c))
+            }
+        }
+    }
+}
+
+/// Returns what is wrong with a byte escape, by what is after its `\x`.
+// ensures { result ≡ first_fault (after_digit (chars text.now)) }
+#[inline]
+fn byte_fault(text: &str) -> FaultKind {
+    let first = match after_digit(text) {
+        Ok(rest) => rest,
+        Err(kind) => return kind,
+    };
+    match after_digit(first) {
+        Ok(_) => FaultKind::OutOfRangeHexEscape,
+        Err(kind) => kind,
+    }
+}
+
+/// Returns the number that the hexadecimal digits at the start of a text write, `_` between them
+/// aside, or `None` if there are more than `MOST_DIGITS`.
+// ensures { result ≡ number (front is_part (chars text.now)) }
+#[inline]
+fn number(text: &str) -> Option<u32> {
+    let mut count = 0;
+    let mut value: u32 = 0;
+    let mut rest = text;
+    while let Some((c, more)) = split_first(rest) {
+        if let Some(digit) = hex_digit(c) {
+            if count == MOST_DIGITS {
+                return None;
+            }
+            value = value * 16 + digit;
+            count += 1;
+        } else if c != '_' {
+            return Some(value);
+        }
+        rest = more;
+    }
+    Some(value)
+}
+
+/// Returns what is wrong with the number that the digits at the start of a text write.
+// ensures { result ≡ number_fault (number (front is_part (chars text.now))) }
+#[inline]
+fn number_fault(text: &str) -> FaultKind {
+    match number(text) {
+        None => FaultKind::OverlongUnicodeEscape,
+        Some(value) => {
+            if value > 0x10_FFFF {
+                FaultKind::OutOfRangeUnicodeEscape
+            } else {
+                FaultKind::LoneSurrogateUnicodeEscape
+            }
+        }
+    }
+}
+
+/// Returns what is left of a text after the hexadecimal digits and `_` at its start.
+// ensures { chars result.now ≡ behind is_part (chars text.now) }
+#[inline]
+fn behind_digits(text: &str) -> &str {
+    let mut rest = text;
+    while let Some((c, more)) = split_first(rest) {
+        if hex_digit(c).is_none() && c != '_' {
+            return rest;
+        }
+        rest = more;
+    }
+    rest
+}
+
+/// Returns what is wrong with a Unicode escape, by what is after its opening brace.
+// ensures { result ≡ braces_fault (chars text.now) }
+#[inline]
+fn braces_fault(text: &str) -> FaultKind {
+    match split_first(text) {
+        Some(('_', _)) => return FaultKind::LeadingUnderscoreUnicodeEscape,
+        Some(('}', _)) => return FaultKind::EmptyUnicodeEscape,
+        _ => {}
+    }
+    match split_first(behind_digits(text)) {
+        None => FaultKind::UnterminatedString,
+        Some(('}', _)) => number_fault(text),
+        Some(('"', _)) => FaultKind::UnclosedUnicodeEscape,
+        Some((c, _)) => FaultKind::InvalidCharInUnicodeEscape(c),
+    }
+}
+
+/// Returns what is wrong with a Unicode escape, by what is after its `\u`.
+// ensures { result ≡ unicode_fault (chars text.now) }
+#[inline]
+fn unicode_fault(text: &str) -> FaultKind {
+    match split_first(text) {
+        None => FaultKind::UnterminatedString,
+        Some(('{', rest)) => braces_fault(rest),
+        Some(_) => FaultKind::NoBraceInUnicodeEscape,
+    }
+}
+
+/// Returns what is wrong with an escape, by what is after its backslash.
+// ensures { result ≡ escape_fault (chars text.now) }
+#[inline]
+pub fn escape_fault(text: &str) -> FaultKind {
+    match split_first(text) {
+        None => FaultKind::UnterminatedString,
+        Some(('x', rest)) => byte_fault(rest),
+        Some(('u', rest)) => unicode_fault(rest),
+        Some((c, _)) => FaultKind::InvalidEscape(c),
+    }
+}

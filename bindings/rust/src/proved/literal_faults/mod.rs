@@ -1,0 +1,15 @@
+//! Why a text is no string literal of Rust, and where, in the words of rustc ([`literal_fault`]).
+//! In a file white space may be around the literal ([`file_fault`]).
+
+// Extracted from crates/literal_faults/src/lib.rt by tools/extract: not to be edited.
+// That source is proved, and each contract here is its. That this text means the same is tested:
+// by results from outside, and beside what is proved (.ci/bindings) and the original (tools/agree).
+
+pub(crate) mod escapes;
+pub(crate) mod fault;
+pub(crate) mod margins;
+pub(crate) mod stops;
+pub(crate) mod words;
+
+pub use fault::LiteralFault;
+pub use margins::{file_fault, snippet_of};

@@ -1,0 +1,19 @@
+//! Where a text can no longer be read as the content of an ordinary string literal.
+
+// Extracted from crates/literal_faults/src/stops.rt by tools/extract: not to be edited.
+// That source is proved, and each contract here is its. That this text means the same is tested:
+// by results from outside, and beside what is proved (.ci/bindings) and the original (tools/agree).
+
+use crate::proved::rustc_parse_format::literal::split_first_unit;
+
+/// Returns what is left of a text after the characters and escapes of an ordinary string literal
+/// that it begins with.
+// ensures { StopsAt (chars content.now) (chars result.now) }
+#[inline]
+pub fn behind_units(content: &str) -> &str {
+    let mut rest = content;
+    while let Some((_, more)) = split_first_unit(rest) {
+        rest = more;
+    }
+    rest
+}

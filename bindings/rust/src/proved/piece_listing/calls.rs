@@ -1,0 +1,89 @@
+//! The lines of the pieces of a parser, each written as its call returns it: a placeholder is read
+//! into one argument again and again, so that a long text asks for no memory for each.
+
+// Extracted from crates/piece_listing/src/calls.rt by tools/extract: not to be edited.
+// That source is proved, and each contract here is its. That this text means the same is tested:
+// by results from outside, and beside what is proved (.ci/bindings) and the original (tools/agree).
+
+use super::listing::{put_argument, put_literal};
+use crate::proved::placeholder_check::Uses;
+use crate::proved::rustc_parse_format::{Argument, FormatSpec, Position, Taken};
+use crate::shim::alloc::AllocError;
+use crate::shim::parser::Parser;
+
+/// Makes the next call of a parser, and returns its piece. A placeholder is in `argument`. Returns
+/// `Err` if an allocation fails.
+// ensures piece { IfOk result (λ t. option_map (seen_taken argument.new) t
+//     ≡ option_map (piece_in parser.old.world) (next_call parser.old).piece) }
+// ensures state { OnOk result (parser.new ≡ after parser.old (next_call parser.old)) }
+// ensures spare { AddsNothing parser.old (next_call parser.old) → IsOk result }
+#[inline]
+fn next_taken<'a>(
+    parser: &mut Parser<'a>,
+    argument: &mut Argument<'a>,
+) -> Result<Option<Taken<'a>>, AllocError> {
+    let (taken, _) = parser.next_into(argument)?;
+    Ok(taken)
+}
+
+/// Appends the line of a piece. Returns `Err` if an allocation fails.
+// ensures { OnOk result (string_bytes out.new ≡ string_bytes out.old
+//     ++ piece_line (seen_taken argument.now taken.now)) }
+#[inline]
+fn put_taken(
+    out: &mut String,
+    taken: &Taken<'_>,
+    argument: &Argument<'_>,
+) -> Result<(), AllocError> {
+    match taken {
+        Taken::Lit(text) => put_literal(out, text)?,
+        Taken::NextArgument => put_argument(out, argument)?,
+    }
+    Ok(())
+}
+
+/// Adds the arguments that a piece uses, if they are to be compared with those that are given.
+/// Returns `Err` if an allocation fails.
+// ensures { OnOk result (IsTrue compares → (us : List Use) → Holds us uses.old
+//     → Holds (us ++ piece_uses (seen_taken argument.now taken.now)) uses.new) }
+#[inline]
+fn add_uses<'a>(
+    uses: &mut Uses<'a>,
+    compares: bool,
+    taken: &Taken<'a>,
+    argument: &Argument<'a>,
+) -> Result<(), AllocError> {
+    if compares && matches!(taken, Taken::NextArgument) {
+        uses.add(argument)?;
+    }
+    Ok(())
+}
+
+/// Appends the lines of the pieces of a parser up to the first call that returns `None`, and adds
+/// the arguments that they use to `used` if `compares` is set. Returns `Err` if an allocation
+/// fails.
+// ensures lines { OnOk result (string_bytes out.new ≡ string_bytes out.old
+//     ++ flat_map piece_line (pieces_in parser.old.world (pieces_of (calls parser.old)))) }
+// ensures used { OnOk result (IsTrue compares → (us : List Use) → Holds us used.old
+//     → Holds (us ++ uses (pieces_in parser.old.world (pieces_of (calls parser.old))))
+//     used.new) }
+// ensures state { OnOk result (parser.new ≡ after_all parser.old (calls parser.old)) }
+// ensures empty { parser.old.rest ≡ [] → parser.old.world.has_source ≡ false → IsOk result }
+#[inline]
+pub fn put_calls<'a>(
+    out: &mut String,
+    used: &mut Uses<'a>,
+    compares: bool,
+    parser: &mut Parser<'a>,
+) -> Result<(), AllocError> {
+    let mut argument = Argument {
+        position: Position::ArgumentImplicitlyIs(0),
+        position_span: 0..0,
+        format: FormatSpec::default(),
+    };
+    while let Some(taken) = next_taken(parser, &mut argument)? {
+        put_taken(out, &taken, &argument)?;
+        add_uses(used, compares, &taken, &argument)?;
+    }
+    Ok(())
+}

@@ -1,0 +1,103 @@
+//! A list of arguments as a word: their number by position, and then names, each after a comma.
+
+// Extracted from crates/piece_listing/src/given.rt by tools/extract: not to be edited.
+// That source is proved, and each contract here is its. That this text means the same is tested:
+// by results from outside, and beside what is proved (.ci/bindings) and the original (tools/agree).
+
+use crate::shim::alloc::{AllocError, Global};
+use crate::shim::prelude::*;
+
+/// The most digits that a number may have.
+const MOST_DIGITS: usize = 5;
+
+/// A list of arguments that are given.
+#[derive(Copy, Clone)]
+pub struct Given<'a> {
+    /// The number of arguments that are given by position.
+    pub positional: usize,
+    /// The names of the others, separated by commas, or `None` if there are none.
+    pub names: Option<&'a str>,
+}
+
+/// Returns what is before the first comma and what is after it, or `None` if there is no comma.
+// ensures parts { MatchOption result
+//     (parts text.now ≡ text.now ∷ [])
+//     (λ x. parts text.now ≡ x.0.now ∷ parts x.1.now) }
+// ensures shorter { IfSome result (λ x. length x.1.now < length text.now) }
+#[inline]
+fn around_comma(text: &str) -> Option<(&str, &str)> {
+    text.split_once(',')
+}
+
+/// Returns the number that a text of at most `MOST_DIGITS` digits is, or `None` if it is no number
+/// or more than 65535.
+// ensures { result ≡ (if is_number text.now then Some (digits_value 10 text.now) else None) }
+#[inline]
+fn number(text: &str) -> Option<usize> {
+    if text.len() > MOST_DIGITS || text.starts_with('+') {
+        return None;
+    }
+    match text.parse::<u16>() {
+        Ok(number) => Some(usize::from(number)),
+        Err(_) => None,
+    }
+}
+
+/// Returns whether a text is a list of names that are separated by commas, none of them empty.
+// ensures { result ≡ list_all is_name (parts text.now) }
+#[inline]
+fn are_names(text: &str) -> bool {
+    let mut rest = text;
+    while let Some((name, more)) = around_comma(rest) {
+        if name.is_empty() {
+            return false;
+        }
+        rest = more;
+    }
+    !rest.is_empty()
+}
+
+/// Returns the list of arguments that a word is, or `None` if it is none.
+// ensures { option_map seen_given result ≡ given_by word.now }
+#[inline]
+pub fn given_by(word: &str) -> Option<Given<'_>> {
+    let Some((digits, names)) = around_comma(word) else {
+        let positional = number(word)?;
+        return Some(Given {
+            positional,
+            names: None,
+        });
+    };
+    let positional = number(digits)?;
+    if !are_names(names) {
+        return None;
+    }
+    Some(Given {
+        positional,
+        names: Some(names),
+    })
+}
+
+/// Returns the parts of a text that are separated by commas. Returns `Err` if an allocation fails.
+// ensures { IfOk result (λ v. texts v.items ≡ map chars (parts text.now)) }
+#[inline]
+fn between_commas<'a>(alloc: Global, text: &'a str) -> Result<Vec<&'a str>, AllocError> {
+    let mut found = Vec::made_in(alloc);
+    let mut rest = text;
+    while let Some((name, more)) = around_comma(rest) {
+        found.try_push(name)?;
+        rest = more;
+    }
+    found.try_push(rest)?;
+    Ok(found)
+}
+
+/// Returns the names of a list of arguments. Returns `Err` if an allocation fails.
+// ensures { IfOk result (λ v. texts v.items ≡ seen_names names.entry) }
+#[inline]
+pub fn names<'a>(alloc: Global, names: Option<&'a str>) -> Result<Vec<&'a str>, AllocError> {
+    match names {
+        Some(text) => between_commas(alloc, text),
+        None => Ok(Vec::made_in(alloc)),
+    }
+}

@@ -1,0 +1,149 @@
+//! The listing of an input in UTF-8.
+
+// Extracted from crates/piece_listing/src/input.rt by tools/extract: not to be edited.
+// That source is proved, and each contract here is its. That this text means the same is tested:
+// by results from outside, and beside what is proved (.ci/bindings) and the original (tools/agree).
+
+use super::calls::put_calls;
+use super::given::Given;
+use super::listing::put_faults;
+use super::literal::{literal_text, without_newline};
+use super::report_lines::{has_entries, put_report, report_for};
+use super::task::Task;
+use super::verdict::RunFault;
+use crate::proved::placeholder_check::{Report, Uses};
+use crate::proved::rustc_parse_format::ParseError;
+use crate::shim::alloc::{AllocError, Global};
+use crate::shim::parser::Parser;
+use crate::shim::prelude::*;
+
+/// Appends the lines of errors and of a report. Returns whether there are any, and `Err` if an
+/// allocation fails.
+// ensures lines { OnOk result (string_bytes lines.new ≡ string_bytes lines.old
+//     ++ (flat_map fault_line (map seen_error errors.now)
+//     ++ report_lines (seen_report report.now))) }
+// ensures told { IfOk result (λ told. told ≡ (nat_lt 0 (length (map seen_error errors.now))
+//     || has_entries (seen_report report.now))) }
+// ensures empty { errors.now ≡ [] → seen_report report.now ≡ no_entries → IsOk result }
+#[inline]
+fn put_ends(
+    lines: &mut String,
+    errors: &[ParseError],
+    report: &Report<'_>,
+) -> Result<bool, AllocError> {
+    put_faults(lines, errors)?;
+    put_report(lines, report)?;
+    Ok(errors.len() > 0 || has_entries(report))
+}
+
+/// Returns the listing of what a parser reads up to the first call that returns `None`, with the
+/// report on the arguments that are given, and whether there is a line that is not of a piece.
+/// Returns `Err` if an allocation fails.
+// ensures lines { IfOk result (λ x.
+//     let ps = pieces_in parser.old.world (pieces_of (calls parser.old)) in
+//     let es = (after_all parser.old (calls parser.old)).errors in
+//     (r : ReportValue) × IsReportFor (option_map seen_given given.entry) ps r
+//     × ◌≡◌ {A = List ℕ × Bool} (string_bytes x.0, x.1)
+//     (listing ps es r, nat_lt 0 (length es) || has_entries r)) }
+// ensures empty { parser.old.rest ≡ [] → parser.old.world.has_source ≡ false
+//     → (after_all parser.old (calls parser.old)).errors ≡ [] → given.entry ≡ None
+//     → IsOk result }
+#[inline]
+fn list_calls<'a>(
+    alloc: Global,
+    parser: &mut Parser<'a>,
+    given: Option<Given<'a>>,
+) -> Result<(String, bool), AllocError> {
+    let mut lines = String::made_in(alloc);
+    let mut used = Uses::new(alloc);
+    put_calls(&mut lines, &mut used, given.is_some(), parser)?;
+    let report = report_for(alloc, &used, given)?;
+    let told = put_ends(&mut lines, parser.errors(), &report)?;
+    Ok((lines, told))
+}
+
+/// Reads a text with a parser, and returns its listing and whether there is a line that is not of a
+/// piece. Returns `Err` if an allocation fails.
+// requires { hashes style ≤ limit }
+// ensures lines { IfOk result (λ x. IsListed (seen_task task.entry)
+//     (record { text = chars text.now; style = style; snippet = seen_snippet snippet })
+//     (string_bytes x.0, x.1)) }
+// For an empty text, only the last line of a source literal and a report may allocate.
+// ensures empty { text.now ≡ []
+//     → (HasSource (chars text.now) style (seen_snippet snippet) false → ⊥)
+//     → task.entry.given ≡ None → IsOk result }
+#[inline]
+fn list_source(
+    alloc: Global,
+    text: &str,
+    style: Option<usize>,
+    snippet: Option<String>,
+    task: Task<'_>,
+) -> Result<(String, bool), AllocError> {
+    let mut parser = Parser::new(alloc, text, style, snippet, false, task.mode)?;
+    let listed = list_calls(alloc, &mut parser, task.given)?;
+    Ok(listed)
+}
+
+/// Returns the listing of the text that a literal stands for, and whether there is a line that is
+/// not of a piece. Returns `Err` if an allocation fails.
+// requires { hashes style ≤ limit }
+// ensures { IfOk result (λ x. IsListed (seen_task task.entry)
+//     (record { text = chars text.now; style = style; snippet = Some (chars literal.now) })
+//     (string_bytes x.0, x.1)) }
+#[inline]
+fn list_text_of(
+    alloc: Global,
+    literal: &str,
+    text: &str,
+    style: Option<usize>,
+    task: Task<'_>,
+) -> Result<(String, bool), AllocError> {
+    let snippet = String::made_from(alloc, literal)?;
+    list_source(alloc, text, style, Some(snippet), task)
+}
+
+/// Returns the listing of the text that the input stands for as a string literal, perhaps with a
+/// newline after it, as editors and shells end a line, and whether there is a line that is not of a
+/// piece. Returns `Err` if the input is not a string literal or an allocation fails.
+// requires { IsShort input.now }
+// ensures lines { IfOk result (λ x. (s : Source) × IsInLiteral (chars input.now) s
+//     × IsListed (seen_task task.entry) s (string_bytes x.0, x.1)) }
+// ensures not_literal { IsErrOf result NotLiteral → (s : Source) → IsInLiteral (chars input.now) s
+//     → ⊥ }
+// ensures not_words { IfErr result (λ fault. fault ≢ Words) }
+// ensures not_long { IfErr result (λ fault. fault ≢ TooLong) }
+// ensures is_text { IfErr result (λ fault. fault ≢ NotText) }
+// ensures empty { input.now ≡ [] → result ≡ Err NotLiteral }
+#[inline]
+fn list_literal(alloc: Global, input: &str, task: Task<'_>) -> Result<(String, bool), RunFault> {
+    let literal = without_newline(input);
+    let Some((text, style)) = literal_text(alloc, literal)? else {
+        return Err(RunFault::NotLiteral);
+    };
+    Ok(list_text_of(alloc, literal, text.as_str(), style, task)?)
+}
+
+/// Returns the listing of an input, and whether there is a line that is not of a piece. Returns
+/// `Err` if the task asks for a string literal and the input is none, or if an allocation fails.
+// requires { IsShort input.now }
+// ensures lines { IfOk result (λ x. (s : Source)
+//     × IsSourceOf task.entry.is_literal (chars input.now) s
+//     × IsListed (seen_task task.entry) s (string_bytes x.0, x.1)) }
+// ensures not_literal { IsErrOf result NotLiteral → (s : Source)
+//     → IsSourceOf task.entry.is_literal (chars input.now) s → ⊥ }
+// ensures not_words { IfErr result (λ fault. fault ≢ Words) }
+// ensures not_long { IfErr result (λ fault. fault ≢ TooLong) }
+// ensures is_text { IfErr result (λ fault. fault ≢ NotText) }
+// ensures empty { input.now ≡ [] → task.entry.is_literal ≡ false → task.entry.given ≡ None
+//     → IsOk result }
+// ensures empty_literal { input.now ≡ [] → task.entry.is_literal ≡ true
+//     → result ≡ Err NotLiteral }
+#[inline]
+pub fn list_input(alloc: Global, input: &str, task: Task<'_>) -> Result<(String, bool), RunFault> {
+    if task.is_literal {
+        list_literal(alloc, input, task)
+    } else {
+        Ok(list_source(alloc, input, None, None, task)?)
+    }
+}

@@ -1,0 +1,127 @@
+//! An input that is a string literal, and the text that it stands for.
+
+// Extracted from crates/piece_listing/src/literal.rt by tools/extract: not to be edited.
+// That source is proved, and each contract here is its. That this text means the same is tested:
+// by results from outside, and beside what is proved (.ci/bindings) and the original (tools/agree).
+
+use crate::proved::rustc_parse_format::literal::{between_quotes, content_text};
+use crate::shim::alloc::{AllocError, Global};
+use crate::shim::prelude::*;
+
+/// Returns a text without the character `c` at its end, or `None` if it does not end in `c`.
+// requires { c < 128 }
+// ensures front { MatchOption result
+//     ((t : Text) → t ++ c ∷ [] ≡ chars text.now → ⊥)
+//     (λ t. chars t.now ++ c ∷ [] ≡ chars text.now) }
+// ensures shorter { IfSome result (λ t. length t.now + 1 ≡ length text.now) }
+#[inline]
+fn in_front_of(text: &str, c: char) -> Option<&str> {
+    text.strip_suffix(c)
+}
+
+/// Returns a text without the newline at its end, if it ends in one.
+// ensures cut { (b : Bool) × (chars result.now ++ newline b ≡ chars text.now) }
+// A text that does not end in a newline, and is `text` or `text` without a newline at its end,
+// is the result.
+// ensures only { (l : Text) (b : Bool) → l ++ newline b ≡ chars text.now
+//     → ((t : Text) → t ++ newline true ≡ l → ⊥) → l ≡ chars result.now }
+// ensures short { length result.now ≤ length text.now }
+#[inline]
+pub fn without_newline(text: &str) -> &str {
+    match in_front_of(text, '\n') {
+        Some(line) => line,
+        None => text,
+    }
+}
+
+/// Returns a text without the character `c` at its start, or `None` if it does not begin with `c`.
+// requires { c < 128 }
+// ensures rest { MatchOption result
+//     ((t : Text) → chars text.now ≡ c ∷ t → ⊥)
+//     (λ t. chars text.now ≡ c ∷ chars t.now) }
+// ensures shorter { IfSome result (λ t. length t.now + 1 ≡ length text.now) }
+#[inline]
+fn behind(text: &str, c: char) -> Option<&str> {
+    text.strip_prefix(c)
+}
+
+/// Returns the number of hashes at the start of a text, and what is after them.
+// ensures all { chars text.now ≡ replicate result.0 35 ++ chars result.1.now }
+// ensures no_more { (t : Text) → chars result.1.now ≡ 35 ∷ t → ⊥ }
+// ensures few { result.0 + length result.1.now ≡ length text.now }
+#[inline]
+fn behind_hashes(text: &str) -> (usize, &str) {
+    let mut count = 0;
+    let mut rest = text;
+    while let Some(more) = behind(rest, '#') {
+        rest = more;
+        count += 1;
+    }
+    (count, rest)
+}
+
+/// Returns a text without `count` hashes at its end, or `None` if it does not end in as many.
+// ensures { MatchOption result
+//     ((t : Text) → t ++ replicate count 35 ≡ chars text.now → ⊥)
+//     (λ t. chars t.now ++ replicate count 35 ≡ chars text.now) }
+#[inline]
+fn in_front_of_hashes(text: &str, count: usize) -> Option<&str> {
+    let mut rest = text;
+    for _ in 0..count {
+        match in_front_of(rest, '#') {
+            Some(front) => rest = front,
+            None => return None,
+        }
+    }
+    Some(rest)
+}
+
+/// Returns the number of hashes of a raw string literal and the text between its quotes, or `None`
+/// if it is no raw string literal.
+// ensures text { MatchOption result
+//     ((n : ℕ) (t : Text) → chars literal.now ≡ raw_frame n t → ⊥)
+//     (λ x. chars literal.now ≡ raw_frame x.0 (chars x.1.now)) }
+// ensures few { IfSome result (λ x. x.0 ≤ length literal.now) }
+#[inline]
+pub fn raw_text(literal: &str) -> Option<(usize, &str)> {
+    let (hashes, rest) = behind_hashes(behind(literal, 'r')?);
+    let rest = behind(rest, '"')?;
+    let text = in_front_of(in_front_of_hashes(rest, hashes)?, '"')?;
+    Some((hashes, text))
+}
+
+/// Returns the text that an ordinary string literal stands for, or `None` if it is no ordinary
+/// string literal. Returns `Err` if an allocation fails.
+// ensures found { IfOk result (λ o. MatchOption o
+//     ((t : Text) → IsOrdinaryLiteral (chars literal.now) t → ⊥)
+//     (λ s. IsOrdinaryLiteral (chars literal.now) (chars (string_bytes s)))) }
+// ensures empty { literal.now ≡ [] → IsOk result }
+#[inline]
+fn ordinary_text(alloc: Global, literal: &str) -> Result<Option<String>, AllocError> {
+    let Some(content) = between_quotes(literal) else {
+        return Ok(None);
+    };
+    content_text(alloc, content)
+}
+
+/// Returns the text that a string literal stands for, and its style: the number of hashes of a raw
+/// one, or `None` for an ordinary one. Returns `None` if it is no string literal, and `Err` if an
+/// allocation fails. The rules are those of the Rust Reference.
+// ensures found { IfOk result (λ o. MatchOption o
+//     ((style : Option ℕ) (t : Text) → IsLiteral style (chars literal.now) t → ⊥)
+//     (λ x. IsLiteral x.1 (chars literal.now) (chars (string_bytes x.0)))) }
+// ensures few { IfOk result (λ o. IfSome o (λ x. hashes x.1 ≤ length literal.now)) }
+// ensures empty { literal.now ≡ [] → IsOk result }
+#[inline]
+pub fn literal_text(
+    alloc: Global,
+    literal: &str,
+) -> Result<Option<(String, Option<usize>)>, AllocError> {
+    if let Some((hashes, text)) = raw_text(literal) {
+        return Ok(Some((String::made_from(alloc, text)?, Some(hashes))));
+    }
+    match ordinary_text(alloc, literal)? {
+        Some(text) => Ok(Some((text, None))),
+        None => Ok(None),
+    }
+}

@@ -1,0 +1,98 @@
+//! The report on missing and unused arguments, and its lines.
+
+// Extracted from crates/piece_listing/src/report_lines.rt by tools/extract: not to be edited.
+// That source is proved, and each contract here is its. That this text means the same is tested:
+// by results from outside, and beside what is proved (.ci/bindings) and the original (tools/agree).
+
+use super::given::{names, Given};
+use super::listing::put_quoted;
+use super::numbers::put_number;
+use crate::proved::placeholder_check::{check_uses, Report, Uses};
+use crate::shim::alloc::{AllocError, Global};
+use crate::shim::prelude::*;
+
+/// Returns the report on the arguments that are used if these are given, or a report without
+/// entries for `None`. Returns `Err` if an allocation fails.
+// ensures report { IfOk result (λ r. (ps : List (Piece Place))
+//     → (IsSome given.entry → Holds (uses ps) used.now)
+//     → IsReportFor (option_map seen_given given.entry) ps (seen_report r)) }
+// ensures none { given.entry ≡ None → IsOk result }
+// ensures no_entries { given.entry ≡ None → IfOk result (λ r. seen_report r ≡ no_entries) }
+#[inline]
+pub fn report_for<'a>(
+    alloc: Global,
+    used: &Uses<'a>,
+    given: Option<Given<'a>>,
+) -> Result<Report<'a>, AllocError> {
+    match given {
+        Some(given) => {
+            let names = names(alloc, given.names)?;
+            check_uses(alloc, used, given.positional, names.as_slice())
+        }
+        None => Ok(Report {
+            missing_index: Vec::made_in(alloc),
+            missing_name: Vec::made_in(alloc),
+            unused_index: Vec::made_in(alloc),
+            unused_name: Vec::made_in(alloc),
+        }),
+    }
+}
+
+/// Returns whether a report has an entry.
+// ensures { result ≡ has_entries (seen_report report.now) }
+#[inline]
+pub fn has_entries(report: &Report<'_>) -> bool {
+    report.missing_index.len() > 0
+        || report.missing_name.len() > 0
+        || report.unused_index.len() > 0
+        || report.unused_name.len() > 0
+}
+
+/// Adds a line for each number, which begins with `label`. Returns `Err` if an allocation fails.
+// ensures lines { OnOk result (string_bytes out.new ≡ string_bytes out.old ++
+//     flat_map (index_line label.now) numbers.now) }
+// ensures empty { numbers.now ≡ [] → IsOk result }
+#[inline(always)]
+fn put_numbers(out: &mut String, label: &str, numbers: &[usize]) -> Result<(), AllocError> {
+    for n in numbers {
+        put_number(out, label, *n)?;
+        out.try_push('\n')?;
+    }
+    Ok(())
+}
+
+/// Adds the line of a name, which begins with `label`. Returns `Err` if an allocation fails.
+// ensures { OnOk result (string_bytes out.new ≡ string_bytes out.old ++
+//     name_line label.now (chars name.now)) }
+#[inline]
+fn put_name(out: &mut String, label: &str, name: &str) -> Result<(), AllocError> {
+    out.try_push_str(label)?;
+    put_quoted(out, name)?;
+    out.try_push('\n')?;
+    Ok(())
+}
+
+/// Adds a line for each name, which begins with `label`. Returns `Err` if an allocation fails.
+// ensures lines { OnOk result (string_bytes out.new ≡ string_bytes out.old ++
+//     flat_map (name_line label.now) (texts names.now)) }
+// ensures empty { names.now ≡ [] → IsOk result }
+#[inline]
+fn put_names(out: &mut String, label: &str, names: &[&str]) -> Result<(), AllocError> {
+    for name in names {
+        put_name(out, label, name)?;
+    }
+    Ok(())
+}
+
+/// Adds a line for each entry of a report. Returns `Err` if an allocation fails.
+// ensures lines { OnOk result (string_bytes out.new ≡ string_bytes out.old ++
+//     report_lines (seen_report report.now)) }
+// ensures empty { seen_report report.now ≡ no_entries → IsOk result }
+#[inline]
+pub fn put_report(out: &mut String, report: &Report<'_>) -> Result<(), AllocError> {
+    put_numbers(out, "missing index ", report.missing_index.as_slice())?;
+    put_names(out, "missing name ", report.missing_name.as_slice())?;
+    put_numbers(out, "unused index ", report.unused_index.as_slice())?;
+    put_names(out, "unused name ", report.unused_name.as_slice())?;
+    Ok(())
+}

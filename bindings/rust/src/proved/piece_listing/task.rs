@@ -1,0 +1,89 @@
+//! The command-line arguments of the program, parsed.
+
+// Extracted from crates/piece_listing/src/task.rt by tools/extract: not to be edited.
+// That source is proved, and each contract here is its. That this text means the same is tested:
+// by results from outside, and beside what is proved (.ci/bindings) and the original (tools/agree).
+
+use super::given::{given_by, Given};
+use crate::proved::rustc_parse_format::ParseMode;
+
+/// What the command-line arguments ask for.
+#[derive(Copy, Clone)]
+pub struct Task<'a> {
+    pub mode: ParseMode,
+    /// Whether the input is a string literal.
+    pub is_literal: bool,
+    /// The list of arguments to compare the pieces with, if there is one.
+    pub given: Option<Given<'a>>,
+}
+
+/// Returns the mode that a word names, or `None` if it names none.
+// ensures { option_map seen_mode result ≡ mode_named word.now }
+#[inline]
+fn mode_named(word: &str) -> Option<ParseMode> {
+    if word == "format" {
+        Some(ParseMode::Format)
+    } else if word == "asm" {
+        Some(ParseMode::InlineAsm)
+    } else if word == "diagnostic" {
+        Some(ParseMode::Diagnostic)
+    } else if word == "diagnostic-named" {
+        Some(ParseMode::DiagnosticNamed)
+    } else {
+        None
+    }
+}
+
+/// Returns the task with the mode that `word` names, or `None` if it names none.
+// ensures { option_map seen_task result
+//     ≡ task is_literal (option_map seen_given given.entry) (mode_named word.now) }
+#[inline]
+fn task_in<'a>(word: &str, is_literal: bool, given: Option<Given<'a>>) -> Option<Task<'a>> {
+    let mode = mode_named(word)?;
+    Some(Task {
+        mode,
+        is_literal,
+        given,
+    })
+}
+
+/// Returns the task with the mode that `word` names and the list of arguments in `list`, or `None`
+/// if `word` names no mode or `list` is not a list of arguments.
+// ensures { option_map seen_task result
+//     ≡ task_with is_literal (given_by list.now) (mode_named word.now) }
+#[inline]
+fn task_with<'a>(word: &str, is_literal: bool, list: &'a str) -> Option<Task<'a>> {
+    let given = given_by(list)?;
+    task_in(word, is_literal, Some(given))
+}
+
+/// Returns what the command-line arguments ask for, or `None` if they are invalid.
+// ensures { option_map seen_task result ≡ asked (map string_bytes words.now) }
+#[inline]
+pub fn asked(words: &[String]) -> Option<Task<'_>> {
+    match words {
+        [word] => task_in(word.as_str(), false, None),
+        [word, first] => {
+            if first.as_str() == "--literal" {
+                task_in(word.as_str(), true, None)
+            } else {
+                None
+            }
+        }
+        [word, first, list] => {
+            if first.as_str() == "--args" {
+                task_with(word.as_str(), false, list.as_str())
+            } else {
+                None
+            }
+        }
+        [word, first, second, list] => {
+            if first.as_str() == "--literal" && second.as_str() == "--args" {
+                task_with(word.as_str(), true, list.as_str())
+            } else {
+                None
+            }
+        }
+        _ => None,
+    }
+}

@@ -1,0 +1,56 @@
+//! The errors of the program, and the error message and exit status for each result.
+
+// Extracted from crates/piece_listing/src/verdict.rt by tools/extract: not to be edited.
+// That source is proved, and each contract here is its. That this text means the same is tested:
+// by results from outside, and beside what is proved (.ci/bindings) and the original (tools/agree).
+
+use crate::shim::alloc::AllocError;
+
+/// An error of `run`: the reason why the listing is not written, or not all of it.
+#[derive(Copy, Clone, Debug, Eq, PartialEq)]
+pub enum RunFault {
+    /// The command-line arguments are invalid.
+    Words,
+    /// A read failed.
+    Read,
+    /// The input is longer than 1,048,576 bytes.
+    TooLong,
+    /// The input is not UTF-8.
+    NotText,
+    /// The input is not a string literal, and has to be one.
+    NotLiteral,
+    /// An allocation failed.
+    Memory,
+    /// A write failed, or wrote no byte.
+    Write,
+}
+
+impl From<AllocError> for RunFault {
+    #[inline]
+    fn from(_error: AllocError) -> RunFault {
+        RunFault::Memory
+    }
+}
+
+/// Returns the message for standard error, which is empty if there is no error, and the exit status
+/// of the program: 0 if each line of the listing is of a piece, 1 if not, 2 if the command-line
+/// arguments are invalid or the input is not a string literal, and 3 after any other error. Does
+/// not allocate.
+// ensures { (result.0.now, result.1) ≡ verdict answer.now }
+#[inline]
+pub fn verdict(answer: &Result<bool, RunFault>) -> (&'static str, u8) {
+    match answer {
+        Ok(false) => ("", 0),
+        Ok(true) => ("", 1),
+        Err(RunFault::Words) => (
+            "usage: formatread format|asm|diagnostic|diagnostic-named [--literal] [--args N,NAME,..]",
+            2,
+        ),
+        Err(RunFault::NotLiteral) => ("formatread: input is not a string literal", 2),
+        Err(RunFault::Read) => ("formatread: reading failed", 3),
+        Err(RunFault::TooLong) => ("formatread: input is longer than 1048576 bytes", 3),
+        Err(RunFault::NotText) => ("formatread: input is not UTF-8", 3),
+        Err(RunFault::Memory) => ("formatread: out of memory", 3),
+        Err(RunFault::Write) => ("formatread: writing failed", 3),
+    }
+}

@@ -1,0 +1,110 @@
+//! Where literals and comments have their end, found in the bytes of a text. What marks an end is
+//! ASCII, and no byte of another character is.
+
+// Extracted from crates/rust_tokens/src/ends.rt by tools/extract: not to be edited.
+// That source is proved, and each contract here is its. That this text means the same is tested:
+// by results from outside, and beside what is proved (.ci/bindings) and the original (tools/agree).
+
+/// Returns what is left of a text, where these bytes are left of its bytes.
+// requires { IsRest text.now bytes.now }
+// ensures { result.now ≡ bytes.now }
+#[inline(always)]
+fn rest_of<'a>(text: &'a str, bytes: &[u8]) -> &'a str {
+    &text[text.len() - bytes.len()..]
+}
+
+/// Returns what is left after the closing quote of a string with escapes, from after its opening
+/// quote on, or `None` if it has no end.
+// ensures { option_map (λ r. chars r.now) result ≡ behind_string false (chars text.now) }
+#[inline]
+pub fn behind_string(text: &str) -> Option<&str> {
+    let mut rest = text.as_bytes();
+    let mut is_escaped = false;
+    while let Some((byte, more)) = rest.split_first() {
+        if is_escaped {
+            is_escaped = false;
+        } else if *byte == b'"' {
+            return Some(rest_of(text, more));
+        } else {
+            is_escaped = *byte == b'\\';
+        }
+        rest = more;
+    }
+    None
+}
+
+/// Returns what is left after the end of a block comment, from after its `/*` on, or `None` if it
+/// has no end.
+// ensures { option_map (λ r. chars r.now) result ≡ behind_comment 0 0 (chars text.now) }
+#[inline]
+pub fn behind_comment(text: &str) -> Option<&str> {
+    let mut rest = text.as_bytes();
+    let mut above: usize = 0;
+    let mut before = 0;
+    while let Some((byte, more)) = rest.split_first() {
+        if before == b'/' && *byte == b'*' {
+            above += 1;
+            before = 0;
+        } else if before == b'*' && *byte == b'/' {
+            if above == 0 {
+                return Some(rest_of(text, more));
+            }
+            above -= 1;
+            before = 0;
+        } else {
+            before = *byte;
+        }
+        rest = more;
+    }
+    None
+}
+
+/// Returns the bytes after this many hashes, or `None` if there are not so many.
+// ensures { option_map (λ r. r.now) result ≡ behind_hashes hashes bytes.now }
+#[inline]
+fn behind_hashes(bytes: &[u8], hashes: usize) -> Option<&[u8]> {
+    let mut rest = bytes;
+    let mut left = hashes;
+    while left > 0 {
+        let Some((byte, more)) = rest.split_first() else {
+            return None;
+        };
+        if *byte != b'#' {
+            return None;
+        }
+        rest = more;
+        left -= 1;
+    }
+    Some(rest)
+}
+
+/// Returns what is left after the end of a raw string with this many hashes, from after its opening
+/// quote on, or `None` if it has no end.
+// ensures { option_map (λ r. chars r.now) result ≡ behind_raw hashes (chars text.now) }
+#[inline]
+pub fn behind_raw(text: &str, hashes: usize) -> Option<&str> {
+    let mut rest = text.as_bytes();
+    while let Some((byte, more)) = rest.split_first() {
+        if *byte == b'"' {
+            if let Some(end) = behind_hashes(more, hashes) {
+                return Some(rest_of(text, end));
+            }
+        }
+        rest = more;
+    }
+    None
+}
+
+/// Returns the text from its first LF on.
+// ensures { chars result.now ≡ behind is_in_line (chars text.now) }
+#[inline]
+pub fn behind_line(text: &str) -> &str {
+    let mut rest = text.as_bytes();
+    while let Some((byte, more)) = rest.split_first() {
+        if *byte == b'\n' {
+            return rest_of(text, rest);
+        }
+        rest = more;
+    }
+    rest_of(text, rest)
+}

@@ -1,0 +1,214 @@
+//! The first token of a text.
+
+// Extracted from crates/rust_tokens/src/first.rt by tools/extract: not to be edited.
+// That source is proved, and each contract here is its. That this text means the same is tested:
+// by results from outside, and beside what is proved (.ci/bindings) and the original (tools/agree).
+
+use crate::proved::rust_tokens::bodies::{ended, unended, Body};
+use crate::proved::rust_tokens::bytes::{
+    is_plain_start, is_prefix_letter, is_sign, is_space_byte, is_word_byte,
+};
+use crate::proved::rust_tokens::ends::{behind_comment, behind_line, behind_raw, behind_string};
+use crate::proved::rust_tokens::kinds::Kind;
+use crate::proved::rust_tokens::literals::{
+    behind_char, behind_name, behind_raw_name, block_kind, line_kind,
+};
+use crate::proved::rust_tokens::numbers::first_number;
+use crate::proved::rust_tokens::openings::{first_opening, Opening};
+use crate::proved::rust_tokens::texts::{
+    behind_ascii_run, behind_run, is_id_start, is_punct, is_space, split_first, Class,
+};
+
+/// Returns the token with this end, or the one that is not ended, which takes all.
+// ensures { seen result ≡ closed kind (option_map (λ r. chars r.now) end.entry) }
+#[inline]
+fn closed<'a>(kind: Kind, end: Option<&'a str>) -> Body<'a> {
+    match end {
+        Some(rest) => ended(kind, rest),
+        None => unended(kind, ""),
+    }
+}
+
+/// Returns the token that begins with a `/` before the text.
+// ensures { seen result ≡ first_slashed (chars text.now) }
+#[inline]
+fn first_slashed(text: &str) -> Body<'_> {
+    let Some((c, rest)) = split_first(text) else {
+        return ended(Kind::Punct, text);
+    };
+    if c == '/' {
+        let kind = line_kind(rest);
+        return ended(kind, behind_line(rest));
+    }
+    if c == '*' {
+        return closed(block_kind(rest), behind_comment(rest));
+    }
+    ended(Kind::Punct, text)
+}
+
+/// Returns the token that begins with an apostrophe before the text.
+// ensures { seen result ≡ first_quoted (chars text.now) }
+#[inline]
+fn first_quoted(text: &str) -> Body<'_> {
+    if let Some(rest) = behind_char(text) {
+        return ended(Kind::Char, rest);
+    }
+    if let Some(rest) = behind_raw_name(text) {
+        return ended(Kind::RawLifetime, rest);
+    }
+    if let Some(rest) = behind_name(text) {
+        return ended(Kind::Lifetime, rest);
+    }
+    unended(Kind::Char, text)
+}
+
+/// Returns the token that begins with `c` before the text and has no opening.
+// ensures { seen result ≡ first_plain c (chars text.now) }
+#[inline]
+fn first_plain(c: char, text: &str) -> Body<'_> {
+    if is_id_start(c) {
+        let rest = behind_run(text, Class::Continue);
+        return ended(Kind::Ident, rest);
+    }
+    if c.is_ascii_digit() {
+        return first_number(c, text);
+    }
+    if c == '/' {
+        return first_slashed(text);
+    }
+    if c == '\'' {
+        return first_quoted(text);
+    }
+    let kind = if is_punct(c) {
+        Kind::Punct
+    } else {
+        Kind::Unknown
+    };
+    ended(kind, text)
+}
+
+/// Returns the token that goes on with the text after this opening.
+// ensures { (c : ℕ) (t : Text) → seen result ≡ by_opening c t (Some (opening, chars text.now)) }
+#[inline]
+fn opened(opening: Opening, text: &str) -> Body<'_> {
+    match opening {
+        Opening::Quote(kind) => closed(kind, behind_string(text)),
+        Opening::Raw(kind, hashes) => closed(kind, behind_raw(text, hashes)),
+        Opening::ByteQuote => match behind_char(text) {
+            Some(rest) => ended(Kind::Byte, rest),
+            None => unended(Kind::Byte, text),
+        },
+        Opening::RawWord => {
+            let rest = behind_run(text, Class::Continue);
+            ended(Kind::RawIdent, rest)
+        }
+    }
+}
+
+/// Returns the first token of a text, without its suffix, or `None` if the text is empty.
+// ensures { option_map (λ b. seen b) result ≡ first_of (chars text.now) }
+#[inline]
+pub fn first_body(text: &str) -> Option<Body<'_>> {
+    let Some((c, rest)) = split_first(text) else {
+        return None;
+    };
+    if is_space(c) {
+        let rest = behind_run(rest, Class::Space);
+        return Some(ended(Kind::Whitespace, rest));
+    }
+    match first_opening(text) {
+        Some((opening, rest)) => Some(opened(opening, rest)),
+        None => Some(first_plain(c, rest)),
+    }
+}
+
+/// Returns whether a token of this kind is a literal, which may have a suffix.
+// ensures { result ≡ is_literal kind }
+#[inline]
+fn is_literal(kind: Kind) -> bool {
+    matches!(
+        kind,
+        Kind::BinaryInt
+            | Kind::OctalInt
+            | Kind::DecimalInt
+            | Kind::HexadecimalInt
+            | Kind::Float
+            | Kind::Char
+            | Kind::Byte
+            | Kind::Str
+            | Kind::ByteStr
+            | Kind::CStr
+            | Kind::RawStr
+            | Kind::RawByteStr
+            | Kind::RawCStr
+    )
+}
+
+/// Returns what is left after a token with its suffix.
+// ensures { chars result.now
+//     ≡ behind_suffix (is_literal body.entry.kind && body.entry.is_ended)
+//     (chars body.entry.rest.now) }
+#[inline]
+pub fn behind_suffix(body: Body<'_>) -> &str {
+    if !(body.is_ended && is_literal(body.kind)) {
+        return body.rest;
+    }
+    let Some((c, rest)) = split_first(body.rest) else {
+        return body.rest;
+    };
+    if is_id_start(c) {
+        behind_run(rest, Class::Continue)
+    } else {
+        body.rest
+    }
+}
+
+/// Returns the second byte, or 0 if there is none.
+// ensures { result ≡ slice_index bytes.now 1 }
+#[inline(always)]
+fn second(bytes: &[u8]) -> u8 {
+    if bytes.len() > 1 {
+        bytes[1]
+    } else {
+        0
+    }
+}
+
+/// Returns whether the first two bytes show that a word begins, and no literal.
+// requires { 0 < length bytes.now }
+// ensures { result ≡ begins_word (slice_index bytes.now 0) (slice_index bytes.now 1) }
+#[inline(always)]
+fn begins_word(bytes: &[u8]) -> bool {
+    if is_plain_start(bytes[0]) {
+        return true;
+    }
+    let second = second(bytes);
+    is_prefix_letter(bytes[0]) && is_word_byte(second) && second != b'r'
+}
+
+/// Returns the kind of the first token and what is left after it if it is one of those of which
+/// there are most, which are no literals: punctuation, and white space and words of ASCII. Returns
+/// `None` of other tokens, of some words that begin as a prefix does, of a word or white space with
+/// a character outside ASCII right behind it, and of the empty text.
+// ensures first { IfSome result
+//     (λ x. Some (x.0, true, chars x.1.now) ≡ first_of (chars text.now)) }
+// ensures bare { IfSome result (λ x. is_literal x.0 ≡ false) }
+#[inline(always)]
+pub fn plain_token(text: &str) -> Option<(Kind, &str)> {
+    let bytes = text.as_bytes();
+    if bytes.is_empty() {
+        return None;
+    }
+    if is_sign(bytes[0]) {
+        return Some((Kind::Punct, &text[1..]));
+    }
+    if is_space_byte(bytes[0]) {
+        let rest = behind_ascii_run(text, Class::Space)?;
+        return Some((Kind::Whitespace, rest));
+    }
+    if begins_word(bytes) {
+        let rest = behind_ascii_run(text, Class::Continue)?;
+        return Some((Kind::Ident, rest));
+    }
+    None
+}

@@ -1,0 +1,109 @@
+//! Where characters and lifetimes end, and what a comment documents.
+
+// Extracted from crates/rust_tokens/src/literals.rt by tools/extract: not to be edited.
+// That source is proved, and each contract here is its. That this text means the same is tested:
+// by results from outside, and beside what is proved (.ci/bindings) and the original (tools/agree).
+
+use crate::proved::rust_tokens::kinds::Kind;
+use crate::proved::rust_tokens::texts::{
+    begins, behind_run, is_char_content, is_id_start, split_first, strip, Class,
+};
+
+/// Returns the kind of a line comment, by what is behind its `//`.
+// ensures { result ≡ line_kind (chars text.now) }
+#[inline]
+pub fn line_kind(text: &str) -> Kind {
+    let Some((c, rest)) = split_first(text) else {
+        return Kind::LineComment;
+    };
+    if c == '!' {
+        Kind::InnerLineDoc
+    } else if c == '/' && !begins(rest, Class::Slash) {
+        Kind::OuterLineDoc
+    } else {
+        Kind::LineComment
+    }
+}
+
+/// Returns the kind of a block comment, by what is behind its `/*`.
+// ensures { result ≡ block_kind (chars text.now) }
+#[inline]
+pub fn block_kind(text: &str) -> Kind {
+    let Some((c, rest)) = split_first(text) else {
+        return Kind::BlockComment;
+    };
+    if c == '!' {
+        Kind::InnerBlockDoc
+    } else if c == '*' && !begins(rest, Class::StarOrSlash) {
+        Kind::OuterBlockDoc
+    } else {
+        Kind::BlockComment
+    }
+}
+
+/// Returns what is left after an escape and an apostrophe, from after the backslash on, or `None`.
+// ensures { option_map (λ r. chars r.now) result ≡ behind_escape (chars text.now) }
+#[inline]
+fn behind_escape(text: &str) -> Option<&str> {
+    let Some((_, rest)) = split_first(text) else {
+        return None;
+    };
+    strip(behind_run(rest, Class::Escape), '\'')
+}
+
+/// Returns what is left after a character literal, from after its first apostrophe on, or `None` if
+/// there is none.
+// ensures { option_map (λ r. chars r.now) result ≡ behind_char (chars text.now) }
+#[inline]
+pub fn behind_char(text: &str) -> Option<&str> {
+    let Some((c, rest)) = split_first(text) else {
+        return None;
+    };
+    if c == '\\' {
+        return behind_escape(rest);
+    }
+    if is_char_content(c) {
+        return strip(rest, '\'');
+    }
+    None
+}
+
+/// Returns the text, or `None` if it begins with an apostrophe.
+// ensures { option_map (λ r. chars r.now) result ≡ unless_apostrophe (chars text.now) }
+#[inline]
+fn unless_apostrophe(text: &str) -> Option<&str> {
+    if begins(text, Class::Apostrophe) {
+        None
+    } else {
+        Some(text)
+    }
+}
+
+/// Returns what is left after a word that no apostrophe follows, or `None`.
+// ensures { option_map (λ r. chars r.now) result ≡ behind_name (chars text.now) }
+#[inline]
+pub fn behind_name(text: &str) -> Option<&str> {
+    let Some((c, rest)) = split_first(text) else {
+        return None;
+    };
+    if is_id_start(c) {
+        return unless_apostrophe(behind_run(rest, Class::Continue));
+    }
+    None
+}
+
+/// Returns what is left after `r#` and a word that no apostrophe follows, or `None`.
+// ensures { option_map (λ r. chars r.now) result ≡ behind_raw_name (chars text.now) }
+#[inline]
+pub fn behind_raw_name(text: &str) -> Option<&str> {
+    let Some((c, rest)) = split_first(text) else {
+        return None;
+    };
+    let Some((d, more)) = split_first(rest) else {
+        return None;
+    };
+    if c == 'r' && d == '#' {
+        return behind_name(more);
+    }
+    None
+}

@@ -1,0 +1,132 @@
+//! Numbers, from after their first digit on.
+
+// Extracted from crates/rust_tokens/src/numbers.rt by tools/extract: not to be edited.
+// That source is proved, and each contract here is its. That this text means the same is tested:
+// by results from outside, and beside what is proved (.ci/bindings) and the original (tools/agree).
+
+use crate::proved::rust_tokens::bodies::{ended, Body};
+use crate::proved::rust_tokens::kinds::Kind;
+use crate::proved::rust_tokens::texts::{begins, behind_run, split_first, Class};
+
+/// Returns what is left after a sign, or the text if it begins with none.
+// ensures { chars result.now ≡ behind_sign (chars text.now) }
+#[inline]
+fn behind_sign(text: &str) -> &str {
+    match split_first(text) {
+        Some((c, rest)) => {
+            if c == '+' || c == '-' {
+                rest
+            } else {
+                text
+            }
+        }
+        None => text,
+    }
+}
+
+/// Returns what is left after digits, or `None` if the text begins with none.
+// ensures { option_map (λ r. chars r.now) result ≡ behind_digits (chars text.now) }
+#[inline]
+fn behind_digits(text: &str) -> Option<&str> {
+    if begins(text, Class::Digit) {
+        Some(behind_run(text, Class::DigitPart))
+    } else {
+        None
+    }
+}
+
+/// Returns what is left after an exponent, or `None` if the text begins with none.
+// ensures { option_map (λ r. chars r.now) result ≡ behind_exponent (chars text.now) }
+#[inline]
+fn behind_exponent(text: &str) -> Option<&str> {
+    let Some((c, rest)) = split_first(text) else {
+        return None;
+    };
+    if c == 'e' || c == 'E' {
+        return behind_digits(behind_run(behind_sign(rest), Class::Underscore));
+    }
+    None
+}
+
+/// Returns what is left after a point that belongs to the number before it, or `None`.
+// ensures { option_map (λ r. chars r.now) result ≡ behind_point (chars text.now) }
+#[inline]
+fn behind_point(text: &str) -> Option<&str> {
+    let Some((c, rest)) = split_first(text) else {
+        return None;
+    };
+    if c == '.' && !begins(rest, Class::PointOrStart) {
+        Some(rest)
+    } else {
+        None
+    }
+}
+
+/// Returns a float with an exponent after which `exponent` is left, or else a number of this kind
+/// after which `rest` is left.
+// ensures { seen result ≡ exponent_or kind (chars rest.now)
+//     (option_map (λ r. chars r.now) exponent.entry) }
+#[inline]
+fn exponent_or<'a>(kind: Kind, rest: &'a str, exponent: Option<&'a str>) -> Body<'a> {
+    match exponent {
+        Some(rest) => ended(Kind::Float, rest),
+        None => ended(kind, rest),
+    }
+}
+
+/// Returns a number, from after its point on.
+// ensures { seen result ≡ behind_fraction (chars text.now) }
+#[inline]
+fn behind_fraction(text: &str) -> Body<'_> {
+    if begins(text, Class::Digit) {
+        let rest = behind_run(text, Class::DigitPart);
+        return exponent_or(Kind::Float, rest, behind_exponent(rest));
+    }
+    ended(Kind::Float, text)
+}
+
+/// Returns a decimal number, from after its first digit on.
+// ensures { seen result ≡ first_decimal (chars text.now) }
+#[inline]
+fn first_decimal(text: &str) -> Body<'_> {
+    let rest = behind_run(text, Class::DigitPart);
+    match behind_point(rest) {
+        Some(fraction) => behind_fraction(fraction),
+        None => exponent_or(Kind::DecimalInt, rest, behind_exponent(rest)),
+    }
+}
+
+/// Returns a number that begins with `0`, from after that on.
+// ensures { seen result ≡ first_zero (chars text.now) }
+#[inline]
+fn first_zero(text: &str) -> Body<'_> {
+    let Some((c, rest)) = split_first(text) else {
+        return first_decimal(text);
+    };
+    match c {
+        'b' => {
+            let rest = behind_run(rest, Class::DigitPart);
+            ended(Kind::BinaryInt, rest)
+        }
+        'o' => {
+            let rest = behind_run(rest, Class::DigitPart);
+            ended(Kind::OctalInt, rest)
+        }
+        'x' => {
+            let rest = behind_run(rest, Class::HexPart);
+            ended(Kind::HexadecimalInt, rest)
+        }
+        _ => first_decimal(text),
+    }
+}
+
+/// Returns the number that begins with the digit `c` before the text.
+// ensures { seen result ≡ first_number c (chars text.now) }
+#[inline]
+pub fn first_number(c: char, text: &str) -> Body<'_> {
+    if c == '0' {
+        first_zero(text)
+    } else {
+        first_decimal(text)
+    }
+}

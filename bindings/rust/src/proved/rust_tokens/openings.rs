@@ -1,0 +1,101 @@
+//! What begins with letters and is no plain word: literals with a prefix, and raw identifiers.
+
+// Extracted from crates/rust_tokens/src/openings.rt by tools/extract: not to be edited.
+// That source is proved, and each contract here is its. That this text means the same is tested:
+// by results from outside, and beside what is proved (.ci/bindings) and the original (tools/agree).
+
+use crate::proved::rust_tokens::kinds::Kind;
+use crate::proved::rust_tokens::texts::{
+    behind_run, count_hashes, is_id_start, split_first, strip, Class,
+};
+
+/// The opening of a token.
+#[derive(Clone, Copy)]
+pub enum Opening {
+    /// The letters of a string literal of this kind, and its quote.
+    Quote(Kind),
+    /// The letters of a raw string literal of this kind, this many hashes, and its quote.
+    Raw(Kind, usize),
+    /// `b'`.
+    ByteQuote,
+    /// `r#` of a raw identifier, and its first character.
+    RawWord,
+}
+
+/// Returns the opening of a raw string of this kind, and what is left after its quote, or `None` if
+/// the text does not begin with hashes and a quote.
+// ensures { option_map (λ x. (x.0, chars x.1.now)) result ≡ raw_opening kind (chars text.now) }
+#[inline]
+fn raw_opening(kind: Kind, text: &str) -> Option<(Opening, &str)> {
+    match strip(behind_run(text, Class::Hash), '"') {
+        Some(rest) => Some((Opening::Raw(kind, count_hashes(text)), rest)),
+        None => None,
+    }
+}
+
+/// Returns what is left after a hash and the first character of a word, or `None` if the text does
+/// not begin with these.
+// ensures { option_map (λ x. (x.0, chars x.1.now)) result ≡ word_opening (chars text.now) }
+#[inline]
+fn word_opening(text: &str) -> Option<(Opening, &str)> {
+    let Some((c, rest)) = split_first(text) else {
+        return None;
+    };
+    let Some((d, more)) = split_first(rest) else {
+        return None;
+    };
+    if c == '#' && is_id_start(d) {
+        Some((Opening::RawWord, more))
+    } else {
+        None
+    }
+}
+
+/// Returns the opening after a `b`, and what is left after it, or `None` if there is none.
+// ensures { option_map (λ x. (x.0, chars x.1.now)) result ≡ byte_opening (chars text.now) }
+#[inline]
+fn byte_opening(text: &str) -> Option<(Opening, &str)> {
+    let Some((c, rest)) = split_first(text) else {
+        return None;
+    };
+    match c {
+        '"' => Some((Opening::Quote(Kind::ByteStr), rest)),
+        '\'' => Some((Opening::ByteQuote, rest)),
+        'r' => raw_opening(Kind::RawByteStr, rest),
+        _ => None,
+    }
+}
+
+/// Returns the opening after a `c`, and what is left after it, or `None` if there is none.
+// ensures { option_map (λ x. (x.0, chars x.1.now)) result ≡ c_opening (chars text.now) }
+#[inline]
+fn c_opening(text: &str) -> Option<(Opening, &str)> {
+    let Some((c, rest)) = split_first(text) else {
+        return None;
+    };
+    match c {
+        '"' => Some((Opening::Quote(Kind::CStr), rest)),
+        'r' => raw_opening(Kind::RawCStr, rest),
+        _ => None,
+    }
+}
+
+/// Returns the opening of a token, and what is left after it, or `None` if the text begins with
+/// none.
+// ensures { option_map (λ x. (x.0, chars x.1.now)) result ≡ first_opening (chars text.now) }
+#[inline]
+pub fn first_opening(text: &str) -> Option<(Opening, &str)> {
+    let Some((c, rest)) = split_first(text) else {
+        return None;
+    };
+    match c {
+        '"' => Some((Opening::Quote(Kind::Str), rest)),
+        'b' => byte_opening(rest),
+        'c' => c_opening(rest),
+        'r' => match raw_opening(Kind::RawStr, rest) {
+            Some(found) => Some(found),
+            None => word_opening(rest),
+        },
+        _ => None,
+    }
+}

@@ -1,0 +1,104 @@
+//! The partner of each delimiter, and where the tokens break if they are no forest.
+
+// Extracted from crates/rust_trees/src/matching.rt by tools/extract: not to be edited.
+// That source is proved, and each contract here is its. That this text means the same is tested:
+// by results from outside, and beside what is proved (.ci/bindings) and the original (tools/agree).
+
+use crate::proved::rust_trees::leaves::Token;
+use crate::proved::rust_trees::sides::{is_same, Delimiter, Side};
+use crate::shim::alloc::{AllocError, Global};
+use crate::shim::prelude::*;
+
+/// Where tokens that are no forest break: the index of a token.
+#[derive(Clone, Copy)]
+pub enum Break {
+    /// A delimiter that is not closed: the last of these.
+    Unclosed(usize),
+    /// A closing delimiter where nothing is to be closed, or another kind of delimiter.
+    Unexpected(usize),
+}
+
+/// A delimiter that is not closed yet.
+#[derive(Clone, Copy)]
+pub struct Opening {
+    /// The index of the token.
+    pub at: usize,
+    /// The kind.
+    pub delimiter: Delimiter,
+}
+
+/// The pairs of delimiters in the tokens so far.
+pub struct Matching {
+    /// Of each token the index of its partner.
+    pub partners: Vec<Option<usize>>,
+    /// The delimiters that may still be closed.
+    pub openings: Vec<Opening>,
+    /// The first closing delimiter that nothing allows.
+    pub unexpected: Option<usize>,
+}
+
+/// Adds a closing delimiter. Returns `Err` if an allocation fails.
+// requires { (w : List Leaf) × IsMatched w found.old }
+// ensures { IfOk result (λ _. (w : List Leaf) (x : Leaf) → IsMatched w found.old
+//     → side x ≡ Side.Closes delimiter → IsMatched (w ++ x ∷ []) found.new) }
+#[inline]
+fn close(found: &mut Matching, delimiter: Delimiter) -> Result<(), AllocError> {
+    let index = found.partners.len();
+    if let Some(top) = found.openings.pop() {
+        if is_same(top.delimiter, delimiter) {
+            found.partners[top.at] = Some(index);
+            found.partners.try_push(Some(top.at))?;
+            return Ok(());
+        }
+    }
+    found.openings.clear();
+    found.unexpected = found.unexpected.or(Some(index));
+    found.partners.try_push(None)?;
+    Ok(())
+}
+
+/// Adds a token. Returns `Err` if an allocation fails.
+// requires { (w : List Leaf) × IsMatched w found.old }
+// ensures { IfOk result (λ _. (w : List Leaf) → IsMatched w found.old
+//     → IsMatched (w ++ leaf token.now ∷ []) found.new) }
+#[inline]
+pub fn add(found: &mut Matching, token: &Token<'_>) -> Result<(), AllocError> {
+    match token.side() {
+        Side::Neither => found.partners.try_push(None)?,
+        Side::Opens(delimiter) => {
+            let at = found.partners.len();
+            found.openings.try_push(Opening { at, delimiter })?;
+            found.partners.try_push(None)?;
+        }
+        Side::Closes(delimiter) => close(found, delimiter)?,
+    }
+    Ok(())
+}
+
+/// Returns the pairs of delimiters in these tokens. Returns `Err` if an allocation fails.
+// ensures { IfOk result (λ m. IsMatched (map leaf tokens.now) m) }
+#[inline]
+pub fn match_delimiters(alloc: Global, tokens: &[Token<'_>]) -> Result<Matching, AllocError> {
+    let mut found = Matching {
+        partners: Vec::made_in(alloc),
+        openings: Vec::made_in(alloc),
+        unexpected: None,
+    };
+    for token in tokens {
+        add(&mut found, token)?;
+    }
+    Ok(found)
+}
+
+/// Returns where the tokens break, or `None` if they are a forest.
+// ensures { (w : List Leaf) → HasOpen w openings.items unexpected → Breaks w result }
+#[inline]
+pub fn break_of(unexpected: Option<usize>, mut openings: Vec<Opening>) -> Option<Break> {
+    match unexpected {
+        Some(index) => Some(Break::Unexpected(index)),
+        None => match openings.pop() {
+            Some(opening) => Some(Break::Unclosed(opening.at)),
+            None => None,
+        },
+    }
+}

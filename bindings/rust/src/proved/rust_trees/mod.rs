@@ -1,0 +1,18 @@
+//! Token trees of Rust source text: the tokens of a file without white space and comments, and the
+//! pairs of delimiters among them.
+
+// Extracted from crates/rust_trees/src/lib.rt by tools/extract: not to be edited.
+// That source is proved, and each contract here is its. That this text means the same is tested:
+// by results from outside, and beside what is proved (.ci/bindings) and the original (tools/agree).
+
+pub(crate) mod leaves;
+pub(crate) mod matching;
+pub(crate) mod places;
+pub(crate) mod sides;
+pub(crate) mod source;
+
+pub use leaves::Token;
+pub use matching::Break;
+pub use places::{place_at, Place, Places};
+pub use sides::Side;
+pub use source::Source;

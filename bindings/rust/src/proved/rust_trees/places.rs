@@ -1,0 +1,157 @@
+//! Places in a text as an editor shows them.
+
+// Extracted from crates/rust_trees/src/places.rt by tools/extract: not to be edited.
+// That source is proved, and each contract here is its. That this text means the same is tested:
+// by results from outside, and beside what is proved (.ci/bindings) and the original (tools/agree).
+
+use crate::proved::rust_tokens::split_first;
+use crate::shim::alloc::{AllocError, Global};
+use crate::shim::prelude::*;
+
+/// A line and a column of a text, both from 1. An LF ends a line, and a column counts characters,
+/// but no CR in front of an LF and no byte order mark at the start.
+#[derive(Clone, Copy)]
+pub struct Place {
+    /// The line.
+    pub line: usize,
+    /// The column.
+    pub column: usize,
+}
+
+/// Returns whether an LF is the next character of two texts, one after the other.
+// ensures { result ≡ first_passes is_lf (chars text.now ++ chars back.now) }
+#[inline]
+fn is_lf_next(text: &str, back: &str) -> bool {
+    match split_first(text) {
+        Some((c, _)) => c == '\n',
+        None => match split_first(back) {
+            Some((c, _)) => c == '\n',
+            None => false,
+        },
+    }
+}
+
+/// Returns the place behind a character at this place, where an LF may follow.
+// requires line { place.line + 1 < 2 ^ 64 }
+// requires column { place.column + 1 < 2 ^ 64 }
+// ensures { result ≡ behind_char place c is_before_lf }
+#[inline]
+fn behind_char(place: Place, c: char, is_before_lf: bool) -> Place {
+    if c == '\n' {
+        Place {
+            line: place.line + 1,
+            column: 1,
+        }
+    } else if c == '\r' && is_before_lf {
+        place
+    } else {
+        Place {
+            line: place.line,
+            column: place.column + 1,
+        }
+    }
+}
+
+/// Returns the place behind a text at this place, where another text follows.
+// requires line { place.line + length front.now < 2 ^ 64 }
+// requires column { place.column + length front.now < 2 ^ 64 }
+// ensures { result ≡ place_after place (chars front.now) (chars back.now) }
+#[inline]
+pub fn place_after(place: Place, front: &str, back: &str) -> Place {
+    let mut reached = place;
+    let mut rest = front;
+    while let Some((c, more)) = split_first(rest) {
+        reached = behind_char(reached, c, is_lf_next(more, back));
+        rest = more;
+    }
+    reached
+}
+
+/// Returns the text without the byte order mark at its start.
+// ensures value { chars result.now ≡ without_mark (chars text.now) }
+// ensures within { length result.now ≤ length text.now }
+#[inline]
+fn without_mark(text: &str) -> &str {
+    match split_first(text) {
+        Some(('\u{feff}', rest)) => rest,
+        _ => text,
+    }
+}
+
+/// Returns the place of a byte offset at which a character of the text starts, or at its end.
+// requires { IsCharBoundary text.now offset }
+// ensures { result ≡ place_of text.now offset }
+#[inline]
+pub fn place_at(text: &str, offset: usize) -> Place {
+    let (front, back) = text.split_at(offset);
+    place_after(Place { line: 1, column: 1 }, without_mark(front), back)
+}
+
+/// How many bytes there are between two places that are known of a text.
+const STEP: usize = 4096;
+
+/// A byte offset of a text with its place.
+#[derive(Clone, Copy)]
+pub struct Known {
+    pub offset: usize,
+    pub place: Place,
+}
+
+/// Returns the place of a byte offset, from the last place before it of those that are known.
+// requires known { All (IsKnown text.now) known.now }
+// requires boundary { IsCharBoundary text.now offset }
+// ensures { result ≡ place_of text.now offset }
+#[inline]
+fn place_from(text: &str, known: &[Known], offset: usize) -> Place {
+    let count = known.len().min(offset / STEP);
+    if count > 0 {
+        let last = known[count - 1];
+        if last.offset <= offset {
+            return place_after(last.place, &text[last.offset..offset], &text[offset..]);
+        }
+    }
+    place_at(text, offset)
+}
+
+/// Adds a byte offset with its place to those that are known, unless it is 0. Returns `Err` if an
+/// allocation fails.
+// requires known { All (IsKnown text.now) known.old.items }
+// requires boundary { IsCharBoundary text.now offset }
+// ensures { All (IsKnown text.now) known.new.items }
+#[inline]
+fn add_known(known: &mut Vec<Known>, text: &str, offset: usize) -> Result<(), AllocError> {
+    if offset == 0 {
+        return Ok(());
+    }
+    let place = place_from(text, known, offset);
+    known.try_push(Known { offset, place })?;
+    Ok(())
+}
+
+/// A text in which the place of a byte offset is found in a time that is not longer in a longer
+/// text.
+pub struct Places<'a> {
+    text: &'a str,
+    known: Vec<Known>,
+}
+
+impl<'a> Places<'a> {
+    /// Reads a text. Returns `Err` if an allocation fails.
+    // ensures { IfOk result (λ p. p ≡ text.now) }
+    #[inline]
+    pub fn new(alloc: Global, text: &'a str) -> Result<Self, AllocError> {
+        let mut known = Vec::made_in(alloc);
+        for step in 1..=text.len() / STEP {
+            add_known(&mut known, text, text.boundary_at_most(step * STEP))?;
+        }
+        Ok(Places { text, known })
+    }
+
+    /// Returns the place of a byte offset at which a character of the text starts, or at its end.
+    // requires { IsCharBoundary self.now offset }
+    // ensures { result ≡ place_of self.now offset }
+    #[inline]
+    pub fn at(&self, offset: usize) -> Place {
+        place_from(self.text, &self.known, offset)
+    }
+}

@@ -1,0 +1,59 @@
+//! What a token is among pairs of delimiters.
+
+// Extracted from crates/rust_trees/src/sides.rt by tools/extract: not to be edited.
+// That source is proved, and each contract here is its. That this text means the same is tested:
+// by results from outside, and beside what is proved (.ci/bindings) and the original (tools/agree).
+
+use crate::proved::rust_tokens::Kind;
+
+/// A kind of delimiters.
+#[derive(Clone, Copy)]
+pub enum Delimiter {
+    /// `(` and `)`
+    Parenthesis,
+    /// `[` and `]`
+    Bracket,
+    /// `{` and `}`
+    Brace,
+}
+
+/// What a token is among pairs of delimiters.
+#[derive(Clone, Copy)]
+pub enum Side {
+    /// It opens a pair.
+    Opens(Delimiter),
+    /// It closes a pair.
+    Closes(Delimiter),
+    /// It is no delimiter.
+    Neither,
+}
+
+/// Returns what a token of this kind with this text is.
+// ensures { result ≡ side_of kind text.now }
+#[inline]
+pub fn side_of(kind: Kind, text: &str) -> Side {
+    if !matches!(kind, Kind::Punct) {
+        return Side::Neither;
+    }
+    match text.as_bytes().first() {
+        Some(b'(') => Side::Opens(Delimiter::Parenthesis),
+        Some(b')') => Side::Closes(Delimiter::Parenthesis),
+        Some(b'[') => Side::Opens(Delimiter::Bracket),
+        Some(b']') => Side::Closes(Delimiter::Bracket),
+        Some(b'{') => Side::Opens(Delimiter::Brace),
+        Some(b'}') => Side::Closes(Delimiter::Brace),
+        _ => Side::Neither,
+    }
+}
+
+/// Returns whether two delimiters are of one kind.
+// ensures { result ≡ is_same opening closing }
+#[inline]
+pub fn is_same(opening: Delimiter, closing: Delimiter) -> bool {
+    matches!(
+        (opening, closing),
+        (Delimiter::Parenthesis, Delimiter::Parenthesis)
+            | (Delimiter::Bracket, Delimiter::Bracket)
+            | (Delimiter::Brace, Delimiter::Brace)
+    )
+}

@@ -1,0 +1,193 @@
+//! What a program gets from its process: arguments, streams, files and the environment. A call that
+//! fails is not tried again, and nothing that was written waits in a buffer.
+use super::alloc::{AllocError, Global};
+use std::fmt::Display;
+use std::io::{self, Read, Write};
+
+/// The process of a program.
+pub struct HostRuntime;
+
+impl HostRuntime {
+    /// Returns the allocator.
+    pub fn alloc(&self) -> Global {
+        Global
+    }
+
+    /// Returns standard input.
+    pub fn stdin(&self) -> Stdin {
+        Stdin
+    }
+
+    /// Returns standard output.
+    pub fn stdout(&self) -> Stdout {
+        Stdout
+    }
+
+    /// Writes a text to standard output.
+    pub fn print(&self, text: impl Display) -> io::Result<()> {
+        self.stdout().write_all(text.to_string().as_bytes())
+    }
+
+    /// Writes a text to standard error.
+    pub fn eprint(&self, text: impl Display) -> io::Result<()> {
+        io::stderr().write_all(text.to_string().as_bytes())
+    }
+
+    /// Writes a line to standard error.
+    pub fn eprintln(&self, text: impl Display) -> io::Result<()> {
+        self.eprint(format_args!("{text}\n"))
+    }
+}
+
+/// Standard input.
+pub struct Stdin;
+
+impl Read for Stdin {
+    fn read(&mut self, bytes: &mut [u8]) -> io::Result<usize> {
+        io::stdin().read(bytes)
+    }
+}
+
+/// Standard output.
+pub struct Stdout;
+
+impl Write for Stdout {
+    fn write(&mut self, bytes: &[u8]) -> io::Result<usize> {
+        let mut stream = io::stdout();
+        let count = stream.write(bytes)?;
+        stream.flush()?;
+        Ok(count)
+    }
+
+    fn flush(&mut self) -> io::Result<()> {
+        io::stdout().flush()
+    }
+}
+
+/// What the standard library says of a terminal only since Rust 1.70.
+pub trait IsTerminal {
+    /// Returns whether the stream is a terminal.
+    fn is_terminal(&self) -> bool;
+}
+
+impl IsTerminal for Stdin {
+    fn is_terminal(&self) -> bool {
+        is_terminal("/dev/stdin")
+    }
+}
+
+impl IsTerminal for Stdout {
+    fn is_terminal(&self) -> bool {
+        is_terminal("/dev/stdout")
+    }
+}
+
+/// Returns whether a path leads to a terminal, by the numbers that Linux gives its devices.
+#[cfg(target_os = "linux")]
+fn is_terminal(path: &str) -> bool {
+    use std::os::unix::fs::{FileTypeExt, MetadataExt};
+    let Ok(found) = std::fs::metadata(path) else {
+        return false;
+    };
+    let major = (found.rdev() >> 8) & 0xfff;
+    found.file_type().is_char_device() && matches!(major, 4 | 5 | 136..=143 | 166 | 188 | 204 | 229)
+}
+
+/// Returns that there is no terminal, where there is no call of the oldest library that knows it.
+#[cfg(not(target_os = "linux"))]
+fn is_terminal(_: &str) -> bool {
+    false
+}
+
+/// The methods of iterators that take an allocator or return an allocation failure.
+pub trait IterIn: Iterator + Sized {
+    fn collect_in<C: FromIterator<Self::Item>>(self, _: Global) -> Result<C, AllocError> {
+        Ok(self.collect())
+    }
+}
+
+impl<I: Iterator> IterIn for I {}
+
+/// The arguments and the environment of a program.
+pub mod env {
+    use super::HostRuntime;
+    use std::io::{Error, ErrorKind, Result};
+
+    /// The arguments of a program, with its name as the first one.
+    pub type Args = std::vec::IntoIter<String>;
+
+    /// Returns the arguments. Returns `Err` if one of them is not UTF-8.
+    pub fn args(_: &HostRuntime) -> Result<Args> {
+        let words = std::env::args_os().map(|word| word.into_string());
+        let words: std::result::Result<Vec<String>, _> = words.collect();
+        match words {
+            Ok(words) => Ok(words.into_iter()),
+            Err(_) => Err(Error::from(ErrorKind::InvalidData)),
+        }
+    }
+
+    /// Returns the value of a variable. Returns `Err` if it is not there or not UTF-8.
+    pub fn var(_: &HostRuntime, name: &str) -> std::result::Result<String, std::env::VarError> {
+        std::env::var(name)
+    }
+}
+
+/// Files and folders, by paths that are UTF-8.
+pub mod fs {
+    use super::HostRuntime;
+    use std::ffi::OsString;
+    use std::io::{Error, ErrorKind, Result};
+    use std::marker::PhantomData;
+
+    /// Opens a file, to be read.
+    pub fn open(_: &HostRuntime, path: &str) -> Result<std::fs::File> {
+        std::fs::File::open(path)
+    }
+
+    /// Returns what a path leads to.
+    pub fn metadata(_: &HostRuntime, path: &str) -> Result<std::fs::Metadata> {
+        std::fs::metadata(path)
+    }
+
+    fn text_of(name: OsString) -> Result<String> {
+        let fault = |_| Error::from(ErrorKind::InvalidData);
+        name.into_string().map_err(fault)
+    }
+
+    /// Returns the path from the root on, without links.
+    pub fn canonicalize(_: &HostRuntime, path: &str) -> Result<String> {
+        text_of(std::fs::canonicalize(path)?.into_os_string())
+    }
+
+    /// An entry of a folder.
+    pub struct DirEntry<R> {
+        name: String,
+        entry: std::fs::DirEntry,
+        host: PhantomData<R>,
+    }
+
+    impl<R> DirEntry<R> {
+        /// Returns its name.
+        pub fn file_name(&self) -> &str {
+            &self.name
+        }
+
+        /// Returns what it is, where a link is one.
+        pub fn file_type(&self) -> Result<std::fs::FileType> {
+            self.entry.file_type()
+        }
+    }
+
+    /// Returns the entries of a folder, in any order.
+    pub fn read_dir(
+        _: &HostRuntime,
+        path: &str,
+    ) -> Result<impl Iterator<Item = Result<DirEntry<HostRuntime>>>> {
+        let entry_of = |entry: std::fs::DirEntry| {
+            let name = text_of(entry.file_name())?;
+            let host = PhantomData;
+            Ok(DirEntry { name, entry, host })
+        };
+        Ok(std::fs::read_dir(path)?.map(move |entry| entry_of(entry?)))
+    }
+}

@@ -1,0 +1,311 @@
+//! Rust source text, without a compiler: its [`tokens`], the [`calls`] of macros that take a format
+//! string, and what is wrong with one, as rustc 1.95 tells it ([`call_faults`]).
+//!
+//! Nothing is expanded and no name is resolved: a call is found by the name of its macro, also where
+//! it is never compiled.
+//!
+//! ```
+//! use dephungo::source::{calls, Places, Table};
+//!
+//! let text = "fn main() {\n    println!(\"{} {}\", x);\n}\n";
+//! let call = &calls(text, &Table::standard(), true)[0];
+//! assert_eq!((call.name, call.literal()), ("println", Some("\"{} {}\"")));
+//! assert_eq!(call.arguments[1].given.variable, Some("x"));
+//!
+//! let place = Places::new(text).at(call.span.start);
+//! assert_eq!((place.line, place.column), (2, 5));
+//! ```
+use crate::proved::call_faults::{call_faults as call_faults_in, Checked as CheckedIn};
+use crate::proved::format_calls::{arguments, calls as calls_in, format_string};
+use crate::proved::format_calls::{Argument as ArgumentIn, Table as TableIn};
+use crate::proved::rust_tokens::tokens as tokens_in;
+use crate::proved::rust_trees::{Break, Places as PlacesIn, Source as SourceIn};
+use crate::shim::alloc::{answer, Global};
+use crate::Piece;
+use std::ops::Range;
+
+pub use crate::proved::call_faults::{CallFault, FormatString, Given, Missing, Part, Reference};
+pub use crate::proved::format_calls::{Reason, Row, Rule};
+pub use crate::proved::rust_tokens::{Kind, Token};
+pub use crate::proved::rust_trees::Place;
+
+/// Returns the tokens of a file, with white space and comments, one behind the other from its start
+/// to its end. An allocation failure aborts, as elsewhere in Rust.
+///
+/// There is one reading for all editions, that of the newest one: `c"a"` is a C string and `'r#a` a
+/// raw lifetime, which before 2021 were two and three tokens. Prefixes and quotes that newer editions
+/// only reserve, as in `f"a"` and `#"a"#`, are read as separate tokens. Each character of
+/// punctuation is a token. A wrong escape, a wrong digit and the suffix `_` change no token.
+///
+/// ```
+/// use dephungo::source::{tokens, Kind};
+///
+/// let text = "a(\"b\"u8) // c";
+/// let found: Vec<_> = tokens(text).into_iter().map(|it| (it.kind, &text[it.span])).collect();
+/// let wanted = [
+///     (Kind::Ident, "a"),
+///     (Kind::Punct, "("),
+///     (Kind::Str, "\"b\"u8"),
+///     (Kind::Punct, ")"),
+///     (Kind::Whitespace, " "),
+///     (Kind::LineComment, "// c"),
+/// ];
+/// assert_eq!(found, wanted);
+/// ```
+pub fn tokens(text: &str) -> Vec<Token> {
+    answer(tokens_in(Global, text))
+}
+
+/// A text in which the place of a byte offset is found in a time that is not longer in a longer
+/// text.
+pub struct Places<'a> {
+    places: PlacesIn<'a>,
+}
+
+impl<'a> Places<'a> {
+    /// Reads a text. An allocation failure aborts, as elsewhere in Rust.
+    pub fn new(text: &'a str) -> Places<'a> {
+        Places {
+            places: answer(PlacesIn::new(Global, text)),
+        }
+    }
+
+    /// Returns the line and the column of a byte offset, as rustc tells them.
+    ///
+    /// ```
+    /// use dephungo::source::Places;
+    ///
+    /// let place = Places::new("a\r\né b").at(6);
+    /// assert_eq!((place.line, place.column), (2, 3));
+    /// ```
+    ///
+    /// # Panics
+    ///
+    /// If no character of the text starts there, and it is not its end.
+    pub fn at(&self, offset: usize) -> Place {
+        self.places.at(offset)
+    }
+}
+
+/// A table of macros that take a format string. Of two with one name the first one counts.
+pub struct Table<'a> {
+    table: TableIn<'a>,
+}
+
+impl<'a> Table<'a> {
+    /// Returns the macros of the standard library. An allocation failure aborts, as elsewhere in
+    /// Rust.
+    pub fn standard() -> Table<'a> {
+        Table {
+            table: answer(TableIn::standard(Global)),
+        }
+    }
+
+    /// Returns macros of the crates log, tracing, slog, anyhow and eyre. An allocation failure
+    /// aborts, as elsewhere in Rust.
+    pub fn of_crates() -> Table<'a> {
+        Table {
+            table: answer(TableIn::of_crates(Global)),
+        }
+    }
+
+    /// Returns the macros, the first one first.
+    pub fn rows(&self) -> &[Row<'a>] {
+        &self.table.rows
+    }
+
+    /// Adds a macro in front of the others. An allocation failure aborts, as elsewhere in Rust.
+    ///
+    /// ```
+    /// use dephungo::source::{calls, Row, Rule, Table};
+    ///
+    /// let mut table = Table::standard();
+    /// table.add(Row { name: "say", rule: Rule::At(1) });
+    /// let found = calls("say!(to, \"{}\", x)", &table, true);
+    /// assert_eq!(found[0].literal(), Some("\"{}\""));
+    /// ```
+    pub fn add(&mut self, row: Row<'a>) {
+        answer(self.table.add(row));
+    }
+}
+
+/// A call of a macro: a word, `!` and a pair of delimiters.
+#[derive(Clone)]
+pub struct Call<'a> {
+    /// The name of the macro, without the `r#` of a raw identifier.
+    pub name: &'a str,
+    /// Its byte range, from the name to the closing delimiter.
+    pub span: Range<usize>,
+    /// What stands between the delimiters, split at commas, with the format string.
+    pub arguments: Vec<CallArgument<'a>>,
+    /// The index of the argument that is the format string, or why none is read.
+    pub string: Result<usize, Reason>,
+}
+
+/// An argument of a call of a macro.
+#[derive(Clone)]
+pub struct CallArgument<'a> {
+    /// What [`call_faults`] has to know of it.
+    pub given: Given<'a>,
+    /// Its text, with its name.
+    pub text: &'a str,
+    /// The byte range of that. It is empty if nothing stands between two commas.
+    pub span: Range<usize>,
+    /// The byte range of its value, which is what stands behind the `=` of a name.
+    pub value: Range<usize>,
+}
+
+impl<'a> Call<'a> {
+    /// Returns the literal that is the format string, with its quotes, or `None` if none is read.
+    pub fn literal(&self) -> Option<&'a str> {
+        let index = self.string.ok()?;
+        self.arguments.get(index).map(|argument| argument.text)
+    }
+
+    /// Returns the arguments behind the format string, which its placeholders may show, or none if
+    /// no format string is read.
+    pub fn formatted(&self) -> &[CallArgument<'a>] {
+        match self.string {
+            Ok(index) => self.arguments.get(index + 1..).unwrap_or_default(),
+            Err(_) => &[],
+        }
+    }
+}
+
+/// Returns the text of a word without the `r#` of a raw one.
+fn plain(word: &str) -> &str {
+    word.strip_prefix("r#").unwrap_or(word)
+}
+
+/// Returns an argument of the call of a file.
+fn argument_of<'a>(
+    text: &'a str,
+    source: &SourceIn<'a>,
+    argument: &ArgumentIn,
+) -> CallArgument<'a> {
+    let tokens = &source.tokens()[argument.start..];
+    let count = argument.end - argument.start;
+    let behind = if argument.is_named { 2 } else { 0 };
+    // (of no tokens an empty range in front of what follows)
+    let range = |from: usize| match tokens[from..count].last() {
+        Some(last) => tokens[from].start..last.start + last.text.len(),
+        None => tokens[from].start..tokens[from].start,
+    };
+    let variable = match &tokens[behind..count] {
+        [token] if matches!(token.kind, Kind::Ident | Kind::RawIdent) => Some(plain(token.text)),
+        _ => None,
+    };
+    CallArgument {
+        given: Given {
+            name: argument.is_named.then(|| plain(tokens[0].text)),
+            variable,
+        },
+        text: &text[range(0)],
+        span: range(0),
+        value: range(behind),
+    }
+}
+
+/// Returns the calls of the macros of a table in a file, in the order of their names, those inside
+/// of others too. `is_from_2021` is whether the edition of the file is 2021 or a later one: before
+/// that a lone argument of some macros is no format string.
+///
+/// A call is a word of the table, `!` and a pair of delimiters, with no `$` in front. An allocation
+/// failure aborts, as elsewhere in Rust.
+pub fn calls<'a>(text: &'a str, table: &Table<'_>, is_from_2021: bool) -> Vec<Call<'a>> {
+    let source = answer(SourceIn::new(Global, text));
+    let mut found = Vec::new();
+    for call in answer(calls_in(Global, &source, &table.table)) {
+        let list = answer(arguments(Global, &source, call.close)).unwrap_or_default();
+        let (name, close) = (source.tokens()[call.name], source.tokens()[call.close]);
+        found.push(Call {
+            name: plain(name.text),
+            span: name.start..close.start + close.text.len(),
+            arguments: list
+                .iter()
+                .map(|it| argument_of(text, &source, it))
+                .collect(),
+            string: format_string(&source, call.rule, &list, is_from_2021),
+        });
+    }
+    found
+}
+
+/// Returns where the delimiters of a file stop to match, which is the byte offset of one of them, or
+/// `None` if they match. An allocation failure aborts, as elsewhere in Rust.
+///
+/// ```
+/// use dephungo::source::broken_at;
+///
+/// assert_eq!(broken_at("f(a[1])"), None);
+/// assert_eq!(broken_at("f(a[1)"), Some(5));
+/// assert_eq!(broken_at("f(a"), Some(1));
+/// ```
+pub fn broken_at(text: &str) -> Option<usize> {
+    let source = answer(SourceIn::new(Global, text));
+    let (Break::Unclosed(index) | Break::Unexpected(index)) = source.broken()?;
+    source.tokens().get(index).map(|token| token.start)
+}
+
+/// A call that was checked.
+pub struct CheckedCall<'a> {
+    checked: CheckedIn<'a>,
+}
+
+/// Checks a call of a macro that takes a format string: reads the string, compares its placeholders
+/// with the arguments that are given, in the order of the source, and tells what is wrong, as rustc
+/// does.
+///
+/// The number of hashes, the length of the text in bytes, and 2 must together fit into a `usize`. An
+/// allocation failure aborts, as elsewhere in Rust.
+///
+/// ```
+/// use dephungo::source::{call_faults, FormatString, Given};
+///
+/// let string = FormatString {
+///     text: "{} {}",
+///     style: None,
+///     snippet: None,
+///     appended_newline: false,
+///     captures: true,
+/// };
+/// let given = [Given { name: None, variable: Some("x") }];
+/// let checked = call_faults(string, &given);
+/// let fault = &checked.faults()[0];
+/// assert_eq!(fault.id(), "missing-argument");
+/// assert_eq!(
+///     checked.title(fault),
+///     "2 positional arguments in format string, but there is 1 argument"
+/// );
+/// ```
+pub fn call_faults<'a>(string: FormatString<'a>, given: &'a [Given<'a>]) -> CheckedCall<'a> {
+    CheckedCall {
+        checked: answer(call_faults_in(Global, string, given)),
+    }
+}
+
+impl<'a> CheckedCall<'a> {
+    /// Returns what is wrong, in the order in which rustc tells it.
+    pub fn faults(&self) -> &[CallFault<'a>] {
+        &self.checked.faults
+    }
+
+    /// Returns the pieces of the format string.
+    pub fn pieces(&self) -> &[Piece<'a>] {
+        &self.checked.pieces
+    }
+
+    /// Returns the places of the placeholders that a brace closed, as byte ranges of the snippet, if
+    /// that is the source literal of the text.
+    pub fn arg_places(&self) -> &[Range<usize>] {
+        self.checked.parser.arg_places()
+    }
+
+    /// Returns the title of one of the faults, as rustc has it. An allocation failure aborts, as
+    /// elsewhere in Rust.
+    pub fn title(&self, fault: &CallFault<'a>) -> String {
+        let mut title = String::new();
+        answer(self.checked.put_title(&mut title, fault));
+        title
+    }
+}

@@ -1,0 +1,180 @@
+//! Tokens, places and calls of files. Expected values are worked out by hand from the Rust Reference,
+//! and places are those that rustc 1.95 tells.
+use dephungo::source::{broken_at, calls, tokens, Kind, Places, Reason, Row, Rule, Table};
+use std::path::{Path, PathBuf};
+
+/// The files of this crate.
+fn files(folder: &Path, found: &mut Vec<PathBuf>) {
+    for entry in std::fs::read_dir(folder).unwrap() {
+        let path = entry.unwrap().path();
+        if path.is_dir() {
+            files(&path, found);
+        } else if path.extension().map_or(false, |it| it == "rs") {
+            found.push(path);
+        }
+    }
+}
+
+/// The tokens of a file are one behind the other, from its start to its end.
+#[test]
+fn tokens_join() {
+    let mut found = Vec::new();
+    files(
+        &Path::new(env!("CARGO_MANIFEST_DIR")).join("src"),
+        &mut found,
+    );
+    files(
+        &Path::new(env!("CARGO_MANIFEST_DIR")).join("tests"),
+        &mut found,
+    );
+    for path in &found {
+        let text = std::fs::read_to_string(path).unwrap();
+        let mut end = 0;
+        for token in tokens(&text) {
+            assert!(
+                token.span.start == end && token.span.end > end,
+                "{path:?} {end}"
+            );
+            assert!(
+                token.span.contains(&(token.suffix_start - 1)),
+                "{path:?} {end}"
+            );
+            assert!(
+                token.is_ended && token.kind != Kind::Unknown,
+                "{path:?} {end}"
+            );
+            end = token.span.end;
+        }
+        assert_eq!(end, text.len());
+        assert_eq!(broken_at(&text), None, "{path:?}");
+    }
+    assert!(found.len() > 80);
+}
+
+#[test]
+fn tokens_that_have_no_end() {
+    for (text, kind) in [
+        ("\"a", Kind::Str),
+        ("r#\"a\"", Kind::RawStr),
+        ("/* /* */", Kind::BlockComment),
+    ] {
+        let found = tokens(text);
+        assert_eq!(
+            (found.len(), found[0].kind, found[0].is_ended),
+            (1, kind, false)
+        );
+    }
+}
+
+#[test]
+fn places() {
+    for (text, line, column) in [
+        (
+            "\u{feff}fn main() {\r\n    let x = \"é\"; y;\r\n}\r\n",
+            2,
+            18,
+        ),
+        ("\u{feff}y!(1);\nfn main() {}\n", 1, 1),
+        ("fn main() {\n/* a\r\n b */ y;\n}\n", 3, 7),
+    ] {
+        let place = Places::new(text).at(text.find('y').unwrap());
+        assert_eq!((place.line, place.column), (line, column));
+    }
+}
+
+/// The names of the calls of a file of an edition, with their literals.
+fn literals(text: &str, is_from_2021: bool) -> Vec<(String, Option<String>)> {
+    let found = calls(text, &Table::standard(), is_from_2021);
+    let shown =
+        |it: &dephungo::source::Call<'_>| (it.name.to_string(), it.literal().map(String::from));
+    found.iter().map(shown).collect()
+}
+
+#[test]
+fn calls_of_a_file() {
+    let text = "fn f() { std::println!(\"{}\", format![r#\"a\"#]); x.write!{w, \"b\", }; }";
+    let wanted = [
+        ("println", Some("\"{}\"")),
+        ("format", Some("r#\"a\"#")),
+        ("write", Some("\"b\"")),
+    ];
+    let wanted: Vec<_> = wanted
+        .iter()
+        .map(|(name, literal)| (name.to_string(), literal.map(String::from)))
+        .collect();
+    assert_eq!(literals(text, true), wanted);
+    for none in [
+        "$println!(\"a\")",
+        "println!",
+        "println(\"a\")",
+        "// println!(\"a\")",
+        "print!((",
+    ] {
+        assert_eq!(literals(none, true), [], "{none}");
+    }
+    let panic = "panic!(\"{}\")";
+    assert_eq!(
+        literals(panic, true),
+        [("panic".to_string(), Some("\"{}\"".to_string()))]
+    );
+    assert_eq!(literals(panic, false), [("panic".to_string(), None)]);
+}
+
+#[test]
+fn reasons() {
+    for (text, is_wanted) in [
+        (
+            "format!()",
+            (|it| matches!(it, Reason::Missing)) as fn(Reason) -> bool,
+        ),
+        ("format!($a)", |it| matches!(it, Reason::Variable)),
+        ("format!(\"a\"u8)", |it| matches!(it, Reason::Suffix)),
+        ("format!(concat!(\"a\"))", |it| matches!(it, Reason::Macro)),
+        ("format!(a)", |it| matches!(it, Reason::Expression)),
+    ] {
+        let found = calls(text, &Table::standard(), true);
+        assert!(found[0].string.map_or_else(is_wanted, |_| false), "{text}");
+    }
+}
+
+#[test]
+fn arguments() {
+    let text = "print!(\"{}\", a, r#b = r#c, d::<E, F>(), g = 1 + h,)";
+    let found = calls(text, &Table::standard(), true);
+    let call = &found[0];
+    assert_eq!(call.span, 0..text.len());
+    let shown: Vec<_> = call
+        .formatted()
+        .iter()
+        .map(|it| {
+            (
+                it.given.name,
+                it.given.variable,
+                it.text,
+                &text[it.value.clone()],
+            )
+        })
+        .collect();
+    let wanted = [
+        (None, Some("a"), "a", "a"),
+        (Some("b"), Some("c"), "r#b = r#c", "r#c"),
+        (None, None, "d::<E, F>()", "d::<E, F>()"),
+        (Some("g"), None, "g = 1 + h", "1 + h"),
+    ];
+    assert_eq!(shown, wanted);
+    let empty = &calls("print!(\"\", , a)", &Table::standard(), true)[0].arguments[1];
+    assert_eq!((empty.span.clone(), empty.text), (11..11, ""));
+}
+
+#[test]
+fn tables() {
+    let mut table = Table::of_crates();
+    assert!(table.rows().iter().any(|row| row.name == "bail"));
+    table.add(Row {
+        name: "bail",
+        rule: Rule::At(1),
+    });
+    let found = calls("bail!(1, \"a\"); info!(b = 2, \"c\")", &table, true);
+    let shown: Vec<_> = found.iter().map(|call| call.literal()).collect();
+    assert_eq!(shown, [Some("\"a\""), Some("\"c\"")]);
+}
