@@ -5,6 +5,12 @@ import textwrap
 from extraction.rules import ATTRIBUTES, OPENED
 
 NUMBERS = ("bool", "char", "u8", "u16", "u32", "u64", "usize")
+# Signs that may stand in what is left out.
+PLAIN = ("(", ")", "[", "]", ".", ",", ";", ":", "::", "&", "*")
+# Words that say what is done, and are no names.
+KEYWORDS = ("as", "break", "const", "continue", "crate", "else", "fn", "for", "if", "impl", "in",
+            "let", "loop", "match", "move", "mut", "pub", "ref", "return", "static", "super", "type",
+            "unsafe", "use", "where", "while", "yield")
 
 
 def strip(source, items):
@@ -184,19 +190,32 @@ def erase_statement(source, first, empty, held):
 
 
 def doubt(source, first, last, empty, held):
-    """Notes where something else could happen in what is left out: a way out, or a call that is
-    none of a type that takes no bytes and none of a function that only looks. It is refused if the
-    function that it stands in is needed."""
+    """Notes what is left out and could do something: all but places, numbers, texts and what lends
+    or groups them, calls of types that take no bytes, and calls of functions that only look. It is
+    refused if the function that it stands in is needed."""
+    statement = source.next(first, 2 if source.text(first) == "let" else 3)
     for at in source.places(first, last):
-        before = source.prev(at)
-        if source.text(at) in ("?", "return", "mut"):
-            source.doubts.append((at, source.text(at)))
-        elif source.is_word(at) and source.text(source.next(at)) in ("(", "!"):
-            of = source.text(source.prev(before))
-            is_own = source.text(at) in source.lookers
-            if source.text(before) == "::":
-                is_own = of in empty
-            elif source.text(before) == ".":
-                is_own = of in held and source.text(source.prev(before, 3)) == "self"
-            if not is_own:
-                source.doubts.append((at, source.text(at)))
+        kind, (text, before, behind) = source.tokens[at].kind, source.around(at)
+        if kind == "sign":
+            is_plain = text in PLAIN or text == "=" and at == statement
+        elif kind == "word" and behind in ("(", "!"):
+            is_plain = behind == "(" and is_harmless(source, at, empty, held)
+        else:
+            is_plain = text not in KEYWORDS or text == "let" and at == first
+        if not is_plain:
+            source.doubts.append((at, text))
+
+
+def is_harmless(source, at, empty, held):
+    """Whether a call does nothing but to a value that takes no bytes, or only looks."""
+    before = source.prev(at)
+    of = source.text(source.prev(before))
+    if source.text(before) == "::":
+        return of in empty
+    if source.text(before) == ".":
+        return of in held and source.text(source.prev(before, 3)) == "self"
+    # (a closure of this file may have the name of a function)
+    is_bound = any(source.text(it) == source.text(at) and source.text(source.next(it)) != "("
+                   for item in source.items if item.kind != "use"
+                   for it in source.places(item.start, item.last) if source.is_word(it))
+    return source.text(at) in source.lookers and not is_bound

@@ -59,6 +59,9 @@ DERIVES = {"Clone", "Copy", "Debug", "Default", "Drop", "Eq", "Ord", "PartialEq"
 OPENED = {"Cursor": {"source"}}
 # Words behind which an expression may begin.
 KEYWORDS = ("else", "if", "in", "match", "return", "while")
+# Methods that follow the Unicode version of a library, and those of types that are one in Rattle.
+VARYING = {"escape_debug", "into_iter", "is_alphabetic", "is_lowercase", "is_numeric", "is_uppercase",
+           "to_lowercase", "to_uppercase"}
 # Words of forms that are not known to mean the same in both languages, or are known not to.
 UNKNOWN = {"anyhow", "as_mut_ptr", "as_ptr", "async", "await", "dyn", "extern", "ghost",
            "macro_rules", "size_of", "spawn", "static", "trait", "try_from", "try_into", "try_recv",
@@ -183,11 +186,13 @@ def refusal(source, at):
         source.tokens[source.prev(at, 2)].text = "crate::shim::alloc::refuse"
         source.tokens[at].text = ""
         return
-    bits = before[9]
-    length = [".", "len", "(", ")", ">", "=", "1", "<", "<", bits, "{", "return", "Err", "("]
-    if before != length or not bits.isdecimal():
+    length = [".", "len", "(", ")", ">", "=", "1", "<", "<", "59", "{", "return", "Err", "("]
+    start = source.prev(at, 15)
+    while source.text(source.prev(start)) == ".":
+        start = source.prev(start, 2)
+    if before != length or source.text(source.prev(start)) != "if":
         source.refuse(at, "an answer to a refusal of memory, which never comes in Rust")
-    source.tokens[source.prev(at, 5)].text = f"(usize::BITS - {64 - int(bits)})"
+    source.tokens[source.prev(at, 5)].text = f"(usize::BITS - {64 - 59})"
     source.tokens[source.prev(at, 2)].text = "crate::shim::alloc::refuse"
     source.tokens[at].text = ""
 
@@ -212,12 +217,14 @@ def refuse_unknown(source, at):
     kind, (text, before, behind) = source.tokens[at].kind, source.around(at)
     if kind == "word" and text in UNKNOWN or kind == "sign" and not text.isascii():
         source.refuse(at, f"`{text}`")
+    elif kind == "word" and text in VARYING and before == "." and behind == "(":
+        source.refuse(at, f"a call of `{text}`")
     elif text == "fn" and behind == "(":
         source.refuse(at, "a pointer to a function")
     elif text == "impl" and before in (":", "->", "&", "<", "("):
         source.refuse(at, "a type that is only told by its trait")
     elif text == ".." and ends_value(source, source.prev(at)):
-        if behind in (")", "]", ",", ";", "{", "=>") and not is_place(source, at):
+        if behind in (")", "]", ",", ";", "{", "}", "=>") and not is_place(source, at):
             source.refuse(at, "a range without an end")
     elif text == ".." and before in (",", "{") and behind not in ("}", ")", "]"):
         source.refuse(at, "a value that takes members over from another")
