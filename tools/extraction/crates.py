@@ -42,7 +42,8 @@ def extracted(crates, callers):
     cloned = {item.name for source in sources for item in source.items
               if any(clones_in(source, part) for part in item.parts)}
     head = "// The crates that are extracted. Made by tools/extract: not to be edited.\n\n"
-    made = [("mod.rs", head + "".join(f"pub mod {name};\n" for name in sorted(crates)))]
+    made = [("mod.rs", head + "".join(f"pub mod {name};\n" for name in sorted(crates)
+                                       if needs.has(name)))]
     for source in sources:
         if needs.has(source.crate, *module_of(source.name)):
             text = in_place(source.path, rust_of, source, needs, list(crates), empty, cloned)
