@@ -12,12 +12,24 @@ const READ_WORDS: &[&str] = &[
     "1,a,b", "1,,a", "formats", "", "--help",
 ];
 
-/// Words of formatlint, right and wrong. FILE and GONE are paths.
+/// Words of formatlint, right and wrong. What is in capitals is a path in the folder of the runs.
 const LINT_WORDS: &[&str] = &[
-    "--mode", "format", "asm", "asmm", "--mode=diagnostic", "--mode=", "--mode=formt", "--text",
-    "--text=x", "--fix", "--tokens", "--tokns", "--all", "--list", "--args", "--args=2,w", "2,w",
-    "--color", "always", "--color=never", "--color=alway", "--version", "--help", "-h", "-V", "-x",
-    "-hV", "--", "-", "--zzzz", "---", "--=a", "FILE", "GONE", "/", "é",
+    "--literal", "--literal", "--literal", "--text", "--mode", "format", "asm", "asmm", "--mode=",
+    "--mode=diagnostic", "--mode=formt", "--text=x", "--fix", "--tokens", "--tokns", "--all",
+    "--list", "--args", "--args=2,w", "2,w", "--color", "always", "--color=never", "--color=alway",
+    "--version", "--help", "-h", "-V", "-x", "-hV", "-qx", "--", "-", "--zzzz", "---", "--=a", "é",
+    "FILE", "GONE", "", "--exclude", "sub", "--exclude=a.rs", "--stdin-path=b.rs", "--edition",
+    "2018", "--edition=2021", "--edition=2020", "--macro", "say:0", "--macro=say:1", "--macro=é:0",
+    "--message-format", "short", "--message-format=json", "--message-format=github", "--stats", "-q",
+    "--message-format=sarif", "--quiet", "--list-ids", "--explain", "missing-name", "--explain=a",
+];
+
+/// Words of formatlint with which it reads files.
+const FILE_WORDS: &[&str] = &[
+    "FOLDER", "FOLDER", "FOLDER/a.rs", "FOLDER/sub", "FOLDER/none.rs", "FOLDER/not-text.rs", "-",
+    "--stats", "--quiet", "--message-format=short", "--message-format=json", "--edition=2018",
+    "--message-format=github", "--message-format=sarif", "--exclude=sub", "--exclude=a.rs",
+    "--macro=say:0", "--macro=say:1", "--stdin-path=b.rs",
 ];
 
 /// Parts of inputs.
@@ -26,15 +38,41 @@ const PARTS: &[&str] = &[
     "\\u{e9}", "\\q", "r#\"", "\"#", "é", "日", "\t", "\n", " ", "\u{feff}", "\u{7}", "a", "#",
 ];
 
-/// Some of the words, most often few.
-fn words(random: &mut Random, all: &[&str], paths: &[String; 2]) -> Vec<String> {
-    let count = random.below(5);
-    let word = |word: &str| match word {
-        "FILE" => paths[0].clone(),
-        "GONE" => paths[1].clone(),
-        word => word.to_string(),
+/// Parts of files.
+const FILE_PARTS: &[&str] = &[
+    "println!(\"{}\");", "println!(\"{} {x}\", 1, 2);\n", "format!(\"{a?}\")", "write!(w, r#\"{\"#)\r\n",
+    "panic!(x);", "panic!(\"{}\");", "say!(a, \"{0}{9}\", b)", "say!(\"{\")", "info!(a = 1, \"{:q}\", c);",
+    "assert!(a, \"{}\", a = 1, b);", "format!(\"é日 {:.*} \\u{e9}}\", 1)", "print!(concat!(\"a\"), 1)",
+    "macro_rules! format { () => {} }", "print!(\"\\q\")", "$crate::print!(\"}\")", "// print!(\"}\")\n",
+    "print!(\"{}\", $($a),*)", "print!(\"\\\r\n   }\")", "{", "}", "(", ")", "\"", "/*", "\u{feff}", "\n",
+    "fn f() ", "/* } */", "'a'", "a < b, c > d", "\t", "\r\n", "format!(\"{\u{7}}\")",
+];
+
+/// Some of the words, most often few. FOLDER is a path.
+fn words(random: &mut Random, all: &[&str], folder: &str) -> Vec<String> {
+    let word = |it: &str| match it {
+        "FILE" => format!("{folder}/literal"),
+        "GONE" => format!("{folder}/gone"),
+        it => it.replace("FOLDER", folder),
     };
-    (0..count).map(|_| word(random.of(all))).collect()
+    (0..random.below(5)).map(|_| word(random.of(all))).collect()
+}
+
+/// A file: some parts, one behind the other.
+fn file(random: &mut Random) -> String {
+    (0..random.below(12)).map(|_| random.of(FILE_PARTS)).collect()
+}
+
+/// Writes the files of a folder anew.
+fn furnish(random: &mut Random, folder: &str) {
+    for name in ["a.rs", "sub/c.rs", ".hidden/d.rs", "target/e.rs", "f.txt"] {
+        std::fs::write(format!("{folder}/{name}"), file(random)).expect("a file");
+    }
+    let edition = ["2015", "2018", "2021"][random.below(3)];
+    let manifest = format!("[package]\nedition = \"{edition}\"\n");
+    std::fs::write(format!("{folder}/sub/Cargo.toml"), manifest).expect("a file");
+    let text = [file(random).as_bytes(), b"\xff".as_slice()].concat();
+    std::fs::write(format!("{folder}/not-text.rs"), text).expect("a file");
 }
 
 /// An input: often a literal, sometimes any parts, and sometimes no text.
@@ -51,9 +89,9 @@ fn input(random: &mut Random) -> Vec<u8> {
     bytes
 }
 
-fn run(program: &str, words: &[String], input: &[u8]) -> Output {
+fn run(program: &str, folder: &str, words: &[String], input: &[u8]) -> Output {
     let mut command = Command::new(program);
-    command.args(words).env_clear();
+    command.args(words).env_clear().current_dir(folder);
     let streams = command.stdin(Stdio::piped()).stdout(Stdio::piped()).stderr(Stdio::piped());
     let mut child = streams.spawn().expect("the program");
     // (one that is wrong in its words reads nothing)
@@ -68,19 +106,29 @@ fn main() {
     };
     let mut random = Random::new(seed.parse().expect("a seed"));
     let count: usize = count.parse().expect("a count");
-    let file = std::env::temp_dir().join(format!("dephungo-{}", std::process::id()));
-    std::fs::write(&file, " \"{a?}\"\n").expect("a file");
-    let paths = [file.display().to_string(), format!("{}.gone", file.display())];
+    let folder = std::env::temp_dir().join(format!("dephungo-{}", std::process::id()));
+    let folder = folder.display().to_string();
+    for name in ["sub", ".hidden", "target"] {
+        std::fs::create_dir_all(format!("{folder}/{name}")).expect("a folder");
+    }
+    std::fs::write(format!("{folder}/literal"), " \"{a?}\"\n").expect("a file");
     let mut statuses = [0; 256];
     for at in 0..count {
-        let (name, all) = [("formatlint", LINT_WORDS), ("formatread", READ_WORDS)][at % 2];
-        let (words, input) = (words(&mut random, all, &paths), input(&mut random));
-        let one = run(&format!("{proved}/{name}"), &words, &input);
-        let other = run(&format!("{extracted}/{name}"), &words, &input);
+        let ways = [("formatlint", LINT_WORDS), ("formatlint", FILE_WORDS), ("formatread", READ_WORDS)];
+        let (name, all) = ways[at % 3];
+        furnish(&mut random, &folder);
+        let words = words(&mut random, all, &folder);
+        let input = if at % 3 == 1 {
+            file(&mut random).into_bytes()
+        } else {
+            input(&mut random)
+        };
+        let one = run(&format!("{proved}/{name}"), &folder, &words, &input);
+        let other = run(&format!("{extracted}/{name}"), &folder, &words, &input);
         assert_eq!(one, other, "{name} {words:?} over {:?}", String::from_utf8_lossy(&input));
         statuses[one.status.code().unwrap_or(255) as usize & 255] += 1;
     }
-    std::fs::remove_file(&file).expect("a file");
+    std::fs::remove_dir_all(&folder).expect("a folder");
     let told = statuses.iter().enumerate().filter(|(_, count)| **count > 0);
     let told: Vec<String> = told.map(|(status, count)| format!("{count} with {status}")).collect();
     println!("{count} runs, {}: all agree", told.join(", "));

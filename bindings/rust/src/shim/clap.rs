@@ -66,6 +66,8 @@ pub struct Arg<'a> {
     required: bool,
     /// Whether a positional argument takes one value after the other.
     takes_many: bool,
+    /// Whether it may be used without a value.
+    may_be_empty: bool,
 }
 
 impl<'a> Arg<'a> {
@@ -84,6 +86,7 @@ impl<'a> Arg<'a> {
             needs: Vec::new(),
             required: false,
             takes_many: false,
+            may_be_empty: false,
         }
     }
 
@@ -136,8 +139,9 @@ impl<'a> Arg<'a> {
     }
 
     /// Lets a positional argument take one value after the other.
-    pub fn num_args(mut self, _: RangeFrom<usize>) -> Arg<'a> {
+    pub fn num_args(mut self, range: RangeFrom<usize>) -> Arg<'a> {
         self.takes_many = true;
+        self.may_be_empty = range.start == 0;
         self
     }
 

@@ -36,7 +36,7 @@ impl<'a> Arg<'a> {
         } else {
             ""
         };
-        if required.unwrap_or(self.required) {
+        if required.unwrap_or(self.required) && !self.may_be_empty {
             format!("<{name}>{more}")
         } else {
             format!("[{name}]{more}")
