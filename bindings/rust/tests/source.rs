@@ -1,6 +1,6 @@
 //! Tokens, places and calls of files. Expected values are worked out by hand from the Rust Reference,
 //! and places are those that rustc 1.95 tells.
-use dephungo::source::{broken_at, calls, tokens, Kind, Places, Reason, Row, Rule, Table};
+use dephungo::source::{calls, file_faults, tokens, Kind, Places, Reason, Row, Rule, Table};
 use std::path::{Path, PathBuf};
 
 /// The files of this crate.
@@ -46,7 +46,11 @@ fn tokens_join() {
             end = token.span.end;
         }
         assert_eq!(end, text.len());
-        assert_eq!(broken_at(&text), None, "{path:?}");
+        let report = file_faults(&text, &Table::standard(), true);
+        assert!(
+            report.broken.is_none() && report.findings.is_empty(),
+            "{path:?}"
+        );
     }
     assert!(found.len() > 80);
 }
@@ -157,7 +161,7 @@ fn arguments() {
         .collect();
     let wanted = [
         (None, Some("a"), "a", "a"),
-        (Some("b"), Some("c"), "r#b = r#c", "r#c"),
+        (Some("b"), None, "r#b = r#c", "r#c"),
         (None, None, "d::<E, F>()", "d::<E, F>()"),
         (Some("g"), None, "g = 1 + h", "1 + h"),
     ];

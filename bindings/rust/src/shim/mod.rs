@@ -47,6 +47,14 @@ macro_rules! eprintln_in {
 }
 pub(crate) use eprintln_in;
 
+/// `eprint!(rt; ..)`: writes a text to standard error, and returns why that failed.
+macro_rules! eprint_in {
+    ($rt:expr; $($words:tt)*) => {
+        $rt.eprint(format_args!($($words)*))
+    };
+}
+pub(crate) use eprint_in;
+
 pub use alloc::proved_text;
 
 #[cfg(test)]

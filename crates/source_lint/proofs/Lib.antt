@@ -1,0 +1,9 @@
+pub mod Elements
+pub mod Embedding
+pub mod Joining
+pub mod Merging
+pub mod MovedArguments
+pub mod MovedReadings
+pub mod MovedStrings
+pub mod Telling
+pub mod Widths
