@@ -8,6 +8,7 @@ pub mod programs;
 // These sources are extracted from another language. It lacks some forms that clippy asks for, and has
 // parameters that only its contracts read; what is public in one of its crates may be unused here.
 #[allow(dead_code, unused_variables, clippy::all)]
+#[deny(clippy::incompatible_msrv)]
 mod proved;
 mod report;
 mod shim;
