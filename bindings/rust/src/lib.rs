@@ -9,6 +9,7 @@ pub mod programs;
 // parameters that only its contracts read; what is public in one of its crates may be unused here, and
 // where memory is refused there an error has no value here.
 #[allow(dead_code, unused_variables, irrefutable_let_patterns, clippy::all)]
+#[deny(clippy::incompatible_msrv)]
 mod proved;
 mod report;
 mod shim;
