@@ -8,5 +8,4 @@ ghost use Rattle.fault_rules.specs.Rules.{ids, is_id};
 /// Each fault of a call, also one of its format string, has a rule with its id.
 pub fn each_fault_has_a_rule()
     ensures { (f : CallFault) → is_id (call_id f) ids ≡ true }
-{
-}
+{}

@@ -1,5 +1,7 @@
 //! The run over files and folders.
 
+ghost use Rattle.std.specs.Prelude.{◌≡◌};
+
 use crate::editions::Editions;
 use crate::failure::Failure;
 use crate::forms::{File, Form, put_end, put_finding, put_start};
@@ -79,12 +81,14 @@ impl<'a> Run<'a> {
     }
 
     /// Puts the messages of a file.
-    fn put_findings(
+    fn put_findings<'x>(
         &mut self,
         rt: &HostRuntime,
-        file: &File<'_>,
-        report: &Report,
-    ) -> Result<(), Failure> {
+        file: &'x File<'x>,
+        report: &'x Report,
+    ) -> Result<(), Failure>
+        requires { file.now.places ≡ file.now.text.now }
+    {
         for finding in &report.findings {
             let is_first = !self.has_messages;
             put_finding(&mut self.out, self.asked.form, is_first, file, finding)?;
@@ -128,7 +132,9 @@ fn text_of(bytes: &[u8]) -> (&str, Extent) {
 }
 
 /// Tells why a file was not read to its end, if it was not.
-fn tell_end(rt: &HostRuntime, told: &mut Told, file: &File<'_>, extent: Extent, report: &Report) {
+fn tell_end(rt: &HostRuntime, told: &mut Told, file: &File<'_>, extent: Extent, report: &Report)
+    requires { file.now.places ≡ file.now.text.now }
+{
     let end = file.places.at(file.text.len());
     match extent {
         Extent::Text => told.fail_at(rt, file.path, end, "not UTF-8"),
@@ -152,7 +158,12 @@ fn read_all<R: Read + Drop>(rt: &HostRuntime, stream: R) -> io::Result<Vec<u8>> 
 
 impl<'a> Run<'a> {
     /// Reads the bytes of a file, and puts the messages about it.
-    fn lint(&mut self, rt: &HostRuntime, path: &str, bytes: &[u8]) -> Result<(), Failure> {
+    fn lint<'x>(
+        &mut self,
+        rt: &HostRuntime,
+        path: &'x str,
+        bytes: &'x [u8],
+    ) -> Result<(), Failure> {
         let (text, extent) = text_of(bytes);
         self.options.is_from_2021 = match self.editions.is_from_2021(rt, path) {
             Ok(known) => known,

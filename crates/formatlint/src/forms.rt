@@ -1,8 +1,12 @@
 //! Findings in the form that is asked for.
 
+ghost use Rattle.std.specs.Prelude.{◌≡◌};
+
 use fault_rules::RULES;
-use message_forms::{Level, Message, Span, put_github, put_json, put_sarif_end};
-use message_forms::{put_sarif_result, put_sarif_start, put_short};
+use message_forms::{
+    Level, Message, Span, put_github, put_json, put_sarif_end, put_sarif_result, put_sarif_start,
+    put_short,
+};
 use rust_trees::Places;
 use source_lint::Finding;
 use std::alloc::AllocError;
@@ -41,16 +45,19 @@ fn lines_around(text: &str, start: usize, end: usize) -> &str {
         None => 0,
     };
     let (_, back) = text.split_at(text.floor_char_boundary(end));
-    let to = text.len() - match back.split_once('\n') {
-        Some((line, _)) => back.len() - line.len(),
-        None => 0,
-    };
+    let to = text.len()
+        - match back.split_once('\n') {
+            Some((line, _)) => back.len() - line.len(),
+            None => 0,
+        };
     let lines = text.get(from..to).unwrap_or("");
     lines.strip_suffix('\r').unwrap_or(lines)
 }
 
 /// Returns the primary span of a finding.
-fn span_of<'a>(file: &File<'a>, form: Form, finding: &Finding) -> Span<'a> {
+fn span_of<'a>(file: &File<'a>, form: Form, finding: &Finding) -> Span<'a>
+    requires { file.now.places ≡ file.now.text.now }
+{
     let byte_start = file.text.floor_char_boundary(finding.span.start);
     let byte_end = file.text.floor_char_boundary(finding.span.end);
     let lines = match form {
@@ -69,7 +76,28 @@ fn span_of<'a>(file: &File<'a>, form: Form, finding: &Finding) -> Span<'a> {
     }
 }
 
-/// Appends a message in a form.
+/// Returns the level of a finding.
+fn level_of(finding: &Finding) -> Level {
+    if finding.is_warning {
+        Level::Warning
+    } else {
+        Level::Error
+    }
+}
+
+/// Appends a message as people read it. Returns `Err` if an allocation fails.
+fn put_human(out: &mut String, message: &Message<'_>) -> Result<(), AllocError> {
+    put_short(out, message)
+}
+
+/// Appends a message as a line of JSON. Returns `Err` if an allocation fails.
+fn put_line(out: &mut String, message: &Message<'_>) -> Result<(), AllocError> {
+    let mut rendered = String::new(*out.allocator());
+    put_human(&mut rendered, message)?;
+    put_json(out, message, &[message.primary], &[], rendered.as_str())
+}
+
+/// Appends a message in a form. Returns `Err` if an allocation fails.
 fn put_message(
     out: &mut String,
     form: Form,
@@ -77,44 +105,31 @@ fn put_message(
     message: &Message<'_>,
 ) -> Result<(), AllocError> {
     match form {
-        Form::Human | Form::Short => put_short(out, message),
-        Form::Json => put_json(out, message),
+        Form::Human => put_human(out, message),
+        Form::Short => put_short(out, message),
+        Form::Json => put_line(out, message),
         Form::Github => put_github(out, message),
         Form::Sarif => put_sarif_result(out, is_first, message),
     }
 }
 
 /// Appends a finding in a form. Returns `Err` if an allocation fails.
-pub fn put_finding(
+pub fn put_finding<'a>(
     out: &mut String,
     form: Form,
     is_first: bool,
-    file: &File<'_>,
-    finding: &Finding,
-) -> Result<(), AllocError> {
-    let span = span_of(file, form, finding);
-    let spans = [span];
-    let level = if finding.is_warning {
-        Level::Warning
-    } else {
-        Level::Error
-    };
-    let mut message = Message {
-        level,
+    file: &'a File<'a>,
+    finding: &'a Finding,
+) -> Result<(), AllocError>
+    requires { file.now.places ≡ file.now.text.now }
+{
+    let message = Message {
+        level: level_of(finding),
         id: finding.id,
         title: finding.title.as_str(),
         path: file.path,
-        primary: span,
-        spans: spans.as_slice(),
-        children: &[],
-        rendered: "",
+        primary: span_of(file, form, finding),
     };
-    if form != Form::Json {
-        return put_message(out, form, is_first, &message);
-    }
-    let mut rendered = String::new(*out.allocator());
-    put_message(&mut rendered, Form::Human, is_first, &message)?;
-    message.rendered = rendered.as_str();
     put_message(out, form, is_first, &message)
 }
 

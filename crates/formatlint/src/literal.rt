@@ -40,8 +40,7 @@ fn input(rt: &HostRuntime, file: Option<&str>) -> Result<Vec<u8>, Failure> {
 /// Says on standard error that standard input is read, if it is a terminal.
 pub fn tell_of_terminal(rt: &HostRuntime) {
     if rt.stdin().is_terminal() {
-        let _ =
-            rt.eprintln("formatlint: reads what is typed here, up to Ctrl-D; --help says more");
+        let _ = rt.eprintln("formatlint: reads what is typed here, up to Ctrl-D; --help says more");
     }
 }
 

@@ -58,7 +58,9 @@ fn written(rt: &HostRuntime, text: &str) -> u8 {
 /// Writes what a kind of fault is. Returns the exit status.
 fn explain(rt: &HostRuntime, id: &str) -> Result<u8, Error> {
     let Some(rule) = rule_of(id) else {
-        let why = format!(in rt.alloc(); "no kind of fault has the id '{id}': --list-ids lists all")?;
+        let why = format!(in rt.alloc();
+            "no kind of fault has the id '{id}': --list-ids lists all"
+        )?;
         return wrong(rt, why.as_str());
     };
     let mut out = String::new(rt.alloc());
@@ -68,7 +70,10 @@ fn explain(rt: &HostRuntime, id: &str) -> Result<u8, Error> {
 
 /// Reads one string. Returns the exit status.
 fn read_string(rt: &HostRuntime, matches: &ArgMatches<'_>) -> Result<u8, Error> {
-    if matches.get_strs("path").is_some_and(|paths| paths.len() > 1) {
+    if matches
+        .get_strs("path")
+        .is_some_and(|paths| paths.len() > 1)
+    {
         return wrong(rt, SEVERAL);
     }
     match literal_status(rt, matches) {
@@ -113,8 +118,10 @@ fn files_status(rt: &HostRuntime, matches: &ArgMatches<'_>) -> Result<u8, Error>
     let table = match table_of(rt.alloc(), matches.get_strs("macro").unwrap_or(&[])) {
         Ok(table) => table,
         Err(Some(word)) => {
-            let why = format!(in rt.alloc(); "invalid value '{word}' for '--macro <NAME:INDEX>': \
-                it is the name of a macro and a number, as in say:0")?;
+            let why = format!(in rt.alloc();
+                "invalid value '{word}' for '--macro <NAME:INDEX>': \
+                it is the name of a macro and a number, as in say:0"
+            )?;
             return wrong(rt, why.as_str());
         }
         Err(None) => return Err(Error::from(AllocError)),

@@ -81,12 +81,7 @@ impl<'a> Walk<'a> {
     }
 
     /// Returns the entries of a folder, the first one last. What cannot be read of it is told.
-    fn entries(
-        &self,
-        rt: &HostRuntime,
-        folder: &str,
-        told: &mut Told,
-    ) -> io::Result<Vec<Entry>> {
+    fn entries(&self, rt: &HostRuntime, folder: &str, told: &mut Told) -> io::Result<Vec<Entry>> {
         let shown = if folder.is_empty() { "." } else { folder };
         let mut found = Vec::new(rt.alloc());
         for entry in fs::read_dir(rt, shown)? {

@@ -1,5 +1,5 @@
 -- Characters in strings of JSON.
-use Rattle.std.proofs.Common.{◌≡◌, ◌<◌, ◌≤◌, ◌+◌, ℕ, zero, suc, List, [], ◌∷◌, ◌++◌, refl, sym, ◌∙◌, ap}
+use Rattle.std.proofs.Common.{◌≡◌, ◌<◌, ◌≤◌, ◌+◌, ℕ, suc, List, [], ◌∷◌, refl, sym, ◌∙◌, ap}
 use Rattle.std.proofs.Common.{append-nil, arith, encode_utf8, get_or, length, inl, inr}
 use Rattle.std.proofs.lemmas.Bool.{cases_lt}
 use Rattle.std.proofs.lemmas.Str.{encode_ascii, inside_one}
@@ -18,15 +18,20 @@ plain (x ∷ l) h =
     let rest : AreHigh l = λ k b. let e : suc k ≡ k + 1 = omega arith in h (suc k) (omega (arith, b)) in
     rw (
       escape_byte_plain x (λ e. omega (arith, first, e)) (λ e. omega (arith, first, e))
-      (omega (arith, first)),
+          (omega (arith, first)),
       plain l rest,
     ) refl
 
 -- The bytes of a character beyond ASCII.
 high : (c : ℕ) → 128 ≤ c → AreHigh (encode_utf8 c)
 high c h k b = elim (cases_lt (get_or (encode_utf8 c) k 0) 128) [
-  | inl l ↦ absurd (omega (arith, h, l, inside_one c [] (encode_utf8 c) k
-    (sym (append-nil (encode_utf8 c))) b l))
+  | inl l ↦ absurd (omega (
+    arith,
+    h,
+    l,
+    inside_one c [] (encode_utf8 c) k
+        (sym (append-nil (encode_utf8 c))) b l,
+  ))
   | inr g ↦ g
 ]
 

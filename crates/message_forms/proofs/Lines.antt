@@ -1,9 +1,9 @@
 -- The lines of a span, one after the other.
-use Rattle.std.proofs.Common.{◌≡◌, ◌<◌, ◌+◌, ◌-◌, ℕ, zero, suc, List, ◌∷◌, ◌++◌, refl, sym, ap, ◌∙◌}
+use Rattle.std.proofs.Common.{◌≡◌, ◌<◌, ◌+◌, ◌-◌, ℕ, zero, suc, List, ◌++◌, refl, sym, ap, ◌∙◌}
 use Rattle.std.proofs.Common.{append_assoc, arith, chars, length}
 use Rattle.std.specs.Prelude.{codes, false, true}
 use Rattle.std.specs.List.{before_first, after_first}
-use Rattle.serde_json.specs.Data.{array, no_items}
+use Rattle.serde_json.specs.Data.{no_items}
 use Rattle.message_forms.specs.Json.{is_lf, line_items, line_json}
 use Rattle.message_forms.specs.Texts.{array_text, json_text}
 use Rattle.message_forms.proofs.Texts.{array-end, item-text}

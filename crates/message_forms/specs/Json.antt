@@ -1,5 +1,5 @@
 -- A message as a value of JSON, with the members of rustc's `--error-format=json`.
-use Rattle.std.specs.Prelude.{ℕ, zero, suc, ◌+◌, ◌-◌, ◌==◌, Bool, List, [], ◌∷◌, Option, Some, None}
+use Rattle.std.specs.Prelude.{ℕ, zero, suc, ◌+◌, ◌-◌, ◌==◌, Bool, List, Option, Some, None}
 use Rattle.std.specs.Prelude.{chars, codes, length, option_map}
 use Rattle.std.specs.List.{before_first, after_first}
 use Rattle.serde_json.specs.Data.{Data, null, boolean, string, array, object}
@@ -77,15 +77,19 @@ abbrev pub code_json : List ℕ → Data
 code_json id = object (member (codes "code") (string id)
     (member (codes "explanation") null no_members))
 
--- What stands below a message.
-abbrev pub below_members : Message → Members
-below_members m = member (codes "spans") (array (items_of (span_json m.path.now) m.spans.now))
-    (member (codes "children") (array (items_of (child_json m.path.now) m.children.now))
-    (member (codes "rendered") (string m.rendered.now) no_members))
+-- What stands below a message, of a file with this path: the ranges that it speaks of, notes and
+-- helps, and how it is drawn for people.
+abbrev pub below_members : List ℕ → List Span → List Child → List ℕ → Members
+below_members path ss cs rendered =
+    member (codes "spans") (array (items_of (span_json path) ss))
+    (member (codes "children") (array (items_of (child_json path) cs))
+    (member (codes "rendered") (string rendered) no_members))
 
--- A message.
-abbrev pub message_json : Message → Data
-message_json m = object (member (codes "$message_type") (string (codes "diagnostic"))
+-- A message with what stands below it.
+abbrev pub message_json : Message → List Span → List Child → List ℕ → Data
+message_json m ss cs rendered =
+    object (member (codes "$message_type") (string (codes "diagnostic"))
     (member (codes "message") (string m.title.now)
     (member (codes "code") (code_json m.id.now)
-    (member (codes "level") (string (level_name m.level)) (below_members m)))))
+    (member (codes "level") (string (level_name m.level))
+    (below_members m.path.now ss cs rendered)))))

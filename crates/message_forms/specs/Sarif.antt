@@ -1,10 +1,9 @@
 -- A log of SARIF 2.1.0 (OASIS): one run of the program, with its rules and its results.
-use Rattle.std.specs.Prelude.{ℕ, ◌-◌, Bool, true, false, List, [], ◌∷◌, ◌++◌, codes}
+use Rattle.std.specs.Prelude.{ℕ, Bool, true, List, ◌++◌, codes}
 use Rattle.serde_json.specs.Data.{Data, boolean, string, array, object, Items, no_items, item}
 use Rattle.serde_json.specs.Data.{Members, no_members, member}
 use Rattle.fault_rules.specs.declared.rules.Rule.{Rule}
 use Rattle.fault_rules.specs.Rules.{explanation_text}
-use Rattle.rust_trees.specs.declared.places.Place.{Place}
 use Rattle.message_forms.specs.declared.message.Message.{Message}
 use Rattle.message_forms.specs.declared.message.Span.{Span}
 use Rattle.message_forms.specs.Escapes.{uri}

@@ -1,5 +1,5 @@
 -- Values of JSON and their texts without white space: RFC 8259, as the crate `serde_json` has it.
-use Rattle.std.specs.Prelude.{ℕ, Bool, true, false, List, [], ◌∷◌, ◌++◌, Option, Some, None}
+use Rattle.std.specs.Prelude.{ℕ, Bool, true, false, List, [], ◌∷◌, Option, Some, None}
 use Rattle.std.specs.Prelude.{codes, if◌then◌else◌}
 use Rattle.serde_json.specs.Data.{Data, null, number, string, unsigned, Items, no_items}
 use Rattle.serde_json.specs.Data.{item, Members}

@@ -6,14 +6,14 @@
 
 mod escapes;
 mod github;
-mod json;
+mod json_lines;
 mod members;
 mod message;
 mod sarif;
 mod short;
 
 pub use github::put_github;
-pub use json::put_json;
+pub use json_lines::put_json;
 pub use message::{Child, ChildLevel, Level, Message, Span, Suggestion};
 pub use sarif::{put_sarif_end, put_sarif_result, put_sarif_start};
 pub use short::put_short;

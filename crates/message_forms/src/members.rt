@@ -82,12 +82,7 @@ fn put_bool(out: &mut String, is_so: bool) -> Result<(), AllocError>
 }
 
 /// Adds a member with a text.
-pub fn put_text(
-    out: &mut String,
-    is_later: bool,
-    key: &str,
-    text: &str,
-) -> Result<(), AllocError>
+pub fn put_text(out: &mut String, is_later: bool, key: &str, text: &str) -> Result<(), AllocError>
     ensures { OnOk result ((ms : Members) → string_bytes out.new ++ object_text true ms
         ≡ string_bytes out.old ++ object_text is_later (member key.now (string text.now) ms)) }
 {
@@ -97,11 +92,7 @@ pub fn put_text(
 }
 
 /// Adds a member with a text, or with `null`, behind another one.
-pub fn put_text_or_null(
-    out: &mut String,
-    key: &str,
-    text: Option<&str>,
-) -> Result<(), AllocError>
+pub fn put_text_or_null(out: &mut String, key: &str, text: Option<&str>) -> Result<(), AllocError>
     ensures { OnOk result ((ms : Members) → string_bytes out.new ++ object_text true ms
         ≡ string_bytes out.old ++ object_text true (member key.now
         (text_or_null (option_map (λ t. t.now) text.entry)) ms)) }
@@ -127,12 +118,7 @@ pub fn put_count(
 }
 
 /// Adds a member with a truth value.
-pub fn put_truth(
-    out: &mut String,
-    is_later: bool,
-    key: &str,
-    is_so: bool,
-) -> Result<(), AllocError>
+pub fn put_truth(out: &mut String, is_later: bool, key: &str, is_so: bool) -> Result<(), AllocError>
     ensures { OnOk result ((ms : Members) → string_bytes out.new ++ object_text true ms
         ≡ string_bytes out.old ++ object_text is_later (member key.now (boolean is_so) ms)) }
 {

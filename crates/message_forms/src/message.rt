@@ -56,13 +56,13 @@ pub enum ChildLevel {
 
 /// A note or a help below a message.
 #[derive(Clone, Copy)]
-pub struct Child<'a> {
+pub struct Child<'a, 's> {
     /// Which of both it is.
     pub level: ChildLevel,
     /// Its text.
     pub text: &'a str,
     /// The ranges that it speaks of.
-    pub spans: &'a [Span<'a>],
+    pub spans: &'s [Span<'a>],
 }
 
 /// A message about a file.
@@ -78,12 +78,6 @@ pub struct Message<'a> {
     pub path: &'a str,
     /// The range at whose start editors show it.
     pub primary: Span<'a>,
-    /// All ranges that it speaks of, also this one.
-    pub spans: &'a [Span<'a>],
-    /// What stands below it.
-    pub children: &'a [Child<'a>],
-    /// The message as a person reads it.
-    pub rendered: &'a str,
 }
 
 /// Returns what rustc calls a level.

@@ -214,17 +214,18 @@ fn put_run_start(out: &mut String, version: &str, rules: &[Rule]) -> Result<(), 
 /// Appends the start of a log, up to its results, which [`put_sarif_result`] appends; behind them
 /// [`put_sarif_end`] ends it. Returns `Err` if an allocation fails, and a part of it may then be
 /// appended.
-pub fn put_sarif_start(
-    out: &mut String,
-    version: &str,
-    rules: &[Rule],
-) -> Result<(), AllocError>
+pub fn put_sarif_start(out: &mut String, version: &str, rules: &[Rule]) -> Result<(), AllocError>
     // With the results and an end it is a log.
     ensures { OnOk result ((results : Items) (whole : Bool)
         → string_bytes out.new ++ (array_text false results ++ log_end whole)
         ≡ string_bytes out.old ++ json_text (log_json version.now rules.now results whole)) }
 {
-    put_text(out, false, "$schema", "https://json.schemastore.org/sarif-2.1.0.json")?;
+    put_text(
+        out,
+        false,
+        "$schema",
+        "https://json.schemastore.org/sarif-2.1.0.json",
+    )?;
     put_text(out, true, "version", "2.1.0")?;
     put_key(out, true, "runs")?;
     out.push_str("[")?;

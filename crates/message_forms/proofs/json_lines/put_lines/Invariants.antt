@@ -5,7 +5,7 @@ use denote.Text.{Utf8}
 use Rattle.serde_json.specs.Data.{array}
 use Rattle.message_forms.specs.Json.{line_items}
 use Rattle.message_forms.specs.Texts.{array_text, json_text}
-use Rattle.message_forms.proofs.json.put_lines.Given as goal
+use Rattle.message_forms.proofs.json_lines.put_lines.Given as goal
 
 -- What is written, and then the lines that are left, is all.
 abbrev pub invariant-loop-left : goal.invariant-loop-left

@@ -2,7 +2,7 @@ use Rattle.std.proofs.Common.{◌≡◌, ◌<◌, length, rules}
 use Rattle.message_forms.specs.Json.{child_json}
 use Rattle.message_forms.specs.Texts.{items_of}
 use Rattle.message_forms.proofs.Texts.{array-begins, items-end, items-step}
-use Rattle.message_forms.proofs.json.put_children.Goals as goal
+use Rattle.message_forms.proofs.json_lines.put_children.Goals as goal
 
 pub loop-child-init : goal.loop-child-init
 loop-child-init c = array-begins _ _ (items_of (child_json c.args.path.now) c.args.children.now)

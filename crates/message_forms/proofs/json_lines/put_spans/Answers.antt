@@ -2,7 +2,7 @@ use Rattle.std.proofs.Common.{◌≡◌, ◌<◌, length, rules}
 use Rattle.message_forms.specs.Json.{span_json}
 use Rattle.message_forms.specs.Texts.{items_of}
 use Rattle.message_forms.proofs.Texts.{array-begins, items-end, items-step}
-use Rattle.message_forms.proofs.json.put_spans.Goals as goal
+use Rattle.message_forms.proofs.json_lines.put_spans.Goals as goal
 
 pub loop-span-init : goal.loop-span-init
 loop-span-init c = array-begins _ _ (items_of (span_json c.args.path.now) c.args.spans.now)

@@ -1,8 +1,8 @@
 use Rattle.std.proofs.Common.{◌∙◌}
-use Rattle.message_forms.proofs.json.put_places.Goals as goal
+use Rattle.message_forms.proofs.json_lines.put_places.Goals as goal
 
 pub returns : goal.returns
-returns c ms = 
+returns c ms =
     c.in_ok-put_count-6.ensures _
     ∙ (c.in_ok-put_count-5.ensures _
     ∙ (c.in_ok-put_count-4.ensures _

@@ -11,8 +11,9 @@ ghost use Rattle.message_forms.specs.Json.{message_json, place_members};
 ghost use Rattle.message_forms.specs.Json.{said_members, span_json};
 ghost use Rattle.message_forms.specs.Texts.{items_of, json_text, object_text, text_or_null};
 
-use crate::members::{put_comma, put_count, put_end, put_key, put_text, put_text_or_null};
-use crate::members::put_truth;
+use crate::members::{
+    put_comma, put_count, put_end, put_key, put_text, put_text_or_null, put_truth,
+};
 use crate::message::{Child, Message, Span, Suggestion, child_name, level_name};
 use std::alloc::AllocError;
 
@@ -169,7 +170,7 @@ fn put_none(out: &mut String) -> Result<(), AllocError>
 }
 
 /// Adds a note or a help.
-fn put_child(out: &mut String, path: &str, child: &Child<'_>) -> Result<(), AllocError>
+fn put_child(out: &mut String, path: &str, child: &Child<'_, '_>) -> Result<(), AllocError>
     ensures { OnOk result (string_bytes out.new
         ≡ string_bytes out.old ++ json_text (child_json path.now child.now)) }
 {
@@ -186,7 +187,7 @@ fn put_child(out: &mut String, path: &str, child: &Child<'_>) -> Result<(), Allo
 }
 
 /// Adds notes and helps.
-fn put_children(out: &mut String, path: &str, children: &[Child<'_>]) -> Result<(), AllocError>
+fn put_children(out: &mut String, path: &str, children: &[Child<'_, '_>]) -> Result<(), AllocError>
     ensures { OnOk result (string_bytes out.new
         ≡ string_bytes out.old ++ json_text (array (items_of (child_json path.now) children.now))) }
 {
@@ -213,32 +214,45 @@ fn put_code(out: &mut String, id: &str) -> Result<(), AllocError>
 }
 
 /// Adds the members with what stands below a message, and the end of its object.
-fn put_below(out: &mut String, message: &Message<'_>) -> Result<(), AllocError>
-    ensures { OnOk result (string_bytes out.new
-        ≡ string_bytes out.old ++ object_text true (below_members message.now)) }
+fn put_below(
+    out: &mut String,
+    path: &str,
+    spans: &[Span<'_>],
+    children: &[Child<'_, '_>],
+    rendered: &str,
+) -> Result<(), AllocError>
+    ensures { OnOk result (string_bytes out.new ≡ string_bytes out.old
+        ++ object_text true (below_members path.now spans.now children.now rendered.now)) }
 {
     put_key(out, true, "spans")?;
-    put_spans(out, message.path, message.spans)?;
+    put_spans(out, path, spans)?;
     put_key(out, true, "children")?;
-    put_children(out, message.path, message.children)?;
-    put_text(out, true, "rendered", message.rendered)?;
+    put_children(out, path, children)?;
+    put_text(out, true, "rendered", rendered)?;
     put_end(out)?;
     Ok(())
 }
 
 /// Appends a message as a line of JSON with the members that rustc writes with
-/// `--error-format=json`. Its id stands in the place of rustc's code. Returns `Err` if an
-/// allocation fails, and a part of the line may then be appended.
-pub fn put_json(out: &mut String, message: &Message<'_>) -> Result<(), AllocError>
-    ensures { OnOk result (string_bytes out.new ≡ string_bytes out.old
-        ++ (json_text (message_json message.now) ++ codes "\n")) }
+/// `--error-format=json`: all ranges that it speaks of, what stands below it, and how it is drawn
+/// for people. Its id stands in the place of rustc's code. Returns `Err` if an allocation fails, and
+/// a part of the line may then be appended.
+pub fn put_json(
+    out: &mut String,
+    message: &Message<'_>,
+    spans: &[Span<'_>],
+    children: &[Child<'_, '_>],
+    rendered: &str,
+) -> Result<(), AllocError>
+    ensures { OnOk result (string_bytes out.new ≡ string_bytes out.old ++ (json_text
+        (message_json message.now spans.now children.now rendered.now) ++ codes "\n")) }
 {
     put_text(out, false, "$message_type", "diagnostic")?;
     put_text(out, true, "message", message.title)?;
     put_key(out, true, "code")?;
     put_code(out, message.id)?;
     put_text(out, true, "level", level_name(message.level))?;
-    put_below(out, message)?;
+    put_below(out, message.path, spans, children, rendered)?;
     out.push_str("\n")?;
     Ok(())
 }

@@ -3,7 +3,7 @@ use Rattle.std.specs.Prelude.{string_bytes}
 use Rattle.serde_json.specs.Data.{array}
 use Rattle.message_forms.specs.Json.{span_json}
 use Rattle.message_forms.specs.Texts.{array_text, items_of, json_text}
-use Rattle.message_forms.proofs.json.put_spans.Given as goal
+use Rattle.message_forms.proofs.json_lines.put_spans.Given as goal
 
 -- What is written, and then what is left, is all.
 abbrev pub invariant-loop-span : goal.invariant-loop-span

@@ -1,6 +1,6 @@
 use Rattle.std.proofs.Common.{◌∙◌}
 use Rattle.message_forms.proofs.Texts.{value-behind, whole}
-use Rattle.message_forms.proofs.json.put_child.Goals as goal
+use Rattle.message_forms.proofs.json_lines.put_child.Goals as goal
 
 pub returns : goal.returns
 returns c = rw (← c.child_name.ensures) (whole _ _ _ (c.in_ok-put_end.ensures

@@ -1,6 +1,6 @@
 use Rattle.std.proofs.Common.{◌∙◌}
 use Rattle.message_forms.proofs.Texts.{value-behind}
-use Rattle.message_forms.proofs.json.put_said.Goals as goal
+use Rattle.message_forms.proofs.json_lines.put_said.Goals as goal
 
 pub returns : goal.returns
 returns c = rw (← c.saturating_sub-more.ensures, ← c.replacement-text.ensures, ← c.applicability-word.ensures) (

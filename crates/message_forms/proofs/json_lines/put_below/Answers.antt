@@ -1,9 +1,9 @@
 use Rattle.std.proofs.Common.{◌∙◌}
 use Rattle.message_forms.proofs.Texts.{value-behind}
-use Rattle.message_forms.proofs.json.put_below.Goals as goal
+use Rattle.message_forms.proofs.json_lines.put_below.Goals as goal
 
 pub returns : goal.returns
-returns c = 
+returns c =
     c.in_ok-put_end.ensures
     ∙ (c.in_ok-put_text.ensures _
     ∙ (value-behind _ _ _ _ c.in_ok-put_children.ensures (c.in_ok-put_key-2.ensures _ _)
