@@ -67,7 +67,9 @@ fn written(rt: &crate::shim::host::HostRuntime, text: &str) -> u8 {
 #[inline]
 fn explain(rt: &crate::shim::host::HostRuntime, id: &str) -> Result<u8, Error> {
     let Some(rule) = rule_of(id) else {
-        let why = crate::shim::format_in!(rt.alloc(); "no kind of fault has the id '{id}': --list-ids lists all")?;
+        let why = crate::shim::format_in!(rt.alloc();
+            "no kind of fault has the id '{id}': --list-ids lists all"
+        )?;
         return wrong(rt, why.as_str());
     };
     let mut out = String::made_in(rt.alloc());
@@ -132,8 +134,10 @@ fn files_status(
     let table = match table_of(rt.alloc(), matches.get_strs("macro").unwrap_or(&[])) {
         Ok(table) => table,
         Err(Some(word)) => {
-            let why = crate::shim::format_in!(rt.alloc(); "invalid value '{word}' for '--macro <NAME:INDEX>': \
-                it is the name of a macro and a number, as in say:0")?;
+            let why = crate::shim::format_in!(rt.alloc();
+                "invalid value '{word}' for '--macro <NAME:INDEX>': \
+                it is the name of a macro and a number, as in say:0"
+            )?;
             return wrong(rt, why.as_str());
         }
         Err(None) => return Err(crate::shim::alloc::refused()),

@@ -108,6 +108,16 @@ fn with_messages<'a>(alloc: Global, command: Command<'a>) -> Result<Command<'a>,
     with_stats.arg(quiet.short('q'))
 }
 
+/// Says that an option is not given with those about files. Returns `Err` if an allocation fails.
+#[inline]
+fn without_files<'a>(arg: Arg<'a>) -> Result<Arg<'a>, AllocError> {
+    let one = arg.conflicts_with("exclude")?.conflicts_with("edition")?;
+    let two = one
+        .conflicts_with("macro")?
+        .conflicts_with("message-format")?;
+    two.conflicts_with("stats")
+}
+
 /// Adds the options that say that one string is read, and not files. Returns `Err` if an allocation
 /// fails.
 #[inline]
@@ -122,10 +132,10 @@ fn with_string<'a>(alloc: Global, command: Command<'a>) -> Result<Command<'a>, A
         "text",
         "Read the text of one string, of a file or of standard input",
     );
-    let files = ["exclude", "edition", "macro", "message-format", "stats"];
-    let with_literal = command.arg(literal.conflicts_with_all(&files)?)?;
-    let with_text = with_literal.arg(text.conflicts_with_all(&files)?)?;
-    with_text.group(ArgGroup::new(alloc, "string").args(&["literal", "text"])?)
+    let with_literal = command.arg(without_files(literal)?)?;
+    let with_text = with_literal.arg(without_files(text)?)?;
+    let group = ArgGroup::new(alloc, "string").arg("literal")?;
+    with_text.group(group.arg("text")?)
 }
 
 /// Adds the options that say what is shown of a string. Returns `Err` if an allocation fails.
@@ -169,8 +179,9 @@ fn with_list<'a>(alloc: Global, command: Command<'a>) -> Result<Command<'a>, All
         "With --list: name arguments, as in 2,w, and list those that are missing or unused",
     );
     let mode = option(alloc, "mode", "MODE", "What the string is");
-    let apart = list.conflicts_with_all(&["fix", "tokens", "all"])?;
-    let with_list = command.arg(apart.requires_arg("string")?)?;
+    let apart = list.conflicts_with("fix")?.conflicts_with("tokens")?;
+    let listed = apart.conflicts_with("all")?.requires_arg("string")?;
+    let with_list = command.arg(listed)?;
     let with_args = with_list.arg(args.requires_arg("list")?)?;
     let some_mode = mode.value_parser(MODES.as_slice()).default_value("format");
     with_args.arg(some_mode.requires_arg("string")?)
