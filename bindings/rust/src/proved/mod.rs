@@ -11,6 +11,7 @@ pub mod formatread;
 pub mod lint_words;
 pub mod literal_faults;
 pub mod message_forms;
+pub mod package_edition;
 pub mod piece_listing;
 pub mod placeholder_check;
 pub mod rust_tokens;

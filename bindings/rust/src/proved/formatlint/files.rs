@@ -6,13 +6,14 @@
 
 use crate::proved::formatlint::editions::Editions;
 use crate::proved::formatlint::failure::Failure;
-use crate::proved::formatlint::forms::{put_end, put_start, Form};
+use crate::proved::formatlint::forms::{put_end, put_finding, put_start, File, Form};
 use crate::proved::formatlint::literal::tell_of_terminal;
 use crate::proved::formatlint::noted::Noted;
 use crate::proved::formatlint::told::Told;
 use crate::proved::formatlint::walk::Walk;
 use crate::proved::piece_listing::run::write_whole;
-use crate::proved::source_lint::Options;
+use crate::proved::rust_trees::{BreakKind, Places};
+use crate::proved::source_lint::{file_faults, Options, Report};
 use crate::shim::host::fs;
 use crate::shim::prelude::*;
 use std::io;
@@ -20,6 +21,9 @@ use std::io::Read;
 
 /// The most bytes of a file that are read.
 const MOST: usize = 64 << 20;
+
+/// What is written at once, at least, if more is to come.
+const CHUNK: usize = 1 << 16;
 
 /// What is asked for of files.
 pub struct Asked<'a> {
@@ -49,6 +53,16 @@ struct Run<'a> {
     has_messages: bool,
 }
 
+/// Returns why a file is not read further.
+#[inline]
+fn break_words(kind: BreakKind) -> &'static str {
+    match kind {
+        BreakKind::Unclosed => "this delimiter is not closed",
+        BreakKind::Unexpected => "unexpected closing delimiter",
+        BreakKind::Unended => "this literal or comment has no end",
+    }
+}
+
 /// Writes a text to standard output.
 #[inline]
 pub fn write(rt: &crate::shim::host::HostRuntime, text: &str) -> Result<(), Failure> {
@@ -70,6 +84,81 @@ impl<'a> Run<'a> {
         self.out.clear();
         Ok(())
     }
+
+    /// Puts the messages of a file.
+    // requires { file.now.places ≡ file.now.text.now }
+    #[inline]
+    fn put_findings<'x>(
+        &mut self,
+        rt: &crate::shim::host::HostRuntime,
+        file: &'x File<'x>,
+        report: &'x Report,
+    ) -> Result<(), Failure> {
+        for finding in &report.findings {
+            let is_first = !self.has_messages;
+            put_finding(&mut self.out, self.asked.form, is_first, file, finding)?;
+            self.has_messages = true;
+            if self.out.len() > CHUNK {
+                self.flush(rt)?;
+            }
+        }
+        Ok(())
+    }
+}
+
+/// What was read of a file.
+#[derive(Clone, Copy)]
+enum Extent {
+    /// All of it.
+    Whole,
+    /// What is in front of bytes that are not UTF-8.
+    Text,
+    /// The first bytes.
+    Front,
+}
+
+/// Returns the text at the start of a file, and how much of it that is.
+#[inline]
+fn text_of(bytes: &[u8]) -> (&str, Extent) {
+    let is_cut = bytes.len() > MOST;
+    let read = bytes.get(..MOST).unwrap_or(bytes);
+    match std::str::from_utf8(read) {
+        Ok(text) if is_cut => (text, Extent::Front),
+        Ok(text) => (text, Extent::Whole),
+        Err(error) => {
+            let front = read.get(..error.valid_up_to()).unwrap_or(&[]);
+            let text = std::str::from_utf8(front).unwrap_or("");
+            if is_cut && error.error_len().is_none() {
+                (text, Extent::Front)
+            } else {
+                (text, Extent::Text)
+            }
+        }
+    }
+}
+
+/// Tells why a file was not read to its end, if it was not.
+// requires { file.now.places ≡ file.now.text.now }
+#[inline]
+fn tell_end(
+    rt: &crate::shim::host::HostRuntime,
+    told: &mut Told,
+    file: &File<'_>,
+    extent: Extent,
+    report: &Report,
+) {
+    let end = file.places.at(file.text.len());
+    match extent {
+        Extent::Text => told.fail_at(rt, file.path, end, "not UTF-8"),
+        Extent::Front => told.fail_at(rt, file.path, end, "longer than 64 MiB"),
+        Extent::Whole => {
+            if let Some(broken) = &report.broken {
+                let start = file.text.boundary_at_most(broken.start);
+                let place = file.places.at(start);
+                told.fail_at(rt, file.path, place, break_words(broken.kind));
+            }
+        }
+    }
 }
 
 /// Reads a stream up to its end or the most bytes that are read.
@@ -81,6 +170,33 @@ fn read_all<R: Read>(rt: &crate::shim::host::HostRuntime, stream: R) -> io::Resu
 }
 
 impl<'a> Run<'a> {
+    /// Reads the bytes of a file, and puts the messages about it.
+    #[inline]
+    fn lint<'x>(
+        &mut self,
+        rt: &crate::shim::host::HostRuntime,
+        path: &'x str,
+        bytes: &'x [u8],
+    ) -> Result<(), Failure> {
+        let (text, extent) = text_of(bytes);
+        self.options.is_from_2021 = match self.editions.is_from_2021(rt, path) {
+            Ok(known) => known,
+            Err(error) => return Err(Failure::of(error)),
+        };
+        let report = file_faults(rt.alloc(), text, &self.options)?;
+        self.told.add(&report);
+        let is_broken = report.broken.is_some() || !matches!(extent, Extent::Whole);
+        if report.findings.is_empty() && !is_broken {
+            return Ok(());
+        }
+        let places = Places::new(rt.alloc(), text)?;
+        let file = File { path, text, places };
+        self.put_findings(rt, &file, &report)?;
+        self.flush(rt)?;
+        tell_end(rt, &mut self.told, &file, extent, &report);
+        Ok(())
+    }
+
     /// Reads what comes from standard input.
     #[inline]
     fn lint_stdin(&mut self, rt: &crate::shim::host::HostRuntime) -> Result<(), Failure> {

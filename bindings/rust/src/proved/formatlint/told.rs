@@ -5,8 +5,9 @@
 // by results from outside, and beside what is proved (.ci/bindings) and the original (tools/agree).
 
 use crate::proved::format_calls::Reason;
-use crate::proved::lint_words::{put_failure, system_words};
+use crate::proved::lint_words::{put_failure, put_place_failure, system_words};
 use crate::proved::piece_listing::verdict::RunFault;
+use crate::proved::rust_trees::Place;
 use crate::proved::source_lint::{CallReading, Report};
 use crate::shim::prelude::*;
 use std::io;
@@ -152,6 +153,23 @@ impl Told {
             Err(error) => Err(error),
         };
         let _ = match put {
+            Ok(()) => rt.eprint(out.as_str()),
+            Err(_) => rt.eprintln("formatlint: out of memory"),
+        };
+    }
+
+    /// Tells why a file was not read from a place on.
+    #[inline]
+    pub fn fail_at(
+        &mut self,
+        rt: &crate::shim::host::HostRuntime,
+        path: &str,
+        place: Place,
+        why: &str,
+    ) {
+        count(&mut self.failures);
+        let mut out = String::made_in(rt.alloc());
+        let _ = match put_place_failure(&mut out, path, place, why) {
             Ok(()) => rt.eprint(out.as_str()),
             Err(_) => rt.eprintln("formatlint: out of memory"),
         };

@@ -9,4 +9,4 @@ pub(crate) mod colours;
 pub(crate) mod messages;
 
 pub use colours::{wants_colours, When};
-pub use messages::{put_failure, put_not_literal, system_words};
+pub use messages::{put_failure, put_not_literal, put_place_failure, system_words};

@@ -6,6 +6,7 @@
 // by results from outside, and beside what is proved (.ci/bindings) and the original (tools/agree).
 
 use crate::shim::alloc::AllocError;
+use crate::shim::itoa::Buffer;
 use crate::shim::prelude::*;
 
 /// Returns the first character of a text and what is after it, or `None` if the text is empty.
@@ -19,6 +20,15 @@ fn split_first(text: &str) -> Option<(char, &str)> {
     let mut rest = text.chars();
     let c = rest.next()?;
     Some((c, rest.as_str()))
+}
+
+/// Adds a number in decimal digits.
+// ensures { OnOk result (string_bytes out.new ≡ string_bytes out.old ++ decimal number) }
+#[inline]
+pub fn put_number(out: &mut String, number: usize) -> Result<(), AllocError> {
+    let mut digits = Buffer::new();
+    out.try_push_str(digits.format(number))?;
+    Ok(())
 }
 
 /// Adds what stands for a control character of ASCII in a string of JSON that has no shorter form.
@@ -40,6 +50,18 @@ fn lower_digit(digit: u8) -> char {
         (48 + digit) as char
     } else {
         (87 + digit) as char
+    }
+}
+
+/// Returns a digit of base 16 in upper case.
+// requires { digit < 16 }
+// ensures { result ≡ upper_digit digit }
+#[inline]
+fn upper_digit(digit: u8) -> char {
+    if digit < 10 {
+        (48 + digit) as char
+    } else {
+        (55 + digit) as char
     }
 }
 
@@ -96,5 +118,67 @@ pub fn put_quoted(out: &mut String, text: &str) -> Result<(), AllocError> {
         rest = tail;
     }
     out.try_push_str("\"")?;
+    Ok(())
+}
+
+/// Adds what stands for a character in a workflow command: in a property, or behind them.
+// ensures { OnOk result (string_bytes out.new
+//     ≡ string_bytes out.old ++ encode_utf8_all (command_char is_property c)) }
+#[inline]
+fn put_command_char(out: &mut String, is_property: bool, c: char) -> Result<(), AllocError> {
+    match c {
+        '%' => out.try_push_str("%25")?,
+        '\r' => out.try_push_str("%0D")?,
+        '\n' => out.try_push_str("%0A")?,
+        ':' if is_property => out.try_push_str("%3A")?,
+        ',' if is_property => out.try_push_str("%2C")?,
+        _ => out.try_push(c)?,
+    }
+    Ok(())
+}
+
+/// Adds a text as a workflow command has it: in a property, or behind them.
+// ensures { OnOk result (string_bytes out.new
+//     ≡ string_bytes out.old ++ command_text is_property text.now) }
+#[inline]
+pub fn put_command_text(out: &mut String, is_property: bool, text: &str) -> Result<(), AllocError> {
+    let mut rest = text;
+    while let Some((c, tail)) = split_first(rest) {
+        put_command_char(out, is_property, c)?;
+        rest = tail;
+    }
+    Ok(())
+}
+
+/// Returns whether a byte stands for itself in a path of a URI.
+// ensures { result ≡ stays_in_uri byte }
+#[inline]
+fn stays_in_uri(byte: u8) -> bool {
+    byte.is_ascii_alphanumeric() || matches!(byte, b'-' | b'.' | b'/' | b'_' | b'~')
+}
+
+/// Adds what stands for a byte in a path of a URI.
+// ensures { OnOk result (string_bytes out.new ≡ string_bytes out.old ++ uri_byte byte) }
+#[inline]
+fn put_uri_byte(out: &mut String, byte: u8) -> Result<(), AllocError> {
+    if stays_in_uri(byte) {
+        return Ok(out.try_push(byte as char)?);
+    }
+    out.try_push('%')?;
+    out.try_push(upper_digit(byte / 16))?;
+    out.try_push(upper_digit(byte % 16))?;
+    Ok(())
+}
+
+/// Adds a path of a file as a URI: one from the root with its scheme, another as a relative one.
+// ensures { OnOk result (string_bytes out.new ≡ string_bytes out.old ++ uri path.now) }
+#[inline]
+pub fn put_uri(out: &mut String, path: &str) -> Result<(), AllocError> {
+    if path.starts_with('/') {
+        out.try_push_str("file://")?;
+    }
+    for byte in path.as_bytes() {
+        put_uri_byte(out, *byte)?;
+    }
     Ok(())
 }

@@ -5,7 +5,7 @@
 // That source is proved, and each contract here is its. That this text means the same is tested:
 // by results from outside, and beside what is proved (.ci/bindings) and the original (tools/agree).
 
-use crate::proved::message_forms::escapes::put_quoted;
+use crate::proved::message_forms::escapes::{put_number, put_quoted};
 use crate::shim::alloc::AllocError;
 use crate::shim::prelude::*;
 
@@ -50,6 +50,27 @@ fn put_string(out: &mut String, text: &str) -> Result<(), AllocError> {
     Ok(())
 }
 
+/// Adds a text or `null` as a value.
+// ensures { OnOk result (string_bytes out.new ≡ string_bytes out.old
+//     ++ json_text (text_or_null (option_map (λ t. t.now) text.entry))) }
+#[inline]
+fn put_string_or_null(out: &mut String, text: Option<&str>) -> Result<(), AllocError> {
+    match text {
+        Some(text) => put_quoted(out, text)?,
+        None => out.try_push_str("null")?,
+    }
+    Ok(())
+}
+
+/// Adds a number as a value.
+// ensures { OnOk result (string_bytes out.new
+//     ≡ string_bytes out.old ++ json_text (number_json number)) }
+#[inline]
+fn put_digits(out: &mut String, number: usize) -> Result<(), AllocError> {
+    put_number(out, number)?;
+    Ok(())
+}
+
 /// Adds a truth value.
 // ensures { OnOk result (string_bytes out.new
 //     ≡ string_bytes out.old ++ json_text (boolean is_so)) }
@@ -66,6 +87,32 @@ fn put_bool(out: &mut String, is_so: bool) -> Result<(), AllocError> {
 pub fn put_text(out: &mut String, is_later: bool, key: &str, text: &str) -> Result<(), AllocError> {
     put_key(out, is_later, key)?;
     put_string(out, text)?;
+    Ok(())
+}
+
+/// Adds a member with a text, or with `null`, behind another one.
+// ensures { OnOk result ((ms : Members) → string_bytes out.new ++ object_text true ms
+//     ≡ string_bytes out.old ++ object_text true (member key.now
+//     (text_or_null (option_map (λ t. t.now) text.entry)) ms)) }
+#[inline]
+pub fn put_text_or_null(out: &mut String, key: &str, text: Option<&str>) -> Result<(), AllocError> {
+    put_key(out, true, key)?;
+    put_string_or_null(out, text)?;
+    Ok(())
+}
+
+/// Adds a member with a number.
+// ensures { OnOk result ((ms : Members) → string_bytes out.new ++ object_text true ms
+//     ≡ string_bytes out.old ++ object_text is_later (member key.now (number_json number) ms)) }
+#[inline]
+pub fn put_count(
+    out: &mut String,
+    is_later: bool,
+    key: &str,
+    number: usize,
+) -> Result<(), AllocError> {
+    put_key(out, is_later, key)?;
+    put_digits(out, number)?;
     Ok(())
 }
 

@@ -8,6 +8,15 @@
 // by results from outside, and beside what is proved (.ci/bindings) and the original (tools/agree).
 
 pub(crate) mod escapes;
+pub(crate) mod github;
+pub(crate) mod json_lines;
 pub(crate) mod members;
+pub(crate) mod message;
 pub(crate) mod sarif;
-pub use sarif::{put_sarif_end, put_sarif_start};
+pub(crate) mod short;
+
+pub use github::put_github;
+pub use json_lines::put_json;
+pub use message::{Level, Message, Span};
+pub use sarif::{put_sarif_end, put_sarif_result, put_sarif_start};
+pub use short::put_short;

@@ -6,7 +6,11 @@
 // by results from outside, and beside what is proved (.ci/bindings) and the original (tools/agree).
 
 use crate::proved::fault_rules::{put_explanation, Rule};
-use crate::proved::message_forms::members::{put_comma, put_end, put_key, put_text, put_truth};
+use crate::proved::message_forms::escapes::put_uri;
+use crate::proved::message_forms::members::{
+    put_comma, put_count, put_end, put_key, put_text, put_truth,
+};
+use crate::proved::message_forms::message::{level_name, Message, Span};
 use crate::shim::alloc::{AllocError, Global};
 use crate::shim::prelude::*;
 
@@ -27,6 +31,103 @@ fn put_plain(out: &mut String, text: &str) -> Result<(), AllocError> {
 fn put_plain_member(out: &mut String, key: &str, text: &str) -> Result<(), AllocError> {
     put_key(out, true, key)?;
     put_plain(out, text)?;
+    Ok(())
+}
+
+/// Adds a region.
+// ensures { OnOk result (string_bytes out.new
+//     ≡ string_bytes out.old ++ json_text (region span.now)) }
+#[inline]
+fn put_region(out: &mut String, span: &Span<'_>) -> Result<(), AllocError> {
+    put_count(out, false, "startLine", span.start.line)?;
+    put_count(out, true, "startColumn", span.start.column)?;
+    put_count(out, true, "endLine", span.end.line)?;
+    put_count(out, true, "endColumn", span.end.column)?;
+    put_end(out)?;
+    Ok(())
+}
+
+/// Returns a path as a URI. Returns `Err` if an allocation fails.
+// ensures { IfOk result (λ s. string_bytes s ≡ uri path.now) }
+#[inline]
+fn uri_of(alloc: Global, path: &str) -> Result<String, AllocError> {
+    let mut text = String::made_in(alloc);
+    put_uri(&mut text, path)?;
+    Ok(text)
+}
+
+/// Adds a file.
+// ensures { OnOk result (string_bytes out.new
+//     ≡ string_bytes out.old ++ json_text (artifact path.now)) }
+#[inline]
+fn put_artifact(out: &mut String, path: &str) -> Result<(), AllocError> {
+    let text = uri_of(*out.own_allocator(), path)?;
+    put_text(out, false, "uri", text.as_str())?;
+    put_end(out)?;
+    Ok(())
+}
+
+/// Adds a range of a file.
+// ensures { OnOk result (string_bytes out.new
+//     ≡ string_bytes out.old ++ json_text (physical path.now span.now)) }
+#[inline]
+fn put_physical(out: &mut String, path: &str, span: &Span<'_>) -> Result<(), AllocError> {
+    put_key(out, false, "artifactLocation")?;
+    put_artifact(out, path)?;
+    put_key(out, true, "region")?;
+    put_region(out, span)?;
+    put_end(out)?;
+    Ok(())
+}
+
+/// Adds a range of a file as a location.
+// ensures { OnOk result (string_bytes out.new
+//     ≡ string_bytes out.old ++ json_text (location path.now span.now)) }
+#[inline]
+fn put_location(out: &mut String, path: &str, span: &Span<'_>) -> Result<(), AllocError> {
+    put_key(out, false, "physicalLocation")?;
+    put_physical(out, path, span)?;
+    put_end(out)?;
+    Ok(())
+}
+
+/// Adds a range of a file as the only location.
+// ensures { OnOk result (string_bytes out.new
+//     ≡ string_bytes out.old ++ json_text (array (item (location path.now span.now) no_items))) }
+#[inline]
+fn put_locations(out: &mut String, path: &str, span: &Span<'_>) -> Result<(), AllocError> {
+    out.try_push_str("[")?;
+    put_location(out, path, span)?;
+    out.try_push_str("]")?;
+    Ok(())
+}
+
+/// Adds a message as a result.
+// ensures { OnOk result (string_bytes out.new
+//     ≡ string_bytes out.old ++ json_text (result_json message.now)) }
+#[inline]
+fn put_result(out: &mut String, message: &Message<'_>) -> Result<(), AllocError> {
+    put_text(out, false, "ruleId", message.id)?;
+    put_text(out, true, "level", level_name(message.level))?;
+    put_plain_member(out, "message", message.title)?;
+    put_key(out, true, "locations")?;
+    put_locations(out, message.path, &message.primary)?;
+    put_end(out)?;
+    Ok(())
+}
+
+/// Appends a message as a result of a log, in front of which others may stand. Returns `Err` if an
+/// allocation fails, and a part of it may then be appended.
+// ensures { OnOk result ((more : Items) → string_bytes out.new ++ array_text true more
+//     ≡ string_bytes out.old ++ array_text (not is_first) (item (result_json message.now) more)) }
+#[inline]
+pub fn put_sarif_result(
+    out: &mut String,
+    is_first: bool,
+    message: &Message<'_>,
+) -> Result<(), AllocError> {
+    put_comma(out, !is_first)?;
+    put_result(out, message)?;
     Ok(())
 }
 
