@@ -171,7 +171,10 @@ class Needs:
         is_shown = part.is_public and of in self.shown and not takes_allocator(source, part)
         if part is item or is_shown or (item.name, part.name) in self.methods:
             return True
-        count = part.kind == "fn" and source.count_of(source.next(part.head, 2)) - 1
+        opening = source.next(part.head, 2)
+        while part.kind == "fn" and source.text(opening) != "(":
+            opening = source.next(opening)
+        count = part.kind == "fn" and source.count_of(opening) - 1
         return (".", part.name, count) in self.methods
 
 
