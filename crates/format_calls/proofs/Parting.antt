@@ -409,7 +409,8 @@ pub part-long : (n m t : Leaf) (part more : List Leaf) → part ≡ n ∷ m ∷ 
 part-long n m t part more e = let l = ap (λ v. length v) e in omega (arith, l)
 
 -- The first window, with nothing in front of it.
-pub gap-none : (es : List Entry) → IsGap es [] (record { is_behind = false; name = None; mark = None })
+pub gap-none : (es : List Entry)
+    → IsGap es [] (record { is_behind = false; name = None; mark = None })
 gap-none es = record {
   before = λ left c k. omega arith;
   fixed = λ left. refl;

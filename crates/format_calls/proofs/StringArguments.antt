@@ -1,5 +1,5 @@
 -- The first argument that is a string literal.
-use Rattle.std.proofs.Common.{◌≡◌, ℕ, List, Some, true}
+use Rattle.std.proofs.Common.{◌≡◌, ℕ, List, Some, false, true}
 use Rattle.std.specs.Prelude.{get_or, slice_get}
 use Rattle.std.proofs.lemmas.List.Quantifiers.{position-Some}
 use Rattle.std.proofs.lemmas.Option.{slice_get-get_or}

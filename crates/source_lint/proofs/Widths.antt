@@ -25,11 +25,17 @@ short-chars bs u =
 
 raw-length : (n : ℕ) (t : Text) → 2 * n + 3 + length t ≡ length (raw_frame n t)
 raw-length n t =
-    let a = length-append (replicate n 35) (34 ∷ []) in
-    let b = length-append (raw_opening n) (t ++ raw_closing n) in
-    let c = length-append t (raw_closing n) in
-    let h = length-replicate n 35 in
-    omega (arith, a, b, c, h)
+    let hashes : List ℕ = replicate n 35 in
+    let quote : List ℕ = 34 ∷ [] in
+    let h : length hashes ≡ n = length-replicate n 35 in
+    let o : length (raw_opening n) ≡ length (114 ∷ hashes) + length quote =
+    length-append (114 ∷ hashes) quote in
+    let q : length (raw_closing n) ≡ length quote + length hashes = length-append quote hashes in
+    let c : length (raw_opening n ++ t) ≡ length (raw_opening n) + length t =
+    length-append (raw_opening n) t in
+    let b : length (raw_frame n t) ≡ length (raw_opening n ++ t) + length (raw_closing n) =
+    length-append (raw_opening n ++ t) (raw_closing n) in
+    omega (arith, b, c, o, q, h)
 
 pub short-hashes : (style : Option ℕ) (literal : List ℕ) (t : Text) → IsUtf8 literal
     → IsLiteral style (chars literal) t → 2 * hashes style ≤ length literal

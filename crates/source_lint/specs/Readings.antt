@@ -55,12 +55,22 @@ told_of s gs = record {
 abbrev pub faults_of : State → List Given → List CallFault
 faults_of s gs = call_faults true gs (text_fault s) (pieces s)
 
+-- The arguments that count: none if their number is not known.
+abbrev pub counted_givens : Bool → List Given → List Given
+counted_givens true gs = gs
+counted_givens false gs = []
+
+-- How much of a call is read where the number of its arguments is known, and where it is not.
+abbrev pub reading_of : Bool → CallReading
+reading_of true = Whole
+reading_of false = StringAlone
+
 -- How much is read of a call, and what is found, where it has this format string and these
--- arguments: if their number is not known, only the fault of the string.
+-- arguments. If their number is not known, only the fault of the string counts.
 abbrev pub Finds : Bool → State → List Given → CallReading → List Finding → Type 0
-Finds true s gs r fs = (r ≡ Whole) × TellAll (told_of s gs) (faults_of s gs) fs
-Finds false s gs r fs = (r ≡ StringAlone)
-    × TellAll (told_of s []) (counted_faults false (faults_of s [])) fs
+Finds counted s gs r fs = (r ≡ reading_of counted)
+    × TellAll (told_of s (counted_givens counted gs))
+    (counted_faults counted (faults_of s (counted_givens counted gs))) fs
 
 -- The same where the format string is this literal, which may stand for no text.
 abbrev pub ReadsLiteral : Text → Bool → Bool → List Given → CallReading → List Finding → Type 0

@@ -1,9 +1,10 @@
 //! The macros that a file defines by `macro_rules!`.
 
-ghost use Rattle.std.specs.Prelude.{◌≡◌, ◌++◌, List, IfOk, map, option_map};
+ghost use Rattle.std.specs.Prelude.{◌≡◌, ◌++◌, List, IfOk, OnOk, map, option_map};
 ghost use Rattle.std.specs.List.{list_any};
 ghost use Rattle.std.specs.Str.{bytes_eq};
-ghost use Rattle.source_lint.specs.Defined.{begins_definition, defined, is_macro_rules};
+ghost use Rattle.source_lint.specs.Defined.{begins_definition, defined, definition};
+ghost use Rattle.source_lint.specs.Defined.{is_macro_rules};
 ghost use Rattle.source_lint.specs.Files.{AreLeaves};
 ghost use Rattle.rust_trees.specs.Leaves.{Leaf, leaf};
 
@@ -29,6 +30,24 @@ fn begins_definition(word: Option<Token<'_>>, mark: Option<Token<'_>>) -> bool
     }
 }
 
+/// Adds the name of the macro that a token defines behind two others, if it does. Returns `Err` if
+/// an allocation fails.
+fn put_definition<'a>(
+    found: &mut Vec<&'a [u8]>,
+    before: Option<Token<'a>>,
+    last: Option<Token<'a>>,
+    token: &Token<'a>,
+) -> Result<(), AllocError>
+    ensures { OnOk result (map (λ w. w.now) found.new.items ≡ map (λ w. w.now) found.old.items
+        ++ definition (option_map leaf before.entry) (option_map leaf last.entry)
+        (leaf token.now)) }
+{
+    if begins_definition(before, last) && is_word(token) {
+        found.push(word(token))?;
+    }
+    Ok(())
+}
+
 /// Returns the names of the macros that a file defines by `macro_rules!`, without `r#`. Returns
 /// `Err` if an allocation fails.
 pub fn defined<'a>(alloc: Global, text: &'a str) -> Result<Vec<&'a [u8]>, AllocError>
@@ -40,9 +59,7 @@ pub fn defined<'a>(alloc: Global, text: &'a str) -> Result<Vec<&'a [u8]>, AllocE
     let mut before = None;
     let mut last = None;
     while let Some(token) = rest.next() {
-        if begins_definition(before, last) && is_word(&token) {
-            found.push(word(&token))?;
-        }
+        put_definition(&mut found, before, last, &token)?;
         before = last;
         last = Some(token);
     }

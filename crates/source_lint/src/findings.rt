@@ -84,10 +84,8 @@ pub fn put_findings<'c>(
     ensures spans { OnOk result (All (λ x. IsSpan site.entry.text.now x.span) findings.old.items
         → All (λ x. IsSpan site.entry.text.now x.span) findings.new.items) }
 {
-    let mut rest = checked.faults.as_slice();
-    while let Some((fault, others)) = rest.split_first() {
+    for fault in &checked.faults {
         put_finding(alloc, findings, site, checked, fault, is_whole)?;
-        rest = others;
     }
     Ok(())
 }

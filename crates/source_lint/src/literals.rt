@@ -1,8 +1,7 @@
 //! The string literals of a file, as rustc reads them: with lines that end with LF.
 
-ghost use Rattle.std.specs.Prelude.{◌≡◌, ◌+◌, ◌<◌, ◌^◌, ◌++◌, ℕ, Bool, IfOk, IfSome, Option, chars};
-ghost use Rattle.std.specs.Prelude.{MatchOption, length, list_any, string_bytes};
-ghost use Rattle.std.specs.Str.{bytes_eq};
+ghost use Rattle.std.specs.Prelude.{◌≡◌, ◌==◌, ◌&&◌, ◌+◌, ◌<◌, ◌≤◌, ◌^◌, ◌++◌, ℕ, IfOk, IfSome};
+ghost use Rattle.std.specs.Prelude.{MatchOption, OnOk, Option, chars, length, string_bytes};
 ghost use Rattle.rustc_parse_format.specs.Characters.{Text};
 ghost use Rattle.rustc_parse_format.specs.Literal.{IsLiteral, newline};
 ghost use Rattle.rustc_parse_format.specs.World.{hashes};
@@ -35,6 +34,13 @@ fn begins_line(text: &str) -> bool
     }
 }
 
+/// Returns whether a character is a CR in front of an LF, where `rest` follows it.
+fn is_dropped(c: char, rest: &str) -> bool
+    ensures { result ≡ (c == 13 && first_passes is_lf (chars rest.now)) }
+{
+    c == '\r' && begins_line(rest)
+}
+
 /// Returns a text without the CR in front of each LF. Returns `Err` if an allocation fails.
 fn without_crs(alloc: Global, text: &str) -> Result<String, AllocError>
     ensures { IfOk result (λ s. chars (string_bytes s) ≡ without_crs (chars text.now)) }
@@ -42,7 +48,7 @@ fn without_crs(alloc: Global, text: &str) -> Result<String, AllocError>
     let mut lines = String::new(alloc);
     let mut rest = text;
     while let Some((c, more)) = split_first(rest) {
-        if c != '\r' || !begins_line(more) {
+        if !is_dropped(c, more) {
             lines.push(c)?;
         }
         rest = more;
@@ -57,6 +63,20 @@ pub fn appends_newline(name: &[u8]) -> bool
     name == b"println".as_slice()
         || name == b"eprintln".as_slice()
         || name == b"writeln".as_slice()
+}
+
+/// Appends a newline to a text, or nothing. Returns `Err` if an allocation fails.
+fn put_newline(text: &mut String, appended: bool) -> Result<(), AllocError>
+    ensures text { OnOk result (chars (string_bytes text.new)
+        ≡ chars (string_bytes text.old) ++ newline appended) }
+    ensures short { OnOk result (length (string_bytes text.new)
+        ≤ length (string_bytes text.old) + 1) }
+{
+    if appended {
+        text.push('\n')?;
+        return Ok(());
+    }
+    Ok(())
 }
 
 /// Reads the literal that a token is, and appends a newline to its text or not. Returns `None` if
@@ -76,9 +96,7 @@ pub fn read_literal(
     let Some((mut text, style)) = literal_text(alloc, snippet.as_str())? else {
         return Ok(None);
     };
-    if appended_newline {
-        text.push('\n')?;
-    }
+    put_newline(&mut text, appended_newline)?;
     Ok(Some(Literal {
         snippet,
         text,
@@ -94,7 +112,7 @@ pub fn offset_in(token: &str, offset: usize) -> usize {
     let mut rest = token;
     while let Some((c, more)) = split_first(rest) {
         let width = rest.len() - more.len();
-        if c == '\r' && begins_line(more) {
+        if is_dropped(c, more) {
             if left == 0 {
                 return passed;
             }

@@ -1,4 +1,4 @@
-use Rattle.std.proofs.Common.{[], length, map}
+use Rattle.std.proofs.Common.{[], map, take}
 use Rattle.std.specs.List.{All}
 use Rattle.call_faults.specs.Seen.{seen_fault, told}
 use Rattle.source_lint.specs.Findings.{IsSpan}
@@ -7,11 +7,9 @@ use Rattle.source_lint.proofs.findings.put_findings.Given as goal
 
 abbrev pub invariant-loop-fault : goal.invariant-loop-fault
 invariant-loop-fault l = record {
-  told : Telling (told l.checked []) l.is_whole (map seen_fault l.checked.faults.items)
-      (map seen_fault l.rest) l.initial.findings.items l.findings.items;
+  told : Telling (told l.checked []) l.is_whole
+      (map seen_fault (take l.fault-index l.fault-items)) l.initial.findings.items
+      l.findings.items;
   spans : All (λ x. IsSpan l.site.text.now x.span) l.initial.findings.items
       → All (λ x. IsSpan l.site.text.now x.span) l.findings.items;
 }
-
-abbrev pub decreases-loop-fault : goal.decreases-loop-fault
-decreases-loop-fault l = length l.rest

@@ -8,7 +8,8 @@ returns-then-is_some c w h = known-broken w _ _ _ c.if-is_some.ensures h
 
 pub returns-then-not-token : goal.returns-then-not-token
 returns-then-not-token c w h =
-    known-unended w _ c.args.self.now.openings.items (goes-on w _ _ c.if-is_some.ensures h) c.if-not-token.true
+    known-unended w _ c.args.self.now.openings.items (goes-on w _ _ c.if-is_some.ensures h)
+    c.if-not-token.true
 
 pub returns-in-Neither : goal.returns-in-Neither
 returns-in-Neither c w h =
