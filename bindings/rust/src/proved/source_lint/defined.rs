@@ -27,6 +27,24 @@ fn begins_definition(word: Option<Token<'_>>, mark: Option<Token<'_>>) -> bool {
     }
 }
 
+/// Adds the name of the macro that a token defines behind two others, if it does. Returns `Err` if
+/// an allocation fails.
+// ensures { OnOk result (map (λ w. w.now) found.new.items ≡ map (λ w. w.now) found.old.items
+//     ++ definition (option_map leaf before.entry) (option_map leaf last.entry)
+//     (leaf token.now)) }
+#[inline]
+fn put_definition<'a>(
+    found: &mut Vec<&'a [u8]>,
+    before: Option<Token<'a>>,
+    last: Option<Token<'a>>,
+    token: &Token<'a>,
+) -> Result<(), AllocError> {
+    if begins_definition(before, last) && is_word(token) {
+        found.try_push(word(token))?;
+    }
+    Ok(())
+}
+
 /// Returns the names of the macros that a file defines by `macro_rules!`, without `r#`. Returns
 /// `Err` if an allocation fails.
 // ensures { IfOk result (λ v. (ls : List Leaf) × AreLeaves text.now ls
@@ -38,9 +56,7 @@ pub fn defined<'a>(alloc: Global, text: &'a str) -> Result<Vec<&'a [u8]>, AllocE
     let mut before = None;
     let mut last = None;
     while let Some(token) = rest.next() {
-        if begins_definition(before, last) && is_word(&token) {
-            found.try_push(word(&token))?;
-        }
+        put_definition(&mut found, before, last, &token)?;
         before = last;
         last = Some(token);
     }

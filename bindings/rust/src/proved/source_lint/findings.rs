@@ -82,10 +82,8 @@ pub fn put_findings<'c>(
     checked: &Checked<'c>,
     is_whole: bool,
 ) -> Result<(), AllocError> {
-    let mut rest = checked.faults.as_slice();
-    while let Some((fault, others)) = rest.split_first() {
+    for fault in &checked.faults {
         put_finding(alloc, findings, site, checked, fault, is_whole)?;
-        rest = others;
     }
     Ok(())
 }

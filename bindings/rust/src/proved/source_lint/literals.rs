@@ -29,6 +29,13 @@ fn begins_line(text: &str) -> bool {
     }
 }
 
+/// Returns whether a character is a CR in front of an LF, where `rest` follows it.
+// ensures { result ≡ (c == 13 && first_passes is_lf (chars rest.now)) }
+#[inline]
+fn is_dropped(c: char, rest: &str) -> bool {
+    c == '\r' && begins_line(rest)
+}
+
 /// Returns a text without the CR in front of each LF. Returns `Err` if an allocation fails.
 // ensures { IfOk result (λ s. chars (string_bytes s) ≡ without_crs (chars text.now)) }
 #[inline]
@@ -36,7 +43,7 @@ fn without_crs(alloc: Global, text: &str) -> Result<String, AllocError> {
     let mut lines = String::made_in(alloc);
     let mut rest = text;
     while let Some((c, more)) = split_first(rest) {
-        if c != '\r' || !begins_line(more) {
+        if !is_dropped(c, more) {
             lines.try_push(c)?;
         }
         rest = more;
@@ -49,6 +56,20 @@ fn without_crs(alloc: Global, text: &str) -> Result<String, AllocError> {
 #[inline]
 pub fn appends_newline(name: &[u8]) -> bool {
     name == b"println".as_slice() || name == b"eprintln".as_slice() || name == b"writeln".as_slice()
+}
+
+/// Appends a newline to a text, or nothing. Returns `Err` if an allocation fails.
+// ensures text { OnOk result (chars (string_bytes text.new)
+//     ≡ chars (string_bytes text.old) ++ newline appended) }
+// ensures short { OnOk result (length (string_bytes text.new)
+//     ≤ length (string_bytes text.old) + 1) }
+#[inline]
+fn put_newline(text: &mut String, appended: bool) -> Result<(), AllocError> {
+    if appended {
+        text.try_push('\n')?;
+        return Ok(());
+    }
+    Ok(())
 }
 
 /// Reads the literal that a token is, and appends a newline to its text or not. Returns `None` if
@@ -68,9 +89,7 @@ pub fn read_literal(
     let Some((mut text, style)) = literal_text(alloc, snippet.as_str())? else {
         return Ok(None);
     };
-    if appended_newline {
-        text.try_push('\n')?;
-    }
+    put_newline(&mut text, appended_newline)?;
     Ok(Some(Literal {
         snippet,
         text,
@@ -87,7 +106,7 @@ pub fn offset_in(token: &str, offset: usize) -> usize {
     let mut rest = token;
     while let Some((c, more)) = split_first(rest) {
         let width = rest.len() - more.len();
-        if c == '\r' && begins_line(more) {
+        if is_dropped(c, more) {
             if left == 0 {
                 return passed;
             }

@@ -4,7 +4,7 @@
 // That source is proved, and each contract here is its. That this text means the same is tested:
 // by results from outside, and beside what is proved (.ci/bindings) and the original (tools/agree).
 
-use crate::proved::call_faults::{call_faults, FormatString};
+use crate::proved::call_faults::{call_faults, FormatString, Given};
 use crate::proved::format_calls::{
     are_counted, arguments, format_string, token_at, word, Argument, Call,
 };
@@ -39,6 +39,58 @@ fn name_at<'a>(tokens: &[Token<'a>], name: usize) -> &'a [u8] {
     }
 }
 
+/// Returns what placeholders can tell of arguments, or nothing if their number is not known.
+/// Returns `Err` if an allocation fails.
+// ensures { IfOk result (λ v. map seen_given v.items
+//     ≡ counted_givens is_counted (map (given (map leaf tokens.now)) arguments.now)) }
+#[inline]
+fn counted_givens<'a>(
+    alloc: Global,
+    tokens: &[Token<'a>],
+    arguments: &[Argument],
+    is_counted: bool,
+) -> Result<Vec<Given<'a>>, AllocError> {
+    if !is_counted {
+        return Ok(Vec::made_in(alloc));
+    }
+    let found = givens(alloc, tokens, arguments)?;
+    Ok(found)
+}
+
+/// Returns how much of a call is read where the number of its arguments is known, and where not.
+// ensures { result ≡ reading_of is_counted }
+#[inline]
+fn reading_of(is_counted: bool) -> CallReading {
+    if is_counted {
+        CallReading::Whole
+    } else {
+        CallReading::StringAlone
+    }
+}
+
+/// Checks a call with this format string and these arguments, and adds what is found. Returns `Err`
+/// if an allocation fails.
+// requires short { hashes string.style + length string.text.now + 2 < 2 ^ 64 }
+// requires captures { string.captures ≡ true }
+// ensures told { OnOk result ((xs : List FindingValue)
+//     × (findings.new.items ≡ findings.old.items ++ xs)
+//     × TellAll (told_of (start string.entry) (map seen_given given.now))
+//     (counted_faults is_counted (faults_of (start string.entry) (map seen_given given.now))) xs) }
+// ensures spans { OnOk result (All (λ x. IsSpan site.entry.text.now x.span) findings.old.items
+//     → All (λ x. IsSpan site.entry.text.now x.span) findings.new.items) }
+#[inline]
+fn check_string<'c>(
+    alloc: Global,
+    findings: &mut Vec<Finding>,
+    site: Site<'_, '_>,
+    string: FormatString<'c>,
+    given: &'c [Given<'c>],
+    is_counted: bool,
+) -> Result<(), AllocError> {
+    let checked = call_faults(alloc, string, given)?;
+    put_findings(alloc, findings, site, &checked, is_counted)
+}
+
 /// Reads the format string of a call, which is this literal, with the arguments behind it, and adds
 /// what is found. Returns `Err` if an allocation fails.
 // ensures read { IfOk result (λ r. (xs : List FindingValue)
@@ -58,24 +110,29 @@ fn read_string(
     let Some(literal) = read_literal(alloc, site.literal.text, appended_newline)? else {
         return Ok(CallReading::Malformed);
     };
-    let given = if is_counted {
-        givens(alloc, site.tokens, site.arguments)?
-    } else {
-        Vec::made_in(alloc)
-    };
+    let given = counted_givens(alloc, site.tokens, site.arguments, is_counted)?;
+    let text = literal.text.as_str();
+    let snippet = literal.snippet.as_str();
+    let list = given.as_slice();
     let string = FormatString {
-        text: literal.text.as_str(),
+        text,
         style: literal.style,
-        snippet: Some(literal.snippet.as_str()),
+        snippet: Some(snippet),
         appended_newline,
         captures: true,
     };
-    let checked = call_faults(alloc, string, &given)?;
-    put_findings(alloc, findings, site, &checked, is_counted)?;
-    if is_counted {
-        Ok(CallReading::Whole)
+    check_string(alloc, findings, site, string, list, is_counted)?;
+    Ok(reading_of(is_counted))
+}
+
+/// Returns the argument of an index, or `None` if there is none.
+// ensures { result ≡ slice_get arguments.now index }
+#[inline]
+fn argument_at(arguments: &[Argument], index: usize) -> Option<Argument> {
+    if index < arguments.len() {
+        Some(arguments[index])
     } else {
-        Ok(CallReading::StringAlone)
+        None
     }
 }
 
@@ -101,17 +158,25 @@ fn read_at(
     index: usize,
 ) -> Result<CallReading, AllocError> {
     let tokens = part.tokens();
-    let string = arguments[index];
-    let literal = tokens[string.start];
+    let Some(string) = argument_at(arguments, index) else {
+        return Ok(CallReading::Malformed);
+    };
+    let Some(literal) = token_at(tokens, string.start) else {
+        return Ok(CallReading::Malformed);
+    };
+    let others = &arguments[index + 1..];
     let site = Site {
         text: file.text,
         tokens,
         literal,
-        arguments: &arguments[index + 1..],
+        arguments: others,
     };
-    let appended_newline = appends_newline(name_at(tokens, call.name));
-    let is_counted = are_counted(part, call.name + 2, string.end, call.close);
-    read_string(alloc, findings, site, appended_newline, is_counted)
+    let close = call.close;
+    let name = name_at(tokens, call.name);
+    let appended_newline = appends_newline(name);
+    let is_counted = are_counted(part, call.name + 2, string.end, close);
+    let reading = read_string(alloc, findings, site, appended_newline, is_counted)?;
+    Ok(reading)
 }
 
 /// Reads a call, and adds what is found in it. Returns `Err` if an allocation fails.
@@ -136,8 +201,12 @@ pub fn read_call(
     let Some(arguments) = arguments(alloc, part, call.close)? else {
         return Ok(CallReading::Whole);
     };
-    match format_string(part, call.rule, &arguments, file.is_from_2021) {
+    let list = arguments.as_slice();
+    match format_string(part, call.rule, list, file.is_from_2021) {
         Err(reason) => Ok(CallReading::Unread(reason)),
-        Ok(index) => read_at(alloc, findings, file, part, call, &arguments, index),
+        Ok(index) => {
+            let reading = read_at(alloc, findings, file, part, call, list, index)?;
+            Ok(reading)
+        }
     }
 }
