@@ -1,0 +1,15 @@
+//! The faults of the format strings of a Rust source file, from its text ([`file_faults`]).
+#![tactic(auto)]
+
+mod findings;
+mod givens;
+mod labels;
+mod lint;
+mod literals;
+mod macros;
+mod readings;
+mod report;
+mod spans;
+
+pub use lint::file_faults;
+pub use report::{CallReading, Edit, Finding, Help, Label, Note, Options, Report};

@@ -1,0 +1,103 @@
+//! The faults of the format strings of a file.
+
+ghost use Rattle.std.specs.Prelude.{◌≡◌, ◌++◌, List, IfOk, OnOk, map};
+ghost use Rattle.std.specs.List.{All};
+ghost use Rattle.rust_trees.specs.Balances.{IsBalanced};
+ghost use Rattle.rust_trees.specs.Leaves.{Leaf};
+ghost use Rattle.format_calls.specs.Rows.{entry};
+ghost use Rattle.source_lint.specs.Files.{AreLeaves};
+ghost use Rattle.source_lint.specs.Findings.{HasSpans};
+ghost use Rattle.source_lint.specs.Reports.{IsReport, ReadsCalls};
+ghost use Rattle.source_lint.specs.declared.report.CallReading.{CallReading as ReadingValue};
+ghost use Rattle.source_lint.specs.declared.report.Finding.{Finding as FindingValue};
+
+use crate::macros::macro_names;
+use crate::readings::{File, read_call};
+use crate::report::{CallReading, Finding, Options, Report};
+use format_calls::{Table, calls, next_part};
+use rust_trees::{Balance, Source, Tokens};
+use std::alloc::{AllocError, Global};
+
+/// The readings of the calls of a file so far, and the findings in these calls.
+#[derive(Drop)]
+struct Readings {
+    calls: Vec<CallReading>,
+    findings: Vec<Finding>,
+}
+
+/// Reads the calls of a part of a file, one after the other, and adds how much of each is read and
+/// its findings. Returns `Err` if an allocation fails.
+fn read_part(
+    alloc: Global,
+    found: &mut Readings,
+    file: File<'_, '_>,
+    part: &Source<'_>,
+    table: &Table<'_>,
+) -> Result<(), AllocError>
+    ensures read { OnOk result ((rs : List ReadingValue) × (xs : List FindingValue)
+        × (found.new.calls.items ≡ found.old.calls.items ++ rs)
+        × (found.new.findings.items ≡ found.old.findings.items ++ xs)
+        × ReadsCalls (map entry table.now.rows.items) (map (λ w. w.now) file.entry.macros.now)
+        file.entry.is_from_2021 part.now rs xs) }
+    ensures spans { OnOk result (All (HasSpans file.entry.text.now)
+        found.old.findings.items
+        → All (HasSpans file.entry.text.now) found.new.findings.items) }
+{
+    let calls = calls(alloc, part, table)?;
+    let mut rest = calls.as_slice();
+    while let Some((call, others)) = rest.split_first() {
+        let reading = read_call(alloc, &mut found.findings, file, part, call)?;
+        found.calls.push(reading)?;
+        rest = others;
+    }
+    Ok(())
+}
+
+/// Reads the calls of a file, part by part, and adds all its tokens to `balance`. Returns `Err` if
+/// an allocation fails.
+fn read_file(
+    alloc: Global,
+    file: File<'_, '_>,
+    table: &Table<'_>,
+    balance: &mut Balance,
+) -> Result<Readings, AllocError>
+    ensures read { IfOk result (λ f. (ls : List Leaf) × AreLeaves file.entry.text.now ls
+        × ReadsCalls (map entry table.now.rows.items) (map (λ w. w.now) file.entry.macros.now)
+        file.entry.is_from_2021 ls f.calls.items f.findings.items
+        × ((w : List Leaf) → IsBalanced w balance.old → IsBalanced (w ++ ls) balance.new)) }
+    ensures spans { IfOk result (λ f. All (HasSpans file.entry.text.now)
+        f.findings.items) }
+{
+    let mut found = Readings {
+        calls: Vec::new(alloc),
+        findings: Vec::new(alloc),
+    };
+    let mut rest = Tokens::new(file.text);
+    while let Some(part) = next_part(alloc, &mut rest, table, balance)? {
+        read_part(alloc, &mut found, file, &part, table)?;
+    }
+    Ok(found)
+}
+
+/// Reads a source file, and returns the faults of its calls of macros that take a format string.
+/// Lines may end with LF or CRLF, and a byte order mark may stand at the start. Returns `Err` if an
+/// allocation fails.
+pub fn file_faults(alloc: Global, text: &str, options: &Options<'_>) -> Result<Report, AllocError>
+    ensures report { IfOk result (λ r. IsReport (map entry options.now.table.rows.items)
+        options.now.is_from_2021 text.now r) }
+    ensures spans { IfOk result (λ r. All (HasSpans text.now) r.findings.items) }
+{
+    let names = macro_names(alloc, text)?;
+    let file = File {
+        text,
+        macros: names.as_slice(),
+        is_from_2021: options.is_from_2021,
+    };
+    let mut balance = Balance::new(alloc);
+    let found = read_file(alloc, file, &options.table, &mut balance)?;
+    Ok(Report {
+        calls: found.calls,
+        findings: found.findings,
+        broken: balance.broken(),
+    })
+}
