@@ -70,8 +70,7 @@ fn is_part(part: &[Fault<'_>], whole: &[Fault<'_>]) -> bool
 }
 
 /// Returns how many calls over a text find a fault, or `None` if not all of these faults are old
-/// ones, in their order.
-/// Returns `Err` as `faults_of` does.
+/// ones, in their order. Returns `Err` as `faults_of` does.
 fn count_left(
     alloc: Global,
     old: &[Fault<'_>],
@@ -184,6 +183,10 @@ pub fn fix(
             return Ok(best.literal);
         };
         let calls = count_left(alloc, old.list.as_slice(), fixed.text.as_str(), mode)?;
+        if let Some(0) = calls {
+            offer(&mut best, fixed, calls);
+            return Ok(best.literal);
+        }
         reached = next_round(alloc, &fixed, style, appended_newline, mode)?;
         offer(&mut best, fixed, calls);
         rounds += 1;
