@@ -141,7 +141,7 @@ def main():
     cases = [*listed_cases(), *made_cases()]
     why = "" if program else "the program was not built"
     if len(cases) != CASES:
-        why = f"there are {len(cases)} cases, and not {CASES}"
+        why = f"there are {len(cases)} cases in place of {CASES}"
     if why:
         print(f"replay: 0 passed, 1 failed: {why}")
         return 1

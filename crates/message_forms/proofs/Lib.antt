@@ -1,0 +1,5 @@
+pub mod Escaped
+pub mod Texts
+pub mod Lines
+pub mod Harmless
+mod LineEnds
