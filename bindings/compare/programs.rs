@@ -36,6 +36,12 @@ const FILE_WORDS: &[&str] = &[
     "--macro=say:0", "--macro=say:1", "--stdin-path=b.rs",
 ];
 
+/// Words of formatlint with which it reads one string.
+const STRING_WORDS: &[&str] = &[
+    "--all", "--all", "--fix", "--tokens", "--tokens", "--color=always", "--list", "--args=2,w",
+    "--format=json", "--mode=asm", "--mode=diagnostic", "--mode=diagnostic-named",
+];
+
 /// Parts of inputs.
 const PARTS: &[&str] = &[
     "\"", "\"{}\"", "\"{a}\"", "{", "}", "{}", "{a?}", "{r#a}", "{:?#}", "{0:>1$}", "\\n", "\\x41",
@@ -94,9 +100,9 @@ fn furnish(random: &mut Random, folder: &str) {
     std::fs::write(format!("{folder}/not-text.rs"), text).expect("a file");
 }
 
-/// An input: often a literal, sometimes any parts, and sometimes no text.
-fn input(random: &mut Random) -> Vec<u8> {
-    let text: String = (0..random.below(9)).map(|_| random.of(PARTS)).collect();
+/// An input of less than so many parts: often a literal, sometimes none, and sometimes no text.
+fn input(random: &mut Random, most: usize) -> Vec<u8> {
+    let text: String = (0..random.below(most)).map(|_| random.of(PARTS)).collect();
     let mut bytes = match random.below(4) {
         0 => text.into_bytes(),
         1 => format!("r\"{}\"\n", text.replace('"', "")).into_bytes(),
@@ -130,14 +136,22 @@ fn main() {
     make_folder(&folder);
     let mut statuses = [0; 256];
     for at in 0..count {
-        let ways = [("formatlint", LINT_WORDS), ("formatlint", FILE_WORDS), ("formatread", READ_WORDS)];
-        let (name, all) = ways[at % 3];
+        let ways = [
+            ("formatlint", LINT_WORDS),
+            ("formatlint", FILE_WORDS),
+            ("formatread", READ_WORDS),
+            ("formatlint", STRING_WORDS),
+        ];
+        let (name, all) = ways[at % 4];
         furnish(&mut random, &folder);
-        let words = words(&mut random, all, &folder);
-        let input = if at % 3 == 1 {
-            file(&mut random).into_bytes()
-        } else {
-            input(&mut random)
+        let mut words = words(&mut random, all, &folder);
+        let input = match at % 4 {
+            1 => file(&mut random).into_bytes(),
+            3 => {
+                words.push(["--literal", "--literal", "--text"][random.below(3)].into());
+                input(&mut random, 30)
+            }
+            _ => input(&mut random, 9),
         };
         let one = run(&format!("{proved}/{name}"), &folder, &words, &input);
         let other = run(&format!("{extracted}/{name}"), &folder, &words, &input);
