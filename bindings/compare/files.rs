@@ -72,7 +72,11 @@ macro_rules! seen_by {
                 let Some((text, style)) = call.literal().and_then(content) else {
                     return Vec::new();
                 };
-                let given: Vec<Given> = call.formatted().iter().map(|it| it.given).collect();
+                let mut given: Vec<Given> = call.formatted().iter().map(|it| it.given).collect();
+                // (a call gives no variable of an argument with a name, and others may)
+                for it in given.iter_mut().filter(|it| it.name.is_some()) {
+                    it.variable = Some("x");
+                }
                 let string = FormatString {
                     text,
                     style,

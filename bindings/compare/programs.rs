@@ -55,6 +55,7 @@ const FILE_PARTS: &[&str] = &[
     "assert!(a, \"{}\", a = 1, b);", "format!(\"é日 {:.*} \\u{e9}}\", 1)", "print!(concat!(\"a\"), 1)",
     "macro_rules! format { () => {} }", "print!(\"\\q\")", "$crate::print!(\"}\")", "// print!(\"}\")\n",
     "print!(\"{}\", $($a),*)", "print!(\"\\\r\n   }\")", "{", "}", "(", ")", "\"", "/*", "\u{feff}", "\n",
+    "print!(\"{}\", x = 1);", "format!(\"a {r#b} {c?}\")", "print!(\"\", a);\n", "print!(\"{a:?#}\")",
     "fn f() ", "/* } */", "'a'", "a < b, c > d", "\t", "\r\n", "format!(\"{\u{7}}\")",
 ];
 
