@@ -91,11 +91,11 @@ call-unshift es f xs c h k =
     }
 
 -- A closing delimiter is no word, and no mark that is no delimiter.
-punct-no-word : (k : Kind) → is_punct k ≡ true → is_ident k ≡ false
+pub punct-no-word : (k : Kind) → is_punct k ≡ true → is_ident k ≡ false
 punct-no-word Punct h = refl
 punct-no-word k h = absurd (false≢true h)
 
-closing-punct : (x : Leaf) (d : Delimiter) → side x ≡ Closes d → is_punct x.kind ≡ true
+pub closing-punct : (x : Leaf) (d : Delimiter) → side x ≡ Closes d → is_punct x.kind ≡ true
 closing-punct x d h = by_kind (is_punct x.kind) refl
   where
     by_kind : (b : Bool) → is_punct x.kind ≡ b → b ≡ true
@@ -384,6 +384,39 @@ gap-more es gap w t f h = by_window w.is_behind w.name w.mark f h
             ∙ ap (λ o. is_mark_of (code "$") o)
             (ap (λ xs. slice_get xs (length gap + 0)) (append_assoc gap (n ∷ []) (m ∷ t ∷ left))
             ∙ get-shift gap (n ∷ m ∷ t ∷ left) 0)
+
+-- The tokens of the next window, behind those that were read, and those of a part.
+pub window-more : (before gap : List Leaf) (n m : Option Leaf) (next : List Leaf) (t : Leaf)
+    → gap ++ (window n m ++ t ∷ []) ≡ next ++ (window m (Some t) ++ [])
+    → (before ++ (gap ++ window n m)) ++ t ∷ [] ≡ before ++ (next ++ window m (Some t))
+window-more before gap n m next t e =
+    append_assoc before (gap ++ window n m) (t ∷ [])
+    ∙ ap (λ x. before ++ x) (append_assoc gap (window n m) (t ∷ [])
+    ∙ (e ∙ ap (λ x. next ++ x) (append-nil (window m (Some t)))))
+
+pub part-more : (before gap : List Leaf) (n m : Option Leaf) (part more : List Leaf) (t : Leaf)
+    → gap ++ (window n m ++ t ∷ (more ++ [])) ≡ gap ++ (part ++ [])
+    → ((before ++ (gap ++ window n m)) ++ t ∷ []) ++ more ≡ before ++ (gap ++ part)
+part-more before gap n m part more t e =
+    append_assoc (before ++ (gap ++ window n m)) (t ∷ []) more
+    ∙ (append_assoc before (gap ++ window n m) (t ∷ more)
+    ∙ ap (λ x. before ++ x) (append_assoc gap (window n m) (t ∷ more)
+    ∙ (ap (λ x. gap ++ (window n m ++ t ∷ x)) (sym (append-nil more))
+    ∙ (e ∙ ap (λ x. gap ++ x) (append-nil part)))))
+
+-- Behind the front of a part.
+pub part-long : (n m t : Leaf) (part more : List Leaf) → part ≡ n ∷ m ∷ t ∷ more → 3 ≤ length part
+part-long n m t part more e = let l = ap (λ v. length v) e in omega (arith, l)
+
+-- The first window, with nothing in front of it.
+pub gap-none : (es : List Entry)
+    → IsGap es [] (record { is_behind = false; name = None; mark = None })
+gap-none es = record {
+  before = λ left c k. omega arith;
+  fixed = λ left. refl;
+  starts = λ e. refl;
+  follows = λ e. refl;
+}
 
 -- There is one list of the tokens that are left.
 pub left-once : (u : Unread) (xs ys : List Leaf) → AreLeft u xs → AreLeft u ys → xs ≡ ys

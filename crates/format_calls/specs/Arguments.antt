@@ -1,6 +1,6 @@
 -- The arguments of a call.
 use Prim.Native.Char.{code}
-use Rattle.std.specs.Prelude.{◌≡◌, ◌+◌, ◌⊎◌, ◌&&◌, ℕ, Bool, true, false, not, List, [], ◌∷◌}
+use Rattle.std.specs.Prelude.{◌≡◌, ◌+◌, ◌<◌, ◌⊎◌, ◌&&◌, ℕ, Bool, true, false, not, List, [], ◌∷◌}
 use Rattle.std.specs.Prelude.{IsTrue}
 use Rattle.std.specs.Prelude.{slice_get, Option, Some, None}
 use Rattle.rust_trees.specs.Leaves.{Leaf}
@@ -55,10 +55,10 @@ is_named xs i = is_word_at (slice_get xs i) && (is_mark (code "=") xs (i + 1)
     && (not (is_followed (code "=") xs (i + 1)) && not (is_followed (code ">") xs (i + 1))))
 
 -- These are the arguments from one token to another: each begins after the comma of the one before
--- it, and the last ends there. After the last comma there may be nothing.
+-- it, and the last ends there. After the last comma there may be nothing: that is no argument.
 abbrev pub AreArguments : List Leaf → ℕ → List Argument → ℕ → Type 0
 AreArguments xs at [] to = at ≡ to
-AreArguments xs at (a ∷ more) to = (a.start ≡ at) × IsArgument xs at a.end to
+AreArguments xs at (a ∷ more) to = (a.start ≡ at) × (at < to) × IsArgument xs at a.end to
     × (a.is_named ≡ is_named xs at)
     × (((a.end ≡ to) × (more ≡ [])) ⊎ (IsTrue (is_mark (code ",") xs a.end)
     × AreArguments xs (a.end + 1) more to))

@@ -1,5 +1,6 @@
 pub mod Arguments
 pub mod Calls
+pub mod Counted
 pub mod Marks
 pub mod Modes
 pub mod Parts

@@ -1,6 +1,7 @@
 //! Calls of macros that take a format string, in Rust source text.
 #![tactic(auto)]
 
+mod counted;
 mod listing;
 mod marks;
 mod modes;
@@ -9,7 +10,9 @@ mod split;
 mod strings;
 mod table;
 
+pub use counted::are_counted;
 pub use listing::{Call, calls};
+pub use marks::{is_mark_of, is_word, token_at, word};
 pub use parts::next_part;
 pub use split::{Argument, arguments};
 pub use strings::{Reason, format_string};

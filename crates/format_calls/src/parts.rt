@@ -1,7 +1,8 @@
 //! The parts of a file that have calls.
 
 ghost use Rattle.std.specs.Prelude.{◌≡◌, ◌≤◌, ◌<◌, ◌++◌, IfOk, IfSome, IsNone, List, length, map};
-ghost use Rattle.std.specs.Prelude.{option_map};
+ghost use Rattle.std.specs.Prelude.{OnOk, drop, option_map};
+ghost use Rattle.rust_trees.specs.Balances.{IsBalanced};
 ghost use Rattle.rust_trees.specs.Leaves.{AreLeft, Leaf, leaf};
 ghost use Rattle.format_calls.specs.Calls.{IsCall};
 ghost use Rattle.format_calls.specs.Parts.{IsPart, front_of, moved_on, opens_call};
@@ -11,7 +12,7 @@ ghost use Rattle.format_calls.specs.declared.listing.Call.{Call};
 
 use crate::marks::{is_mark_of, is_word, word};
 use crate::table::{Row, Table, rule_of};
-use rust_trees::{Source, Token, Tokens, is_opening};
+use rust_trees::{Balance, Source, Token, Tokens, is_opening};
 use std::alloc::{AllocError, Global};
 
 /// Returns whether three tokens are a word of a table, `!` and an opening delimiter.
@@ -85,25 +86,40 @@ fn moved_on<'a>(last: Window<'a>, token: Token<'a>) -> Window<'a>
     }
 }
 
+/// Adds the tokens of a part behind the first three. Returns `Err` if an allocation fails.
+fn add_behind_front(balance: &mut Balance, part: &Source<'_>) -> Result<(), AllocError>
+    requires { 3 ≤ length part.now }
+    ensures { OnOk result ((w : List Leaf) → IsBalanced w balance.old
+        → IsBalanced (w ++ drop 3 part.now) balance.new) }
+{
+    let tokens = part.tokens();
+    balance.add_all(&tokens[3..])?;
+    Ok(())
+}
+
 /// Reads a file up to the end of the next call of a macro of a table, with the calls that begin
 /// within it, and returns its tokens from the name on. Returns `None` at the end of the file if no
 /// further call comes, and `Err` if an allocation fails.
 ///
 /// Only these tokens are in memory at a time, where a whole file takes some twenty times its bytes.
 /// Where the delimiters of a call do not match, its part ends at the first one that nothing allows,
-/// or with the file.
+/// or with the file. All tokens that are read are added to `balance`.
 pub fn next_part<'a>(
     alloc: Global,
     rest: &mut Tokens<'a>,
     table: &Table<'_>,
+    balance: &mut Balance,
 ) -> Result<Option<Source<'a>>, AllocError>
     ensures file { rest.new.whole ≡ rest.old.whole }
     ensures fewer { IfOk result (λ o. IfSome o (λ _. length rest.new.rest < length rest.old.rest)) }
     ensures some { IfOk result (λ o. IfSome o (λ s. (gap : List Leaf) × ((left : List Leaf)
         → AreLeft rest.new left → AreLeft rest.old (gap ++ (s ++ left))
-        × IsPart (map entry table.now.rows.items) gap s left))) }
+        × IsPart (map entry table.now.rows.items) gap s left)
+        × ((w : List Leaf) → IsBalanced w balance.old
+        → IsBalanced (w ++ (gap ++ s)) balance.new))) }
     ensures none { IfOk result (λ o. IsNone o → (left : List Leaf) × AreLeft rest.old left
-        × ((c : Call) → IsCall (map entry table.now.rows.items) left c → ⊥)) }
+        × ((c : Call) → IsCall (map entry table.now.rows.items) left c → ⊥)
+        × ((w : List Leaf) → IsBalanced w balance.old → IsBalanced (w ++ left) balance.new)) }
 {
     let mut last = Window {
         is_behind: false,
@@ -111,9 +127,11 @@ pub fn next_part<'a>(
         mark: None,
     };
     while let Some(token) = rest.next() {
+        balance.add(&token)?;
         if let Some(front) = front_of(&table.rows, last, token) {
             let tokens = [front.name, front.mark, front.opening];
             let part = Source::read_group(alloc, &tokens, rest)?;
+            add_behind_front(balance, &part)?;
             return Ok(Some(part));
         }
         last = moved_on(last, token);

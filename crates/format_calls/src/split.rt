@@ -30,7 +30,7 @@ fn is_end(tokens: &[Token<'_>], index: usize, mode: Mode) -> bool
 }
 
 /// Returns whether an argument that starts at this token has a name.
-fn is_named(tokens: &[Token<'_>], index: usize) -> bool
+pub fn is_named(tokens: &[Token<'_>], index: usize) -> bool
     ensures { result ≡ is_named (map leaf tokens.now) index }
 {
     match token_at(tokens, index) {
@@ -45,7 +45,7 @@ fn is_named(tokens: &[Token<'_>], index: usize) -> bool
 }
 
 /// Returns the token after the tree at a token between two delimiters that are a pair.
-fn behind_tree(source: &Source<'_>, index: usize) -> usize
+pub fn behind_tree(source: &Source<'_>, index: usize) -> usize
     requires { (o c : ℕ) × IsPair source.now o c × (o < index) × (index < c) × (c < 2 ^ 64) }
     ensures { IsTree source.now index result }
 {

@@ -1,9 +1,11 @@
 //! The argument of a call that is its format string, or the reason why none is read.
 
-ghost use Rattle.std.specs.Prelude.{◌≡◌, ◌+◌, ◌&&◌, ◌==◌, length, map, slice_get};
+ghost use Rattle.std.specs.Prelude.{◌≡◌, ◌+◌, ◌&&◌, ◌==◌, IfOk, IsTrue, Some, length, map};
+ghost use Rattle.std.specs.Prelude.{slice_get};
 ghost use Rattle.rust_trees.specs.Leaves.{leaf};
 ghost use Rattle.format_calls.specs.Strings.{argument_or, first_text, format_string, is_text};
 ghost use Rattle.format_calls.specs.Strings.{is_text_leaf, reason_of};
+ghost use Rattle.format_calls.specs.declared.split.Argument.{Argument as ArgumentValue};
 
 use crate::marks::{is_mark, is_word, token_at};
 use crate::split::Argument;
@@ -109,7 +111,9 @@ pub fn format_string(
     arguments: &[Argument],
     is_from_2021: bool,
 ) -> Result<usize, Reason>
-    ensures { result ≡ format_string source.now rule arguments.now is_from_2021 }
+    ensures value { result ≡ format_string source.now rule arguments.now is_from_2021 }
+    ensures literal { IfOk result (λ n. (a : ArgumentValue) × (slice_get arguments.now n ≡ Some a)
+        × IsTrue (is_text source.now a)) }
 {
     let tokens = source.tokens();
     match rule {

@@ -1,3 +1,4 @@
+pub mod Balancing
 pub mod Groups
 pub mod Growing
 pub mod LeavesRead

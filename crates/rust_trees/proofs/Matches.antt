@@ -58,7 +58,7 @@ pub no-front : (w : List Leaf) → scan (Some []) w ≡ None → IsFront w → �
 no-front w h f = none-some [] (sym (scan-append (Some []) w f.0
     ∙ (ap (λ o. scan o f.0) h ∙ scan-none f.0)) ∙ scan-forest (w ++ f.0) f.1)
 
-one-more : (w : List Leaf) (x : Leaf) (o : Option (List Delimiter)) → scan (Some []) w ≡ o
+pub one-more : (w : List Leaf) (x : Leaf) (o : Option (List Delimiter)) → scan (Some []) w ≡ o
     → scan (Some []) (w ++ x ∷ []) ≡ open_after (side x) o
 one-more w x o h = scan-append (Some []) w (x ∷ []) ∙ ap (λ t. open_after (side x) t) h
 
@@ -75,7 +75,7 @@ unexpected-more w x k u = record {
   breaks = u.breaks;
 }
 
-abbrev kinds : List Opening → List Delimiter
+abbrev pub kinds : List Opening → List Delimiter
 kinds os = map (λ o. o.delimiter) os
 
 first-more : (w : List Leaf) (x : Leaf) (os ns : List Opening) (u : Option ℕ) → IsFirst w os u
@@ -103,7 +103,7 @@ counted-more w x ps qs p c e =
     ap (λ t. length t) e ∙ (length-append ps (p ∷ []) ∙ (ap (λ n. n + 1) c
     ∙ sym (length-append w (x ∷ []))))
 
-reverse-last : (os : List Opening) (o : Opening) → reverse (os ++ o ∷ []) ≡ o ∷ reverse os
+pub reverse-last : (os : List Opening) (o : Opening) → reverse (os ++ o ∷ []) ≡ o ∷ reverse os
 reverse-last os o = reverse-append os (o ∷ [])
 
 -- A token that is no delimiter.
@@ -174,7 +174,7 @@ matched-close w x m n os o s h b e f g =
     }
 
 -- A delimiter that closes none.
-breaks-after : (os : List Opening) (x : Leaf) (d : Delimiter) → side x ≡ Closes d
+pub breaks-after : (os : List Opening) (x : Leaf) (d : Delimiter) → side x ≡ Closes d
     → Mismatches os d → open_after (side x) (Some (kinds os)) ≡ None
 breaks-after [] x d s m = ap (λ t. open_after t (Some [])) s
 breaks-after (o ∷ os) x d s m = breaks-top (side x) o.delimiter d (kinds os) s m

@@ -75,7 +75,7 @@ broken-more : (v r : List Leaf) (x : Leaf) → v ≡ r ++ x ∷ [] → scan (Som
 broken-more v r x e h = ap (λ t. scan (Some []) t) e ∙ stays-broken (Some []) r (x ∷ []) h
 
 -- One more token behind tokens that do not.
-last-token : (v r : List Leaf) (x : Leaf) (o : Option (List Delimiter)) → v ≡ r ++ x ∷ []
+pub last-token : (v r : List Leaf) (x : Leaf) (o : Option (List Delimiter)) → v ≡ r ++ x ∷ []
     → scan (Some []) r ≡ o → scan (Some []) v ≡ open_after (side x) o
 last-token v r x o e h = ap (λ t. scan (Some []) t) e
     ∙ (scan-append (Some []) r (x ∷ []) ∙ ap (λ t. open_after (side x) t) h)

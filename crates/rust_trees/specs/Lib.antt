@@ -1,3 +1,4 @@
+pub mod Balances
 pub mod Breaks
 pub mod Forests
 pub mod Leaves

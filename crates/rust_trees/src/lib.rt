@@ -2,6 +2,7 @@
 //! pairs of delimiters among them.
 #![tactic(auto)]
 
+mod balance;
 pub mod laws;
 mod leaves;
 mod matching;
@@ -9,6 +10,7 @@ mod places;
 mod sides;
 mod source;
 
+pub use balance::{Balance, BreakAt, BreakKind};
 pub use leaves::{Token, Tokens};
 pub use matching::Break;
 pub use places::{Place, Places, place_after, place_at};

@@ -3,7 +3,7 @@
 
 use crate::strings::format_strings;
 use format_calls::{Reason, Row, Table, arguments, calls, format_string, next_part};
-use rust_trees::{Break, Places, Source, Tokens, place_at};
+use rust_trees::{Balance, Break, Places, Source, Tokens, place_at};
 use std::alloc::{AllocError, Global};
 use std::io::Print;
 use std::process::Abort;
@@ -108,8 +108,9 @@ fn check(
     }
     // the same calls, part by part
     let mut rest = Tokens::new(text);
+    let mut balance = Balance::new(alloc);
     let mut count = 0;
-    while let Some(part) = next_part(alloc, &mut rest, table)? {
+    while let Some(part) = next_part(alloc, &mut rest, table, &mut balance)? {
         for call in &calls(alloc, &part, table)? {
             assert!(rt; count < found.len());
             let name = source.tokens()[found[count].name];
@@ -118,6 +119,17 @@ fn check(
         }
     }
     assert_eq!(rt; count, expected.len());
+    // and where the tokens break
+    let place = match source.broken() {
+        Some(Break::Unclosed(index) | Break::Unexpected(index)) => index,
+        None => source.tokens().len(),
+    };
+    let broken = balance.broken().map_or(text.len(), |broken| broken.start);
+    if place < source.tokens().len() {
+        assert_eq!(rt; broken, source.tokens()[place].start);
+    } else {
+        assert_eq!(rt; broken, text.len());
+    }
     Ok(())
 }
 

@@ -1,10 +1,28 @@
-use Rattle.std.proofs.Common.{◌≡◌, ◌++◌, ◌∷◌, [], ◌∙◌, List, None, Some, ap, map, refl}
+use Rattle.std.proofs.Common.{◌≡◌, ◌++◌, ◌∷◌, [], ◌∙◌, List, None, Some, ap, drop, inl, map, refl}
 use Rattle.std.proofs.Common.{rules, subst, sym}
+use Rattle.std.proofs.lemmas.List.{append-nil}
+use Rattle.rust_trees.specs.Balances.{IsBalanced}
 use Rattle.rust_trees.specs.Leaves.{AreLeft, Leaf, leaf}
 use Rattle.format_calls.specs.Parts.{front_of, moved_on, seen_front, seen_window}
 use Rattle.format_calls.specs.Rows.{entry}
-use Rattle.format_calls.proofs.Parting.{IsGap, end-of, gap-end, gap-more, gap-part, window}
+use Rattle.format_calls.proofs.Parting.{IsGap, end-of, gap-end, gap-more, gap-none, gap-part}
+use Rattle.format_calls.proofs.Parting.{part-long, part-more, window, window-more}
 use Rattle.format_calls.proofs.parts.next_part.Goals as goal
+
+pub loop-token-init : goal.loop-token-init
+loop-token-init c = record {
+  file = refl;
+  fewer = search rules;
+  gap = (
+    [],
+    gap-none _,
+    λ left l. l,
+    λ before b. subst (λ v. IsBalanced v c.args.balance.now) (sym (append-nil before)) b,
+  );
+}
+
+pub add_behind_front-requires : goal.add_behind_front-requires
+add_behind_front-requires c = part-long _ _ _ _ _ c.in_ok-part.ensures.joins.1
 
 pub loop-token-preserved : goal.loop-token-preserved
 loop-token-preserved c =
@@ -21,11 +39,16 @@ loop-token-preserved c =
       fewer = search rules;
       gap = subst (λ v. (gap : List Leaf) × IsGap (map entry c.args.table.now.rows.items) gap v
           × ((left : List Leaf) → AreLeft c.next.new.self left → AreLeft c.args.rest.now
-          (gap ++ (window v.name v.mark ++ left)))) (sym w) (
+          (gap ++ (window v.name v.mark ++ left)))
+          × ((before : List Leaf) → IsBalanced before c.args.balance.now
+          → IsBalanced (before ++ (gap ++ window v.name v.mark)) c.add.new.self)) (sym w) (
             _,
             m.0,
             λ left l. subst (AreLeft c.args.rest.now) (m.1 left)
                 (g.2 (leaf c.in-Some.token ∷ left) (c.in-Some.ensures.some left l)),
+            λ before b. subst (λ v. IsBalanced v c.add.new.self)
+                (window-more before _ _ _ _ _ (m.1 []))
+                (c.in_ok-add.ensures _ (g.3 before b)),
           );
     }
 
@@ -45,9 +68,24 @@ returns-in-Some-front_of-clause-some c =
                 (c.in-Some.ensures.some (j.0 ++ left) (j.2 left l))),
             p.1,
           ),
+      λ before b.
+          let p = gap-part _ g.0 _ [] (seen_front c.in-Some-front_of.front) j.0 _ _ front g.1 j.1
+          (inl refl) in
+          let w = seen_window c.loop-token.last in
+          let front = (before ++ (g.0 ++ window w.name w.mark)) ++ leaf c.in-Some.token ∷ [] in
+          subst (λ v. IsBalanced v c.add_behind_front.new.balance)
+          (ap (λ v. front ++ v) (ap (λ v. drop 3 v) j.1) ∙ part-more before _ _ _ _ _ _ p.0)
+          (c.in_ok-add_behind_front.ensures front (c.in_ok-add.ensures _ (g.3 before b))),
     )
 
 pub returns-clause-none : goal.returns-clause-none
 returns-clause-none c e =
-    let g = c.loop-token.invariant.gap in
-    (_, g.2 [] (c.in_default.ensures.none refl).0, λ d k. gap-end _ g.0 _ d g.1 k)
+    let g = c.loop-token.invariant.gap in (
+      _,
+      g.2 [] (c.in_default.ensures.none refl).0,
+      λ d k. gap-end _ g.0 _ d g.1 k,
+      λ before b. subst (λ v. IsBalanced v c.loop-token.balance)
+          (ap (λ v. before ++ (g.0 ++ v))
+          (sym (append-nil (window (seen_window c.loop-token.last).name
+          (seen_window c.loop-token.last).mark)))) (g.3 before b),
+    )
