@@ -1,0 +1,66 @@
+-- What is known of a call that is read.
+use Rattle.std.proofs.Common.{◌≡◌, ◌<◌, ◌≤◌, ◌+◌, ◌-◌, ◌⊎◌, ℕ, Bool, true, false, List, Option, Some, None}
+use Rattle.std.proofs.Common.{inl, inr, ap, sym, subst, ◌∙◌, length, length-drop, arith, drop, take}
+use Rattle.std.specs.Prelude.{Result, slice_get}
+use Rattle.std.proofs.lemmas.Bool.{cases_lt, false≢true}
+use Rattle.std.proofs.lemmas.List.{take_all}
+use Rattle.std.proofs.lemmas.Option.{none-some, slice_get_within}
+use Rattle.rust_trees.specs.Forests.{IsPair}
+use Rattle.rust_trees.specs.Leaves.{Leaf}
+use Rattle.rust_trees.proofs.Nested.{nested}
+use Rattle.format_calls.specs.Arguments.{AreArguments}
+use Rattle.format_calls.specs.Strings.{format_string, is_text, is_text_at}
+use Rattle.format_calls.specs.declared.listing.Call.{Call}
+use Rattle.format_calls.specs.declared.strings.Reason.{Reason}
+use Rattle.source_lint.specs.declared.report.CallReading.{CallReading}
+use Rattle.source_lint.specs.declared.report.Finding.{Finding}
+use Rattle.source_lint.specs.Readings.{ReadsBy, ReadsUnless}
+use Rattle.format_calls.specs.declared.split.Argument.{Argument}
+
+-- One token opens the pair that a token closes.
+pub opening-once : (xs : List Leaf) (m n c : ℕ) → IsPair xs m c → IsPair xs n c → m ≡ n
+opening-once xs m n c p q = by_order (cases_lt m n) (cases_lt n m)
+  where
+    by_order : (m < n) ⊎ (n ≤ m) → (n < m) ⊎ (m ≤ n) → m ≡ n
+    by_order (inl h) k =
+        let e = q.ends in
+        let l = nested xs m c n c p q h (omega (arith, e)) in absurd (omega (arith, l))
+    by_order (inr h) (inl k) =
+        let e = p.ends in
+        let l = nested xs n c m c q p k (omega (arith, e)) in absurd (omega (arith, l))
+    by_order (inr h) (inr k) = omega (arith, h, k)
+
+-- The format string is there.
+pub string-there : {B : Type 0} (args : List Argument) (n : ℕ) (a : Argument)
+    → slice_get args n ≡ Some a → ◌≡◌ {A = Option Argument} None (slice_get args n) → B
+string-there args n a e f = absurd (none-some a (f ∙ e))
+
+pub literal-there : {B : Type 0} (xs : List Leaf) (a : Argument) → is_text xs a ≡ true
+    → ◌≡◌ {A = Option Leaf} None (slice_get xs a.start) → B
+literal-there xs a e f =
+    absurd (false≢true (ap (λ o. is_text_at o a) f ∙ e))
+
+-- The arguments behind one of them.
+pub behind-one : (args : List Argument) (n : ℕ)
+    → take (length args - (n + 1)) (drop (n + 1) args) ≡ drop (n + 1) args
+behind-one args n =
+    let d = length-drop (n + 1) args in
+    take_all (length args - (n + 1)) (drop (n + 1) args) (omega (arith, d))
+
+-- What is read of a call whose macro the file does not define.
+pub reads-here : (is_new t : Bool) (xs : List Leaf) (c : Call) (bs : List Argument)
+    (o : Result ℕ Reason) (r : CallReading) (fs : List Finding) → false ≡ t
+    → AreArguments xs (c.name + 3) bs c.close → o ≡ format_string xs c.rule bs is_new
+    → ReadsBy xs c bs o r fs → ReadsUnless t is_new xs c r fs
+reads-here is_new t xs c bs o r fs n a e h =
+    subst (λ v. ReadsUnless v is_new xs c r fs) n
+    (bs, a, subst (λ v. ReadsBy xs c bs v r fs) e h)
+
+-- The arguments of a call, by the pair that its last token closes.
+pub arguments-here : (xs : List Leaf) (c : Call) (bs : List Argument) (n : ℕ)
+    → IsPair xs (c.name + 2) c.close → IsPair xs n c.close → AreArguments xs (n + 1) bs c.close
+    → AreArguments xs (c.name + 3) bs c.close
+arguments-here xs c bs n p q a =
+    let e = opening-once xs n (c.name + 2) c.close q p in
+    let m : n + 1 ≡ c.name + 3 = omega (arith, e) in
+    subst (λ v. AreArguments xs v bs c.close) m a

@@ -1,0 +1,49 @@
+-- What is found of faults, one after the other.
+use Rattle.std.proofs.Common.{◌≡◌, ◌++◌, Bool, true, false, List, [], ◌∷◌, refl, ap, sym}
+use Rattle.std.proofs.Common.{subst, ◌∙◌}
+use Rattle.std.proofs.lemmas.List.{append_assoc, append-nil}
+use Rattle.std.proofs.lemmas.List.Elements.{filter-append}
+use Rattle.rustc_parse_format.specs.World.{Place}
+use Rattle.call_faults.specs.CallFaults.{CallFault}
+use Rattle.call_faults.specs.Words.{Told}
+use Rattle.source_lint.specs.declared.report.Finding.{Finding}
+use Rattle.source_lint.specs.Findings.{TellAll, counted_faults, is_text_fault}
+
+tell-join : (c : Told Place) (fs gs : List CallFault) (xs ys : List Finding) → TellAll c fs xs
+    → TellAll c gs ys → TellAll c (fs ++ gs) (xs ++ ys)
+tell-join c [] gs [] ys h k = k
+tell-join c [] gs (x ∷ xs) ys h k = absurd h
+tell-join c (f ∷ fs) gs [] ys h k = absurd h
+tell-join c (f ∷ fs) gs (x ∷ xs) ys h k = (h.0, tell-join c fs gs xs ys h.1 k)
+
+counted-join : (b : Bool) (fs gs : List CallFault)
+    → counted_faults b fs ++ counted_faults b gs ≡ counted_faults b (fs ++ gs)
+counted-join true fs gs = refl
+counted-join false fs gs = sym (filter-append is_text_fault fs gs)
+
+-- What was found so far of these faults.
+abbrev pub Telling : Told Place → Bool → List CallFault → List Finding → List Finding → Type 0
+Telling c b fs old now = (xs : List Finding) × (now ≡ old ++ xs)
+    × TellAll c (counted_faults b fs) xs
+
+pub telling-none : (c : Told Place) (b : Bool) (old : List Finding) → Telling c b [] old old
+telling-none c true old = ([], sym (append-nil old), tt)
+telling-none c false old = ([], sym (append-nil old), tt)
+
+pub telling-more : (c : Told Place) (b : Bool) (fs all : List CallFault) (f : CallFault)
+    (old now next : List Finding) → all ≡ fs ++ f ∷ [] → Telling c b fs old now
+    → Telling c b (f ∷ []) now next → Telling c b all old next
+telling-more c b fs all f old now next e t x = (
+  t.0 ++ x.0,
+  x.1 ∙ (ap (λ v. v ++ x.0) t.1 ∙ append_assoc old t.0 x.0),
+  subst (λ v. TellAll c (counted_faults b v) (t.0 ++ x.0)) (sym e)
+      (subst (λ v. TellAll c v (t.0 ++ x.0)) (counted-join b fs (f ∷ []))
+      (tell-join c (counted_faults b fs) (counted_faults b (f ∷ [])) t.0 x.0 t.2 x.2)),
+)
+
+-- What is found of one fault, and nothing where it does not count.
+pub tells-one : (c : Told Place) (b : Bool) (f : CallFault) (x : Finding)
+    → TellAll c (f ∷ []) (x ∷ []) → (b ≡ true → ⊥) → is_text_fault f ≡ true
+    → TellAll c (counted_faults b (f ∷ [])) (x ∷ [])
+tells-one c true f x h n e = h
+tells-one c false f x h n e = rw e h

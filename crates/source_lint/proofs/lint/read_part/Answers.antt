@@ -1,0 +1,50 @@
+use Rattle.std.proofs.Common.{◌≡◌, ◌∷◌, List, refl, rules, subst, sym}
+use Rattle.std.specs.Prelude.{Contains}
+use Rattle.format_calls.specs.declared.listing.Call.{Call}
+use Rattle.source_lint.proofs.Elements.{behind-here, here}
+use Rattle.source_lint.proofs.Joining.{Reading, reading-all, reading-more, reading-none}
+use Rattle.source_lint.proofs.lint.read_part.Goals as goal
+
+pub loop-call-init : goal.loop-call-init
+loop-call-init c = record {
+  read = subst (λ v. Reading _ _ _ c.in_ok-calls.calls.items v _ _ _ _)
+      (sym c.as_slice-rest.ensures.value) (reading-none _ _ _ c.in_ok-calls.calls.items _ _);
+  are_calls = λ d h. (c.in_ok-calls.ensures.each d).0
+      (subst (λ v. Contains v d) c.as_slice-rest.ensures.value h);
+  spans = λ h. h;
+}
+
+pub read_call-requires : goal.read_call-requires
+read_call-requires c =
+    let e : c.loop-call.rest.now ≡ c.in-Some.call.now ∷ c.in-Some.others.now = search rules in
+    (c.loop-call.invariant.are_calls c.in-Some.call.now
+    (subst (λ v. Contains v c.in-Some.call.now) (sym e)
+    (here c.in-Some.call.now c.in-Some.others.now))).is_pair
+
+pub loop-call-preserved : goal.loop-call-preserved
+loop-call-preserved c =
+    let e : c.loop-call.rest.now ≡ c.in-Some.call.now ∷ c.in-Some.others.now = search rules in
+    record {
+      read = reading-more _ _ _ _ _ _ _ c.in_ok-reading.reading _ _ _ _ _ _ e
+          c.loop-call.invariant.read c.in_ok-push.ensures.items c.in_ok-reading.ensures.read;
+      are_calls = λ d h. c.loop-call.invariant.are_calls d
+          (subst (λ v. Contains v d) (sym e) (behind-here c.in-Some.call.now d h));
+      spans = λ h. c.in_ok-reading.ensures.spans (c.loop-call.invariant.spans h);
+    }
+
+pub returns-clause-read : goal.returns-clause-read
+returns-clause-read c =
+    let r = reading-all _ _ _ _ _ _ _ _ _ (search rules) c.loop-call.invariant.read in (
+      r.0,
+      r.1,
+      r.2,
+      r.3,
+      record {
+        calls = c.in_ok-calls.calls.items;
+        are_calls = record {
+          each = c.in_ok-calls.ensures.each;
+          in_order = c.in_ok-calls.ensures.in_order;
+        };
+        reads = r.4;
+      },
+    )

@@ -1,0 +1,13 @@
+use Rattle.std.proofs.Common.{◌≤◌, length}
+use denote.Shadow.{shadow}
+use denote.Text.{Utf8}
+use Rattle.source_lint.proofs.literals.offset_in.Given as goal
+
+abbrev pub invariant-loop-c : goal.invariant-loop-c
+invariant-loop-c l = record {
+  is_text : shadow (Utf8 l.rest);
+  within : length l.rest ≤ length l.token;
+}
+
+abbrev pub decreases-loop-c : goal.decreases-loop-c
+decreases-loop-c l = length l.rest

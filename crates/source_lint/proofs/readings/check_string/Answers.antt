@@ -1,0 +1,15 @@
+use Rattle.std.proofs.Common.{ap, map}
+use Rattle.call_faults.specs.Seen.{seen_given, start}
+use Rattle.source_lint.proofs.Found.{found-same}
+use Rattle.source_lint.proofs.readings.check_string.Goals as goal
+
+pub returns-clause-told : goal.returns-clause-told
+returns-clause-told c =
+    let t = c.in_ok-put_findings.ensures.told in
+    let k = c.in_ok-checked.ensures in (
+      t.0,
+      t.1,
+      found-same (start c.args.string) c.in_ok-checked.checked (map seen_given c.args.given.now)
+          c.args.string.captures c.args.is_counted t.0 c.requires.captures
+          (ap (λ v. map seen_given v.now) k.given) k.kept k.walk.0 k.walk.1 k.faults t.2,
+    )

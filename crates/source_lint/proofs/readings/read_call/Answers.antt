@@ -1,0 +1,26 @@
+use Rattle.std.proofs.Common.{◌≡◌, ◌∙◌, ◌+◌, [], ap, map, refl, subst, sym}
+use Rattle.std.specs.List.{list_any}
+use Rattle.std.specs.Str.{bytes_eq}
+use Rattle.std.proofs.lemmas.List.{append-nil}
+use Rattle.format_calls.specs.Arguments.{AreArguments}
+use Rattle.format_calls.specs.Strings.{format_string}
+use Rattle.source_lint.specs.declared.report.CallReading.TheVariants.{Redefined}
+use Rattle.source_lint.specs.Readings.{ReadsUnless, name_at}
+use Rattle.source_lint.proofs.Calling.{arguments-here, reads-here}
+use Rattle.source_lint.proofs.readings.read_call.Goals as goal
+
+pub returns-then-is_defined-clause-read : goal.returns-then-is_defined-clause-read
+returns-then-is_defined-clause-read c = (
+  [],
+  sym (append-nil _),
+  subst (λ t. ReadsUnless t c.args.file.is_from_2021 c.args.part.now c.args.call.now Redefined [])
+      (c.if-is_defined.ensures
+      ∙ ap (λ w. list_any (bytes_eq w) (map (λ v. v.now) c.args.file.defined.now))
+      (c.name_at-name.ensures ∙ ap (λ v. name_at v c.args.call.now.name) c.tokens.ensures))
+      (refl, refl),
+)
+
+pub returns-in_default-clause-read : goal.returns-in_default-clause-read
+returns-in_default-clause-read c =
+    absurd ((rw c.in_default.is at c.in_ok-arguments.ensures.none) refl
+    (c.args.call.now.name + 2) c.requires)

@@ -1,0 +1,53 @@
+use Rattle.std.proofs.Common.{◌≡◌, ◌∙◌, ◌++◌, [], List, ap, chars, inl, inr, map, refl, subst, sym}
+use Rattle.std.proofs.lemmas.List.{append-nil}
+use Rattle.rust_trees.specs.Leaves.{leaf}
+use Rattle.call_faults.specs.Arguments.{Given}
+use Rattle.call_faults.specs.Seen.{seen_given}
+use Rattle.source_lint.specs.Findings.{TellAll, counted_faults}
+use Rattle.source_lint.specs.Givens.{given}
+use Rattle.source_lint.specs.Literals.{without_crs}
+use Rattle.source_lint.specs.Readings.{counted_givens, faults_of, start_of, told_of}
+use Rattle.source_lint.proofs.Found.{start-same}
+use Rattle.source_lint.proofs.readings.read_string.Goals as goal
+
+pub check_string-requires : goal.check_string-requires
+check_string-requires c = record {
+  short = rw c.as_str-text.ensures.value (rw c.in-Some.is at c.in_ok-literal.ensures.short);
+  captures = refl;
+}
+
+pub returns-in_default-clause-read : goal.returns-in_default-clause-read
+returns-in_default-clause-read c =
+    ([], sym (append-nil _), inl (rw c.in_default.is at c.in_ok-literal.ensures.read, refl, refl))
+
+pub returns-clause-read : goal.returns-clause-read
+returns-clause-read c =
+    let token = without_crs (chars c.args.site.literal.text.now) in
+    let r = rw c.in-Some.is at c.in_ok-literal.ensures.read in
+    let t = c.in_ok-check_string.ensures.told in
+    let appended = c.args.appended_newline in
+    let style = c.in-Some.literal.style in
+    let s = start-same (chars c.as_str-snippet.result.now) (chars c.as_str-text.result.now)
+    r.stands_for token style appended
+    (ap chars c.as_str-text.ensures.value ∙ r.text)
+    (ap chars c.as_str-snippet.ensures.value ∙ r.snippet) in
+    let given : map seen_given c.as_slice-list.result.now ≡ counted_givens c.args.is_counted
+    (map (given (map leaf c.args.site.tokens.now)) c.args.site.arguments.now) =
+    ap (map seen_given) c.as_slice-list.ensures.value ∙ c.in_ok-given.ensures in (
+      t.0,
+      t.1,
+      inr (
+        style,
+        r.stands_for,
+        r.is_literal,
+        (
+          c.reading_of.ensures,
+          subst (λ (gs : List Given). TellAll (told_of (start_of appended style token r.stands_for) gs)
+              (counted_faults c.args.is_counted
+              (faults_of (start_of appended style token r.stands_for) gs)) t.0) given
+              (subst (λ q. TellAll (told_of q (map seen_given c.as_slice-list.result.now))
+              (counted_faults c.args.is_counted
+              (faults_of q (map seen_given c.as_slice-list.result.now))) t.0) s t.2),
+        ),
+      ),
+    )

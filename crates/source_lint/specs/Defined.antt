@@ -1,0 +1,30 @@
+-- The macros that a file defines by `macro_rules!`.
+use Prim.Native.Char.{code}
+use Rattle.std.specs.Prelude.{ℕ, Bool, false, ◌&&◌, ◌++◌, List, [], ◌∷◌, Option, Some, None}
+use Rattle.std.specs.Prelude.{codes, if◌then◌else◌}
+use Rattle.rust_trees.specs.Leaves.{Leaf}
+use Rattle.format_calls.specs.Marks.{is_mark_of, is_word, word}
+use Rattle.format_calls.specs.Modes.{is_text}
+
+-- The word `macro_rules`.
+abbrev pub is_macro_rules : Leaf → Bool
+is_macro_rules x = is_text x (codes "macro_rules")
+
+-- There are two tokens, and they are `macro_rules` and `!`.
+abbrev pub begins_definition : Option Leaf → Option Leaf → Bool
+begins_definition None m = false
+begins_definition (Some w) None = false
+begins_definition (Some w) (Some m) = is_macro_rules w && is_mark_of (code "!") (Some m)
+
+-- The name of the macro that a token defines behind these two, if it does.
+abbrev pub definition : Option Leaf → Option Leaf → Leaf → List (List ℕ)
+definition w m x = if begins_definition w m && is_word x then word x ∷ [] else []
+
+-- The names of the macros that these tokens define, where two tokens stand in front of them.
+abbrev pub defined_behind : Option Leaf → Option Leaf → List Leaf → List (List ℕ)
+defined_behind w m [] = []
+defined_behind w m (x ∷ xs) = definition w m x ++ defined_behind m (Some x) xs
+
+-- The names of the macros that these tokens define.
+abbrev pub defined : List Leaf → List (List ℕ)
+defined xs = defined_behind None None xs

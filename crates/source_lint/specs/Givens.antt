@@ -1,0 +1,48 @@
+-- What placeholders can tell of the arguments of a call.
+use Prim.Native.Char.{code}
+use Rattle.std.specs.Prelude.{ℕ, Bool, true, false, not, ◌&&◌, ◌||◌, ◌==◌, ◌-◌, List, [], ◌∷◌}
+use Rattle.std.specs.Prelude.{Option, Some, None, chars, codes, nat_lt, option_and_then}
+use Rattle.std.specs.Prelude.{option_map, slice_get, if◌then◌else◌}
+use Rattle.std.specs.List.{list_any}
+use Rattle.std.specs.Str.{bytes_eq}
+use Rattle.rustc_parse_format.specs.Characters.{Text}
+use Rattle.rust_tokens.specs.declared.kinds.Kind.{Kind}
+use Rattle.rust_tokens.specs.declared.kinds.Kind.TheVariants.{Ident, RawIdent}
+use Rattle.rust_trees.specs.Leaves.{Leaf}
+use Rattle.format_calls.specs.declared.split.Argument.{Argument}
+use Rattle.call_faults.specs.Arguments.{Given}
+
+-- A text without `r#` at its start.
+abbrev pub without_raw : Text → Text
+without_raw [] = []
+without_raw (c ∷ []) = c ∷ []
+without_raw (c ∷ d ∷ t) = if c == code "r" && d == code "#" then t else c ∷ d ∷ t
+
+-- A word that is an expression by itself, and no variable.
+abbrev pub is_keyword : List ℕ → Bool
+is_keyword w = bytes_eq w (codes "_") || (bytes_eq w (codes "break")
+    || (bytes_eq w (codes "continue") || (bytes_eq w (codes "false")
+    || (bytes_eq w (codes "return") || (bytes_eq w (codes "true") || bytes_eq w (codes "yield"))))))
+
+abbrev pub variable_text : Kind → List ℕ → Option Text
+variable_text Ident w = if is_keyword w then None else Some (chars w)
+variable_text RawIdent w = Some (without_raw (chars w))
+variable_text k w = None
+
+-- The variable that a token is: a word that is no keyword, or `self`, `Self`, `super` or `crate`.
+abbrev pub variable : Leaf → Option Text
+variable x = variable_text x.kind x.text
+
+-- The name of an argument.
+abbrev pub name_of : List Leaf → Argument → Option Text
+name_of xs a = if a.is_named then option_map (λ x. without_raw (chars x.text)) (slice_get xs a.start)
+    else None
+
+-- The variable that an argument without a name is, if it is nothing else.
+abbrev pub variable_of : List Leaf → Argument → Option Text
+variable_of xs a = if not a.is_named && (nat_lt a.start a.end && (a.end - a.start) == 1)
+    then option_and_then variable (slice_get xs a.start) else None
+
+-- What placeholders can tell of an argument.
+abbrev pub given : List Leaf → Argument → Given
+given xs a = record { name = name_of xs a; variable = variable_of xs a }

@@ -1,0 +1,128 @@
+-- What is read of a call, and what is found in it.
+use Rattle.std.specs.Prelude.{◌≡◌, ◌+◌, ◌++◌, ◌⊎◌, not, ℕ, Bool, true, false, List, [], ◌∷◌, Option}
+use Rattle.std.specs.Prelude.{Some, None, Result, Ok, Err, chars, drop, length, map}
+use Rattle.std.specs.Prelude.{slice_get}
+use Rattle.std.specs.List.{list_any}
+use Rattle.std.specs.Str.{bytes_eq}
+use Rattle.rustc_parse_format.specs.Characters.{Text}
+use Rattle.rustc_parse_format.specs.Call.{pieces_of}
+use Rattle.rustc_parse_format.specs.Literal.{IsLiteral, newline}
+use Rattle.rustc_parse_format.specs.State.{State, after_all, calls, first_state}
+use Rattle.rustc_parse_format.specs.Types.{Format, Piece}
+use Rattle.rustc_parse_format.specs.World.{Place, pieces_in}
+use Rattle.rust_trees.specs.Leaves.{Leaf}
+use Rattle.format_calls.specs.Arguments.{AreArguments}
+use Rattle.format_calls.specs.Counted.{AreTrees, is_uncounted}
+use Rattle.format_calls.specs.Marks.{word}
+use Rattle.format_calls.specs.Strings.{format_string}
+use Rattle.format_calls.specs.declared.listing.Call.{Call}
+use Rattle.format_calls.specs.declared.split.Argument.{Argument}
+use Rattle.format_calls.specs.declared.strings.Reason.{Reason}
+use Rattle.call_faults.specs.Arguments.{Given}
+use Rattle.call_faults.specs.CallFaults.{CallFault}
+use Rattle.call_faults.specs.Calls.{call_faults, kept_indices}
+use Rattle.call_faults.specs.Texts.{text_fault}
+use Rattle.call_faults.specs.Words.{Told}
+use Rattle.source_lint.specs.declared.report.CallReading.{CallReading}
+use Rattle.source_lint.specs.declared.report.CallReading.TheVariants.{Whole, StringAlone, Redefined}
+use Rattle.source_lint.specs.declared.report.CallReading.TheVariants.{Unread, Malformed}
+use Rattle.source_lint.specs.declared.report.Finding.{Finding}
+use Rattle.source_lint.specs.Findings.{TellAll, counted_faults}
+use Rattle.source_lint.specs.Givens.{given}
+use Rattle.source_lint.specs.Literals.{appends_newline, without_crs}
+
+-- A parser at the start of a format string that is this literal and stands for the text t, with a
+-- newline appended or not.
+abbrev pub start_of : Bool → Option ℕ → Text → Text → State
+start_of appended style literal t =
+    first_state Format (t ++ newline appended) style (Some literal) appended
+
+-- The pieces of the format string at whose start the parser is.
+abbrev pub pieces : State → List (Piece Place)
+pieces s = pieces_in s.world (pieces_of (calls s))
+
+-- What titles tell of a call with this format string and these arguments.
+abbrev pub told_of : State → List Given → Told Place
+told_of s gs = record {
+  given = gs;
+  count = length (kept_indices gs);
+  pieces = pieces s;
+  taken = (after_all s (calls s)).next;
+  numbers = [];
+}
+
+-- What is wrong with a call with this format string and these arguments.
+abbrev pub faults_of : State → List Given → List CallFault
+faults_of s gs = call_faults true gs (text_fault s) (pieces s)
+
+-- The arguments that count: none if their number is not known.
+abbrev pub counted_givens : Bool → List Given → List Given
+counted_givens true gs = gs
+counted_givens false gs = []
+
+-- How much of a call is read where the number of its arguments is known, and where it is not.
+abbrev pub reading_of : Bool → CallReading
+reading_of true = Whole
+reading_of false = StringAlone
+
+-- How much is read of a call, and what is found, where it has this format string and these
+-- arguments. If their number is not known, only the fault of the string counts.
+abbrev pub Finds : Bool → State → List Given → CallReading → List Finding → Type 0
+Finds counted s gs r fs = (r ≡ reading_of counted)
+    × TellAll (told_of s (counted_givens counted gs))
+    (counted_faults counted (faults_of s (counted_givens counted gs))) fs
+
+-- The same where the format string is this literal, which may stand for no text.
+abbrev pub ReadsLiteral : Text → Bool → Bool → List Given → CallReading → List Finding → Type 0
+ReadsLiteral literal appended counted gs r fs =
+    (((style : Option ℕ) (t : Text) → IsLiteral style literal t → ⊥) × (r ≡ Malformed) × (fs ≡ []))
+    ⊎ ((style : Option ℕ) × (t : Text) × IsLiteral style literal t
+    × Finds counted (start_of appended style literal t) gs r fs)
+
+abbrev pub name_of_leaf : Option Leaf → List ℕ
+name_of_leaf None = []
+name_of_leaf (Some x) = word x
+
+-- The name of a call, without `r#`.
+abbrev pub name_at : List Leaf → ℕ → List ℕ
+name_at xs i = name_of_leaf (slice_get xs i)
+
+-- The same where the format string is the argument n of these, and the others behind it are
+-- formatted.
+pub record ReadsAt (xs : List Leaf) (c : Call) (args : List Argument) (n : ℕ) (r : CallReading)
+    (fs : List Finding) : Type 0 where
+  pub string : Argument
+  pub is_string : slice_get args n ≡ Some string
+  pub literal : Leaf
+  pub is_literal : slice_get xs string.start ≡ Some literal
+  pub trees : List ℕ
+  pub are_trees : AreTrees xs string.end trees c.close
+  pub reads : ReadsLiteral (without_crs (chars literal.text)) (appends_newline (name_at xs c.name))
+      (not (list_any (is_uncounted xs) trees)) (map (given xs) (drop (n + 1) args)) r fs
+
+-- The same where the argument n is the format string, or where none is for this reason.
+abbrev pub ReadsBy : List Leaf → Call → List Argument → Result ℕ Reason → CallReading
+    → List Finding → Type 0
+ReadsBy xs c args (Ok n) r fs = ReadsAt xs c args n r fs
+ReadsBy xs c args (Err e) r fs = (r ≡ Unread e) × (fs ≡ [])
+
+-- The same, unless the file defines a macro of this name.
+abbrev pub ReadsUnless : Bool → Bool → List Leaf → Call → CallReading → List Finding → Type 0
+ReadsUnless true is_new xs c r fs = (r ≡ Redefined) × (fs ≡ [])
+ReadsUnless false is_new xs c r fs = (args : List Argument)
+    × AreArguments xs (c.name + 3) args c.close
+    × ReadsBy xs c args (format_string xs c.rule args is_new) r fs
+
+-- What is read of a call, and what is found in it, where the file defines macros of these names,
+-- and its edition is from 2021 on or not.
+abbrev pub Reads : List (List ℕ) → Bool → List Leaf → Call → CallReading → List Finding → Type 0
+Reads ds is_new xs c r fs =
+    ReadsUnless (list_any (bytes_eq (name_at xs c.name)) ds) is_new xs c r fs
+
+-- What is read of calls, and what is found in them, one call after the other.
+abbrev pub ReadsAll : List (List ℕ) → Bool → List Leaf → List Call → List CallReading
+    → List Finding → Type 0
+ReadsAll ds is_new xs [] rs fs = (rs ≡ []) × (fs ≡ [])
+ReadsAll ds is_new xs (c ∷ cs) rs fs = (r : CallReading) × (more : List CallReading)
+    × (first others : List Finding) × (rs ≡ r ∷ more) × (fs ≡ first ++ others)
+    × Reads ds is_new xs c r first × ReadsAll ds is_new xs cs more others

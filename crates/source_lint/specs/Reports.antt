@@ -1,0 +1,44 @@
+-- What is read of a file, and what is found in it.
+use Rattle.std.specs.Prelude.{◌≡◌, ◌++◌, ◌↔◌, ℕ, Bool, List, [], ◌∷◌, Contains, length}
+use Rattle.rust_trees.specs.Balances.{BreaksAt}
+use Rattle.rust_trees.specs.Leaves.{Leaf}
+use Rattle.format_calls.specs.Calls.{IsCall, Rises}
+use Rattle.format_calls.specs.Parts.{IsPart}
+use Rattle.format_calls.specs.Rows.{Entry}
+use Rattle.format_calls.specs.declared.listing.Call.{Call}
+use Rattle.source_lint.specs.declared.report.CallReading.{CallReading}
+use Rattle.source_lint.specs.declared.report.Finding.{Finding}
+use Rattle.source_lint.specs.declared.report.Report.{Report}
+use Rattle.source_lint.specs.Defined.{defined}
+use Rattle.source_lint.specs.Files.{AreLeaves}
+use Rattle.source_lint.specs.Readings.{ReadsAll}
+
+-- These are the calls of macros of the table, in the order of their names.
+pub record AreCalls (es : List Entry) (xs : List Leaf) (cs : List Call) : Type 0 where
+  pub each : (c : Call) → Contains cs c ↔ IsCall es xs c
+  pub in_order : Rises 0 cs (length xs)
+
+-- What is read of the calls among these tokens, and what is found in them.
+pub record ReadsCalls (es : List Entry) (ds : List (List ℕ)) (is_new : Bool) (xs : List Leaf)
+    (rs : List CallReading) (fs : List Finding) : Type 0 where
+  pub calls : List Call
+  pub are_calls : AreCalls es xs calls
+  pub reads : ReadsAll ds is_new xs calls rs fs
+
+-- Part by part: in front of each there is a gap, and behind the last one there is no call.
+abbrev pub ReadsParts : List Entry → List (List ℕ) → Bool → List Leaf → List (List Leaf)
+    → List CallReading → List Finding → Type 0
+ReadsParts es ds is_new xs [] rs fs = ((c : Call) → IsCall es xs c → ⊥) × (rs ≡ []) × (fs ≡ [])
+ReadsParts es ds is_new xs (p ∷ ps) rs fs = (gap left : List Leaf)
+    × (first more : List CallReading) × (found others : List Finding)
+    × (xs ≡ gap ++ (p ++ left)) × IsPart es gap p left × (rs ≡ first ++ more)
+    × (fs ≡ found ++ others) × ReadsCalls es ds is_new p first found
+    × ReadsParts es ds is_new left ps more others
+
+-- The report on a file, in bytes: what is read of the calls among its tokens, what is found, and
+-- where the file breaks.
+pub record IsReport (es : List Entry) (is_new : Bool) (bs : List ℕ) (r : Report) : Type 0 where
+  pub leaves : List Leaf
+  pub are_leaves : AreLeaves bs leaves
+  pub reads : ReadsCalls es (defined leaves) is_new leaves r.calls.items r.findings.items
+  pub breaks : BreaksAt leaves r.broken

@@ -1,0 +1,79 @@
+//! The macros that a file defines by `macro_rules!`.
+
+ghost use Rattle.std.specs.Prelude.{◌≡◌, ◌++◌, List, IfOk, OnOk, map, option_map};
+ghost use Rattle.std.specs.List.{list_any};
+ghost use Rattle.std.specs.Str.{bytes_eq};
+ghost use Rattle.source_lint.specs.Defined.{begins_definition, defined, definition};
+ghost use Rattle.source_lint.specs.Defined.{is_macro_rules};
+ghost use Rattle.source_lint.specs.Files.{AreLeaves};
+ghost use Rattle.rust_trees.specs.Leaves.{Leaf, leaf};
+
+use format_calls::{is_mark_of, is_word, word};
+use rust_tokens::Kind;
+use rust_trees::{Token, Tokens};
+use std::alloc::{AllocError, Global};
+
+/// Returns whether a token is the word `macro_rules`.
+fn is_macro_rules(token: &Token<'_>) -> bool
+    ensures { result ≡ is_macro_rules (leaf token.now) }
+{
+    matches!(token.kind, Kind::Ident) && token.text == "macro_rules"
+}
+
+/// Returns whether two tokens, one behind the other, are `macro_rules` and `!`.
+fn begins_definition(word: Option<Token<'_>>, mark: Option<Token<'_>>) -> bool
+    ensures { result ≡ begins_definition (option_map leaf word.entry) (option_map leaf mark.entry) }
+{
+    match (word, mark) {
+        (Some(word), Some(mark)) => is_macro_rules(&word) && is_mark_of(&mark, b'!'),
+        _ => false,
+    }
+}
+
+/// Adds the name of the macro that a token defines behind two others, if it does. Returns `Err` if
+/// an allocation fails.
+fn put_definition<'a>(
+    found: &mut Vec<&'a [u8]>,
+    before: Option<Token<'a>>,
+    last: Option<Token<'a>>,
+    token: &Token<'a>,
+) -> Result<(), AllocError>
+    ensures { OnOk result (map (λ w. w.now) found.new.items ≡ map (λ w. w.now) found.old.items
+        ++ definition (option_map leaf before.entry) (option_map leaf last.entry)
+        (leaf token.now)) }
+{
+    if begins_definition(before, last) && is_word(token) {
+        found.push(word(token))?;
+    }
+    Ok(())
+}
+
+/// Returns the names of the macros that a file defines by `macro_rules!`, without `r#`. Returns
+/// `Err` if an allocation fails.
+pub fn defined<'a>(alloc: Global, text: &'a str) -> Result<Vec<&'a [u8]>, AllocError>
+    ensures { IfOk result (λ v. (ls : List Leaf) × AreLeaves text.now ls
+        × (map (λ w. w.now) v.items ≡ defined ls)) }
+{
+    let mut found = Vec::new(alloc);
+    let mut rest = Tokens::new(text);
+    let mut before = None;
+    let mut last = None;
+    while let Some(token) = rest.next() {
+        put_definition(&mut found, before, last, &token)?;
+        before = last;
+        last = Some(token);
+    }
+    Ok(found)
+}
+
+/// Returns whether a word is one of these names.
+pub fn is_defined(names: &[&[u8]], word: &[u8]) -> bool
+    ensures { result ≡ list_any (bytes_eq word.now) (map (λ w. w.now) names.now) }
+{
+    for name in names {
+        if word == *name {
+            return true;
+        }
+    }
+    false
+}

@@ -1,0 +1,109 @@
+//! What placeholders can tell of the arguments of a call.
+
+ghost use Rattle.std.specs.Prelude.{◌≡◌, IfOk, chars, map, option_map};
+ghost use Rattle.placeholder_check.specs.Seen.{text};
+ghost use Rattle.rust_trees.specs.Leaves.{leaf};
+ghost use Rattle.call_faults.specs.Seen.{seen_given};
+ghost use Rattle.source_lint.specs.Givens.{given, is_keyword, name_of, variable, variable_of};
+ghost use Rattle.source_lint.specs.Givens.{without_raw};
+
+use call_faults::Given;
+use format_calls::{Argument, token_at};
+use rust_tokens::{Kind, split_first};
+use rust_trees::Token;
+use std::alloc::{AllocError, Global};
+
+/// Returns a text without `r#` at its start.
+fn without_raw(text: &str) -> &str
+    ensures { chars result.now ≡ without_raw (chars text.now) }
+{
+    let Some(('r', rest)) = split_first(text) else {
+        return text;
+    };
+    match split_first(rest) {
+        Some(('#', name)) => name,
+        _ => text,
+    }
+}
+
+/// Returns whether a word is an expression by itself, and no variable.
+fn is_keyword(word: &str) -> bool
+    ensures { result ≡ is_keyword word.now }
+{
+    word == "_"
+        || word == "break"
+        || word == "continue"
+        || word == "false"
+        || word == "return"
+        || word == "true"
+        || word == "yield"
+}
+
+/// Returns the variable that a token is, without `r#`, or `None` if it is none.
+fn variable<'a>(token: &Token<'a>) -> Option<&'a str>
+    ensures { option_map text result ≡ variable (leaf token.now) }
+{
+    match token.kind {
+        Kind::Ident => {
+            if is_keyword(token.text) {
+                None
+            } else {
+                Some(token.text)
+            }
+        }
+        Kind::RawIdent => Some(without_raw(token.text)),
+        _ => None,
+    }
+}
+
+/// Returns the name of an argument, without `r#`, or `None` if it has none.
+fn name_of<'a>(tokens: &[Token<'a>], argument: &Argument) -> Option<&'a str>
+    ensures { option_map text result ≡ name_of (map leaf tokens.now) argument.now }
+{
+    if !argument.is_named {
+        return None;
+    }
+    match token_at(tokens, argument.start) {
+        Some(token) => Some(without_raw(token.text)),
+        None => None,
+    }
+}
+
+/// Returns the variable that an argument without a name is, or `None` if it is anything else.
+fn variable_of<'a>(tokens: &[Token<'a>], argument: &Argument) -> Option<&'a str>
+    ensures { option_map text result ≡ variable_of (map leaf tokens.now) argument.now }
+{
+    if argument.is_named || argument.start >= argument.end || argument.end - argument.start != 1 {
+        return None;
+    }
+    match token_at(tokens, argument.start) {
+        Some(token) => variable(&token),
+        None => None,
+    }
+}
+
+/// Returns what placeholders can tell of an argument.
+fn given<'a>(tokens: &[Token<'a>], argument: &Argument) -> Given<'a>
+    ensures { seen_given result ≡ given (map leaf tokens.now) argument.now }
+{
+    Given {
+        name: name_of(tokens, argument),
+        variable: variable_of(tokens, argument),
+    }
+}
+
+/// Returns what placeholders can tell of arguments. Returns `Err` if an allocation fails.
+pub fn givens<'a>(
+    alloc: Global,
+    tokens: &[Token<'a>],
+    arguments: &[Argument],
+) -> Result<Vec<Given<'a>>, AllocError>
+    ensures { IfOk result (λ v. map seen_given v.items
+        ≡ map (given (map leaf tokens.now)) arguments.now) }
+{
+    let mut found = Vec::new(alloc);
+    for argument in arguments {
+        found.push(given(tokens, argument))?;
+    }
+    Ok(found)
+}

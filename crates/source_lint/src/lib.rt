@@ -1,0 +1,14 @@
+//! What is wrong with the format strings of a Rust source file, from its text ([`file_faults`]).
+#![tactic(auto)]
+
+mod defined;
+mod findings;
+mod givens;
+mod lint;
+mod literals;
+mod readings;
+mod report;
+mod spans;
+
+pub use lint::file_faults;
+pub use report::{CallReading, Finding, Options, Report};

@@ -1,0 +1,103 @@
+//! What is wrong with the format strings of a file.
+
+ghost use Rattle.std.specs.Prelude.{◌≡◌, ◌++◌, List, IfOk, OnOk, map};
+ghost use Rattle.std.specs.List.{All};
+ghost use Rattle.rust_trees.specs.Balances.{IsBalanced};
+ghost use Rattle.rust_trees.specs.Leaves.{Leaf};
+ghost use Rattle.format_calls.specs.Rows.{entry};
+ghost use Rattle.source_lint.specs.Files.{AreLeaves};
+ghost use Rattle.source_lint.specs.Findings.{IsSpan};
+ghost use Rattle.source_lint.specs.Reports.{IsReport, ReadsCalls};
+ghost use Rattle.source_lint.specs.declared.report.CallReading.{CallReading as ReadingValue};
+ghost use Rattle.source_lint.specs.declared.report.Finding.{Finding as FindingValue};
+
+use crate::defined::defined;
+use crate::readings::{File, read_call};
+use crate::report::{CallReading, Finding, Options, Report};
+use format_calls::{Table, calls, next_part};
+use rust_trees::{Balance, Source, Tokens};
+use std::alloc::{AllocError, Global};
+
+/// What was read of the calls of a file so far, and what was found in them.
+#[derive(Drop)]
+struct Found {
+    calls: Vec<CallReading>,
+    findings: Vec<Finding>,
+}
+
+/// Reads the calls of a part of a file, one after the other, and adds how much of each is read and
+/// what is found. Returns `Err` if an allocation fails.
+fn read_part(
+    alloc: Global,
+    found: &mut Found,
+    file: File<'_, '_>,
+    part: &Source<'_>,
+    table: &Table<'_>,
+) -> Result<(), AllocError>
+    ensures read { OnOk result ((rs : List ReadingValue) × (xs : List FindingValue)
+        × (found.new.calls.items ≡ found.old.calls.items ++ rs)
+        × (found.new.findings.items ≡ found.old.findings.items ++ xs)
+        × ReadsCalls (map entry table.now.rows.items) (map (λ w. w.now) file.entry.defined.now)
+        file.entry.is_from_2021 part.now rs xs) }
+    ensures spans { OnOk result (All (λ x. IsSpan file.entry.text.now x.span)
+        found.old.findings.items
+        → All (λ x. IsSpan file.entry.text.now x.span) found.new.findings.items) }
+{
+    let calls = calls(alloc, part, table)?;
+    let mut rest = calls.as_slice();
+    while let Some((call, others)) = rest.split_first() {
+        let reading = read_call(alloc, &mut found.findings, file, part, call)?;
+        found.calls.push(reading)?;
+        rest = others;
+    }
+    Ok(())
+}
+
+/// Reads the calls of a file, part by part, and adds all its tokens to `balance`. Returns `Err` if
+/// an allocation fails.
+fn read_file(
+    alloc: Global,
+    file: File<'_, '_>,
+    table: &Table<'_>,
+    balance: &mut Balance,
+) -> Result<Found, AllocError>
+    ensures read { IfOk result (λ f. (ls : List Leaf) × AreLeaves file.entry.text.now ls
+        × ReadsCalls (map entry table.now.rows.items) (map (λ w. w.now) file.entry.defined.now)
+        file.entry.is_from_2021 ls f.calls.items f.findings.items
+        × ((w : List Leaf) → IsBalanced w balance.old → IsBalanced (w ++ ls) balance.new)) }
+    ensures spans { IfOk result (λ f. All (λ x. IsSpan file.entry.text.now x.span)
+        f.findings.items) }
+{
+    let mut found = Found {
+        calls: Vec::new(alloc),
+        findings: Vec::new(alloc),
+    };
+    let mut rest = Tokens::new(file.text);
+    while let Some(part) = next_part(alloc, &mut rest, table, balance)? {
+        read_part(alloc, &mut found, file, &part, table)?;
+    }
+    Ok(found)
+}
+
+/// Reads a source file, and returns what is wrong with its calls of macros that take a format
+/// string. Lines may end with LF or CRLF, and a byte order mark may stand at the start. Returns
+/// `Err` if an allocation fails.
+pub fn file_faults(alloc: Global, text: &str, options: &Options<'_>) -> Result<Report, AllocError>
+    ensures report { IfOk result (λ r. IsReport (map entry options.now.table.rows.items)
+        options.now.is_from_2021 text.now r) }
+    ensures spans { IfOk result (λ r. All (λ x. IsSpan text.now x.span) r.findings.items) }
+{
+    let names = defined(alloc, text)?;
+    let file = File {
+        text,
+        defined: names.as_slice(),
+        is_from_2021: options.is_from_2021,
+    };
+    let mut balance = Balance::new(alloc);
+    let found = read_file(alloc, file, &options.table, &mut balance)?;
+    Ok(Report {
+        calls: found.calls,
+        findings: found.findings,
+        broken: balance.broken(),
+    })
+}

@@ -1,0 +1,224 @@
+//! What is read of a call, and what is found in it.
+
+ghost use Rattle.std.specs.Prelude.{◌≡◌, ◌+◌, ◌<◌, ◌^◌, ◌++◌, List, IfOk, IsTrue, OnOk, Some, chars};
+ghost use Rattle.std.specs.Prelude.{length, map, slice_get, true};
+ghost use Rattle.std.specs.List.{All};
+ghost use Rattle.rustc_parse_format.specs.World.{hashes};
+ghost use Rattle.rust_trees.specs.Forests.{IsPair};
+ghost use Rattle.rust_trees.specs.Leaves.{leaf};
+ghost use Rattle.format_calls.specs.Arguments.{AreArguments};
+ghost use Rattle.format_calls.specs.Strings.{is_text};
+ghost use Rattle.format_calls.specs.declared.split.Argument.{Argument as ArgumentValue};
+ghost use Rattle.call_faults.specs.Seen.{seen_given, start};
+ghost use Rattle.source_lint.specs.Findings.{IsSpan, TellAll, counted_faults};
+ghost use Rattle.source_lint.specs.Givens.{given};
+ghost use Rattle.source_lint.specs.Literals.{without_crs};
+ghost use Rattle.source_lint.specs.Readings.{Reads, ReadsAt, ReadsLiteral, counted_givens};
+ghost use Rattle.source_lint.specs.Readings.{faults_of, name_at, reading_of, told_of};
+ghost use Rattle.source_lint.specs.declared.report.Finding.{Finding as FindingValue};
+
+use crate::defined::is_defined;
+use crate::findings::put_findings;
+use crate::givens::givens;
+use crate::literals::{appends_newline, read_literal};
+use crate::report::{CallReading, Finding};
+use crate::spans::Site;
+use call_faults::{FormatString, Given, call_faults};
+use format_calls::{Argument, Call, are_counted, arguments, format_string, token_at, word};
+use rust_trees::{Source, Token};
+use std::alloc::{AllocError, Global};
+
+/// A file, with what its calls are read by.
+#[derive(Clone, Copy)]
+pub struct File<'s, 'a> {
+    /// The text.
+    pub text: &'a str,
+    /// The names of the macros that it defines.
+    pub defined: &'s [&'a [u8]],
+    /// Whether its edition is 2021 or a later one.
+    pub is_from_2021: bool,
+}
+
+/// Returns the name of a call, without `r#`.
+fn name_at<'a>(tokens: &[Token<'a>], name: usize) -> &'a [u8]
+    ensures { result.now ≡ name_at (map leaf tokens.now) name }
+{
+    match token_at(tokens, name) {
+        Some(token) => word(&token),
+        None => b"",
+    }
+}
+
+/// Returns what placeholders can tell of arguments, or nothing if their number is not known.
+/// Returns `Err` if an allocation fails.
+fn counted_givens<'a>(
+    alloc: Global,
+    tokens: &[Token<'a>],
+    arguments: &[Argument],
+    is_counted: bool,
+) -> Result<Vec<Given<'a>>, AllocError>
+    ensures { IfOk result (λ v. map seen_given v.items
+        ≡ counted_givens is_counted (map (given (map leaf tokens.now)) arguments.now)) }
+{
+    if !is_counted {
+        return Ok(Vec::new(alloc));
+    }
+    let found = givens(alloc, tokens, arguments)?;
+    Ok(found)
+}
+
+/// Returns how much of a call is read where the number of its arguments is known, and where not.
+fn reading_of(is_counted: bool) -> CallReading
+    ensures { result ≡ reading_of is_counted }
+{
+    if is_counted {
+        CallReading::Whole
+    } else {
+        CallReading::StringAlone
+    }
+}
+
+/// Checks a call with this format string and these arguments, and adds what is found. Returns `Err`
+/// if an allocation fails.
+fn check_string<'c>(
+    alloc: Global,
+    findings: &mut Vec<Finding>,
+    site: Site<'_, '_>,
+    string: FormatString<'c>,
+    given: &'c [Given<'c>],
+    is_counted: bool,
+) -> Result<(), AllocError>
+    requires short { hashes string.style + length string.text.now + 2 < 2 ^ 64 }
+    requires captures { string.captures ≡ true }
+    ensures told { OnOk result ((xs : List FindingValue)
+        × (findings.new.items ≡ findings.old.items ++ xs)
+        × TellAll (told_of (start string.entry) (map seen_given given.now))
+        (counted_faults is_counted (faults_of (start string.entry) (map seen_given given.now))) xs) }
+    ensures spans { OnOk result (All (λ x. IsSpan site.entry.text.now x.span) findings.old.items
+        → All (λ x. IsSpan site.entry.text.now x.span) findings.new.items) }
+{
+    let checked = call_faults(alloc, string, given)?;
+    put_findings(alloc, findings, site, &checked, is_counted)?;
+    Ok(())
+}
+
+/// Reads the format string of a call, which is this literal, with the arguments behind it, and adds
+/// what is found. Returns `Err` if an allocation fails.
+fn read_string(
+    alloc: Global,
+    findings: &mut Vec<Finding>,
+    site: Site<'_, '_>,
+    appended_newline: bool,
+    is_counted: bool,
+) -> Result<CallReading, AllocError>
+    ensures read { IfOk result (λ r. (xs : List FindingValue)
+        × (findings.new.items ≡ findings.old.items ++ xs)
+        × ReadsLiteral (without_crs (chars site.entry.literal.text.now)) appended_newline is_counted
+        (map (given (map leaf site.entry.tokens.now)) site.entry.arguments.now) r xs) }
+    ensures spans { OnOk result (All (λ x. IsSpan site.entry.text.now x.span) findings.old.items
+        → All (λ x. IsSpan site.entry.text.now x.span) findings.new.items) }
+{
+    let Some(literal) = read_literal(alloc, site.literal.text, appended_newline)? else {
+        return Ok(CallReading::Malformed);
+    };
+    let given = counted_givens(alloc, site.tokens, site.arguments, is_counted)?;
+    let text = literal.text.as_str();
+    let snippet = literal.snippet.as_str();
+    let list = given.as_slice();
+    let string = FormatString {
+        text,
+        style: literal.style,
+        snippet: Some(snippet),
+        appended_newline,
+        captures: true,
+    };
+    check_string(alloc, findings, site, string, list, is_counted)?;
+    Ok(reading_of(is_counted))
+}
+
+/// Returns the argument of an index, or `None` if there is none.
+fn argument_at(arguments: &[Argument], index: usize) -> Option<Argument>
+    ensures { result ≡ slice_get arguments.now index }
+{
+    if index < arguments.len() {
+        Some(arguments[index])
+    } else {
+        None
+    }
+}
+
+/// Reads a call whose format string is the argument of this index, and adds what is found. Returns
+/// `Err` if an allocation fails.
+fn read_at(
+    alloc: Global,
+    findings: &mut Vec<Finding>,
+    file: File<'_, '_>,
+    part: &Source<'_>,
+    call: &Call,
+    arguments: &[Argument],
+    index: usize,
+) -> Result<CallReading, AllocError>
+    requires pair { IsPair part.now (call.now.name + 2) call.now.close }
+    requires split { AreArguments part.now (call.now.name + 3) arguments.now call.now.close }
+    requires literal { (a : ArgumentValue) × (slice_get arguments.now index ≡ Some a)
+        × IsTrue (is_text part.now a) }
+    ensures read { IfOk result (λ r. (xs : List FindingValue)
+        × (findings.new.items ≡ findings.old.items ++ xs)
+        × ReadsAt part.now call.now arguments.now index r xs) }
+    ensures spans { OnOk result (All (λ x. IsSpan file.entry.text.now x.span) findings.old.items
+        → All (λ x. IsSpan file.entry.text.now x.span) findings.new.items) }
+{
+    let tokens = part.tokens();
+    let Some(string) = argument_at(arguments, index) else {
+        return Ok(CallReading::Malformed);
+    };
+    let Some(literal) = token_at(tokens, string.start) else {
+        return Ok(CallReading::Malformed);
+    };
+    let others = &arguments[index + 1..];
+    let site = Site {
+        text: file.text,
+        tokens,
+        literal,
+        arguments: others,
+    };
+    let close = call.close;
+    let name = name_at(tokens, call.name);
+    let appended_newline = appends_newline(name);
+    let is_counted = are_counted(part, call.name + 2, string.end, close);
+    let reading = read_string(alloc, findings, site, appended_newline, is_counted)?;
+    Ok(reading)
+}
+
+/// Reads a call, and adds what is found in it. Returns `Err` if an allocation fails.
+pub fn read_call(
+    alloc: Global,
+    findings: &mut Vec<Finding>,
+    file: File<'_, '_>,
+    part: &Source<'_>,
+    call: &Call,
+) -> Result<CallReading, AllocError>
+    requires { IsPair part.now (call.now.name + 2) call.now.close }
+    ensures read { IfOk result (λ r. (xs : List FindingValue)
+        × (findings.new.items ≡ findings.old.items ++ xs)
+        × Reads (map (λ w. w.now) file.entry.defined.now) file.entry.is_from_2021 part.now call.now
+        r xs) }
+    ensures spans { OnOk result (All (λ x. IsSpan file.entry.text.now x.span) findings.old.items
+        → All (λ x. IsSpan file.entry.text.now x.span) findings.new.items) }
+{
+    let name = name_at(part.tokens(), call.name);
+    if is_defined(file.defined, name) {
+        return Ok(CallReading::Redefined);
+    }
+    let Some(arguments) = arguments(alloc, part, call.close)? else {
+        return Ok(CallReading::Whole);
+    };
+    let list = arguments.as_slice();
+    match format_string(part, call.rule, list, file.is_from_2021) {
+        Err(reason) => Ok(CallReading::Unread(reason)),
+        Ok(index) => {
+            let reading = read_at(alloc, findings, file, part, call, list, index)?;
+            Ok(reading)
+        }
+    }
+}
