@@ -16,7 +16,7 @@
 #include <stdint.h>
 
 /* the version of the header and of its library, as in CHANGELOG.md */
-#define DEPHUNGO_VERSION "0.2.0"
+#define DEPHUNGO_VERSION "0.3.0"
 
 #ifdef __cplusplus
 extern "C" {

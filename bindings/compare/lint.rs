@@ -97,7 +97,8 @@ fn drawings(
 
 fn said(program: &str, words: &[&str], input: &str) -> String {
     let mut command = Command::new(program);
-    let command = command.args(words).stdin(Stdio::piped()).stdout(Stdio::piped());
+    command.arg("--literal").args(words);
+    let command = command.stdin(Stdio::piped()).stdout(Stdio::piped());
     let mut child = command.spawn().expect("the program");
     child.stdin.take().unwrap().write_all(input.as_bytes()).unwrap();
     String::from_utf8(child.wait_with_output().unwrap().stdout).unwrap()

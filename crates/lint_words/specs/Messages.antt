@@ -44,3 +44,7 @@ place file n = place_between (chars (take n file)) (chars (drop n file))
 abbrev pub not_literal : List ℕ → List ℕ → LiteralFault → List ℕ
 not_literal path file f = opening path ++ (written (place file f.offset) ++ (codes ": "
     ++ (message f.kind ++ codes "\n  = help: with --text the input is read as it stands\n")))
+
+-- The line where a file is not read from a place on.
+abbrev pub place_failure : List ℕ → Place → List ℕ → List ℕ
+place_failure path p why = opening path ++ (written p ++ (codes ": " ++ (why ++ codes "\n")))

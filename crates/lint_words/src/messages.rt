@@ -1,7 +1,8 @@
 //! The lines that are written to standard error where there is no answer.
 
 ghost use Rattle.std.specs.Prelude.{◌≡◌, ◌++◌, IsCharBoundary, OnOk, decimal, string_bytes};
-ghost use Rattle.lint_words.specs.Messages.{failure, not_literal, opening, reason, written};
+ghost use Rattle.lint_words.specs.Messages.{failure, not_literal, opening, place_failure, reason};
+ghost use Rattle.lint_words.specs.Messages.{written};
 
 use drawn_faults::put_glyphs;
 use itoa::Buffer;
@@ -103,5 +104,24 @@ pub fn put_not_literal(
     out.push_str(": ")?;
     fault.kind.put_message(out)?;
     out.push_str("\n  = help: with --text the input is read as it stands\n")?;
+    Ok(())
+}
+
+/// Appends the line that says why the file with this path is not read from a place on. Returns
+/// `Err` if an allocation fails, and a part of the line may then be appended.
+pub fn put_place_failure(
+    out: &mut String,
+    path: &str,
+    place: Place,
+    why: &str,
+) -> Result<(), AllocError>
+    ensures { OnOk result (string_bytes out.new
+        ≡ string_bytes out.old ++ place_failure path.now place why.now) }
+{
+    put_opening(out, path)?;
+    put_place(out, place)?;
+    out.push_str(": ")?;
+    out.push_str(why)?;
+    out.push_str("\n")?;
     Ok(())
 }

@@ -1,0 +1,44 @@
+//! Why something was not done.
+
+use piece_listing::verdict::RunFault;
+use std::alloc::AllocError;
+use std::io;
+
+/// Why there is no answer.
+#[derive(Drop)]
+pub struct Failure {
+    /// What failed.
+    pub fault: RunFault,
+    /// The error of the system, if it has one.
+    pub error: Option<io::Error>,
+}
+
+impl From<RunFault> for Failure {
+    fn from(fault: RunFault) -> Failure {
+        Failure { fault, error: None }
+    }
+}
+
+impl From<AllocError> for Failure {
+    fn from(_error: AllocError) -> Failure {
+        Failure::from(RunFault::Memory)
+    }
+}
+
+impl Failure {
+    /// Returns the failure of a read with this error.
+    pub fn of(error: io::Error) -> Failure {
+        Failure {
+            fault: RunFault::Read,
+            error: Some(error),
+        }
+    }
+
+    /// Returns whether the reader of the output is gone.
+    pub fn is_of_a_broken_pipe(&self) -> bool {
+        match &self.error {
+            Some(error) => error.kind() == io::ErrorKind::BrokenPipe,
+            None => false,
+        }
+    }
+}

@@ -1,0 +1,169 @@
+//! The run over one string: a literal, or a text.
+
+use crate::asked::{file_of, list_words, task_of, when_of};
+use crate::failure::Failure;
+use crate::noted::Noted;
+use clap::ArgMatches;
+use format_lint::run::run;
+use lint_words::{put_failure, put_not_literal, system_words, wants_colours};
+use literal_faults::{file_fault, snippet_of};
+use piece_listing::run::{read_input, run as list};
+use piece_listing::verdict::RunFault;
+use std::alloc::AllocError;
+use std::io::{IsTerminal, Read};
+use std::{env, fs};
+
+/// Reads a stream to its end.
+fn read<R: Read + Drop>(rt: &HostRuntime, stream: R) -> Result<Vec<u8>, Failure> {
+    let mut reader = Noted::new(stream);
+    match read_input(rt.alloc(), &mut reader) {
+        Ok(bytes) => Ok(bytes),
+        Err(fault) => Err(Failure {
+            fault,
+            error: reader.error,
+        }),
+    }
+}
+
+/// Reads a file, or standard input.
+fn input(rt: &HostRuntime, file: Option<&str>) -> Result<Vec<u8>, Failure> {
+    let Some(path) = file else {
+        tell_of_terminal(rt);
+        return read(rt, rt.stdin());
+    };
+    match fs::open(rt, path) {
+        Ok(file) => read(rt, file),
+        Err(error) => Err(Failure::of(error)),
+    }
+}
+
+/// Says on standard error that standard input is read, if it is a terminal.
+pub fn tell_of_terminal(rt: &HostRuntime) {
+    if rt.stdin().is_terminal() {
+        let _ = rt.eprintln("formatlint: reads what is typed here, up to Ctrl-D; --help says more");
+    }
+}
+
+/// Returns whether what is written to standard output is in colours.
+fn has_colours(rt: &HostRuntime, matches: &ArgMatches<'_>) -> bool {
+    let no_color = env::var(rt, "NO_COLOR").ok();
+    let term = env::var(rt, "TERM").ok();
+    wants_colours(
+        when_of(matches),
+        rt.stdout().is_terminal(),
+        no_color.as_deref(),
+        term.as_deref(),
+    )
+}
+
+/// Returns the bytes of an input that are listed: a text, or the literal without what may stand
+/// around it.
+fn listed<'a>(matches: &ArgMatches<'_>, input: &'a [u8]) -> &'a [u8] {
+    if matches.get_flag("text") {
+        return input;
+    }
+    match str::from_utf8(input) {
+        Ok(file) => snippet_of(file).text.as_bytes(),
+        Err(_) => input,
+    }
+}
+
+/// Writes the answer for an input. Returns how many mistakes are left, and of a list 1 if a line is
+/// not of a piece.
+fn answer(
+    rt: &HostRuntime,
+    matches: &ArgMatches<'_>,
+    path: &str,
+    input: &[u8],
+) -> Result<usize, Failure> {
+    let alloc = rt.alloc();
+    let mut writer = Noted::new(rt.stdout());
+    let told = if matches.get_flag("list") {
+        let words = list_words(alloc, matches)?;
+        let mut reader = listed(matches, input);
+        list(alloc, &mut reader, &mut writer, words.as_slice()).map(usize::from)
+    } else {
+        let task = task_of(matches, path, has_colours(rt, matches));
+        let mut reader = input;
+        run(alloc, &mut reader, &mut writer, task)
+    };
+    match told {
+        Ok(count) => Ok(count),
+        Err(fault) => Err(Failure {
+            fault,
+            error: writer.error,
+        }),
+    }
+}
+
+/// Appends the lines that say why there is no answer.
+fn put_why(
+    out: &mut String,
+    path: &str,
+    input: &[u8],
+    failure: &Failure,
+) -> Result<(), AllocError> {
+    if failure.fault == RunFault::NotLiteral {
+        if let Ok(file) = str::from_utf8(input) {
+            if let Some(fault) = file_fault(file) {
+                return put_not_literal(out, path, file, &fault);
+            }
+        }
+    }
+    let words = match &failure.error {
+        Some(error) => format!(in *out.allocator(); "{error}")?,
+        None => String::new(*out.allocator()),
+    };
+    put_failure(out, path, failure.fault, system_words(words.as_str()))
+}
+
+/// The exit status where the reader of the output is gone: that of a program that ends by the
+/// signal SIGPIPE.
+const GONE: u8 = 141;
+
+/// Says why there is no answer, and returns the exit status.
+pub fn tell(rt: &HostRuntime, path: &str, input: &[u8], failure: &Failure) -> u8 {
+    if failure.is_of_a_broken_pipe() {
+        return GONE;
+    }
+    let mut out = String::new(rt.alloc());
+    let _ = match put_why(&mut out, path, input, failure) {
+        Ok(()) => rt.eprint(out.as_str()),
+        Err(_) => rt.eprintln("formatlint: out of memory"),
+    };
+    if failure.fault == RunFault::NotLiteral {
+        1
+    } else {
+        3
+    }
+}
+
+/// Says on standard error how many mistakes there are besides the first, where only that is drawn.
+fn tell_others(rt: &HostRuntime, matches: &ArgMatches<'_>, count: usize) {
+    if count > 1 && !matches.get_flag("all") {
+        let others = count - 1;
+        let _ = eprintln!(rt; "formatlint: and {others} more, which --all draws");
+    }
+}
+
+/// Does what the arguments ask for of one string. Returns the exit status, or `None` if the list of
+/// arguments is none.
+pub fn literal_status(rt: &HostRuntime, matches: &ArgMatches<'_>) -> Option<u8> {
+    let file = file_of(matches);
+    let path = match file {
+        Some(path) => path,
+        None => matches.get_str("stdin-path").unwrap_or("<stdin>"),
+    };
+    let bytes = match input(rt, file) {
+        Ok(bytes) => bytes,
+        Err(failure) => return Some(tell(rt, path, &[], &failure)),
+    };
+    match answer(rt, matches, path, bytes.as_slice()) {
+        Ok(count) => {
+            tell_others(rt, matches, count);
+            Some(u8::from(count > 0))
+        }
+        Err(failure) if failure.fault == RunFault::Words => None,
+        Err(failure) => Some(tell(rt, path, bytes.as_slice(), &failure)),
+    }
+}

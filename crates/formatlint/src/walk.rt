@@ -1,0 +1,122 @@
+//! The source files below a folder.
+
+use crate::told::Told;
+use std::alloc::{AllocError, Global};
+use std::fs::DirEntry;
+use std::{fs, io};
+
+/// A file or a folder.
+#[derive(PartialEq, Eq, PartialOrd, Ord, Drop)]
+struct Entry {
+    path: String,
+    is_folder: bool,
+}
+
+/// The source files below a folder, in the order of names: those whose name ends in `.rs`. Links
+/// are not followed, and hidden folders, those with the name `target` and what is excluded are left
+/// out.
+#[derive(Drop)]
+pub struct Walk<'a> {
+    /// What is still to be read, the next one last.
+    rest: Vec<Entry>,
+    /// The names of files and folders that are excluded.
+    excluded: &'a [&'a str],
+}
+
+/// Returns the path of a name in a folder, which has no path if it is the one where one stands.
+fn joined(alloc: Global, folder: &str, name: &str) -> Result<String, AllocError> {
+    let mut path = String::from_str(alloc, folder)?;
+    if !folder.is_empty() && !folder.ends_with('/') {
+        path.push('/')?;
+    }
+    path.push_str(name)?;
+    Ok(path)
+}
+
+/// Returns whether a folder of this name is left out.
+fn is_left_out(name: &str) -> bool {
+    name.starts_with('.') || name == "target"
+}
+
+impl<'a> Walk<'a> {
+    /// Returns the files below a folder. Without a path it is the one where one stands. Returns
+    /// `Err` if an allocation fails.
+    pub fn new(
+        alloc: Global,
+        folder: &str,
+        excluded: &'a [&'a str],
+    ) -> Result<Walk<'a>, AllocError> {
+        let mut rest = Vec::new(alloc);
+        rest.push(Entry {
+            path: String::from_str(alloc, folder)?,
+            is_folder: true,
+        })?;
+        Ok(Walk { rest, excluded })
+    }
+
+    /// Adds an entry of a folder, if it is to be read.
+    fn add(
+        &self,
+        rt: &HostRuntime,
+        folder: &str,
+        entry: &DirEntry<HostRuntime>,
+        found: &mut Vec<Entry>,
+    ) -> io::Result<()> {
+        let name = entry.file_name();
+        if self.excluded.contains(&name) {
+            return Ok(());
+        }
+        let kind = entry.file_type()?;
+        let is_folder = kind.is_dir();
+        let is_read = if is_folder {
+            !is_left_out(name)
+        } else {
+            kind.is_file() && name.ends_with(".rs")
+        };
+        if is_read {
+            let path = joined(rt.alloc(), folder, name)?;
+            found.push(Entry { path, is_folder })?;
+        }
+        Ok(())
+    }
+
+    /// Returns the entries of a folder, the first one last. What cannot be read of it is told.
+    fn entries(&self, rt: &HostRuntime, folder: &str, told: &mut Told) -> io::Result<Vec<Entry>> {
+        let shown = if folder.is_empty() { "." } else { folder };
+        let mut found = Vec::new(rt.alloc());
+        for entry in fs::read_dir(rt, shown)? {
+            let added = match entry {
+                Ok(entry) => self.add(rt, folder, &entry, &mut found),
+                Err(error) => Err(error),
+            };
+            if let Err(error) = added {
+                told.fail(rt, shown, &error);
+            }
+        }
+        found.sort()?;
+        found.reverse();
+        Ok(found)
+    }
+
+    /// Returns the path of the next file, or `None` if there is none. A folder that cannot be read
+    /// is told. Returns `Err` if an allocation fails.
+    pub fn next(
+        &mut self,
+        rt: &HostRuntime,
+        told: &mut Told,
+    ) -> Result<Option<String>, AllocError> {
+        for _ in 0..u64::MAX {
+            let Some(entry) = self.rest.pop() else {
+                return Ok(None);
+            };
+            if !entry.is_folder {
+                return Ok(Some(entry.path));
+            }
+            match self.entries(rt, entry.path.as_str(), told) {
+                Ok(mut found) => self.rest.append(&mut found)?,
+                Err(error) => told.fail(rt, entry.path.as_str(), &error),
+            }
+        }
+        Ok(None)
+    }
+}

@@ -1,0 +1,4 @@
+pub mod Escaped
+pub mod Texts
+pub mod Lines
+pub mod Harmless

@@ -1,0 +1,12 @@
+use Rattle.std.proofs.Common.{◌≡◌, ◌++◌, drop}
+use Rattle.std.specs.Prelude.{string_bytes}
+use Rattle.serde_json.specs.Data.{array}
+use Rattle.message_forms.specs.Json.{child_json}
+use Rattle.message_forms.specs.Texts.{array_text, items_of, json_text}
+use Rattle.message_forms.proofs.json_lines.put_children.Given as goal
+
+-- What is written, and then what is left, is all.
+abbrev pub invariant-loop-child : goal.invariant-loop-child
+invariant-loop-child l = string_bytes l.out ++ array_text l.is_later
+    (items_of (child_json l.path) (drop l.child-index l.children))
+    ≡ string_bytes l.fn.out ++ json_text (array (items_of (child_json l.path) l.children))

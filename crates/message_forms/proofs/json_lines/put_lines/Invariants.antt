@@ -1,0 +1,17 @@
+use Rattle.std.proofs.Common.{◌≡◌, ◌++◌}
+use Rattle.std.specs.Prelude.{false, string_bytes}
+use denote.Shadow.{shadow}
+use denote.Text.{Utf8}
+use Rattle.serde_json.specs.Data.{array}
+use Rattle.message_forms.specs.Json.{line_items}
+use Rattle.message_forms.specs.Texts.{array_text, json_text}
+use Rattle.message_forms.proofs.json_lines.put_lines.Given as goal
+
+-- What is written, and then the lines that are left, is all.
+abbrev pub invariant-loop-left : goal.invariant-loop-left
+invariant-loop-left l = shadow (Utf8 l.rest) × (string_bytes l.out
+    ++ array_text false (line_items l.left l.start l.to l.rest)
+    ≡ string_bytes l.fn.out ++ json_text (array (line_items l.more l.from l.to l.lines)))
+
+abbrev pub decreases-loop-left : goal.decreases-loop-left
+decreases-loop-left l = l.left

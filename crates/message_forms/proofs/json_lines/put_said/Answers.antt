@@ -1,0 +1,17 @@
+use Rattle.std.proofs.Common.{◌∙◌}
+use Rattle.message_forms.proofs.Texts.{value-behind}
+use Rattle.message_forms.proofs.json_lines.put_said.Goals as goal
+
+pub returns : goal.returns
+returns c = rw (
+      ← c.saturating_sub-more.ensures,
+      ← c.replacement-text.ensures,
+      ← c.applicability-word.ensures,
+    ) (
+    c.in_ok-put_end.ensures
+    ∙ (c.in_ok-put_text_or_null-4.ensures _
+    ∙ (c.in_ok-put_text_or_null-3.ensures _
+    ∙ (c.in_ok-put_text_or_null-2.ensures _
+    ∙ (c.in_ok-put_text_or_null.ensures _
+    ∙ (value-behind _ _ _ _ c.in_ok-put_lines.ensures (c.in_ok-put_key.ensures _ _)
+    ∙ (c.in_ok-put_truth.ensures _)))))))

@@ -1,0 +1,95 @@
+-- A message as a value of JSON, with the members of rustc's `--error-format=json`.
+use Rattle.std.specs.Prelude.{ℕ, zero, suc, ◌+◌, ◌-◌, ◌==◌, Bool, List, Option, Some, None}
+use Rattle.std.specs.Prelude.{chars, codes, length, option_map}
+use Rattle.std.specs.List.{before_first, after_first}
+use Rattle.serde_json.specs.Data.{Data, null, boolean, string, array, object}
+use Rattle.serde_json.specs.Data.{Items, no_items, item, Members, no_members, member}
+use Rattle.message_forms.specs.declared.message.Child.{Child}
+use Rattle.message_forms.specs.declared.message.Message.{Message}
+use Rattle.message_forms.specs.declared.message.Span.{Span}
+use Rattle.message_forms.specs.declared.message.Suggestion.{Suggestion}
+use Rattle.message_forms.specs.Texts.{items_of, number_json, text_or_null}
+use Rattle.message_forms.specs.Words.{applicability, child_name, level_name}
+
+-- LF
+abbrev pub is_lf : ℕ → Bool
+is_lf b = b == 10
+
+-- A line of a span with the columns between which the span is.
+abbrev pub line_json : List ℕ → ℕ → ℕ → Data
+line_json l from to = object (member (codes "text") (string l)
+    (member (codes "highlight_start") (number_json from)
+    (member (codes "highlight_end") (number_json to) no_members)))
+
+-- The lines of a span that begins at a column and ends at another one, with this many more behind
+-- the first one.
+abbrev pub line_items : ℕ → ℕ → ℕ → List ℕ → Items
+line_items zero from to bs = item (line_json (before_first is_lf bs) from to) no_items
+line_items (suc n) from to bs = item
+    (line_json (before_first is_lf bs) from (length (chars (before_first is_lf bs)) + 1))
+    (line_items n 1 to (after_first is_lf bs))
+
+-- The lines of a span.
+abbrev pub lines_json : Span → Data
+lines_json s = array (line_items (s.end.line - s.start.line) s.start.column s.end.column
+    s.lines.now)
+
+-- Where a span is, in front of other members.
+abbrev pub place_members : List ℕ → Span → Members → Members
+place_members path s ms = member (codes "file_name") (string path)
+    (member (codes "byte_start") (number_json s.byte_start)
+    (member (codes "byte_end") (number_json s.byte_end)
+    (member (codes "line_start") (number_json s.start.line)
+    (member (codes "line_end") (number_json s.end.line)
+    (member (codes "column_start") (number_json s.start.column)
+    (member (codes "column_end") (number_json s.end.column) ms))))))
+
+-- How sure the suggestion of a span is.
+abbrev pub applicability_json : Option Suggestion → Data
+applicability_json None = null
+applicability_json (Some s) = string (applicability s.is_sure)
+
+-- What is said of a span.
+abbrev pub said_members : Span → Members
+said_members s = member (codes "is_primary") (boolean s.is_primary)
+    (member (codes "text") (lines_json s)
+    (member (codes "label") (text_or_null (option_map (λ t. t.now) s.label))
+    (member (codes "suggested_replacement")
+    (text_or_null (option_map (λ x. x.text.now) s.suggestion))
+    (member (codes "suggestion_applicability") (applicability_json s.suggestion)
+    (member (codes "expansion") null no_members)))))
+
+-- A span of a file.
+abbrev pub span_json : List ℕ → Span → Data
+span_json path s = object (place_members path s (said_members s))
+
+-- A note or a help.
+abbrev pub child_json : List ℕ → Child → Data
+child_json path c = object (member (codes "message") (string c.text.now)
+    (member (codes "code") null
+    (member (codes "level") (string (child_name c.level))
+    (member (codes "spans") (array (items_of (span_json path) c.spans.now))
+    (member (codes "children") (array no_items)
+    (member (codes "rendered") null no_members))))))
+
+-- The id of a message, in the place of rustc's code.
+abbrev pub code_json : List ℕ → Data
+code_json id = object (member (codes "code") (string id)
+    (member (codes "explanation") null no_members))
+
+-- What stands below a message, of a file with this path: the ranges that it speaks of, notes and
+-- helps, and how it is drawn for people.
+abbrev pub below_members : List ℕ → List Span → List Child → List ℕ → Members
+below_members path ss cs rendered =
+    member (codes "spans") (array (items_of (span_json path) ss))
+    (member (codes "children") (array (items_of (child_json path) cs))
+    (member (codes "rendered") (string rendered) no_members))
+
+-- A message with what stands below it.
+abbrev pub message_json : Message → List Span → List Child → List ℕ → Data
+message_json m ss cs rendered =
+    object (member (codes "$message_type") (string (codes "diagnostic"))
+    (member (codes "message") (string m.title.now)
+    (member (codes "code") (code_json m.id.now)
+    (member (codes "level") (string (level_name m.level))
+    (below_members m.path.now ss cs rendered)))))

@@ -1,0 +1,19 @@
+//! Messages about files in the forms that programs read: a line for an editor ([`put_short`]), a
+//! workflow command of GitHub ([`put_github`]), a line of JSON as rustc writes it ([`put_json`]),
+//! and a log of SARIF, which has a start, results and an end ([`put_sarif_start`],
+//! [`put_sarif_result`], [`put_sarif_end`]).
+#![tactic(auto)]
+
+mod escapes;
+mod github;
+mod json_lines;
+mod members;
+mod message;
+mod sarif;
+mod short;
+
+pub use github::put_github;
+pub use json_lines::put_json;
+pub use message::{Child, ChildLevel, Level, Message, Span, Suggestion};
+pub use sarif::{put_sarif_end, put_sarif_result, put_sarif_start};
+pub use short::put_short;
