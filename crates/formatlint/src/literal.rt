@@ -4,13 +4,15 @@ use crate::asked::{file_of, list_words, task_of, when_of};
 use crate::failure::Failure;
 use crate::noted::Noted;
 use clap::ArgMatches;
+use drawn_faults::put_glyphs;
 use format_lint::run::run;
+use listing_json::{Listing, list};
 use lint_words::{put_failure, put_not_literal, system_words, wants_colours};
 use literal_faults::{file_fault, snippet_of};
-use piece_listing::run::{read_input, run as list};
+use piece_listing::run::{read_input, run as list_as_text, write_whole};
 use piece_listing::verdict::RunFault;
-use std::alloc::AllocError;
-use std::io::{IsTerminal, Read};
+use std::alloc::{AllocError, Global};
+use std::io::{IsTerminal, Read, Write};
 use std::{env, fs};
 
 /// Reads a stream to its end.
@@ -68,6 +70,46 @@ fn listed<'a>(matches: &ArgMatches<'_>, input: &'a [u8]) -> &'a [u8] {
     }
 }
 
+/// Returns the listing of an input, in the form that the arguments name.
+fn listing_of(
+    alloc: Global,
+    matches: &ArgMatches<'_>,
+    input: &[u8],
+) -> Result<Listing, RunFault> {
+    let words = list_words(alloc, matches)?;
+    let bytes = listed(matches, input);
+    if matches.get_str("format") == Some("json") {
+        return list(alloc, bytes, words.as_slice());
+    }
+    let mut reader = bytes;
+    let mut lines = Vec::new(alloc);
+    let has_ends = list_as_text(alloc, &mut reader, &mut lines, words.as_slice())?;
+    Ok(Listing {
+        bytes: lines,
+        has_ends,
+    })
+}
+
+/// Writes the listing of an input. On a terminal its characters are those of a drawing, so that the
+/// terminal obeys none. Returns 1 if a line is not of a piece.
+fn answer_listing<W: Write>(
+    rt: &HostRuntime,
+    writer: &mut W,
+    matches: &ArgMatches<'_>,
+    input: &[u8],
+) -> Result<usize, RunFault> {
+    let listing = listing_of(rt.alloc(), matches, input)?;
+    match str::from_utf8(listing.bytes.as_slice()) {
+        Ok(text) if rt.stdout().is_terminal() => {
+            let mut drawn = String::new(rt.alloc());
+            put_glyphs(&mut drawn, text, 0)?;
+            write_whole(writer, drawn.as_bytes())?;
+        }
+        _ => write_whole(writer, listing.bytes.as_slice())?,
+    }
+    Ok(usize::from(listing.has_ends))
+}
+
 /// Writes the answer for an input. Returns how many mistakes are left, and of a list 1 if a line is
 /// not of a piece.
 fn answer(
@@ -79,9 +121,7 @@ fn answer(
     let alloc = rt.alloc();
     let mut writer = Noted::new(rt.stdout());
     let told = if matches.get_flag("list") {
-        let words = list_words(alloc, matches)?;
-        let mut reader = listed(matches, input);
-        list(alloc, &mut reader, &mut writer, words.as_slice()).map(usize::from)
+        answer_listing(rt, &mut writer, matches, input)
     } else {
         let task = task_of(matches, path, has_colours(rt, matches));
         let mut reader = input;

@@ -15,6 +15,9 @@ const TIMES: [&str; 3] = ["auto", "always", "never"];
 /// The words that name a form of messages.
 const FORMS: [&str; 5] = ["human", "short", "json", "github", "sarif"];
 
+/// The words that name a form of listings.
+const LISTINGS: [&str; 2] = ["text", "json"];
+
 /// The editions.
 const EDITIONS: [&str; 4] = ["2015", "2018", "2021", "2024"];
 
@@ -165,13 +168,21 @@ fn with_list<'a>(alloc: Global, command: Command<'a>) -> Result<Command<'a>, All
         "LIST",
         "With --list: name arguments, as in 2,w, and list those that are missing or unused",
     );
+    let form = option(
+        alloc,
+        "format",
+        "FORM",
+        "With --list: text, as formatread writes it, or json, an object in each line",
+    );
     let mode = option(alloc, "mode", "MODE", "What the string is");
     let apart = list.conflicts_with("fix")?.conflicts_with("tokens")?;
     let listed = apart.conflicts_with("all")?.requires_arg("string")?;
     let with_list = command.arg(listed)?;
     let with_args = with_list.arg(args.requires_arg("list")?)?;
+    let some_form = form.value_parser(LISTINGS.as_slice());
+    let with_form = with_args.arg(some_form.requires_arg("list")?)?;
     let some_mode = mode.value_parser(MODES.as_slice()).default_value("format");
-    with_args.arg(some_mode.requires_arg("string")?)
+    with_form.arg(some_mode.requires_arg("string")?)
 }
 
 /// Adds the options that say something of the program itself. Returns `Err` if an allocation fails.

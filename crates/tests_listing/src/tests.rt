@@ -1,6 +1,8 @@
-//! Tests of invalid command-line arguments, and of readers and writers that fail.
+//! Tests of invalid command-line arguments, of readers and writers that fail, and of listings as
+//! JSON.
 mod args;
 mod fakes;
+mod json;
 mod listings;
 mod memory;
 mod programs;

@@ -1,0 +1,3 @@
+mod Depths
+mod Adding
+mod Walking
