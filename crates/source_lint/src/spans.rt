@@ -31,7 +31,11 @@ pub fn range_in(text: &str, from: usize, to: usize) -> Range<usize>
 {
     let start = text.floor_char_boundary(from);
     let end = text.floor_char_boundary(to);
-    if start <= end { start..end } else { start..start }
+    if start <= end {
+        start..end
+    } else {
+        start..start
+    }
 }
 
 /// Returns the bytes from one token to the one before another.
@@ -85,8 +89,9 @@ fn value_range(site: Site<'_, '_>, index: usize) -> Range<usize> {
 fn literal_range(site: Site<'_, '_>, span: &Range<usize>) -> Range<usize> {
     let start = site.literal.start;
     let text = site.literal.text;
-    start.saturating_add(offset_in(text, span.start))
-        ..start.saturating_add(offset_in(text, span.end))
+    start.saturating_add(offset_in(text, span.start))..start.saturating_add(offset_in(
+        text, span.end,
+    ))
 }
 
 /// Returns a range again, or another one if there is none.
@@ -211,7 +216,10 @@ pub fn primary_span(
             literal_range(site, &part_span(checked, reference.piece, reference.part))
         }
         CallFault::UnknownTrait { piece, .. } => literal_range(site, &type_span(checked, *piece)),
-        CallFault::MissingArguments(missing) => literal_range(site, &missing_span(checked, missing)),
+        CallFault::MissingArguments(missing) => literal_range(
+            site,
+            &missing_span(checked, missing),
+        ),
         CallFault::UnusedArguments(unused) => value_range(site, first_of(unused)),
         CallFault::RedundantArguments(redundant) => argument_range(site, first_of(redundant)),
         CallFault::NameUsedByIndex { index, .. } => name_range(site, *index),
