@@ -1,0 +1,132 @@
+//! The crate of bindings/rust beside another build of itself, over random files of Rust: files SEED
+//! COUNT. Tokens, places, breaks, calls with their arguments, and what is wrong with each call are
+//! the same.
+mod cases;
+use cases::Random;
+
+/// Parts of files. Some begin a token that has no end.
+#[rustfmt::skip]
+const PARTS: &[&str] = &[
+    "println!(\"{}\");", "println!(\"{} {x}\", 1, 2);\n", "format!(\"{a?}\")", "say!(a, \"{0}{9}\", b)",
+    "write!(w, r#\"{\"#)\r\n", "panic!(x);", "panic!(\"{}\");", "say!(\"{\")", "std::print![\"{:q}\"]",
+    "info!(a = 1, \"{:q}\", c);", "assert!(a, \"{}\", a = 1, b);", "format!(\"é日 {:.*} {e}}\", 1)",
+    "print!(concat!(\"a\"), 1)", "macro_rules! format { () => {} }", "print!(\"\\q\")", "unreachable!()",
+    "print!(\"{0} {0} {1}\", a = b, a = c, d)", "print!(\"{}{:.1$}{:2$}\", a, b, b, r#c = 1, c)",
+    "print!(\"{:w$} {w} {v}\", v = a, move |a, b| c, d::<E, F>(), x as T<U, V>, |a| b, g = 1 + h,)",
+    "$print!(\"{}\")", "$crate::print!(\"}\")", "print!(\"{}\", $($a),*)", "print!($a)", "print!(\"a\"u8)",
+    "format_args!(\"{:.*}\", )", "print!(, a)", "print!{}", "r#print!(\"{}\")", "print !( \"{}\" , a )",
+    "{", "}", "(", ")", "[", "]", "\"", "'", "\\", "/*", "*/", "//", "///", "/**/", "/***/", "/*! a */",
+    "\u{feff}", "\n", "\r", "\r\n", "\t", " ", "fn f() ", "/* } */", "'a'", "'a", "'\\''", "'\\u{41}'",
+    "'é'", "'r#b", "a < b, c > d", "a", "r#a", "é", "日", "\u{e9}\u{301}", "#!/bin/sh\n", "#![a]", "#",
+    "r\"", "r#\"", "\"#", "br\"a\"", "b\"\\x41\"", "b'a'", "c\"a\"", "cr#\"a\"#u8", "\"a\"suffix", "f\"a\"",
+    "0", "12_u8", "0x1F", "0b12", "0o", "1.", "1.5e", "1e+3f32", "1..2", "0xe+1", "1.a", "\u{0}", "\u{200e}",
+    "!", "=", "==", "=>", ",", ";", "::", "<<", ">>=", "|", "||", "->", "-", "$", "@", "~", "?", ".", "..",
+];
+
+/// A module for a build of the crate: what can be seen of a file, in lines.
+macro_rules! seen_by {
+    ($name:ident, $of:ident) => {
+        mod $name {
+            use $of::source::*;
+
+            /// The content of a literal, if it has no escape, and its hashes if it is raw.
+            fn content(literal: &str) -> Option<(&str, Option<usize>)> {
+                let bare = literal.trim_start_matches('r').trim_matches('#');
+                let text = bare.strip_prefix('"')?.strip_suffix('"')?;
+                let hashes = literal.find('"')?.checked_sub(1);
+                (!text.contains('\\')).then_some((text, hashes))
+            }
+
+            fn reason(reason: Reason) -> &'static str {
+                match reason {
+                    Reason::Missing => "missing",
+                    Reason::Edition => "edition",
+                    Reason::Variable => "variable",
+                    Reason::Suffix => "suffix",
+                    Reason::Macro => "macro",
+                    Reason::Expression => "expression",
+                }
+            }
+
+            /// What a fault has besides its title.
+            fn detail(fault: &CallFault<'_>) -> String {
+                match fault {
+                    CallFault::PositionalAfterNamed { index, named } => format!("{index} {named:?}"),
+                    CallFault::RepeatedName { index, first } => format!("{index} {first}"),
+                    CallFault::MissingName { reference, .. } => format!("{reference:?}"),
+                    CallFault::UnknownTrait { piece, ty } => format!("{piece} {ty}"),
+                    CallFault::MissingArguments(missing) => format!("{missing:?}"),
+                    CallFault::UnusedArguments(list) => format!("{list:?}"),
+                    CallFault::RedundantArguments(list) => format!("{list:?}"),
+                    CallFault::NameUsedByIndex { reference, index } => format!("{reference:?} {index}"),
+                    CallFault::Text(_) => String::new(),
+                }
+            }
+
+            fn faults(call: &Call<'_>) -> Vec<String> {
+                let Some((text, style)) = call.literal().and_then(content) else {
+                    return Vec::new();
+                };
+                let given: Vec<Given> = call.formatted().iter().map(|it| it.given).collect();
+                let string = FormatString {
+                    text,
+                    style,
+                    snippet: call.literal(),
+                    appended_newline: false,
+                    captures: !text.contains("{x}"),
+                };
+                let checked = call_faults(string, &given);
+                let mut lines = Vec::new();
+                for it in checked.faults() {
+                    lines.push(format!("  {} {} {}", it.id(), checked.title(it), detail(it)));
+                }
+                lines.push(format!("  {:?} {:?}", checked.pieces(), checked.arg_places()));
+                lines
+            }
+
+            fn call(call: &Call<'_>) -> Vec<String> {
+                let string = call.string.map_err(reason);
+                let mut lines = vec![format!("{} {:?} {string:?}", call.name, call.span)];
+                for it in &call.arguments {
+                    let Given { name, variable } = it.given;
+                    let (text, span, value) = (it.text, &it.span, &it.value);
+                    lines.push(format!(" {name:?} {variable:?} {text:?} {span:?} {value:?}"));
+                }
+                [lines, faults(call)].concat()
+            }
+
+            pub fn seen(file: &str, is_from_2021: bool) -> Vec<String> {
+                let places = Places::new(file);
+                let mut lines = Vec::new();
+                for token in tokens(file) {
+                    let place = places.at(token.span.start);
+                    lines.push(format!("{} {} {token:?}", place.line, place.column));
+                }
+                lines.push(format!("{:?}", broken_at(file)));
+                let mut table = Table::of_crates();
+                Table::standard().rows().iter().for_each(|row| table.add(*row));
+                table.add(Row { name: "say", rule: Rule::At(1) });
+                lines.extend(calls(file, &table, is_from_2021).iter().flat_map(call));
+                lines
+            }
+        }
+    };
+}
+
+seen_by!(ours, dephungo);
+seen_by!(theirs, original);
+
+fn main() {
+    let word = |at| std::env::args().nth(at).and_then(|word| word.parse().ok());
+    let (seed, count) = (word(1).expect("a seed"), word(2).expect("a count"));
+    let mut random = Random::new(seed as u64);
+    let mut lines = 0;
+    for _ in 0..count {
+        let file: String = (0..random.below(14)).map(|_| random.of(PARTS)).collect();
+        let is_from_2021 = !random.one_in(3);
+        let seen = ours::seen(&file, is_from_2021);
+        assert_eq!(seen, theirs::seen(&file, is_from_2021), "{file:?}");
+        lines += seen.len();
+    }
+    println!("seed {seed}: {count} files, {lines} lines: all agree");
+}
