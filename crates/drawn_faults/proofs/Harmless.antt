@@ -121,7 +121,7 @@ glyph-harmless c =
     (λ other. cond_both late 0xFFFD c (λ g. is_obeyed g ≡ false) (λ yes. replacement)
     (itself c more other)))))
 
-none-glyphs : (t : Text) → NonePass is_obeyed (glyphs t)
+pub none-glyphs : (t : Text) → NonePass is_obeyed (glyphs t)
 none-glyphs [] = tt
 none-glyphs (c ∷ t) =
     none-append (replicate (glyph_count c) (glyph c)) (glyphs t)

@@ -2,6 +2,7 @@ pub mod GlyphLemmas
 pub mod PrintableLemmas
 pub mod Harmless
 pub mod HarmlessDrawings
+pub mod HarmlessDiagnostics
 pub mod LineLemmas
 pub mod RowLemmas
 pub mod EditLaws
