@@ -5,6 +5,7 @@ pub mod HarmlessDrawings
 pub mod HarmlessDiagnostics
 pub mod LineLemmas
 pub mod RowLemmas
+pub mod MarkLemmas
 pub mod EditLaws
 pub mod FixLaws
 pub mod CallFaults

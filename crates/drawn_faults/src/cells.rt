@@ -51,6 +51,7 @@ fn space() -> Cell
 }
 
 /// Puts a cell into a column of a row.
+#[tactic(auto, using(crate::proofs::MarkLemmas::cells_put))]
 pub fn put_at(row: &mut Vec<Cell>, column: usize, cell: Cell) -> Result<(), AllocError>
     ensures value { OnOk result (row.new.items ≡ put_at column cell row.old.items) }
     ensures inside { OnOk result (column < length row.new.items) }
