@@ -112,8 +112,8 @@ pub fn hang<'a>(alloc: Global, marks: &[Mark<'a>]) -> Result<Vec<Hung<'a>>, Allo
     }
     let mut list = Vec::new(alloc);
     let mut down = 0;
-    for (index, mark) in marks.iter().enumerate() {
-        let others = &marks[index + 1..];
+    for mark in marks {
+        let others = &marks[list.len() + 1..];
         let depth = depth_of(down, mark, others);
         list.push(Hung {
             mark: *mark,
