@@ -15,6 +15,7 @@ use std::alloc::{AllocError, Global};
 pub struct Hung<'a> {
     pub mark: Mark<'a>,
     pub down: usize,
+    ghost near: { down < 2 ^ 62 },
 }
 
 /// Returns whether a label has a text.
@@ -115,10 +116,8 @@ pub fn hang<'a>(alloc: Global, marks: &[Mark<'a>]) -> Result<Vec<Hung<'a>>, Allo
     for mark in marks {
         let others = &marks[list.len() + 1..];
         let depth = depth_of(down, mark, others);
-        list.push(Hung {
-            mark: *mark,
-            down: depth,
-        })?;
+        let hung = Hung { mark: *mark, down: depth };
+        list.push(hung)?;
         down = depth_behind(depth, mark, others);
     }
     Ok(list)
