@@ -6,17 +6,8 @@ ghost use Rattle.drawn_faults.specs.Marks.{is_crossed, is_lowering, is_meeting, 
 ghost use Rattle.drawn_faults.specs.Marks.{is_shadow, seen_hung, text_depth};
 ghost use Rattle.drawn_faults.specs.Rows.{seen_mark};
 
-use crate::mark::Mark;
+use crate::mark::{Hung, Mark};
 use std::alloc::{AllocError, Global};
-
-/// A label, and how many rows below the signs its text hangs: it stands right of them if that is
-/// none.
-#[derive(Clone, Copy)]
-pub struct Hung<'a> {
-    pub mark: Mark<'a>,
-    pub down: usize,
-    ghost near: { down < 2 ^ 62 },
-}
 
 /// Returns whether a label has a text.
 pub fn has_text(mark: &Mark<'_>) -> bool
