@@ -6,8 +6,16 @@ ghost use Rattle.drawn_faults.specs.Marks.{is_crossed, is_lowering, is_meeting, 
 ghost use Rattle.drawn_faults.specs.Marks.{is_shadow, seen_hung, text_depth};
 ghost use Rattle.drawn_faults.specs.Rows.{seen_mark};
 
-use crate::mark::{Hung, Mark};
+use crate::mark::Mark;
 use std::alloc::{AllocError, Global};
+
+/// A label, and how many rows below the signs its text hangs: it stands right of them if that is
+/// none.
+#[derive(Clone, Copy)]
+pub struct Hung<'a> {
+    pub mark: Mark<'a>,
+    pub down: usize,
+}
 
 /// Returns whether a label has a text.
 pub fn has_text(mark: &Mark<'_>) -> bool
@@ -107,9 +115,11 @@ pub fn hang<'a>(alloc: Global, marks: &[Mark<'a>]) -> Result<Vec<Hung<'a>>, Allo
     for mark in marks {
         let others = &marks[list.len() + 1..];
         let depth = depth_of(down, mark, others);
-        let hung = Hung { mark: *mark, down: depth };
-        list.push(hung)?;
         down = depth_behind(depth, mark, others);
+        list.push(Hung {
+            mark: *mark,
+            down: depth,
+        })?;
     }
     Ok(list)
 }

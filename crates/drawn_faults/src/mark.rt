@@ -17,12 +17,3 @@ pub struct Mark<'a> {
     pub text: &'a str,
     ghost small_line: { line < 2 ^ 59 },
 }
-
-/// A label, and how many rows below the signs its text hangs: it stands right of them if that is
-/// none.
-#[derive(Clone, Copy)]
-pub struct Hung<'a> {
-    pub mark: Mark<'a>,
-    pub down: usize,
-    ghost near: { down < 2 ^ 62 },
-}

@@ -10,8 +10,8 @@ ghost use Rattle.drawn_faults.specs.Marks.{with_signs, written};
 ghost use Rattle.drawn_faults.specs.Rows.{seen_mark, under};
 
 use crate::cells::{Cell, put_at, put_behind, put_from, put_run_at, put_written, style_of};
-use crate::hanging::{depth, hang, has_text};
-use crate::mark::{Hung, Mark};
+use crate::hanging::{Hung, depth, hang, has_text};
+use crate::mark::Mark;
 use crate::order::covered_first;
 use crate::rows::put_gutter;
 use std::alloc::{AllocError, Global};
