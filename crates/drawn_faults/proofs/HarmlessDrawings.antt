@@ -24,22 +24,22 @@ use Rattle.drawn_faults.specs.Rows.{hanging, has_column, is_covered, overlapping
 use Rattle.drawn_faults.specs.Rows.{pointed, sign_at, signs, under}
 use Rattle.drawn_faults.specs.Suggestions.{edit_rows, edited, help_rows, help_title, new_row}
 use Rattle.drawn_faults.specs.Suggestions.{old_row, old_rows, parting}
-use Rattle.drawn_faults.specs.declared.places.Spot.{Spot}
+use Rattle.drawn_faults.specs.declared.extent.Spot.{Spot}
 use Rattle.drawn_faults.proofs.Harmless.{behind-harmless, columns-harmless, decimal-harmless}
 use Rattle.drawn_faults.proofs.Harmless.{either, glyphs-harmless, join, run-harmless, text}
 use Rattle.drawn_faults.proofs.Harmless.{written-harmless}
 
-of_glyphs : (bs : List ℕ) → IsHarmless (glyph_bytes bs)
+pub of_glyphs : (bs : List ℕ) → IsHarmless (glyph_bytes bs)
 of_glyphs bs = glyphs-harmless (chars bs)
 
-spaces : (n : ℕ) → IsHarmless (run n 32)
+pub spaces : (n : ℕ) → IsHarmless (run n 32)
 spaces n = run-harmless n 32 (written-harmless 32 refl)
 
 -- rows under a line
 of_blank : (g : ℕ) → IsHarmless (blank g)
 of_blank g = join (spaces g) (text (codes " |") refl)
 
-of_under : (g : ℕ) {row : List ℕ} → IsHarmless row → IsHarmless (under g row)
+pub of_under : (g : ℕ) {row : List ℕ} → IsHarmless row → IsHarmless (under g row)
 of_under g h =
     join (of_blank g) (join (text (codes " ") refl) (join h (text (codes "\n") refl)))
 
@@ -120,7 +120,7 @@ unfolding both
 of_both g m n p q = either (nat_lt m.from n.from) (of_pair g m n p q) (of_pair g n m q p)
 
 -- lines of the source
-of_numbered : (f : Frame) (n : ℕ) → IsHarmless (numbered f n)
+pub of_numbered : (f : Frame) (n : ℕ) → IsHarmless (numbered f n)
 unfolding numbered
 of_numbered f n =
     join (spaces (f.gutter - length (decimal (f.picture.line_start + n))))
@@ -144,14 +144,14 @@ of_source f n p q =
     (join (of_behind_bar q (of_shown f.cut (chars (line n f.picture.source))))
     (text (codes "\n") refl)))
 
-of_code : (f : Frame) (n : ℕ) → IsHarmless (code_row f n)
+pub of_code : (f : Frame) (n : ℕ) → IsHarmless (code_row f n)
 of_code f n = of_source f n (text (codes " |") refl) (text (codes " ") refl)
 
 of_labelled : (f : Frame) (m : Mark) → is_obeyed m.sign ≡ false → IsHarmless (labelled f m)
 unfolding labelled
 of_labelled f m p = join (of_code f m.line) (of_under f.gutter (of_alone m p))
 
-of_gap : (f : Frame) (first last : ℕ) → IsHarmless (gap f first last)
+pub of_gap : (f : Frame) (first last : ℕ) → IsHarmless (gap f first last)
 unfolding gap
 of_gap f first last =
     either (last == first + 2) (of_code f (first + 1))
@@ -213,14 +213,14 @@ of_between f first last =
     (join (of_bar_gap f (first + n) (last - 1)) (of_bar_row f (last - 1)))
     (of_bar_gap f (first + n) last))
 
-of_long : (f : Frame) (l : Label) → IsHarmless (long_rows f l)
+pub of_long : (f : Frame) (l : Label) → IsHarmless (long_rows f l)
 unfolding long_rows
 of_long f l =
     join (of_first f l)
     (join (of_between f l.extent.start.line l.extent.end.line) (of_last f l))
 
 -- a suggestion
-of_parting : (f : Frame) → IsHarmless (parting f)
+pub of_parting : (f : Frame) → IsHarmless (parting f)
 unfolding parting
 of_parting f = join (of_blank f.gutter) (text (codes "\n") refl)
 
@@ -229,7 +229,7 @@ of_title bs =
     join (text (codes "help: did you mean `") refl)
     (join (of_glyphs bs) (text (codes "`?\n") refl))
 
-of_old : (f : Frame) (n : ℕ) (bs : List ℕ) → IsHarmless (old_row f n bs)
+pub of_old : (f : Frame) (n : ℕ) (bs : List ℕ) → IsHarmless (old_row f n bs)
 unfolding old_row
 of_old f n bs =
     join (of_numbered f n) (join (text (codes " - ") refl)
@@ -272,17 +272,21 @@ of_name InlineAsm = text (codes "asm template string") refl
 of_name Diagnostic = text (codes "format string") refl
 of_name DiagnosticNamed = text (codes "format string") refl
 
+pub of_arrow : (f : Frame) (at : Spot) → IsHarmless (arrow f at)
+unfolding arrow
+of_arrow f at =
+    join (spaces f.gutter) (join (text (codes "--> ") refl)
+    (join (of_glyphs f.picture.path) (join (text (codes ":") refl)
+    (join (decimal-harmless (f.picture.line_start + at.line)) (join (text (codes ":") refl)
+    (join (decimal-harmless (at.chars + 1)) (text (codes "\n") refl)))))))
+
 of_head : (mode : Mode) (f : Frame) (description : List ℕ) (at : Spot)
     → IsHarmless (head mode f description at)
-unfolding head arrow
+unfolding head
 of_head mode f description at =
     join (join (text (codes "error: invalid ") refl) (join (of_name mode)
     (join (text (codes ": ") refl) (join (of_glyphs description) (text (codes "\n") refl)))))
-    (join (join (spaces f.gutter) (join (text (codes "--> ") refl)
-    (join (of_glyphs f.picture.path) (join (text (codes ":") refl)
-    (join (decimal-harmless (f.picture.line_start + at.line)) (join (text (codes ":") refl)
-    (join (decimal-harmless (at.chars + 1)) (text (codes "\n") refl))))))))
-    (of_parting f))
+    (join (of_arrow f at) (of_parting f))
 
 -- the second label
 abbrev label : Picture → Message Place → List ℕ × Place → Label

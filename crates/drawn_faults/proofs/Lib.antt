@@ -2,8 +2,10 @@ pub mod GlyphLemmas
 pub mod PrintableLemmas
 pub mod Harmless
 pub mod HarmlessDrawings
+pub mod HarmlessDiagnostics
 pub mod LineLemmas
 pub mod RowLemmas
+pub mod MarkLemmas
 pub mod EditLaws
 pub mod FixLaws
 pub mod CallFaults

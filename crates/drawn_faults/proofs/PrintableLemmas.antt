@@ -26,7 +26,7 @@ use Rattle.rustc_parse_format.specs.Characters.{Text}
 use Rattle.drawn_faults.specs.Glyphs.{glyph, glyph_count, glyphs, is_drawn_as_is, is_printable}
 use Rattle.drawn_faults.specs.Glyphs.{is_bidi_control, run, width}
 use Rattle.drawn_faults.specs.Places.{past, within}
-use Rattle.drawn_faults.specs.declared.places.Spot.{Spot}
+use Rattle.drawn_faults.specs.declared.extent.Spot.{Spot}
 use Rattle.drawn_faults.specs.declared.printable.TheConstants.{AS_IS, PRINTABLE}
 use Rattle.drawn_faults.proofs.GlyphLemmas.{take-step}
 

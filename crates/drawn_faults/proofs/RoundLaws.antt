@@ -302,16 +302,6 @@ pub record IsBest (mode : Mode) (style : Option ℕ) (appended : Bool) (f : Fixe
   pub some : IfSome best (λ g. IsFirst mode style appended f g fewest)
   pub none : IfNone best (fewest ≡ faulty mode f.text)
 
--- Before the first round.
-pub best-start : (mode : Mode) (style : Option ℕ) (appended : Bool) (f : Fixed)
-    → IsBest mode style appended f 0 None (faulty mode f.text)
-best-start mode style appended f = record {
-  most = omega arith;
-  least = λ n h le b. absurd (omega (arith, le, b.some));
-  some = tt;
-  none = refl;
-}
-
 -- A round that is no better than the best one.
 pub best-stays : (mode : Mode) (style : Option ℕ) (appended : Bool) (f g : Fixed) (k : ℕ)
     (best : Option Fixed) (fewest : ℕ) → IsBest mode style appended f k best fewest

@@ -13,7 +13,7 @@ use Rattle.drawn_faults.specs.Labels.{text_name}
 use Rattle.drawn_faults.specs.Lines.{labelled, two_labels}
 use Rattle.drawn_faults.specs.Long.{long_rows}
 use Rattle.drawn_faults.specs.Suggestions.{help_rows, parting}
-use Rattle.drawn_faults.specs.declared.places.Spot.{Spot}
+use Rattle.drawn_faults.specs.declared.extent.Spot.{Spot}
 
 -- What the error is.
 abbrev pub title : Mode → List ℕ → List ℕ

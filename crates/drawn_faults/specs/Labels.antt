@@ -9,9 +9,8 @@ use Rattle.rustc_parse_format.specs.Faults.{RemoveRawIdent, ReorderFormatParamet
 use Rattle.rustc_parse_format.specs.Faults.{UseRustDebugPrintingMacro}
 use Rattle.drawn_faults.specs.Edits.{offered}
 use Rattle.drawn_faults.specs.Glyphs.{indent}
-use Rattle.drawn_faults.specs.Places.{Picture, seen_picture, extent, line}
+use Rattle.drawn_faults.specs.Places.{Extent, Picture, seen_extent, seen_picture, extent, line}
 use Rattle.drawn_faults.specs.Rows.{Mark}
-use Rattle.drawn_faults.specs.declared.places.Extent.{Extent}
 use Rattle.drawn_faults.specs.declared.labels.Label.{Label as DeclaredLabel}
 use Rattle.drawn_faults.specs.declared.labels.Edit.{Edit as DeclaredEdit}
 use Rattle.drawn_faults.specs.declared.labels.Frame.{Frame as DeclaredFrame}
@@ -24,7 +23,7 @@ pub record Label : Type 0 where
 
 -- A label as a contract sees it.
 abbrev pub seen_label : DeclaredLabel → Label
-seen_label l = record { sign = l.sign; text = l.text.now; extent = l.extent }
+seen_label l = record { sign = l.sign; text = l.text.now; extent = seen_extent l.extent }
 
 -- An edit of a suggestion: the new text, and the place of the text that it replaces.
 pub record Edit : Type 0 where
@@ -33,7 +32,7 @@ pub record Edit : Type 0 where
 
 -- An edit as a contract sees it.
 abbrev pub seen_edit : DeclaredEdit → Edit
-seen_edit e = record { text = e.text.now; extent = e.extent }
+seen_edit e = record { text = e.text.now; extent = seen_extent e.extent }
 
 -- What the compiler calls the text of a literal in a mode.
 abbrev pub text_name : Mode → List ℕ

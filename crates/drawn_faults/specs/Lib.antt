@@ -11,3 +11,7 @@ pub mod Fixing
 pub mod Rounds
 pub mod Losing
 pub mod SeenEdits
+pub mod Marks
+pub mod Helps
+pub mod Diagnostics
+pub mod SeenDiagnostics

@@ -7,8 +7,8 @@ use Rattle.rustc_parse_format.specs.Characters.{Text}
 use Rattle.rustc_parse_format.specs.World.{Place}
 use Rattle.drawn_faults.specs.Glyphs.{width}
 use Rattle.drawn_faults.specs.declared.places.Picture.{Picture as DeclaredPicture}
-use Rattle.drawn_faults.specs.declared.places.Spot.{Spot}
-use Rattle.drawn_faults.specs.declared.places.Extent.{Extent}
+use Rattle.drawn_faults.specs.declared.extent.Spot.{Spot}
+use Rattle.drawn_faults.specs.declared.extent.Extent.{Extent as DeclaredExtent}
 
 -- What a fault is drawn in: the path of the source, its text, the number of its first line, and the
 -- byte offset at which the literal begins.
@@ -72,6 +72,15 @@ spot n t = fold past origin (within n t)
 -- The byte offset in the source of an offset in the literal, or the end of the source.
 abbrev pub offset : Picture → ℕ → ℕ
 offset p n = min (p.literal_start + n) (length p.source)
+
+-- The places at which a range begins and ends.
+pub record Extent : Type 0 where
+  pub start : Spot
+  pub end : Spot
+
+-- Such places as a contract sees them.
+abbrev pub seen_extent : DeclaredExtent → Extent
+seen_extent e = record { start = e.start; end = e.end }
 
 -- Where a range of the literal begins and ends. If it ends before it begins, it is empty.
 unfoldable pub extent : Picture → Place → Extent

@@ -5,7 +5,7 @@ use Rattle.std.specs.Prelude.{max, zero, suc, List, [], ◌∷◌, length, codes
 use Rattle.std.specs.Str.{encode_utf8_all}
 use Rattle.rustc_parse_format.specs.Characters.{Text}
 use Rattle.drawn_faults.specs.Glyphs.{glyph_bytes, run}
-use Rattle.drawn_faults.specs.declared.rows.Mark.{Mark as DeclaredMark}
+use Rattle.drawn_faults.specs.declared.mark.Mark.{Mark as DeclaredMark}
 
 -- A label in one line: the number of the line, counted from 0, the columns that it has, up to the
 -- last one and without it, the sign under these columns, and its text.

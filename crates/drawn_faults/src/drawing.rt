@@ -11,11 +11,12 @@ ghost use Rattle.drawn_faults.specs.Drawing.{arrow, below, drawing, head, labell
 ghost use Rattle.drawn_faults.specs.Drawing.{note_row, parting_before, title};
 ghost use Rattle.drawn_faults.specs.Suggestions.{help_rows};
 
+use crate::extent::Spot;
 use crate::glyphs::{put_glyphs_between, put_run};
 use crate::labels::{Edit, Frame, Label, edit_of, frame_for, mark, second, text_name};
 use crate::lines::{put_decimal, put_labelled, put_two_labels};
 use crate::long::put_long;
-use crate::places::{Picture, Spot};
+use crate::places::Picture;
 use crate::suggestions::{put_edit, put_parting};
 use rustc_parse_format::{ParseError, ParseMode};
 use std::alloc::{AllocError, Global};
@@ -33,7 +34,7 @@ fn put_title(out: &mut String, mode: ParseMode, description: &str) -> Result<(),
 
 /// Adds where the text is that the error is about.
 #[tactic(auto, unfolding(crate::specs::Drawing::arrow))]
-fn put_arrow(out: &mut String, frame: &Frame<'_>, at: Spot) -> Result<(), AllocError>
+pub fn put_arrow(out: &mut String, frame: &Frame<'_>, at: Spot) -> Result<(), AllocError>
     requires line { at.line < 2 ^ 59 }
     requires chars { at.chars < 2 ^ 59 }
     ensures { OnOk result (string_bytes out.new ≡ string_bytes out.old

@@ -36,7 +36,7 @@ fn is_bidi_control(c: char) -> bool
 
 /// Returns the character that is drawn for a character.
 #[tactic(auto, unfolding(crate::specs::Glyphs::glyph))]
-fn glyph(c: char) -> char
+pub fn glyph(c: char) -> char
     ensures { result ≡ glyph c }
 {
     match c {
@@ -52,7 +52,7 @@ fn glyph(c: char) -> char
 
 /// Returns how often the glyph of a character is drawn.
 #[tactic(auto, unfolding(crate::specs::Glyphs::glyph_count))]
-fn glyph_count(c: char) -> usize
+pub fn glyph_count(c: char) -> usize
     ensures value { result ≡ glyph_count c }
     ensures few { result ≤ 4 }
 {

@@ -11,10 +11,11 @@ ghost use Rattle.drawn_faults.specs.Labels.{last_number, least, line_indent, mar
 ghost use Rattle.drawn_faults.specs.Labels.{second, second_text, seen_edit, seen_frame, seen_label};
 ghost use Rattle.drawn_faults.specs.Labels.{text_name};
 
+use crate::extent::Extent;
 use crate::fixes::is_offered;
 use crate::glyphs::indent;
-use crate::places::{Extent, Picture, behind_lines};
-use crate::rows::Mark;
+use crate::mark::Mark;
+use crate::places::{Picture, behind_lines};
 use rustc_parse_format::{ParseError, ParseMode, Suggestion};
 use std::ops::Range;
 
@@ -163,7 +164,7 @@ fn other_line(label: &Label<'_>, second: &Option<Label<'_>>) -> usize
 
 /// Returns the indent of a line of the source, unless it is blank.
 #[tactic(auto, unfolding(crate::specs::Places::line))]
-fn line_indent(picture: &Picture<'_>, number: usize) -> Option<usize>
+pub fn line_indent(picture: &Picture<'_>, number: usize) -> Option<usize>
     requires { length picture.now.source.now < 2 ^ 59 }
     ensures value { result ≡ line_indent (seen_picture picture.now) number }
     ensures small { IfSome result (λ n. n < 2 ^ 62) }
@@ -202,7 +203,7 @@ fn least_indent(picture: &Picture<'_>, number: usize, other: usize) -> usize
 }
 
 /// Returns how many columns are cut of lines with an indent.
-fn cut_of(indent: usize) -> usize
+pub fn cut_of(indent: usize) -> usize
     ensures value { result ≡ cut_of indent }
     ensures less { result ≤ indent }
 {
@@ -260,7 +261,8 @@ pub fn mark<'a>(label: &Label<'a>, cut: usize) -> Mark<'a>
     ensures value { seen_mark result ≡ mark cut (seen_label label.now) }
     ensures line { result.line ≡ label.now.extent.start.line }
 {
-    let Extent { start, end } = label.extent;
+    let start = label.extent.start;
+    let end = label.extent.end;
     let from = start.column.saturating_sub(cut);
     let to = if end.line == start.line {
         end.column.saturating_sub(cut)

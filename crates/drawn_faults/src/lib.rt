@@ -2,22 +2,35 @@
 //! source, as rustc does, and [`fix`] applies the edits that the suggestions of faults have.
 #![tactic(auto)]
 
+mod cells;
+mod diagnostics;
 mod drawing;
+mod extent;
 mod fixes;
 mod glyphs;
+mod hanging;
+mod helps;
 mod labels;
 pub mod laws;
 mod lines;
 mod long;
+mod mark;
+mod marked;
+mod marks;
+mod notes;
+mod order;
 mod places;
 mod printable;
 mod rounds;
 mod rows;
 mod suggestions;
 
+pub use diagnostics::{Diagnostic, Level, SourceLabel, draw_labels, put_labels};
 pub use drawing::{draw, put_drawing};
 pub use fixes::{Edit, Fixed, edits, errors_of};
 pub use glyphs::put_glyphs;
+pub use helps::SourceHelp;
+pub use notes::SourceNote;
 pub use places::Picture;
 pub use printable::{is_ascii_or_as_is, is_drawn_as_is};
 pub use rounds::fix;

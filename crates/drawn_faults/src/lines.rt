@@ -9,8 +9,9 @@ ghost use Rattle.drawn_faults.specs.Lines.{shown, source_row, two_labels};
 
 use crate::glyphs::{draws_nothing, put_glyphs, put_run};
 use crate::labels::{Frame, digits};
+use crate::mark::Mark;
 use crate::places::line;
-use crate::rows::{Mark, put_both, put_one};
+use crate::rows::{put_both, put_one};
 use itoa::Buffer;
 use std::alloc::AllocError;
 
@@ -88,7 +89,7 @@ pub fn put_source(
 }
 
 /// Adds a line of the source.
-fn put_code(out: &mut String, frame: &Frame<'_>, number: usize) -> Result<(), AllocError>
+pub fn put_code(out: &mut String, frame: &Frame<'_>, number: usize) -> Result<(), AllocError>
     requires number { number < 2 ^ 61 }
     requires cut { frame.now.cut < 2 ^ 62 }
     ensures { OnOk result (string_bytes out.new ≡ string_bytes out.old
@@ -113,7 +114,12 @@ pub fn put_labelled(out: &mut String, frame: &Frame<'_>, mark: &Mark<'_>) -> Res
 
 /// Adds what is between two lines with labels.
 #[tactic(auto, unfolding(crate::specs::Lines::gap))]
-fn put_gap(out: &mut String, frame: &Frame<'_>, first: usize, last: usize) -> Result<(), AllocError>
+pub fn put_gap(
+    out: &mut String,
+    frame: &Frame<'_>,
+    first: usize,
+    last: usize,
+) -> Result<(), AllocError>
     requires number { first < 2 ^ 60 }
     requires cut { frame.now.cut < 2 ^ 62 }
     ensures { OnOk result (string_bytes out.new ≡ string_bytes out.old

@@ -6,8 +6,9 @@ ghost use Rattle.std.specs.List.{fold, list_all};
 ghost use Rattle.rustc_parse_format.specs.Seen.{pair};
 ghost use Rattle.drawn_faults.specs.Glyphs.{is_printable};
 ghost use Rattle.drawn_faults.specs.Places.{behind_lines, extent, first_line, line, past};
-ghost use Rattle.drawn_faults.specs.Places.{seen_picture, within};
+ghost use Rattle.drawn_faults.specs.Places.{seen_extent, seen_picture, within};
 
+use crate::extent::{Extent, Spot};
 use crate::glyphs::{split_first, width};
 use crate::printable::split_printable;
 use std::ops::Range;
@@ -25,33 +26,13 @@ pub struct Picture<'a> {
     pub literal_start: usize,
 }
 
-/// A place in a source.
-#[derive(Clone, Copy)]
-pub struct Spot {
-    /// The number of the line, counted from 0.
-    pub line: usize,
-    /// How many characters of the line are before the place.
-    pub chars: usize,
-    /// How many columns these take.
-    pub column: usize,
-    /// Whether these are all white space.
-    pub is_indent: bool,
-}
-
 /// The place at the start of a text.
-const ORIGIN: Spot = Spot {
+pub const ORIGIN: Spot = Spot {
     line: 0,
     chars: 0,
     column: 0,
     is_indent: true,
 };
-
-/// The places at which a range begins and ends.
-#[derive(Clone, Copy)]
-pub struct Extent {
-    pub start: Spot,
-    pub end: Spot,
-}
 
 /// Returns the place behind a character.
 #[tactic(auto, unfolding(crate::specs::Places::past))]
@@ -198,7 +179,7 @@ impl Picture<'_> {
     #[tactic(auto, unfolding(crate::specs::Places::extent))]
     pub(crate) fn extent(&self, range: &Range<usize>) -> Extent
         requires { length self.now.source.now < 2 ^ 59 }
-        ensures value { result ≡ extent (seen_picture self.now) (pair range.now) }
+        ensures value { seen_extent result ≡ extent (seen_picture self.now) (pair range.now) }
         ensures small_line { result.start.line < 2 ^ 59 }
         ensures small_end { result.end.line < 2 ^ 59 }
         ensures small_chars { result.start.chars < 2 ^ 59 }

@@ -70,8 +70,7 @@ fn is_part(part: &[Fault<'_>], whole: &[Fault<'_>]) -> bool
 }
 
 /// Returns how many calls over a text find a fault, or `None` if not all of these faults are old
-/// ones, in their order.
-/// Returns `Err` as `faults_of` does.
+/// ones, in their order. Returns `Err` as `faults_of` does.
 fn count_left(
     alloc: Global,
     old: &[Fault<'_>],

@@ -35,7 +35,12 @@ fn put_help_title(out: &mut String, text: &str) -> Result<(), AllocError>
 
 /// Adds a line of the source without its edit.
 #[tactic(auto, unfolding(crate::specs::Suggestions::old_row))]
-fn put_old(out: &mut String, frame: &Frame<'_>, number: usize, line: &str) -> Result<(), AllocError>
+pub fn put_old(
+    out: &mut String,
+    frame: &Frame<'_>,
+    number: usize,
+    line: &str,
+) -> Result<(), AllocError>
     requires { number < 2 ^ 60 }
     ensures { OnOk result (string_bytes out.new ≡ string_bytes out.old
         ++ old_row (seen_frame frame.now) number line.now) }

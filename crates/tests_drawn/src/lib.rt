@@ -2,7 +2,7 @@
 //!
 //! `short_rows`, `line_rows` and `asm_rows` are the tables, `drawings` draws each row, and
 //! `misfits` has spans that no parser gives, and `harmless` characters that a terminal obeys. In
-//! `memory` an allocation fails.
+//! `memory` an allocation fails. `several` draws diagnostics with several labels.
 #![tactic(auto)]
 
 #[cfg(test)]
@@ -19,5 +19,7 @@ mod memory;
 mod misfits;
 #[cfg(test)]
 mod row;
+#[cfg(test)]
+mod several;
 #[cfg(test)]
 mod short_rows;

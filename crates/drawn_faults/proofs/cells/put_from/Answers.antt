@@ -1,0 +1,19 @@
+use Rattle.std.proofs.Common.{◌∙◌, ap, chars, map, rules, sym}
+use Rattle.drawn_faults.specs.Glyphs.{glyphs}
+use Rattle.drawn_faults.specs.Marks.{cell, cells, put_from}
+use Rattle.drawn_faults.proofs.MarkLemmas.{cells-first}
+use Rattle.drawn_faults.proofs.cells.put_from.Goals as goal
+
+pub loop-c-preserved : goal.loop-c-preserved
+loop-c-preserved c =
+    let l = c.loop-c in
+    let s = c.args.style in
+    let first = c.in-Some in record {
+      is_text = search rules;
+      same = (rw (c.glyph_count.ensures.value, c.glyph-character.ensures)
+          at (c.in_ok-column.ensures (cells s first.tail.now)))
+          ∙ ap (λ cs. put_from l.column cs l.row.items) (sym (cells-first s first.c
+          (chars first.tail.now)))
+          ∙ ap (λ t. put_from l.column (map (cell s) (glyphs t)) l.row.items)
+          (sym first.ensures.parts) ∙ l.invariant.same;
+    }

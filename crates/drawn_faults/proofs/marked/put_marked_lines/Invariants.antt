@@ -1,0 +1,14 @@
+use Rattle.std.proofs.Common.{◌≡◌, ◌++◌, ◌<◌, ◌^◌, IfSome, None, drop, map, string_bytes}
+use Rattle.drawn_faults.specs.Diagnostics.{marked_lines}
+use Rattle.drawn_faults.specs.Labels.{seen_frame}
+use Rattle.drawn_faults.specs.Rows.{seen_mark}
+use Rattle.drawn_faults.proofs.marked.put_marked_lines.Given as goal
+
+-- What is added, and then what is left, is all.
+abbrev pub invariant-loop-index : goal.invariant-loop-index
+invariant-loop-index l = record {
+  same : string_bytes l.out
+      ++ marked_lines (seen_frame l.frame) l.before (map seen_mark (drop l.index l.marks))
+      ≡ string_bytes l.fn.out ++ marked_lines (seen_frame l.frame) None (map seen_mark l.marks);
+  small : IfSome l.before (λ n. n < 2 ^ 59);
+}

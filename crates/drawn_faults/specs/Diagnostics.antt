@@ -1,0 +1,242 @@
+-- The drawing of a diagnostic under its source, as bytes, from top to bottom. The layout is that of
+-- rustc 1.95.
+use Rattle.std.specs.Prelude.{ℕ, ◌+◌, ◌++◌, ◌==◌, ◌&&◌, ◌||◌, Bool, true, false, not}
+use Rattle.std.specs.Prelude.{if◌then◌else◌, max, nat_lt}
+use Rattle.std.specs.Prelude.{min, List, [], ◌∷◌, map, filter, length, Option, Some, None}
+use Rattle.std.specs.Prelude.{unwrap_or}
+use Rattle.std.specs.Prelude.{codes, decimal, chars}
+use Rattle.std.specs.Option.{option_map_or}
+use Rattle.rustc_parse_format.specs.Characters.{Text}
+use Rattle.rustc_parse_format.specs.World.{Place}
+use Rattle.drawn_faults.specs.Drawing.{arrow}
+use Rattle.drawn_faults.specs.Glyphs.{glyph, glyph_bytes, glyph_count, run}
+use Rattle.drawn_faults.specs.Helps.{edits_rows}
+use Rattle.drawn_faults.specs.Labels.{Edit, Frame, Label, cut_of, line_indent, mark}
+use Rattle.drawn_faults.specs.Lines.{code_row, gap}
+use Rattle.drawn_faults.specs.Long.{long_rows}
+use Rattle.drawn_faults.specs.Marks.{is_right_of, mark_rows, sorted}
+use Rattle.drawn_faults.specs.Places.{Picture, extent, origin}
+use Rattle.drawn_faults.specs.Rows.{Mark}
+use Rattle.drawn_faults.specs.Suggestions.{parting}
+use Rattle.drawn_faults.specs.declared.extent.Spot.{Spot}
+
+-- A label: its range, whether the diagnostic is about that range, and its text.
+pub record SourceLabel : Type 0 where
+  pub span : Place
+  pub is_primary : Bool
+  pub text : List ℕ
+
+-- A note, and the ranges that it shows.
+pub record Note : Type 0 where
+  pub text : List ℕ
+  pub spans : List Place
+
+-- An edit: the range that it replaces, and the new text.
+pub record SourceEdit : Type 0 where
+  pub span : Place
+  pub text : List ℕ
+
+-- A help, and its edits.
+pub record Help : Type 0 where
+  pub text : List ℕ
+  pub edits : List SourceEdit
+
+-- What is drawn.
+pub record Diagnostic : Type 0 where
+  pub is_warning : Bool
+  pub title : List ℕ
+  pub labels : List SourceLabel
+  pub notes : List Note
+  pub helps : List Help
+
+-- A label with its place in the source.
+abbrev pub label_of : Picture → SourceLabel → Label
+label_of p l = record {
+  sign = if l.is_primary then 94 else 45;
+  text = l.text;
+  extent = extent p l.span;
+}
+
+-- The label of a range that a note shows.
+abbrev pub shown_label : Picture → Place → Label
+shown_label p s = record { sign = 94; text = []; extent = extent p s }
+
+-- An edit with its place in the source.
+abbrev pub placed_edit : Picture → SourceEdit → Edit
+placed_edit p e = record { text = e.text; extent = extent p e.span }
+
+-- The last line in which one of these labels ends, or `n` if that is further down.
+abbrev pub last_label_line : ℕ → List Label → ℕ
+last_label_line n [] = n
+last_label_line n (l ∷ ls) = last_label_line (max n l.extent.end.line) ls
+
+-- The last line in which one of these edits ends, or `n`.
+abbrev pub last_edit_line : ℕ → List Edit → ℕ
+last_edit_line n [] = n
+last_edit_line n (e ∷ es) = last_edit_line (max n e.extent.end.line) es
+
+-- The last line that a note shows, or `n`.
+abbrev pub last_note_line : Picture → ℕ → List Note → ℕ
+last_note_line p n [] = n
+last_note_line p n (t ∷ ts) =
+    last_note_line p (last_label_line n (map (shown_label p) t.spans)) ts
+
+-- The last line that a help edits, or `n`.
+abbrev pub last_help_line : Picture → ℕ → List Help → ℕ
+last_help_line p n [] = n
+last_help_line p n (h ∷ hs) = last_help_line p (last_edit_line n (map (placed_edit p) h.edits)) hs
+
+-- The last line of a diagnostic.
+abbrev pub last_line_of : Picture → Diagnostic → ℕ
+last_line_of p d =
+    last_help_line p
+    (last_note_line p (last_label_line 0 (map (label_of p) d.labels)) d.notes) d.helps
+
+-- The lower of two indents, of which a blank line has none.
+abbrev pub lower : Option ℕ → Option ℕ → Option ℕ
+lower None n = n
+lower (Some m) None = Some m
+lower (Some m) (Some n) = Some (min m n)
+
+-- The lowest indent of the lines in which these labels begin and end, and of `o`.
+abbrev pub lowest : Picture → Option ℕ → List Label → Option ℕ
+lowest p o [] = o
+lowest p o (l ∷ ls) =
+    lowest p (lower (lower o (line_indent p l.extent.start.line))
+    (line_indent p l.extent.end.line)) ls
+
+-- The layout of labels.
+unfoldable pub frame_of : Picture → ℕ → List Label → Frame
+frame_of p gutter ls = record {
+  picture = p;
+  gutter = gutter;
+  cut = cut_of (unwrap_or (lowest p None ls) 0);
+}
+
+-- The place s is in a line above t, or in front of it in the same line.
+abbrev pub is_before : Spot → Spot → Bool
+is_before s t = nat_lt s.line t.line || ((s.line == t.line) && nat_lt s.chars t.chars)
+
+-- The place at which a label begins, if it is primary and that is in front of the one found before.
+abbrev pub earlier : Option Spot → Label → Option Spot
+earlier found l =
+    if (l.sign == 94) && option_map_or (is_before l.extent.start) found true
+    then Some l.extent.start else found
+
+-- The first place at which a primary one of these labels begins, or the one found before.
+abbrev pub first_of : Option Spot → List Label → Option Spot
+first_of found [] = found
+first_of found (l ∷ ls) = first_of (earlier found l) ls
+
+-- The first place at which a primary one of these labels begins, or the start of the source.
+abbrev pub first_spot : List Label → Spot
+first_spot ls = unwrap_or (first_of None ls) origin
+
+-- The labels that begin in the line n.
+abbrev pub in_line : ℕ → List Mark → List Mark
+in_line n ms = filter (λ m. m.line == n) ms
+
+-- What is between a line that was drawn, if there is one, and the next one.
+abbrev pub gap_behind : Frame → Option ℕ → ℕ → List ℕ
+gap_behind f None n = []
+gap_behind f (Some m) n = gap f m n
+
+-- A line and the rows under it.
+abbrev pub line_rows : Frame → ℕ → List Mark → List ℕ
+line_rows f n ms = code_row f n ++ mark_rows f.gutter (in_line n ms)
+
+-- The line n with these labels, unless it was drawn before.
+abbrev pub next_line : Frame → Option ℕ → ℕ → List Mark → List ℕ
+next_line f before n ms =
+    if option_map_or (λ m. m == n) before false then []
+    else gap_behind f before n ++ line_rows f n ms
+
+-- The lines of these labels, which are sorted, behind the line that was drawn before.
+abbrev pub marked_lines : Frame → Option ℕ → List Mark → List ℕ
+marked_lines f before [] = []
+marked_lines f before (m ∷ ms) =
+    next_line f before m.line (m ∷ ms) ++ marked_lines f (Some m.line) ms
+
+-- The lines of these labels, each in the line in which it begins.
+abbrev pub each_in_line : Frame → List Label → List ℕ
+each_in_line f ls = marked_lines f None (sorted is_right_of [] (map (mark f.cut) ls))
+
+-- The lines of a label that is alone. One over several lines is drawn so.
+abbrev pub single_rows : Frame → Label → List ℕ
+single_rows f l = if l.extent.start.line == l.extent.end.line then each_in_line f (l ∷ [])
+    else long_rows f l
+
+-- The lines of these labels.
+abbrev pub labels_rows : Frame → List Label → List ℕ
+labels_rows f [] = each_in_line f []
+labels_rows f (l ∷ []) = single_rows f l
+labels_rows f (l ∷ k ∷ ls) = each_in_line f (l ∷ k ∷ ls)
+
+-- A title behind a word, and the labels under it.
+unfoldable pub titled : Frame → List ℕ → List ℕ → List Label → List ℕ
+titled f word title ls =
+    word ++ (glyph_bytes title ++ (codes "\n"
+    ++ (arrow f (first_spot ls) ++ (parting f ++ labels_rows f ls))))
+
+-- What is behind a character of a note: after a line feed the margin of the next line.
+abbrev pub margin : ℕ → ℕ → List ℕ
+margin gutter c = if c == 10 then run gutter 32 ++ codes "         " else []
+
+-- A text whose lines but the first one begin with a margin.
+abbrev pub indented : ℕ → Text → List ℕ
+indented gutter [] = []
+indented gutter (c ∷ t) =
+    run (glyph_count c) (glyph c) ++ (margin gutter c ++ indented gutter t)
+
+-- A note that shows nothing.
+abbrev pub plain_note : ℕ → List ℕ → List ℕ
+plain_note gutter t =
+    run gutter 32 ++ (codes " = note: " ++ (indented gutter (chars t) ++ codes "\n"))
+
+-- A note that shows these labels.
+abbrev pub shown_note : Picture → ℕ → List ℕ → List Label → List ℕ
+shown_note p gutter t [] = plain_note gutter t
+shown_note p gutter t (l ∷ ls) = titled (frame_of p gutter (l ∷ ls)) (codes "note: ") t (l ∷ ls)
+
+-- The notes.
+abbrev pub notes_rows : Picture → ℕ → List Note → List ℕ
+notes_rows p gutter [] = []
+notes_rows p gutter (n ∷ ns) =
+    shown_note p gutter n.text (map (shown_label p) n.spans) ++ notes_rows p gutter ns
+
+-- A help and its edits.
+abbrev pub help_rows : Frame → Help → List ℕ
+help_rows f h =
+    codes "help: " ++ (glyph_bytes h.text ++ (codes "\n"
+    ++ edits_rows f (map (placed_edit f.picture) h.edits)))
+
+-- The helps.
+abbrev pub helps_rows : Frame → List Help → List ℕ
+helps_rows f [] = []
+helps_rows f (h ∷ hs) = help_rows f h ++ helps_rows f hs
+
+-- The row between the labels and what is below them, if there is anything.
+abbrev pub parting_above : Frame → Diagnostic → List ℕ
+parting_above f d =
+    if (length d.notes == 0) && (length d.helps == 0) then [] else parting f
+
+-- The word that a title begins with.
+abbrev pub level_word : Bool → List ℕ
+level_word is_warning = if is_warning then codes "warning: " else codes "error: "
+
+-- The drawing of a diagnostic with these labels in a layout. It ends in an empty line.
+unfoldable pub drawn_in : Frame → Diagnostic → List Label → List ℕ
+drawn_in f d ls =
+    titled f (level_word d.is_warning) d.title ls
+    ++ (parting_above f d
+    ++ (notes_rows f.picture f.gutter d.notes ++ (helps_rows f d.helps ++ codes "\n")))
+
+-- The columns of the numbers of the lines of a diagnostic.
+abbrev pub gutter_of : Picture → Diagnostic → ℕ
+gutter_of p d = length (decimal (p.line_start + last_line_of p d))
+
+-- The whole text.
+unfoldable pub diagnostic_text : Picture → Diagnostic → List ℕ
+diagnostic_text p d =
+    let ls = map (label_of p) d.labels in
+    drawn_in (frame_of p (gutter_of p d) ls) d ls

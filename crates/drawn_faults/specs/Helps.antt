@@ -1,0 +1,72 @@
+-- Helps with edits in one line: the new line with signs under what is inserted, or the old and the
+-- new line where something is replaced or removed.
+use Rattle.std.specs.Prelude.{ℕ, ◌+◌, ◌-◌, ◌++◌, ◌==◌, ◌&&◌, Bool, if◌then◌else◌, List, [], ◌∷◌}
+use Rattle.std.specs.Prelude.{chars, codes, drop, false, map, take}
+use Rattle.std.specs.List.{list_all}
+use Rattle.std.specs.Str.{encode_utf8_all}
+use Rattle.rustc_parse_format.specs.Characters.{Text}
+use Rattle.rustc_parse_format.specs.World.{Place}
+use Rattle.drawn_faults.specs.Glyphs.{glyph_bytes, glyphs, run, width}
+use Rattle.drawn_faults.specs.Labels.{Edit, Frame}
+use Rattle.drawn_faults.specs.Lines.{numbered}
+use Rattle.drawn_faults.specs.Places.{Picture, extent, line}
+use Rattle.drawn_faults.specs.Rows.{under}
+use Rattle.drawn_faults.specs.Suggestions.{old_row, parting}
+
+-- The edits are all in the line n.
+abbrev pub are_in_line : ℕ → List Edit → Bool
+are_in_line n es = list_all (λ e. (e.extent.start.line == n) && (e.extent.end.line == n)) es
+
+-- The edits only insert something.
+abbrev pub are_insertions : List Edit → Bool
+are_insertions es = list_all (λ e. e.extent.start.chars == e.extent.end.chars) es
+
+-- What edits in a line, from left to right, make of what is left of it behind its first n
+-- characters.
+abbrev pub edited_from : ℕ → List Edit → Text → List ℕ
+edited_from n [] t = encode_utf8_all (glyphs t)
+edited_from n (e ∷ es) t =
+    encode_utf8_all (glyphs (take (e.extent.start.chars - n) t))
+    ++ (glyph_bytes e.text ++ edited_from e.extent.end.chars es (drop (e.extent.end.chars - n) t))
+
+-- How many columns a text takes.
+abbrev pub columns_of : ℕ → Text → ℕ
+columns_of n [] = n
+columns_of n (c ∷ t) = columns_of (n + width c) t
+
+-- The signs under what these edits insert, behind the column n of the line as it was.
+abbrev pub pluses : ℕ → List Edit → List ℕ
+pluses n [] = []
+pluses n (e ∷ es) =
+    run (e.extent.start.column - n) 32
+    ++ (run (columns_of 0 (chars e.text)) 43 ++ pluses e.extent.start.column es)
+
+-- The line n with edits.
+abbrev pub new_line : Frame → ℕ → List Edit → List ℕ
+new_line f n es = edited_from 0 es (chars (line n f.picture.source))
+
+-- The rows of insertions in the line n.
+unfoldable pub inserted_rows : Frame → ℕ → List Edit → List ℕ
+inserted_rows f n es =
+    parting f
+    ++ (numbered f n ++ (codes " | " ++ (new_line f n es ++ (codes "\n"
+    ++ under f.gutter (pluses 0 es)))))
+
+-- The rows of other edits in the line n.
+unfoldable pub replaced_rows : Frame → ℕ → List Edit → List ℕ
+replaced_rows f n es =
+    parting f
+    ++ (old_row f n (line n f.picture.source)
+    ++ (numbered f n ++ (codes " + " ++ (new_line f n es ++ (codes "\n" ++ parting f)))))
+
+-- The rows of edits that are all in the line n. Of others none is shown.
+abbrev pub rows_in_line : Frame → ℕ → List Edit → List ℕ
+rows_in_line f n es =
+    if are_in_line n es then
+    (if are_insertions es then inserted_rows f n es else replaced_rows f n es)
+    else []
+
+-- The rows of edits.
+abbrev pub edits_rows : Frame → List Edit → List ℕ
+edits_rows f [] = []
+edits_rows f (e ∷ es) = rows_in_line f e.extent.start.line (e ∷ es)

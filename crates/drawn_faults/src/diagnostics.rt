@@ -1,0 +1,228 @@
+//! The drawing of a diagnostic under its source: a title, several labels, notes and helps. What
+//! begins with `put_` appends to `out`, and returns `Err` if an allocation fails.
+
+ghost use Rattle.std.specs.Prelude.{◌≡◌, ◌++◌, ◌<◌, ◌^◌, IfOk, OnOk, length, map, string_bytes};
+ghost use Rattle.drawn_faults.specs.Diagnostics.{diagnostic_text, drawn_in, gutter_of, label_of};
+ghost use Rattle.drawn_faults.specs.Diagnostics.{level_word, parting_above};
+ghost use Rattle.drawn_faults.specs.Glyphs.{IsHarmless};
+ghost use Rattle.drawn_faults.specs.Labels.{seen_frame, seen_label};
+ghost use Rattle.drawn_faults.specs.Places.{seen_picture};
+ghost use Rattle.drawn_faults.specs.SeenDiagnostics.{is_warning, seen_diagnostic};
+ghost use Rattle.drawn_faults.specs.SeenDiagnostics.{seen_source_label};
+
+use crate::helps::{SourceHelp, last_help_line, put_helps};
+use crate::labels::{Frame, Label, digits};
+use crate::marked::{frame_of, last_label_line};
+use crate::notes::{SourceNote, last_note_line, put_notes, put_titled};
+use crate::places::Picture;
+use crate::suggestions::put_parting;
+use std::alloc::{AllocError, Global};
+use std::ops::Range;
+
+/// How bad it is what a diagnostic says.
+#[derive(Clone, Copy, Debug, Eq, PartialEq)]
+pub enum Level {
+    /// Nothing can be compiled.
+    Error,
+    /// Something is to be looked at.
+    Warning,
+}
+
+/// A label of a range of the source.
+#[derive(Clone, Debug, Eq, PartialEq, Drop)]
+pub struct SourceLabel<'a> {
+    /// The range.
+    pub span: Range<usize>,
+    /// Whether the diagnostic is about this range: its sign is `^`, and that of the others `-`.
+    pub is_primary: bool,
+    /// Its text, which may be empty.
+    pub text: &'a str,
+}
+
+/// What is drawn under a source.
+#[derive(Clone, Copy, Debug, Drop)]
+pub struct Diagnostic<'a> {
+    /// Whether it is an error or a warning.
+    pub level: Level,
+    /// What it says.
+    pub title: &'a str,
+    /// The labels, in any order.
+    pub labels: &'a [SourceLabel<'a>],
+    /// The notes.
+    pub notes: &'a [SourceNote<'a>],
+    /// The helps.
+    pub helps: &'a [SourceHelp<'a>],
+}
+
+/// Returns a label with its place in the source.
+fn label_of<'a>(picture: &Picture<'_>, label: &SourceLabel<'a>) -> Label<'a>
+    requires { length picture.now.source.now < 2 ^ 59 }
+    ensures { seen_label result
+        ≡ label_of (seen_picture picture.now) (seen_source_label label.now) }
+{
+    Label {
+        sign: if label.is_primary { '^' } else { '-' },
+        text: label.text,
+        extent: picture.extent(&label.span),
+    }
+}
+
+/// Returns labels with their places in the source. Returns `Err` if an allocation fails.
+fn labels_of<'a>(
+    alloc: Global,
+    picture: &Picture<'_>,
+    labels: &[SourceLabel<'a>],
+) -> Result<Vec<Label<'a>>, AllocError>
+    requires { length picture.now.source.now < 2 ^ 59 }
+    ensures { IfOk result (λ v. map seen_label v.items
+        ≡ map (label_of (seen_picture picture.now)) (map seen_source_label labels.now)) }
+{
+    let mut list = Vec::new(alloc);
+    for label in labels {
+        list.push(label_of(picture, label))?;
+    }
+    Ok(list)
+}
+
+/// Returns the columns of the numbers of the lines of a diagnostic with these labels. Returns `Err`
+/// if an allocation fails.
+fn gutter_of(
+    alloc: Global,
+    picture: &Picture<'_>,
+    diagnostic: &Diagnostic<'_>,
+    labels: &[Label<'_>],
+) -> Result<usize, AllocError>
+    requires source { length picture.now.source.now < 2 ^ 59 }
+    requires labels { map seen_label labels.now ≡ map (label_of (seen_picture picture.now))
+        (seen_diagnostic diagnostic.now).labels }
+    ensures { IfOk result (λ n. n
+        ≡ gutter_of (seen_picture picture.now) (seen_diagnostic diagnostic.now)) }
+{
+    let last = last_label_line(0, labels);
+    let last = last_note_line(alloc, picture, last, diagnostic.notes)?;
+    let last = last_help_line(alloc, picture, last, diagnostic.helps)?;
+    Ok(digits(picture.line_start as usize + last))
+}
+
+/// Adds the row between the labels and what is below them, if there is anything.
+fn put_parting_above(
+    out: &mut String,
+    frame: &Frame<'_>,
+    diagnostic: &Diagnostic<'_>,
+) -> Result<(), AllocError>
+    ensures { OnOk result (string_bytes out.new ≡ string_bytes out.old
+        ++ parting_above (seen_frame frame.now) (seen_diagnostic diagnostic.now)) }
+{
+    if diagnostic.notes.is_empty() && diagnostic.helps.is_empty() {
+        return Ok(());
+    }
+    put_parting(out, frame)?;
+    Ok(())
+}
+
+/// Returns the word that a title begins with.
+fn level_word(level: Level) -> &'static str
+    ensures { result.now ≡ level_word (is_warning level) }
+{
+    match level {
+        Level::Error => "error: ",
+        Level::Warning => "warning: ",
+    }
+}
+
+/// Adds the drawing of a diagnostic with these labels in a layout.
+#[tactic(auto, unfolding(crate::specs::Diagnostics::drawn_in))]
+fn put_drawn(
+    out: &mut String,
+    frame: &Frame<'_>,
+    diagnostic: &Diagnostic<'_>,
+    labels: &[Label<'_>],
+) -> Result<(), AllocError>
+    requires source { length frame.now.picture.now.source.now < 2 ^ 59 }
+    requires cut { frame.now.cut < 2 ^ 62 }
+    ensures { OnOk result (string_bytes out.new ≡ string_bytes out.old
+        ++ drawn_in (seen_frame frame.now) (seen_diagnostic diagnostic.now)
+        (map seen_label labels.now)) }
+{
+    put_titled(
+        out,
+        frame,
+        level_word(diagnostic.level),
+        diagnostic.title,
+        labels,
+    )?;
+    put_parting_above(out, frame, diagnostic)?;
+    put_notes(out, frame.picture, frame.gutter, diagnostic.notes)?;
+    put_helps(out, frame, diagnostic.helps)?;
+    out.push_str("\n")?;
+    Ok(())
+}
+
+/// Adds the drawing of a diagnostic.
+#[tactic(auto, unfolding(crate::specs::Diagnostics::diagnostic_text))]
+fn put_diagnostic(
+    out: &mut String,
+    picture: &Picture<'_>,
+    diagnostic: &Diagnostic<'_>,
+) -> Result<(), AllocError>
+    requires { length picture.now.source.now < 2 ^ 59 }
+    ensures { OnOk result (string_bytes out.new ≡ string_bytes out.old
+        ++ diagnostic_text (seen_picture picture.now) (seen_diagnostic diagnostic.now)) }
+{
+    let alloc = *out.allocator();
+    let labels = labels_of(alloc, picture, diagnostic.labels)?;
+    let gutter = gutter_of(alloc, picture, diagnostic, &labels)?;
+    let frame = frame_of(picture, gutter, &labels);
+    put_drawn(out, &frame, diagnostic, &labels)?;
+    Ok(())
+}
+
+/// Returns the text that shows a diagnostic under its source, as rustc 1.95 draws it without
+/// colours. Its ranges are byte ranges of the source that count from `literal_start` of the picture
+/// on, as the spans of an error do.
+///
+/// From top to bottom: what it says; the path, and the line and column at which the first primary
+/// label in the source begins, or the source without one; the lines in which labels begin, each
+/// with its number and the signs of its labels under it; the notes; the helps; an empty line. A text
+/// of a label stands right of its signs, or hangs from a bar where there is no room. Between lines
+/// with labels there is the line between them, or `...` for several. A label over several lines is
+/// drawn so if it is the only one, and else has one sign where it begins. Edits of a help are shown
+/// if they are all in one line and from left to right: those that only insert something by the new
+/// line with the sign `+` under what is new, others by the old and the new line.
+///
+/// The widths of characters and the spans that do not fit are those of [`draw`](crate::draw). It
+/// takes the square of the number of labels in a line, and has as many rows there. Returns `Err` if
+/// an allocation fails, or if the source has 2^59 bytes or more.
+pub fn draw_labels(
+    alloc: Global,
+    picture: &Picture<'_>,
+    diagnostic: &Diagnostic<'_>,
+) -> Result<String, AllocError>
+    ensures drawn { IfOk result (λ s. string_bytes s
+        ≡ diagnostic_text (seen_picture picture.now) (seen_diagnostic diagnostic.now)) }
+    ensures harmless { IfOk result (λ s. IsHarmless (string_bytes s)) }
+{
+    let mut out = String::new(alloc);
+    put_labels(&mut out, picture, diagnostic)?;
+    Ok(out)
+}
+
+/// Appends the text that [`draw_labels`] returns to `out`. Returns `Err` if an allocation fails, or
+/// if the source has 2^59 bytes or more; a part of the text may then be in `out`.
+#[tactic(auto, using(crate::proofs::HarmlessDiagnostics::harmless_diagnostic))]
+pub fn put_labels(
+    out: &mut String,
+    picture: &Picture<'_>,
+    diagnostic: &Diagnostic<'_>,
+) -> Result<(), AllocError>
+    ensures drawn { OnOk result (string_bytes out.new ≡ string_bytes out.old
+        ++ diagnostic_text (seen_picture picture.now) (seen_diagnostic diagnostic.now)) }
+    ensures harmless { IsHarmless
+        (diagnostic_text (seen_picture picture.now) (seen_diagnostic diagnostic.now)) }
+{
+    if picture.source.len() >= 1 << 59 {
+        return Err(AllocError);
+    }
+    put_diagnostic(out, picture, diagnostic)?;
+    Ok(())
+}

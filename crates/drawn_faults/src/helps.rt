@@ -1,0 +1,265 @@
+//! Helps of a diagnostic, and their edits in one line. What begins with `put_` appends to `out`,
+//! and returns `Err` if an allocation fails.
+
+ghost use Rattle.std.specs.Prelude.{◌≡◌, ◌++◌, ◌<◌, ◌^◌, IfOk, OnOk, chars, length, map};
+ghost use Rattle.std.specs.Prelude.{string_bytes};
+ghost use Rattle.drawn_faults.specs.Diagnostics.{help_rows, helps_rows, last_help_line};
+ghost use Rattle.drawn_faults.specs.Diagnostics.{placed_edit};
+ghost use Rattle.drawn_faults.specs.Helps.{are_in_line, are_insertions, columns_of, edited_from};
+ghost use Rattle.drawn_faults.specs.Helps.{edits_rows, inserted_rows, pluses, replaced_rows};
+ghost use Rattle.drawn_faults.specs.Helps.{rows_in_line};
+ghost use Rattle.drawn_faults.specs.Labels.{seen_edit, seen_frame};
+ghost use Rattle.drawn_faults.specs.Places.{seen_picture};
+ghost use Rattle.drawn_faults.specs.Rows.{under};
+ghost use Rattle.drawn_faults.specs.SeenDiagnostics.{seen_help, seen_source_edit};
+
+use crate::fixes::Edit as SourceEdit;
+use crate::glyphs::{
+    behind_chars, put_front, put_glyphs, put_glyphs_between, put_run, split_first, width,
+};
+use crate::labels::{Edit, Frame};
+use crate::lines::put_line_number;
+use crate::marked::last_edit_line;
+use crate::places::{Picture, line};
+use crate::rows::put_gutter;
+use crate::suggestions::{put_old, put_parting};
+use std::alloc::{AllocError, Global};
+
+/// A help of a diagnostic.
+#[derive(Clone, Copy, Debug, Drop)]
+pub struct SourceHelp<'a> {
+    /// What to do.
+    pub text: &'a str,
+    /// The edits that do it, from left to right. They are shown if all are in one line.
+    pub edits: &'a [SourceEdit<'a>],
+}
+
+/// Returns whether edits are all in a line.
+fn are_in_line(number: usize, edits: &[Edit<'_>]) -> bool
+    ensures { result ≡ are_in_line number (map seen_edit edits.now) }
+{
+    for edit in edits {
+        if edit.extent.start.line != number || edit.extent.end.line != number {
+            return false;
+        }
+    }
+    true
+}
+
+/// Returns whether edits only insert something.
+fn are_insertions(edits: &[Edit<'_>]) -> bool
+    ensures { result ≡ are_insertions (map seen_edit edits.now) }
+{
+    for edit in edits {
+        if edit.extent.start.chars != edit.extent.end.chars {
+            return false;
+        }
+    }
+    true
+}
+
+/// Adds what edits in a line, from left to right, make of it.
+fn put_edited(out: &mut String, line: &str, edits: &[Edit<'_>]) -> Result<(), AllocError>
+    ensures { OnOk result (string_bytes out.new ≡ string_bytes out.old
+        ++ edited_from 0 (map seen_edit edits.now) (chars line.now)) }
+{
+    let mut passed = 0;
+    let mut behind = line;
+    for edit in edits {
+        put_front(out, behind, edit.extent.start.chars.saturating_sub(passed))?;
+        put_glyphs(out, edit.text, 0)?;
+        behind = behind_chars(behind, edit.extent.end.chars.saturating_sub(passed));
+        passed = edit.extent.end.chars;
+    }
+    put_glyphs(out, behind, 0)?;
+    Ok(())
+}
+
+/// Returns how many columns a text takes. Returns `Err` if it is too long for memory.
+fn columns_of(text: &str) -> Result<usize, AllocError>
+    ensures { IfOk result (λ n. n ≡ columns_of 0 (chars text.now)) }
+{
+    if text.len() >= 1 << 59 {
+        return Err(AllocError);
+    }
+    let mut columns = 0;
+    let mut rest = text;
+    while let Some((c, tail)) = split_first(rest) {
+        columns += width(c);
+        rest = tail;
+    }
+    Ok(columns)
+}
+
+/// Adds the signs under what edits insert.
+fn put_pluses(out: &mut String, edits: &[Edit<'_>]) -> Result<(), AllocError>
+    ensures { OnOk result (string_bytes out.new
+        ≡ string_bytes out.old ++ pluses 0 (map seen_edit edits.now)) }
+{
+    let mut column = 0;
+    for edit in edits {
+        put_run(out, ' ', edit.extent.start.column.saturating_sub(column))?;
+        put_run(out, '+', columns_of(edit.text)?)?;
+        column = edit.extent.start.column;
+    }
+    Ok(())
+}
+
+/// Adds the row of these signs.
+fn put_plus_row(out: &mut String, gutter: usize, edits: &[Edit<'_>]) -> Result<(), AllocError>
+    ensures { OnOk result (string_bytes out.new
+        ≡ string_bytes out.old ++ under gutter (pluses 0 (map seen_edit edits.now))) }
+{
+    put_gutter(out, gutter)?;
+    put_pluses(out, edits)?;
+    out.push_str("\n")?;
+    Ok(())
+}
+
+/// Adds the rows of insertions in a line.
+#[tactic(auto, unfolding(crate::specs::Helps::inserted_rows))]
+fn put_inserted(
+    out: &mut String,
+    frame: &Frame<'_>,
+    number: usize,
+    edits: &[Edit<'_>],
+) -> Result<(), AllocError>
+    requires { number < 2 ^ 59 }
+    ensures { OnOk result (string_bytes out.new ≡ string_bytes out.old
+        ++ inserted_rows (seen_frame frame.now) number (map seen_edit edits.now)) }
+{
+    put_parting(out, frame)?;
+    put_line_number(out, frame, number)?;
+    out.push_str(" | ")?;
+    put_edited(out, line(frame.picture.source, number), edits)?;
+    out.push_str("\n")?;
+    put_plus_row(out, frame.gutter, edits)?;
+    Ok(())
+}
+
+/// Adds the rows of other edits in a line.
+#[tactic(auto, unfolding(crate::specs::Helps::replaced_rows))]
+fn put_replaced(
+    out: &mut String,
+    frame: &Frame<'_>,
+    number: usize,
+    edits: &[Edit<'_>],
+) -> Result<(), AllocError>
+    requires { number < 2 ^ 59 }
+    ensures { OnOk result (string_bytes out.new ≡ string_bytes out.old
+        ++ replaced_rows (seen_frame frame.now) number (map seen_edit edits.now)) }
+{
+    put_parting(out, frame)?;
+    let old = line(frame.picture.source, number);
+    put_old(out, frame, number, old)?;
+    put_line_number(out, frame, number)?;
+    out.push_str(" + ")?;
+    put_edited(out, old, edits)?;
+    out.push_str("\n")?;
+    put_parting(out, frame)?;
+    Ok(())
+}
+
+/// Adds the rows of edits, if all are in a line.
+fn put_in_line(
+    out: &mut String,
+    frame: &Frame<'_>,
+    number: usize,
+    edits: &[Edit<'_>],
+) -> Result<(), AllocError>
+    requires { number < 2 ^ 59 }
+    ensures { OnOk result (string_bytes out.new ≡ string_bytes out.old
+        ++ rows_in_line (seen_frame frame.now) number (map seen_edit edits.now)) }
+{
+    if !are_in_line(number, edits) {
+        return Ok(());
+    }
+    if are_insertions(edits) {
+        put_inserted(out, frame, number, edits)?;
+    } else {
+        put_replaced(out, frame, number, edits)?;
+    }
+    Ok(())
+}
+
+/// Adds the rows of edits.
+pub fn put_edits(out: &mut String, frame: &Frame<'_>, edits: &[Edit<'_>]) -> Result<(), AllocError>
+    ensures { OnOk result (string_bytes out.new ≡ string_bytes out.old
+        ++ edits_rows (seen_frame frame.now) (map seen_edit edits.now)) }
+{
+    match edits {
+        [] => {}
+        [first, ..] => put_in_line(out, frame, first.extent.start.line, edits)?,
+    }
+    Ok(())
+}
+
+/// Returns edits with their places in the source. Returns `Err` if an allocation fails.
+fn placed_edits<'a>(
+    alloc: Global,
+    picture: &Picture<'_>,
+    edits: &[SourceEdit<'a>],
+) -> Result<Vec<Edit<'a>>, AllocError>
+    requires { length picture.now.source.now < 2 ^ 59 }
+    ensures { IfOk result (λ v. map seen_edit v.items
+        ≡ map (placed_edit (seen_picture picture.now)) (map seen_source_edit edits.now)) }
+{
+    let mut list = Vec::new(alloc);
+    for edit in edits {
+        list.push(Edit {
+            text: edit.text,
+            extent: picture.extent(&edit.span),
+        })?;
+    }
+    Ok(list)
+}
+
+/// Returns the last line that helps edit, or `last` if that is further down. Returns `Err` if an
+/// allocation fails.
+pub fn last_help_line(
+    alloc: Global,
+    picture: &Picture<'_>,
+    last: usize,
+    helps: &[SourceHelp<'_>],
+) -> Result<usize, AllocError>
+    requires source { length picture.now.source.now < 2 ^ 59 }
+    requires small { last < 2 ^ 59 }
+    ensures value { IfOk result (λ n. n
+        ≡ last_help_line (seen_picture picture.now) last (map seen_help helps.now)) }
+    ensures small { IfOk result (λ n. n < 2 ^ 59) }
+{
+    let mut line = last;
+    for help in helps {
+        let edits = placed_edits(alloc, picture, help.edits)?;
+        line = last_edit_line(line, &edits);
+    }
+    Ok(line)
+}
+
+/// Adds a help and its edits.
+fn put_help(out: &mut String, frame: &Frame<'_>, help: &SourceHelp<'_>) -> Result<(), AllocError>
+    requires { length frame.now.picture.now.source.now < 2 ^ 59 }
+    ensures { OnOk result (string_bytes out.new ≡ string_bytes out.old
+        ++ help_rows (seen_frame frame.now) (seen_help help.now)) }
+{
+    put_glyphs_between(out, "help: ", help.text, "\n")?;
+    let edits = placed_edits(*out.allocator(), frame.picture, help.edits)?;
+    put_edits(out, frame, &edits)?;
+    Ok(())
+}
+
+/// Adds helps.
+pub fn put_helps(
+    out: &mut String,
+    frame: &Frame<'_>,
+    helps: &[SourceHelp<'_>],
+) -> Result<(), AllocError>
+    requires { length frame.now.picture.now.source.now < 2 ^ 59 }
+    ensures { OnOk result (string_bytes out.new ≡ string_bytes out.old
+        ++ helps_rows (seen_frame frame.now) (map seen_help helps.now)) }
+{
+    for help in helps {
+        put_help(out, frame, help)?;
+    }
+    Ok(())
+}

@@ -1,0 +1,170 @@
+//! Notes of a diagnostic, and labels under a title. What begins with `put_` appends to `out`, and
+//! returns `Err` if an allocation fails.
+
+ghost use Rattle.std.specs.Prelude.{◌≡◌, ◌++◌, ◌<◌, ◌^◌, IfOk, OnOk, chars, length, map};
+ghost use Rattle.std.specs.Prelude.{string_bytes};
+ghost use Rattle.rustc_parse_format.specs.Seen.{pair};
+ghost use Rattle.drawn_faults.specs.Diagnostics.{indented, last_note_line, margin, notes_rows};
+ghost use Rattle.drawn_faults.specs.Diagnostics.{plain_note, shown_label, shown_note, titled};
+ghost use Rattle.drawn_faults.specs.Labels.{seen_frame, seen_label};
+ghost use Rattle.drawn_faults.specs.Places.{seen_picture};
+ghost use Rattle.drawn_faults.specs.SeenDiagnostics.{seen_note};
+
+use crate::drawing::put_arrow;
+use crate::glyphs::{glyph, glyph_count, put_glyphs_between, put_run, split_first};
+use crate::labels::{Frame, Label};
+use crate::marked::{first_spot, frame_of, last_label_line, put_labels_rows};
+use crate::places::Picture;
+use crate::suggestions::put_parting;
+use std::alloc::{AllocError, Global};
+use std::ops::Range;
+
+/// A note of a diagnostic.
+#[derive(Clone, Copy, Debug, Drop)]
+pub struct SourceNote<'a> {
+    /// Its text, of one or more lines.
+    pub text: &'a str,
+    /// The ranges of the source that it shows. A note without any is a row.
+    pub spans: &'a [Range<usize>],
+}
+
+/// Returns labels of ranges that a note shows. Returns `Err` if an allocation fails.
+fn shown_labels(
+    alloc: Global,
+    picture: &Picture<'_>,
+    spans: &[Range<usize>],
+) -> Result<Vec<Label<'static>>, AllocError>
+    requires { length picture.now.source.now < 2 ^ 59 }
+    ensures { IfOk result (λ v. map seen_label v.items
+        ≡ map (shown_label (seen_picture picture.now)) (map pair spans.now)) }
+{
+    let mut list = Vec::new(alloc);
+    for span in spans {
+        list.push(Label {
+            sign: '^',
+            text: "",
+            extent: picture.extent(span),
+        })?;
+    }
+    Ok(list)
+}
+
+/// Returns the last line that notes show, or `last` if that is further down. Returns `Err` if an
+/// allocation fails.
+pub fn last_note_line(
+    alloc: Global,
+    picture: &Picture<'_>,
+    last: usize,
+    notes: &[SourceNote<'_>],
+) -> Result<usize, AllocError>
+    requires source { length picture.now.source.now < 2 ^ 59 }
+    requires small { last < 2 ^ 59 }
+    ensures value { IfOk result (λ n. n
+        ≡ last_note_line (seen_picture picture.now) last (map seen_note notes.now)) }
+    ensures small { IfOk result (λ n. n < 2 ^ 59) }
+{
+    let mut line = last;
+    for note in notes {
+        let labels = shown_labels(alloc, picture, note.spans)?;
+        line = last_label_line(line, &labels);
+    }
+    Ok(line)
+}
+
+/// Adds a title, and labels under it.
+#[tactic(auto, unfolding(crate::specs::Diagnostics::titled))]
+pub fn put_titled(
+    out: &mut String,
+    frame: &Frame<'_>,
+    start: &str,
+    title: &str,
+    labels: &[Label<'_>],
+) -> Result<(), AllocError>
+    requires { frame.now.cut < 2 ^ 62 }
+    ensures { OnOk result (string_bytes out.new ≡ string_bytes out.old
+        ++ titled (seen_frame frame.now) start.now title.now (map seen_label labels.now)) }
+{
+    put_glyphs_between(out, start, title, "\n")?;
+    put_arrow(out, frame, first_spot(labels))?;
+    put_parting(out, frame)?;
+    put_labels_rows(out, frame, labels)?;
+    Ok(())
+}
+
+/// Adds what is behind a character of a note: after a line feed the margin of the next line.
+fn put_margin(out: &mut String, gutter: usize, c: char) -> Result<(), AllocError>
+    ensures { OnOk result (string_bytes out.new ≡ string_bytes out.old ++ margin gutter c) }
+{
+    if c == '\n' {
+        put_run(out, ' ', gutter)?;
+        out.push_str("         ")?;
+    }
+    Ok(())
+}
+
+/// Adds a text whose lines but the first one begin with a margin.
+fn put_indented(out: &mut String, gutter: usize, text: &str) -> Result<(), AllocError>
+    ensures { OnOk result (string_bytes out.new
+        ≡ string_bytes out.old ++ indented gutter (chars text.now)) }
+{
+    let mut rest = text;
+    while let Some((c, tail)) = split_first(rest) {
+        put_run(out, glyph(c), glyph_count(c))?;
+        put_margin(out, gutter, c)?;
+        rest = tail;
+    }
+    Ok(())
+}
+
+/// Adds a note that shows nothing.
+fn put_plain_note(out: &mut String, gutter: usize, text: &str) -> Result<(), AllocError>
+    ensures { OnOk result (string_bytes out.new
+        ≡ string_bytes out.old ++ plain_note gutter text.now) }
+{
+    put_run(out, ' ', gutter)?;
+    out.push_str(" = note: ")?;
+    put_indented(out, gutter, text)?;
+    out.push_str("\n")?;
+    Ok(())
+}
+
+/// Adds a note with labels for what it shows.
+fn put_shown_note(
+    out: &mut String,
+    picture: &Picture<'_>,
+    gutter: usize,
+    text: &str,
+    labels: &[Label<'_>],
+) -> Result<(), AllocError>
+    requires { length picture.now.source.now < 2 ^ 59 }
+    ensures { OnOk result (string_bytes out.new ≡ string_bytes out.old
+        ++ shown_note (seen_picture picture.now) gutter text.now (map seen_label labels.now)) }
+{
+    match labels {
+        [] => put_plain_note(out, gutter, text)?,
+        _ => {
+            let frame = frame_of(picture, gutter, labels);
+            put_titled(out, &frame, "note: ", text, labels)?;
+        }
+    }
+    Ok(())
+}
+
+/// Adds notes.
+pub fn put_notes(
+    out: &mut String,
+    picture: &Picture<'_>,
+    gutter: usize,
+    notes: &[SourceNote<'_>],
+) -> Result<(), AllocError>
+    requires { length picture.now.source.now < 2 ^ 59 }
+    ensures { OnOk result (string_bytes out.new ≡ string_bytes out.old
+        ++ notes_rows (seen_picture picture.now) gutter (map seen_note notes.now)) }
+{
+    let alloc = *out.allocator();
+    for note in notes {
+        let labels = shown_labels(alloc, picture, note.spans)?;
+        put_shown_note(out, picture, gutter, note.text, &labels)?;
+    }
+    Ok(())
+}
