@@ -22,11 +22,13 @@ const LINT_WORDS: &[&str] = &[
     "2018", "--edition=2021", "--edition=2020", "--macro", "say:0", "--macro=say:1", "--macro=é:0",
     "--message-format", "short", "--message-format=json", "--message-format=github", "--stats", "-q",
     "--message-format=sarif", "--quiet", "--list-ids", "--explain", "missing-name", "--explain=a",
+    "--format", "json", "--format=json", "--format=text", "--format=xml",
 ];
 
 /// Words of formatlint with which it reads files.
 const FILE_WORDS: &[&str] = &[
     "FOLDER", "FOLDER", "FOLDER/a.rs", "FOLDER/sub", "FOLDER/none.rs", "FOLDER/not-text.rs", "-",
+    "FOLDER/link.rs", "FOLDER/linked", "FOLDER/linked/c.rs", "FOLDER/target", ".", "sub/../a.rs",
     "--stats", "--quiet", "--message-format=short", "--message-format=json", "--edition=2018",
     "--message-format=github", "--message-format=sarif", "--exclude=sub", "--exclude=a.rs",
     "--macro=say:0", "--macro=say:1", "--stdin-path=b.rs",
@@ -63,14 +65,27 @@ fn file(random: &mut Random) -> String {
     (0..random.below(12)).map(|_| random.of(FILE_PARTS)).collect()
 }
 
+/// Makes the folders and the links of a folder.
+fn make_folder(folder: &str) {
+    for name in ["sub", ".hidden", "target", "folder.rs"] {
+        std::fs::create_dir_all(format!("{folder}/{name}")).expect("a folder");
+    }
+    for (name, to) in [("link.rs", "a.rs"), ("linked", "sub"), ("sub/up", ".."), ("lost.rs", "none")] {
+        std::os::unix::fs::symlink(to, format!("{folder}/{name}")).expect("a link");
+    }
+    std::fs::write(format!("{folder}/literal"), " \"{a?}\"\n").expect("a file");
+}
+
 /// Writes the files of a folder anew.
 fn furnish(random: &mut Random, folder: &str) {
-    for name in ["a.rs", "sub/c.rs", ".hidden/d.rs", "target/e.rs", "f.txt"] {
+    for name in ["a.rs", "sub/c.rs", ".hidden/d.rs", "target/e.rs", "folder.rs/g.rs", "f.txt"] {
         std::fs::write(format!("{folder}/{name}"), file(random)).expect("a file");
     }
-    let edition = ["2015", "2018", "2021"][random.below(3)];
-    let manifest = format!("[package]\nedition = \"{edition}\"\n");
-    std::fs::write(format!("{folder}/sub/Cargo.toml"), manifest).expect("a file");
+    for name in ["Cargo.toml", "sub/Cargo.toml"] {
+        let edition = ["= \"2015\"", "= \"2018\"", "= \"2021\"", ".workspace = true"][random.below(4)];
+        let manifest = format!("[workspace.package]\nedition = \"2018\"\n[package]\nedition{edition}\n");
+        std::fs::write(format!("{folder}/{name}"), manifest).expect("a file");
+    }
     let text = [file(random).as_bytes(), b"\xff".as_slice()].concat();
     std::fs::write(format!("{folder}/not-text.rs"), text).expect("a file");
 }
@@ -108,10 +123,7 @@ fn main() {
     let count: usize = count.parse().expect("a count");
     let folder = std::env::temp_dir().join(format!("dephungo-{}", std::process::id()));
     let folder = folder.display().to_string();
-    for name in ["sub", ".hidden", "target"] {
-        std::fs::create_dir_all(format!("{folder}/{name}")).expect("a folder");
-    }
-    std::fs::write(format!("{folder}/literal"), " \"{a?}\"\n").expect("a file");
+    make_folder(&folder);
     let mut statuses = [0; 256];
     for at in 0..count {
         let ways = [("formatlint", LINT_WORDS), ("formatlint", FILE_WORDS), ("formatread", READ_WORDS)];

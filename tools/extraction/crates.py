@@ -10,8 +10,9 @@ from extraction.tokens import Refused
 TOP = Path(__file__).resolve().parent.parent.parent
 RUST = TOP / "bindings/rust/src"
 CRATES = ("rustc_parse_format", "placeholder_check", "format_tokens", "drawn_faults", "rust_tokens",
-          "rust_trees", "format_calls", "call_faults", "piece_listing", "literal_faults",
-          "format_lint", "lint_words", "formatread", "formatlint")
+          "rust_trees", "format_calls", "call_faults", "piece_listing", "listing_json",
+          "literal_faults", "format_lint", "lint_words", "source_lint", "fault_rules",
+          "message_forms", "package_edition", "formatread", "formatlint")
 NOTICE = """\
 // Extracted from {place} by tools/extract: not to be edited.
 // That source is proved, and each contract here is its. That this text means the same is tested:
@@ -171,7 +172,10 @@ class Needs:
         is_shown = part.is_public and of in self.shown and not takes_allocator(source, part)
         if part is item or is_shown or (item.name, part.name) in self.methods:
             return True
-        count = part.kind == "fn" and source.count_of(source.next(part.head, 2)) - 1
+        opening = source.next(part.head, 2)
+        while part.kind == "fn" and source.text(opening) != "(":
+            opening = source.next(opening)
+        count = part.kind == "fn" and source.count_of(opening) - 1
         return (".", part.name, count) in self.methods
 
 

@@ -5,6 +5,7 @@ from extraction.source import Import
 # What of the library may be named, and what replaces it. A path that is not here is refused. What
 # reads the parser by its calls reads that of the layer, so that there is one.
 LIBRARY = {"clap": "crate::shim::clap", "itoa": "crate::shim::itoa",
+           "json": "crate::shim::json",
            "rustc_parse_format::Parser": "crate::shim::parser::Parser",
            "rustc_parse_format::read_all": "crate::shim::parser::read_all",
            "std::alloc": "crate::shim::alloc", "std::collections::BTreeMap": None,
@@ -111,6 +112,8 @@ def rewrite(source, item, crate, crates):
         elif (text == "AllocError" and before == "(" and source.text(source.prev(at, 2)) == "Err"
               and behind == ")"):
             refusal(source, at)
+        elif text == "AllocError" and source.text(source.prev(at, 2)) == "from" and before == "(":
+            told_again(source, at)
         elif (text == "!" and source.is_word(source.prev(at)) and before not in KEYWORDS
               and behind in ("(", "[", "{")):
             macro(source, source.prev(at))
@@ -197,6 +200,18 @@ def refusal(source, at):
     source.tokens[at].text = ""
 
 
+def told_again(source, at):
+    """Writes an error that a `match` makes again of a refusal of memory anew, as a panic: `Err(None)
+    => return Err(X::from(AllocError))`."""
+    texts = [source.text(source.prev(at, count)) for count in range(12, 0, -1)]
+    form = ["Err", "(", "None", ")", "=>", "return", "Err", "(", texts[8], "::", "from", "("]
+    if texts != form or source.text(source.next(at)) != ")":
+        source.refuse(at, "an answer to a refusal of memory, which never comes in Rust")
+    for count in range(4, 0, -1):
+        source.tokens[source.prev(at)].text = ""
+    source.tokens[at].text = "crate::shim::alloc::refused("
+
+
 def is_sum(source, at):
     """Whether the answer stands where a sum is larger than a number can be: `let Some(x) =
     y.checked_add(z) else { return Err(AllocError); };`."""
@@ -238,7 +253,8 @@ def ends_value(source, at):
 
 
 def is_place(source, at):
-    """Whether a range without an end stands in an index or a call of `get`, and not in an array."""
+    """Whether a range without an end stands in an index, or a call of `get` or `num_args`, and not in
+    an array."""
     if source.text(source.next(at)) not in (")", "]"):
         return False
     depth = 0
@@ -247,7 +263,8 @@ def is_place(source, at):
         depth += (source.text(at) in (")", "]")) - (source.text(at) in ("(", "["))
     before = source.prev(at)
     if source.text(at) == "(":
-        return source.text(before) == "get" and source.text(source.prev(before)) == "."
+        is_asked = source.text(before) in ("get", "num_args")
+        return is_asked and source.text(source.prev(before)) == "."
     return ends_value(source, before)
 
 

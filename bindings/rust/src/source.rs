@@ -1,25 +1,29 @@
-//! Rust source text, without a compiler: its [`tokens`], the [`calls`] of macros that take a format
-//! string, and what is wrong with one, as rustc 1.95 tells it ([`call_faults`]).
+//! Rust source text, without a compiler: what is wrong with the format strings of a file, as rustc
+//! 1.95 tells it ([`file_faults`]), and what that is made of: the [`tokens`], the [`calls`] of macros
+//! that take a format string, and what is wrong with one ([`call_faults`]).
 //!
 //! Nothing is expanded and no name is resolved: a call is found by the name of its macro, also where
 //! it is never compiled.
 //!
 //! ```
-//! use dephungo::source::{calls, Places, Table};
+//! use dephungo::source::{file_faults, Places, Table};
 //!
 //! let text = "fn main() {\n    println!(\"{} {}\", x);\n}\n";
-//! let call = &calls(text, &Table::standard(), true)[0];
-//! assert_eq!((call.name, call.literal()), ("println", Some("\"{} {}\"")));
-//! assert_eq!(call.arguments[1].given.variable, Some("x"));
-//!
-//! let place = Places::new(text).at(call.span.start);
-//! assert_eq!((place.line, place.column), (2, 5));
+//! let places = Places::new(text);
+//! for finding in file_faults(text, &Table::standard(), true).findings {
+//!     let place = places.at(finding.span.start);
+//!     let said = format!("{}:{}: {}", place.line, place.column, finding.title);
+//!     let title = "2 positional arguments in format string, but there is 1 argument";
+//!     assert_eq!(said, format!("2:15: {title}"));
+//! }
 //! ```
 use crate::proved::call_faults::{call_faults as call_faults_in, Checked as CheckedIn};
 use crate::proved::format_calls::{arguments, calls as calls_in, format_string};
 use crate::proved::format_calls::{Argument as ArgumentIn, Table as TableIn};
 use crate::proved::rust_tokens::tokens as tokens_in;
 use crate::proved::rust_trees::{Break, Places as PlacesIn, Source as SourceIn};
+use crate::proved::source_lint::givens::givens;
+use crate::proved::source_lint::{file_faults as file_faults_in, Options};
 use crate::shim::alloc::{answer, Global};
 use crate::Piece;
 use std::ops::Range;
@@ -27,7 +31,8 @@ use std::ops::Range;
 pub use crate::proved::call_faults::{CallFault, FormatString, Given, Missing, Part, Reference};
 pub use crate::proved::format_calls::{Reason, Row, Rule};
 pub use crate::proved::rust_tokens::{Kind, Token};
-pub use crate::proved::rust_trees::Place;
+pub use crate::proved::rust_trees::{BreakAt, BreakKind, Place};
+pub use crate::proved::source_lint::{CallReading, Finding, Report};
 
 /// Returns the tokens of a file, with white space and comments, one behind the other from its start
 /// to its end. An allocation failure aborts, as elsewhere in Rust.
@@ -172,37 +177,25 @@ impl<'a> Call<'a> {
     }
 }
 
-/// Returns the text of a word without the `r#` of a raw one.
-fn plain(word: &str) -> &str {
-    word.strip_prefix("r#").unwrap_or(word)
-}
-
 /// Returns an argument of the call of a file.
 fn argument_of<'a>(
     text: &'a str,
     source: &SourceIn<'a>,
     argument: &ArgumentIn,
+    given: Given<'a>,
 ) -> CallArgument<'a> {
     let tokens = &source.tokens()[argument.start..];
     let count = argument.end - argument.start;
-    let behind = if argument.is_named { 2 } else { 0 };
     // (of no tokens an empty range in front of what follows)
     let range = |from: usize| match tokens[from..count].last() {
         Some(last) => tokens[from].start..last.start + last.text.len(),
         None => tokens[from].start..tokens[from].start,
     };
-    let variable = match &tokens[behind..count] {
-        [token] if matches!(token.kind, Kind::Ident | Kind::RawIdent) => Some(plain(token.text)),
-        _ => None,
-    };
     CallArgument {
-        given: Given {
-            name: argument.is_named.then(|| plain(tokens[0].text)),
-            variable,
-        },
+        given,
         text: &text[range(0)],
         span: range(0),
-        value: range(behind),
+        value: range(if argument.is_named { 2 } else { 0 }),
     }
 }
 
@@ -217,13 +210,15 @@ pub fn calls<'a>(text: &'a str, table: &Table<'_>, is_from_2021: bool) -> Vec<Ca
     let mut found = Vec::new();
     for call in answer(calls_in(Global, &source, &table.table)) {
         let list = answer(arguments(Global, &source, call.close)).unwrap_or_default();
+        let given = answer(givens(Global, source.tokens(), &list));
         let (name, close) = (source.tokens()[call.name], source.tokens()[call.close]);
         found.push(Call {
-            name: plain(name.text),
+            name: name.text.strip_prefix("r#").unwrap_or(name.text),
             span: name.start..close.start + close.text.len(),
             arguments: list
                 .iter()
-                .map(|it| argument_of(text, &source, it))
+                .zip(given)
+                .map(|(argument, given)| argument_of(text, &source, argument, given))
                 .collect(),
             string: format_string(&source, call.rule, &list, is_from_2021),
         });
@@ -245,6 +240,32 @@ pub fn broken_at(text: &str) -> Option<usize> {
     let source = answer(SourceIn::new(Global, text));
     let (Break::Unclosed(index) | Break::Unexpected(index)) = source.broken()?;
     source.tokens().get(index).map(|token| token.start)
+}
+
+/// Reads a file, and returns what is wrong with its calls of the macros of a table, as rustc tells it,
+/// with how much of each call was read, and where the file breaks. `is_from_2021` is whether the
+/// edition of the file is 2021 or a later one.
+///
+/// Lines may end with LF or CRLF, and a byte order mark may stand at the start. An allocation failure
+/// aborts, as elsewhere in Rust.
+///
+/// ```
+/// use dephungo::source::{file_faults, CallReading, Table};
+///
+/// let text = "fn f() { print!(\"{a?}\"); panic!(x); }";
+/// let report = file_faults(text, &Table::standard(), true);
+/// assert!(matches!(report.calls[..], [CallReading::Whole, CallReading::Unread(_)]));
+/// let finding = &report.findings[0];
+/// assert_eq!((finding.id, &text[finding.span.clone()]), ("missing-colon", "?"));
+/// ```
+pub fn file_faults(text: &str, table: &Table<'_>, is_from_2021: bool) -> Report {
+    let options = Options {
+        table: TableIn {
+            rows: table.rows().to_vec(),
+        },
+        is_from_2021,
+    };
+    answer(file_faults_in(Global, text, &options))
 }
 
 /// A call that was checked.

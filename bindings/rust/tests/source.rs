@@ -1,6 +1,7 @@
 //! Tokens, places and calls of files. Expected values are worked out by hand from the Rust Reference,
 //! and places are those that rustc 1.95 tells.
-use dephungo::source::{broken_at, calls, tokens, Kind, Places, Reason, Row, Rule, Table};
+use dephungo::source::{broken_at, calls, file_faults, tokens};
+use dephungo::source::{BreakKind, CallReading, Kind, Places, Reason, Row, Rule, Table};
 use std::path::{Path, PathBuf};
 
 /// The files of this crate.
@@ -45,8 +46,12 @@ fn tokens_join() {
             );
             end = token.span.end;
         }
-        assert_eq!(end, text.len());
-        assert_eq!(broken_at(&text), None, "{path:?}");
+        assert_eq!((end, broken_at(&text)), (text.len(), None), "{path:?}");
+        let report = file_faults(&text, &Table::standard(), true);
+        assert!(
+            report.broken.is_none() && report.findings.is_empty(),
+            "{path:?}"
+        );
     }
     assert!(found.len() > 80);
 }
@@ -157,7 +162,7 @@ fn arguments() {
         .collect();
     let wanted = [
         (None, Some("a"), "a", "a"),
-        (Some("b"), Some("c"), "r#b = r#c", "r#c"),
+        (Some("b"), None, "r#b = r#c", "r#c"),
         (None, None, "d::<E, F>()", "d::<E, F>()"),
         (Some("g"), None, "g = 1 + h", "1 + h"),
     ];
@@ -177,4 +182,73 @@ fn tables() {
     let found = calls("bail!(1, \"a\"); info!(b = 2, \"c\")", &table, true);
     let shown: Vec<_> = found.iter().map(|call| call.literal()).collect();
     assert_eq!(shown, [Some("\"a\""), Some("\"c\"")]);
+}
+
+/// How much of each call is read, and what is found, at the places that rustc 1.95 tells.
+#[test]
+fn reports() {
+    let text = [
+        "\u{feff}macro_rules! write { ($($x:tt)*) => { () } }",
+        "macro_rules! m { ($($x:expr),*) => { print!(\"{} é{\", $($x),*) } }",
+        "fn main() {",
+        "    let x = 1;",
+        "    println!(\"é {}\", y = x);",
+        "    write!(x, \"{}\");",
+        "    panic!(x);",
+        "    print!(\"\\q\");",
+        "    format!(\"{} {}\", x);",
+        "}",
+    ]
+    .join("\r\n");
+    let report = file_faults(&text, &Table::standard(), true);
+    assert!(report.broken.is_none());
+    assert!(matches!(
+        report.calls[..],
+        [
+            CallReading::StringAlone,
+            CallReading::Whole,
+            CallReading::Redefined,
+            CallReading::Unread(Reason::Expression),
+            CallReading::Malformed,
+            CallReading::Whole,
+        ]
+    ));
+    let places = Places::new(&text);
+    let shown: Vec<_> = report
+        .findings
+        .iter()
+        .map(|it| {
+            let place = places.at(it.span.start);
+            (place.line, place.column, it.id, it.is_warning)
+        })
+        .collect();
+    let wanted = [
+        (2, 51, "missing-closing-brace", false),
+        (5, 22, "name-used-by-index", true),
+        (9, 14, "missing-argument", false),
+    ];
+    assert_eq!(shown, wanted);
+    let title = "2 positional arguments in format string, but there is 1 argument";
+    assert_eq!(report.findings[2].title, title);
+}
+
+/// Calls in front of the place where a file breaks are read.
+#[test]
+fn breaks() {
+    for (end, at, wanted) in [
+        ("fn f() {", 7, "unclosed"),
+        ("fn f(]", 5, "unexpected"),
+        ("const A: &str = \"", 16, "unended"),
+    ] {
+        let front = "format!(\"{}\");\n";
+        let report = file_faults(&format!("{front}{end}"), &Table::standard(), true);
+        let broken = report.broken.unwrap();
+        let kind = match broken.kind {
+            BreakKind::Unclosed => "unclosed",
+            BreakKind::Unexpected => "unexpected",
+            BreakKind::Unended => "unended",
+        };
+        assert_eq!((broken.start, kind), (front.len() + at, wanted));
+        assert_eq!(report.findings.len(), 1);
+    }
 }

@@ -29,6 +29,12 @@ pub fn answer<T>(result: Result<T, AllocError>) -> T {
 /// Answers a text that is too long for any memory, as the standard library does.
 #[cold]
 pub fn refuse<T>() -> Result<T, AllocError> {
+    refused()
+}
+
+/// Stands for an error that is made of a refusal of memory, as the standard library does.
+#[cold]
+pub fn refused<T>() -> T {
     panic!("capacity overflow")
 }
 
@@ -54,6 +60,9 @@ pub trait VecIn<T>: Sized {
     fn try_extend_from_slice(&mut self, items: &[T]) -> Result<(), AllocError>
     where
         T: Copy;
+    fn sort_in(&mut self) -> Result<(), AllocError>
+    where
+        T: Ord;
     fn own_allocator(&self) -> &Global;
 }
 
@@ -92,6 +101,15 @@ impl<T> VecIn<T> for Vec<T> {
         T: Copy,
     {
         self.extend_from_slice(items);
+        Ok(())
+    }
+
+    #[inline(always)]
+    fn sort_in(&mut self) -> Result<(), AllocError>
+    where
+        T: Ord,
+    {
+        self.sort();
         Ok(())
     }
 

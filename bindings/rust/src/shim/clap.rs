@@ -195,6 +195,12 @@ impl<'a> ArgGroup<'a> {
         }
     }
 
+    /// Adds an argument.
+    pub fn arg(mut self, id: &'a str) -> Result<ArgGroup<'a>, AllocError> {
+        self.args.push(id);
+        Ok(self)
+    }
+
     /// Adds arguments.
     pub fn args(mut self, ids: &[&'a str]) -> Result<ArgGroup<'a>, AllocError> {
         self.args.extend_from_slice(ids);

@@ -7,6 +7,8 @@ pub mod clap;
 #[allow(dead_code)]
 pub mod host;
 pub mod itoa;
+// The listing as JSON, which only a program writes, is all that uses it.
+pub mod json;
 pub mod parser;
 pub mod simd;
 pub mod unicode_ident;
@@ -46,6 +48,14 @@ macro_rules! eprintln_in {
     };
 }
 pub(crate) use eprintln_in;
+
+/// `eprint!(rt; ..)`: writes a text to standard error, and returns why that failed.
+macro_rules! eprint_in {
+    ($rt:expr; $($words:tt)*) => {
+        $rt.eprint(format_args!($($words)*))
+    };
+}
+pub(crate) use eprint_in;
 
 pub use alloc::proved_text;
 

@@ -4,14 +4,19 @@
 // That source is proved, and each contract here is its. That this text means the same is tested:
 // by results from outside, and beside what is proved (.ci/bindings) and the original (tools/agree).
 
+pub(crate) mod counted;
 pub(crate) mod listing;
 pub(crate) mod marks;
 pub(crate) mod modes;
+pub(crate) mod parts;
 pub(crate) mod split;
 pub(crate) mod strings;
 pub(crate) mod table;
 
-pub use listing::calls;
+pub use counted::are_counted;
+pub use listing::{calls, Call};
+pub use marks::{is_mark_of, is_word, token_at, word};
+pub use parts::next_part;
 pub use split::{arguments, Argument};
 pub use strings::{format_string, Reason};
 pub use table::{Row, Rule, Table};

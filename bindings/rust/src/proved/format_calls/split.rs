@@ -31,7 +31,7 @@ fn is_end(tokens: &[Token<'_>], index: usize, mode: Mode) -> bool {
 /// Returns whether an argument that starts at this token has a name.
 // ensures { result ≡ is_named (map leaf tokens.now) index }
 #[inline]
-fn is_named(tokens: &[Token<'_>], index: usize) -> bool {
+pub fn is_named(tokens: &[Token<'_>], index: usize) -> bool {
     match token_at(tokens, index) {
         Some(token) => {
             is_word(&token)
@@ -47,7 +47,7 @@ fn is_named(tokens: &[Token<'_>], index: usize) -> bool {
 // requires { (o c : ℕ) × IsPair source.now o c × (o < index) × (index < c) × (c < 2 ^ 64) }
 // ensures { IsTree source.now index result }
 #[inline]
-fn behind_tree(source: &Source<'_>, index: usize) -> usize {
+pub fn behind_tree(source: &Source<'_>, index: usize) -> usize {
     match source.partner(index) {
         Some(close) => {
             if close > index {

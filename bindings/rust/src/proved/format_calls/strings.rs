@@ -102,7 +102,9 @@ fn string_at(
 
 /// Returns the index of the argument that is the format string of a call, or the reason why none is
 /// read.
-// ensures { result ≡ format_string source.now rule arguments.now is_from_2021 }
+// ensures value { result ≡ format_string source.now rule arguments.now is_from_2021 }
+// ensures literal { IfOk result (λ n. (a : ArgumentValue) × (slice_get arguments.now n ≡ Some a)
+//     × IsTrue (is_text source.now a)) }
 #[inline]
 pub fn format_string(
     source: &Source<'_>,

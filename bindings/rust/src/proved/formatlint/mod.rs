@@ -1,197 +1,160 @@
-//! Draws the faults of a string literal under it, as the Rust compiler does, and shows its tokens.
+//! Finds the faults of format strings in Rust sources, or in one string, as the Rust compiler does.
 
 // Extracted from crates/formatlint/src/main.rt by tools/extract: not to be edited.
 // That source is proved, and each contract here is its. That this text means the same is tested:
 // by results from outside, and beside what is proved (.ci/bindings) and the original (tools/agree).
 
 use crate::shim::prelude::*;
+pub(crate) mod asked;
+pub(crate) mod editions;
+pub(crate) mod failure;
+pub(crate) mod files;
+pub(crate) mod forms;
+pub(crate) mod literal;
 pub(crate) mod noted;
 pub(crate) mod options;
+pub(crate) mod told;
+pub(crate) mod walk;
 
-use crate::proved::format_lint::run::run;
-use crate::proved::lint_words::{put_failure, put_not_literal, system_words, wants_colours};
-use crate::proved::literal_faults::{file_fault, snippet_of};
-use crate::proved::piece_listing::run::{read_input, run as list};
-use crate::proved::piece_listing::verdict::RunFault;
+use crate::proved::fault_rules::{put_explanation, rule_of, RULES};
+use crate::proved::source_lint::Options;
 use crate::shim::alloc::AllocError;
 use crate::shim::clap::error::ErrorKind;
 use crate::shim::clap::{ArgMatches, Error};
-use crate::shim::host::IsTerminal;
-use crate::shim::host::{env, fs};
-use noted::Noted;
-use options::{command, file_of, list_words, task_of, when_of};
-use std::io;
-use std::io::Read;
+use crate::shim::host::env;
+use asked::{form_of, table_of};
+use files::{lint, write, Asked};
+use forms::Form;
+use literal::{literal_status, tell};
+use options::{command, VERSION};
 use std::process::ExitCode;
+use told::Told;
 
-/// Why there is no answer.
-struct Failure {
-    /// What failed.
-    fault: RunFault,
-    /// The error of the system, if it has one.
-    error: Option<io::Error>,
-}
-
-impl From<RunFault> for Failure {
-    #[inline]
-    fn from(fault: RunFault) -> Failure {
-        Failure { fault, error: None }
-    }
-}
-
-impl From<AllocError> for Failure {
-    #[inline]
-    fn from(_error: AllocError) -> Failure {
-        Failure::from(RunFault::Memory)
-    }
-}
-
-/// Reads a stream to its end.
-#[inline]
-fn read<R: Read>(rt: &crate::shim::host::HostRuntime, stream: R) -> Result<Vec<u8>, Failure> {
-    let mut reader = Noted::new(stream);
-    match read_input(rt.alloc(), &mut reader) {
-        Ok(bytes) => Ok(bytes),
-        Err(fault) => Err(Failure {
-            fault,
-            error: reader.error,
-        }),
-    }
-}
-
-/// Reads a file, or standard input.
-#[inline]
-fn input(rt: &crate::shim::host::HostRuntime, file: Option<&str>) -> Result<Vec<u8>, Failure> {
-    let Some(path) = file else {
-        if rt.stdin().is_terminal() {
-            let _ =
-                rt.eprintln("formatlint: reads what is typed here, up to Ctrl-D; --help says more");
-        }
-        return read(rt, rt.stdin());
-    };
-    match fs::open(rt, path) {
-        Ok(file) => read(rt, file),
-        Err(error) => Err(Failure {
-            fault: RunFault::Read,
-            error: Some(error),
-        }),
-    }
-}
-
-/// Returns whether what is written to standard output is in colours.
-#[inline]
-fn has_colours(rt: &crate::shim::host::HostRuntime, matches: &ArgMatches<'_>) -> bool {
-    let no_color = env::var(rt, "NO_COLOR").ok();
-    let term = env::var(rt, "TERM").ok();
-    wants_colours(
-        when_of(matches),
-        rt.stdout().is_terminal(),
-        no_color.as_deref(),
-        term.as_deref(),
-    )
-}
-
-/// Returns the bytes of an input that are listed: a text, or the literal without what may stand
-/// around it.
-#[inline]
-fn listed<'a>(matches: &ArgMatches<'_>, input: &'a [u8]) -> &'a [u8] {
-    if matches.get_flag("text") {
-        return input;
-    }
-    match std::str::from_utf8(input) {
-        Ok(file) => snippet_of(file).text.as_bytes(),
-        Err(_) => input,
-    }
-}
-
-/// Writes the answer for an input. Returns how many mistakes are left, and of a list 1 if a line is
-/// not of a piece.
-#[inline]
-fn answer(
-    rt: &crate::shim::host::HostRuntime,
-    matches: &ArgMatches<'_>,
-    path: &str,
-    input: &[u8],
-) -> Result<usize, Failure> {
-    let alloc = rt.alloc();
-    let mut writer = Noted::new(rt.stdout());
-    let told = if matches.get_flag("list") {
-        let words = list_words(alloc, matches)?;
-        let mut reader = listed(matches, input);
-        list(alloc, &mut reader, &mut writer, words.as_slice()).map(usize::from)
-    } else {
-        let task = task_of(matches, path, has_colours(rt, matches));
-        let mut reader = input;
-        run(alloc, &mut reader, &mut writer, task)
-    };
-    match told {
-        Ok(count) => Ok(count),
-        Err(fault) => Err(Failure {
-            fault,
-            error: writer.error,
-        }),
-    }
-}
-
-/// Appends the lines that say why there is no answer.
-#[inline]
-fn put_why(
-    out: &mut String,
-    path: &str,
-    input: &[u8],
-    failure: &Failure,
-) -> Result<(), AllocError> {
-    if failure.fault == RunFault::NotLiteral {
-        if let Ok(file) = std::str::from_utf8(input) {
-            if let Some(fault) = file_fault(file) {
-                return put_not_literal(out, path, file, &fault);
-            }
-        }
-    }
-    let words = match &failure.error {
-        Some(error) => crate::shim::format_in!(*out.own_allocator(); "{error}")?,
-        None => String::made_in(*out.own_allocator()),
-    };
-    put_failure(out, path, failure.fault, system_words(words.as_str()))
-}
-
-/// The exit status where the reader of the output is gone: that of a program that ends by the
-/// signal SIGPIPE.
-const GONE: u8 = 141;
-
-/// What is said of a list of arguments that is none. No other word that the options take is invalid
-/// for the list.
+/// What is said of a list of arguments that is none.
 const WRONG_LIST: &str =
     "invalid value for '--args <LIST>': it is a number of arguments, and then \
     names, each after a comma, as in 2,w";
 
-/// Says why there is no answer, and returns the exit status.
+/// What is said of several paths where one string is read.
+const SEVERAL: &str = "--literal and --text read one string, of one file or of standard input";
+
+/// Returns the error of wrong arguments.
 #[inline]
-fn tell(rt: &crate::shim::host::HostRuntime, path: &str, input: &[u8], failure: &Failure) -> u8 {
-    if let Some(error) = &failure.error {
-        if error.kind() == io::ErrorKind::BrokenPipe {
-            return GONE;
-        }
+fn wrong(rt: &crate::shim::host::HostRuntime, why: &str) -> Result<u8, Error> {
+    Err(command(rt.alloc())?.error(ErrorKind::ValueValidation, why)?)
+}
+
+/// Appends the ids of all kinds of faults, each in a line.
+#[inline]
+fn put_ids(out: &mut String) -> Result<(), AllocError> {
+    for rule in &RULES {
+        out.try_push_str(rule.id)?;
+        out.try_push_str("\n")?;
     }
-    let mut out = String::made_in(rt.alloc());
-    let _ = match put_why(&mut out, path, input, failure) {
-        Ok(()) => rt.eprint(out.as_str()),
-        Err(_) => rt.eprintln("formatlint: out of memory"),
-    };
-    if failure.fault == RunFault::NotLiteral {
-        1
-    } else {
-        3
+    Ok(())
+}
+
+/// Writes a text to standard output. Returns the exit status.
+#[inline]
+fn written(rt: &crate::shim::host::HostRuntime, text: &str) -> u8 {
+    match write(rt, text) {
+        Ok(()) => 0,
+        Err(failure) => tell(rt, "<stdout>", &[], &failure),
     }
 }
 
-/// Says on standard error how many mistakes there are besides the first, where only that is drawn.
+/// Writes what a kind of fault is. Returns the exit status.
 #[inline]
-fn tell_others(rt: &crate::shim::host::HostRuntime, matches: &ArgMatches<'_>, count: usize) {
-    if count > 1 && !matches.get_flag("all") {
-        let others = count - 1;
-        let _ = crate::shim::eprintln_in!(rt; "formatlint: and {others} more, which --all draws");
+fn explain(rt: &crate::shim::host::HostRuntime, id: &str) -> Result<u8, Error> {
+    let Some(rule) = rule_of(id) else {
+        let why = crate::shim::format_in!(rt.alloc();
+            "no kind of fault has the id '{id}': --list-ids lists all"
+        )?;
+        return wrong(rt, why.as_str());
+    };
+    let mut out = String::made_in(rt.alloc());
+    put_explanation(&mut out, &rule)?;
+    Ok(written(rt, out.as_str()))
+}
+
+/// Reads one string. Returns the exit status.
+#[inline]
+fn read_string(rt: &crate::shim::host::HostRuntime, matches: &ArgMatches<'_>) -> Result<u8, Error> {
+    if matches
+        .get_strs("path")
+        .map_or(false, |paths| paths.len() > 1)
+    {
+        return wrong(rt, SEVERAL);
     }
+    match literal_status(rt, matches) {
+        Some(status) => Ok(status),
+        None => wrong(rt, WRONG_LIST),
+    }
+}
+
+/// Returns the exit status where this was read and found.
+#[inline]
+fn status_of(told: &Told) -> u8 {
+    if told.failures > 0 {
+        3
+    } else if told.faults > 0 {
+        1
+    } else {
+        0
+    }
+}
+
+/// Reads files and folders. Returns the exit status.
+#[inline]
+fn read_files(
+    rt: &crate::shim::host::HostRuntime,
+    matches: &ArgMatches<'_>,
+    asked: &Asked<'_>,
+    options: Options<'_>,
+) -> u8 {
+    let (told, result) = lint(rt, asked, options);
+    if let Err(failure) = result {
+        return tell(rt, "<stdout>", &[], &failure);
+    }
+    if matches.get_flag("stats") {
+        told.show_counts(rt);
+    }
+    if !matches.get_flag("quiet") && !matches!(asked.form, Form::Json | Form::Sarif) {
+        told.sum_up(rt);
+    }
+    status_of(&told)
+}
+
+/// Reads the files and folders that the arguments name. Returns the exit status.
+#[inline]
+fn files_status(
+    rt: &crate::shim::host::HostRuntime,
+    matches: &ArgMatches<'_>,
+) -> Result<u8, Error> {
+    let table = match table_of(rt.alloc(), matches.get_strs("macro").unwrap_or(&[])) {
+        Ok(table) => table,
+        Err(Some(word)) => {
+            let why = crate::shim::format_in!(rt.alloc();
+                "invalid value '{word}' for '--macro <NAME:INDEX>': \
+                it is the name of a macro and a number, as in say:0"
+            )?;
+            return wrong(rt, why.as_str());
+        }
+        Err(None) => return Err(crate::shim::alloc::refused()),
+    };
+    let asked = Asked {
+        paths: matches.get_strs("path").unwrap_or(&[]),
+        excluded: matches.get_strs("exclude").unwrap_or(&[]),
+        stdin_path: matches.get_str("stdin-path"),
+        form: form_of(matches),
+        edition: matches.get_str("edition"),
+        version: VERSION,
+    };
+    let options = Options {
+        table,
+        is_from_2021: true,
+    };
+    Ok(read_files(rt, matches, &asked, options))
 }
 
 /// Reads the arguments of the program and does what they ask for. Returns the exit status, and
@@ -199,22 +162,18 @@ fn tell_others(rt: &crate::shim::host::HostRuntime, matches: &ArgMatches<'_>, co
 #[inline]
 fn status(rt: &crate::shim::host::HostRuntime, words: &[String]) -> Result<u8, Error> {
     let matches = command(rt.alloc())?.try_get_matches_from(words)?;
-    let file = file_of(&matches);
-    let path = file.unwrap_or("<stdin>");
-    let bytes = match input(rt, file) {
-        Ok(bytes) => bytes,
-        Err(failure) => return Ok(tell(rt, path, &[], &failure)),
-    };
-    match answer(rt, &matches, path, bytes.as_slice()) {
-        Ok(count) => {
-            tell_others(rt, &matches, count);
-            Ok(u8::from(count > 0))
-        }
-        Err(failure) if failure.fault == RunFault::Words => {
-            Err(command(rt.alloc())?.error(ErrorKind::ValueValidation, WRONG_LIST)?)
-        }
-        Err(failure) => Ok(tell(rt, path, bytes.as_slice(), &failure)),
+    if matches.get_flag("list-ids") {
+        let mut out = String::made_in(rt.alloc());
+        put_ids(&mut out)?;
+        return Ok(written(rt, out.as_str()));
     }
+    if let Some(id) = matches.get_str("explain") {
+        return explain(rt, id);
+    }
+    if matches.get_flag("literal") || matches.get_flag("text") {
+        return read_string(rt, &matches);
+    }
+    files_status(rt, &matches)
 }
 
 #[inline]

@@ -1,24 +1,29 @@
-//! The options of the program, and what they ask for.
+//! The options of the program.
 
 // Extracted from crates/formatlint/src/options.rt by tools/extract: not to be edited.
 // That source is proved, and each contract here is its. That this text means the same is tested:
 // by results from outside, and beside what is proved (.ci/bindings) and the original (tools/agree).
 
-use crate::proved::format_lint::task::{Show, Task};
-use crate::proved::lint_words::When;
-use crate::proved::rustc_parse_format::ParseMode;
 use crate::shim::alloc::{AllocError, Global};
-use crate::shim::clap::{Arg, ArgAction, ArgMatches, Command};
-use crate::shim::prelude::*;
+use crate::shim::clap::{Arg, ArgAction, ArgGroup, Command};
 
 /// The version of the program.
-const VERSION: &str = "0.2.0";
+pub const VERSION: &str = "0.3.0";
 
 /// The words that name a mode.
 const MODES: [&str; 4] = ["format", "asm", "diagnostic", "diagnostic-named"];
 
 /// The words that say when there are colours.
 const TIMES: [&str; 3] = ["auto", "always", "never"];
+
+/// The words that name a form of messages.
+const FORMS: [&str; 5] = ["human", "short", "json", "github", "sarif"];
+
+/// The words that name a form of listings.
+const LISTINGS: [&str; 2] = ["text", "json"];
+
+/// The editions.
+const EDITIONS: [&str; 4] = ["2015", "2018", "2021", "2024"];
 
 /// Returns an option without a value.
 #[inline]
@@ -38,22 +43,105 @@ fn option<'a>(alloc: Global, name: &'a str, value: &'a str, help: &'a str) -> Ar
         .help(help)
 }
 
-/// Adds the options that say how the input is read. Returns `Err` if an allocation fails.
+/// Adds the options that say which files are read. Returns `Err` if an allocation fails.
 #[inline]
-fn with_input<'a>(alloc: Global, command: Command<'a>) -> Result<Command<'a>, AllocError> {
-    let mode = option(alloc, "mode", "MODE", "What the string is")
-        .value_parser(MODES.as_slice())
-        .default_value("format");
-    let text = flag(alloc, "text", "Read a text, not a string literal");
-    let file = Arg::new(alloc, "file")
-        .value_name("FILE")
-        .help("The file to read; without it, or if it is -, standard input is read");
-    let with_mode = command.arg(mode)?;
-    let with_text = with_mode.arg(text)?;
-    with_text.arg(file)
+fn with_files<'a>(alloc: Global, command: Command<'a>) -> Result<Command<'a>, AllocError> {
+    let path = Arg::new(alloc, "path")
+        .value_name("PATH")
+        .num_args(0..)
+        .action(ArgAction::Append)
+        .help("The files and folders to read; - is standard input; without one, this folder");
+    let exclude = option(
+        alloc,
+        "exclude",
+        "NAME",
+        "Leave out files and folders with this name; it can be given again",
+    );
+    let stdin_path = option(
+        alloc,
+        "stdin-path",
+        "PATH",
+        "The path that stands for standard input in messages",
+    );
+    let with_path = command.arg(path)?;
+    let with_exclude = with_path.arg(exclude.action(ArgAction::Append))?;
+    with_exclude.arg(stdin_path)
 }
 
-/// Adds the options that say what is shown of faults. Returns `Err` if an allocation fails.
+/// Adds the options that say how files are read. Returns `Err` if an allocation fails.
+#[inline]
+fn with_reading<'a>(alloc: Global, command: Command<'a>) -> Result<Command<'a>, AllocError> {
+    let edition = option(
+        alloc,
+        "edition",
+        "YEAR",
+        "The edition of the files, in place of that in the nearest Cargo.toml",
+    );
+    let name = option(
+        alloc,
+        "macro",
+        "NAME:INDEX",
+        "A macro, and which of its arguments, from 0, is a format string; it can be given again",
+    );
+    let with_edition = command.arg(edition.value_parser(EDITIONS.as_slice()))?;
+    with_edition.arg(name.action(ArgAction::Append))
+}
+
+/// Adds the options that say what is written of files. Returns `Err` if an allocation fails.
+#[inline]
+fn with_messages<'a>(alloc: Global, command: Command<'a>) -> Result<Command<'a>, AllocError> {
+    let form = option(
+        alloc,
+        "message-format",
+        "FORM",
+        "The form of messages; short is a line, and json has rustc's members",
+    );
+    let stats = flag(
+        alloc,
+        "stats",
+        "Say on standard error what was read, and what was not and why",
+    );
+    let quiet = flag(
+        alloc,
+        "quiet",
+        "Do not say on standard error how many faults there are",
+    );
+    let with_form = command.arg(form.value_parser(FORMS.as_slice()).default_value("human"))?;
+    let with_stats = with_form.arg(stats)?;
+    with_stats.arg(quiet.short('q'))
+}
+
+/// Says that an option is not given with those about files. Returns `Err` if an allocation fails.
+#[inline]
+fn without_files<'a>(arg: Arg<'a>) -> Result<Arg<'a>, AllocError> {
+    let one = arg.conflicts_with("exclude")?.conflicts_with("edition")?;
+    let two = one
+        .conflicts_with("macro")?
+        .conflicts_with("message-format")?;
+    two.conflicts_with("stats")
+}
+
+/// Adds the options that say that one string is read, and not files. Returns `Err` if an allocation
+/// fails.
+#[inline]
+fn with_string<'a>(alloc: Global, command: Command<'a>) -> Result<Command<'a>, AllocError> {
+    let literal = flag(
+        alloc,
+        "literal",
+        "Read one string literal, of a file or of standard input",
+    );
+    let text = flag(
+        alloc,
+        "text",
+        "Read the text of one string, of a file or of standard input",
+    );
+    let with_literal = command.arg(without_files(literal)?)?;
+    let with_text = with_literal.arg(without_files(text)?)?;
+    let group = ArgGroup::new(alloc, "string").arg("literal")?;
+    with_text.group(group.arg("text")?)
+}
+
+/// Adds the options that say what is shown of a string. Returns `Err` if an allocation fails.
 #[inline]
 fn with_faults<'a>(alloc: Global, command: Command<'a>) -> Result<Command<'a>, AllocError> {
     let fix = flag(
@@ -64,25 +152,28 @@ fn with_faults<'a>(alloc: Global, command: Command<'a>) -> Result<Command<'a>, A
     let tokens = flag(
         alloc,
         "tokens",
-        "Print the tokens, in colours or each in a line, and then the fault",
+        "Print the tokens of the string, in colours or each in a line, and then the fault",
     );
     let all = flag(
         alloc,
         "all",
-        "Draw all faults, each with its id and whether it follows from an earlier one",
+        "Draw all faults of the string, each with its id and whether it follows from another",
     );
-    let with_fix = command.arg(fix.conflicts_with("text")?)?;
-    let with_tokens = with_fix.arg(tokens.conflicts_with("fix")?)?;
-    with_tokens.arg(all.conflicts_with("fix")?.conflicts_with("tokens")?)
+    let of_literal = fix.requires_arg("literal")?.conflicts_with("text")?;
+    let with_fix = command.arg(of_literal)?;
+    let apart = tokens.requires_arg("string")?.conflicts_with("fix")?;
+    let with_tokens = with_fix.arg(apart)?;
+    let all_apart = all.requires_arg("string")?.conflicts_with("fix")?;
+    with_tokens.arg(all_apart.conflicts_with("tokens")?)
 }
 
-/// Adds the options that list pieces. Returns `Err` if an allocation fails.
+/// Adds the options that list the pieces of a string. Returns `Err` if an allocation fails.
 #[inline]
 fn with_list<'a>(alloc: Global, command: Command<'a>) -> Result<Command<'a>, AllocError> {
     let list = flag(
         alloc,
         "list",
-        "List the pieces and the faults, each in a line, as formatread does",
+        "List the pieces and the faults of the string, each in a line, as formatread does",
     );
     let args = option(
         alloc,
@@ -90,105 +181,56 @@ fn with_list<'a>(alloc: Global, command: Command<'a>) -> Result<Command<'a>, All
         "LIST",
         "With --list: name arguments, as in 2,w, and list those that are missing or unused",
     );
+    let form = option(
+        alloc,
+        "format",
+        "FORM",
+        "With --list: text, as formatread writes it, or json, an object in each line",
+    );
+    let mode = option(alloc, "mode", "MODE", "What the string is");
     let apart = list.conflicts_with("fix")?.conflicts_with("tokens")?;
-    let with_list = command.arg(apart.conflicts_with("all")?)?;
-    with_list.arg(args.requires_arg("list")?)
+    let listed = apart.conflicts_with("all")?.requires_arg("string")?;
+    let with_list = command.arg(listed)?;
+    let with_args = with_list.arg(args.requires_arg("list")?)?;
+    let some_form = form.value_parser(LISTINGS.as_slice());
+    let with_form = with_args.arg(some_form.requires_arg("list")?)?;
+    let some_mode = mode.value_parser(MODES.as_slice()).default_value("format");
+    with_form.arg(some_mode.requires_arg("string")?)
 }
 
-/// Returns the options and the argument of the program. Returns `Err` if an allocation fails.
+/// Adds the options that say something of the program itself. Returns `Err` if an allocation fails.
+#[inline]
+fn with_others<'a>(alloc: Global, command: Command<'a>) -> Result<Command<'a>, AllocError> {
+    let color = option(
+        alloc,
+        "color",
+        "WHEN",
+        "Whether tokens have colours; auto: if standard output is a terminal that has them",
+    );
+    let ids = flag(alloc, "list-ids", "List the ids of all kinds of faults");
+    let explain = option(
+        alloc,
+        "explain",
+        "ID",
+        "Say what a kind of fault is, with an example",
+    );
+    let with_color = command.arg(color.value_parser(TIMES.as_slice()).default_value("auto"))?;
+    let with_ids = with_color.arg(ids)?;
+    with_ids.arg(explain)
+}
+
+/// Returns the options and the arguments of the program. Returns `Err` if an allocation fails.
 #[inline]
 pub fn command<'a>(alloc: Global) -> Result<Command<'a>, AllocError> {
     let named = Command::new(alloc, "formatlint")
         .bin_name("formatlint")?
         .version(VERSION)
-        .about("Draws the faults of a string literal under it, as the Rust compiler does");
-    let with_input = with_input(alloc, named)?;
-    let with_faults = with_faults(alloc, with_input)?;
+        .about("Finds the faults of format strings in Rust sources, as the Rust compiler does");
+    let with_files = with_files(alloc, named)?;
+    let with_reading = with_reading(alloc, with_files)?;
+    let with_messages = with_messages(alloc, with_reading)?;
+    let with_string = with_string(alloc, with_messages)?;
+    let with_faults = with_faults(alloc, with_string)?;
     let with_list = with_list(alloc, with_faults)?;
-    let color = option(
-        alloc,
-        "color",
-        "WHEN",
-        "Whether there are colours; auto: if standard output is a terminal that has them",
-    );
-    with_list.arg(color.value_parser(TIMES.as_slice()).default_value("auto"))
-}
-
-/// Returns the word that names the mode that is asked for.
-#[inline]
-fn mode_word<'a>(matches: &ArgMatches<'a>) -> &'a str {
-    matches.get_str("mode").unwrap_or("format")
-}
-
-/// Returns the mode that is asked for.
-#[inline]
-fn mode_of(matches: &ArgMatches<'_>) -> ParseMode {
-    match mode_word(matches) {
-        "asm" => ParseMode::InlineAsm,
-        "diagnostic" => ParseMode::Diagnostic,
-        "diagnostic-named" => ParseMode::DiagnosticNamed,
-        _ => ParseMode::Format,
-    }
-}
-
-/// Returns when colours are asked for.
-#[inline]
-pub fn when_of(matches: &ArgMatches<'_>) -> When {
-    match matches.get_str("color").unwrap_or("auto") {
-        "always" => When::Always,
-        "never" => When::Never,
-        _ => When::Auto,
-    }
-}
-
-/// Returns the file to read, or `None` for standard input.
-#[inline]
-pub fn file_of<'a>(matches: &ArgMatches<'a>) -> Option<&'a str> {
-    match matches.get_str("file") {
-        Some("-") => None,
-        file => file,
-    }
-}
-
-/// Returns what is to be shown.
-#[inline]
-fn show_of(matches: &ArgMatches<'_>, has_colours: bool) -> Show {
-    if matches.get_flag("fix") {
-        Show::Fix
-    } else if matches.get_flag("all") {
-        Show::All
-    } else if !matches.get_flag("tokens") {
-        Show::Fault
-    } else if has_colours {
-        Show::Colours
-    } else {
-        Show::Tokens
-    }
-}
-
-/// Returns the task that is asked for, where the input has this path.
-#[inline]
-pub fn task_of<'a>(matches: &ArgMatches<'_>, path: &'a str, has_colours: bool) -> Task<'a> {
-    Task {
-        mode: mode_of(matches),
-        is_literal: !matches.get_flag("text"),
-        path,
-        show: show_of(matches, has_colours),
-    }
-}
-
-/// Returns the arguments with which `formatread` lists what is asked for. Returns `Err` if an
-/// allocation fails.
-#[inline]
-pub fn list_words(alloc: Global, matches: &ArgMatches<'_>) -> Result<Vec<String>, AllocError> {
-    let mut words = Vec::made_in(alloc);
-    words.try_push(String::made_from(alloc, mode_word(matches))?)?;
-    if !matches.get_flag("text") {
-        words.try_push(String::made_from(alloc, "--literal")?)?;
-    }
-    if let Some(list) = matches.get_str("args") {
-        words.try_push(String::made_from(alloc, "--args")?)?;
-        words.try_push(String::made_from(alloc, list)?)?;
-    }
-    Ok(words)
+    with_others(alloc, with_list)
 }

@@ -108,3 +108,22 @@ pub fn put_not_literal(
     out.try_push_str("\n  = help: with --text the input is read as it stands\n")?;
     Ok(())
 }
+
+/// Appends the line that says why the file with this path is not read from a place on. Returns
+/// `Err` if an allocation fails, and a part of the line may then be appended.
+// ensures { OnOk result (string_bytes out.new
+//     ≡ string_bytes out.old ++ place_failure path.now place why.now) }
+#[inline]
+pub fn put_place_failure(
+    out: &mut String,
+    path: &str,
+    place: Place,
+    why: &str,
+) -> Result<(), AllocError> {
+    put_opening(out, path)?;
+    put_place(out, place)?;
+    out.try_push_str(": ")?;
+    out.try_push_str(why)?;
+    out.try_push_str("\n")?;
+    Ok(())
+}

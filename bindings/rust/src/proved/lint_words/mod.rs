@@ -1,5 +1,5 @@
 //! The words of the program `formatlint`: its lines where it has no answer ([`put_failure`],
-//! [`put_not_literal`]), and whether it uses colours ([`wants_colours`]).
+//! [`put_not_literal`], [`put_place_failure`]), and whether it uses colours ([`wants_colours`]).
 
 // Extracted from crates/lint_words/src/lib.rt by tools/extract: not to be edited.
 // That source is proved, and each contract here is its. That this text means the same is tested:
@@ -9,4 +9,4 @@ pub(crate) mod colours;
 pub(crate) mod messages;
 
 pub use colours::{wants_colours, When};
-pub use messages::{put_failure, put_not_literal, system_words};
+pub use messages::{put_failure, put_not_literal, put_place_failure, system_words};

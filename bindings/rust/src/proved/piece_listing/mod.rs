@@ -17,3 +17,5 @@ pub(crate) mod task;
 pub mod verdict;
 pub use listing::put_quoted;
 pub use numbers::put_span;
+pub use report_lines::{has_entries, report_for};
+pub use task::{task_of, Task};

@@ -11,4 +11,4 @@ pub(crate) mod names;
 pub(crate) mod uses;
 
 pub use checker::{check, check_uses, Report};
-pub use uses::Uses;
+pub use uses::{uses_of, Uses};

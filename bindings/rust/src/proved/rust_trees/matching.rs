@@ -75,6 +75,13 @@ pub fn add(found: &mut Matching, token: &Token<'_>) -> Result<(), AllocError> {
     Ok(())
 }
 
+/// Returns whether no delimiter may still be closed.
+// ensures { IsTrue result → found.now.openings.items ≡ [] }
+#[inline]
+pub fn is_closed(found: &Matching) -> bool {
+    found.openings.is_empty()
+}
+
 /// Returns the pairs of delimiters in these tokens. Returns `Err` if an allocation fails.
 // ensures { IfOk result (λ m. IsMatched (map leaf tokens.now) m) }
 #[inline]

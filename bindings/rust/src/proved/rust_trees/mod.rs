@@ -5,14 +5,16 @@
 // That source is proved, and each contract here is its. That this text means the same is tested:
 // by results from outside, and beside what is proved (.ci/bindings) and the original (tools/agree).
 
+pub(crate) mod balance;
 pub(crate) mod leaves;
 pub(crate) mod matching;
 pub(crate) mod places;
 pub(crate) mod sides;
 pub(crate) mod source;
 
-pub use leaves::Token;
+pub use balance::{Balance, BreakAt, BreakKind};
+pub use leaves::{Token, Tokens};
 pub use matching::Break;
 pub use places::{place_at, Place, Places};
-pub use sides::Side;
+pub use sides::{is_opening, Side};
 pub use source::Source;

@@ -57,3 +57,17 @@ pub fn is_same(opening: Delimiter, closing: Delimiter) -> bool {
             | (Delimiter::Brace, Delimiter::Brace)
     )
 }
+
+/// Returns whether a token closes a pair.
+// ensures { IsTrue result → (d : Delimiter) × (side ≡ Closes d) }
+#[inline]
+pub fn is_closing(side: Side) -> bool {
+    matches!(side, Side::Closes(_))
+}
+
+/// Returns whether a token opens a pair.
+// ensures { result ≡ is_opening side }
+#[inline]
+pub fn is_opening(side: Side) -> bool {
+    matches!(side, Side::Opens(_))
+}

@@ -4,9 +4,13 @@
 // That source is proved, and each contract here is its. That this text means the same is tested:
 // by results from outside, and beside what is proved (.ci/bindings) and the original (tools/agree).
 
-use crate::proved::rust_trees::leaves::{leaves, Token};
-use crate::proved::rust_trees::matching::{break_of, match_delimiters, Break, Matching};
+use crate::proved::rust_trees::leaves::{leaves, Token, Tokens};
+use crate::proved::rust_trees::matching::{
+    add, break_of, is_closed, match_delimiters, Break, Matching,
+};
+use crate::proved::rust_trees::sides::is_closing;
 use crate::shim::alloc::{AllocError, Global};
+use crate::shim::prelude::*;
 
 /// The tokens of a file with the pairs of delimiters among them. A contract sees the tokens.
 pub struct Source<'a> {
@@ -36,6 +40,33 @@ impl<'a> Source<'a> {
     pub fn new(alloc: Global, text: &'a str) -> Result<Self, AllocError> {
         let tokens = leaves(alloc, text)?;
         let found = match_delimiters(alloc, &tokens)?;
+        Ok(source_of(tokens, found))
+    }
+
+    /// Reads the tokens of a file after these, up to the closing delimiter that closes the last
+    /// open one of them, or to the end of the file if there is none. Returns all these tokens.
+    /// Returns `Err` if an allocation fails; what was read is then left out.
+    // ensures file { rest.new.whole ≡ rest.old.whole }
+    // ensures fewer { length rest.new.rest ≤ length rest.old.rest }
+    // ensures joins { IfOk result (λ s. (more : List Leaf) × (s ≡ map leaf front.now ++ more)
+    //     × ((ls : List Leaf) → AreLeft rest.new ls → AreLeft rest.old (more ++ ls))) }
+    // ensures whole { IfOk result (λ s. AreLeft rest.new [] ⊎ IsGroup s) }
+    #[inline]
+    pub fn read_group(
+        alloc: Global,
+        front: &[Token<'a>],
+        rest: &mut Tokens<'a>,
+    ) -> Result<Self, AllocError> {
+        let mut tokens = Vec::made_in(alloc);
+        tokens.try_extend_from_slice(front)?;
+        let mut found = match_delimiters(alloc, front)?;
+        while let Some(token) = rest.next() {
+            add(&mut found, &token)?;
+            tokens.try_push(token)?;
+            if is_closing(token.side()) && is_closed(&found) {
+                return Ok(source_of(tokens, found));
+            }
+        }
         Ok(source_of(tokens, found))
     }
 

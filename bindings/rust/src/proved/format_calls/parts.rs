@@ -1,0 +1,134 @@
+//! The parts of a file that have calls.
+
+// Extracted from crates/format_calls/src/parts.rt by tools/extract: not to be edited.
+// That source is proved, and each contract here is its. That this text means the same is tested:
+// by results from outside, and beside what is proved (.ci/bindings) and the original (tools/agree).
+
+use crate::proved::format_calls::marks::{is_mark_of, is_word, word};
+use crate::proved::format_calls::table::{rule_of, Row, Table};
+use crate::proved::rust_trees::{is_opening, Balance, Source, Token, Tokens};
+use crate::shim::alloc::{AllocError, Global};
+
+/// Returns whether three tokens are a word of a table, `!` and an opening delimiter.
+// ensures { result ≡ opens_call (map entry rows.now) (leaf name.now) (leaf mark.now)
+//     (leaf opening.now) }
+#[inline]
+fn opens_call(rows: &[Row<'_>], name: &Token<'_>, mark: &Token<'_>, opening: &Token<'_>) -> bool {
+    is_mark_of(mark, b'!')
+        && is_opening(opening.side())
+        && is_word(name)
+        && rule_of(rows, word(name)).is_some()
+}
+
+/// The last two tokens that were read of a file: `None` where there were fewer.
+#[derive(Clone, Copy)]
+pub struct Window<'a> {
+    /// Whether `$` stands before the first one.
+    pub is_behind: bool,
+    /// The first one.
+    pub name: Option<Token<'a>>,
+    /// The second one.
+    pub mark: Option<Token<'a>>,
+}
+
+/// The first three tokens of a call: a word, `!` and an opening delimiter.
+#[derive(Clone, Copy)]
+pub struct Front<'a> {
+    pub name: Token<'a>,
+    pub mark: Token<'a>,
+    pub opening: Token<'a>,
+}
+
+/// Returns the first three tokens of a call, if the last two tokens and the one after them are
+/// these.
+// ensures { option_map seen_front result
+//     ≡ front_of (map entry rows.now) (seen_window last.entry) (leaf opening.entry) }
+#[inline]
+fn front_of<'a>(rows: &[Row<'_>], last: Window<'a>, opening: Token<'a>) -> Option<Front<'a>> {
+    if last.is_behind {
+        return None;
+    }
+    let Some(name) = last.name else {
+        return None;
+    };
+    let Some(mark) = last.mark else {
+        return None;
+    };
+    if opens_call(rows, &name, &mark, &opening) {
+        Some(Front {
+            name,
+            mark,
+            opening,
+        })
+    } else {
+        None
+    }
+}
+
+/// Returns the last two tokens with one more.
+// ensures { seen_window result ≡ moved_on (seen_window last.entry) (leaf token.entry) }
+#[inline]
+fn moved_on<'a>(last: Window<'a>, token: Token<'a>) -> Window<'a> {
+    let is_behind = match last.name {
+        Some(name) => is_mark_of(&name, b'$'),
+        None => last.is_behind,
+    };
+    Window {
+        is_behind,
+        name: last.mark,
+        mark: Some(token),
+    }
+}
+
+/// Adds the tokens of a part behind the first three. Returns `Err` if an allocation fails.
+// requires { 3 ≤ length part.now }
+// ensures { OnOk result ((w : List Leaf) → IsBalanced w balance.old
+//     → IsBalanced (w ++ drop 3 part.now) balance.new) }
+#[inline]
+fn add_behind_front(balance: &mut Balance, part: &Source<'_>) -> Result<(), AllocError> {
+    let tokens = part.tokens();
+    balance.add_all(&tokens[3..])?;
+    Ok(())
+}
+
+/// Reads a file up to the end of the next call of a macro of a table, with the calls that begin
+/// within it, and returns its tokens from the name on. Returns `None` at the end of the file if no
+/// further call comes, and `Err` if an allocation fails.
+///
+/// Only these tokens are in memory at a time, where a whole file takes some twenty times its bytes.
+/// Where the delimiters of a call do not match, its part ends at the first one that nothing allows,
+/// or with the file. All tokens that are read are added to `balance`.
+// ensures file { rest.new.whole ≡ rest.old.whole }
+// ensures fewer { IfOk result (λ o. IfSome o (λ _. length rest.new.rest < length rest.old.rest)) }
+// ensures some { IfOk result (λ o. IfSome o (λ s. (gap : List Leaf) × ((left : List Leaf)
+//     → AreLeft rest.new left → AreLeft rest.old (gap ++ (s ++ left))
+//     × IsPart (map entry table.now.rows.items) gap s left)
+//     × ((w : List Leaf) → IsBalanced w balance.old
+//     → IsBalanced (w ++ (gap ++ s)) balance.new))) }
+// ensures none { IfOk result (λ o. IsNone o → (left : List Leaf) × AreLeft rest.old left
+//     × ((c : Call) → IsCall (map entry table.now.rows.items) left c → ⊥)
+//     × ((w : List Leaf) → IsBalanced w balance.old → IsBalanced (w ++ left) balance.new)) }
+#[inline]
+pub fn next_part<'a>(
+    alloc: Global,
+    rest: &mut Tokens<'a>,
+    table: &Table<'_>,
+    balance: &mut Balance,
+) -> Result<Option<Source<'a>>, AllocError> {
+    let mut last = Window {
+        is_behind: false,
+        name: None,
+        mark: None,
+    };
+    while let Some(token) = rest.next() {
+        balance.add(&token)?;
+        if let Some(front) = front_of(&table.rows, last, token) {
+            let tokens = [front.name, front.mark, front.opening];
+            let part = Source::read_group(alloc, &tokens, rest)?;
+            add_behind_front(balance, &part)?;
+            return Ok(Some(part));
+        }
+        last = moved_on(last, token);
+    }
+    Ok(None)
+}

@@ -1,0 +1,153 @@
+//! What the options ask for.
+
+// Extracted from crates/formatlint/src/asked.rt by tools/extract: not to be edited.
+// That source is proved, and each contract here is its. That this text means the same is tested:
+// by results from outside, and beside what is proved (.ci/bindings) and the original (tools/agree).
+
+use crate::proved::format_calls::{Row, Rule, Table};
+use crate::proved::format_lint::task::{Show, Task};
+use crate::proved::formatlint::forms::Form;
+use crate::proved::lint_words::When;
+use crate::proved::rustc_parse_format::ParseMode;
+use crate::shim::alloc::{AllocError, Global};
+use crate::shim::clap::ArgMatches;
+use crate::shim::prelude::*;
+
+/// Returns the word that names the mode that is asked for.
+#[inline]
+fn mode_word<'a>(matches: &ArgMatches<'a>) -> &'a str {
+    matches.get_str("mode").unwrap_or("format")
+}
+
+/// Returns the mode that is asked for.
+#[inline]
+fn mode_of(matches: &ArgMatches<'_>) -> ParseMode {
+    match mode_word(matches) {
+        "asm" => ParseMode::InlineAsm,
+        "diagnostic" => ParseMode::Diagnostic,
+        "diagnostic-named" => ParseMode::DiagnosticNamed,
+        _ => ParseMode::Format,
+    }
+}
+
+/// Returns when colours are asked for.
+#[inline]
+pub fn when_of(matches: &ArgMatches<'_>) -> When {
+    match matches.get_str("color").unwrap_or("auto") {
+        "always" => When::Always,
+        "never" => When::Never,
+        _ => When::Auto,
+    }
+}
+
+/// Returns the form of messages that is asked for.
+#[inline]
+pub fn form_of(matches: &ArgMatches<'_>) -> Form {
+    match matches.get_str("message-format").unwrap_or("human") {
+        "short" => Form::Short,
+        "json" => Form::Json,
+        "github" => Form::Github,
+        "sarif" => Form::Sarif,
+        _ => Form::Human,
+    }
+}
+
+/// Returns the file of one string, or `None` for standard input.
+#[inline]
+pub fn file_of<'a>(matches: &ArgMatches<'a>) -> Option<&'a str> {
+    match matches.get_str("path") {
+        Some("-") => None,
+        file => file,
+    }
+}
+
+/// Returns what is to be shown of one string.
+#[inline]
+fn show_of(matches: &ArgMatches<'_>, has_colours: bool) -> Show {
+    if matches.get_flag("fix") {
+        Show::Fix
+    } else if matches.get_flag("all") {
+        Show::All
+    } else if !matches.get_flag("tokens") {
+        Show::Fault
+    } else if has_colours {
+        Show::Colours
+    } else {
+        Show::Tokens
+    }
+}
+
+/// Returns the task that is asked for, where the input has this path.
+#[inline]
+pub fn task_of<'a>(matches: &ArgMatches<'_>, path: &'a str, has_colours: bool) -> Task<'a> {
+    Task {
+        mode: mode_of(matches),
+        is_literal: !matches.get_flag("text"),
+        path,
+        show: show_of(matches, has_colours),
+    }
+}
+
+/// Returns the arguments with which `formatread` lists what is asked for. Returns `Err` if an
+/// allocation fails.
+#[inline]
+pub fn list_words(alloc: Global, matches: &ArgMatches<'_>) -> Result<Vec<String>, AllocError> {
+    let mut words = Vec::made_in(alloc);
+    words.try_push(String::made_from(alloc, mode_word(matches))?)?;
+    if !matches.get_flag("text") {
+        words.try_push(String::made_from(alloc, "--literal")?)?;
+    }
+    if let Some(list) = matches.get_str("args") {
+        words.try_push(String::made_from(alloc, "--args")?)?;
+        words.try_push(String::made_from(alloc, list)?)?;
+    }
+    Ok(words)
+}
+
+/// Returns whether a text can be the name of a macro.
+#[inline]
+fn is_name(text: &str) -> bool {
+    match text.chars().next() {
+        Some(first) if !first.is_ascii_digit() => {
+            text.chars().all(|c| c == '_' || c.is_alphanumeric())
+        }
+        _ => false,
+    }
+}
+
+/// Returns the macro that a word `NAME:INDEX` means, or `None` if it means none.
+#[inline]
+fn row_of(word: &str) -> Option<Row<'_>> {
+    let (name, index) = word.split_once(':')?;
+    let index = index.parse::<usize>().ok()?;
+    is_name(name).then_some(Row {
+        name,
+        rule: Rule::At(index),
+    })
+}
+
+/// Returns the macros that are known: those of the standard library and of some crates, and those
+/// that are given. The error is the first word that means none, or `None` if an allocation fails.
+#[inline]
+pub fn table_of<'a>(alloc: Global, given: &[&'a str]) -> Result<Table<'a>, Option<&'a str>> {
+    let Ok(mut table) = Table::standard(alloc) else {
+        return Err(None);
+    };
+    let Ok(others) = Table::of_crates(alloc) else {
+        return Err(None);
+    };
+    for row in &others.rows {
+        if table.rows.try_push(*row).is_err() {
+            return Err(None);
+        }
+    }
+    for word in given {
+        let Some(row) = row_of(word) else {
+            return Err(Some(*word));
+        };
+        if table.add(row).is_err() {
+            return Err(None);
+        }
+    }
+    Ok(table)
+}

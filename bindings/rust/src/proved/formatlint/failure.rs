@@ -1,0 +1,51 @@
+//! Why something was not done.
+
+// Extracted from crates/formatlint/src/failure.rt by tools/extract: not to be edited.
+// That source is proved, and each contract here is its. That this text means the same is tested:
+// by results from outside, and beside what is proved (.ci/bindings) and the original (tools/agree).
+
+use crate::proved::piece_listing::verdict::RunFault;
+use crate::shim::alloc::AllocError;
+use std::io;
+
+/// Why there is no answer.
+pub struct Failure {
+    /// What failed.
+    pub fault: RunFault,
+    /// The error of the system, if it has one.
+    pub error: Option<io::Error>,
+}
+
+impl From<RunFault> for Failure {
+    #[inline]
+    fn from(fault: RunFault) -> Failure {
+        Failure { fault, error: None }
+    }
+}
+
+impl From<AllocError> for Failure {
+    #[inline]
+    fn from(_error: AllocError) -> Failure {
+        Failure::from(RunFault::Memory)
+    }
+}
+
+impl Failure {
+    /// Returns the failure of a read with this error.
+    #[inline]
+    pub fn of(error: io::Error) -> Failure {
+        Failure {
+            fault: RunFault::Read,
+            error: Some(error),
+        }
+    }
+
+    /// Returns whether the reader of the output is gone.
+    #[inline]
+    pub fn is_of_a_broken_pipe(&self) -> bool {
+        match &self.error {
+            Some(error) => error.kind() == io::ErrorKind::BrokenPipe,
+            None => false,
+        }
+    }
+}

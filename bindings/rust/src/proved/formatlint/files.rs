@@ -1,0 +1,306 @@
+//! The run over files and folders.
+
+// Extracted from crates/formatlint/src/files.rt by tools/extract: not to be edited.
+// That source is proved, and each contract here is its. That this text means the same is tested:
+// by results from outside, and beside what is proved (.ci/bindings) and the original (tools/agree).
+
+use crate::proved::formatlint::editions::Editions;
+use crate::proved::formatlint::failure::Failure;
+use crate::proved::formatlint::forms::{put_end, put_finding, put_start, File, Form};
+use crate::proved::formatlint::literal::tell_of_terminal;
+use crate::proved::formatlint::noted::Noted;
+use crate::proved::formatlint::told::Told;
+use crate::proved::formatlint::walk::Walk;
+use crate::proved::piece_listing::run::write_whole;
+use crate::proved::rust_trees::{BreakKind, Places};
+use crate::proved::source_lint::{file_faults, Options, Report};
+use crate::shim::host::fs;
+use crate::shim::prelude::*;
+use std::io;
+use std::io::Read;
+
+/// The most bytes of a file that are read.
+const MOST: usize = 64 << 20;
+
+/// What is written at once, at least, if more is to come.
+const CHUNK: usize = 1 << 16;
+
+/// What is asked for of files.
+pub struct Asked<'a> {
+    /// The paths of files and folders.
+    pub paths: &'a [&'a str],
+    /// The names of files and folders that are excluded.
+    pub excluded: &'a [&'a str],
+    /// The path that is shown for standard input.
+    pub stdin_path: Option<&'a str>,
+    /// The form of messages.
+    pub form: Form,
+    /// The edition, or `None` for that of each package.
+    pub edition: Option<&'a str>,
+    /// The version of the program.
+    pub version: &'a str,
+}
+
+/// A run.
+struct Run<'a> {
+    asked: &'a Asked<'a>,
+    options: Options<'a>,
+    editions: Editions<'a>,
+    told: Told,
+    /// What is still to be written.
+    out: String,
+    /// Whether a message was put.
+    has_messages: bool,
+}
+
+/// Returns why a file is not read further.
+#[inline]
+fn break_words(kind: BreakKind) -> &'static str {
+    match kind {
+        BreakKind::Unclosed => "this delimiter is not closed",
+        BreakKind::Unexpected => "unexpected closing delimiter",
+        BreakKind::Unended => "this literal or comment has no end",
+    }
+}
+
+/// Writes a text to standard output.
+#[inline]
+pub fn write(rt: &crate::shim::host::HostRuntime, text: &str) -> Result<(), Failure> {
+    let mut writer = Noted::new(rt.stdout());
+    match write_whole(&mut writer, text.as_bytes()) {
+        Ok(()) => Ok(()),
+        Err(fault) => Err(Failure {
+            fault,
+            error: writer.error,
+        }),
+    }
+}
+
+impl<'a> Run<'a> {
+    /// Writes what is still to be written.
+    #[inline]
+    fn flush(&mut self, rt: &crate::shim::host::HostRuntime) -> Result<(), Failure> {
+        write(rt, self.out.as_str())?;
+        self.out.clear();
+        Ok(())
+    }
+
+    /// Puts the messages of a file.
+    // requires { file.now.places ≡ file.now.text.now }
+    #[inline]
+    fn put_findings<'x>(
+        &mut self,
+        rt: &crate::shim::host::HostRuntime,
+        file: &'x File<'x>,
+        report: &'x Report,
+    ) -> Result<(), Failure> {
+        for finding in &report.findings {
+            let is_first = !self.has_messages;
+            put_finding(&mut self.out, self.asked.form, is_first, file, finding)?;
+            self.has_messages = true;
+            if self.out.len() > CHUNK {
+                self.flush(rt)?;
+            }
+        }
+        Ok(())
+    }
+}
+
+/// What was read of a file.
+#[derive(Clone, Copy)]
+enum Extent {
+    /// All of it.
+    Whole,
+    /// What is in front of bytes that are not UTF-8.
+    Text,
+    /// The first bytes.
+    Front,
+}
+
+/// Returns the text at the start of a file, and how much of it that is.
+#[inline]
+fn text_of(bytes: &[u8]) -> (&str, Extent) {
+    let is_cut = bytes.len() > MOST;
+    let read = bytes.get(..MOST).unwrap_or(bytes);
+    match std::str::from_utf8(read) {
+        Ok(text) if is_cut => (text, Extent::Front),
+        Ok(text) => (text, Extent::Whole),
+        Err(error) => {
+            let front = read.get(..error.valid_up_to()).unwrap_or(&[]);
+            let text = std::str::from_utf8(front).unwrap_or("");
+            if is_cut && error.error_len().is_none() {
+                (text, Extent::Front)
+            } else {
+                (text, Extent::Text)
+            }
+        }
+    }
+}
+
+/// Tells why a file was not read to its end, if it was not.
+// requires { file.now.places ≡ file.now.text.now }
+#[inline]
+fn tell_end(
+    rt: &crate::shim::host::HostRuntime,
+    told: &mut Told,
+    file: &File<'_>,
+    extent: Extent,
+    report: &Report,
+) {
+    let end = file.places.at(file.text.len());
+    match extent {
+        Extent::Text => told.fail_at(rt, file.path, end, "not UTF-8"),
+        Extent::Front => told.fail_at(rt, file.path, end, "longer than 64 MiB"),
+        Extent::Whole => {
+            if let Some(broken) = &report.broken {
+                let start = file.text.boundary_at_most(broken.start);
+                let place = file.places.at(start);
+                told.fail_at(rt, file.path, place, break_words(broken.kind));
+            }
+        }
+    }
+}
+
+/// Reads a stream up to its end or the most bytes that are read.
+#[inline]
+fn read_all<R: Read>(rt: &crate::shim::host::HostRuntime, stream: R) -> io::Result<Vec<u8>> {
+    let mut bytes = Vec::made_in(rt.alloc());
+    stream.take(MOST as u64 + 1).read_to_end(&mut bytes)?;
+    Ok(bytes)
+}
+
+impl<'a> Run<'a> {
+    /// Reads the bytes of a file, and puts the messages about it.
+    #[inline]
+    fn lint<'x>(
+        &mut self,
+        rt: &crate::shim::host::HostRuntime,
+        path: &'x str,
+        bytes: &'x [u8],
+    ) -> Result<(), Failure> {
+        let (text, extent) = text_of(bytes);
+        self.options.is_from_2021 = match self.editions.is_from_2021(rt, path) {
+            Ok(known) => known,
+            Err(error) => return Err(Failure::of(error)),
+        };
+        let report = file_faults(rt.alloc(), text, &self.options)?;
+        self.told.add(&report);
+        let is_broken = report.broken.is_some() || !matches!(extent, Extent::Whole);
+        if report.findings.is_empty() && !is_broken {
+            return Ok(());
+        }
+        let places = Places::new(rt.alloc(), text)?;
+        let file = File { path, text, places };
+        self.put_findings(rt, &file, &report)?;
+        self.flush(rt)?;
+        tell_end(rt, &mut self.told, &file, extent, &report);
+        Ok(())
+    }
+
+    /// Reads what comes from standard input.
+    #[inline]
+    fn lint_stdin(&mut self, rt: &crate::shim::host::HostRuntime) -> Result<(), Failure> {
+        tell_of_terminal(rt);
+        let path = self.asked.stdin_path.unwrap_or("<stdin>");
+        match read_all(rt, rt.stdin()) {
+            Ok(bytes) => self.lint(rt, path, bytes.as_slice()),
+            Err(error) => {
+                self.told.fail(rt, path, &error);
+                Ok(())
+            }
+        }
+    }
+
+    /// Reads a file.
+    #[inline]
+    fn lint_file(
+        &mut self,
+        rt: &crate::shim::host::HostRuntime,
+        path: &str,
+    ) -> Result<(), Failure> {
+        let read = match fs::open(rt, path) {
+            Ok(file) => read_all(rt, file),
+            Err(error) => Err(error),
+        };
+        match read {
+            Ok(bytes) => self.lint(rt, path, bytes.as_slice()),
+            Err(error) => {
+                self.told.fail(rt, path, &error);
+                Ok(())
+            }
+        }
+    }
+
+    /// Reads the files below a folder.
+    #[inline]
+    fn lint_folder(
+        &mut self,
+        rt: &crate::shim::host::HostRuntime,
+        path: &str,
+    ) -> Result<(), Failure> {
+        let mut walk = Walk::new(rt.alloc(), path, self.asked.excluded)?;
+        for _ in 0..u64::MAX {
+            match walk.next(rt, &mut self.told)? {
+                Some(path) => self.lint_file(rt, path.as_str())?,
+                None => break,
+            }
+        }
+        Ok(())
+    }
+
+    /// Reads a file or a folder, or standard input.
+    #[inline]
+    fn lint_path(
+        &mut self,
+        rt: &crate::shim::host::HostRuntime,
+        path: &str,
+    ) -> Result<(), Failure> {
+        if path == "-" {
+            return self.lint_stdin(rt);
+        }
+        match fs::metadata(rt, path) {
+            Ok(data) if data.is_dir() => self.lint_folder(rt, path),
+            Ok(_) => self.lint_file(rt, path),
+            Err(error) => {
+                self.told.fail(rt, path, &error);
+                Ok(())
+            }
+        }
+    }
+
+    /// Reads all that is asked for.
+    #[inline]
+    fn lint_all(&mut self, rt: &crate::shim::host::HostRuntime) -> Result<(), Failure> {
+        put_start(&mut self.out, self.asked.form, self.asked.version)?;
+        self.flush(rt)?;
+        if self.asked.paths.is_empty() {
+            self.lint_folder(rt, "")?;
+        }
+        let paths = self.asked.paths;
+        for path in paths {
+            self.lint_path(rt, path)?;
+        }
+        put_end(&mut self.out, self.asked.form, self.told.failures == 0)?;
+        self.flush(rt)
+    }
+}
+
+/// Reads all that is asked for, and writes the messages about it. Returns what was read and found,
+/// also if that ended with a failure.
+#[inline]
+pub fn lint<'a>(
+    rt: &crate::shim::host::HostRuntime,
+    asked: &'a Asked<'a>,
+    options: Options<'a>,
+) -> (Told, Result<(), Failure>) {
+    let mut run = Run {
+        asked,
+        options,
+        editions: Editions::new(rt, asked.edition),
+        told: Told::new(),
+        out: String::made_in(rt.alloc()),
+        has_messages: false,
+    };
+    let result = run.lint_all(rt);
+    (run.told, result)
+}

@@ -1,0 +1,228 @@
+//! The run over one string: a literal, or a text.
+
+// Extracted from crates/formatlint/src/literal.rt by tools/extract: not to be edited.
+// That source is proved, and each contract here is its. That this text means the same is tested:
+// by results from outside, and beside what is proved (.ci/bindings) and the original (tools/agree).
+
+use crate::proved::drawn_faults::put_glyphs;
+use crate::proved::format_lint::run::run;
+use crate::proved::formatlint::asked::{file_of, list_words, task_of, when_of};
+use crate::proved::formatlint::failure::Failure;
+use crate::proved::formatlint::noted::Noted;
+use crate::proved::lint_words::{put_failure, put_not_literal, system_words, wants_colours};
+use crate::proved::listing_json::{list, Listing};
+use crate::proved::literal_faults::{file_fault, snippet_of};
+use crate::proved::piece_listing::run::{read_input, run as list_as_text, write_whole};
+use crate::proved::piece_listing::verdict::RunFault;
+use crate::shim::alloc::{AllocError, Global};
+use crate::shim::clap::ArgMatches;
+use crate::shim::host::IsTerminal;
+use crate::shim::host::{env, fs};
+use crate::shim::prelude::*;
+use std::io::{Read, Write};
+
+/// Reads a stream to its end.
+#[inline]
+fn read<R: Read>(rt: &crate::shim::host::HostRuntime, stream: R) -> Result<Vec<u8>, Failure> {
+    let mut reader = Noted::new(stream);
+    match read_input(rt.alloc(), &mut reader) {
+        Ok(bytes) => Ok(bytes),
+        Err(fault) => Err(Failure {
+            fault,
+            error: reader.error,
+        }),
+    }
+}
+
+/// Reads a file, or standard input.
+#[inline]
+fn input(rt: &crate::shim::host::HostRuntime, file: Option<&str>) -> Result<Vec<u8>, Failure> {
+    let Some(path) = file else {
+        tell_of_terminal(rt);
+        return read(rt, rt.stdin());
+    };
+    match fs::open(rt, path) {
+        Ok(file) => read(rt, file),
+        Err(error) => Err(Failure::of(error)),
+    }
+}
+
+/// Says on standard error that standard input is read, if it is a terminal.
+#[inline]
+pub fn tell_of_terminal(rt: &crate::shim::host::HostRuntime) {
+    if rt.stdin().is_terminal() {
+        let _ = rt.eprintln("formatlint: reads what is typed here, up to Ctrl-D; --help says more");
+    }
+}
+
+/// Returns whether what is written to standard output is in colours.
+#[inline]
+fn has_colours(rt: &crate::shim::host::HostRuntime, matches: &ArgMatches<'_>) -> bool {
+    let no_color = env::var(rt, "NO_COLOR").ok();
+    let term = env::var(rt, "TERM").ok();
+    wants_colours(
+        when_of(matches),
+        rt.stdout().is_terminal(),
+        no_color.as_deref(),
+        term.as_deref(),
+    )
+}
+
+/// Returns the bytes of an input that are listed: a text, or the literal without what may stand
+/// around it.
+#[inline]
+fn listed<'a>(matches: &ArgMatches<'_>, input: &'a [u8]) -> &'a [u8] {
+    if matches.get_flag("text") {
+        return input;
+    }
+    match std::str::from_utf8(input) {
+        Ok(file) => snippet_of(file).text.as_bytes(),
+        Err(_) => input,
+    }
+}
+
+/// Returns the listing of an input, in the form that the arguments name.
+#[inline]
+fn listing_of(alloc: Global, matches: &ArgMatches<'_>, input: &[u8]) -> Result<Listing, RunFault> {
+    let words = list_words(alloc, matches)?;
+    let bytes = listed(matches, input);
+    if matches.get_str("format") == Some("json") {
+        return list(alloc, bytes, words.as_slice());
+    }
+    let mut reader = bytes;
+    let mut lines = Vec::made_in(alloc);
+    let has_ends = list_as_text(alloc, &mut reader, &mut lines, words.as_slice())?;
+    Ok(Listing {
+        bytes: lines,
+        has_ends,
+    })
+}
+
+/// Writes the listing of an input. On a terminal its characters are those of a drawing, so that the
+/// terminal obeys none. Returns 1 if a line is not of a piece.
+#[inline]
+fn answer_listing<W: Write>(
+    rt: &crate::shim::host::HostRuntime,
+    writer: &mut W,
+    matches: &ArgMatches<'_>,
+    input: &[u8],
+) -> Result<usize, RunFault> {
+    let listing = listing_of(rt.alloc(), matches, input)?;
+    match std::str::from_utf8(listing.bytes.as_slice()) {
+        Ok(text) if rt.stdout().is_terminal() => {
+            let mut drawn = String::made_in(rt.alloc());
+            put_glyphs(&mut drawn, text, 0)?;
+            write_whole(writer, drawn.as_bytes())?;
+        }
+        _ => write_whole(writer, listing.bytes.as_slice())?,
+    }
+    Ok(usize::from(listing.has_ends))
+}
+
+/// Writes the answer for an input. Returns how many mistakes are left, and of a list 1 if a line is
+/// not of a piece.
+#[inline]
+fn answer(
+    rt: &crate::shim::host::HostRuntime,
+    matches: &ArgMatches<'_>,
+    path: &str,
+    input: &[u8],
+) -> Result<usize, Failure> {
+    let alloc = rt.alloc();
+    let mut writer = Noted::new(rt.stdout());
+    let told = if matches.get_flag("list") {
+        answer_listing(rt, &mut writer, matches, input)
+    } else {
+        let task = task_of(matches, path, has_colours(rt, matches));
+        let mut reader = input;
+        run(alloc, &mut reader, &mut writer, task)
+    };
+    match told {
+        Ok(count) => Ok(count),
+        Err(fault) => Err(Failure {
+            fault,
+            error: writer.error,
+        }),
+    }
+}
+
+/// Appends the lines that say why there is no answer.
+#[inline]
+fn put_why(
+    out: &mut String,
+    path: &str,
+    input: &[u8],
+    failure: &Failure,
+) -> Result<(), AllocError> {
+    if failure.fault == RunFault::NotLiteral {
+        if let Ok(file) = std::str::from_utf8(input) {
+            if let Some(fault) = file_fault(file) {
+                return put_not_literal(out, path, file, &fault);
+            }
+        }
+    }
+    let words = match &failure.error {
+        Some(error) => crate::shim::format_in!(*out.own_allocator(); "{error}")?,
+        None => String::made_in(*out.own_allocator()),
+    };
+    put_failure(out, path, failure.fault, system_words(words.as_str()))
+}
+
+/// The exit status where the reader of the output is gone: that of a program that ends by the
+/// signal SIGPIPE.
+const GONE: u8 = 141;
+
+/// Says why there is no answer, and returns the exit status.
+#[inline]
+pub fn tell(
+    rt: &crate::shim::host::HostRuntime,
+    path: &str,
+    input: &[u8],
+    failure: &Failure,
+) -> u8 {
+    if failure.is_of_a_broken_pipe() {
+        return GONE;
+    }
+    let mut out = String::made_in(rt.alloc());
+    let _ = match put_why(&mut out, path, input, failure) {
+        Ok(()) => rt.eprint(out.as_str()),
+        Err(_) => rt.eprintln("formatlint: out of memory"),
+    };
+    if failure.fault == RunFault::NotLiteral {
+        1
+    } else {
+        3
+    }
+}
+
+/// Says on standard error how many mistakes there are besides the first, where only that is drawn.
+#[inline]
+fn tell_others(rt: &crate::shim::host::HostRuntime, matches: &ArgMatches<'_>, count: usize) {
+    if count > 1 && !matches.get_flag("all") {
+        let others = count - 1;
+        let _ = crate::shim::eprintln_in!(rt; "formatlint: and {others} more, which --all draws");
+    }
+}
+
+/// Does what the arguments ask for of one string. Returns the exit status, or `None` if the list of
+/// arguments is none.
+#[inline]
+pub fn literal_status(rt: &crate::shim::host::HostRuntime, matches: &ArgMatches<'_>) -> Option<u8> {
+    let file = file_of(matches);
+    let path = match file {
+        Some(path) => path,
+        None => matches.get_str("stdin-path").unwrap_or("<stdin>"),
+    };
+    let bytes = match input(rt, file) {
+        Ok(bytes) => bytes,
+        Err(failure) => return Some(tell(rt, path, &[], &failure)),
+    };
+    match answer(rt, matches, path, bytes.as_slice()) {
+        Ok(count) => {
+            tell_others(rt, matches, count);
+            Some(u8::from(count > 0))
+        }
+        Err(failure) if failure.fault == RunFault::Words => None,
+        Err(failure) => Some(tell(rt, path, bytes.as_slice(), &failure)),
+    }
+}

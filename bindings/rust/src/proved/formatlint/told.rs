@@ -1,0 +1,219 @@
+//! What is told beside the messages: on standard error.
+
+// Extracted from crates/formatlint/src/told.rt by tools/extract: not to be edited.
+// That source is proved, and each contract here is its. That this text means the same is tested:
+// by results from outside, and beside what is proved (.ci/bindings) and the original (tools/agree).
+
+use crate::proved::format_calls::Reason;
+use crate::proved::lint_words::{put_failure, put_place_failure, system_words};
+use crate::proved::piece_listing::verdict::RunFault;
+use crate::proved::rust_trees::Place;
+use crate::proved::source_lint::{CallReading, Report};
+use crate::shim::prelude::*;
+use std::io;
+
+/// How many calls were not read, by the reason.
+struct Unread {
+    missing: usize,
+    edition: usize,
+    variable: usize,
+    suffix: usize,
+    inner: usize,
+    expression: usize,
+    redefined: usize,
+    malformed: usize,
+}
+
+/// What was read, and what was found.
+pub struct Told {
+    /// How many files were read, at least in part.
+    pub files: usize,
+    calls: usize,
+    whole: usize,
+    alone: usize,
+    unread: Unread,
+    /// How many faults were found.
+    pub faults: usize,
+    /// How many warnings were found.
+    pub warnings: usize,
+    /// How often something was not read or not written.
+    pub failures: usize,
+}
+
+/// Adds one.
+#[inline]
+fn count(number: &mut usize) {
+    *number = number.saturating_add(1);
+}
+
+/// Returns the plural of a noun, unless there is one.
+#[inline]
+fn ending(number: usize) -> &'static str {
+    if number == 1 {
+        ""
+    } else {
+        "s"
+    }
+}
+
+impl Unread {
+    /// Counts a call.
+    #[inline]
+    fn add(&mut self, reason: Reason) {
+        match reason {
+            Reason::Missing => count(&mut self.missing),
+            Reason::Edition => count(&mut self.edition),
+            Reason::Variable => count(&mut self.variable),
+            Reason::Suffix => count(&mut self.suffix),
+            Reason::Macro => count(&mut self.inner),
+            Reason::Expression => count(&mut self.expression),
+        }
+    }
+
+    /// Returns how many calls there are for each reason, with the reason.
+    #[inline]
+    fn rows(&self) -> [(usize, &'static str); 8] {
+        [
+            (self.missing, "no format string"),
+            (self.edition, "a lone message, before the edition 2021"),
+            (self.redefined, "the file defines the macro"),
+            (self.variable, "a variable of a macro"),
+            (self.inner, "a macro inside"),
+            (self.expression, "another expression"),
+            (self.suffix, "a literal with a suffix"),
+            (self.malformed, "a literal with a wrong escape"),
+        ]
+    }
+}
+
+impl Told {
+    /// Returns that nothing was read.
+    #[inline]
+    pub fn new() -> Told {
+        Told {
+            files: 0,
+            calls: 0,
+            whole: 0,
+            alone: 0,
+            unread: Unread {
+                missing: 0,
+                edition: 0,
+                variable: 0,
+                suffix: 0,
+                inner: 0,
+                expression: 0,
+                redefined: 0,
+                malformed: 0,
+            },
+            faults: 0,
+            warnings: 0,
+            failures: 0,
+        }
+    }
+
+    /// Counts a call.
+    #[inline]
+    fn add_call(&mut self, reading: CallReading) {
+        count(&mut self.calls);
+        match reading {
+            CallReading::Whole => count(&mut self.whole),
+            CallReading::StringAlone => count(&mut self.alone),
+            CallReading::Redefined => count(&mut self.unread.redefined),
+            CallReading::Malformed => count(&mut self.unread.malformed),
+            CallReading::Unread(reason) => self.unread.add(reason),
+        }
+    }
+
+    /// Counts what was read of a file, and what was found in it.
+    #[inline]
+    pub fn add(&mut self, report: &Report) {
+        count(&mut self.files);
+        for call in &report.calls {
+            self.add_call(*call);
+        }
+        for finding in &report.findings {
+            if finding.is_warning {
+                count(&mut self.warnings);
+            } else {
+                count(&mut self.faults);
+            }
+        }
+    }
+
+    /// Tells that something was not read, with the words of the system.
+    #[inline]
+    pub fn fail(&mut self, rt: &crate::shim::host::HostRuntime, path: &str, error: &io::Error) {
+        count(&mut self.failures);
+        let mut out = String::made_in(rt.alloc());
+        let put = match crate::shim::format_in!(rt.alloc(); "{error}") {
+            Ok(words) => {
+                let why = system_words(words.as_str());
+                put_failure(&mut out, path, RunFault::Read, why)
+            }
+            Err(error) => Err(error),
+        };
+        let _ = match put {
+            Ok(()) => rt.eprint(out.as_str()),
+            Err(_) => rt.eprintln("formatlint: out of memory"),
+        };
+    }
+
+    /// Tells why a file was not read from a place on.
+    #[inline]
+    pub fn fail_at(
+        &mut self,
+        rt: &crate::shim::host::HostRuntime,
+        path: &str,
+        place: Place,
+        why: &str,
+    ) {
+        count(&mut self.failures);
+        let mut out = String::made_in(rt.alloc());
+        let _ = match put_place_failure(&mut out, path, place, why) {
+            Ok(()) => rt.eprint(out.as_str()),
+            Err(_) => rt.eprintln("formatlint: out of memory"),
+        };
+    }
+
+    /// Returns how many format strings were read.
+    #[inline]
+    fn strings(&self) -> usize {
+        self.whole.saturating_add(self.alone)
+    }
+
+    /// Writes how many files and format strings were read, and how many faults were found.
+    #[inline]
+    pub fn sum_up(&self, rt: &crate::shim::host::HostRuntime) {
+        let (files, strings, faults) = (self.files, self.strings(), self.faults);
+        let (of_files, of_strings) = (ending(files), ending(strings));
+        let of_faults = ending(faults);
+        let _ = crate::shim::eprint_in!(rt; "{files} file{of_files}, {strings} format string{of_strings}: ");
+        let _ = crate::shim::eprint_in!(rt; "{faults} fault{of_faults}");
+        if self.warnings > 0 {
+            let warnings = self.warnings;
+            let of_warnings = ending(warnings);
+            let _ = crate::shim::eprint_in!(rt; ", {warnings} warning{of_warnings}");
+        }
+        let _ = rt.eprintln("");
+    }
+
+    /// Writes how many calls of known macros there are, and why strings were not read.
+    #[inline]
+    pub fn show_counts(&self, rt: &crate::shim::host::HostRuntime) {
+        let (files, calls, strings) = (self.files, self.calls, self.strings());
+        let _ = crate::shim::eprintln_in!(rt; "files: {files}");
+        let _ = crate::shim::eprintln_in!(rt; "calls of known macros: {calls}");
+        let _ = crate::shim::eprintln_in!(rt; "format strings that were read: {strings}");
+        if self.alone > 0 {
+            let alone = self.alone;
+            let _ = crate::shim::eprintln_in!(rt; "  without their arguments, whose number is not known: {alone}");
+        }
+        let unread = calls.saturating_sub(strings);
+        let _ = crate::shim::eprintln_in!(rt; "calls whose format string was not read: {unread}");
+        for (number, reason) in self.unread.rows() {
+            if number > 0 {
+                let _ = crate::shim::eprintln_in!(rt; "  {reason}: {number}");
+            }
+        }
+    }
+}

@@ -1,0 +1,138 @@
+//! The source files below a folder.
+
+// Extracted from crates/formatlint/src/walk.rt by tools/extract: not to be edited.
+// That source is proved, and each contract here is its. That this text means the same is tested:
+// by results from outside, and beside what is proved (.ci/bindings) and the original (tools/agree).
+
+use crate::proved::formatlint::told::Told;
+use crate::shim::alloc::{AllocError, Global};
+use crate::shim::host::fs;
+use crate::shim::host::fs::DirEntry;
+use crate::shim::prelude::*;
+use std::io;
+
+/// A file or a folder.
+#[derive(PartialEq, Eq, PartialOrd, Ord)]
+struct Entry {
+    path: String,
+    is_folder: bool,
+}
+
+/// The source files below a folder, in the order of names: those whose name ends in `.rs`. Links
+/// are not followed, and hidden folders, those with the name `target` and what is excluded are left
+/// out.
+pub struct Walk<'a> {
+    /// What is still to be read, the next one last.
+    rest: Vec<Entry>,
+    /// The names of files and folders that are excluded.
+    excluded: &'a [&'a str],
+}
+
+/// Returns the path of a name in a folder, which has no path if it is the one where one stands.
+#[inline]
+fn joined(alloc: Global, folder: &str, name: &str) -> Result<String, AllocError> {
+    let mut path = String::made_from(alloc, folder)?;
+    if !folder.is_empty() && !folder.ends_with('/') {
+        path.try_push('/')?;
+    }
+    path.try_push_str(name)?;
+    Ok(path)
+}
+
+/// Returns whether a folder of this name is left out.
+#[inline]
+fn is_left_out(name: &str) -> bool {
+    name.starts_with('.') || name == "target"
+}
+
+impl<'a> Walk<'a> {
+    /// Returns the files below a folder. Without a path it is the one where one stands. Returns
+    /// `Err` if an allocation fails.
+    #[inline]
+    pub fn new(
+        alloc: Global,
+        folder: &str,
+        excluded: &'a [&'a str],
+    ) -> Result<Walk<'a>, AllocError> {
+        let mut rest = Vec::made_in(alloc);
+        rest.try_push(Entry {
+            path: String::made_from(alloc, folder)?,
+            is_folder: true,
+        })?;
+        Ok(Walk { rest, excluded })
+    }
+
+    /// Adds an entry of a folder, if it is to be read.
+    #[inline]
+    fn add(
+        &self,
+        rt: &crate::shim::host::HostRuntime,
+        folder: &str,
+        entry: &DirEntry<crate::shim::host::HostRuntime>,
+        found: &mut Vec<Entry>,
+    ) -> io::Result<()> {
+        let name = entry.file_name();
+        if self.excluded.contains(&name) {
+            return Ok(());
+        }
+        let kind = entry.file_type()?;
+        let is_folder = kind.is_dir();
+        let is_read = if is_folder {
+            !is_left_out(name)
+        } else {
+            kind.is_file() && name.ends_with(".rs")
+        };
+        if is_read {
+            let path = joined(rt.alloc(), folder, name)?;
+            found.try_push(Entry { path, is_folder })?;
+        }
+        Ok(())
+    }
+
+    /// Returns the entries of a folder, the first one last. What cannot be read of it is told.
+    #[inline]
+    fn entries(
+        &self,
+        rt: &crate::shim::host::HostRuntime,
+        folder: &str,
+        told: &mut Told,
+    ) -> io::Result<Vec<Entry>> {
+        let shown = if folder.is_empty() { "." } else { folder };
+        let mut found = Vec::made_in(rt.alloc());
+        for entry in fs::read_dir(rt, shown)? {
+            let added = match entry {
+                Ok(entry) => self.add(rt, folder, &entry, &mut found),
+                Err(error) => Err(error),
+            };
+            if let Err(error) = added {
+                told.fail(rt, shown, &error);
+            }
+        }
+        found.sort_in()?;
+        found.reverse();
+        Ok(found)
+    }
+
+    /// Returns the path of the next file, or `None` if there is none. A folder that cannot be read
+    /// is told. Returns `Err` if an allocation fails.
+    #[inline]
+    pub fn next(
+        &mut self,
+        rt: &crate::shim::host::HostRuntime,
+        told: &mut Told,
+    ) -> Result<Option<String>, AllocError> {
+        for _ in 0..u64::MAX {
+            let Some(entry) = self.rest.pop() else {
+                return Ok(None);
+            };
+            if !entry.is_folder {
+                return Ok(Some(entry.path));
+            }
+            match self.entries(rt, entry.path.as_str(), told) {
+                Ok(mut found) => self.rest.try_append(&mut found)?,
+                Err(error) => told.fail(rt, entry.path.as_str(), &error),
+            }
+        }
+        Ok(None)
+    }
+}

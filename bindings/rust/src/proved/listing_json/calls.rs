@@ -1,0 +1,132 @@
+//! The lines of the calls of a parser. Each function of this module appends to a text, and returns
+//! `Err` if an allocation fails; the text may then have a part of the lines, or none.
+
+// Extracted from crates/listing_json/src/calls.rt by tools/extract: not to be edited.
+// That source is proved, and each contract here is its. That this text means the same is tested:
+// by results from outside, and beside what is proved (.ci/bindings) and the original (tools/agree).
+
+use super::faults::put_fault;
+use super::pieces::put_piece;
+use crate::proved::rustc_parse_format::{Argument, Fault, Taken};
+use crate::shim::alloc::{AllocError, Global};
+use crate::shim::json::Writer;
+use crate::shim::parser::Parser;
+use crate::shim::prelude::*;
+use std::mem;
+
+/// Returns a writer that appends to a text, which is then empty until [`end_line`].
+// ensures before { result.before ≡ out.old.items }
+// ensures tokens { result.tokens ≡ [] }
+#[inline]
+pub fn begin_line(alloc: Global, out: &mut Vec<u8>) -> Writer {
+    Writer::new(mem::replace(out, Vec::made_in(alloc)))
+}
+
+/// Ends the line of a writer, and moves it back into the text.
+// ensures { OnOk result ((j : Json) → writer.tokens ≡ json_tokens j → depth j ≤ max_depth
+//     → Adds (j ∷ []) writer.before out.new.items) }
+#[inline]
+pub fn end_line(out: &mut Vec<u8>, writer: Writer) -> Result<(), AllocError> {
+    *out = writer.into_inner();
+    out.try_push(b'\n')?;
+    Ok(())
+}
+
+/// Appends the line of a piece. A placeholder is in `argument`.
+// ensures { OnOk result (Adds (piece_value (seen_taken argument.now taken.now) ∷ [])
+//     out.old.items out.new.items) }
+#[inline]
+fn put_piece_line(
+    alloc: Global,
+    out: &mut Vec<u8>,
+    taken: &Taken<'_>,
+    argument: &Argument<'_>,
+) -> Result<(), AllocError> {
+    let mut writer = begin_line(alloc, out);
+    put_piece(alloc, &mut writer, taken, argument)?;
+    end_line(out, writer)
+}
+
+/// Appends the line of a piece, if there is one.
+// ensures { OnOk result (Adds (given_values (option_map (seen_taken argument.now) taken.now))
+//     out.old.items out.new.items) }
+#[inline]
+fn put_given(
+    alloc: Global,
+    out: &mut Vec<u8>,
+    taken: &Option<Taken<'_>>,
+    argument: &Argument<'_>,
+) -> Result<(), AllocError> {
+    match taken {
+        Some(taken) => put_piece_line(alloc, out, taken, argument),
+        None => Ok(()),
+    }
+}
+
+/// Appends the line of a fault.
+// ensures { OnOk result (Adds (fault_value (seen_fault fault.now) ∷ [])
+//     out.old.items out.new.items) }
+#[inline]
+fn put_fault_line(alloc: Global, out: &mut Vec<u8>, fault: &Fault<'_>) -> Result<(), AllocError> {
+    let mut writer = begin_line(alloc, out);
+    put_fault(alloc, &mut writer, fault)?;
+    end_line(out, writer)
+}
+
+/// Appends a line for each fault.
+// ensures { OnOk result (Adds (map fault_value (map seen_fault faults.now))
+//     out.old.items out.new.items) }
+#[inline]
+fn put_faults(alloc: Global, out: &mut Vec<u8>, faults: &[Fault<'_>]) -> Result<(), AllocError> {
+    for fault in faults {
+        put_fault_line(alloc, out, fault)?;
+    }
+    Ok(())
+}
+
+/// Makes the next call of a parser, and appends the lines of its piece and of its faults, which it
+/// also leaves in `faults`. Returns whether there is a piece.
+// requires { faults.old.items ≡ [] }
+// ensures lines { OnOk result (Adds (call_values parser.old.world (next_call parser.old))
+//     out.old.items out.new.items) }
+// ensures faults { OnOk result (map seen_fault faults.new.items
+//     ≡ faults_in parser.old.world (next_call parser.old).faults) }
+// ensures state { OnOk result (parser.new
+//     ≡ record (after parser.old (next_call parser.old)) { errors = parser.old.errors }) }
+// ensures goes_on { IfOk result (λ b. b ≡ is_some (next_call parser.old).piece) }
+#[inline]
+fn put_call<'a>(
+    alloc: Global,
+    out: &mut Vec<u8>,
+    parser: &mut Parser<'a>,
+    argument: &mut Argument<'a>,
+    faults: &mut Vec<Fault<'a>>,
+) -> Result<bool, AllocError> {
+    let taken = parser.next_with_faults(argument, faults)?;
+    put_given(alloc, out, &taken, argument)?;
+    put_faults(alloc, out, faults.as_slice())?;
+    Ok(taken.is_some())
+}
+
+/// Appends the lines of the calls of a parser up to the first that returns no piece. Returns
+/// whether a fault is found.
+// ensures lines { OnOk result (Adds (calls_values parser.old.world (calls parser.old))
+//     out.old.items out.new.items) }
+// ensures faults { IfOk result (λ b. b ≡ has_faults (calls parser.old)) }
+#[inline]
+pub fn put_calls<'a>(
+    alloc: Global,
+    out: &mut Vec<u8>,
+    parser: &mut Parser<'a>,
+) -> Result<bool, AllocError> {
+    let mut argument = Argument::default();
+    let mut faults = Vec::made_in(alloc);
+    let mut has_faults = false;
+    let mut goes_on = true;
+    while goes_on {
+        goes_on = put_call(alloc, out, parser, &mut argument, &mut faults)?;
+        has_faults |= !faults.is_empty();
+        faults.clear();
+    }
+    Ok(has_faults)
+}

@@ -1,0 +1,145 @@
+//! Faults as JSON. Each function of this module appends to a writer, and returns `Err` if an
+//! allocation fails.
+
+// Extracted from crates/listing_json/src/faults.rt by tools/extract: not to be edited.
+// That source is proved, and each contract here is its. That this text means the same is tested:
+// by results from outside, and beside what is proved (.ci/bindings) and the original (tools/agree).
+
+use super::fields::{begin_kind, put_span_of, put_string};
+use crate::proved::rustc_parse_format::{Fault, ParseError, Suggestion};
+use crate::shim::alloc::{AllocError, Global};
+use crate::shim::json::Writer;
+use std::ops::Range;
+
+/// Appends a key and a note, or null if there is none.
+// ensures tokens { OnOk result (writer.new.tokens ≡ writer.old.tokens
+//     ++ key (codes "note") ∷ json_tokens (maybe string (option_map string_bytes note.now))) }
+// ensures before { writer.new.before ≡ writer.old.before }
+#[inline]
+fn put_note(writer: &mut Writer, note: &Option<String>) -> Result<(), AllocError> {
+    writer.key("note")?;
+    match note {
+        Some(text) => writer.string(text.as_str())?,
+        None => writer.null()?,
+    }
+    Ok(())
+}
+
+/// Appends a label and its span.
+// ensures tokens { OnOk result (writer.new.tokens
+//     ≡ writer.old.tokens ++ json_tokens (label_value (label.now, pair span.now))) }
+// ensures before { writer.new.before ≡ writer.old.before }
+#[inline]
+fn put_label(writer: &mut Writer, label: &str, span: &Range<usize>) -> Result<(), AllocError> {
+    writer.begin_object()?;
+    put_string(writer, "label", label)?;
+    put_span_of(writer, "span", span)?;
+    writer.end_object()?;
+    Ok(())
+}
+
+/// Appends a key and a second label with its span, or null if there is none.
+// ensures tokens { OnOk result (writer.new.tokens ≡ writer.old.tokens
+//     ++ key (codes "secondary_label") ∷ json_tokens (maybe label_value
+//     (option_map (λ x. (string_bytes x.0, pair x.1)) second.now))) }
+// ensures before { writer.new.before ≡ writer.old.before }
+#[inline]
+fn put_secondary(
+    writer: &mut Writer,
+    second: &Option<(String, Range<usize>)>,
+) -> Result<(), AllocError> {
+    writer.key("secondary_label")?;
+    match second {
+        Some((label, span)) => put_label(writer, label.as_str(), span)?,
+        None => writer.null()?,
+    }
+    Ok(())
+}
+
+/// Appends a suggestion of this kind for a span.
+// ensures tokens { OnOk result (writer.new.tokens
+//     ≡ writer.old.tokens ++ json_tokens (mend_value kind.now (pair span.now))) }
+// ensures before { writer.new.before ≡ writer.old.before }
+#[inline]
+fn put_mend(writer: &mut Writer, kind: &str, span: &Range<usize>) -> Result<(), AllocError> {
+    begin_kind(writer, kind)?;
+    put_span_of(writer, "span", span)?;
+    writer.end_object()?;
+    Ok(())
+}
+
+/// Appends a suggestion of this kind without a span.
+// ensures tokens { OnOk result (writer.new.tokens
+//     ≡ writer.old.tokens ++ json_tokens (of_kind kind.now no_members)) }
+// ensures before { writer.new.before ≡ writer.old.before }
+#[inline]
+fn put_bare_mend(writer: &mut Writer, kind: &str) -> Result<(), AllocError> {
+    begin_kind(writer, kind)?;
+    writer.end_object()?;
+    Ok(())
+}
+
+/// Appends the suggestion to replace a span by a text.
+// ensures tokens { OnOk result (writer.new.tokens ≡ writer.old.tokens
+//     ++ json_tokens (suggestion_value (ReorderFormatParameter (pair span.now) text.now))) }
+// ensures before { writer.new.before ≡ writer.old.before }
+#[inline]
+fn put_reorder(writer: &mut Writer, span: &Range<usize>, text: &str) -> Result<(), AllocError> {
+    begin_kind(writer, "reorder-format-parameter")?;
+    put_span_of(writer, "span", span)?;
+    put_string(writer, "text", text)?;
+    writer.end_object()?;
+    Ok(())
+}
+
+/// Appends a key and a suggestion, or null if there is none.
+// ensures tokens { OnOk result (writer.new.tokens ≡ writer.old.tokens
+//     ++ key (codes "suggestion") ∷ json_tokens (suggestion_value
+//     (seen_suggestion suggestion.now))) }
+// ensures before { writer.new.before ≡ writer.old.before }
+#[inline]
+fn put_suggestion(writer: &mut Writer, suggestion: &Suggestion) -> Result<(), AllocError> {
+    writer.key("suggestion")?;
+    match suggestion {
+        Suggestion::None => writer.null()?,
+        Suggestion::UsePositional => put_bare_mend(writer, "use-positional")?,
+        Suggestion::RemoveRawIdent(span) => put_mend(writer, "remove-raw-ident", span)?,
+        Suggestion::ReorderFormatParameter(span, text) => {
+            put_reorder(writer, span, text.as_str())?;
+        }
+        Suggestion::AddMissingColon(span) => put_mend(writer, "add-missing-colon", span)?,
+        Suggestion::UseRustDebugPrintingMacro => {
+            put_bare_mend(writer, "use-rust-debug-printing-macro")?;
+        }
+    }
+    Ok(())
+}
+
+/// Appends the error of a fault with this id.
+// ensures tokens { OnOk result (writer.new.tokens
+//     ≡ writer.old.tokens ++ json_tokens (error_value id.now (seen_error error.now))) }
+// ensures before { writer.new.before ≡ writer.old.before }
+#[inline]
+fn put_error(writer: &mut Writer, id: &str, error: &ParseError) -> Result<(), AllocError> {
+    begin_kind(writer, "fault")?;
+    put_string(writer, "id", id)?;
+    put_string(writer, "description", error.description.as_str())?;
+    put_note(writer, &error.note)?;
+    put_string(writer, "label", error.label.as_str())?;
+    put_span_of(writer, "span", &error.span)?;
+    put_secondary(writer, &error.secondary_label)?;
+    put_suggestion(writer, &error.suggestion)?;
+    writer.end_object()?;
+    Ok(())
+}
+
+/// Appends a fault.
+// ensures tokens { OnOk result (writer.new.tokens
+//     ≡ writer.old.tokens ++ json_tokens (fault_value (seen_fault fault.now))) }
+// ensures before { writer.new.before ≡ writer.old.before }
+#[inline]
+pub fn put_fault(alloc: Global, writer: &mut Writer, fault: &Fault<'_>) -> Result<(), AllocError> {
+    let error = fault.error(alloc)?;
+    put_error(writer, fault.id(), &error)?;
+    Ok(())
+}

@@ -1,0 +1,197 @@
+//! The listing of an input as JSON.
+
+// Extracted from crates/listing_json/src/listing.rt by tools/extract: not to be edited.
+// That source is proved, and each contract here is its. That this text means the same is tested:
+// by results from outside, and beside what is proved (.ci/bindings) and the original (tools/agree).
+
+use super::calls::put_calls;
+use super::report::put_report;
+use crate::proved::piece_listing::literal::{literal_text, without_newline};
+use crate::proved::piece_listing::verdict::RunFault;
+use crate::proved::piece_listing::{has_entries, report_for, task_of, Task};
+use crate::proved::placeholder_check::{uses_of, Report, Uses};
+use crate::shim::alloc::{AllocError, Global};
+use crate::shim::parser::{read_all, Parser};
+use crate::shim::prelude::*;
+
+/// The most bytes that an input may have.
+const LIMIT: usize = 1_048_576;
+
+/// A listing as JSON.
+pub struct Listing {
+    /// The lines in UTF-8, each with its line end.
+    pub bytes: Vec<u8>,
+    /// Whether there is a line that is not of a piece.
+    pub has_ends: bool,
+}
+
+/// Returns a copy of a literal, if there is one. Returns `Err` if an allocation fails.
+// ensures { IfOk result (λ s. seen_snippet s ≡ option_map (λ l. chars l.now) literal.entry) }
+#[inline]
+fn snippet_of(alloc: Global, literal: Option<&str>) -> Result<Option<String>, AllocError> {
+    match literal {
+        Some(text) => Ok(Some(String::made_from(alloc, text)?)),
+        None => Ok(None),
+    }
+}
+
+/// Returns the arguments that the placeholders of a text use, if the task has a list of arguments.
+/// Returns `Err` if an allocation fails.
+// requires { hashes style + length text.now + 2 < 2 ^ 64 }
+// ensures { IfOk result (λ u. IsSome task.entry.given
+//     → Holds (uses (pieces (seen_mode task.entry.mode) (record {
+//       text = chars text.now;
+//       style = style;
+//       snippet = seen_snippet snippet;
+//     }))) u) }
+#[inline]
+fn used_by<'a>(
+    alloc: Global,
+    text: &'a str,
+    style: Option<usize>,
+    snippet: Option<String>,
+    task: Task<'_>,
+) -> Result<Uses<'a>, AllocError> {
+    if task.given.is_none() {
+        return Ok(Uses::new(alloc));
+    }
+    let (pieces, _) = read_all(alloc, text, style, snippet, false, task.mode)?;
+    uses_of(alloc, pieces.as_slice())
+}
+
+/// Returns the report on the arguments that are missing or unused in a text. Returns `Err` if an
+/// allocation fails.
+// requires { hashes style + length text.now + 2 < 2 ^ 64 }
+// ensures { IfOk result (λ r. IsReportFor (option_map seen_given task.entry.given)
+//     (pieces (seen_mode task.entry.mode) (record {
+//       text = chars text.now;
+//       style = style;
+//       snippet = seen_snippet snippet;
+//     })) (seen_report r)) }
+#[inline]
+fn report_of<'a>(
+    alloc: Global,
+    text: &'a str,
+    style: Option<usize>,
+    snippet: Option<String>,
+    task: Task<'a>,
+) -> Result<Report<'a>, AllocError> {
+    let used = used_by(alloc, text, style, snippet, task)?;
+    report_for(alloc, &used, task.given)
+}
+
+/// Returns the lines of the calls of a parser and of a report. Returns `Err` if an allocation
+/// fails.
+// ensures lines { IfOk result (λ x. Adds (calls_values parser.old.world (calls parser.old)
+//     ++ report_values (seen_report report.now)) [] x.bytes.items) }
+// ensures ends { IfOk result (λ x. x.has_ends
+//     ≡ (has_faults (calls parser.old) || has_entries (seen_report report.now))) }
+#[inline]
+fn list_calls(
+    alloc: Global,
+    parser: &mut Parser<'_>,
+    report: &Report<'_>,
+) -> Result<Listing, AllocError> {
+    let mut bytes = Vec::made_in(alloc);
+    let has_faults = put_calls(alloc, &mut bytes, parser)?;
+    put_report(alloc, &mut bytes, report)?;
+    Ok(Listing {
+        bytes,
+        has_ends: has_faults || has_entries(report),
+    })
+}
+
+/// Returns the listing of a text, with the literal that it is in if there is one. Returns `Err` if
+/// an allocation fails.
+// requires { hashes style + length text.now + 2 < 2 ^ 64 }
+// ensures { IfOk result (λ x. IsListed (seen_task task.entry) (record {
+//   text = chars text.now;
+//   style = style;
+//   snippet = option_map (λ l. chars l.now) literal.entry;
+// }) x.bytes.items x.has_ends) }
+#[inline]
+fn list_source(
+    alloc: Global,
+    text: &str,
+    style: Option<usize>,
+    literal: Option<&str>,
+    task: Task<'_>,
+) -> Result<Listing, AllocError> {
+    let report = report_of(alloc, text, style, snippet_of(alloc, literal)?, task)?;
+    let snippet = snippet_of(alloc, literal)?;
+    let mut parser = Parser::new(alloc, text, style, snippet, false, task.mode)?;
+    list_calls(alloc, &mut parser, &report)
+}
+
+/// Returns the listing of an input that is to be a string literal, perhaps with a newline after it.
+/// Returns `Err` if the input is not a string literal or an allocation fails.
+// requires { IsShort input.now }
+// ensures lines { IfOk result (λ x. (s : Source) × IsInLiteral (chars input.now) s
+//     × IsListed (seen_task task.entry) s x.bytes.items x.has_ends) }
+// ensures not_literal { IsErrOf result NotLiteral
+//     → (s : Source) → IsInLiteral (chars input.now) s → ⊥ }
+// ensures only { IfErr result (λ fault. (fault ≢ Words) × (fault ≢ TooLong) × (fault ≢ NotText)) }
+#[inline]
+fn list_literal(alloc: Global, input: &str, task: Task<'_>) -> Result<Listing, RunFault> {
+    let literal = without_newline(input);
+    let Some((text, style)) = literal_text(alloc, literal)? else {
+        return Err(RunFault::NotLiteral);
+    };
+    Ok(list_source(
+        alloc,
+        text.as_str(),
+        style,
+        Some(literal),
+        task,
+    )?)
+}
+
+/// Returns the listing of a text, which is a string literal if the task says so. Returns `Err` if
+/// it is to be one and is none, or if an allocation fails.
+// requires { IsShort text.now }
+// ensures lines { IfOk result (λ x. (s : Source)
+//     × IsSourceOf task.entry.is_literal (chars text.now) s
+//     × IsListed (seen_task task.entry) s x.bytes.items x.has_ends) }
+// ensures not_literal { IsErrOf result NotLiteral → (s : Source)
+//     → IsSourceOf task.entry.is_literal (chars text.now) s → ⊥ }
+// ensures only { IfErr result (λ fault. (fault ≢ Words) × (fault ≢ TooLong) × (fault ≢ NotText)) }
+#[inline]
+fn list_text(alloc: Global, text: &str, task: Task<'_>) -> Result<Listing, RunFault> {
+    if task.is_literal {
+        list_literal(alloc, text, task)
+    } else {
+        Ok(list_source(alloc, text, None, None, task)?)
+    }
+}
+
+/// Returns the listing of an input as JSON, by the command-line arguments of the program
+/// `formatread`: a line for each piece, each fault and each entry of the report on missing and
+/// unused arguments. docs/PROGRAMS.md has the keys of the objects. A fault comes after the piece of
+/// the call that finds it.
+///
+/// The input may have at most 1,048,576 bytes. Returns `Err` if the words are invalid, if the input
+/// is too long, not UTF-8 or, with `--literal`, not a string literal, or if an allocation fails
+/// (`RunFault`, but neither `Read` nor `Write`).
+// The listing is that of the definition `IsOwed`: each line is a JSON text.
+// ensures listing { IfOk result (λ x. (a : TaskValue)
+//     × (task_of (map string_bytes words.now) ≡ Some a)
+//     × IsOwed a input.now x.bytes.items x.has_ends) }
+// ensures words { IsErrOf result Words ↔ (task_of (map string_bytes words.now) ≡ None) }
+// ensures too_long { IsErrOf result TooLong → limit < length input.now }
+// ensures not_text { IsErrOf result NotText → IsUtf8 input.now → ⊥ }
+// ensures not_literal { IsErrOf result NotLiteral → (a : TaskValue)
+//     × (task_of (map string_bytes words.now) ≡ Some a)
+//     × ((s : Source) → IsSourceOf a.is_literal (chars input.now) s → ⊥) }
+#[inline]
+pub fn list(alloc: Global, input: &[u8], words: &[String]) -> Result<Listing, RunFault> {
+    let Some(task) = task_of(words) else {
+        return Err(RunFault::Words);
+    };
+    if input.len() > LIMIT {
+        return Err(RunFault::TooLong);
+    }
+    let Ok(text) = std::str::from_utf8(input) else {
+        return Err(RunFault::NotText);
+    };
+    list_text(alloc, text, task)
+}

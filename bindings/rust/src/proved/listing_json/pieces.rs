@@ -1,0 +1,247 @@
+//! Pieces as JSON. Each function of this module appends to a writer, and returns `Err` if an
+//! allocation fails.
+
+// Extracted from crates/listing_json/src/pieces.rt by tools/extract: not to be edited.
+// That source is proved, and each contract here is its. That this text means the same is tested:
+// by results from outside, and beside what is proved (.ci/bindings) and the original (tools/agree).
+
+use super::fields::{
+    begin_kind, put_index, put_maybe_span, put_name, put_number, put_span_of, put_text,
+};
+use crate::proved::rustc_parse_format::{
+    Alignment, Argument, Count, DebugHex, FormatSpec, Position, Sign, Taken,
+};
+use crate::shim::alloc::{AllocError, Global};
+use crate::shim::json::Writer;
+use crate::shim::prelude::*;
+use std::ops::Range;
+
+/// Appends a key and a position.
+// ensures tokens { OnOk result (writer.new.tokens ≡ writer.old.tokens
+//     ++ key (codes "position") ∷ json_tokens (position_value (seen_position position.now))) }
+// ensures before { writer.new.before ≡ writer.old.before }
+#[inline]
+fn put_position(writer: &mut Writer, position: &Position<'_>) -> Result<(), AllocError> {
+    writer.key("position")?;
+    match position {
+        Position::ArgumentImplicitlyIs(n) => put_index(writer, "implicit", *n)?,
+        Position::ArgumentIs(n) => put_index(writer, "index", *n)?,
+        Position::ArgumentNamed(name) => put_name(writer, "name", name)?,
+    }
+    Ok(())
+}
+
+/// Appends a count that is a number.
+// ensures tokens { OnOk result (writer.new.tokens
+//     ≡ writer.old.tokens ++ json_tokens (count_value (Is number))) }
+// ensures before { writer.new.before ≡ writer.old.before }
+#[inline]
+fn put_count_number(writer: &mut Writer, number: u16) -> Result<(), AllocError> {
+    begin_kind(writer, "number")?;
+    put_number(writer, "value", usize::from(number))?;
+    writer.end_object()?;
+    Ok(())
+}
+
+/// Appends a count that is the value of an argument with a name.
+// ensures tokens { OnOk result (writer.new.tokens ≡ writer.old.tokens
+//     ++ json_tokens (count_value (Name (chars name.now) (pair span.now)))) }
+// ensures before { writer.new.before ≡ writer.old.before }
+#[inline]
+fn put_count_name(writer: &mut Writer, name: &str, span: &Range<usize>) -> Result<(), AllocError> {
+    begin_kind(writer, "name")?;
+    writer.key("name")?;
+    put_text(writer, name)?;
+    put_span_of(writer, "span", span)?;
+    writer.end_object()?;
+    Ok(())
+}
+
+/// Appends a key and a width or a precision.
+// ensures tokens { OnOk result (writer.new.tokens ≡ writer.old.tokens
+//     ++ key name.now ∷ json_tokens (count_value (seen_count count.now))) }
+// ensures before { writer.new.before ≡ writer.old.before }
+#[inline]
+fn put_count(writer: &mut Writer, name: &str, count: &Count<'_>) -> Result<(), AllocError> {
+    writer.key(name)?;
+    match count {
+        Count::CountIs(number) => put_count_number(writer, *number)?,
+        Count::CountIsName(name, span) => put_count_name(writer, name, span)?,
+        Count::CountIsParam(n) => put_index(writer, "index", *n)?,
+        Count::CountIsStar(n) => put_index(writer, "star", *n)?,
+        Count::CountImplied => writer.null()?,
+    }
+    Ok(())
+}
+
+/// Appends a character as a string.
+// ensures tokens { OnOk result (writer.new.tokens
+//     ≡ writer.old.tokens ++ json_tokens (fill_value c)) }
+// ensures before { writer.new.before ≡ writer.old.before }
+#[inline]
+fn put_char(alloc: Global, writer: &mut Writer, c: char) -> Result<(), AllocError> {
+    let mut text = String::made_in(alloc);
+    text.try_push(c)?;
+    writer.string(text.as_str())?;
+    Ok(())
+}
+
+/// Appends a key and a fill character, or null if there is none.
+// ensures tokens { OnOk result (writer.new.tokens ≡ writer.old.tokens
+//     ++ key (codes "fill") ∷ json_tokens (maybe fill_value fill)) }
+// ensures before { writer.new.before ≡ writer.old.before }
+#[inline]
+fn put_fill(alloc: Global, writer: &mut Writer, fill: Option<char>) -> Result<(), AllocError> {
+    writer.key("fill")?;
+    match fill {
+        Some(c) => put_char(alloc, writer, c)?,
+        None => writer.null()?,
+    }
+    Ok(())
+}
+
+/// Appends a key and an alignment, or null if none is given.
+// ensures tokens { OnOk result (writer.new.tokens ≡ writer.old.tokens
+//     ++ key (codes "align") ∷ json_tokens (align_value (seen_alignment align))) }
+// ensures before { writer.new.before ≡ writer.old.before }
+#[inline]
+fn put_align(writer: &mut Writer, align: Alignment) -> Result<(), AllocError> {
+    writer.key("align")?;
+    match align {
+        Alignment::AlignLeft => writer.string("left")?,
+        Alignment::AlignRight => writer.string("right")?,
+        Alignment::AlignCenter => writer.string("center")?,
+        Alignment::AlignUnknown => writer.null()?,
+    }
+    Ok(())
+}
+
+/// Appends a key and a sign flag, or null if there is none.
+// ensures tokens { OnOk result (writer.new.tokens ≡ writer.old.tokens
+//     ++ key (codes "sign") ∷ json_tokens (maybe sign_value (option_map seen_sign sign))) }
+// ensures before { writer.new.before ≡ writer.old.before }
+#[inline]
+fn put_sign(writer: &mut Writer, sign: Option<Sign>) -> Result<(), AllocError> {
+    writer.key("sign")?;
+    match sign {
+        Some(Sign::Plus) => writer.string("plus")?,
+        Some(Sign::Minus) => writer.string("minus")?,
+        None => writer.null()?,
+    }
+    Ok(())
+}
+
+/// Appends a key and whether a flag is present.
+// ensures tokens { OnOk result (writer.new.tokens
+//     ≡ writer.old.tokens ++ key name.now ∷ json_tokens (boolean flag)) }
+// ensures before { writer.new.before ≡ writer.old.before }
+#[inline]
+fn put_flag(writer: &mut Writer, name: &str, flag: bool) -> Result<(), AllocError> {
+    writer.key(name)?;
+    writer.boolean(flag)?;
+    Ok(())
+}
+
+/// Appends a key and the case of hexadecimal digits, or null if it is not given.
+// ensures tokens { OnOk result (writer.new.tokens ≡ writer.old.tokens
+//     ++ key (codes "debug_hex") ∷ json_tokens (maybe hex_value (option_map seen_debug_hex hex))) }
+// ensures before { writer.new.before ≡ writer.old.before }
+#[inline]
+fn put_hex(writer: &mut Writer, hex: Option<DebugHex>) -> Result<(), AllocError> {
+    writer.key("debug_hex")?;
+    match hex {
+        Some(DebugHex::Lower) => writer.string("lower")?,
+        Some(DebugHex::Upper) => writer.string("upper")?,
+        None => writer.null()?,
+    }
+    Ok(())
+}
+
+/// Appends a key and a type.
+// ensures tokens { OnOk result (writer.new.tokens ≡ writer.old.tokens
+//     ++ key (codes "ty") ∷ json_tokens (text_value (chars ty.now))) }
+// ensures before { writer.new.before ≡ writer.old.before }
+#[inline]
+fn put_type(writer: &mut Writer, ty: &str) -> Result<(), AllocError> {
+    writer.key("ty")?;
+    put_text(writer, ty)?;
+    Ok(())
+}
+
+/// Appends a format specification.
+// ensures tokens { OnOk result (writer.new.tokens
+//     ≡ writer.old.tokens ++ json_tokens (format_value (seen_spec format.now))) }
+// ensures before { writer.new.before ≡ writer.old.before }
+#[inline]
+fn put_format(
+    alloc: Global,
+    writer: &mut Writer,
+    format: &FormatSpec<'_>,
+) -> Result<(), AllocError> {
+    writer.begin_object()?;
+    put_fill(alloc, writer, format.fill)?;
+    put_maybe_span(writer, "fill_span", &format.fill_span)?;
+    put_align(writer, format.align)?;
+    put_sign(writer, format.sign)?;
+    put_flag(writer, "alternate", format.alternate)?;
+    put_flag(writer, "zero_pad", format.zero_pad)?;
+    put_hex(writer, format.debug_hex)?;
+    put_count(writer, "precision", &format.precision)?;
+    put_maybe_span(writer, "precision_span", &format.precision_span)?;
+    put_count(writer, "width", &format.width)?;
+    put_maybe_span(writer, "width_span", &format.width_span)?;
+    put_type(writer, format.ty)?;
+    put_maybe_span(writer, "ty_span", &format.ty_span)?;
+    writer.end_object()?;
+    Ok(())
+}
+
+/// Appends a run of text.
+// ensures tokens { OnOk result (writer.new.tokens
+//     ≡ writer.old.tokens ++ json_tokens (run_value (chars text.now))) }
+// ensures before { writer.new.before ≡ writer.old.before }
+#[inline]
+fn put_run(writer: &mut Writer, text: &str) -> Result<(), AllocError> {
+    begin_kind(writer, "text")?;
+    writer.key("text")?;
+    put_text(writer, text)?;
+    writer.end_object()?;
+    Ok(())
+}
+
+/// Appends a placeholder.
+// ensures tokens { OnOk result (writer.new.tokens
+//     ≡ writer.old.tokens ++ json_tokens (placeholder_value (seen_argument argument.now))) }
+// ensures before { writer.new.before ≡ writer.old.before }
+#[inline]
+fn put_placeholder(
+    alloc: Global,
+    writer: &mut Writer,
+    argument: &Argument<'_>,
+) -> Result<(), AllocError> {
+    begin_kind(writer, "placeholder")?;
+    put_position(writer, &argument.position)?;
+    put_span_of(writer, "position_span", &argument.position_span)?;
+    writer.key("format")?;
+    put_format(alloc, writer, &argument.format)?;
+    writer.end_object()?;
+    Ok(())
+}
+
+/// Appends a piece. A placeholder is in `argument`.
+// ensures tokens { OnOk result (writer.new.tokens ≡ writer.old.tokens
+//     ++ json_tokens (piece_value (seen_taken argument.now taken.now))) }
+// ensures before { writer.new.before ≡ writer.old.before }
+#[inline]
+pub fn put_piece(
+    alloc: Global,
+    writer: &mut Writer,
+    taken: &Taken<'_>,
+    argument: &Argument<'_>,
+) -> Result<(), AllocError> {
+    match taken {
+        Taken::Lit(text) => put_run(writer, text)?,
+        Taken::NextArgument => put_placeholder(alloc, writer, argument)?,
+    }
+    Ok(())
+}

@@ -1,0 +1,54 @@
+//! The form for the workflows of GitHub.
+
+// Extracted from crates/message_forms/src/github.rt by tools/extract: not to be edited.
+// That source is proved, and each contract here is its. That this text means the same is tested:
+// by results from outside, and beside what is proved (.ci/bindings) and the original (tools/agree).
+
+use crate::proved::message_forms::escapes::{put_command_text, put_number};
+use crate::proved::message_forms::message::{level_name, Message, Span};
+use crate::shim::alloc::AllocError;
+use crate::shim::prelude::*;
+
+/// Appends a property with a number.
+// ensures { OnOk result (string_bytes out.new
+//     ≡ string_bytes out.old ++ (opening.now ++ decimal number)) }
+#[inline]
+fn put_property(out: &mut String, opening: &str, number: usize) -> Result<(), AllocError> {
+    out.try_push_str(opening)?;
+    put_number(out, number)?;
+    Ok(())
+}
+
+/// Appends the properties that say where a span is. Columns are only written where it is in one
+/// line.
+// ensures { OnOk result (string_bytes out.new ≡ string_bytes out.old ++ command_places span.now) }
+#[inline]
+fn put_places(out: &mut String, span: &Span<'_>) -> Result<(), AllocError> {
+    put_property(out, ",line=", span.start.line)?;
+    if span.start.line == span.end.line {
+        put_property(out, ",col=", span.start.column)?;
+        put_property(out, ",endColumn=", span.end.column)?;
+    } else {
+        put_property(out, ",endLine=", span.end.line)?;
+    }
+    Ok(())
+}
+
+/// Appends a message as a workflow command of GitHub Actions, which shows it beside the source:
+/// `::LEVEL file=PATH,line=LINE,col=COLUMN,endColumn=COLUMN::TITLE [ID]`. Returns `Err` if an
+/// allocation fails, and a part of the line may then be appended.
+// ensures { OnOk result (string_bytes out.new ≡ string_bytes out.old ++ command message.now) }
+#[inline]
+pub fn put_github(out: &mut String, message: &Message<'_>) -> Result<(), AllocError> {
+    out.try_push_str("::")?;
+    out.try_push_str(level_name(message.level))?;
+    out.try_push_str(" file=")?;
+    put_command_text(out, true, message.path)?;
+    put_places(out, &message.primary)?;
+    out.try_push_str("::")?;
+    put_command_text(out, false, message.title)?;
+    out.try_push_str(" [")?;
+    put_command_text(out, false, message.id)?;
+    out.try_push_str("]\n")?;
+    Ok(())
+}

@@ -1,0 +1,258 @@
+//! The form of rustc's `--error-format=json`. What begins with `put_` appends to `out`, and returns
+//! `Err` if an allocation fails.
+
+// Extracted from crates/message_forms/src/json_lines.rt by tools/extract: not to be edited.
+// That source is proved, and each contract here is its. That this text means the same is tested:
+// by results from outside, and beside what is proved (.ci/bindings) and the original (tools/agree).
+
+use crate::proved::message_forms::members::{
+    put_comma, put_count, put_end, put_key, put_text, put_text_or_null, put_truth,
+};
+use crate::proved::message_forms::message::{
+    child_name, level_name, Child, Message, Span, Suggestion,
+};
+use crate::shim::alloc::AllocError;
+use crate::shim::prelude::*;
+
+/// Adds a line of a span, which is between these columns there.
+// ensures { OnOk result (string_bytes out.new
+//     ≡ string_bytes out.old ++ json_text (line_json line.now from to)) }
+#[inline]
+fn put_line(out: &mut String, line: &str, from: usize, to: usize) -> Result<(), AllocError> {
+    put_text(out, false, "text", line)?;
+    put_count(out, true, "highlight_start", from)?;
+    put_count(out, true, "highlight_end", to)?;
+    put_end(out)?;
+    Ok(())
+}
+
+/// Returns the first line of a text, and what is left behind it.
+// ensures line { result.0.now ≡ before_first is_lf text.now }
+// ensures rest { result.1.now ≡ after_first is_lf text.now }
+#[inline]
+fn split_line(text: &str) -> (&str, &str) {
+    match text.split_once('\n') {
+        Some((line, rest)) => (line, rest),
+        None => (text, ""),
+    }
+}
+
+/// Returns the number of characters of a text.
+// ensures value { result ≡ length (chars text.now) }
+// ensures small { result ≤ length text.now }
+#[inline]
+fn length_of(text: &str) -> usize {
+    text.chars().count()
+}
+
+/// Adds the lines of a span that begins and ends at these columns, and how many of them are behind
+/// the first one.
+// ensures { OnOk result (string_bytes out.new
+//     ≡ string_bytes out.old ++ json_text (array (line_items more from to lines.now))) }
+#[inline]
+fn put_lines(
+    out: &mut String,
+    lines: &str,
+    from: usize,
+    to: usize,
+    more: usize,
+) -> Result<(), AllocError> {
+    out.try_push_str("[")?;
+    let mut rest = lines;
+    let mut start = from;
+    let mut left = more;
+    while left > 0 {
+        let (line, behind) = split_line(rest);
+        put_line(out, line, start, length_of(line) + 1)?;
+        out.try_push_str(",")?;
+        rest = behind;
+        start = 1;
+        left -= 1;
+    }
+    let (line, _) = split_line(rest);
+    put_line(out, line, start, to)?;
+    out.try_push_str("]")?;
+    Ok(())
+}
+
+/// Adds the members that say where a span is.
+// ensures { OnOk result ((ms : Members) → string_bytes out.new ++ object_text true ms
+//     ≡ string_bytes out.old ++ object_text false (place_members path.now span.now ms)) }
+#[inline]
+fn put_places(out: &mut String, path: &str, span: &Span<'_>) -> Result<(), AllocError> {
+    put_text(out, false, "file_name", path)?;
+    put_count(out, true, "byte_start", span.byte_start)?;
+    put_count(out, true, "byte_end", span.byte_end)?;
+    put_count(out, true, "line_start", span.start.line)?;
+    put_count(out, true, "line_end", span.end.line)?;
+    put_count(out, true, "column_start", span.start.column)?;
+    put_count(out, true, "column_end", span.end.column)?;
+    Ok(())
+}
+
+/// Returns the text of a suggestion.
+// ensures { option_map (λ t. t.now) result ≡ option_map (λ x. x.text.now) suggestion.now }
+#[inline]
+fn replacement<'a>(suggestion: &Option<Suggestion<'a>>) -> Option<&'a str> {
+    match suggestion {
+        Some(suggestion) => Some(suggestion.text),
+        None => None,
+    }
+}
+
+/// Returns how sure a suggestion is.
+// ensures { text_or_null (option_map (λ t. t.now) result) ≡ applicability_json suggestion.now }
+#[inline]
+fn applicability(suggestion: &Option<Suggestion<'_>>) -> Option<&'static str> {
+    match suggestion {
+        Some(suggestion) if suggestion.is_sure => Some("MachineApplicable"),
+        Some(_) => Some("MaybeIncorrect"),
+        None => None,
+    }
+}
+
+/// Adds the members that say what is said of a span, and the end of its object.
+// ensures { OnOk result (string_bytes out.new
+//     ≡ string_bytes out.old ++ object_text true (said_members span.now)) }
+#[inline]
+fn put_said(out: &mut String, span: &Span<'_>) -> Result<(), AllocError> {
+    put_truth(out, true, "is_primary", span.is_primary)?;
+    put_key(out, true, "text")?;
+    let more = span.end.line.saturating_sub(span.start.line);
+    put_lines(out, span.lines, span.start.column, span.end.column, more)?;
+    put_text_or_null(out, "label", span.label)?;
+    let text = replacement(&span.suggestion);
+    put_text_or_null(out, "suggested_replacement", text)?;
+    let word = applicability(&span.suggestion);
+    put_text_or_null(out, "suggestion_applicability", word)?;
+    put_text_or_null(out, "expansion", None)?;
+    put_end(out)?;
+    Ok(())
+}
+
+/// Adds a span.
+// ensures { OnOk result (string_bytes out.new
+//     ≡ string_bytes out.old ++ json_text (span_json path.now span.now)) }
+#[inline]
+fn put_span(out: &mut String, path: &str, span: &Span<'_>) -> Result<(), AllocError> {
+    put_places(out, path, span)?;
+    put_said(out, span)?;
+    Ok(())
+}
+
+/// Adds spans.
+// ensures { OnOk result (string_bytes out.new
+//     ≡ string_bytes out.old ++ json_text (array (items_of (span_json path.now) spans.now))) }
+#[inline]
+fn put_spans(out: &mut String, path: &str, spans: &[Span<'_>]) -> Result<(), AllocError> {
+    out.try_push_str("[")?;
+    let mut is_later = false;
+    for span in spans {
+        put_comma(out, is_later)?;
+        put_span(out, path, span)?;
+        is_later = true;
+    }
+    out.try_push_str("]")?;
+    Ok(())
+}
+
+/// Adds an array without items.
+// ensures { OnOk result (string_bytes out.new
+//     ≡ string_bytes out.old ++ json_text (array no_items)) }
+#[inline]
+fn put_none(out: &mut String) -> Result<(), AllocError> {
+    out.try_push_str("[]")?;
+    Ok(())
+}
+
+/// Adds a note or a help.
+// ensures { OnOk result (string_bytes out.new
+//     ≡ string_bytes out.old ++ json_text (child_json path.now child.now)) }
+#[inline]
+fn put_child(out: &mut String, path: &str, child: &Child<'_, '_>) -> Result<(), AllocError> {
+    put_text(out, false, "message", child.text)?;
+    put_text_or_null(out, "code", None)?;
+    put_text(out, true, "level", child_name(child.level))?;
+    put_key(out, true, "spans")?;
+    put_spans(out, path, child.spans)?;
+    put_key(out, true, "children")?;
+    put_none(out)?;
+    put_text_or_null(out, "rendered", None)?;
+    put_end(out)?;
+    Ok(())
+}
+
+/// Adds notes and helps.
+// ensures { OnOk result (string_bytes out.new
+//     ≡ string_bytes out.old ++ json_text (array (items_of (child_json path.now) children.now))) }
+#[inline]
+fn put_children(
+    out: &mut String,
+    path: &str,
+    children: &[Child<'_, '_>],
+) -> Result<(), AllocError> {
+    out.try_push_str("[")?;
+    let mut is_later = false;
+    for child in children {
+        put_comma(out, is_later)?;
+        put_child(out, path, child)?;
+        is_later = true;
+    }
+    out.try_push_str("]")?;
+    Ok(())
+}
+
+/// Adds the id of a message.
+// ensures { OnOk result (string_bytes out.new
+//     ≡ string_bytes out.old ++ json_text (code_json id.now)) }
+#[inline]
+fn put_code(out: &mut String, id: &str) -> Result<(), AllocError> {
+    put_text(out, false, "code", id)?;
+    put_text_or_null(out, "explanation", None)?;
+    put_end(out)?;
+    Ok(())
+}
+
+/// Adds the members with what stands below a message, and the end of its object.
+// ensures { OnOk result (string_bytes out.new ≡ string_bytes out.old
+//     ++ object_text true (below_members path.now spans.now children.now rendered.now)) }
+#[inline]
+fn put_below(
+    out: &mut String,
+    path: &str,
+    spans: &[Span<'_>],
+    children: &[Child<'_, '_>],
+    rendered: &str,
+) -> Result<(), AllocError> {
+    put_key(out, true, "spans")?;
+    put_spans(out, path, spans)?;
+    put_key(out, true, "children")?;
+    put_children(out, path, children)?;
+    put_text(out, true, "rendered", rendered)?;
+    put_end(out)?;
+    Ok(())
+}
+
+/// Appends a message as a line of JSON with the members that rustc writes with
+/// `--error-format=json`: all ranges that it speaks of, what stands below it, and how it is drawn
+/// for people. Its id stands in the place of rustc's code. Returns `Err` if an allocation fails,
+/// and a part of the line may then be appended.
+// ensures { OnOk result (string_bytes out.new ≡ string_bytes out.old ++ (json_text
+//     (message_json message.now spans.now children.now rendered.now) ++ codes "\n")) }
+#[inline]
+pub fn put_json(
+    out: &mut String,
+    message: &Message<'_>,
+    spans: &[Span<'_>],
+    children: &[Child<'_, '_>],
+    rendered: &str,
+) -> Result<(), AllocError> {
+    put_text(out, false, "$message_type", "diagnostic")?;
+    put_text(out, true, "message", message.title)?;
+    put_key(out, true, "code")?;
+    put_code(out, message.id)?;
+    put_text(out, true, "level", level_name(message.level))?;
+    put_below(out, message.path, spans, children, rendered)?;
+    out.try_push_str("\n")?;
+    Ok(())
+}

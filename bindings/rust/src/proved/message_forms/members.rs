@@ -1,0 +1,142 @@
+//! Members of objects of JSON. What begins with `put_` appends to `out`, and returns `Err` if an
+//! allocation fails. `is_later` is whether another member of the object stands in front.
+
+// Extracted from crates/message_forms/src/members.rt by tools/extract: not to be edited.
+// That source is proved, and each contract here is its. That this text means the same is tested:
+// by results from outside, and beside what is proved (.ci/bindings) and the original (tools/agree).
+
+use crate::proved::message_forms::escapes::{put_number, put_quoted};
+use crate::shim::alloc::AllocError;
+use crate::shim::prelude::*;
+
+/// Returns what stands in front of a member.
+// ensures { result.now ≡ opening is_later }
+#[inline]
+fn opening(is_later: bool) -> &'static str {
+    if is_later {
+        ","
+    } else {
+        "{"
+    }
+}
+
+/// Adds the key of a member.
+// ensures { OnOk result ((d : Data) (ms : Members)
+//     → string_bytes out.new ++ (json_text d ++ object_text true ms)
+//     ≡ string_bytes out.old ++ object_text is_later (member key.now d ms)) }
+#[inline]
+pub fn put_key(out: &mut String, is_later: bool, key: &str) -> Result<(), AllocError> {
+    out.try_push_str(opening(is_later))?;
+    put_quoted(out, key)?;
+    out.try_push_str(":")?;
+    Ok(())
+}
+
+/// Adds the end of an object that has members.
+// ensures { OnOk result (string_bytes out.new
+//     ≡ string_bytes out.old ++ object_text true no_members) }
+#[inline]
+pub fn put_end(out: &mut String) -> Result<(), AllocError> {
+    out.try_push_str("}")?;
+    Ok(())
+}
+
+/// Adds a text as a value.
+// ensures { OnOk result (string_bytes out.new
+//     ≡ string_bytes out.old ++ json_text (string text.now)) }
+#[inline]
+fn put_string(out: &mut String, text: &str) -> Result<(), AllocError> {
+    put_quoted(out, text)?;
+    Ok(())
+}
+
+/// Adds a text or `null` as a value.
+// ensures { OnOk result (string_bytes out.new ≡ string_bytes out.old
+//     ++ json_text (text_or_null (option_map (λ t. t.now) text.entry))) }
+#[inline]
+fn put_string_or_null(out: &mut String, text: Option<&str>) -> Result<(), AllocError> {
+    match text {
+        Some(text) => put_quoted(out, text)?,
+        None => out.try_push_str("null")?,
+    }
+    Ok(())
+}
+
+/// Adds a number as a value.
+// ensures { OnOk result (string_bytes out.new
+//     ≡ string_bytes out.old ++ json_text (number_json number)) }
+#[inline]
+fn put_digits(out: &mut String, number: usize) -> Result<(), AllocError> {
+    put_number(out, number)?;
+    Ok(())
+}
+
+/// Adds a truth value.
+// ensures { OnOk result (string_bytes out.new
+//     ≡ string_bytes out.old ++ json_text (boolean is_so)) }
+#[inline]
+fn put_bool(out: &mut String, is_so: bool) -> Result<(), AllocError> {
+    out.try_push_str(if is_so { "true" } else { "false" })?;
+    Ok(())
+}
+
+/// Adds a member with a text.
+// ensures { OnOk result ((ms : Members) → string_bytes out.new ++ object_text true ms
+//     ≡ string_bytes out.old ++ object_text is_later (member key.now (string text.now) ms)) }
+#[inline]
+pub fn put_text(out: &mut String, is_later: bool, key: &str, text: &str) -> Result<(), AllocError> {
+    put_key(out, is_later, key)?;
+    put_string(out, text)?;
+    Ok(())
+}
+
+/// Adds a member with a text, or with `null`, behind another one.
+// ensures { OnOk result ((ms : Members) → string_bytes out.new ++ object_text true ms
+//     ≡ string_bytes out.old ++ object_text true (member key.now
+//     (text_or_null (option_map (λ t. t.now) text.entry)) ms)) }
+#[inline]
+pub fn put_text_or_null(out: &mut String, key: &str, text: Option<&str>) -> Result<(), AllocError> {
+    put_key(out, true, key)?;
+    put_string_or_null(out, text)?;
+    Ok(())
+}
+
+/// Adds a member with a number.
+// ensures { OnOk result ((ms : Members) → string_bytes out.new ++ object_text true ms
+//     ≡ string_bytes out.old ++ object_text is_later (member key.now (number_json number) ms)) }
+#[inline]
+pub fn put_count(
+    out: &mut String,
+    is_later: bool,
+    key: &str,
+    number: usize,
+) -> Result<(), AllocError> {
+    put_key(out, is_later, key)?;
+    put_digits(out, number)?;
+    Ok(())
+}
+
+/// Adds a member with a truth value.
+// ensures { OnOk result ((ms : Members) → string_bytes out.new ++ object_text true ms
+//     ≡ string_bytes out.old ++ object_text is_later (member key.now (boolean is_so) ms)) }
+#[inline]
+pub fn put_truth(
+    out: &mut String,
+    is_later: bool,
+    key: &str,
+    is_so: bool,
+) -> Result<(), AllocError> {
+    put_key(out, is_later, key)?;
+    put_bool(out, is_so)?;
+    Ok(())
+}
+
+/// Adds a comma, if the item that follows is behind another one.
+// ensures { OnOk result (string_bytes out.new ≡ string_bytes out.old ++ comma_if is_later) }
+#[inline]
+pub fn put_comma(out: &mut String, is_later: bool) -> Result<(), AllocError> {
+    if is_later {
+        out.try_push_str(",")?;
+    }
+    Ok(())
+}

@@ -1,0 +1,269 @@
+//! The form of SARIF 2.1.0. What begins with `put_` appends to `out`, and returns `Err` if an
+//! allocation fails.
+
+// Extracted from crates/message_forms/src/sarif.rt by tools/extract: not to be edited.
+// That source is proved, and each contract here is its. That this text means the same is tested:
+// by results from outside, and beside what is proved (.ci/bindings) and the original (tools/agree).
+
+use crate::proved::fault_rules::{put_explanation, Rule};
+use crate::proved::message_forms::escapes::put_uri;
+use crate::proved::message_forms::members::{
+    put_comma, put_count, put_end, put_key, put_text, put_truth,
+};
+use crate::proved::message_forms::message::{level_name, Message, Span};
+use crate::shim::alloc::{AllocError, Global};
+use crate::shim::prelude::*;
+
+/// Adds a plain text as a message.
+// ensures { OnOk result (string_bytes out.new
+//     ≡ string_bytes out.old ++ json_text (plain text.now)) }
+#[inline]
+fn put_plain(out: &mut String, text: &str) -> Result<(), AllocError> {
+    put_text(out, false, "text", text)?;
+    put_end(out)?;
+    Ok(())
+}
+
+/// Adds a member with a plain text as a message, behind another one.
+// ensures { OnOk result ((ms : Members) → string_bytes out.new ++ object_text true ms
+//     ≡ string_bytes out.old ++ object_text true (member key.now (plain text.now) ms)) }
+#[inline]
+fn put_plain_member(out: &mut String, key: &str, text: &str) -> Result<(), AllocError> {
+    put_key(out, true, key)?;
+    put_plain(out, text)?;
+    Ok(())
+}
+
+/// Adds a region.
+// ensures { OnOk result (string_bytes out.new
+//     ≡ string_bytes out.old ++ json_text (region span.now)) }
+#[inline]
+fn put_region(out: &mut String, span: &Span<'_>) -> Result<(), AllocError> {
+    put_count(out, false, "startLine", span.start.line)?;
+    put_count(out, true, "startColumn", span.start.column)?;
+    put_count(out, true, "endLine", span.end.line)?;
+    put_count(out, true, "endColumn", span.end.column)?;
+    put_end(out)?;
+    Ok(())
+}
+
+/// Returns a path as a URI. Returns `Err` if an allocation fails.
+// ensures { IfOk result (λ s. string_bytes s ≡ uri path.now) }
+#[inline]
+fn uri_of(alloc: Global, path: &str) -> Result<String, AllocError> {
+    let mut text = String::made_in(alloc);
+    put_uri(&mut text, path)?;
+    Ok(text)
+}
+
+/// Adds a file.
+// ensures { OnOk result (string_bytes out.new
+//     ≡ string_bytes out.old ++ json_text (artifact path.now)) }
+#[inline]
+fn put_artifact(out: &mut String, path: &str) -> Result<(), AllocError> {
+    let text = uri_of(*out.own_allocator(), path)?;
+    put_text(out, false, "uri", text.as_str())?;
+    put_end(out)?;
+    Ok(())
+}
+
+/// Adds a range of a file.
+// ensures { OnOk result (string_bytes out.new
+//     ≡ string_bytes out.old ++ json_text (physical path.now span.now)) }
+#[inline]
+fn put_physical(out: &mut String, path: &str, span: &Span<'_>) -> Result<(), AllocError> {
+    put_key(out, false, "artifactLocation")?;
+    put_artifact(out, path)?;
+    put_key(out, true, "region")?;
+    put_region(out, span)?;
+    put_end(out)?;
+    Ok(())
+}
+
+/// Adds a range of a file as a location.
+// ensures { OnOk result (string_bytes out.new
+//     ≡ string_bytes out.old ++ json_text (location path.now span.now)) }
+#[inline]
+fn put_location(out: &mut String, path: &str, span: &Span<'_>) -> Result<(), AllocError> {
+    put_key(out, false, "physicalLocation")?;
+    put_physical(out, path, span)?;
+    put_end(out)?;
+    Ok(())
+}
+
+/// Adds a range of a file as the only location.
+// ensures { OnOk result (string_bytes out.new
+//     ≡ string_bytes out.old ++ json_text (array (item (location path.now span.now) no_items))) }
+#[inline]
+fn put_locations(out: &mut String, path: &str, span: &Span<'_>) -> Result<(), AllocError> {
+    out.try_push_str("[")?;
+    put_location(out, path, span)?;
+    out.try_push_str("]")?;
+    Ok(())
+}
+
+/// Adds a message as a result.
+// ensures { OnOk result (string_bytes out.new
+//     ≡ string_bytes out.old ++ json_text (result_json message.now)) }
+#[inline]
+fn put_result(out: &mut String, message: &Message<'_>) -> Result<(), AllocError> {
+    put_text(out, false, "ruleId", message.id)?;
+    put_text(out, true, "level", level_name(message.level))?;
+    put_plain_member(out, "message", message.title)?;
+    put_key(out, true, "locations")?;
+    put_locations(out, message.path, &message.primary)?;
+    put_end(out)?;
+    Ok(())
+}
+
+/// Appends a message as a result of a log, in front of which others may stand. Returns `Err` if an
+/// allocation fails, and a part of it may then be appended.
+// ensures { OnOk result ((more : Items) → string_bytes out.new ++ array_text true more
+//     ≡ string_bytes out.old ++ array_text (not is_first) (item (result_json message.now) more)) }
+#[inline]
+pub fn put_sarif_result(
+    out: &mut String,
+    is_first: bool,
+    message: &Message<'_>,
+) -> Result<(), AllocError> {
+    put_comma(out, !is_first)?;
+    put_result(out, message)?;
+    Ok(())
+}
+
+/// Returns what a rule says. Returns `Err` if an allocation fails.
+// ensures { IfOk result (λ s. string_bytes s ≡ explanation_text rule.now) }
+#[inline]
+fn explanation(alloc: Global, rule: &Rule) -> Result<String, AllocError> {
+    let mut text = String::made_in(alloc);
+    put_explanation(&mut text, rule)?;
+    Ok(text)
+}
+
+/// Adds a rule.
+// ensures { OnOk result (string_bytes out.new
+//     ≡ string_bytes out.old ++ json_text (rule_json rule.now)) }
+#[inline]
+fn put_rule(out: &mut String, rule: &Rule) -> Result<(), AllocError> {
+    let text = explanation(*out.own_allocator(), rule)?;
+    put_text(out, false, "id", rule.id)?;
+    put_plain_member(out, "shortDescription", rule.summary)?;
+    put_plain_member(out, "fullDescription", rule.explanation)?;
+    put_plain_member(out, "help", text.as_str())?;
+    put_end(out)?;
+    Ok(())
+}
+
+/// Adds rules.
+// ensures { OnOk result (string_bytes out.new
+//     ≡ string_bytes out.old ++ json_text (array (items_of rule_json rules.now))) }
+#[inline]
+fn put_rules(out: &mut String, rules: &[Rule]) -> Result<(), AllocError> {
+    out.try_push_str("[")?;
+    let mut is_later = false;
+    for rule in rules {
+        put_comma(out, is_later)?;
+        put_rule(out, rule)?;
+        is_later = true;
+    }
+    out.try_push_str("]")?;
+    Ok(())
+}
+
+/// Adds the program of this version.
+// ensures { OnOk result (string_bytes out.new
+//     ≡ string_bytes out.old ++ json_text (driver version.now rules.now)) }
+#[inline]
+fn put_driver(out: &mut String, version: &str, rules: &[Rule]) -> Result<(), AllocError> {
+    put_text(out, false, "name", "formatlint")?;
+    put_text(out, true, "version", version)?;
+    put_key(out, true, "rules")?;
+    put_rules(out, rules)?;
+    put_end(out)?;
+    Ok(())
+}
+
+/// Adds the program as a tool.
+// ensures { OnOk result (string_bytes out.new
+//     ≡ string_bytes out.old ++ json_text (tool version.now rules.now)) }
+#[inline]
+fn put_tool(out: &mut String, version: &str, rules: &[Rule]) -> Result<(), AllocError> {
+    put_key(out, false, "driver")?;
+    put_driver(out, version, rules)?;
+    put_end(out)?;
+    Ok(())
+}
+
+/// Adds the start of a run, up to its results.
+// ensures { OnOk result ((results : Items) (whole : Bool) → string_bytes out.new
+//     ++ (array_text false results ++ object_text true (run_end whole))
+//     ≡ string_bytes out.old ++ json_text (run_json version.now rules.now results whole)) }
+#[inline]
+fn put_run_start(out: &mut String, version: &str, rules: &[Rule]) -> Result<(), AllocError> {
+    put_key(out, false, "tool")?;
+    put_tool(out, version, rules)?;
+    put_text(out, true, "columnKind", "unicodeCodePoints")?;
+    put_key(out, true, "results")?;
+    out.try_push_str("[")?;
+    Ok(())
+}
+
+/// Appends the start of a log, up to its results, which [`put_sarif_result`] appends; behind them
+/// [`put_sarif_end`] ends it. Returns `Err` if an allocation fails, and a part of it may then be
+/// appended.
+// With the results and an end it is a log.
+// ensures { OnOk result ((results : Items) (whole : Bool)
+//     → string_bytes out.new ++ (array_text false results ++ log_end whole)
+//     ≡ string_bytes out.old ++ json_text (log_json version.now rules.now results whole)) }
+#[inline]
+pub fn put_sarif_start(out: &mut String, version: &str, rules: &[Rule]) -> Result<(), AllocError> {
+    put_text(
+        out,
+        false,
+        "$schema",
+        "https://json.schemastore.org/sarif-2.1.0.json",
+    )?;
+    put_text(out, true, "version", "2.1.0")?;
+    put_key(out, true, "runs")?;
+    out.try_push_str("[")?;
+    put_run_start(out, version, rules)?;
+    Ok(())
+}
+
+/// Adds whether all that was asked for was done.
+// ensures { OnOk result (string_bytes out.new
+//     ≡ string_bytes out.old ++ json_text (invocation is_whole)) }
+#[inline]
+fn put_invocation(out: &mut String, is_whole: bool) -> Result<(), AllocError> {
+    put_truth(out, false, "executionSuccessful", is_whole)?;
+    put_end(out)?;
+    Ok(())
+}
+
+/// Adds whether all that was asked for was done, as the only invocation.
+// ensures { OnOk result (string_bytes out.new
+//     ≡ string_bytes out.old ++ json_text (array (item (invocation is_whole) no_items))) }
+#[inline]
+fn put_invocations(out: &mut String, is_whole: bool) -> Result<(), AllocError> {
+    out.try_push_str("[")?;
+    put_invocation(out, is_whole)?;
+    out.try_push_str("]")?;
+    Ok(())
+}
+
+/// Appends the end of a log, from the end of its results on: whether all that was asked for was
+/// done, and a line end. Returns `Err` if an allocation fails, and a part of it may then be
+/// appended.
+// ensures { OnOk result (string_bytes out.new ≡ string_bytes out.old
+//     ++ (array_text true no_items ++ (log_end is_whole ++ codes "\n"))) }
+#[inline]
+pub fn put_sarif_end(out: &mut String, is_whole: bool) -> Result<(), AllocError> {
+    out.try_push_str("]")?;
+    put_key(out, true, "invocations")?;
+    put_invocations(out, is_whole)?;
+    put_end(out)?;
+    out.try_push_str("]")?;
+    put_end(out)?;
+    out.try_push_str("\n")?;
+    Ok(())
+}

@@ -1,0 +1,43 @@
+//! The form for editors.
+
+// Extracted from crates/message_forms/src/short.rt by tools/extract: not to be edited.
+// That source is proved, and each contract here is its. That this text means the same is tested:
+// by results from outside, and beside what is proved (.ci/bindings) and the original (tools/agree).
+
+use crate::proved::drawn_faults::put_glyphs;
+use crate::proved::message_forms::escapes::put_number;
+use crate::proved::message_forms::message::{level_name, Message};
+use crate::proved::rust_trees::Place;
+use crate::shim::alloc::AllocError;
+use crate::shim::prelude::*;
+
+/// Appends a place: the line, a colon and the column.
+// ensures { OnOk result (string_bytes out.new ≡ string_bytes out.old ++ place_text place) }
+#[inline]
+fn put_place(out: &mut String, place: Place) -> Result<(), AllocError> {
+    put_number(out, place.line)?;
+    out.try_push_str(":")?;
+    put_number(out, place.column)?;
+    Ok(())
+}
+
+/// Appends a message as a line that editors find places in: `PATH:LINE:COLUMN: LEVEL: TITLE [ID]`.
+/// The texts are written as drawings have them. Returns `Err` if an allocation fails, and a part of
+/// the line may then be appended.
+// ensures written { OnOk result (string_bytes out.new
+//     ≡ string_bytes out.old ++ short message.now) }
+// ensures harmless { IsHarmless (short message.now) }
+#[inline]
+pub fn put_short(out: &mut String, message: &Message<'_>) -> Result<(), AllocError> {
+    put_glyphs(out, message.path, 0)?;
+    out.try_push_str(":")?;
+    put_place(out, message.primary.start)?;
+    out.try_push_str(": ")?;
+    out.try_push_str(level_name(message.level))?;
+    out.try_push_str(": ")?;
+    put_glyphs(out, message.title, 0)?;
+    out.try_push_str(" [")?;
+    put_glyphs(out, message.id, 0)?;
+    out.try_push_str("]\n")?;
+    Ok(())
+}

@@ -1,0 +1,80 @@
+//! The lines of a manifest.
+
+// Extracted from crates/package_edition/src/lines.rt by tools/extract: not to be edited.
+// That source is proved, and each contract here is its. That this text means the same is tested:
+// by results from outside, and beside what is proved (.ci/bindings) and the original (tools/agree).
+
+/// A line of a manifest, as far as it can be about an edition.
+#[derive(Clone, Copy)]
+pub enum Line<'a> {
+    /// The head of the table `[package]`.
+    Package,
+    /// The head of the table `[workspace.package]`.
+    WorkspacePackage,
+    /// The head of another table.
+    Table,
+    /// The edition, with this value.
+    Edition(&'a str),
+    /// The edition of the workspace is meant.
+    Inherited,
+    /// Any other line.
+    Other,
+}
+
+/// Returns what stands behind the key `edition` and a character, or `None` if the line has another
+/// key.
+#[inline]
+fn behind_key(line: &str, mark: char) -> Option<&str> {
+    let rest = line.strip_prefix("edition")?;
+    Some(rest.trim_start().strip_prefix(mark)?.trim_start())
+}
+
+/// Returns the text between quotes at the start of a value, or `None` if there is none.
+#[inline]
+fn quoted(value: &str) -> Option<&str> {
+    if let Some(rest) = value.strip_prefix('"') {
+        let (text, _) = rest.split_once('"')?;
+        return Some(text);
+    }
+    let (text, _) = value.strip_prefix('\'')?.split_once('\'')?;
+    Some(text)
+}
+
+/// Returns what a line with a value says.
+#[inline]
+fn entry(line: &str) -> Line<'_> {
+    if behind_key(line, '.').map_or(false, |rest| rest.starts_with("workspace")) {
+        return Line::Inherited;
+    }
+    let Some(value) = behind_key(line, '=') else {
+        return Line::Other;
+    };
+    match quoted(value) {
+        Some(edition) => Line::Edition(edition),
+        None if value.starts_with('{') => Line::Inherited,
+        None => Line::Other,
+    }
+}
+
+/// Returns which table begins with the head that is left behind its bracket.
+#[inline]
+fn head(rest: &str) -> Line<'_> {
+    match rest.split_once(']') {
+        Some((name, _)) => match name.trim() {
+            "package" => Line::Package,
+            "workspace.package" => Line::WorkspacePackage,
+            _ => Line::Table,
+        },
+        None => Line::Table,
+    }
+}
+
+/// Returns what a line of a manifest says.
+#[inline]
+pub fn line_of(text: &str) -> Line<'_> {
+    let line = text.trim();
+    match line.strip_prefix('[') {
+        Some(rest) => head(rest),
+        None => entry(line),
+    }
+}

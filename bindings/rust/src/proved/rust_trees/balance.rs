@@ -1,0 +1,121 @@
+//! Whether tokens are a forest, told as they are read one after the other.
+
+// Extracted from crates/rust_trees/src/balance.rt by tools/extract: not to be edited.
+// That source is proved, and each contract here is its. That this text means the same is tested:
+// by results from outside, and beside what is proved (.ci/bindings) and the original (tools/agree).
+
+use crate::proved::rust_trees::leaves::Token;
+use crate::proved::rust_trees::matching::Opening;
+use crate::proved::rust_trees::sides::{is_same, Delimiter, Side};
+use crate::shim::alloc::{AllocError, Global};
+use crate::shim::prelude::*;
+
+/// In which way tokens break.
+#[derive(Clone, Copy)]
+pub enum BreakKind {
+    /// A delimiter is not closed: the last of these.
+    Unclosed,
+    /// A closing delimiter stands where nothing is to be closed, or another kind of delimiter.
+    Unexpected,
+    /// A token lacks its end.
+    Unended,
+}
+
+/// Where tokens break.
+#[derive(Clone, Copy)]
+pub struct BreakAt {
+    /// In which way.
+    pub kind: BreakKind,
+    /// The byte offset where the token starts.
+    pub start: usize,
+}
+
+/// The tokens so far, as far as it matters to whether they break.
+pub struct Balance {
+    /// The delimiters that may still be closed, each with the byte offset where it starts.
+    openings: Vec<Opening>,
+    /// Where the tokens break already.
+    broken: Option<BreakAt>,
+}
+
+impl Balance {
+    /// Returns that of no tokens. Does not allocate.
+    // ensures { IsBalanced [] result }
+    #[inline]
+    pub fn new(alloc: Global) -> Balance {
+        Balance {
+            openings: Vec::made_in(alloc),
+            broken: None,
+        }
+    }
+
+    /// Adds a closing delimiter to tokens that do not break.
+    // ensures { (w : List Leaf) (x : Leaf) → GoesOn w self.old.openings.items
+    //     → self.old.broken ≡ None → x.is_ended ≡ true → side x ≡ Closes delimiter
+    //     → start ≡ x.start → IsBalanced (w ++ x ∷ []) self.new }
+    #[inline]
+    fn close(&mut self, delimiter: Delimiter, start: usize) {
+        if let Some(top) = self.openings.pop() {
+            if is_same(top.delimiter, delimiter) {
+                return;
+            }
+        }
+        self.broken = Some(BreakAt {
+            kind: BreakKind::Unexpected,
+            start,
+        });
+    }
+
+    /// Adds a token. Returns `Err` if an allocation fails.
+    // ensures { OnOk result ((w : List Leaf) → IsBalanced w self.old
+    //     → IsBalanced (w ++ leaf token.now ∷ []) self.new) }
+    #[inline]
+    pub fn add(&mut self, token: &Token<'_>) -> Result<(), AllocError> {
+        if self.broken.is_some() {
+            return Ok(());
+        }
+        if !token.is_ended {
+            self.broken = Some(BreakAt {
+                kind: BreakKind::Unended,
+                start: token.start,
+            });
+            return Ok(());
+        }
+        match token.side() {
+            Side::Neither => {}
+            Side::Opens(delimiter) => self.openings.try_push(Opening {
+                at: token.start,
+                delimiter,
+            })?,
+            Side::Closes(delimiter) => self.close(delimiter, token.start),
+        }
+        Ok(())
+    }
+
+    /// Adds tokens, one after the other. Returns `Err` if an allocation fails.
+    // ensures { OnOk result ((w : List Leaf) → IsBalanced w self.old
+    //     → IsBalanced (w ++ map leaf tokens.now) self.new) }
+    #[inline]
+    pub fn add_all(&mut self, tokens: &[Token<'_>]) -> Result<(), AllocError> {
+        for token in tokens {
+            self.add(token)?;
+        }
+        Ok(())
+    }
+
+    /// Returns where all the tokens break, or `None` if they are a forest.
+    // ensures { (w : List Leaf) → IsBalanced w self → BreaksAt w result }
+    #[inline]
+    pub fn broken(mut self) -> Option<BreakAt> {
+        if self.broken.is_some() {
+            return self.broken;
+        }
+        match self.openings.pop() {
+            Some(opening) => Some(BreakAt {
+                kind: BreakKind::Unclosed,
+                start: opening.at,
+            }),
+            None => None,
+        }
+    }
+}

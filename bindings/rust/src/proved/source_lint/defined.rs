@@ -1,0 +1,76 @@
+//! The macros that a file defines by `macro_rules!`.
+
+// Extracted from crates/source_lint/src/defined.rt by tools/extract: not to be edited.
+// That source is proved, and each contract here is its. That this text means the same is tested:
+// by results from outside, and beside what is proved (.ci/bindings) and the original (tools/agree).
+
+use crate::proved::format_calls::{is_mark_of, is_word, word};
+use crate::proved::rust_tokens::Kind;
+use crate::proved::rust_trees::{Token, Tokens};
+use crate::shim::alloc::{AllocError, Global};
+use crate::shim::prelude::*;
+
+/// Returns whether a token is the word `macro_rules`.
+// ensures { result ≡ is_macro_rules (leaf token.now) }
+#[inline]
+fn is_macro_rules(token: &Token<'_>) -> bool {
+    matches!(token.kind, Kind::Ident) && token.text == "macro_rules"
+}
+
+/// Returns whether two tokens, one behind the other, are `macro_rules` and `!`.
+// ensures { result ≡ begins_definition (option_map leaf word.entry) (option_map leaf mark.entry) }
+#[inline]
+fn begins_definition(word: Option<Token<'_>>, mark: Option<Token<'_>>) -> bool {
+    match (word, mark) {
+        (Some(word), Some(mark)) => is_macro_rules(&word) && is_mark_of(&mark, b'!'),
+        _ => false,
+    }
+}
+
+/// Adds the name of the macro that a token defines behind two others, if it does. Returns `Err` if
+/// an allocation fails.
+// ensures { OnOk result (map (λ w. w.now) found.new.items ≡ map (λ w. w.now) found.old.items
+//     ++ definition (option_map leaf before.entry) (option_map leaf last.entry)
+//     (leaf token.now)) }
+#[inline]
+fn put_definition<'a>(
+    found: &mut Vec<&'a [u8]>,
+    before: Option<Token<'a>>,
+    last: Option<Token<'a>>,
+    token: &Token<'a>,
+) -> Result<(), AllocError> {
+    if begins_definition(before, last) && is_word(token) {
+        found.try_push(word(token))?;
+    }
+    Ok(())
+}
+
+/// Returns the names of the macros that a file defines by `macro_rules!`, without `r#`. Returns
+/// `Err` if an allocation fails.
+// ensures { IfOk result (λ v. (ls : List Leaf) × AreLeaves text.now ls
+//     × (map (λ w. w.now) v.items ≡ defined ls)) }
+#[inline]
+pub fn defined<'a>(alloc: Global, text: &'a str) -> Result<Vec<&'a [u8]>, AllocError> {
+    let mut found = Vec::made_in(alloc);
+    let mut rest = Tokens::new(text);
+    let mut before = None;
+    let mut last = None;
+    while let Some(token) = rest.next() {
+        put_definition(&mut found, before, last, &token)?;
+        before = last;
+        last = Some(token);
+    }
+    Ok(found)
+}
+
+/// Returns whether a word is one of these names.
+// ensures { result ≡ list_any (bytes_eq word.now) (map (λ w. w.now) names.now) }
+#[inline]
+pub fn is_defined(names: &[&[u8]], word: &[u8]) -> bool {
+    for name in names {
+        if word == *name {
+            return true;
+        }
+    }
+    false
+}

@@ -1,0 +1,107 @@
+//! What placeholders can tell of the arguments of a call.
+
+// Extracted from crates/source_lint/src/givens.rt by tools/extract: not to be edited.
+// That source is proved, and each contract here is its. That this text means the same is tested:
+// by results from outside, and beside what is proved (.ci/bindings) and the original (tools/agree).
+
+use crate::proved::call_faults::Given;
+use crate::proved::format_calls::{token_at, Argument};
+use crate::proved::rust_tokens::{split_first, Kind};
+use crate::proved::rust_trees::Token;
+use crate::shim::alloc::{AllocError, Global};
+use crate::shim::prelude::*;
+
+/// Returns a text without `r#` at its start.
+// ensures { chars result.now ≡ without_raw (chars text.now) }
+#[inline]
+fn without_raw(text: &str) -> &str {
+    let Some(('r', rest)) = split_first(text) else {
+        return text;
+    };
+    match split_first(rest) {
+        Some(('#', name)) => name,
+        _ => text,
+    }
+}
+
+/// Returns whether a word is an expression by itself, and no variable.
+// ensures { result ≡ is_keyword word.now }
+#[inline]
+fn is_keyword(word: &str) -> bool {
+    word == "_"
+        || word == "break"
+        || word == "continue"
+        || word == "false"
+        || word == "return"
+        || word == "true"
+        || word == "yield"
+}
+
+/// Returns the variable that a token is, without `r#`, or `None` if it is none.
+// ensures { option_map text result ≡ variable (leaf token.now) }
+#[inline]
+fn variable<'a>(token: &Token<'a>) -> Option<&'a str> {
+    match token.kind {
+        Kind::Ident => {
+            if is_keyword(token.text) {
+                None
+            } else {
+                Some(token.text)
+            }
+        }
+        Kind::RawIdent => Some(without_raw(token.text)),
+        _ => None,
+    }
+}
+
+/// Returns the name of an argument, without `r#`, or `None` if it has none.
+// ensures { option_map text result ≡ name_of (map leaf tokens.now) argument.now }
+#[inline]
+fn name_of<'a>(tokens: &[Token<'a>], argument: &Argument) -> Option<&'a str> {
+    if !argument.is_named {
+        return None;
+    }
+    match token_at(tokens, argument.start) {
+        Some(token) => Some(without_raw(token.text)),
+        None => None,
+    }
+}
+
+/// Returns the variable that an argument without a name is, or `None` if it is anything else.
+// ensures { option_map text result ≡ variable_of (map leaf tokens.now) argument.now }
+#[inline]
+fn variable_of<'a>(tokens: &[Token<'a>], argument: &Argument) -> Option<&'a str> {
+    if argument.is_named || argument.start >= argument.end || argument.end - argument.start != 1 {
+        return None;
+    }
+    match token_at(tokens, argument.start) {
+        Some(token) => variable(&token),
+        None => None,
+    }
+}
+
+/// Returns what placeholders can tell of an argument.
+// ensures { seen_given result ≡ given (map leaf tokens.now) argument.now }
+#[inline]
+fn given<'a>(tokens: &[Token<'a>], argument: &Argument) -> Given<'a> {
+    Given {
+        name: name_of(tokens, argument),
+        variable: variable_of(tokens, argument),
+    }
+}
+
+/// Returns what placeholders can tell of arguments. Returns `Err` if an allocation fails.
+// ensures { IfOk result (λ v. map seen_given v.items
+//     ≡ map (given (map leaf tokens.now)) arguments.now) }
+#[inline]
+pub fn givens<'a>(
+    alloc: Global,
+    tokens: &[Token<'a>],
+    arguments: &[Argument],
+) -> Result<Vec<Given<'a>>, AllocError> {
+    let mut found = Vec::made_in(alloc);
+    for argument in arguments {
+        found.try_push(given(tokens, argument))?;
+    }
+    Ok(found)
+}

@@ -1,0 +1,214 @@
+//! What is read of a call, and what is found in it.
+
+// Extracted from crates/source_lint/src/readings.rt by tools/extract: not to be edited.
+// That source is proved, and each contract here is its. That this text means the same is tested:
+// by results from outside, and beside what is proved (.ci/bindings) and the original (tools/agree).
+
+use crate::proved::call_faults::{call_faults, FormatString, Given};
+use crate::proved::format_calls::{
+    are_counted, arguments, format_string, token_at, word, Argument, Call,
+};
+use crate::proved::rust_trees::{Source, Token};
+use crate::proved::source_lint::defined::is_defined;
+use crate::proved::source_lint::findings::put_findings;
+use crate::proved::source_lint::givens::givens;
+use crate::proved::source_lint::literals::{appends_newline, read_literal};
+use crate::proved::source_lint::report::{CallReading, Finding};
+use crate::proved::source_lint::spans::Site;
+use crate::shim::alloc::{AllocError, Global};
+use crate::shim::prelude::*;
+
+/// A file, with what its calls are read by.
+#[derive(Clone, Copy)]
+pub struct File<'s, 'a> {
+    /// The text.
+    pub text: &'a str,
+    /// The names of the macros that it defines.
+    pub defined: &'s [&'a [u8]],
+    /// Whether its edition is 2021 or a later one.
+    pub is_from_2021: bool,
+}
+
+/// Returns the name of a call, without `r#`.
+// ensures { result.now ≡ name_at (map leaf tokens.now) name }
+#[inline]
+fn name_at<'a>(tokens: &[Token<'a>], name: usize) -> &'a [u8] {
+    match token_at(tokens, name) {
+        Some(token) => word(&token),
+        None => b"",
+    }
+}
+
+/// Returns what placeholders can tell of arguments, or nothing if their number is not known.
+/// Returns `Err` if an allocation fails.
+// ensures { IfOk result (λ v. map seen_given v.items
+//     ≡ counted_givens is_counted (map (given (map leaf tokens.now)) arguments.now)) }
+#[inline]
+fn counted_givens<'a>(
+    alloc: Global,
+    tokens: &[Token<'a>],
+    arguments: &[Argument],
+    is_counted: bool,
+) -> Result<Vec<Given<'a>>, AllocError> {
+    if !is_counted {
+        return Ok(Vec::made_in(alloc));
+    }
+    let found = givens(alloc, tokens, arguments)?;
+    Ok(found)
+}
+
+/// Returns how much of a call is read where the number of its arguments is known, and where not.
+// ensures { result ≡ reading_of is_counted }
+#[inline]
+fn reading_of(is_counted: bool) -> CallReading {
+    if is_counted {
+        CallReading::Whole
+    } else {
+        CallReading::StringAlone
+    }
+}
+
+/// Checks a call with this format string and these arguments, and adds what is found. Returns `Err`
+/// if an allocation fails.
+// requires short { hashes string.style + length string.text.now + 2 < 2 ^ 64 }
+// requires captures { string.captures ≡ true }
+// ensures told { OnOk result ((xs : List FindingValue)
+//     × (findings.new.items ≡ findings.old.items ++ xs)
+//     × TellAll (told_of (start string.entry) (map seen_given given.now))
+//     (counted_faults is_counted (faults_of (start string.entry) (map seen_given given.now))) xs) }
+// ensures spans { OnOk result (All (λ x. IsSpan site.entry.text.now x.span) findings.old.items
+//     → All (λ x. IsSpan site.entry.text.now x.span) findings.new.items) }
+#[inline]
+fn check_string<'c>(
+    alloc: Global,
+    findings: &mut Vec<Finding>,
+    site: Site<'_, '_>,
+    string: FormatString<'c>,
+    given: &'c [Given<'c>],
+    is_counted: bool,
+) -> Result<(), AllocError> {
+    let checked = call_faults(alloc, string, given)?;
+    put_findings(alloc, findings, site, &checked, is_counted)?;
+    Ok(())
+}
+
+/// Reads the format string of a call, which is this literal, with the arguments behind it, and adds
+/// what is found. Returns `Err` if an allocation fails.
+// ensures read { IfOk result (λ r. (xs : List FindingValue)
+//     × (findings.new.items ≡ findings.old.items ++ xs)
+//     × ReadsLiteral (without_crs (chars site.entry.literal.text.now)) appended_newline is_counted
+//     (map (given (map leaf site.entry.tokens.now)) site.entry.arguments.now) r xs) }
+// ensures spans { OnOk result (All (λ x. IsSpan site.entry.text.now x.span) findings.old.items
+//     → All (λ x. IsSpan site.entry.text.now x.span) findings.new.items) }
+#[inline]
+fn read_string(
+    alloc: Global,
+    findings: &mut Vec<Finding>,
+    site: Site<'_, '_>,
+    appended_newline: bool,
+    is_counted: bool,
+) -> Result<CallReading, AllocError> {
+    let Some(literal) = read_literal(alloc, site.literal.text, appended_newline)? else {
+        return Ok(CallReading::Malformed);
+    };
+    let given = counted_givens(alloc, site.tokens, site.arguments, is_counted)?;
+    let text = literal.text.as_str();
+    let snippet = literal.snippet.as_str();
+    let list = given.as_slice();
+    let string = FormatString {
+        text,
+        style: literal.style,
+        snippet: Some(snippet),
+        appended_newline,
+        captures: true,
+    };
+    check_string(alloc, findings, site, string, list, is_counted)?;
+    Ok(reading_of(is_counted))
+}
+
+/// Returns the argument of an index, or `None` if there is none.
+// ensures { result ≡ slice_get arguments.now index }
+#[inline]
+fn argument_at(arguments: &[Argument], index: usize) -> Option<Argument> {
+    if index < arguments.len() {
+        Some(arguments[index])
+    } else {
+        None
+    }
+}
+
+/// Reads a call whose format string is the argument of this index, and adds what is found. Returns
+/// `Err` if an allocation fails.
+// requires pair { IsPair part.now (call.now.name + 2) call.now.close }
+// requires split { AreArguments part.now (call.now.name + 3) arguments.now call.now.close }
+// requires literal { (a : ArgumentValue) × (slice_get arguments.now index ≡ Some a)
+//     × IsTrue (is_text part.now a) }
+// ensures read { IfOk result (λ r. (xs : List FindingValue)
+//     × (findings.new.items ≡ findings.old.items ++ xs)
+//     × ReadsAt part.now call.now arguments.now index r xs) }
+// ensures spans { OnOk result (All (λ x. IsSpan file.entry.text.now x.span) findings.old.items
+//     → All (λ x. IsSpan file.entry.text.now x.span) findings.new.items) }
+#[inline]
+fn read_at(
+    alloc: Global,
+    findings: &mut Vec<Finding>,
+    file: File<'_, '_>,
+    part: &Source<'_>,
+    call: &Call,
+    arguments: &[Argument],
+    index: usize,
+) -> Result<CallReading, AllocError> {
+    let tokens = part.tokens();
+    let Some(string) = argument_at(arguments, index) else {
+        return Ok(CallReading::Malformed);
+    };
+    let Some(literal) = token_at(tokens, string.start) else {
+        return Ok(CallReading::Malformed);
+    };
+    let others = &arguments[index + 1..];
+    let site = Site {
+        text: file.text,
+        tokens,
+        literal,
+        arguments: others,
+    };
+    let close = call.close;
+    let name = name_at(tokens, call.name);
+    let appended_newline = appends_newline(name);
+    let is_counted = are_counted(part, call.name + 2, string.end, close);
+    let reading = read_string(alloc, findings, site, appended_newline, is_counted)?;
+    Ok(reading)
+}
+
+/// Reads a call, and adds what is found in it. Returns `Err` if an allocation fails.
+// requires { IsPair part.now (call.now.name + 2) call.now.close }
+// ensures read { IfOk result (λ r. (xs : List FindingValue)
+//     × (findings.new.items ≡ findings.old.items ++ xs)
+//     × Reads (map (λ w. w.now) file.entry.defined.now) file.entry.is_from_2021 part.now call.now
+//     r xs) }
+// ensures spans { OnOk result (All (λ x. IsSpan file.entry.text.now x.span) findings.old.items
+//     → All (λ x. IsSpan file.entry.text.now x.span) findings.new.items) }
+#[inline]
+pub fn read_call(
+    alloc: Global,
+    findings: &mut Vec<Finding>,
+    file: File<'_, '_>,
+    part: &Source<'_>,
+    call: &Call,
+) -> Result<CallReading, AllocError> {
+    let name = name_at(part.tokens(), call.name);
+    if is_defined(file.defined, name) {
+        return Ok(CallReading::Redefined);
+    }
+    let Some(arguments) = arguments(alloc, part, call.close)? else {
+        return Ok(CallReading::Whole);
+    };
+    let list = arguments.as_slice();
+    match format_string(part, call.rule, list, file.is_from_2021) {
+        Err(reason) => Ok(CallReading::Unread(reason)),
+        Ok(index) => {
+            let reading = read_at(alloc, findings, file, part, call, list, index)?;
+            Ok(reading)
+        }
+    }
+}

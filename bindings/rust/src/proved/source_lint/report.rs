@@ -1,0 +1,55 @@
+//! What is asked about a file, and what is found in it.
+
+// Extracted from crates/source_lint/src/report.rt by tools/extract: not to be edited.
+// That source is proved, and each contract here is its. That this text means the same is tested:
+// by results from outside, and beside what is proved (.ci/bindings) and the original (tools/agree).
+
+use crate::proved::format_calls::{Reason, Table};
+use crate::proved::rust_trees::BreakAt;
+use std::ops::Range;
+
+/// How a file is read.
+pub struct Options<'a> {
+    /// The macros that take a format string.
+    pub table: Table<'a>,
+    /// Whether the edition of the file is 2021 or a later one.
+    pub is_from_2021: bool,
+}
+
+/// How much of a call was read.
+#[derive(Clone, Copy)]
+pub enum CallReading {
+    /// Its format string and its arguments.
+    Whole,
+    /// Its format string alone: how many arguments there are is not known, since a macro repeats
+    /// some of them.
+    StringAlone,
+    /// Nothing, since the file defines a macro of this name by `macro_rules!`.
+    Redefined,
+    /// Nothing, for this reason.
+    Unread(Reason),
+    /// Nothing, since its literal stands for no text: an escape in it is wrong.
+    Malformed,
+}
+
+/// What is wrong with a call, as rustc tells it.
+pub struct Finding {
+    /// Whether it is a warning, and no error.
+    pub is_warning: bool,
+    /// The id of its kind, in kebab case.
+    pub id: &'static str,
+    /// The title, in rustc's words.
+    pub title: String,
+    /// The primary span: the bytes of the file that it is about. Both ends are at characters.
+    pub span: Range<usize>,
+}
+
+/// What was read of a file, and what is wrong with it.
+pub struct Report {
+    /// How much of each call of a macro of the table was read, in the order of their names.
+    pub calls: Vec<CallReading>,
+    /// What is wrong with these calls, one call after the other.
+    pub findings: Vec<Finding>,
+    /// Where the file breaks, or `None` if it does not. Calls in front of that place are read.
+    pub broken: Option<BreakAt>,
+}
