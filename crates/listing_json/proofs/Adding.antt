@@ -1,5 +1,5 @@
 -- Lines that are appended one after the other.
-use Rattle.std.proofs.Common.{◌≡◌, ◌≤◌, ◌∙◌, ◌++◌, ◌∷◌, [], List, Some, ap, append-nil, sym}
+use Rattle.std.proofs.Common.{◌≡◌, ◌≤◌, ◌∙◌, ◌++◌, ◌∷◌, [], List, ap, append-nil, sym}
 use Rattle.std.proofs.Common.{ℕ, append_assoc, flat_map, subst, option_and_then, codes}
 use Rattle.std.proofs.lemmas.Grind.{flat_map-append}
 use Rattle.std.specs.List.{AllByRecursion}

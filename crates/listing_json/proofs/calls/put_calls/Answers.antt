@@ -20,8 +20,9 @@ loop-goes_on-preserved c =
       lines = owes-call s _ _ _ _ _ _ k.state k.goes_on k.lines
           (rw c.loop-goes_on-test.true at c.loop-goes_on.invariant.lines);
       world = ap (λ (t : State). t.world) k.state ∙ c.loop-goes_on.invariant.world;
-      some = faults-next s _ _ _ _ _ k.state k.goes_on (ap not
-          (c.is_empty.ensures ∙ ap (λ m. m == 0) n) ∙ some-listed seen_fault (map_fault (place_of s.world)) _ (next_call s).faults k.faults)
+      some = faults-next s _ _ _ _ _ k.state k.goes_on
+          (ap not (c.is_empty.ensures ∙ ap (λ m. m == 0) n)
+          ∙ some-listed seen_fault (map_fault (place_of s.world)) _ (next_call s).faults k.faults)
           (rw c.loop-goes_on-test.true at c.loop-goes_on.invariant.some);
       none = c.clear.ensures.items;
     }

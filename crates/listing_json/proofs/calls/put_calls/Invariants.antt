@@ -1,4 +1,4 @@
-use Rattle.std.proofs.Common.{◌≡◌, ◌||◌, ℕ, [], refl}
+use Rattle.std.proofs.Common.{◌≡◌, ◌||◌, []}
 use Rattle.listing_json.specs.Lines.{calls_values, has_faults}
 use Rattle.listing_json.proofs.Adding.{Owes}
 use Rattle.listing_json.proofs.Walking.{left, turns}
