@@ -1,4 +1,4 @@
--- The ids of the kinds of faults, and what is written of a kind.
+-- The ids of the kinds of faults, and the text of a rule.
 use Rattle.std.specs.Prelude.{ℕ, ◌++◌, List, [], ◌∷◌, Bool, false, if◌then◌else◌, true, codes}
 use Rattle.std.specs.Str.{bytes_eq}
 use Rattle.fault_rules.specs.declared.rules.Rule.{Rule}
@@ -33,7 +33,7 @@ ids =
     codes "name-used-by-index" ∷
     []
 
--- It is one of these ids.
+-- The text is one of these ids.
 abbrev pub is_id : List ℕ → List (List ℕ) → Bool
 is_id id [] = false
 is_id id (i ∷ is) = if bytes_eq i id then true else is_id id is
@@ -42,8 +42,8 @@ is_id id (i ∷ is) = if bytes_eq i id then true else is_id id is
 abbrev pub example_text : List ℕ → List ℕ → List ℕ
 example_text says e = codes "\n" ++ (says ++ (codes ":\n\n    " ++ (e ++ codes "\n")))
 
--- What a rule says.
+-- The text of a rule.
 abbrev pub explanation_text : Rule → List ℕ
 explanation_text r = r.id.now ++ (codes ": " ++ (r.summary.now ++ (codes "\n\n"
     ++ (r.explanation.now ++ (codes "\n" ++ (example_text (codes "With the fault") r.example.now
-    ++ example_text (codes "Without it") r.mended.now))))))
+    ++ example_text (codes "Without it") r.correction.now))))))

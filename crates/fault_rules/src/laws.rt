@@ -1,4 +1,4 @@
-//! What holds of the rules.
+//! Laws about the rules.
 
 ghost use Rattle.std.specs.Prelude.{◌≡◌, true};
 ghost use Rattle.call_faults.specs.CallFaults.{CallFault};

@@ -1,10 +1,10 @@
-//! What each fault means, by its id: [`RULES`] has a rule for each kind, with an example and its
-//! mending.
+//! The meanings of faults, by their ids: [`RULES`] has a rule for each kind, with an example and
+//! its correction.
 #![tactic(auto)]
 
-mod explained;
+mod explanation;
 pub mod laws;
 mod rules;
 
-pub use explained::put_explanation;
+pub use explanation::put_explanation;
 pub use rules::{RULES, Rule, rule_of};

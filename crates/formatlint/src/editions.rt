@@ -1,6 +1,6 @@
 //! The editions of files, by the Cargo.toml above them.
 
-use package_edition::{Declared, edition_in, is_from_2021, workspace_edition};
+use package_edition::{Declaration, edition_in, is_from_2021, workspace_edition};
 use std::io::Read;
 use std::{fs, io};
 
@@ -10,12 +10,12 @@ const MOST: u64 = 1 << 20;
 /// The editions of files.
 #[derive(Drop)]
 pub struct Editions<'a> {
-    /// The edition that was asked for, or `None`.
-    given: Option<&'a str>,
+    /// The edition of all files, or `None`.
+    edition: Option<&'a str>,
     /// The folder of the last file that was asked about.
     folder: String,
     /// Whether its edition is 2021 or a later one, or `None` if no file was asked about.
-    known: Option<bool>,
+    answer: Option<bool>,
 }
 
 /// Returns the folder of a file.
@@ -40,30 +40,30 @@ fn manifest(rt: &HostRuntime, folder: &str) -> io::Result<String> {
     Ok(text)
 }
 
-/// What the manifests up to a folder say.
+/// The result of reading the manifests from a folder upwards.
 #[derive(Clone, Copy)]
 enum Reading {
-    /// The edition is 2021 or a later one, or an earlier one.
-    Known(bool),
+    /// Whether the edition is 2021 or a later one.
+    Edition(bool),
     /// The edition is that of the workspace, whose manifest is further up.
-    Inherited,
+    Workspace,
     /// There is no package yet.
     Nothing,
 }
 
-/// Returns what a manifest adds to what those below it say.
+/// Returns the result of reading one manifest more, which lies above the others.
 fn read_on(reading: Reading, text: &str) -> Reading {
     if matches!(reading, Reading::Nothing) {
         match edition_in(text) {
-            Declared::NoPackage => return Reading::Nothing,
-            Declared::Nothing => return Reading::Known(false),
-            Declared::Edition(edition) => return Reading::Known(is_from_2021(edition)),
-            Declared::Inherited => {}
+            Declaration::NoPackage => return Reading::Nothing,
+            Declaration::NoEdition => return Reading::Edition(false),
+            Declaration::Edition(edition) => return Reading::Edition(is_from_2021(edition)),
+            Declaration::Workspace => {}
         }
     }
     match workspace_edition(text) {
-        Some(edition) => Reading::Known(is_from_2021(edition)),
-        None => Reading::Inherited,
+        Some(edition) => Reading::Edition(is_from_2021(edition)),
+        None => Reading::Workspace,
     }
 }
 
@@ -76,7 +76,7 @@ fn edition_of(rt: &HostRuntime, folder: &str) -> bool {
         if let Ok(text) = manifest(rt, rest) {
             reading = read_on(reading, text.as_str());
         }
-        if let Reading::Known(is_from_2021) = reading {
+        if let Reading::Edition(is_from_2021) = reading {
             return is_from_2021;
         }
         match rest.rsplit_once('/') {
@@ -88,34 +88,34 @@ fn edition_of(rt: &HostRuntime, folder: &str) -> bool {
 }
 
 impl<'a> Editions<'a> {
-    /// Returns the editions where this one was asked for, or none.
-    pub fn new(rt: &HostRuntime, given: Option<&'a str>) -> Editions<'a> {
+    /// Returns the editions of files, which are all this one unless it is `None`.
+    pub fn new(rt: &HostRuntime, edition: Option<&'a str>) -> Editions<'a> {
         Editions {
-            given,
+            edition,
             folder: String::new(rt.alloc()),
-            known: None,
+            answer: None,
         }
     }
 
     /// Returns whether the edition of the file with this path is 2021 or a later one: the edition
-    /// that was asked for, or that of the nearest package above the file. A manifest without the
+    /// of all files, or that of the nearest package above the file. A manifest without the
     /// key means 2015, and without a manifest it is 2021. Returns an error if an allocation fails.
     pub fn is_from_2021(&mut self, rt: &HostRuntime, path: &str) -> io::Result<bool> {
-        if let Some(edition) = self.given {
+        if let Some(edition) = self.edition {
             return Ok(is_from_2021(edition));
         }
         let folder = folder_of(path);
-        if let Some(known) = self.known {
+        if let Some(answer) = self.answer {
             if self.folder.as_str() == folder {
-                return Ok(known);
+                return Ok(answer);
             }
         }
-        let found = match fs::canonicalize(rt, folder) {
+        let answer = match fs::canonicalize(rt, folder) {
             Ok(whole) => edition_of(rt, whole.as_str()),
             Err(_) => true,
         };
         self.folder = String::from_str(rt.alloc(), folder)?;
-        self.known = Some(found);
-        Ok(found)
+        self.answer = Some(answer);
+        Ok(answer)
     }
 }

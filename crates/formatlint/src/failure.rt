@@ -1,13 +1,13 @@
-//! Why something was not done.
+//! The reason why there is no answer.
 
 use piece_listing::verdict::RunFault;
 use std::alloc::AllocError;
 use std::io;
 
-/// Why there is no answer.
+/// The reason why there is no answer.
 #[derive(Drop)]
 pub struct Failure {
-    /// What failed.
+    /// The kind of failure.
     pub fault: RunFault,
     /// The error of the system, if it has one.
     pub error: Option<io::Error>,

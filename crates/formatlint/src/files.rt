@@ -6,8 +6,8 @@ use crate::editions::Editions;
 use crate::failure::Failure;
 use crate::forms::{File, Form, put_end, put_finding, put_start};
 use crate::literal::tell_of_terminal;
-use crate::noted::Noted;
-use crate::told::Told;
+use crate::recorder::Recorder;
+use crate::totals::Totals;
 use crate::walk::Walk;
 use piece_listing::run::write_whole;
 use rust_trees::{BreakKind, Places};
@@ -18,12 +18,12 @@ use std::{fs, io};
 /// The most bytes of a file that are read.
 const MOST: usize = 64 << 20;
 
-/// What is written at once, at least, if more is to come.
+/// The number of bytes of messages above which they are written, although more may come.
 const CHUNK: usize = 1 << 16;
 
-/// What is asked for of files.
+/// A request to read files and folders.
 #[derive(Drop)]
-pub struct Asked<'a> {
+pub struct Request<'a> {
     /// The paths of files and folders.
     pub paths: &'a [&'a str],
     /// The names of files and folders that are excluded.
@@ -41,13 +41,13 @@ pub struct Asked<'a> {
 /// A run.
 #[derive(Drop)]
 struct Run<'a> {
-    asked: &'a Asked<'a>,
+    request: &'a Request<'a>,
     options: Options<'a>,
     editions: Editions<'a>,
-    told: Told,
-    /// What is still to be written.
+    totals: Totals,
+    /// The text that is still to be written.
     out: String,
-    /// Whether a message was put.
+    /// Whether there was a message.
     has_messages: bool,
 }
 
@@ -62,7 +62,7 @@ fn break_words(kind: BreakKind) -> &'static str {
 
 /// Writes a text to standard output.
 pub fn write(rt: &HostRuntime, text: &str) -> Result<(), Failure> {
-    let mut writer = Noted::new(rt.stdout());
+    let mut writer = Recorder::new(rt.stdout());
     match write_whole(&mut writer, text.as_bytes()) {
         Ok(()) => Ok(()),
         Err(fault) => Err(Failure {
@@ -73,14 +73,14 @@ pub fn write(rt: &HostRuntime, text: &str) -> Result<(), Failure> {
 }
 
 impl<'a> Run<'a> {
-    /// Writes what is still to be written.
+    /// Writes the text that is still to be written.
     fn flush(&mut self, rt: &HostRuntime) -> Result<(), Failure> {
         write(rt, self.out.as_str())?;
         self.out.clear();
         Ok(())
     }
 
-    /// Puts the messages of a file.
+    /// Appends the messages of a file, and writes them from time to time.
     fn put_findings<'x>(
         &mut self,
         rt: &HostRuntime,
@@ -91,7 +91,7 @@ impl<'a> Run<'a> {
     {
         for finding in &report.findings {
             let is_first = !self.has_messages;
-            put_finding(&mut self.out, self.asked.form, is_first, file, finding)?;
+            put_finding(&mut self.out, self.request.form, is_first, file, finding)?;
             self.has_messages = true;
             if self.out.len() > CHUNK {
                 self.flush(rt)?;
@@ -101,14 +101,14 @@ impl<'a> Run<'a> {
     }
 }
 
-/// What was read of a file.
+/// The part of a file that was read.
 #[derive(Clone, Copy)]
 enum Extent {
     /// All of it.
     Whole,
-    /// What is in front of bytes that are not UTF-8.
+    /// The text before bytes that are not UTF-8.
     Text,
-    /// The first bytes.
+    /// The first 64 MiB.
     Front,
 }
 
@@ -131,19 +131,19 @@ fn text_of(bytes: &[u8]) -> (&str, Extent) {
     }
 }
 
-/// Tells why a file was not read to its end, if it was not.
-fn tell_end(rt: &HostRuntime, told: &mut Told, file: &File<'_>, extent: Extent, report: &Report)
+/// Adds a failure to the totals if a file was not read to its end.
+fn tell_end(rt: &HostRuntime, totals: &mut Totals, file: &File<'_>, extent: Extent, report: &Report)
     requires { file.now.places ≡ file.now.text.now }
 {
     let end = file.places.at(file.text.len());
     match extent {
-        Extent::Text => told.fail_at(rt, file.path, end, "not UTF-8"),
-        Extent::Front => told.fail_at(rt, file.path, end, "longer than 64 MiB"),
+        Extent::Text => totals.fail_at(rt, file.path, end, "not UTF-8"),
+        Extent::Front => totals.fail_at(rt, file.path, end, "longer than 64 MiB"),
         Extent::Whole => {
             if let Some(broken) = &report.broken {
                 let start = file.text.floor_char_boundary(broken.start);
                 let place = file.places.at(start);
-                told.fail_at(rt, file.path, place, break_words(broken.kind));
+                totals.fail_at(rt, file.path, place, break_words(broken.kind));
             }
         }
     }
@@ -157,7 +157,7 @@ fn read_all<R: Read + Drop>(rt: &HostRuntime, stream: R) -> io::Result<Vec<u8>> 
 }
 
 impl<'a> Run<'a> {
-    /// Reads the bytes of a file, and puts the messages about it.
+    /// Reads the bytes of a file, and writes the messages about it.
     fn lint<'x>(
         &mut self,
         rt: &HostRuntime,
@@ -170,7 +170,7 @@ impl<'a> Run<'a> {
             Err(error) => return Err(Failure::of(error)),
         };
         let report = file_faults(rt.alloc(), text, &self.options)?;
-        self.told.add(&report);
+        self.totals.add(&report);
         let is_broken = report.broken.is_some() || !matches!(extent, Extent::Whole);
         if report.findings.is_empty() && !is_broken {
             return Ok(());
@@ -179,18 +179,18 @@ impl<'a> Run<'a> {
         let file = File { path, text, places };
         self.put_findings(rt, &file, &report)?;
         self.flush(rt)?;
-        tell_end(rt, &mut self.told, &file, extent, &report);
+        tell_end(rt, &mut self.totals, &file, extent, &report);
         Ok(())
     }
 
-    /// Reads what comes from standard input.
+    /// Reads standard input.
     fn lint_stdin(&mut self, rt: &HostRuntime) -> Result<(), Failure> {
         tell_of_terminal(rt);
-        let path = self.asked.stdin_path.unwrap_or("<stdin>");
+        let path = self.request.stdin_path.unwrap_or("<stdin>");
         match read_all(rt, rt.stdin()) {
             Ok(bytes) => self.lint(rt, path, bytes.as_slice()),
             Err(error) => {
-                self.told.fail(rt, path, &error);
+                self.totals.fail(rt, path, &error);
                 Ok(())
             }
         }
@@ -205,7 +205,7 @@ impl<'a> Run<'a> {
         match read {
             Ok(bytes) => self.lint(rt, path, bytes.as_slice()),
             Err(error) => {
-                self.told.fail(rt, path, &error);
+                self.totals.fail(rt, path, &error);
                 Ok(())
             }
         }
@@ -213,9 +213,9 @@ impl<'a> Run<'a> {
 
     /// Reads the files below a folder.
     fn lint_folder(&mut self, rt: &HostRuntime, path: &str) -> Result<(), Failure> {
-        let mut walk = Walk::new(rt.alloc(), path, self.asked.excluded)?;
+        let mut walk = Walk::new(rt.alloc(), path, self.request.excluded)?;
         for _ in 0..u64::MAX {
-            match walk.next(rt, &mut self.told)? {
+            match walk.next(rt, &mut self.totals)? {
                 Some(path) => self.lint_file(rt, path.as_str())?,
                 None => break,
             }
@@ -232,43 +232,43 @@ impl<'a> Run<'a> {
             Ok(data) if data.is_dir() => self.lint_folder(rt, path),
             Ok(_) => self.lint_file(rt, path),
             Err(error) => {
-                self.told.fail(rt, path, &error);
+                self.totals.fail(rt, path, &error);
                 Ok(())
             }
         }
     }
 
-    /// Reads all that is asked for.
+    /// Reads all paths of the request.
     fn lint_all(&mut self, rt: &HostRuntime) -> Result<(), Failure> {
-        put_start(&mut self.out, self.asked.form, self.asked.version)?;
+        put_start(&mut self.out, self.request.form, self.request.version)?;
         self.flush(rt)?;
-        if self.asked.paths.is_empty() {
+        if self.request.paths.is_empty() {
             self.lint_folder(rt, "")?;
         }
-        let paths = self.asked.paths;
+        let paths = self.request.paths;
         for path in paths {
             self.lint_path(rt, path)?;
         }
-        put_end(&mut self.out, self.asked.form, self.told.failures == 0)?;
+        put_end(&mut self.out, self.request.form, self.totals.failures == 0)?;
         self.flush(rt)
     }
 }
 
-/// Reads all that is asked for, and writes the messages about it. Returns what was read and found,
-/// also if that ended with a failure.
+/// Reads all paths of a request, and writes the messages about them. Returns the totals, also if
+/// the run ended with a failure.
 pub fn lint<'a>(
     rt: &HostRuntime,
-    asked: &'a Asked<'a>,
+    request: &'a Request<'a>,
     options: Options<'a>,
-) -> (Told, Result<(), Failure>) {
+) -> (Totals, Result<(), Failure>) {
     let mut run = Run {
-        asked,
+        request,
         options,
-        editions: Editions::new(rt, asked.edition),
-        told: Told::new(),
+        editions: Editions::new(rt, request.edition),
+        totals: Totals::new(),
         out: String::new(rt.alloc()),
         has_messages: false,
     };
     let result = run.lint_all(rt);
-    (run.told, result)
+    (run.totals, result)
 }

@@ -1,8 +1,8 @@
 //! The run over one string: a literal, or a text.
 
-use crate::asked::{file_of, list_words, task_of, when_of};
+use crate::arguments::{file_of, list_words, task_of, when_of};
 use crate::failure::Failure;
-use crate::noted::Noted;
+use crate::recorder::Recorder;
 use clap::ArgMatches;
 use drawn_faults::put_glyphs;
 use format_lint::run::run;
@@ -17,7 +17,7 @@ use std::{env, fs};
 
 /// Reads a stream to its end.
 fn read<R: Read + Drop>(rt: &HostRuntime, stream: R) -> Result<Vec<u8>, Failure> {
-    let mut reader = Noted::new(stream);
+    let mut reader = Recorder::new(stream);
     match read_input(rt.alloc(), &mut reader) {
         Ok(bytes) => Ok(bytes),
         Err(fault) => Err(Failure {
@@ -39,7 +39,7 @@ fn input(rt: &HostRuntime, file: Option<&str>) -> Result<Vec<u8>, Failure> {
     }
 }
 
-/// Says on standard error that standard input is read, if it is a terminal.
+/// Writes to standard error that standard input is read, if it is a terminal.
 pub fn tell_of_terminal(rt: &HostRuntime) {
     if rt.stdin().is_terminal() {
         let _ = rt.eprintln("formatlint: reads what is typed here, up to Ctrl-D; --help says more");
@@ -58,9 +58,8 @@ fn has_colours(rt: &HostRuntime, matches: &ArgMatches<'_>) -> bool {
     )
 }
 
-/// Returns the bytes of an input that are listed: a text, or the literal without what may stand
-/// around it.
-fn listed<'a>(matches: &ArgMatches<'_>, input: &'a [u8]) -> &'a [u8] {
+/// Returns the bytes of an input that are listed: all of a text, or the literal in a file.
+fn listing_input<'a>(matches: &ArgMatches<'_>, input: &'a [u8]) -> &'a [u8] {
     if matches.get_flag("text") {
         return input;
     }
@@ -73,7 +72,7 @@ fn listed<'a>(matches: &ArgMatches<'_>, input: &'a [u8]) -> &'a [u8] {
 /// Returns the listing of an input, in the form that the arguments name.
 fn listing_of(alloc: Global, matches: &ArgMatches<'_>, input: &[u8]) -> Result<Listing, RunFault> {
     let words = list_words(alloc, matches)?;
-    let bytes = listed(matches, input);
+    let bytes = listing_input(matches, input);
     if matches.get_str("format") == Some("json") {
         return list(alloc, bytes, words.as_slice());
     }
@@ -115,15 +114,15 @@ fn answer(
     input: &[u8],
 ) -> Result<usize, Failure> {
     let alloc = rt.alloc();
-    let mut writer = Noted::new(rt.stdout());
-    let told = if matches.get_flag("list") {
+    let mut writer = Recorder::new(rt.stdout());
+    let result = if matches.get_flag("list") {
         answer_listing(rt, &mut writer, matches, input)
     } else {
         let task = task_of(matches, path, has_colours(rt, matches));
         let mut reader = input;
         run(alloc, &mut reader, &mut writer, task)
     };
-    match told {
+    match result {
         Ok(count) => Ok(count),
         Err(fault) => Err(Failure {
             fault,
@@ -132,7 +131,7 @@ fn answer(
     }
 }
 
-/// Appends the lines that say why there is no answer.
+/// Appends the lines with the reason why there is no answer.
 fn put_why(
     out: &mut String,
     path: &str,
@@ -157,7 +156,7 @@ fn put_why(
 /// signal SIGPIPE.
 const GONE: u8 = 141;
 
-/// Says why there is no answer, and returns the exit status.
+/// Writes to standard error why there is no answer, and returns the exit status.
 pub fn tell(rt: &HostRuntime, path: &str, input: &[u8], failure: &Failure) -> u8 {
     if failure.is_of_a_broken_pipe() {
         return GONE;
@@ -174,7 +173,8 @@ pub fn tell(rt: &HostRuntime, path: &str, input: &[u8], failure: &Failure) -> u8
     }
 }
 
-/// Says on standard error how many mistakes there are besides the first, where only that is drawn.
+/// Writes to standard error how many mistakes there are besides the first, where only that is
+/// drawn.
 fn tell_others(rt: &HostRuntime, matches: &ArgMatches<'_>, count: usize) {
     if count > 1 && !matches.get_flag("all") {
         let others = count - 1;
@@ -182,8 +182,8 @@ fn tell_others(rt: &HostRuntime, matches: &ArgMatches<'_>, count: usize) {
     }
 }
 
-/// Does what the arguments ask for of one string. Returns the exit status, or `None` if the list of
-/// arguments is none.
+/// Reads one string, and writes the answer. Returns the exit status, or `None` if the value of
+/// `--args` is no list of arguments.
 pub fn literal_status(rt: &HostRuntime, matches: &ArgMatches<'_>) -> Option<u8> {
     let file = file_of(matches);
     let path = match file {

@@ -1,6 +1,6 @@
 //! The source files below a folder.
 
-use crate::told::Told;
+use crate::totals::Totals;
 use std::alloc::{AllocError, Global};
 use std::fs::DirEntry;
 use std::{fs, io};
@@ -13,18 +13,18 @@ struct Entry {
 }
 
 /// The source files below a folder, in the order of names: those whose name ends in `.rs`. Links
-/// are not followed, and hidden folders, those with the name `target` and what is excluded are left
-/// out.
+/// are not followed, and hidden folders, those with the name `target` and the excluded names are
+/// left out.
 #[derive(Drop)]
 pub struct Walk<'a> {
-    /// What is still to be read, the next one last.
+    /// The files and folders that are still to be read, the next one last.
     rest: Vec<Entry>,
     /// The names of files and folders that are excluded.
     excluded: &'a [&'a str],
 }
 
-/// Returns the path of a name in a folder, which has no path if it is the one where one stands.
-fn joined(alloc: Global, folder: &str, name: &str) -> Result<String, AllocError> {
+/// Returns the path of a name in a folder. An empty path is that of the current folder.
+fn join(alloc: Global, folder: &str, name: &str) -> Result<String, AllocError> {
     let mut path = String::from_str(alloc, folder)?;
     if !folder.is_empty() && !folder.ends_with('/') {
         path.push('/')?;
@@ -39,7 +39,7 @@ fn is_left_out(name: &str) -> bool {
 }
 
 impl<'a> Walk<'a> {
-    /// Returns the files below a folder. Without a path it is the one where one stands. Returns
+    /// Returns the files below a folder. An empty path is that of the current folder. Returns
     /// `Err` if an allocation fails.
     pub fn new(
         alloc: Global,
@@ -74,14 +74,15 @@ impl<'a> Walk<'a> {
             kind.is_file() && name.ends_with(".rs")
         };
         if is_read {
-            let path = joined(rt.alloc(), folder, name)?;
+            let path = join(rt.alloc(), folder, name)?;
             found.push(Entry { path, is_folder })?;
         }
         Ok(())
     }
 
-    /// Returns the entries of a folder, the first one last. What cannot be read of it is told.
-    fn entries(&self, rt: &HostRuntime, folder: &str, told: &mut Told) -> io::Result<Vec<Entry>> {
+    /// Returns the entries of a folder, the first one last. The failure of an entry
+    /// that cannot be read is added to the totals.
+    fn entries(&self, rt: &HostRuntime, folder: &str, totals: &mut Totals) -> io::Result<Vec<Entry>> {
         let shown = if folder.is_empty() { "." } else { folder };
         let mut found = Vec::new(rt.alloc());
         for entry in fs::read_dir(rt, shown)? {
@@ -90,7 +91,7 @@ impl<'a> Walk<'a> {
                 Err(error) => Err(error),
             };
             if let Err(error) = added {
-                told.fail(rt, shown, &error);
+                totals.fail(rt, shown, &error);
             }
         }
         found.sort()?;
@@ -98,12 +99,12 @@ impl<'a> Walk<'a> {
         Ok(found)
     }
 
-    /// Returns the path of the next file, or `None` if there is none. A folder that cannot be read
-    /// is told. Returns `Err` if an allocation fails.
+    /// Returns the path of the next file, or `None` if there is none. The failure of
+    /// a folder that cannot be read is added to the totals. Returns `Err` if an allocation fails.
     pub fn next(
         &mut self,
         rt: &HostRuntime,
-        told: &mut Told,
+        totals: &mut Totals,
     ) -> Result<Option<String>, AllocError> {
         for _ in 0..u64::MAX {
             let Some(entry) = self.rest.pop() else {
@@ -112,9 +113,9 @@ impl<'a> Walk<'a> {
             if !entry.is_folder {
                 return Ok(Some(entry.path));
             }
-            match self.entries(rt, entry.path.as_str(), told) {
+            match self.entries(rt, entry.path.as_str(), totals) {
                 Ok(mut found) => self.rest.append(&mut found)?,
-                Err(error) => told.fail(rt, entry.path.as_str(), &error),
+                Err(error) => totals.fail(rt, entry.path.as_str(), &error),
             }
         }
         Ok(None)

@@ -1,4 +1,4 @@
--- Whether the output is in colours. The public rules are `--color` of rustc, NO_COLOR
+-- The choice whether the output is in colours. The public rules are `--color` of rustc, NO_COLOR
 -- (no-color.org: the variable is there and not empty) and that a terminal `dumb` has none.
 use Rattle.std.specs.Prelude.{ℕ, Bool, true, false, not, ◌&&◌, ◌==◌, List, Option, Some, None}
 use Rattle.std.specs.Prelude.{bytes_eq, codes, length}

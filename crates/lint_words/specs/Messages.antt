@@ -33,8 +33,8 @@ abbrev pub failure : List ℕ → RunFault → List ℕ → List ℕ
 failure path f why = opening path ++ (codes " " ++ (reason f why ++ codes "\n"))
 
 -- The place as editors have it: the line, a colon and the column.
-abbrev pub written : Place → List ℕ
-written p = decimal p.line ++ (codes ":" ++ decimal p.column)
+abbrev pub place_text : Place → List ℕ
+place_text p = decimal p.line ++ (codes ":" ++ decimal p.column)
 
 -- The place of a byte offset of a file.
 abbrev pub place : List ℕ → ℕ → Place
@@ -42,9 +42,9 @@ place file n = place_between (chars (take n file)) (chars (drop n file))
 
 -- The lines where the file is no string literal: the place, the reason and the option that helps.
 abbrev pub not_literal : List ℕ → List ℕ → LiteralFault → List ℕ
-not_literal path file f = opening path ++ (written (place file f.offset) ++ (codes ": "
+not_literal path file f = opening path ++ (place_text (place file f.offset) ++ (codes ": "
     ++ (message f.kind ++ codes "\n  = help: with --text the input is read as it stands\n")))
 
 -- The line where a file is not read from a place on.
 abbrev pub place_failure : List ℕ → Place → List ℕ → List ℕ
-place_failure path p why = opening path ++ (written p ++ (codes ": " ++ (why ++ codes "\n")))
+place_failure path p why = opening path ++ (place_text p ++ (codes ": " ++ (why ++ codes "\n")))

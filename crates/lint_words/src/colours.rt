@@ -1,9 +1,9 @@
-//! Whether the output is in colours.
+//! The choice whether the output is in colours.
 
 ghost use Rattle.std.specs.Prelude.{◌≡◌, option_map};
 ghost use Rattle.lint_words.specs.Colours.{wants_colours};
 
-/// The choice when colours are written.
+/// The value of `--color`: when the output is in colours.
 #[derive(Clone, Copy, Debug, Eq, PartialEq)]
 pub enum When {
     /// If the output is a terminal that has them.

@@ -2,7 +2,7 @@
 
 ghost use Rattle.std.specs.Prelude.{◌≡◌, ◌++◌, IsCharBoundary, OnOk, decimal, string_bytes};
 ghost use Rattle.lint_words.specs.Messages.{failure, not_literal, opening, place_failure, reason};
-ghost use Rattle.lint_words.specs.Messages.{written};
+ghost use Rattle.lint_words.specs.Messages.{place_text};
 
 use drawn_faults::put_glyphs;
 use itoa::Buffer;
@@ -78,7 +78,7 @@ fn put_number(out: &mut String, number: usize) -> Result<(), AllocError>
 
 /// Appends a place: the line, a colon and the column. Returns `Err` if an allocation fails.
 fn put_place(out: &mut String, place: Place) -> Result<(), AllocError>
-    ensures { OnOk result (string_bytes out.new ≡ string_bytes out.old ++ written place) }
+    ensures { OnOk result (string_bytes out.new ≡ string_bytes out.old ++ place_text place) }
 {
     put_number(out, place.line)?;
     out.push_str(":")?;

@@ -1,5 +1,5 @@
 -- Lines that are appended one after the other.
-use Rattle.std.proofs.Common.{◌≡◌, ◌≤◌, ◌∙◌, ◌++◌, ◌∷◌, [], List, Some, ap, append-nil, sym}
+use Rattle.std.proofs.Common.{◌≡◌, ◌≤◌, ◌∙◌, ◌++◌, ◌∷◌, [], List, ap, append-nil, sym}
 use Rattle.std.proofs.Common.{ℕ, append_assoc, flat_map, subst, option_and_then, codes}
 use Rattle.std.proofs.lemmas.Grind.{flat_map-append}
 use Rattle.std.specs.List.{AllByRecursion}
@@ -12,10 +12,10 @@ use Rattle.json.specs.Tree.{depth, json_tokens}
 use Rattle.json.proofs.Printed.Trees.{value-json_tokens}
 use Rattle.listing_json.specs.Lines.{Adds, IsText, line}
 
-all-append : {A : Type 0} {P : A → Type 0} (xs ys : List A) → AllByRecursion P xs
-    → AllByRecursion P ys → AllByRecursion P (xs ++ ys)
-all-append [] ys h k = k
-all-append (x ∷ xs) ys h k = (h.0, all-append xs ys h.1 k)
+are-texts : (xs ys : List Json) → AllByRecursion IsText xs → AllByRecursion IsText ys
+    → AllByRecursion IsText (xs ++ ys)
+are-texts [] ys h k = k
+are-texts (x ∷ xs) ys h k = (h.0, are-texts xs ys h.1 k)
 
 pub adds-none : (a : List ℕ) → Adds [] a a
 adds-none a = record { lines = sym (append-nil a); are_texts = tt }
@@ -26,7 +26,7 @@ adds-then xs ys a b c h k = record {
   lines = k.lines ∙ (ap (λ l. l ++ flat_map line ys) h.lines
       ∙ (append_assoc a (flat_map line xs) (flat_map line ys)
       ∙ ap (λ l. a ++ l) (sym (flat_map-append line xs ys))));
-  are_texts = all-append xs ys h.are_texts k.are_texts;
+  are_texts = are-texts xs ys h.are_texts k.are_texts;
 }
 
 -- The print of a value that nests no deeper than a reader goes is a JSON text.
@@ -53,6 +53,13 @@ adds-line j ts before text new e low t back utf8 n = record {
     tt,
   );
 }
+
+-- A line that is begun with no token, and then has those of a value.
+pub line-added : (j : Json) (a b new : List ℕ) (ss ts : List Token) → ss ≡ [] → b ≡ a
+    → ts ≡ ss ++ json_tokens j → depth j ≤ max_depth
+    → (ts ≡ json_tokens j → depth j ≤ max_depth → Adds (j ∷ []) b new) → Adds (j ∷ []) a new
+line-added j a b new ss ts none same e low h = subst (λ l. Adds (j ∷ []) l new) same
+    (h (e ∙ ap (λ l. l ++ json_tokens j) none) low)
 
 -- Once the lines of these values are added, those of all are.
 abbrev pub Owes : List Json → List Json → List ℕ → List ℕ → Type 0

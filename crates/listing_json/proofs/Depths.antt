@@ -76,8 +76,10 @@ pub piece-low : (p : Piece Place) → depth (piece_value p) ≤ 128
 piece-low (Lit t) = omega arith
 piece-low (NextArgument a) =
     let inside = max-le {a = 0} {k = 3} (omega arith)
-    (max-le {k = 3} (let low = position-low a.position in omega (arith, low))
-    (max-le {k = 3} (let low = span-low a.position_span in omega (arith, low))
+    (max-le {a = depth (position_value a.position)} {k = 3}
+    (let low = position-low a.position in omega (arith, low))
+    (max-le {a = depth (span_value a.position_span)} {k = 3}
+    (let low = span-low a.position_span in omega (arith, low))
     (max-le {b = 0} {k = 3} (format-low a.format) (omega arith)))) in
     omega (arith, inside)
 

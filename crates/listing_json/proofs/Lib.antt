@@ -1,3 +1,4 @@
 mod Depths
 mod Adding
+mod Chains
 mod Walking

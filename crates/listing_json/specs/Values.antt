@@ -1,7 +1,7 @@
 -- The JSON values of a listing: an object for each piece, each fault and each entry of a report.
 -- Its key `kind` says which it is. The other keys are the names of the fields in
 -- `rustc_parse_format`, and a part that is absent is null. All strings are in UTF-8.
-use Rattle.std.specs.Prelude.{ℕ, Bool, List, [], ◌∷◌, ◌++◌, Option, Some, None, codes, decimal, map}
+use Rattle.std.specs.Prelude.{ℕ, List, [], ◌∷◌, ◌++◌, Option, Some, None, codes, decimal, map}
 use Rattle.std.specs.Str.{encode_utf8_all}
 use Rattle.json.specs.Json.{Json, null, boolean, number, string, object, Members, no_members}
 use Rattle.json.specs.Json.{member}

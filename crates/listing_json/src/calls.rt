@@ -49,7 +49,8 @@ fn put_piece_line(
 {
     let mut writer = begin_line(alloc, out);
     put_piece(alloc, &mut writer, taken, argument)?;
-    end_line(out, writer)
+    end_line(out, writer)?;
+    Ok(())
 }
 
 /// Appends the line of a piece, if there is one.
@@ -75,7 +76,8 @@ fn put_fault_line(alloc: Global, out: &mut Vec<u8>, fault: &Fault<'_>) -> Result
 {
     let mut writer = begin_line(alloc, out);
     put_fault(alloc, &mut writer, fault)?;
-    end_line(out, writer)
+    end_line(out, writer)?;
+    Ok(())
 }
 
 /// Appends a line for each fault.

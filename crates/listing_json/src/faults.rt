@@ -1,9 +1,8 @@
 //! Faults as JSON. Each function of this module appends to a writer, and returns `Err` if an
 //! allocation fails.
 
-ghost use Rattle.std.specs.Prelude.{◌≡◌, ◌++◌, ◌∷◌, OnOk, codes, option_map, string_bytes};
+ghost use Rattle.std.specs.Prelude.{◌≡◌, ◌++◌, OnOk, option_map, string_bytes};
 ghost use Rattle.json.specs.Json.{no_members, string};
-ghost use Rattle.json.specs.Token.{key};
 ghost use Rattle.json.specs.Tree.{json_tokens};
 ghost use Rattle.rustc_parse_format.specs.Seen.{pair, seen_error, seen_suggestion};
 ghost use Rattle.rustc_parse_format.specs.SeenFaults.{seen_fault};
@@ -17,18 +16,16 @@ use rustc_parse_format::{Fault, ParseError, Suggestion};
 use std::alloc::{AllocError, Global};
 use std::ops::Range;
 
-/// Appends a key and a note, or null if there is none.
+/// Appends a note, or null if there is none.
 fn put_note(writer: &mut Writer, note: &Option<String>) -> Result<(), AllocError>
-    ensures tokens { OnOk result (writer.new.tokens ≡ writer.old.tokens
-        ++ key (codes "note") ∷ json_tokens (maybe string (option_map string_bytes note.now))) }
+    ensures tokens { OnOk result (writer.new.tokens
+        ≡ writer.old.tokens ++ json_tokens (maybe string (option_map string_bytes note.now))) }
     ensures before { writer.new.before ≡ writer.old.before }
 {
-    writer.key("note")?;
     match note {
-        Some(text) => writer.string(text.as_str())?,
-        None => writer.null()?,
+        Some(text) => writer.string(text.as_str()),
+        None => writer.null(),
     }
-    Ok(())
 }
 
 /// Appends a label and its span.
@@ -44,22 +41,20 @@ fn put_label(writer: &mut Writer, label: &str, span: &Range<usize>) -> Result<()
     Ok(())
 }
 
-/// Appends a key and a second label with its span, or null if there is none.
+/// Appends a second label with its span, or null if there is none.
 fn put_secondary(
     writer: &mut Writer,
     second: &Option<(String, Range<usize>)>,
 ) -> Result<(), AllocError>
     ensures tokens { OnOk result (writer.new.tokens ≡ writer.old.tokens
-        ++ key (codes "secondary_label") ∷ json_tokens (maybe label_value
+        ++ json_tokens (maybe label_value
         (option_map (λ x. (string_bytes x.0, pair x.1)) second.now))) }
     ensures before { writer.new.before ≡ writer.old.before }
 {
-    writer.key("secondary_label")?;
     match second {
-        Some((label, span)) => put_label(writer, label.as_str(), span)?,
-        None => writer.null()?,
+        Some((label, span)) => put_label(writer, label.as_str(), span),
+        None => writer.null(),
     }
-    Ok(())
 }
 
 /// Appends a suggestion of this kind for a span.
@@ -98,42 +93,42 @@ fn put_reorder(writer: &mut Writer, span: &Range<usize>, text: &str) -> Result<(
     Ok(())
 }
 
-/// Appends a key and a suggestion, or null if there is none.
+/// Appends a suggestion, or null if there is none.
 fn put_suggestion(writer: &mut Writer, suggestion: &Suggestion) -> Result<(), AllocError>
-    ensures tokens { OnOk result (writer.new.tokens ≡ writer.old.tokens
-        ++ key (codes "suggestion") ∷ json_tokens (suggestion_value
-        (seen_suggestion suggestion.now))) }
+    ensures tokens { OnOk result (writer.new.tokens
+        ≡ writer.old.tokens ++ json_tokens (suggestion_value (seen_suggestion suggestion.now))) }
     ensures before { writer.new.before ≡ writer.old.before }
 {
-    writer.key("suggestion")?;
     match suggestion {
-        Suggestion::None => writer.null()?,
-        Suggestion::UsePositional => put_bare_mend(writer, "use-positional")?,
-        Suggestion::RemoveRawIdent(span) => put_mend(writer, "remove-raw-ident", span)?,
+        Suggestion::None => writer.null(),
+        Suggestion::UsePositional => put_bare_mend(writer, "use-positional"),
+        Suggestion::RemoveRawIdent(span) => put_mend(writer, "remove-raw-ident", span),
         Suggestion::ReorderFormatParameter(span, text) => {
-            put_reorder(writer, span, text.as_str())?;
+            put_reorder(writer, span, text.as_str())
         }
-        Suggestion::AddMissingColon(span) => put_mend(writer, "add-missing-colon", span)?,
+        Suggestion::AddMissingColon(span) => put_mend(writer, "add-missing-colon", span),
         Suggestion::UseRustDebugPrintingMacro => {
-            put_bare_mend(writer, "use-rust-debug-printing-macro")?;
+            put_bare_mend(writer, "use-rust-debug-printing-macro")
         }
     }
-    Ok(())
 }
 
 /// Appends the error of a fault with this id.
 fn put_error(writer: &mut Writer, id: &str, error: &ParseError) -> Result<(), AllocError>
     ensures tokens { OnOk result (writer.new.tokens
         ≡ writer.old.tokens ++ json_tokens (error_value id.now (seen_error error.now))) }
-    ensures before { writer.new.before ≡ writer.old.before }
+    ensures before { OnOk result (writer.new.before ≡ writer.old.before) }
 {
     begin_kind(writer, "fault")?;
     put_string(writer, "id", id)?;
     put_string(writer, "description", error.description.as_str())?;
+    writer.key("note")?;
     put_note(writer, &error.note)?;
     put_string(writer, "label", error.label.as_str())?;
     put_span_of(writer, "span", &error.span)?;
+    writer.key("secondary_label")?;
     put_secondary(writer, &error.secondary_label)?;
+    writer.key("suggestion")?;
     put_suggestion(writer, &error.suggestion)?;
     writer.end_object()?;
     Ok(())
@@ -143,9 +138,8 @@ fn put_error(writer: &mut Writer, id: &str, error: &ParseError) -> Result<(), Al
 pub fn put_fault(alloc: Global, writer: &mut Writer, fault: &Fault<'_>) -> Result<(), AllocError>
     ensures tokens { OnOk result (writer.new.tokens
         ≡ writer.old.tokens ++ json_tokens (fault_value (seen_fault fault.now))) }
-    ensures before { writer.new.before ≡ writer.old.before }
+    ensures before { OnOk result (writer.new.before ≡ writer.old.before) }
 {
     let error = fault.error(alloc)?;
-    put_error(writer, fault.id(), &error)?;
-    Ok(())
+    put_error(writer, fault.id(), &error)
 }

@@ -1,7 +1,7 @@
 //! Pieces as JSON. Each function of this module appends to a writer, and returns `Err` if an
 //! allocation fails.
 
-ghost use Rattle.std.specs.Prelude.{◌≡◌, ◌++◌, ◌∷◌, OnOk, chars, codes, option_map};
+ghost use Rattle.std.specs.Prelude.{◌≡◌, ◌++◌, ◌∷◌, OnOk, chars, option_map};
 ghost use Rattle.json.specs.Json.{boolean};
 ghost use Rattle.json.specs.Token.{key};
 ghost use Rattle.json.specs.Tree.{json_tokens};
@@ -21,19 +21,17 @@ use rustc_parse_format::{Alignment, Argument, Count, DebugHex, FormatSpec, Posit
 use std::alloc::{AllocError, Global};
 use std::ops::Range;
 
-/// Appends a key and a position.
+/// Appends a position.
 fn put_position(writer: &mut Writer, position: &Position<'_>) -> Result<(), AllocError>
-    ensures tokens { OnOk result (writer.new.tokens ≡ writer.old.tokens
-        ++ key (codes "position") ∷ json_tokens (position_value (seen_position position.now))) }
+    ensures tokens { OnOk result (writer.new.tokens
+        ≡ writer.old.tokens ++ json_tokens (position_value (seen_position position.now))) }
     ensures before { writer.new.before ≡ writer.old.before }
 {
-    writer.key("position")?;
     match position {
-        Position::ArgumentImplicitlyIs(n) => put_index(writer, "implicit", *n)?,
-        Position::ArgumentIs(n) => put_index(writer, "index", *n)?,
-        Position::ArgumentNamed(name) => put_name(writer, "name", name)?,
+        Position::ArgumentImplicitlyIs(n) => put_index(writer, "implicit", *n),
+        Position::ArgumentIs(n) => put_index(writer, "index", *n),
+        Position::ArgumentNamed(name) => put_name(writer, "name", name),
     }
-    Ok(())
 }
 
 /// Appends a count that is a number.
@@ -91,49 +89,43 @@ fn put_char(alloc: Global, writer: &mut Writer, c: char) -> Result<(), AllocErro
     Ok(())
 }
 
-/// Appends a key and a fill character, or null if there is none.
+/// Appends a fill character, or null if there is none.
 fn put_fill(alloc: Global, writer: &mut Writer, fill: Option<char>) -> Result<(), AllocError>
-    ensures tokens { OnOk result (writer.new.tokens ≡ writer.old.tokens
-        ++ key (codes "fill") ∷ json_tokens (maybe fill_value fill)) }
+    ensures tokens { OnOk result (writer.new.tokens
+        ≡ writer.old.tokens ++ json_tokens (maybe fill_value fill)) }
     ensures before { writer.new.before ≡ writer.old.before }
 {
-    writer.key("fill")?;
     match fill {
-        Some(c) => put_char(alloc, writer, c)?,
-        None => writer.null()?,
+        Some(c) => put_char(alloc, writer, c),
+        None => writer.null(),
     }
-    Ok(())
 }
 
-/// Appends a key and an alignment, or null if none is given.
+/// Appends an alignment, or null if none is given.
 fn put_align(writer: &mut Writer, align: Alignment) -> Result<(), AllocError>
-    ensures tokens { OnOk result (writer.new.tokens ≡ writer.old.tokens
-        ++ key (codes "align") ∷ json_tokens (align_value (seen_alignment align))) }
+    ensures tokens { OnOk result (writer.new.tokens
+        ≡ writer.old.tokens ++ json_tokens (align_value (seen_alignment align))) }
     ensures before { writer.new.before ≡ writer.old.before }
 {
-    writer.key("align")?;
     match align {
-        Alignment::AlignLeft => writer.string("left")?,
-        Alignment::AlignRight => writer.string("right")?,
-        Alignment::AlignCenter => writer.string("center")?,
-        Alignment::AlignUnknown => writer.null()?,
+        Alignment::AlignLeft => writer.string("left"),
+        Alignment::AlignRight => writer.string("right"),
+        Alignment::AlignCenter => writer.string("center"),
+        Alignment::AlignUnknown => writer.null(),
     }
-    Ok(())
 }
 
-/// Appends a key and a sign flag, or null if there is none.
+/// Appends a sign flag, or null if there is none.
 fn put_sign(writer: &mut Writer, sign: Option<Sign>) -> Result<(), AllocError>
-    ensures tokens { OnOk result (writer.new.tokens ≡ writer.old.tokens
-        ++ key (codes "sign") ∷ json_tokens (maybe sign_value (option_map seen_sign sign))) }
+    ensures tokens { OnOk result (writer.new.tokens
+        ≡ writer.old.tokens ++ json_tokens (maybe sign_value (option_map seen_sign sign))) }
     ensures before { writer.new.before ≡ writer.old.before }
 {
-    writer.key("sign")?;
     match sign {
-        Some(Sign::Plus) => writer.string("plus")?,
-        Some(Sign::Minus) => writer.string("minus")?,
-        None => writer.null()?,
+        Some(Sign::Plus) => writer.string("plus"),
+        Some(Sign::Minus) => writer.string("minus"),
+        None => writer.null(),
     }
-    Ok(())
 }
 
 /// Appends a key and whether a flag is present.
@@ -147,51 +139,43 @@ fn put_flag(writer: &mut Writer, name: &str, flag: bool) -> Result<(), AllocErro
     Ok(())
 }
 
-/// Appends a key and the case of hexadecimal digits, or null if it is not given.
+/// Appends the case of hexadecimal digits, or null if it is not given.
 fn put_hex(writer: &mut Writer, hex: Option<DebugHex>) -> Result<(), AllocError>
-    ensures tokens { OnOk result (writer.new.tokens ≡ writer.old.tokens
-        ++ key (codes "debug_hex") ∷ json_tokens (maybe hex_value (option_map seen_debug_hex hex))) }
+    ensures tokens { OnOk result (writer.new.tokens
+        ≡ writer.old.tokens ++ json_tokens (maybe hex_value (option_map seen_debug_hex hex))) }
     ensures before { writer.new.before ≡ writer.old.before }
 {
-    writer.key("debug_hex")?;
     match hex {
-        Some(DebugHex::Lower) => writer.string("lower")?,
-        Some(DebugHex::Upper) => writer.string("upper")?,
-        None => writer.null()?,
+        Some(DebugHex::Lower) => writer.string("lower"),
+        Some(DebugHex::Upper) => writer.string("upper"),
+        None => writer.null(),
     }
-    Ok(())
-}
-
-/// Appends a key and a type.
-fn put_type(writer: &mut Writer, ty: &str) -> Result<(), AllocError>
-    ensures tokens { OnOk result (writer.new.tokens ≡ writer.old.tokens
-        ++ key (codes "ty") ∷ json_tokens (text_value (chars ty.now))) }
-    ensures before { writer.new.before ≡ writer.old.before }
-{
-    writer.key("ty")?;
-    put_text(writer, ty)?;
-    Ok(())
 }
 
 /// Appends a format specification.
 fn put_format(alloc: Global, writer: &mut Writer, format: &FormatSpec<'_>) -> Result<(), AllocError>
     ensures tokens { OnOk result (writer.new.tokens
         ≡ writer.old.tokens ++ json_tokens (format_value (seen_spec format.now))) }
-    ensures before { writer.new.before ≡ writer.old.before }
+    ensures before { OnOk result (writer.new.before ≡ writer.old.before) }
 {
     writer.begin_object()?;
+    writer.key("fill")?;
     put_fill(alloc, writer, format.fill)?;
     put_maybe_span(writer, "fill_span", &format.fill_span)?;
+    writer.key("align")?;
     put_align(writer, format.align)?;
+    writer.key("sign")?;
     put_sign(writer, format.sign)?;
     put_flag(writer, "alternate", format.alternate)?;
     put_flag(writer, "zero_pad", format.zero_pad)?;
+    writer.key("debug_hex")?;
     put_hex(writer, format.debug_hex)?;
     put_count(writer, "precision", &format.precision)?;
     put_maybe_span(writer, "precision_span", &format.precision_span)?;
     put_count(writer, "width", &format.width)?;
     put_maybe_span(writer, "width_span", &format.width_span)?;
-    put_type(writer, format.ty)?;
+    writer.key("ty")?;
+    put_text(writer, format.ty)?;
     put_maybe_span(writer, "ty_span", &format.ty_span)?;
     writer.end_object()?;
     Ok(())
@@ -218,9 +202,10 @@ fn put_placeholder(
 ) -> Result<(), AllocError>
     ensures tokens { OnOk result (writer.new.tokens
         ≡ writer.old.tokens ++ json_tokens (placeholder_value (seen_argument argument.now))) }
-    ensures before { writer.new.before ≡ writer.old.before }
+    ensures before { OnOk result (writer.new.before ≡ writer.old.before) }
 {
     begin_kind(writer, "placeholder")?;
+    writer.key("position")?;
     put_position(writer, &argument.position)?;
     put_span_of(writer, "position_span", &argument.position_span)?;
     writer.key("format")?;
@@ -238,11 +223,10 @@ pub fn put_piece(
 ) -> Result<(), AllocError>
     ensures tokens { OnOk result (writer.new.tokens ≡ writer.old.tokens
         ++ json_tokens (piece_value (seen_taken argument.now taken.now))) }
-    ensures before { writer.new.before ≡ writer.old.before }
+    ensures before { OnOk result (writer.new.before ≡ writer.old.before) }
 {
     match taken {
-        Taken::Lit(text) => put_run(writer, text)?,
-        Taken::NextArgument => put_placeholder(alloc, writer, argument)?,
+        Taken::Lit(text) => put_run(writer, text),
+        Taken::NextArgument => put_placeholder(alloc, writer, argument),
     }
-    Ok(())
 }

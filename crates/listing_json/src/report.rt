@@ -23,7 +23,8 @@ fn put_index_line(
 {
     let mut writer = begin_line(alloc, out);
     put_index(&mut writer, kind, index)?;
-    end_line(out, writer)
+    end_line(out, writer)?;
+    Ok(())
 }
 
 /// Appends a line for each index.
@@ -49,7 +50,8 @@ fn put_name_line(alloc: Global, out: &mut Vec<u8>, kind: &str, name: &str) -> Re
 {
     let mut writer = begin_line(alloc, out);
     put_name(&mut writer, kind, name)?;
-    end_line(out, writer)
+    end_line(out, writer)?;
+    Ok(())
 }
 
 /// Appends a line for each name.
@@ -64,7 +66,6 @@ fn put_names(alloc: Global, out: &mut Vec<u8>, kind: &str, names: &[&str]) -> Re
 }
 
 /// Appends a line for each entry of a report.
-#[tactic(auto, unfolding(crate::specs::Values::report_values))]
 pub fn put_report(alloc: Global, out: &mut Vec<u8>, report: &Report<'_>) -> Result<(), AllocError>
     ensures { OnOk result (Adds (report_values (seen_report report.now))
         out.old.items out.new.items) }

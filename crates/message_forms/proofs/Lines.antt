@@ -8,14 +8,14 @@ use Rattle.message_forms.specs.Json.{is_lf, line_items, line_json}
 use Rattle.message_forms.specs.Texts.{array_text, json_text}
 use Rattle.message_forms.proofs.Texts.{array-end, item-text}
 
--- A comma stands in front of the lines behind another one.
+-- A comma comes before the lines after another one.
 later : (n from to : ℕ) (bs : List ℕ) → array_text true (line_items n from to bs)
     ≡ codes "," ++ array_text false (line_items n from to bs)
 unfolding array_text
 later zero from to bs = refl
 later (suc n) from to bs = refl
 
--- The first line, if others are behind it.
+-- The first line, if others come after it.
 first : (n from to : ℕ) (bs : List ℕ) → 0 < n
     → array_text false (line_items n from to bs) ≡ json_text (line_json
     (before_first is_lf bs) from (length (chars (before_first is_lf bs)) + 1))
@@ -28,7 +28,7 @@ first (suc n) from to bs h =
     rw m (item-text false _ (line_items n 1 to (after_first is_lf bs))
     ∙ ap (λ t. line ++ t) (later n 1 to (after_first is_lf bs)))
 
--- A line that is written, if others are behind it.
+-- A line that is written, if others come after it.
 pub line-step : {x : List ℕ} (n from to : ℕ) (bs line rest out a b : List ℕ) (k : ℕ) → 0 < n
     → line ≡ before_first is_lf bs → rest ≡ after_first is_lf bs → k ≡ length (chars line)
     → a ≡ out ++ json_text (line_json line from (k + 1)) → b ≡ a ++ codes ","

@@ -47,10 +47,10 @@ pub array-end : (b : Bool) → array_text b no_items ≡ codes "]"
 unfolding array_text
 array-end b = refl
 
--- A value that is written behind its key.
-pub value-behind : {x : List ℕ} (a b r : List ℕ) (v : List ℕ) → b ≡ a ++ v → a ++ (v ++ r) ≡ x
+-- A value that is written after its key.
+pub value-after : {x : List ℕ} (a b r : List ℕ) (v : List ℕ) → b ≡ a ++ v → a ++ (v ++ r) ≡ x
     → b ++ r ≡ x
-value-behind a b r v e h = rw e (append_assoc a v r ∙ h)
+value-after a b r v e h = rw e (append_assoc a v r ∙ h)
 
 -- A value that is the last part of an object.
 pub whole : (old new : List ℕ) (ms : Members) → new ≡ old ++ object_text false ms
@@ -70,10 +70,10 @@ array-begins old new js e =
     rw e (append_assoc old (codes "[") (array_text false js) ∙ ap (λ t. old ++ t) (array-text js))
 
 -- An item that is written.
-pub item-behind : {x : List ℕ} (later : Bool) (out a b : List ℕ) (d : Data) (js : Items)
+pub item-after : {x : List ℕ} (later : Bool) (out a b : List ℕ) (d : Data) (js : Items)
     → a ≡ out ++ comma_if later → b ≡ a ++ json_text d
     → out ++ array_text later (item d js) ≡ x → b ++ array_text true js ≡ x
-item-behind later out a b d js e f h = rw (f, e) (
+item-after later out a b d js e f h = rw (f, e) (
     append_assoc (out ++ comma_if later) (json_text d) (array_text true js)
     ∙ (append_assoc out (comma_if later) (json_text d ++ array_text true js)
     ∙ (ap (λ t. out ++ t) (sym (item-text later d js)) ∙ h)))
@@ -84,11 +84,11 @@ pub items-step : {A : Type 0} {x : List ℕ} (f : A → Data) (xs : List A) (i :
     → b ≡ a ++ json_text (f (get_or xs i y))
     → out ++ array_text later (items_of f (drop i xs)) ≡ x
     → b ++ array_text true (items_of f (drop (i + 1) xs)) ≡ x
-items-step f xs i y later out a b l e g h = item-behind later out a b (f (get_or xs i y))
+items-step f xs i y later out a b l e g h = item-after later out a b (f (get_or xs i y))
     (items_of f (drop (i + 1) xs)) e g
     (ap (λ t. out ++ array_text later (items_of f t)) (sym (drop_more xs i y l)) ∙ h)
 
--- The end behind the last of several things.
+-- The end after the last of several things.
 pub items-end : {A : Type 0} {x : List ℕ} (f : A → Data) (xs : List A) (i : ℕ) (later : Bool)
     (out new : List ℕ) → i ≡ length xs → new ≡ out ++ codes "]"
     → out ++ array_text later (items_of f (drop i xs)) ≡ x → new ≡ x
@@ -96,17 +96,17 @@ items-end f xs i later out new n e h = e ∙ (ap (λ t. out ++ t) (sym (array-en
     ∙ (ap (λ t. out ++ array_text later (items_of f t)) (sym (drop-length xs))
     ∙ (ap (λ k. out ++ array_text later (items_of f (drop k xs))) (sym n) ∙ h)))
 
--- An array behind its bracket.
-pub bracket-behind : {x : List ℕ} (a b r : List ℕ) (js : Items) → b ≡ a ++ codes "["
+-- An array after its bracket.
+pub bracket-after : {x : List ℕ} (a b r : List ℕ) (js : Items) → b ≡ a ++ codes "["
     → a ++ (json_text (array js) ++ r) ≡ x → b ++ (array_text false js ++ r) ≡ x
-bracket-behind a b r js e h = rw e (append_assoc a (codes "[") (array_text false js ++ r)
+bracket-after a b r js e h = rw e (append_assoc a (codes "[") (array_text false js ++ r)
     ∙ (ap (λ t. a ++ (t ++ r)) (array-text js) ∙ h))
 
--- The only item of an array behind its bracket, with the end of the array.
-pub one-behind : {x : List ℕ} (a b r : List ℕ) (d : Data) → b ≡ a ++ codes "["
+-- The only item of an array after its bracket, with the end of the array.
+pub one-after : {x : List ℕ} (a b r : List ℕ) (d : Data) → b ≡ a ++ codes "["
     → a ++ (json_text (array (item d no_items)) ++ r) ≡ x
     → b ++ (json_text d ++ (array_text true no_items ++ r)) ≡ x
-one-behind a b r d e h = rw (e, array-end) (append_assoc a (codes "[") (json_text d ++ 93 ∷ r)
+one-after a b r d e h = rw (e, array-end) (append_assoc a (codes "[") (json_text d ++ 93 ∷ r)
     ∙ (ap (λ t. a ++ 91 ∷ t) (sym (append_assoc (json_text d) (codes "]") r))
     ∙ (ap (λ t. a ++ (t ++ r)) (sym (array-of-one d)) ∙ h)))
 

@@ -6,16 +6,16 @@ use Rattle.std.specs.Int.{is_in_range}
 use Rattle.std.specs.Str.{encode_utf8_all}
 use Rattle.json.specs.Print.{escape_letter}
 
--- What stands for a control character of ASCII in a string of JSON that has no shorter form.
+-- The escape of a control character of ASCII in a string of JSON that has no shorter one.
 abbrev pub code_text : ℕ → List ℕ
 code_text c = codes "\\u00" ++ (digit_char (c / 16) ∷ digit_char (c % 16) ∷ [])
 
--- What stands for a byte of ASCII in a string of JSON.
+-- A byte of ASCII as a string of JSON has it.
 abbrev pub byte_text : ℕ → List ℕ
 byte_text b = if nat_lt 0 (escape_letter b) then 92 ∷ escape_letter b ∷ []
     else if nat_lt b 32 then code_text b else b ∷ []
 
--- What stands for a character in a workflow command of GitHub: in a property, or behind them.
+-- A character as a workflow command of GitHub has it: in a property, or after the properties.
 abbrev pub command_char : Bool → ℕ → List ℕ
 command_char is_property c =
     if c == 37 then codes "%25"
@@ -38,7 +38,7 @@ stays_in_uri b = is_in_range 48 57 b || is_in_range 65 90 b || is_in_range 97 12
 abbrev pub upper_digit : ℕ → ℕ
 upper_digit d = if nat_lt d 10 then 48 + d else 55 + d
 
--- What stands for a byte in a path of a URI.
+-- A byte as a path of a URI has it.
 abbrev pub uri_byte : ℕ → List ℕ
 uri_byte b = if stays_in_uri b then b ∷ []
     else 37 ∷ upper_digit (b / 16) ∷ upper_digit (b % 16) ∷ []

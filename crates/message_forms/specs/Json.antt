@@ -21,8 +21,8 @@ line_json l from to = object (member (codes "text") (string l)
     (member (codes "highlight_start") (number_json from)
     (member (codes "highlight_end") (number_json to) no_members)))
 
--- The lines of a span that begins at a column and ends at another one, with this many more behind
--- the first one.
+-- The lines of a span that begins at a column and ends at another one, where this many more come
+-- after the first one.
 abbrev pub line_items : ℕ → ℕ → ℕ → List ℕ → Items
 line_items zero from to bs = item (line_json (before_first is_lf bs) from to) no_items
 line_items (suc n) from to bs = item
@@ -34,7 +34,7 @@ abbrev pub lines_json : Span → Data
 lines_json s = array (line_items (s.end.line - s.start.line) s.start.column s.end.column
     s.lines.now)
 
--- Where a span is, in front of other members.
+-- The places of a span, before other members.
 abbrev pub place_members : List ℕ → Span → Members → Members
 place_members path s ms = member (codes "file_name") (string path)
     (member (codes "byte_start") (number_json s.byte_start)
@@ -44,14 +44,14 @@ place_members path s ms = member (codes "file_name") (string path)
     (member (codes "column_start") (number_json s.start.column)
     (member (codes "column_end") (number_json s.end.column) ms))))))
 
--- How sure the suggestion of a span is.
+-- The word for how sure the suggestion of a span is, or null.
 abbrev pub applicability_json : Option Suggestion → Data
 applicability_json None = null
 applicability_json (Some s) = string (applicability s.is_sure)
 
--- What is said of a span.
-abbrev pub said_members : Span → Members
-said_members s = member (codes "is_primary") (boolean s.is_primary)
+-- The members of a span that come after its places.
+abbrev pub detail_members : Span → Members
+detail_members s = member (codes "is_primary") (boolean s.is_primary)
     (member (codes "text") (lines_json s)
     (member (codes "label") (text_or_null (option_map (λ t. t.now) s.label))
     (member (codes "suggested_replacement")
@@ -61,7 +61,7 @@ said_members s = member (codes "is_primary") (boolean s.is_primary)
 
 -- A span of a file.
 abbrev pub span_json : List ℕ → Span → Data
-span_json path s = object (place_members path s (said_members s))
+span_json path s = object (place_members path s (detail_members s))
 
 -- A note or a help.
 abbrev pub child_json : List ℕ → Child → Data
@@ -77,15 +77,15 @@ abbrev pub code_json : List ℕ → Data
 code_json id = object (member (codes "code") (string id)
     (member (codes "explanation") null no_members))
 
--- What stands below a message, of a file with this path: the ranges that it speaks of, notes and
--- helps, and how it is drawn for people.
+-- The last members of a message about the file with this path: its ranges, its notes and helps, and
+-- its drawing for people.
 abbrev pub below_members : List ℕ → List Span → List Child → List ℕ → Members
 below_members path ss cs rendered =
     member (codes "spans") (array (items_of (span_json path) ss))
     (member (codes "children") (array (items_of (child_json path) cs))
     (member (codes "rendered") (string rendered) no_members))
 
--- A message with what stands below it.
+-- A message with its ranges, its notes and helps, and its drawing.
 abbrev pub message_json : Message → List Span → List Child → List ℕ → Data
 message_json m ss cs rendered =
     object (member (codes "$message_type") (string (codes "diagnostic"))

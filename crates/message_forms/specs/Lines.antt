@@ -17,7 +17,7 @@ short m = glyph_bytes m.path.now ++ (codes ":" ++ (place_text m.primary.start ++
     ++ (level_name m.level ++ (codes ": " ++ (glyph_bytes m.title.now ++ (codes " ["
     ++ (glyph_bytes m.id.now ++ codes "]\n"))))))))
 
--- Where a span is, as properties of a workflow command. There are columns only in one line.
+-- The places of a span as properties of a workflow command. There are columns only in one line.
 abbrev pub command_places : Span → List ℕ
 command_places s = codes ",line=" ++ (decimal s.start.line
     ++ (if s.start.line == s.end.line

@@ -14,7 +14,7 @@ use Rattle.message_forms.specs.Words.{level_name}
 abbrev pub plain : List ℕ → Data
 plain t = object (member (codes "text") (string t) no_members)
 
--- A region. Its end is the place behind its last character.
+-- A region. Its end is the place after its last character.
 abbrev pub region : Span → Data
 region s = object (member (codes "startLine") (number_json s.start.line)
     (member (codes "startColumn") (number_json s.start.column)
@@ -59,11 +59,11 @@ driver version rs = object (member (codes "name") (string (codes "formatlint"))
 abbrev pub tool : List ℕ → List Rule → Data
 tool version rs = object (member (codes "driver") (driver version rs) no_members)
 
--- Whether all that was asked for was done.
+-- An invocation: whether the program could read all files.
 abbrev pub invocation : Bool → Data
 invocation whole = object (member (codes "executionSuccessful") (boolean whole) no_members)
 
--- What stands behind the results of a run: whether all that was asked for was done.
+-- The members of a run after its results: its only invocation.
 abbrev pub run_end : Bool → Members
 run_end whole = member (codes "invocations") (array (item (invocation whole) no_items)) no_members
 
@@ -81,7 +81,7 @@ log_json version rs results whole = object (member (codes "$schema")
     (member (codes "runs") (array (item (run_json version rs results whole) no_items))
     no_members)))
 
--- What stands behind the results of a log.
+-- The text of a log after its results.
 abbrev pub log_end : Bool → List ℕ
 log_end whole = object_text true (run_end whole)
     ++ (array_text true no_items ++ object_text true no_members)

@@ -9,15 +9,15 @@ use Rattle.serde_json.specs.Written.{compact_text, items_text, members_text}
 unfoldable pub json_text : Data → List ℕ
 json_text d = compact_text d
 
--- The text of an object with these members, or of these members behind another one of it.
+-- The text of an object with these members, or of these members after another one of it.
 unfoldable pub object_text : Bool → Members → List ℕ
 object_text later ms = if later then members_text true ms else 123 ∷ members_text false ms
 
--- What stands in front of a member: the brace of its object, or a comma behind another one.
+-- The text before a member: the brace of its object, or a comma after another member.
 abbrev pub opening : Bool → List ℕ
 opening later = if later then codes "," else codes "{"
 
--- The text of an array with these items, without its bracket at the start, or of these items behind
+-- The text of an array with these items, without its bracket at the start, or of these items after
 -- another one of it.
 unfoldable pub array_text : Bool → Items → List ℕ
 array_text later js = items_text later js

@@ -15,7 +15,7 @@ abbrev pub child_name : ChildLevel → List ℕ
 child_name Note = codes "note"
 child_name Help = codes "help"
 
--- How sure a suggestion is.
+-- The word for how sure a suggestion is.
 abbrev pub applicability : Bool → List ℕ
 applicability is_sure =
     if is_sure then codes "MachineApplicable" else codes "MaybeIncorrect"

@@ -1,5 +1,6 @@
-//! Members of objects of JSON. What begins with `put_` appends to `out`, and returns `Err` if an
-//! allocation fails. `is_later` is whether another member of the object stands in front.
+//! Members of objects of JSON. A function whose name begins with `put_` appends to `out`, and
+//! returns `Err` if an allocation fails. `is_later` is whether another member of the object comes
+//! before.
 
 ghost use Rattle.std.specs.Prelude.{◌≡◌, ◌++◌, OnOk, option_map, string_bytes, true};
 ghost use Rattle.serde_json.specs.Data.{Data, Members, boolean, member, no_members, string};
@@ -10,7 +11,7 @@ ghost use Rattle.message_forms.specs.Texts.{text_or_null};
 use crate::escapes::{put_number, put_quoted};
 use std::alloc::AllocError;
 
-/// Returns what stands in front of a member.
+/// Returns the text before a member: the brace of its object, or a comma after another member.
 fn opening(is_later: bool) -> &'static str
     ensures { result.now ≡ opening is_later }
 {
@@ -91,7 +92,7 @@ pub fn put_text(out: &mut String, is_later: bool, key: &str, text: &str) -> Resu
     Ok(())
 }
 
-/// Adds a member with a text, or with `null`, behind another one.
+/// Adds a member with a text, or with `null`, after another one.
 pub fn put_text_or_null(out: &mut String, key: &str, text: Option<&str>) -> Result<(), AllocError>
     ensures { OnOk result ((ms : Members) → string_bytes out.new ++ object_text true ms
         ≡ string_bytes out.old ++ object_text true (member key.now
@@ -127,7 +128,7 @@ pub fn put_truth(out: &mut String, is_later: bool, key: &str, is_so: bool) -> Re
     Ok(())
 }
 
-/// Adds a comma, if the item that follows is behind another one.
+/// Adds a comma, if the item that follows comes after another one.
 pub fn put_comma(out: &mut String, is_later: bool) -> Result<(), AllocError>
     ensures { OnOk result (string_bytes out.new ≡ string_bytes out.old ++ comma_if is_later) }
 {

@@ -1,16 +1,16 @@
-//! Messages.
+//! Messages about files, with notes, helps and suggestions.
 
 ghost use Rattle.std.specs.Prelude.{◌≡◌};
 ghost use Rattle.message_forms.specs.Words.{child_name, level_name};
 
 use rust_trees::Place;
 
-/// How bad it is what a message tells.
+/// The level of a message.
 #[derive(Clone, Copy, Debug, PartialEq)]
 pub enum Level {
-    /// The program does not compile.
+    /// The message tells why the program does not compile.
     Error,
-    /// It compiles.
+    /// The program compiles.
     Warning,
 }
 
@@ -19,7 +19,7 @@ pub enum Level {
 pub struct Suggestion<'a> {
     /// The text.
     pub text: &'a str,
-    /// Whether it can be applied without a look at it.
+    /// Whether the text can be applied without a look at it.
     pub is_sure: bool,
 }
 
@@ -34,30 +34,30 @@ pub struct Span<'a> {
     pub start: Place,
     /// The place at which it ends.
     pub end: Place,
-    /// The lines of the file that it is in, from the start of the first one to the end of the last
-    /// one, where no line end follows.
+    /// The lines of the file that the range is in, from the start of the first one to the end of
+    /// the last one, without the line end there.
     pub lines: &'a str,
-    /// Whether it is what the message is about.
+    /// Whether the message is about this range.
     pub is_primary: bool,
-    /// What is said of it, or `None`.
+    /// The label of the range, or `None`.
     pub label: Option<&'a str>,
-    /// What is suggested for it, or `None`.
+    /// The suggestion for the range, or `None`.
     pub suggestion: Option<Suggestion<'a>>,
 }
 
-/// What stands below a message.
+/// The level of a child of a message.
 #[derive(Clone, Copy, Debug, PartialEq)]
 pub enum ChildLevel {
-    /// What else is to be known.
+    /// The child is a note: it tells more about the message.
     Note,
-    /// What can be done.
+    /// The child is a help: it tells how to mend the fault.
     Help,
 }
 
 /// A note or a help below a message.
 #[derive(Clone, Copy)]
 pub struct Child<'a, 's> {
-    /// Which of both it is.
+    /// Whether it is a note or a help.
     pub level: ChildLevel,
     /// Its text.
     pub text: &'a str,
@@ -68,11 +68,11 @@ pub struct Child<'a, 's> {
 /// A message about a file.
 #[derive(Clone, Copy)]
 pub struct Message<'a> {
-    /// How bad it is.
+    /// The level of the message.
     pub level: Level,
-    /// The id of its kind.
+    /// The id of the kind of message.
     pub id: &'a str,
-    /// What it tells.
+    /// The title.
     pub title: &'a str,
     /// The path of the file.
     pub path: &'a str,
@@ -80,7 +80,7 @@ pub struct Message<'a> {
     pub primary: Span<'a>,
 }
 
-/// Returns what rustc calls a level.
+/// Returns the word of rustc for a level.
 pub fn level_name(level: Level) -> &'static str
     ensures { result.now ≡ level_name level }
 {
@@ -90,7 +90,7 @@ pub fn level_name(level: Level) -> &'static str
     }
 }
 
-/// Returns what rustc calls a level of a child.
+/// Returns the word of rustc for the level of a child.
 pub fn child_name(level: ChildLevel) -> &'static str
     ensures { result.now ≡ child_name level }
 {

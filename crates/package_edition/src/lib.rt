@@ -4,4 +4,4 @@
 mod lines;
 mod manifest;
 
-pub use manifest::{Declared, edition_in, is_from_2021, workspace_edition};
+pub use manifest::{Declaration, edition_in, is_from_2021, workspace_edition};

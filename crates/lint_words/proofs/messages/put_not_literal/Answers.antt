@@ -1,5 +1,5 @@
 use Rattle.std.proofs.Common.{append_assoc, ap}
-use Rattle.lint_words.specs.Messages.{written}
+use Rattle.lint_words.specs.Messages.{place_text}
 use Rattle.lint_words.proofs.messages.put_not_literal.Goals as goal
 
 pub returns : goal.returns
@@ -10,6 +10,6 @@ returns c =
       c.in_ok-push_str.ensures.bytes,
       c.in_ok-put_place.ensures,
       c.in_ok-put_opening.ensures,
-      ap written c.place_at.ensures,
+      ap place_text c.place_at.ensures,
     )
     (simp append_assoc)

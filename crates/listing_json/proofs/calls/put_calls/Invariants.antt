@@ -1,4 +1,4 @@
-use Rattle.std.proofs.Common.{◌≡◌, ◌||◌, ℕ, [], refl}
+use Rattle.std.proofs.Common.{◌≡◌, ◌||◌, []}
 use Rattle.listing_json.specs.Lines.{calls_values, has_faults}
 use Rattle.listing_json.proofs.Adding.{Owes}
 use Rattle.listing_json.proofs.Walking.{left, turns}
@@ -6,8 +6,8 @@ use Rattle.rustc_parse_format.specs.State.{calls}
 use Rattle.listing_json.proofs.calls.put_calls.Given as goal
 
 -- The lines and the faults so far and those of the calls that are left are all.
-abbrev pub invariant-loop : goal.invariant-loop
-invariant-loop l = record {
+abbrev pub invariant-loop-goes_on : goal.invariant-loop-goes_on
+invariant-loop-goes_on l = record {
   lines : Owes (calls_values l.parser.world (left l.goes_on l.parser))
       (calls_values l.fn.parser.world (calls l.fn.parser)) l.fn.out.items l.out.items;
   world : l.parser.world ≡ l.fn.parser.world;
@@ -15,5 +15,5 @@ invariant-loop l = record {
   none : l.faults.items ≡ [];
 }
 
-abbrev pub decreases-loop : goal.decreases-loop
-decreases-loop l = turns l.goes_on l.parser
+abbrev pub decreases-loop-goes_on : goal.decreases-loop-goes_on
+decreases-loop-goes_on l = turns l.goes_on l.parser

@@ -1,4 +1,4 @@
-use Rattle.std.proofs.Common.{◌∷◌, [], drop, map, refl, ◌+◌}
+use Rattle.std.proofs.Common.{◌∷◌, [], map}
 use Rattle.std.proofs.lemmas.List.{at_drop_all, at_drop_more}
 use Rattle.rustc_parse_format.specs.SeenFaults.{seen_fault}
 use Rattle.listing_json.specs.Values.{fault_value}

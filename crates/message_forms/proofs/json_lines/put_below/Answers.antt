@@ -1,10 +1,10 @@
 use Rattle.std.proofs.Common.{◌∙◌}
-use Rattle.message_forms.proofs.Texts.{value-behind}
+use Rattle.message_forms.proofs.Texts.{value-after}
 use Rattle.message_forms.proofs.json_lines.put_below.Goals as goal
 
 pub returns : goal.returns
 returns c =
     c.in_ok-put_end.ensures
     ∙ (c.in_ok-put_text.ensures _
-    ∙ (value-behind _ _ _ _ c.in_ok-put_children.ensures (c.in_ok-put_key-2.ensures _ _)
-    ∙ (value-behind _ _ _ _ c.in_ok-put_spans.ensures (c.in_ok-put_key.ensures _ _))))
+    ∙ (value-after _ _ _ _ c.in_ok-put_children.ensures (c.in_ok-put_key-2.ensures _ _)
+    ∙ (value-after _ _ _ _ c.in_ok-put_spans.ensures (c.in_ok-put_key.ensures _ _))))

@@ -2,7 +2,7 @@ use Rattle.std.proofs.Common.{◌≡◌, ◌∙◌, ◌++◌, append_assoc, stri
 use Rattle.std.specs.Prelude.{codes}
 use Rattle.message_forms.specs.Json.{message_json}
 use Rattle.message_forms.specs.Texts.{json_text}
-use Rattle.message_forms.proofs.Texts.{value-behind, whole}
+use Rattle.message_forms.proofs.Texts.{value-after, whole}
 use Rattle.message_forms.proofs.json_lines.put_json.Goals as goal
 
 pub returns : goal.returns
@@ -13,7 +13,7 @@ returns c =
     ≡ string_bytes c.args.out.now ++ json_text m = rw (← c.level_name.ensures)
     (whole _ _ _ (c.in_ok-put_below.ensures
     ∙ (c.in_ok-put_text-3.ensures _
-    ∙ (value-behind _ _ _ _ c.in_ok-put_code.ensures (c.in_ok-put_key.ensures _ _)
+    ∙ (value-after _ _ _ _ c.in_ok-put_code.ensures (c.in_ok-put_key.ensures _ _)
     ∙ (c.in_ok-put_text-2.ensures _ ∙ c.in_ok-put_text.ensures _))))) in
     rw (c.in_ok-push_str.ensures.bytes, body)
     (append_assoc (string_bytes c.args.out.now) (json_text m) (codes "\n"))

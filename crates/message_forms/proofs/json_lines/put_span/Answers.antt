@@ -3,4 +3,4 @@ use Rattle.message_forms.proofs.Texts.{whole}
 use Rattle.message_forms.proofs.json_lines.put_span.Goals as goal
 
 pub returns : goal.returns
-returns c = whole _ _ _ (c.in_ok-put_said.ensures ∙ c.in_ok-put_places.ensures _)
+returns c = whole _ _ _ (c.in_ok-put_details.ensures ∙ c.in_ok-put_places.ensures _)

@@ -1,6 +1,6 @@
-use Rattle.message_forms.proofs.Texts.{value-behind}
+use Rattle.message_forms.proofs.Texts.{value-after}
 use Rattle.message_forms.proofs.members.put_count.Goals as goal
 
 pub returns : goal.returns
 returns c ms =
-    value-behind _ _ _ _ c.in_ok-put_digits.ensures (c.in_ok-put_key.ensures _ _)
+    value-after _ _ _ _ c.in_ok-put_digits.ensures (c.in_ok-put_key.ensures _ _)

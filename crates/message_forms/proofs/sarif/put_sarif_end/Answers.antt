@@ -2,7 +2,7 @@ use Rattle.std.proofs.Common.{◌≡◌, ◌∙◌, ◌++◌, append_assoc, stri
 use Rattle.std.specs.Prelude.{true}
 use Rattle.message_forms.specs.Sarif.{run_end}
 use Rattle.message_forms.specs.Texts.{object_text}
-use Rattle.message_forms.proofs.Texts.{array-end, value-behind}
+use Rattle.message_forms.proofs.Texts.{array-end, value-after}
 use Rattle.message_forms.proofs.sarif.put_sarif_end.Goals as goal
 
 pub returns : goal.returns
@@ -10,7 +10,7 @@ returns c =
     let run : string_bytes c.put_end.new.out
     ≡ string_bytes c.push_str.new.self ++ object_text true (run_end c.args.is_whole) =
     c.in_ok-put_end.ensures
-    ∙ value-behind _ _ _ _ c.in_ok-put_invocations.ensures (c.in_ok-put_key.ensures _ _) in
+    ∙ value-after _ _ _ _ c.in_ok-put_invocations.ensures (c.in_ok-put_key.ensures _ _) in
     rw (
       c.in_ok-push_str-3.ensures.bytes,
       c.in_ok-put_end-2.ensures,

@@ -3,7 +3,7 @@ use Rattle.std.specs.Prelude.{false, true}
 use Rattle.serde_json.specs.Data.{no_items, no_members}
 use Rattle.message_forms.specs.Sarif.{run_end, run_json}
 use Rattle.message_forms.specs.Texts.{array_text, json_text, object_text}
-use Rattle.message_forms.proofs.Texts.{one-behind, regroup, whole}
+use Rattle.message_forms.proofs.Texts.{one-after, regroup, whole}
 use Rattle.message_forms.proofs.sarif.put_sarif_start.Goals as goal
 
 pub returns : goal.returns
@@ -15,6 +15,6 @@ returns c results done =
     (object_text true (run_end done)) end
     ∙ (ap (λ t. t ++ end) (c.in_ok-put_run_start.ensures results done)
     ∙ (append_assoc (string_bytes c.push_str.new.self) run end
-    ∙ one-behind _ _ (object_text true no_members) _ c.in_ok-push_str.ensures.bytes
+    ∙ one-after _ _ (object_text true no_members) _ c.in_ok-push_str.ensures.bytes
     (c.in_ok-put_key.ensures _ no_members
     ∙ (c.in_ok-put_text-2.ensures _ ∙ c.in_ok-put_text.ensures _)))))

@@ -1,4 +1,4 @@
-//! What is told beside the messages: on standard error.
+//! The totals of a run over files, and the lines about it on standard error.
 
 use format_calls::Reason;
 use lint_words::{put_failure, put_place_failure, system_words};
@@ -7,7 +7,7 @@ use rust_trees::Place;
 use source_lint::{CallReading, Report};
 use std::io;
 
-/// How many calls were not read, by the reason.
+/// The numbers of calls whose format string was not read, by the reason.
 #[derive(Drop)]
 struct Unread {
     missing: usize,
@@ -20,20 +20,20 @@ struct Unread {
     malformed: usize,
 }
 
-/// What was read, and what was found.
+/// The numbers of files, calls, faults and failures of a run.
 #[derive(Drop)]
-pub struct Told {
-    /// How many files were read, at least in part.
+pub struct Totals {
+    /// The number of files that were read, at least in part.
     pub files: usize,
     calls: usize,
     whole: usize,
     alone: usize,
     unread: Unread,
-    /// How many faults were found.
+    /// The number of faults that were found.
     pub faults: usize,
-    /// How many warnings were found.
+    /// The number of warnings that were found.
     pub warnings: usize,
-    /// How often something was not read or not written.
+    /// The number of files and folders, or parts of them, that could not be read.
     pub failures: usize,
 }
 
@@ -75,10 +75,10 @@ impl Unread {
     }
 }
 
-impl Told {
-    /// Returns that nothing was read.
-    pub fn new() -> Told {
-        Told {
+impl Totals {
+    /// Returns the totals of a run that read nothing.
+    pub fn new() -> Totals {
+        Totals {
             files: 0,
             calls: 0,
             whole: 0,
@@ -111,7 +111,7 @@ impl Told {
         }
     }
 
-    /// Counts what was read of a file, and what was found in it.
+    /// Counts a file, its calls, and the faults and warnings in it.
     pub fn add(&mut self, report: &Report) {
         count(&mut self.files);
         for call in &report.calls {
@@ -126,7 +126,8 @@ impl Told {
         }
     }
 
-    /// Tells that something was not read, with the words of the system.
+    /// Counts a failure, and writes to standard error why the file or folder with this path was not
+    /// read, in the words of the system.
     pub fn fail(&mut self, rt: &HostRuntime, path: &str, error: &io::Error) {
         count(&mut self.failures);
         let mut out = String::new(rt.alloc());
@@ -143,7 +144,7 @@ impl Told {
         };
     }
 
-    /// Tells why a file was not read from a place on.
+    /// Counts a failure, and writes to standard error why a file was not read from a place on.
     pub fn fail_at(&mut self, rt: &HostRuntime, path: &str, place: Place, why: &str) {
         count(&mut self.failures);
         let mut out = String::new(rt.alloc());

@@ -1,6 +1,6 @@
 use Rattle.std.proofs.Common.{◌≡◌, drop, map}
 use Rattle.fault_rules.specs.Rules.{is_id}
-use Rattle.fault_rules.proofs.rules.found.Given as goal
+use Rattle.fault_rules.proofs.rules.find.Given as goal
 
 -- No rule before this one has the id.
 abbrev pub invariant-loop-rule : goal.invariant-loop-rule

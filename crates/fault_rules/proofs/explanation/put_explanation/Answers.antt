@@ -1,5 +1,5 @@
 use Rattle.std.proofs.Common.{append_assoc}
-use Rattle.fault_rules.proofs.explained.put_explanation.Goals as goal
+use Rattle.fault_rules.proofs.explanation.put_explanation.Goals as goal
 
 pub returns : goal.returns
 returns c =

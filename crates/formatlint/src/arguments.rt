@@ -1,4 +1,4 @@
-//! What the options ask for.
+//! The values that the arguments of the program stand for.
 
 use crate::forms::Form;
 use clap::ArgMatches;
@@ -8,12 +8,12 @@ use lint_words::When;
 use rustc_parse_format::ParseMode;
 use std::alloc::{AllocError, Global};
 
-/// Returns the word that names the mode that is asked for.
+/// Returns the word for the mode.
 fn mode_word<'a>(matches: &ArgMatches<'a>) -> &'a str {
     matches.get_str("mode").unwrap_or("format")
 }
 
-/// Returns the mode that is asked for.
+/// Returns the mode.
 fn mode_of(matches: &ArgMatches<'_>) -> ParseMode {
     match mode_word(matches) {
         "asm" => ParseMode::InlineAsm,
@@ -23,7 +23,7 @@ fn mode_of(matches: &ArgMatches<'_>) -> ParseMode {
     }
 }
 
-/// Returns when colours are asked for.
+/// Returns when colours are written.
 pub fn when_of(matches: &ArgMatches<'_>) -> When {
     match matches.get_str("color").unwrap_or("auto") {
         "always" => When::Always,
@@ -32,7 +32,7 @@ pub fn when_of(matches: &ArgMatches<'_>) -> When {
     }
 }
 
-/// Returns the form of messages that is asked for.
+/// Returns the form of messages.
 pub fn form_of(matches: &ArgMatches<'_>) -> Form {
     match matches.get_str("message-format").unwrap_or("human") {
         "short" => Form::Short,
@@ -51,7 +51,7 @@ pub fn file_of<'a>(matches: &ArgMatches<'a>) -> Option<&'a str> {
     }
 }
 
-/// Returns what is to be shown of one string.
+/// Returns which answer is shown for one string.
 fn show_of(matches: &ArgMatches<'_>, has_colours: bool) -> Show {
     if matches.get_flag("fix") {
         Show::Fix
@@ -66,7 +66,7 @@ fn show_of(matches: &ArgMatches<'_>, has_colours: bool) -> Show {
     }
 }
 
-/// Returns the task that is asked for, where the input has this path.
+/// Returns the task for one string, where the input has this path.
 pub fn task_of<'a>(matches: &ArgMatches<'_>, path: &'a str, has_colours: bool) -> Task<'a> {
     Task {
         mode: mode_of(matches),
@@ -76,7 +76,7 @@ pub fn task_of<'a>(matches: &ArgMatches<'_>, path: &'a str, has_colours: bool) -
     }
 }
 
-/// Returns the arguments with which `formatread` lists what is asked for. Returns `Err` if an
+/// Returns the arguments with which `formatread` writes the listing. Returns `Err` if an
 /// allocation fails.
 pub fn list_words(alloc: Global, matches: &ArgMatches<'_>) -> Result<Vec<String>, AllocError> {
     let mut words = Vec::new(alloc);

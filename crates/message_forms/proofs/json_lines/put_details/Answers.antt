@@ -1,6 +1,6 @@
 use Rattle.std.proofs.Common.{◌∙◌}
-use Rattle.message_forms.proofs.Texts.{value-behind}
-use Rattle.message_forms.proofs.json_lines.put_said.Goals as goal
+use Rattle.message_forms.proofs.Texts.{value-after}
+use Rattle.message_forms.proofs.json_lines.put_details.Goals as goal
 
 pub returns : goal.returns
 returns c = rw (
@@ -13,5 +13,5 @@ returns c = rw (
     ∙ (c.in_ok-put_text_or_null-3.ensures _
     ∙ (c.in_ok-put_text_or_null-2.ensures _
     ∙ (c.in_ok-put_text_or_null.ensures _
-    ∙ (value-behind _ _ _ _ c.in_ok-put_lines.ensures (c.in_ok-put_key.ensures _ _)
+    ∙ (value-after _ _ _ _ c.in_ok-put_lines.ensures (c.in_ok-put_key.ensures _ _)
     ∙ (c.in_ok-put_truth.ensures _)))))))

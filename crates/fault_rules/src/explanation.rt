@@ -1,4 +1,4 @@
-//! What a rule says, as a text.
+//! The text of a rule.
 
 ghost use Rattle.std.specs.Prelude.{◌≡◌, ◌++◌, OnOk, string_bytes};
 ghost use Rattle.fault_rules.specs.Rules.{example_text, explanation_text};
@@ -6,7 +6,7 @@ ghost use Rattle.fault_rules.specs.Rules.{example_text, explanation_text};
 use crate::rules::Rule;
 use std::alloc::AllocError;
 
-/// Appends a line that says what an example shows, and the example.
+/// Appends a line that says which example follows, and the example.
 fn put_example(out: &mut String, says: &str, example: &str) -> Result<(), AllocError>
     ensures { OnOk result (string_bytes out.new
         ≡ string_bytes out.old ++ example_text says.now example.now) }
@@ -19,8 +19,8 @@ fn put_example(out: &mut String, says: &str, example: &str) -> Result<(), AllocE
     Ok(())
 }
 
-/// Appends what a rule says: its id and its summary, what the language says, and the example with
-/// and without the fault. Returns `Err` if an allocation fails, and a part of the text may then be
+/// Appends the text of a rule: its id and its summary, its explanation, and the example with and
+/// without the fault. Returns `Err` if an allocation fails, and a part of the text may then be
 /// appended.
 pub fn put_explanation(out: &mut String, rule: &Rule) -> Result<(), AllocError>
     ensures { OnOk result (string_bytes out.new
@@ -33,6 +33,6 @@ pub fn put_explanation(out: &mut String, rule: &Rule) -> Result<(), AllocError>
     out.push_str(rule.explanation)?;
     out.push_str("\n")?;
     put_example(out, "With the fault", rule.example)?;
-    put_example(out, "Without it", rule.mended)?;
+    put_example(out, "Without it", rule.correction)?;
     Ok(())
 }

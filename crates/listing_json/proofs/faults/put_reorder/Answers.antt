@@ -1,0 +1,12 @@
+use Rattle.std.proofs.Common.{append_assoc}
+use Rattle.listing_json.proofs.faults.put_reorder.Goals as goal
+
+pub returns-clause-tokens : goal.returns-clause-tokens
+returns-clause-tokens c =
+    rw (
+      c.in_ok-end_object.ensures.ok,
+      c.in_ok-put_string.ensures.tokens,
+      c.in_ok-put_span_of.ensures.tokens,
+      c.in_ok-begin_kind.ensures.tokens,
+    )
+    (simp append_assoc)
