@@ -12,8 +12,8 @@ nothing-in x h = absurd (omega (arith, h.1))
 pub here : {A : Type 0} (x : A) (xs : List A) → Contains (x ∷ xs) x
 here x xs = Contains-append_left (x ∷ []) xs x (Contains-push [] x)
 
-pub behind-here : {A : Type 0} (y : A) {ys : List A} (x : A) → Contains ys x → Contains (y ∷ ys) x
-behind-here y {ys = ys} x h = Contains-append_right (y ∷ []) ys x h
+pub after-here : {A : Type 0} (y : A) {ys : List A} (x : A) → Contains ys x → Contains (y ∷ ys) x
+after-here y {ys = ys} x h = Contains-append_right (y ∷ []) ys x h
 
 in-first : {A : Type 0} (y : A) (ys : List A) (x : A) → Contains (y ∷ ys) x
     → (y ≡ x) ⊎ Contains ys x

@@ -1,9 +1,9 @@
 pub mod Calling
+pub mod CheckedCalls
 pub mod Crs
 pub mod Defining
 pub mod Elements
 pub mod Embedding
-pub mod Found
 pub mod Joining
 pub mod Merging
 pub mod MovedArguments

@@ -207,7 +207,7 @@ arguments-at xs ys g o c at (a ∷ bs) e p h k = (
               (again (omega (arith, h, s, t)) m.1),
         )
 
--- Whether a token leaves the number of arguments open, by what stands there and behind it.
+-- Whether a token leaves the number of arguments open, by what stands there and after it.
 abbrev uncounted_by : Bool → Bool → Bool → Bool → Bool → Bool → Bool → Bool
 uncounted_by a b d f k m n = if a then b || d else (if f then not k && not m else n)
 

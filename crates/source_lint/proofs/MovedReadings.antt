@@ -1,4 +1,4 @@
--- What is read of a call among other tokens.
+-- The reading of a call among other tokens.
 use Rattle.std.proofs.Common.{◌≡◌, ◌<◌, ◌≤◌, ◌+◌, ℕ, Bool, true, false, List, Some, refl, ap, sym}
 use Rattle.std.proofs.Common.{subst, ◌∙◌, length, arith, map, drop}
 use Rattle.std.specs.Prelude.{Result, Ok, Err, chars, not, option_map, slice_get}

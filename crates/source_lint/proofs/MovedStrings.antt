@@ -60,7 +60,7 @@ text-same xs ys g from to a e h l =
     ap (λ o. is_text_at o (shifted g a)) (e.same a.start (omega (arith, h, s)))
     ∙ text-by g (slice_get xs a.start) a
 
--- Why an argument is no literal, by what stands at its start and behind that.
+-- Why an argument is no literal, by what stands at its start and after that.
 abbrev reason_by : Option Leaf → Bool → Bool → Bool → Reason
 reason_by None p q r = Expression
 reason_by (Some x) p q r = if p || q then Variable else

@@ -1,4 +1,4 @@
--- What placeholders can tell of the arguments of a call.
+-- The arguments of a call, as placeholders refer to them.
 use Prim.Native.Char.{code}
 use Rattle.std.specs.Prelude.{ℕ, Bool, true, false, not, ◌&&◌, ◌||◌, ◌==◌, ◌-◌, List, [], ◌∷◌}
 use Rattle.std.specs.Prelude.{Option, Some, None, chars, codes, nat_lt, option_and_then}
@@ -43,6 +43,6 @@ abbrev pub variable_of : List Leaf → Argument → Option Text
 variable_of xs a = if not a.is_named && (nat_lt a.start a.end && (a.end - a.start) == 1)
     then option_and_then variable (slice_get xs a.start) else None
 
--- What placeholders can tell of an argument.
+-- An argument, as placeholders refer to it.
 abbrev pub given : List Leaf → Argument → Given
 given xs a = record { name = name_of xs a; variable = variable_of xs a }

@@ -1,4 +1,4 @@
-//! Where in a file the faults of a call are.
+//! The places of the faults of a call in its file.
 
 ghost use Rattle.std.specs.Prelude.{IfOk};
 ghost use Rattle.source_lint.specs.Findings.{IsSpan};
@@ -11,21 +11,21 @@ use rustc_parse_format::{Argument as Placeholder, Count, Fault, Piece, Position}
 use std::alloc::{AllocError, Global};
 use std::ops::Range;
 
-/// Where a call and its parts are.
+/// A call and its parts in the file.
 #[derive(Clone, Copy)]
 pub struct Site<'s, 'a> {
     /// The text of the file.
     pub text: &'a str,
-    /// Tokens of the file, with those of the call.
+    /// The tokens of the part of the file that has the call.
     pub tokens: &'s [Token<'a>],
     /// The literal of its format string.
     pub literal: Token<'a>,
-    /// The arguments behind its format string.
+    /// The arguments after its format string.
     pub arguments: &'s [Argument],
 }
 
 /// Returns the range between two byte offsets of a text. An offset within a character goes back to
-/// its start, and an end that is in front of the start is there.
+/// its start, and the range is empty if its end comes before its start.
 pub fn range_in(text: &str, from: usize, to: usize) -> Range<usize>
     ensures { IsSpan text.now result }
 {

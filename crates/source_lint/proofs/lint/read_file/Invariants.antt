@@ -7,7 +7,7 @@ use Rattle.source_lint.proofs.lint.read_file.Given as goal
 
 abbrev pub invariant-loop-part : goal.invariant-loop-part
 invariant-loop-part l = record {
-  read : ReadingFile (map entry l.table.rows.items) (map (λ w. w.now) l.file.defined.now)
+  read : ReadingFile (map entry l.table.rows.items) (map (λ w. w.now) l.file.macros.now)
       l.file.is_from_2021 l.initial.rest l.rest l.found.calls.items l.found.findings.items
       l.initial.balance l.balance;
   spans : All (λ x. IsSpan l.file.text.now x.span) l.found.findings.items;

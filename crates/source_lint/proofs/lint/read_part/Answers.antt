@@ -1,7 +1,7 @@
 use Rattle.std.proofs.Common.{◌≡◌, ◌∷◌, List, refl, rules, subst, sym}
 use Rattle.std.specs.Prelude.{Contains}
 use Rattle.format_calls.specs.declared.listing.Call.{Call}
-use Rattle.source_lint.proofs.Elements.{behind-here, here}
+use Rattle.source_lint.proofs.Elements.{after-here, here}
 use Rattle.source_lint.proofs.Joining.{Reading, reading-all, reading-more, reading-none}
 use Rattle.source_lint.proofs.lint.read_part.Goals as goal
 
@@ -28,7 +28,7 @@ loop-call-preserved c =
       read = reading-more _ _ _ _ _ _ _ c.in_ok-reading.reading _ _ _ _ _ _ e
           c.loop-call.invariant.read c.in_ok-push.ensures.items c.in_ok-reading.ensures.read;
       are_calls = λ d h. c.loop-call.invariant.are_calls d
-          (subst (λ v. Contains v d) (sym e) (behind-here c.in-Some.call.now d h));
+          (subst (λ v. Contains v d) (sym e) (after-here c.in-Some.call.now d h));
       spans = λ h. c.in_ok-reading.ensures.spans (c.loop-call.invariant.spans h);
     }
 

@@ -7,7 +7,7 @@ use Rattle.source_lint.specs.Findings.{TellAll, counted_faults}
 use Rattle.source_lint.specs.Givens.{given}
 use Rattle.source_lint.specs.Literals.{without_crs}
 use Rattle.source_lint.specs.Readings.{counted_givens, faults_of, start_of, told_of}
-use Rattle.source_lint.proofs.Found.{start-same}
+use Rattle.source_lint.proofs.CheckedCalls.{start-same}
 use Rattle.source_lint.proofs.readings.read_string.Goals as goal
 
 pub check_string-requires : goal.check_string-requires

@@ -1,4 +1,4 @@
--- What is found in a call that was checked.
+-- The findings in a call that was checked.
 use Rattle.std.proofs.Common.{◌≡◌, ◌++◌, ℕ, Bool, List, [], refl, ap, sym, subst, ◌∙◌, length, map, true}
 use Rattle.std.proofs.Common.{Option, Some}
 use Rattle.rustc_parse_format.specs.Characters.{Text}
@@ -51,7 +51,7 @@ told-same s x gs e f h k =
       numbers = [];
     }) k))
 
--- What a checked call tells is what is found of the string at whose start the parser was.
+-- The findings of a checked call are those of the string at whose start the parser was.
 pub found-same : (s : State) (x : Checked) (gs : List Given) (captures b : Bool) (xs : List Finding)
     → captures ≡ true → map seen_given x.given.now ≡ gs → x.kept.items ≡ kept_indices gs
     → map seen x.pieces.items ≡ pieces s → x.parser ≡ after_all s (calls s)
