@@ -40,11 +40,6 @@ pub string-there : {B : Type 0} (args : List Argument) (n : ℕ) (a : Argument)
     → slice_get args n ≡ Some a → ◌≡◌ {A = Option Argument} None (slice_get args n) → B
 string-there args n a e f = absurd (none-some a (f ∙ e))
 
-pub literal-there : {B : Type 0} (xs : List Leaf) (a : Argument) → is_text xs a ≡ true
-    → ◌≡◌ {A = Option Leaf} None (slice_get xs a.start) → B
-literal-there xs a e f =
-    absurd (false≢true (ap (λ o. is_text_at o a) f ∙ e))
-
 -- The arguments after one of them.
 pub after-one : (args : List Argument) (n : ℕ)
     → take (length args - (n + 1)) (drop (n + 1) args) ≡ drop (n + 1) args

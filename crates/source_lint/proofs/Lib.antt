@@ -10,6 +10,5 @@ pub mod MovedArguments
 pub mod MovedReadings
 pub mod MovedStrings
 pub mod Reporting
-pub mod Standing
 pub mod Telling
 pub mod Widths

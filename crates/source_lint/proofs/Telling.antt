@@ -40,10 +40,3 @@ telling-more c b fs all f old now next e t x = (
       (subst (λ v. TellAll c v (t.0 ++ x.0)) (counted-join b fs (f ∷ []))
       (tell-join c (counted_faults b fs) (counted_faults b (f ∷ [])) t.0 x.0 t.2 x.2)),
 )
-
--- The finding of one fault that counts.
-pub tells-one : (c : Told Place) (b : Bool) (f : CallFault) (x : Finding)
-    → TellAll c (f ∷ []) (x ∷ []) → (b ≡ true → ⊥) → is_text_fault f ≡ true
-    → TellAll c (counted_faults b (f ∷ [])) (x ∷ [])
-tells-one c true f x h n e = h
-tells-one c false f x h n e = rw e h
