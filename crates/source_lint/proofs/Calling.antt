@@ -1,18 +1,18 @@
 -- A call that is read.
-use Rattle.std.proofs.Common.{◌≡◌, ◌<◌, ◌≤◌, ◌+◌, ◌-◌, ◌⊎◌, ℕ, Bool, true, false, List, Option}
-use Rattle.std.proofs.Common.{Some, None, inl, inr, ap, sym, subst, ◌∙◌, length, length-drop}
+use Rattle.std.proofs.Common.{◌≡◌, ◌<◌, ◌≤◌, ◌+◌, ◌-◌, ◌⊎◌, ℕ, Bool, false, List, Option}
+use Rattle.std.proofs.Common.{Some, None, inl, inr, sym, subst, ◌∙◌, length, length-drop}
 use Rattle.std.proofs.Common.{arith, drop, map, take}
 use Rattle.std.specs.Prelude.{Result, chars, not, slice_get}
 use Rattle.std.specs.List.{list_any}
-use Rattle.std.proofs.lemmas.Bool.{cases_lt, false≢true}
+use Rattle.std.proofs.lemmas.Bool.{cases_lt}
 use Rattle.std.proofs.lemmas.List.{take_all}
-use Rattle.std.proofs.lemmas.Option.{none-some, slice_get_within}
+use Rattle.std.proofs.lemmas.Option.{none-some}
 use Rattle.rust_trees.specs.Forests.{IsPair}
 use Rattle.rust_trees.specs.Leaves.{Leaf}
 use Rattle.rust_trees.proofs.Nested.{nested}
 use Rattle.format_calls.specs.Arguments.{AreArguments}
 use Rattle.format_calls.specs.Counted.{AreTrees, is_uncounted}
-use Rattle.format_calls.specs.Strings.{format_string, is_text, is_text_at}
+use Rattle.format_calls.specs.Strings.{format_string}
 use Rattle.format_calls.specs.declared.listing.Call.{Call}
 use Rattle.format_calls.specs.declared.split.Argument.{Argument}
 use Rattle.format_calls.specs.declared.strings.Reason.{Reason}

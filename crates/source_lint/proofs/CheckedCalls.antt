@@ -1,5 +1,5 @@
 -- The findings in a call that was checked.
-use Rattle.std.proofs.Common.{◌≡◌, ◌++◌, ℕ, Bool, List, [], refl, ap, sym, subst, ◌∙◌, length, map, true}
+use Rattle.std.proofs.Common.{◌≡◌, ◌++◌, ℕ, Bool, List, [], ap, subst, ◌∙◌, length, map, true}
 use Rattle.std.proofs.Common.{Option, Some}
 use Rattle.rustc_parse_format.specs.Characters.{Text}
 use Rattle.rustc_parse_format.specs.Literal.{newline}
@@ -8,7 +8,6 @@ use Rattle.rustc_parse_format.specs.State.{State, after_all, calls, first_state}
 use Rattle.rustc_parse_format.specs.Types.{Format, Piece}
 use Rattle.rustc_parse_format.specs.World.{Place}
 use Rattle.call_faults.specs.Arguments.{Given}
-use Rattle.call_faults.specs.CallFaults.{CallFault}
 use Rattle.call_faults.specs.Calls.{call_faults, kept_indices}
 use Rattle.call_faults.specs.Seen.{seen_fault, seen_given, told}
 use Rattle.call_faults.specs.Texts.{text_fault}

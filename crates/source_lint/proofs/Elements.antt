@@ -1,6 +1,6 @@
 -- Elements of lists that are mapped.
-use Rattle.std.proofs.Common.{◌≡◌, ◌<◌, ◌++◌, ◌⊎◌, ℕ, List, [], ◌∷◌, inl, inr, refl, ap, sym, subst}
-use Rattle.std.proofs.Common.{arith, map, length}
+use Rattle.std.proofs.Common.{◌≡◌, ◌⊎◌, List, [], ◌∷◌, inl, inr, subst}
+use Rattle.std.proofs.Common.{arith, map}
 use Rattle.std.specs.Prelude.{Contains}
 use Rattle.std.proofs.lemmas.List.Elements.{Contains-append_cases, Contains-append_left}
 use Rattle.std.proofs.lemmas.List.Elements.{Contains-append_right}

@@ -1,10 +1,9 @@
 -- Tokens among others: what is said of them by their index is said of them there.
 use Prim.Native.Char.{code}
-use Rattle.std.proofs.Common.{◌≡◌, ◌<◌, ◌≤◌, ◌+◌, ◌-◌, ◌++◌, ◌⊎◌, ℕ, zero, suc, Bool, true, false, List}
+use Rattle.std.proofs.Common.{◌≡◌, ◌<◌, ◌≤◌, ◌+◌, ◌-◌, ◌++◌, ℕ, zero, suc, Bool, true, false, List}
 use Rattle.std.proofs.Common.{[], ◌∷◌, Option, Some, None, inl, inr, refl, ap, sym, subst, ◌∙◌}
-use Rattle.std.proofs.Common.{length, length-append, arith, map}
+use Rattle.std.proofs.Common.{length, arith, map}
 use Rattle.std.specs.Prelude.{◌&&◌, ◌||◌, not, codes, nat_lt, slice_get, if◌then◌else◌}
-use Rattle.std.proofs.lemmas.Bool.{cases_lt}
 use Rattle.rust_trees.specs.Leaves.{Leaf}
 use Rattle.rust_trees.specs.Forests.{IsPair}
 use Rattle.rust_trees.proofs.Groups.{pair-less, pair-shift, pair-unshift}
@@ -13,9 +12,9 @@ use Rattle.rust_trees.proofs.Nested.{nested}
 use Rattle.format_calls.specs.declared.modes.Mode.{Mode}
 use Rattle.format_calls.specs.declared.modes.Mode.TheVariants.{Start, Within, Operator, Angles}
 use Rattle.format_calls.specs.declared.modes.Mode.TheVariants.{Parameters}
-use Rattle.format_calls.specs.Arguments.{IsTree, Walks, is_end, is_named, is_plain_mode, is_word_at}
+use Rattle.format_calls.specs.Arguments.{IsTree, Walks, is_end, is_plain_mode}
 use Rattle.format_calls.specs.Marks.{is_behind, is_mark, is_mark_of, is_word}
-use Rattle.format_calls.specs.Modes.{are_joint, is_followed, is_operator, is_prefix, is_text}
+use Rattle.format_calls.specs.Modes.{are_joint, is_operator, is_prefix, is_text}
 use Rattle.format_calls.specs.Modes.{mode_after, mode_behind}
 use Rattle.format_calls.proofs.Parting.{get-front, get-shift}
 

@@ -1,13 +1,13 @@
 -- The readings of the parts of a file are those of the file.
-use Rattle.std.proofs.Common.{◌≡◌, ◌<◌, ◌≤◌, ◌+◌, ◌-◌, ◌++◌, ◌⊎◌, ℕ, Bool, List, [], ◌∷◌, inl, inr, refl}
+use Rattle.std.proofs.Common.{◌≡◌, ◌<◌, ◌≤◌, ◌+◌, ◌-◌, ◌++◌, ◌⊎◌, ℕ, Bool, List, [], ◌∷◌, inl, inr}
+use Rattle.std.proofs.Common.{refl}
 use Rattle.std.proofs.Common.{ap, sym, subst, ◌∙◌, length, length-append, arith, map}
-use Rattle.std.specs.Prelude.{◌↔◌, Contains}
+use Rattle.std.specs.Prelude.{Contains}
 use Rattle.std.proofs.lemmas.Bool.{cases_lt}
 use Rattle.std.proofs.lemmas.List.{append_assoc, append-nil}
 use Rattle.std.proofs.lemmas.List.Elements.{Contains-append_cases, Contains-append_left}
 use Rattle.std.proofs.lemmas.List.Elements.{Contains-append_right}
 use Rattle.rust_trees.specs.Leaves.{Leaf}
-use Rattle.rust_trees.specs.Forests.{IsPair}
 use Rattle.format_calls.specs.Calls.{IsCall, Rises}
 use Rattle.format_calls.specs.Parts.{IsPart, moved}
 use Rattle.format_calls.specs.Rows.{Entry}
@@ -15,7 +15,7 @@ use Rattle.format_calls.specs.declared.listing.Call.{Call}
 use Rattle.format_calls.proofs.CallSteps.{call-within}
 use Rattle.source_lint.specs.declared.report.CallReading.{CallReading}
 use Rattle.source_lint.specs.declared.report.Finding.{Finding}
-use Rattle.source_lint.specs.Readings.{Reads, ReadsAll}
+use Rattle.source_lint.specs.Readings.{ReadsAll}
 use Rattle.source_lint.specs.Reports.{AreCalls, ReadsCalls, ReadsParts}
 use Rattle.source_lint.proofs.Elements.{here, in-mapped, mapped-in, nothing-in}
 use Rattle.source_lint.proofs.Embedding.{Embeds, embeds}

@@ -60,9 +60,7 @@ fn without_crs(alloc: Global, text: &str) -> Result<String, AllocError>
 pub fn appends_newline(name: &[u8]) -> bool
     ensures { result ≡ appends_newline name.now }
 {
-    name == b"println".as_slice()
-        || name == b"eprintln".as_slice()
-        || name == b"writeln".as_slice()
+    name == b"println".as_slice() || name == b"eprintln".as_slice() || name == b"writeln".as_slice()
 }
 
 /// Appends a newline to a text, or nothing. Returns `Err` if an allocation fails.

@@ -31,7 +31,11 @@ pub fn range_in(text: &str, from: usize, to: usize) -> Range<usize>
 {
     let start = text.floor_char_boundary(from);
     let end = text.floor_char_boundary(to);
-    if start <= end { start..end } else { start..start }
+    if start <= end {
+        start..end
+    } else {
+        start..start
+    }
 }
 
 /// Returns the bytes from one token to the one before another.
@@ -83,10 +87,10 @@ fn value_range(site: Site<'_, '_>, index: usize) -> Range<usize> {
 /// Returns the bytes of a range of the literal, whose offsets are those of the literal with lines
 /// that end with LF.
 fn literal_range(site: Site<'_, '_>, span: &Range<usize>) -> Range<usize> {
-    let start = site.literal.start;
-    let text = site.literal.text;
-    start.saturating_add(offset_in(text, span.start))
-        ..start.saturating_add(offset_in(text, span.end))
+    let literal = site.literal;
+    let start = offset_in(literal.text, span.start);
+    let end = offset_in(literal.text, span.end);
+    literal.start.saturating_add(start)..literal.start.saturating_add(end)
 }
 
 /// Returns a range again, or another one if there is none.
@@ -138,7 +142,7 @@ fn takes_next(argument: &Placeholder<'_>) -> bool {
 /// Returns the range in the literal of the first placeholder that takes the next argument, or that
 /// of its precision if only that does. Returns `None` if one of them refers to an argument by a
 /// number that is written.
-fn taking_span(checked: &Checked<'_>) -> Option<Range<usize>> {
+fn first_taker(checked: &Checked<'_>) -> Option<Range<usize>> {
     let mut found = None;
     let mut number = 0usize;
     for piece in &checked.pieces {
@@ -147,7 +151,7 @@ fn taking_span(checked: &Checked<'_>) -> Option<Range<usize>> {
                 return None;
             }
             if found.is_none() && takes_next(argument) {
-                found = Some(taken_span(checked, argument, number));
+                found = Some(taker_span(checked, argument, number));
             }
             number = number.saturating_add(1);
         }
@@ -157,7 +161,7 @@ fn taking_span(checked: &Checked<'_>) -> Option<Range<usize>> {
 
 /// Returns the range in the literal of what takes the next argument: the placeholder of a number,
 /// or its precision.
-fn taken_span(checked: &Checked<'_>, argument: &Placeholder<'_>, number: usize) -> Range<usize> {
+fn taker_span(checked: &Checked<'_>, argument: &Placeholder<'_>, number: usize) -> Range<usize> {
     if !matches!(argument.position, Position::ArgumentImplicitlyIs(_)) {
         return range_or(&argument.format.precision_span, &argument.position_span);
     }
@@ -169,7 +173,7 @@ fn taken_span(checked: &Checked<'_>, argument: &Placeholder<'_>, number: usize) 
 
 /// Returns the range in the literal of the first of references by an index that is too large.
 fn missing_span(checked: &Checked<'_>, missing: &[Missing]) -> Range<usize> {
-    if let Some(span) = taking_span(checked) {
+    if let Some(span) = first_taker(checked) {
         return span;
     }
     match missing.first() {
@@ -211,7 +215,9 @@ pub fn primary_span(
             literal_range(site, &part_span(checked, reference.piece, reference.part))
         }
         CallFault::UnknownTrait { piece, .. } => literal_range(site, &type_span(checked, *piece)),
-        CallFault::MissingArguments(missing) => literal_range(site, &missing_span(checked, missing)),
+        CallFault::MissingArguments(missing) => {
+            literal_range(site, &missing_span(checked, missing))
+        }
         CallFault::UnusedArguments(unused) => value_range(site, first_of(unused)),
         CallFault::RedundantArguments(redundant) => argument_range(site, first_of(redundant)),
         CallFault::NameUsedByIndex { index, .. } => name_range(site, *index),

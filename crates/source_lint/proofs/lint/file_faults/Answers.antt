@@ -1,5 +1,4 @@
-use Rattle.std.proofs.Common.{◌≡◌, ◌∙◌, [], ap, map, subst, sym}
-use Rattle.rust_trees.specs.Balances.{BreaksAt}
+use Rattle.std.proofs.Common.{◌∙◌, [], ap, map, subst}
 use Rattle.format_calls.specs.Rows.{entry}
 use Rattle.source_lint.specs.Macros.{macro_names}
 use Rattle.source_lint.specs.Reports.{ReadsCalls}

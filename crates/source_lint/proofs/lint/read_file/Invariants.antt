@@ -1,4 +1,4 @@
-use Rattle.std.proofs.Common.{◌≡◌, length, map}
+use Rattle.std.proofs.Common.{length, map}
 use Rattle.std.specs.List.{All}
 use Rattle.format_calls.specs.Rows.{entry}
 use Rattle.source_lint.specs.Findings.{IsSpan}

@@ -35,8 +35,8 @@ loop-call-preserved c =
 
 pub returns-clause-read : goal.returns-clause-read
 returns-clause-read c =
-    let r = reading-all _ _ _ _ _ _ _ _ _
-    (nil_from_length c.loop-call.rest.now c.in_default.ensures.cases) c.loop-call.invariant.read in (
+    let none = nil_from_length c.loop-call.rest.now c.in_default.ensures.cases in
+    let r = reading-all _ _ _ _ _ _ _ _ _ none c.loop-call.invariant.read in (
       r.0,
       r.1,
       r.2,

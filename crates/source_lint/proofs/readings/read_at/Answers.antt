@@ -1,7 +1,6 @@
-use Rattle.std.proofs.Common.{◌≡◌, ◌∙◌, ◌+◌, ap, arith, map, rules, sym}
+use Rattle.std.proofs.Common.{◌≡◌, ◌∙◌, ◌+◌, ap, arith, map, sym}
 use Rattle.rust_trees.specs.Leaves.{leaf}
 use Rattle.source_lint.specs.Literals.{appends_newline}
-use Rattle.source_lint.specs.Readings.{name_at}
 use Rattle.source_lint.proofs.Calling.{after-one, reads-at, string-there}
 use Rattle.source_lint.proofs.MovedArguments.{LiesIn, arguments-lie}
 use Rattle.source_lint.proofs.MovedStrings.{lies-get}
@@ -32,7 +31,7 @@ returns-clause-read c =
       reads-at c.args.part.now c.args.call.now c.args.arguments.now _ c.args.index
           c.in-Some.string (leaf c.in-Some-token_at.literal) t.0
           c.appends_newline-appended_newline.result c.are_counted-is_counted.result
-          c.in_ok-reading.reading r.0 (sym c.in-Some.ensures) 
+          c.in_ok-reading.reading r.0 (sym c.in-Some.ensures)
           (sym (rw tokens at c.in-Some-token_at.ensures.value)) t.1
           (c.appends_newline-appended_newline.ensures ∙ ap appends_newline name) t.2
           (after-one c.args.arguments.now c.args.index) r.2,

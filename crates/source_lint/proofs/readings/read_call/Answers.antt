@@ -1,9 +1,7 @@
-use Rattle.std.proofs.Common.{◌≡◌, ◌∙◌, ◌+◌, [], ap, map, refl, subst, sym}
+use Rattle.std.proofs.Common.{◌∙◌, ◌+◌, [], ap, map, refl, subst, sym}
 use Rattle.std.specs.List.{list_any}
 use Rattle.std.specs.Str.{bytes_eq}
 use Rattle.std.proofs.lemmas.List.{append-nil}
-use Rattle.format_calls.specs.Arguments.{AreArguments}
-use Rattle.format_calls.specs.Strings.{format_string}
 use Rattle.source_lint.specs.declared.report.CallReading.TheVariants.{Redefined}
 use Rattle.source_lint.specs.Readings.{ReadsUnless, name_at}
 use Rattle.source_lint.proofs.Calling.{arguments-here, reads-here}
