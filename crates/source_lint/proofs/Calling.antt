@@ -1,21 +1,26 @@
--- What is known of a call that is read.
-use Rattle.std.proofs.Common.{◌≡◌, ◌<◌, ◌≤◌, ◌+◌, ◌-◌, ◌⊎◌, ℕ, Bool, true, false, List, Option, Some, None}
-use Rattle.std.proofs.Common.{inl, inr, ap, sym, subst, ◌∙◌, length, length-drop, arith, drop, take}
-use Rattle.std.specs.Prelude.{Result, slice_get}
-use Rattle.std.proofs.lemmas.Bool.{cases_lt, false≢true}
+-- A call that is read.
+use Rattle.std.proofs.Common.{◌≡◌, ◌<◌, ◌≤◌, ◌+◌, ◌-◌, ◌⊎◌, ℕ, Bool, false, List, Option}
+use Rattle.std.proofs.Common.{Some, None, inl, inr, sym, subst, ◌∙◌, length, length-drop}
+use Rattle.std.proofs.Common.{arith, drop, map, take}
+use Rattle.std.specs.Prelude.{Result, chars, not, slice_get}
+use Rattle.std.specs.List.{list_any}
+use Rattle.std.proofs.lemmas.Bool.{cases_lt}
 use Rattle.std.proofs.lemmas.List.{take_all}
-use Rattle.std.proofs.lemmas.Option.{none-some, slice_get_within}
+use Rattle.std.proofs.lemmas.Option.{none-some}
 use Rattle.rust_trees.specs.Forests.{IsPair}
 use Rattle.rust_trees.specs.Leaves.{Leaf}
 use Rattle.rust_trees.proofs.Nested.{nested}
 use Rattle.format_calls.specs.Arguments.{AreArguments}
-use Rattle.format_calls.specs.Strings.{format_string, is_text, is_text_at}
+use Rattle.format_calls.specs.Counted.{AreTrees, is_uncounted}
+use Rattle.format_calls.specs.Strings.{format_string}
 use Rattle.format_calls.specs.declared.listing.Call.{Call}
+use Rattle.format_calls.specs.declared.split.Argument.{Argument}
 use Rattle.format_calls.specs.declared.strings.Reason.{Reason}
 use Rattle.source_lint.specs.declared.report.CallReading.{CallReading}
 use Rattle.source_lint.specs.declared.report.Finding.{Finding}
-use Rattle.source_lint.specs.Readings.{ReadsBy, ReadsUnless}
-use Rattle.format_calls.specs.declared.split.Argument.{Argument}
+use Rattle.source_lint.specs.Givens.{given}
+use Rattle.source_lint.specs.Literals.{appends_newline, without_crs}
+use Rattle.source_lint.specs.Readings.{ReadsAt, ReadsBy, ReadsLiteral, ReadsUnless, name_at}
 
 -- One token opens the pair that a token closes.
 pub opening-once : (xs : List Leaf) (m n c : ℕ) → IsPair xs m c → IsPair xs n c → m ≡ n
@@ -35,19 +40,37 @@ pub string-there : {B : Type 0} (args : List Argument) (n : ℕ) (a : Argument)
     → slice_get args n ≡ Some a → ◌≡◌ {A = Option Argument} None (slice_get args n) → B
 string-there args n a e f = absurd (none-some a (f ∙ e))
 
-pub literal-there : {B : Type 0} (xs : List Leaf) (a : Argument) → is_text xs a ≡ true
-    → ◌≡◌ {A = Option Leaf} None (slice_get xs a.start) → B
-literal-there xs a e f =
-    absurd (false≢true (ap (λ o. is_text_at o a) f ∙ e))
-
--- The arguments behind one of them.
-pub behind-one : (args : List Argument) (n : ℕ)
+-- The arguments after one of them.
+pub after-one : (args : List Argument) (n : ℕ)
     → take (length args - (n + 1)) (drop (n + 1) args) ≡ drop (n + 1) args
-behind-one args n =
+after-one args n =
     let d = length-drop (n + 1) args in
     take_all (length args - (n + 1)) (drop (n + 1) args) (omega (arith, d))
 
--- What is read of a call whose macro the file does not define.
+-- The reading of a call whose format string is this literal.
+pub reads-at : (xs : List Leaf) (c : Call) (args others : List Argument) (n : ℕ) (a : Argument)
+    (x : Leaf) (trees : List ℕ) (appended counted : Bool) (r : CallReading) (fs : List Finding)
+    → slice_get args n ≡ Some a → slice_get xs a.start ≡ Some x
+    → AreTrees xs a.end trees c.close → appended ≡ appends_newline (name_at xs c.name)
+    → counted ≡ not (list_any (is_uncounted xs) trees) → others ≡ drop (n + 1) args
+    → ReadsLiteral (without_crs (chars x.text)) appended counted (map (given xs) others) r fs
+    → ReadsAt xs c args n r fs
+reads-at xs c args others n a x trees appended counted r fs e f t p q o h = record {
+  string = a;
+  is_string = e;
+  literal = x;
+  is_literal = f;
+  trees = trees;
+  are_trees = t;
+  reads = subst (λ v. ReadsLiteral (without_crs (chars x.text)) v
+      (not (list_any (is_uncounted xs) trees)) (map (given xs) (drop (n + 1) args)) r fs) p
+      (subst (λ v. ReadsLiteral (without_crs (chars x.text)) appended v
+      (map (given xs) (drop (n + 1) args)) r fs) q
+      (subst (λ v. ReadsLiteral (without_crs (chars x.text)) appended counted (map (given xs) v)
+      r fs) o h));
+}
+
+-- The reading of a call whose macro the file does not define.
 pub reads-here : (is_new t : Bool) (xs : List Leaf) (c : Call) (bs : List Argument)
     (o : Result ℕ Reason) (r : CallReading) (fs : List Finding) → false ≡ t
     → AreArguments xs (c.name + 3) bs c.close → o ≡ format_string xs c.rule bs is_new
@@ -57,10 +80,11 @@ reads-here is_new t xs c bs o r fs n a e h =
     (bs, a, subst (λ v. ReadsBy xs c bs v r fs) e h)
 
 -- The arguments of a call, by the pair that its last token closes.
-pub arguments-here : (xs : List Leaf) (c : Call) (bs : List Argument) (n : ℕ)
+pub arguments-here : (xs : List Leaf) (c : Call) (bs ds : List Argument) (n : ℕ) → ds ≡ bs
     → IsPair xs (c.name + 2) c.close → IsPair xs n c.close → AreArguments xs (n + 1) bs c.close
-    → AreArguments xs (c.name + 3) bs c.close
-arguments-here xs c bs n p q a =
+    → AreArguments xs (c.name + 3) ds c.close
+arguments-here xs c bs ds n d p q a =
     let e = opening-once xs n (c.name + 2) c.close q p in
     let m : n + 1 ≡ c.name + 3 = omega (arith, e) in
-    subst (λ v. AreArguments xs v bs c.close) m a
+    subst (λ v. AreArguments xs (c.name + 3) v c.close) (sym d)
+    (subst (λ v. AreArguments xs v bs c.close) m a)

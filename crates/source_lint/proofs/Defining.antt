@@ -2,19 +2,19 @@
 use Rattle.std.proofs.Common.{◌≡◌, ◌++◌, ℕ, List, [], ◌∷◌, Option, None, Some, ap, sym, ◌∙◌}
 use Rattle.std.proofs.lemmas.List.{append_assoc, append-nil}
 use Rattle.rust_trees.specs.Leaves.{AreLeft, Leaf, Unread}
-use Rattle.source_lint.specs.Defined.{defined, defined_behind, definition}
+use Rattle.source_lint.specs.Macros.{definition, macro_names, names_after}
 
--- The names that were found of a file, where the tokens of u are left, and two stand in front.
+-- The names that were found of a file, where the tokens of u are left, and two stand before them.
 abbrev pub Defines : Unread → Unread → List (List ℕ) → Option Leaf → Option Leaf → Type 0
 Defines start u found w m = (left : List Leaf) → AreLeft u left → (all : List Leaf)
-    × AreLeft start all × (defined all ≡ found ++ defined_behind w m left)
+    × AreLeft start all × (macro_names all ≡ found ++ names_after w m left)
 
 pub defines-none : (u : Unread) (found : List (List ℕ)) → found ≡ []
     → Defines u u found None None
 defines-none u found e = λ left l. (
   left,
   l,
-  ap (λ v. v ++ defined_behind None None left) (sym e),
+  ap (λ v. v ++ names_after None None left) (sym e),
 )
 
 pub defines-more : (start u next : Unread) (found more : List (List ℕ)) (w m : Option Leaf)
@@ -25,12 +25,12 @@ defines-more start u next found more w m x h step e = λ left l.
     let t = h (x ∷ left) (step left l) in (
       t.0,
       t.1,
-      t.2 ∙ (sym (append_assoc found (definition w m x) (defined_behind m (Some x) left))
-          ∙ ap (λ v. v ++ defined_behind m (Some x) left) (sym e)),
+      t.2 ∙ (sym (append_assoc found (definition w m x) (names_after m (Some x) left))
+          ∙ ap (λ v. v ++ names_after m (Some x) left) (sym e)),
     )
 
 pub defines-all : (start u : Unread) (found : List (List ℕ)) (w m : Option Leaf)
     → Defines start u found w m → AreLeft u []
-    → (all : List Leaf) × AreLeft start all × (found ≡ defined all)
+    → (all : List Leaf) × AreLeft start all × (found ≡ macro_names all)
 defines-all start u found w m h l =
     let t = h [] l in (t.0, t.1, sym (t.2 ∙ append-nil found))

@@ -1,6 +1,6 @@
 -- Elements of lists that are mapped.
-use Rattle.std.proofs.Common.{◌≡◌, ◌<◌, ◌++◌, ◌⊎◌, ℕ, List, [], ◌∷◌, inl, inr, refl, ap, sym, subst}
-use Rattle.std.proofs.Common.{arith, map, length}
+use Rattle.std.proofs.Common.{◌≡◌, ◌⊎◌, List, [], ◌∷◌, inl, inr, subst}
+use Rattle.std.proofs.Common.{arith, map}
 use Rattle.std.specs.Prelude.{Contains}
 use Rattle.std.proofs.lemmas.List.Elements.{Contains-append_cases, Contains-append_left}
 use Rattle.std.proofs.lemmas.List.Elements.{Contains-append_right}
@@ -12,8 +12,8 @@ nothing-in x h = absurd (omega (arith, h.1))
 pub here : {A : Type 0} (x : A) (xs : List A) → Contains (x ∷ xs) x
 here x xs = Contains-append_left (x ∷ []) xs x (Contains-push [] x)
 
-pub behind-here : {A : Type 0} (y : A) {ys : List A} (x : A) → Contains ys x → Contains (y ∷ ys) x
-behind-here y {ys = ys} x h = Contains-append_right (y ∷ []) ys x h
+pub after-here : {A : Type 0} (y : A) (ys : List A) (x : A) → Contains ys x → Contains (y ∷ ys) x
+after-here y ys x h = Contains-append_right (y ∷ []) ys x h
 
 in-first : {A : Type 0} (y : A) (ys : List A) (x : A) → Contains (y ∷ ys) x
     → (y ≡ x) ⊎ Contains ys x
@@ -30,11 +30,12 @@ in-first y ys x h = by_part (Contains-append_cases (y ∷ []) ys x h)
 pub mapped-in : {A B : Type 0} (f : A → B) (xs : List A) (x : A) → Contains xs x
     → Contains (map f xs) (f x)
 mapped-in f [] x h = nothing-in x h
-mapped-in f (y ∷ ys) x h = by_first (in-first y ys x h)
+mapped-in f (y ∷ ys) x h = by_first (in-first y ys x h) (λ k. mapped-in f ys x k)
   where
-    by_first : (y ≡ x) ⊎ Contains ys x → Contains (f y ∷ map f ys) (f x)
-    by_first (inl e) = subst (λ v. Contains (f y ∷ map f ys) (f v)) e (here (f y) (map f ys))
-    by_first (inr k) = Contains-append_right (f y ∷ []) (map f ys) (f x) (mapped-in f ys x k)
+    by_first : (y ≡ x) ⊎ Contains ys x → (Contains ys x → Contains (map f ys) (f x))
+        → Contains (f y ∷ map f ys) (f x)
+    by_first (inl e) again = subst (λ v. Contains (f y ∷ map f ys) (f v)) e (here (f y) (map f ys))
+    by_first (inr k) again = after-here (f y) (map f ys) (f x) (again k)
 
 -- An element of the mapped list, with what it comes from.
 pub record ComesFrom {A B : Type 0} (f : A → B) (xs : List A) (z : B) : Type 0 where
@@ -45,13 +46,11 @@ pub record ComesFrom {A B : Type 0} (f : A → B) (xs : List A) (z : B) : Type 0
 pub in-mapped : {A B : Type 0} (f : A → B) (xs : List A) (z : B) → Contains (map f xs) z
     → ComesFrom f xs z
 in-mapped f [] z h = nothing-in z h
-in-mapped f (y ∷ ys) z h = by_first (in-first (f y) (map f ys) z h)
+in-mapped f (y ∷ ys) z h = by_first (in-first (f y) (map f ys) z h) (λ k. in-mapped f ys z k)
   where
-    by_first : (f y ≡ z) ⊎ Contains (map f ys) z → ComesFrom f (y ∷ ys) z
-    by_first (inl e) = record { from = y; is_in = here y ys; is_it = e }
-    by_first (inr k) =
-        let c = in-mapped f ys z k in record {
-          from = c.from;
-          is_in = Contains-append_right (y ∷ []) ys c.from c.is_in;
-          is_it = c.is_it;
-        }
+    by_first : (f y ≡ z) ⊎ Contains (map f ys) z → (Contains (map f ys) z → ComesFrom f ys z)
+        → ComesFrom f (y ∷ ys) z
+    by_first (inl e) again = record { from = y; is_in = here y ys; is_it = e }
+    by_first (inr k) again =
+        let c = again k in
+        record { from = c.from; is_in = after-here y ys c.from c.is_in; is_it = c.is_it }

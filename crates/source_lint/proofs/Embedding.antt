@@ -1,10 +1,9 @@
 -- Tokens among others: what is said of them by their index is said of them there.
 use Prim.Native.Char.{code}
-use Rattle.std.proofs.Common.{◌≡◌, ◌<◌, ◌≤◌, ◌+◌, ◌-◌, ◌++◌, ◌⊎◌, ℕ, zero, suc, Bool, true, false, List}
+use Rattle.std.proofs.Common.{◌≡◌, ◌<◌, ◌≤◌, ◌+◌, ◌-◌, ◌++◌, ℕ, zero, suc, Bool, true, false, List}
 use Rattle.std.proofs.Common.{[], ◌∷◌, Option, Some, None, inl, inr, refl, ap, sym, subst, ◌∙◌}
-use Rattle.std.proofs.Common.{length, length-append, arith, map}
+use Rattle.std.proofs.Common.{length, arith, map}
 use Rattle.std.specs.Prelude.{◌&&◌, ◌||◌, not, codes, nat_lt, slice_get, if◌then◌else◌}
-use Rattle.std.proofs.lemmas.Bool.{cases_lt}
 use Rattle.rust_trees.specs.Leaves.{Leaf}
 use Rattle.rust_trees.specs.Forests.{IsPair}
 use Rattle.rust_trees.proofs.Groups.{pair-less, pair-shift, pair-unshift}
@@ -13,9 +12,9 @@ use Rattle.rust_trees.proofs.Nested.{nested}
 use Rattle.format_calls.specs.declared.modes.Mode.{Mode}
 use Rattle.format_calls.specs.declared.modes.Mode.TheVariants.{Start, Within, Operator, Angles}
 use Rattle.format_calls.specs.declared.modes.Mode.TheVariants.{Parameters}
-use Rattle.format_calls.specs.Arguments.{IsTree, Walks, is_end, is_named, is_plain_mode, is_word_at}
+use Rattle.format_calls.specs.Arguments.{IsTree, Walks, is_end, is_plain_mode}
 use Rattle.format_calls.specs.Marks.{is_behind, is_mark, is_mark_of, is_word}
-use Rattle.format_calls.specs.Modes.{are_joint, is_followed, is_operator, is_prefix, is_text}
+use Rattle.format_calls.specs.Modes.{are_joint, is_operator, is_prefix, is_text}
 use Rattle.format_calls.specs.Modes.{mode_after, mode_behind}
 use Rattle.format_calls.proofs.Parting.{get-front, get-shift}
 
@@ -41,7 +40,7 @@ pub mark-at : (m : ℕ) (xs ys : List Leaf) (g i n : ℕ) → Embeds xs ys g →
     → i < length xs → is_mark m ys n ≡ is_mark m xs i
 mark-at m xs ys g i n e h l = ap (λ o. is_mark_of m o) (get-at xs ys g i n e h l)
 
--- What is read behind a token, by it, the next one, and those of an arrow.
+-- The mode after a token, by it, the next one, and those of an arrow.
 abbrev followed_by : ℕ → Option Leaf → Option Leaf → Bool
 followed_by m a b = are_joint a b && is_mark_of m b
 
@@ -55,10 +54,10 @@ abbrev double_by : Option Leaf → Option Leaf → Bool
 double_by a b = (is_mark_of (code "|") a && followed_by (code "|") a b)
     || (is_mark_of (code "<") a && followed_by (code "<") a b)
 
-abbrev behind_by : Option Leaf → Option Leaf → Bool → Option Leaf → Option Leaf → Option Leaf
+abbrev after_by : Option Leaf → Option Leaf → Bool → Option Leaf → Option Leaf → Option Leaf
     → Bool → Bool → Mode
-behind_by a b p q r None s t = Within false
-behind_by a b p q r (Some x) s t =
+after_by a b p q r None s t = Within false
+after_by a b p q r (Some x) s t =
     if double_by a b then Operator else
     (if is_text x (codes "as") || arrow_by a p q r then Start true else
     (if is_mark_of (code ":") (Some x) then Start t else
@@ -68,9 +67,9 @@ behind_by a b p q r (Some x) s t =
 abbrev mode_by : Option Leaf → Option Leaf → Bool → Option Leaf → Option Leaf → Mode → Mode
 mode_by a b p q r (Start t) =
     if opens_by a b then Angles 1 else
-    (if is_mark_of (code "|") a then Parameters else behind_by a b p q r a true t)
+    (if is_mark_of (code "|") a then Parameters else after_by a b p q r a true t)
 mode_by a b p q r (Within t) =
-    if t && opens_by a b then Angles 1 else behind_by a b p q r a false t
+    if t && opens_by a b then Angles 1 else after_by a b p q r a false t
 mode_by a b p q r Operator = Start false
 mode_by a b p q r (Angles n) =
     if is_mark_of (code "<") a then Angles (n + 1) else
@@ -78,11 +77,11 @@ mode_by a b p q r (Angles n) =
     (if nat_lt 1 n then Angles (n - 1) else Within false))
 mode_by a b p q r Parameters = if is_mark_of (code "|") a then Start false else Parameters
 
-behind-is : (xs : List Leaf) (i : ℕ) (o : Option Leaf) (s t : Bool) → mode_behind xs i o s t
-    ≡ behind_by (slice_get xs i) (slice_get xs (i + 1)) (is_behind (code "-") xs i)
+after-is : (xs : List Leaf) (i : ℕ) (o : Option Leaf) (s t : Bool) → mode_behind xs i o s t
+    ≡ after_by (slice_get xs i) (slice_get xs (i + 1)) (is_behind (code "-") xs i)
     (slice_get xs (i - 1)) (slice_get xs (i - 1 + 1)) o s t
-behind-is xs i None s t = refl
-behind-is xs i (Some x) s t = refl
+after-is xs i None s t = refl
+after-is xs i (Some x) s t = refl
 
 mode-is : (xs : List Leaf) (i : ℕ) (m : Mode) → mode_after xs i m
     ≡ mode_by (slice_get xs i) (slice_get xs (i + 1)) (is_behind (code "-") xs i)
@@ -90,10 +89,10 @@ mode-is : (xs : List Leaf) (i : ℕ) (m : Mode) → mode_after xs i m
 mode-is xs i (Start t) =
     ap (λ v. if opens_by (slice_get xs i) (slice_get xs (i + 1)) then Angles 1 else
     (if is_mark_of (code "|") (slice_get xs i) then Parameters else v))
-    (behind-is xs i (slice_get xs i) true t)
+    (after-is xs i (slice_get xs i) true t)
 mode-is xs i (Within t) =
     ap (λ v. if t && opens_by (slice_get xs i) (slice_get xs (i + 1)) then Angles 1 else v)
-    (behind-is xs i (slice_get xs i) false t)
+    (after-is xs i (slice_get xs i) false t)
 mode-is xs i Operator = refl
 mode-is xs i (Angles n) = refl
 mode-is xs i Parameters = refl
@@ -105,10 +104,10 @@ mode-of a b q r c d s t p u m e f g h k =
     ∙ (ap (λ v. mode_by c d v q r m) g ∙ (ap (λ v. mode_by c d u v r m) h
     ∙ ap (λ v. mode_by c d u s v m) k)))
 
-behind-at : (m : ℕ) (xs ys : List Leaf) (g i n : ℕ) → Embeds xs ys g → n ≡ g + i → 0 < i
+before-at : (m : ℕ) (xs ys : List Leaf) (g i n : ℕ) → Embeds xs ys g → n ≡ g + i → 0 < i
     → i < length xs → is_behind m ys n ≡ is_behind m xs i
-behind-at m xs ys g zero n e h z l = absurd (omega (arith, z))
-behind-at m xs ys g (suc i) n e h z l =
+before-at m xs ys g zero n e h z l = absurd (omega (arith, z))
+before-at m xs ys g (suc i) n e h z l =
     let k : n ≡ suc (g + i) = omega (arith, h) in
     ap (λ v. is_behind m ys v) k ∙ mark-at m xs ys g i (g + i) e refl (omega (arith, l))
 
@@ -118,7 +117,7 @@ mode-at xs ys g i m e z l =
     mode-is ys (g + i) m ∙ (mode-of _ _ _ _ _ _ _ _ _ _ m
     (e.same i (omega (arith, l)))
     (get-at xs ys g (i + 1) (g + i + 1) e (omega arith) l)
-    (behind-at (code "-") xs ys g i (g + i) e refl z (omega (arith, l)))
+    (before-at (code "-") xs ys g i (g + i) e refl z (omega (arith, l)))
     (get-at xs ys g (i - 1) (g + i - 1) e (omega (arith, z)) (omega (arith, l)))
     (get-at xs ys g (i - 1 + 1) (g + i - 1 + 1) e (omega (arith, z)) (omega (arith, l, z)))
     ∙ sym (mode-is xs i m))

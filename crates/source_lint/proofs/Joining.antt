@@ -1,4 +1,4 @@
--- What is read of calls, one after the other, and of parts of a file.
+-- The readings of calls, one after the other, and of parts of a file.
 use Rattle.std.proofs.Common.{◌≡◌, ◌++◌, Bool, ℕ, List, [], ◌∷◌, refl, ap, sym, subst, ◌∙◌}
 use Rattle.std.proofs.lemmas.List.{append_assoc, append-nil}
 use Rattle.rust_trees.specs.Balances.{IsBalanced}
@@ -14,7 +14,7 @@ use Rattle.source_lint.specs.Readings.{Reads, ReadsAll}
 use Rattle.source_lint.specs.Reports.{ReadsCalls, ReadsParts}
 use Rattle.source_lint.proofs.Merging.{merged}
 
--- What was read so far, where all are the calls and the last ones are left.
+-- The readings so far, where all are the calls and the last ones are left.
 pub record Reading (ds : List (List ℕ)) (is_new : Bool) (xs : List Leaf) (all left : List Call)
     (rs ss : List CallReading) (fs gs : List Finding) : Type 0 where
   pub readings : List CallReading
@@ -70,7 +70,7 @@ reading-all ds is_new xs all left rs ss fs gs e w = (
       (w.goes_on [] [] (subst (λ v. ReadsAll ds is_new xs v [] []) (sym e) (refl, refl)))),
 )
 
--- What was read of a file so far, where the tokens of u are left: these tokens were read.
+-- The readings of a file so far, where the tokens of u are left: the tokens of the front were read.
 pub record ReadingFile (es : List Entry) (ds : List (List ℕ)) (is_new : Bool) (start u : Unread)
     (rs : List CallReading) (fs : List Finding) (old now : Balance) : Type 0 where
   pub front : List Leaf
@@ -95,7 +95,7 @@ file-none es ds is_new u rs fs b e f = record {
   );
 }
 
--- A part that was read behind them, with the gap in front of it.
+-- A part that was read after them, with the gap before it.
 abbrev pub NextPart : List Entry → Unread → Unread → List Leaf → Balance → Balance → Type 0
 NextPart es u next part old now = (gap : List Leaf) × ((left : List Leaf) → AreLeft next left
     → AreLeft u (gap ++ (part ++ left)) × IsPart es gap part left)

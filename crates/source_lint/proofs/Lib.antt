@@ -1,15 +1,14 @@
 pub mod Calling
+pub mod CheckedCalls
 pub mod Crs
 pub mod Defining
 pub mod Elements
 pub mod Embedding
-pub mod Found
 pub mod Joining
 pub mod Merging
 pub mod MovedArguments
 pub mod MovedReadings
 pub mod MovedStrings
 pub mod Reporting
-pub mod Standing
 pub mod Telling
 pub mod Widths

@@ -1,13 +1,13 @@
--- What is read part by part is read of the whole file.
-use Rattle.std.proofs.Common.{◌≡◌, ◌<◌, ◌≤◌, ◌+◌, ◌-◌, ◌++◌, ◌⊎◌, ℕ, Bool, List, [], ◌∷◌, inl, inr, refl}
+-- The readings of the parts of a file are those of the file.
+use Rattle.std.proofs.Common.{◌≡◌, ◌<◌, ◌≤◌, ◌+◌, ◌-◌, ◌++◌, ◌⊎◌, ℕ, Bool, List, [], ◌∷◌, inl, inr}
+use Rattle.std.proofs.Common.{refl}
 use Rattle.std.proofs.Common.{ap, sym, subst, ◌∙◌, length, length-append, arith, map}
-use Rattle.std.specs.Prelude.{◌↔◌, Contains}
+use Rattle.std.specs.Prelude.{Contains}
 use Rattle.std.proofs.lemmas.Bool.{cases_lt}
 use Rattle.std.proofs.lemmas.List.{append_assoc, append-nil}
 use Rattle.std.proofs.lemmas.List.Elements.{Contains-append_cases, Contains-append_left}
 use Rattle.std.proofs.lemmas.List.Elements.{Contains-append_right}
 use Rattle.rust_trees.specs.Leaves.{Leaf}
-use Rattle.rust_trees.specs.Forests.{IsPair}
 use Rattle.format_calls.specs.Calls.{IsCall, Rises}
 use Rattle.format_calls.specs.Parts.{IsPart, moved}
 use Rattle.format_calls.specs.Rows.{Entry}
@@ -15,13 +15,13 @@ use Rattle.format_calls.specs.declared.listing.Call.{Call}
 use Rattle.format_calls.proofs.CallSteps.{call-within}
 use Rattle.source_lint.specs.declared.report.CallReading.{CallReading}
 use Rattle.source_lint.specs.declared.report.Finding.{Finding}
-use Rattle.source_lint.specs.Readings.{Reads, ReadsAll}
+use Rattle.source_lint.specs.Readings.{ReadsAll}
 use Rattle.source_lint.specs.Reports.{AreCalls, ReadsCalls, ReadsParts}
 use Rattle.source_lint.proofs.Elements.{here, in-mapped, mapped-in, nothing-in}
 use Rattle.source_lint.proofs.Embedding.{Embeds, embeds}
 use Rattle.source_lint.proofs.MovedReadings.{reads-same}
 
--- Calls in order stay so further on, and behind others.
+-- Calls in order stay so further on, and after others.
 rises-moved : (g from to : ℕ) (cs : List Call) → Rises from cs to
     → Rises (g + from) (map (moved g) cs) (g + to)
 rises-moved g from to [] r = omega (arith, r)
@@ -52,11 +52,11 @@ moved-back n c h k =
     let b : n + (c.close - n) ≡ c.close = omega (arith, k) in
     rw (a, b) refl
 
--- A call closes behind its name.
+-- A call closes after its name.
 closes-later : (es : List Entry) (xs : List Leaf) (c : Call) → IsCall es xs c → c.name < c.close
 closes-later es xs c k = let e = k.is_pair.ends in omega (arith, e)
 
--- A call of a part, or of what is left behind it, is one of all.
+-- A call of a part, or of what is left after it, is one of all.
 is-one : (es : List Entry) (gap part left : List Leaf) (cs ds : List Call) (c : Call)
     → IsPart es gap part left → AreCalls es part cs → AreCalls es left ds
     → Contains (map (moved (length gap)) cs) c
@@ -72,7 +72,7 @@ is-one es gap part left cs ds c p a b (inr h) =
     subst (λ d. IsCall es (gap ++ (part ++ left)) d) f.is_it
     ((p.behind f.from).0 ((b.each f.from).0 f.is_in))
 
--- Each call is one of a part, or of what is left behind it.
+-- Each call is one of a part, or of what is left after it.
 is-there : (es : List Entry) (gap part left : List Leaf) (cs ds : List Call) (c : Call)
     → IsPart es gap part left → AreCalls es part cs → AreCalls es left ds
     → IsCall es (gap ++ (part ++ left)) c
@@ -106,7 +106,7 @@ is-there es gap part left cs ds c p a b k = by_place (cases_lt c.name (length ga
         Contains-append_right first second c (subst (λ v. Contains second v) e
         (mapped-in (moved (length gap + length part)) ds d ((b.each d).1 m)))
 
--- The calls of a part and those of what is left behind it.
+-- The calls of a part and those of what is left after it.
 calls-join : (es : List Entry) (gap part left : List Leaf) (cs ds : List Call)
     → IsPart es gap part left → AreCalls es part cs → AreCalls es left ds
     → AreCalls es (gap ++ (part ++ left))
@@ -132,16 +132,16 @@ calls-join es gap part left cs ds p a b =
           (map (moved (length gap + length part)) ds) v) end second));
     }
 
--- What is left behind a part stands behind the gap and the part.
-behind : (gap part left : List Leaf)
+-- The tokens that are left after a part stand after the gap and the part.
+left-embeds : (gap part left : List Leaf)
     → Embeds left (gap ++ (part ++ left)) (length gap + length part)
-behind gap part left =
+left-embeds gap part left =
     subst (λ n. Embeds left (gap ++ (part ++ left)) n) (length-append gap part)
     (subst (λ v. Embeds left v (length (gap ++ part)))
     (append_assoc gap part (left ++ []) ∙ ap (λ v. gap ++ (part ++ v)) (append-nil left))
     (embeds (gap ++ part) left []))
 
--- What is read of calls among other tokens.
+-- The readings of calls among other tokens.
 reads-moved : (es : List Entry) (names : List (List ℕ)) (is_new : Bool) (xs ys : List Leaf) (g : ℕ)
     (cs : List Call) (rs : List CallReading) (fs : List Finding) → Embeds xs ys g
     → ((c : Call) → Contains cs c → IsCall es xs c) → ReadsAll names is_new xs cs rs fs
@@ -177,7 +177,7 @@ reads-join names is_new xs (c ∷ cs) ds rs ss fs gs h k = (
   reads-join names is_new xs cs ds h.1 ss h.3 gs h.7 k,
 )
 
--- What is read part by part is read of all tokens.
+-- The readings of the parts are those of all tokens.
 pub merged : (es : List Entry) (names : List (List ℕ)) (is_new : Bool) (xs : List Leaf)
     (ps : List (List Leaf)) (rs : List CallReading) (fs : List Finding)
     → ReadsParts es names is_new xs ps rs fs → ReadsCalls es names is_new xs rs fs
@@ -197,7 +197,7 @@ merged es names is_new xs (p ∷ ps) rs fs h =
     let first = reads-moved es names is_new p (gap ++ (p ++ left)) (length gap) a.calls h.2 h.4
     (embeds gap p left) (λ c k. (a.are_calls.each c).0 k) a.reads in
     let second = reads-moved es names is_new left (gap ++ (p ++ left)) (length gap + length p)
-    b.calls h.3 h.5 (behind gap p left) (λ c k. (b.are_calls.each c).0 k) b.reads in
+    b.calls h.3 h.5 (left-embeds gap p left) (λ c k. (b.are_calls.each c).0 k) b.reads in
     let all : ReadsCalls es names is_new (gap ++ (p ++ left)) (h.2 ++ h.3) (h.4 ++ h.5) =
     record {
       calls = map (moved (length gap)) a.calls ++ map (moved (length gap + length p)) b.calls;

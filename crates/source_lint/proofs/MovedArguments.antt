@@ -1,21 +1,19 @@
 -- The arguments of a call among other tokens.
 use Prim.Native.Char.{code}
-use Rattle.std.proofs.Common.{◌≡◌, ◌<◌, ◌≤◌, ◌+◌, ◌-◌, ◌++◌, ◌⊎◌, ℕ, Bool, true, false, List, [], ◌∷◌}
-use Rattle.std.proofs.Common.{Option, Some, None, inl, inr, refl, ap, sym, subst, ◌∙◌, length}
+use Rattle.std.proofs.Common.{◌≡◌, ◌<◌, ◌≤◌, ◌+◌, ◌++◌, ◌⊎◌, ℕ, Bool, true, false, List, [], ◌∷◌}
+use Rattle.std.proofs.Common.{Option, Some, inl, inr, refl, ap, sym, subst, ◌∙◌, length}
 use Rattle.std.proofs.Common.{length-append, arith, map}
-use Rattle.std.specs.Prelude.{◌&&◌, ◌||◌, ◌==◌, IsTrue, not, nat_lt, slice_get, if◌then◌else◌}
+use Rattle.std.specs.Prelude.{◌&&◌, ◌||◌, IsTrue, not, slice_get, if◌then◌else◌}
 use Rattle.std.specs.List.{AllByRecursion, list_any}
 use Rattle.std.proofs.lemmas.Bool.{cases_lt}
 use Rattle.std.proofs.lemmas.List.{append_assoc}
-use Rattle.rust_trees.specs.Leaves.{Leaf, side}
-use Rattle.rust_trees.specs.Sides.{is_opening}
+use Rattle.rust_trees.specs.Leaves.{Leaf}
 use Rattle.rust_trees.specs.Forests.{IsPair}
 use Rattle.rust_trees.proofs.Growing.{pair-within}
-use Rattle.format_calls.specs.declared.modes.Mode.{Mode}
 use Rattle.format_calls.specs.declared.split.Argument.{Argument}
-use Rattle.format_calls.specs.Arguments.{AreArguments, IsArgument, IsTree, Walks, is_end, is_named}
+use Rattle.format_calls.specs.Arguments.{AreArguments, IsArgument, is_end, is_named}
 use Rattle.format_calls.specs.Arguments.{is_word_at}
-use Rattle.format_calls.specs.Counted.{AreTrees, is_uncounted, opens, opens_at}
+use Rattle.format_calls.specs.Counted.{AreTrees, is_uncounted, opens}
 use Rattle.format_calls.specs.Marks.{is_mark, is_mark_of}
 use Rattle.format_calls.specs.Modes.{are_joint, is_followed}
 use Rattle.format_calls.proofs.Parting.{closing-no-mark, closing-punct, get-shift, punct-no-word}
@@ -207,7 +205,7 @@ arguments-at xs ys g o c at (a ∷ bs) e p h k = (
               (again (omega (arith, h, s, t)) m.1),
         )
 
--- Whether a token leaves the number of arguments open, by what stands there and behind it.
+-- Whether a token leaves the number of arguments open, by what stands there and after it.
 abbrev uncounted_by : Bool → Bool → Bool → Bool → Bool → Bool → Bool → Bool
 uncounted_by a b d f k m n = if a then b || d else (if f then not k && not m else n)
 

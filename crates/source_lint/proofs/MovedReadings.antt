@@ -1,8 +1,8 @@
--- What is read of a call among other tokens.
-use Rattle.std.proofs.Common.{◌≡◌, ◌<◌, ◌≤◌, ◌+◌, ℕ, Bool, true, false, List, Some, refl, ap, sym}
+-- The reading of a call among other tokens.
+use Rattle.std.proofs.Common.{◌≡◌, ◌<◌, ◌+◌, ℕ, Bool, true, false, List, ap, sym}
 use Rattle.std.proofs.Common.{subst, ◌∙◌, length, arith, map, drop}
-use Rattle.std.specs.Prelude.{Result, Ok, Err, chars, not, option_map, slice_get}
-use Rattle.std.specs.List.{AllByRecursion, list_any}
+use Rattle.std.specs.Prelude.{Result, Ok, Err, chars, not, option_map}
+use Rattle.std.specs.List.{list_any}
 use Rattle.std.specs.Str.{bytes_eq}
 use Rattle.std.proofs.lemmas.Option.{slice_get-map}
 use Rattle.rust_trees.specs.Leaves.{Leaf}
@@ -22,8 +22,8 @@ use Rattle.source_lint.specs.Literals.{appends_newline, without_crs}
 use Rattle.source_lint.specs.Readings.{Reads, ReadsAt, ReadsBy, ReadsLiteral, ReadsUnless}
 use Rattle.source_lint.specs.Readings.{name_at, name_of_leaf}
 use Rattle.source_lint.proofs.Embedding.{Embeds}
-use Rattle.source_lint.proofs.MovedArguments.{LiesIn, arguments-at, arguments-lie, counted-at, shifted}
-use Rattle.source_lint.proofs.MovedArguments.{trees-at}
+use Rattle.source_lint.proofs.MovedArguments.{LiesIn, arguments-at, arguments-lie, counted-at}
+use Rattle.source_lint.proofs.MovedArguments.{shifted, trees-at}
 use Rattle.source_lint.proofs.MovedStrings.{lies-get, others-same, string-same}
 
 name-same : (xs ys : List Leaf) (g i : ℕ) → Embeds xs ys g → i < length xs

@@ -1,9 +1,10 @@
 -- The format string of a call among other tokens, and its arguments.
 use Prim.Native.Char.{code}
-use Rattle.std.proofs.Common.{◌≡◌, ◌<◌, ◌≤◌, ◌+◌, ◌-◌, ◌⊎◌, ℕ, zero, suc, Bool, true, false, cond, List, [], ◌∷◌}
+use Rattle.std.proofs.Common.{◌≡◌, ◌<◌, ◌≤◌, ◌+◌, ◌-◌, ◌⊎◌, ℕ, zero, suc, Bool, true, false, cond}
+use Rattle.std.proofs.Common.{List, [], ◌∷◌}
 use Rattle.std.proofs.Common.{Option, Some, None, inl, inr, refl, ap, sym, subst, ◌∙◌, length}
 use Rattle.std.proofs.Common.{arith, map, drop}
-use Rattle.std.specs.Prelude.{◌&&◌, ◌||◌, ◌==◌, Result, Ok, Err, chars, not, nat_lt, position}
+use Rattle.std.specs.Prelude.{◌&&◌, ◌||◌, ◌==◌, Result, Ok, Err, chars, not, nat_lt}
 use Rattle.std.specs.Prelude.{slice_get, option_and_then, option_map, if◌then◌else◌}
 use Rattle.std.specs.List.{AllByRecursion, prefix_len}
 use Rattle.std.proofs.lemmas.Bool.{cases_lt}
@@ -11,20 +12,17 @@ use Rattle.std.proofs.lemmas.Bool.Decides.{nat_tests}
 use Rattle.std.proofs.lemmas.List.{drop-map, length-map}
 use Rattle.std.proofs.lemmas.Option.{slice_get-map}
 use Rattle.rust_trees.specs.Leaves.{Leaf}
-use Rattle.rust_trees.specs.Forests.{IsPair}
-use Rattle.rust_trees.proofs.Growing.{pair-within}
 use Rattle.format_calls.specs.declared.split.Argument.{Argument}
 use Rattle.format_calls.specs.declared.strings.Reason.{Reason}
 use Rattle.format_calls.specs.declared.strings.Reason.TheVariants.{Variable, Suffix, Macro}
 use Rattle.format_calls.specs.declared.strings.Reason.TheVariants.{Edition, Expression}
 use Rattle.format_calls.specs.declared.table.Rule.{Rule}
 use Rattle.format_calls.specs.declared.table.Rule.TheVariants.{At, ByEdition, AfterFields}
-use Rattle.format_calls.specs.Marks.{is_mark, is_mark_of, is_word}
+use Rattle.format_calls.specs.Marks.{is_mark, is_word}
 use Rattle.format_calls.specs.Strings.{argument_or, first_text, format_string, is_string, is_text}
 use Rattle.format_calls.specs.Strings.{is_text_at, is_text_leaf, reason_at, reason_of, text_or}
-use Rattle.call_faults.specs.Arguments.{Given}
 use Rattle.source_lint.specs.Givens.{given, name_of, variable, variable_of, without_raw}
-use Rattle.source_lint.proofs.Embedding.{Embeds, get-at, mark-at}
+use Rattle.source_lint.proofs.Embedding.{Embeds, mark-at}
 use Rattle.source_lint.proofs.MovedArguments.{LiesIn, shifted}
 
 -- Both offsets are further on.
@@ -50,7 +48,8 @@ size-same g s e = let d : (g + e) - (g + s) ≡ e - s = omega arith in ap (λ n.
 text-by : (g : ℕ) (o : Option Leaf) (a : Argument) → is_text_at o (shifted g a) ≡ is_text_at o a
 text-by g None a = refl
 text-by g (Some x) a =
-    ap (λ b. b && (((g + a.end) - (g + a.start)) == 1 && is_text_leaf x)) (less-same g a.start a.end)
+    ap (λ b. b && (((g + a.end) - (g + a.start)) == 1 && is_text_leaf x))
+    (less-same g a.start a.end)
     ∙ ap (λ b. nat_lt a.start a.end && (b && is_text_leaf x)) (size-same g a.start a.end)
 
 pub text-same : (xs ys : List Leaf) (g from to : ℕ) (a : Argument) → Embeds xs ys g
@@ -60,7 +59,7 @@ text-same xs ys g from to a e h l =
     ap (λ o. is_text_at o (shifted g a)) (e.same a.start (omega (arith, h, s)))
     ∙ text-by g (slice_get xs a.start) a
 
--- Why an argument is no literal, by what stands at its start and behind that.
+-- Why an argument is no literal, by what stands at its start and after that.
 abbrev reason_by : Option Leaf → Bool → Bool → Bool → Reason
 reason_by None p q r = Expression
 reason_by (Some x) p q r = if p || q then Variable else
@@ -68,7 +67,8 @@ reason_by (Some x) p q r = if p || q then Variable else
     (if is_word x && r then Macro else Expression))
 
 reason-is : (xs : List Leaf) (i : ℕ) (o : Option Leaf) → reason_at xs o i
-    ≡ reason_by o (is_mark (code "$") xs i) (is_mark (code "#") xs i) (is_mark (code "!") xs (i + 1))
+    ≡ reason_by o (is_mark (code "$") xs i) (is_mark (code "#") xs i)
+    (is_mark (code "!") xs (i + 1))
 reason-is xs i None = refl
 reason-is xs i (Some x) = refl
 

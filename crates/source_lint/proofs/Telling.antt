@@ -1,4 +1,4 @@
--- What is found of faults, one after the other.
+-- The findings of faults, one after the other.
 use Rattle.std.proofs.Common.{◌≡◌, ◌++◌, Bool, true, false, List, [], ◌∷◌, refl, ap, sym}
 use Rattle.std.proofs.Common.{subst, ◌∙◌}
 use Rattle.std.proofs.lemmas.List.{append_assoc, append-nil}
@@ -21,7 +21,7 @@ counted-join : (b : Bool) (fs gs : List CallFault)
 counted-join true fs gs = refl
 counted-join false fs gs = sym (filter-append is_text_fault fs gs)
 
--- What was found so far of these faults.
+-- The findings so far of these faults.
 abbrev pub Telling : Told Place → Bool → List CallFault → List Finding → List Finding → Type 0
 Telling c b fs old now = (xs : List Finding) × (now ≡ old ++ xs)
     × TellAll c (counted_faults b fs) xs
@@ -40,10 +40,3 @@ telling-more c b fs all f old now next e t x = (
       (subst (λ v. TellAll c v (t.0 ++ x.0)) (counted-join b fs (f ∷ []))
       (tell-join c (counted_faults b fs) (counted_faults b (f ∷ [])) t.0 x.0 t.2 x.2)),
 )
-
--- What is found of one fault, and nothing where it does not count.
-pub tells-one : (c : Told Place) (b : Bool) (f : CallFault) (x : Finding)
-    → TellAll c (f ∷ []) (x ∷ []) → (b ≡ true → ⊥) → is_text_fault f ≡ true
-    → TellAll c (counted_faults b (f ∷ [])) (x ∷ [])
-tells-one c true f x h n e = h
-tells-one c false f x h n e = rw e h

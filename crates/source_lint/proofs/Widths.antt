@@ -1,6 +1,6 @@
 -- A literal is longer than its text and its hashes.
-use Rattle.std.proofs.Common.{◌≡◌, ◌<◌, ◌≤◌, ◌+◌, ◌*◌, ◌^◌, ◌++◌, ℕ, List, [], ◌∷◌, Option, Some, None}
-use Rattle.std.proofs.Common.{ap, sym, subst, ◌∙◌, arith, chars, length, length-append, IsUtf8}
+use Rattle.std.proofs.Common.{◌≡◌, ◌≤◌, ◌+◌, ◌*◌, ◌++◌, ℕ, List, [], ◌∷◌, Option, Some, None}
+use Rattle.std.proofs.Common.{ap, sym, ◌∙◌, arith, chars, length, length-append, IsUtf8}
 use Rattle.std.proofs.Common.{replicate}
 use Rattle.std.proofs.lemmas.List.{length-replicate}
 use Rattle.std.proofs.lemmas.Str.{encodes-chars, len_utf8_bounds}

@@ -1,9 +1,8 @@
--- What placeholders can tell of the arguments of a call.
+-- The arguments of a call, as placeholders refer to them.
 use Prim.Native.Char.{code}
-use Rattle.std.specs.Prelude.{ℕ, Bool, true, false, not, ◌&&◌, ◌||◌, ◌==◌, ◌-◌, List, [], ◌∷◌}
+use Rattle.std.specs.Prelude.{ℕ, Bool, not, ◌&&◌, ◌||◌, ◌==◌, ◌-◌, List, [], ◌∷◌}
 use Rattle.std.specs.Prelude.{Option, Some, None, chars, codes, nat_lt, option_and_then}
 use Rattle.std.specs.Prelude.{option_map, slice_get, if◌then◌else◌}
-use Rattle.std.specs.List.{list_any}
 use Rattle.std.specs.Str.{bytes_eq}
 use Rattle.rustc_parse_format.specs.Characters.{Text}
 use Rattle.rust_tokens.specs.declared.kinds.Kind.{Kind}
@@ -35,14 +34,14 @@ variable x = variable_text x.kind x.text
 
 -- The name of an argument.
 abbrev pub name_of : List Leaf → Argument → Option Text
-name_of xs a = if a.is_named then option_map (λ x. without_raw (chars x.text)) (slice_get xs a.start)
-    else None
+name_of xs a =
+    if a.is_named then option_map (λ x. without_raw (chars x.text)) (slice_get xs a.start) else None
 
 -- The variable that an argument without a name is, if it is nothing else.
 abbrev pub variable_of : List Leaf → Argument → Option Text
 variable_of xs a = if not a.is_named && (nat_lt a.start a.end && (a.end - a.start) == 1)
     then option_and_then variable (slice_get xs a.start) else None
 
--- What placeholders can tell of an argument.
+-- An argument, as placeholders refer to it.
 abbrev pub given : List Leaf → Argument → Given
 given xs a = record { name = name_of xs a; variable = variable_of xs a }

@@ -1,7 +1,7 @@
-pub mod Defined
 pub mod Files
 pub mod Findings
 pub mod Givens
 pub mod Literals
+pub mod Macros
 pub mod Readings
 pub mod Reports

@@ -8,7 +8,7 @@ use Rattle.rust_tokens.specs.Runs.{first_passes}
 use Rattle.rust_trees.specs.Places.{is_lf}
 use Rattle.source_lint.specs.declared.literals.Literal.{Literal}
 
--- A text without the CR in front of each LF.
+-- A text without the CR before each LF.
 abbrev pub without_crs : Text → Text
 without_crs [] = []
 without_crs (c ∷ t) = if c == 13 && first_passes is_lf t then without_crs t else c ∷ without_crs t

@@ -1,4 +1,4 @@
--- What is read of a call, and what is found in it.
+-- The reading of a call, and the findings in it.
 use Rattle.std.specs.Prelude.{◌≡◌, ◌+◌, ◌++◌, ◌⊎◌, not, ℕ, Bool, true, false, List, [], ◌∷◌, Option}
 use Rattle.std.specs.Prelude.{Some, None, Result, Ok, Err, chars, drop, length, map}
 use Rattle.std.specs.Prelude.{slice_get}
@@ -41,7 +41,7 @@ start_of appended style literal t =
 abbrev pub pieces : State → List (Piece Place)
 pieces s = pieces_in s.world (pieces_of (calls s))
 
--- What titles tell of a call with this format string and these arguments.
+-- The parts of a call with this format string and these arguments that titles tell.
 abbrev pub told_of : State → List Given → Told Place
 told_of s gs = record {
   given = gs;
@@ -51,7 +51,7 @@ told_of s gs = record {
   numbers = [];
 }
 
--- What is wrong with a call with this format string and these arguments.
+-- The faults of a call with this format string and these arguments.
 abbrev pub faults_of : State → List Given → List CallFault
 faults_of s gs = call_faults true gs (text_fault s) (pieces s)
 
@@ -65,8 +65,8 @@ abbrev pub reading_of : Bool → CallReading
 reading_of true = Whole
 reading_of false = StringAlone
 
--- How much is read of a call, and what is found, where it has this format string and these
--- arguments. If their number is not known, only the fault of the string counts.
+-- This is the reading of a call with this format string and these arguments, and these are the
+-- findings. If the number of arguments is not known, only the fault of the string counts.
 abbrev pub Finds : Bool → State → List Given → CallReading → List Finding → Type 0
 Finds counted s gs r fs = (r ≡ reading_of counted)
     × TellAll (told_of s (counted_givens counted gs))
@@ -87,7 +87,7 @@ name_of_leaf (Some x) = word x
 abbrev pub name_at : List Leaf → ℕ → List ℕ
 name_at xs i = name_of_leaf (slice_get xs i)
 
--- The same where the format string is the argument n of these, and the others behind it are
+-- The same where the format string is the argument n of these, and the others after it are
 -- formatted.
 pub record ReadsAt (xs : List Leaf) (c : Call) (args : List Argument) (n : ℕ) (r : CallReading)
     (fs : List Finding) : Type 0 where
@@ -113,13 +113,13 @@ ReadsUnless false is_new xs c r fs = (args : List Argument)
     × AreArguments xs (c.name + 3) args c.close
     × ReadsBy xs c args (format_string xs c.rule args is_new) r fs
 
--- What is read of a call, and what is found in it, where the file defines macros of these names,
--- and its edition is from 2021 on or not.
+-- This is the reading of a call, and these are the findings in it, where the file defines macros of
+-- these names, and its edition is from 2021 on or not.
 abbrev pub Reads : List (List ℕ) → Bool → List Leaf → Call → CallReading → List Finding → Type 0
 Reads ds is_new xs c r fs =
     ReadsUnless (list_any (bytes_eq (name_at xs c.name)) ds) is_new xs c r fs
 
--- What is read of calls, and what is found in them, one call after the other.
+-- These are the readings of calls and the findings in them, one call after the other.
 abbrev pub ReadsAll : List (List ℕ) → Bool → List Leaf → List Call → List CallReading
     → List Finding → Type 0
 ReadsAll ds is_new xs [] rs fs = (rs ≡ []) × (fs ≡ [])

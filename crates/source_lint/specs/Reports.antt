@@ -1,4 +1,4 @@
--- What is read of a file, and what is found in it.
+-- The report on a file.
 use Rattle.std.specs.Prelude.{◌≡◌, ◌++◌, ◌↔◌, ℕ, Bool, List, [], ◌∷◌, Contains, length}
 use Rattle.rust_trees.specs.Balances.{BreaksAt}
 use Rattle.rust_trees.specs.Leaves.{Leaf}
@@ -9,7 +9,7 @@ use Rattle.format_calls.specs.declared.listing.Call.{Call}
 use Rattle.source_lint.specs.declared.report.CallReading.{CallReading}
 use Rattle.source_lint.specs.declared.report.Finding.{Finding}
 use Rattle.source_lint.specs.declared.report.Report.{Report}
-use Rattle.source_lint.specs.Defined.{defined}
+use Rattle.source_lint.specs.Macros.{macro_names}
 use Rattle.source_lint.specs.Files.{AreLeaves}
 use Rattle.source_lint.specs.Readings.{ReadsAll}
 
@@ -18,14 +18,14 @@ pub record AreCalls (es : List Entry) (xs : List Leaf) (cs : List Call) : Type 0
   pub each : (c : Call) → Contains cs c ↔ IsCall es xs c
   pub in_order : Rises 0 cs (length xs)
 
--- What is read of the calls among these tokens, and what is found in them.
+-- These are the readings of the calls among these tokens, and the findings in them.
 pub record ReadsCalls (es : List Entry) (ds : List (List ℕ)) (is_new : Bool) (xs : List Leaf)
     (rs : List CallReading) (fs : List Finding) : Type 0 where
   pub calls : List Call
   pub are_calls : AreCalls es xs calls
   pub reads : ReadsAll ds is_new xs calls rs fs
 
--- Part by part: in front of each there is a gap, and behind the last one there is no call.
+-- The same part by part: before each part there is a gap, and after the last one there is no call.
 abbrev pub ReadsParts : List Entry → List (List ℕ) → Bool → List Leaf → List (List Leaf)
     → List CallReading → List Finding → Type 0
 ReadsParts es ds is_new xs [] rs fs = ((c : Call) → IsCall es xs c → ⊥) × (rs ≡ []) × (fs ≡ [])
@@ -35,10 +35,10 @@ ReadsParts es ds is_new xs (p ∷ ps) rs fs = (gap left : List Leaf)
     × (fs ≡ found ++ others) × ReadsCalls es ds is_new p first found
     × ReadsParts es ds is_new left ps more others
 
--- The report on a file, in bytes: what is read of the calls among its tokens, what is found, and
+-- The report on a file, in bytes: the readings of the calls among its tokens, the findings, and
 -- where the file breaks.
 pub record IsReport (es : List Entry) (is_new : Bool) (bs : List ℕ) (r : Report) : Type 0 where
   pub leaves : List Leaf
   pub are_leaves : AreLeaves bs leaves
-  pub reads : ReadsCalls es (defined leaves) is_new leaves r.calls.items r.findings.items
+  pub reads : ReadsCalls es (macro_names leaves) is_new leaves r.calls.items r.findings.items
   pub breaks : BreaksAt leaves r.broken

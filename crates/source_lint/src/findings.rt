@@ -1,4 +1,4 @@
-//! What is found in a call: its faults, in words and with their places in the file.
+//! The findings of a call: its faults, in words and with their places in the file.
 
 ghost use Rattle.std.specs.Prelude.{◌≡◌, ◌++◌, ◌∷◌, [], List, IfOk, OnOk, map};
 ghost use Rattle.std.specs.List.{All};
@@ -26,7 +26,7 @@ fn is_text_fault(fault: &CallFault<'_>) -> bool
     matches!(fault, CallFault::Text(_))
 }
 
-/// Returns what is found of a fault of a call. Returns `Err` if an allocation fails.
+/// Returns the finding of a fault of a call. Returns `Err` if an allocation fails.
 fn finding<'c>(
     alloc: Global,
     site: Site<'_, '_>,
@@ -47,7 +47,7 @@ fn finding<'c>(
     })
 }
 
-/// Adds what is found of a fault of a call, unless only that of its string counts. Returns `Err` if
+/// Adds the finding of a fault of a call, unless only that of its string counts. Returns `Err` if
 /// an allocation fails.
 fn put_finding<'c>(
     alloc: Global,
@@ -69,7 +69,7 @@ fn put_finding<'c>(
     Ok(())
 }
 
-/// Adds what is found of the faults of a call, or only of that of its string. Returns `Err` if an
+/// Adds the findings of the faults of a call, or only that of its string. Returns `Err` if an
 /// allocation fails.
 pub fn put_findings<'c>(
     alloc: Global,

@@ -1,4 +1,4 @@
-//! What placeholders can tell of the arguments of a call.
+//! The arguments of a call, as its placeholders refer to them.
 
 ghost use Rattle.std.specs.Prelude.{◌≡◌, IfOk, chars, map, option_map};
 ghost use Rattle.placeholder_check.specs.Seen.{text};
@@ -82,7 +82,7 @@ fn variable_of<'a>(tokens: &[Token<'a>], argument: &Argument) -> Option<&'a str>
     }
 }
 
-/// Returns what placeholders can tell of an argument.
+/// Returns an argument as placeholders refer to it.
 fn given<'a>(tokens: &[Token<'a>], argument: &Argument) -> Given<'a>
     ensures { seen_given result ≡ given (map leaf tokens.now) argument.now }
 {
@@ -92,7 +92,7 @@ fn given<'a>(tokens: &[Token<'a>], argument: &Argument) -> Given<'a>
     }
 }
 
-/// Returns what placeholders can tell of arguments. Returns `Err` if an allocation fails.
+/// Returns arguments as placeholders refer to them. Returns `Err` if an allocation fails.
 pub fn givens<'a>(
     alloc: Global,
     tokens: &[Token<'a>],

@@ -1,11 +1,11 @@
-//! What is wrong with the format strings of a Rust source file, from its text ([`file_faults`]).
+//! The faults of the format strings of a Rust source file, from its text ([`file_faults`]).
 #![tactic(auto)]
 
-mod defined;
 mod findings;
 mod givens;
 mod lint;
 mod literals;
+mod macros;
 mod readings;
 mod report;
 mod spans;

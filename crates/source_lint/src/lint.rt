@@ -1,4 +1,4 @@
-//! What is wrong with the format strings of a file.
+//! The faults of the format strings of a file.
 
 ghost use Rattle.std.specs.Prelude.{◌≡◌, ◌++◌, List, IfOk, OnOk, map};
 ghost use Rattle.std.specs.List.{All};
@@ -11,25 +11,25 @@ ghost use Rattle.source_lint.specs.Reports.{IsReport, ReadsCalls};
 ghost use Rattle.source_lint.specs.declared.report.CallReading.{CallReading as ReadingValue};
 ghost use Rattle.source_lint.specs.declared.report.Finding.{Finding as FindingValue};
 
-use crate::defined::defined;
+use crate::macros::macro_names;
 use crate::readings::{File, read_call};
 use crate::report::{CallReading, Finding, Options, Report};
 use format_calls::{Table, calls, next_part};
 use rust_trees::{Balance, Source, Tokens};
 use std::alloc::{AllocError, Global};
 
-/// What was read of the calls of a file so far, and what was found in them.
+/// The readings of the calls of a file so far, and the findings in these calls.
 #[derive(Drop)]
-struct Found {
+struct Readings {
     calls: Vec<CallReading>,
     findings: Vec<Finding>,
 }
 
 /// Reads the calls of a part of a file, one after the other, and adds how much of each is read and
-/// what is found. Returns `Err` if an allocation fails.
+/// its findings. Returns `Err` if an allocation fails.
 fn read_part(
     alloc: Global,
-    found: &mut Found,
+    found: &mut Readings,
     file: File<'_, '_>,
     part: &Source<'_>,
     table: &Table<'_>,
@@ -37,7 +37,7 @@ fn read_part(
     ensures read { OnOk result ((rs : List ReadingValue) × (xs : List FindingValue)
         × (found.new.calls.items ≡ found.old.calls.items ++ rs)
         × (found.new.findings.items ≡ found.old.findings.items ++ xs)
-        × ReadsCalls (map entry table.now.rows.items) (map (λ w. w.now) file.entry.defined.now)
+        × ReadsCalls (map entry table.now.rows.items) (map (λ w. w.now) file.entry.macros.now)
         file.entry.is_from_2021 part.now rs xs) }
     ensures spans { OnOk result (All (λ x. IsSpan file.entry.text.now x.span)
         found.old.findings.items
@@ -60,15 +60,15 @@ fn read_file(
     file: File<'_, '_>,
     table: &Table<'_>,
     balance: &mut Balance,
-) -> Result<Found, AllocError>
+) -> Result<Readings, AllocError>
     ensures read { IfOk result (λ f. (ls : List Leaf) × AreLeaves file.entry.text.now ls
-        × ReadsCalls (map entry table.now.rows.items) (map (λ w. w.now) file.entry.defined.now)
+        × ReadsCalls (map entry table.now.rows.items) (map (λ w. w.now) file.entry.macros.now)
         file.entry.is_from_2021 ls f.calls.items f.findings.items
         × ((w : List Leaf) → IsBalanced w balance.old → IsBalanced (w ++ ls) balance.new)) }
     ensures spans { IfOk result (λ f. All (λ x. IsSpan file.entry.text.now x.span)
         f.findings.items) }
 {
-    let mut found = Found {
+    let mut found = Readings {
         calls: Vec::new(alloc),
         findings: Vec::new(alloc),
     };
@@ -79,18 +79,18 @@ fn read_file(
     Ok(found)
 }
 
-/// Reads a source file, and returns what is wrong with its calls of macros that take a format
-/// string. Lines may end with LF or CRLF, and a byte order mark may stand at the start. Returns
-/// `Err` if an allocation fails.
+/// Reads a source file, and returns the faults of its calls of macros that take a format string.
+/// Lines may end with LF or CRLF, and a byte order mark may stand at the start. Returns `Err` if an
+/// allocation fails.
 pub fn file_faults(alloc: Global, text: &str, options: &Options<'_>) -> Result<Report, AllocError>
     ensures report { IfOk result (λ r. IsReport (map entry options.now.table.rows.items)
         options.now.is_from_2021 text.now r) }
     ensures spans { IfOk result (λ r. All (λ x. IsSpan text.now x.span) r.findings.items) }
 {
-    let names = defined(alloc, text)?;
+    let names = macro_names(alloc, text)?;
     let file = File {
         text,
-        defined: names.as_slice(),
+        macros: names.as_slice(),
         is_from_2021: options.is_from_2021,
     };
     let mut balance = Balance::new(alloc);

@@ -1,4 +1,4 @@
-//! What is read of a call, and what is found in it.
+//! The reading of a call, and its findings.
 
 ghost use Rattle.std.specs.Prelude.{◌≡◌, ◌+◌, ◌<◌, ◌^◌, ◌++◌, List, IfOk, IsTrue, OnOk, Some, chars};
 ghost use Rattle.std.specs.Prelude.{length, map, slice_get, true};
@@ -17,10 +17,10 @@ ghost use Rattle.source_lint.specs.Readings.{Reads, ReadsAt, ReadsLiteral, count
 ghost use Rattle.source_lint.specs.Readings.{faults_of, name_at, reading_of, told_of};
 ghost use Rattle.source_lint.specs.declared.report.Finding.{Finding as FindingValue};
 
-use crate::defined::is_defined;
 use crate::findings::put_findings;
 use crate::givens::givens;
 use crate::literals::{appends_newline, read_literal};
+use crate::macros::is_defined;
 use crate::report::{CallReading, Finding};
 use crate::spans::Site;
 use call_faults::{FormatString, Given, call_faults};
@@ -34,7 +34,7 @@ pub struct File<'s, 'a> {
     /// The text.
     pub text: &'a str,
     /// The names of the macros that it defines.
-    pub defined: &'s [&'a [u8]],
+    pub macros: &'s [&'a [u8]],
     /// Whether its edition is 2021 or a later one.
     pub is_from_2021: bool,
 }
@@ -49,7 +49,7 @@ fn name_at<'a>(tokens: &[Token<'a>], name: usize) -> &'a [u8]
     }
 }
 
-/// Returns what placeholders can tell of arguments, or nothing if their number is not known.
+/// Returns arguments as placeholders refer to them, or none if their number is not known.
 /// Returns `Err` if an allocation fails.
 fn counted_givens<'a>(
     alloc: Global,
@@ -78,7 +78,7 @@ fn reading_of(is_counted: bool) -> CallReading
     }
 }
 
-/// Checks a call with this format string and these arguments, and adds what is found. Returns `Err`
+/// Checks a call with this format string and these arguments, and adds its findings. Returns `Err`
 /// if an allocation fails.
 fn check_string<'c>(
     alloc: Global,
@@ -102,8 +102,8 @@ fn check_string<'c>(
     Ok(())
 }
 
-/// Reads the format string of a call, which is this literal, with the arguments behind it, and adds
-/// what is found. Returns `Err` if an allocation fails.
+/// Reads the format string of a call, which is the literal of the site, with the arguments after
+/// it, and adds the findings. Returns `Err` if an allocation fails.
 fn read_string(
     alloc: Global,
     findings: &mut Vec<Finding>,
@@ -147,7 +147,7 @@ fn argument_at(arguments: &[Argument], index: usize) -> Option<Argument>
     }
 }
 
-/// Reads a call whose format string is the argument of this index, and adds what is found. Returns
+/// Reads a call whose format string is the argument of this index, and adds its findings. Returns
 /// `Err` if an allocation fails.
 fn read_at(
     alloc: Global,
@@ -190,7 +190,7 @@ fn read_at(
     Ok(reading)
 }
 
-/// Reads a call, and adds what is found in it. Returns `Err` if an allocation fails.
+/// Reads a call, and adds its findings. Returns `Err` if an allocation fails.
 pub fn read_call(
     alloc: Global,
     findings: &mut Vec<Finding>,
@@ -201,13 +201,13 @@ pub fn read_call(
     requires { IsPair part.now (call.now.name + 2) call.now.close }
     ensures read { IfOk result (λ r. (xs : List FindingValue)
         × (findings.new.items ≡ findings.old.items ++ xs)
-        × Reads (map (λ w. w.now) file.entry.defined.now) file.entry.is_from_2021 part.now call.now
+        × Reads (map (λ w. w.now) file.entry.macros.now) file.entry.is_from_2021 part.now call.now
         r xs) }
     ensures spans { OnOk result (All (λ x. IsSpan file.entry.text.now x.span) findings.old.items
         → All (λ x. IsSpan file.entry.text.now x.span) findings.new.items) }
 {
     let name = name_at(part.tokens(), call.name);
-    if is_defined(file.defined, name) {
+    if is_defined(file.macros, name) {
         return Ok(CallReading::Redefined);
     }
     let Some(arguments) = arguments(alloc, part, call.close)? else {

@@ -1,4 +1,4 @@
-//! Where in a file the faults of a call are.
+//! The places of the faults of a call in its file.
 
 ghost use Rattle.std.specs.Prelude.{IfOk};
 ghost use Rattle.source_lint.specs.Findings.{IsSpan};
@@ -11,21 +11,21 @@ use rustc_parse_format::{Argument as Placeholder, Count, Fault, Piece, Position}
 use std::alloc::{AllocError, Global};
 use std::ops::Range;
 
-/// Where a call and its parts are.
+/// A call and its parts in the file.
 #[derive(Clone, Copy)]
 pub struct Site<'s, 'a> {
     /// The text of the file.
     pub text: &'a str,
-    /// Tokens of the file, with those of the call.
+    /// The tokens of the part of the file that has the call.
     pub tokens: &'s [Token<'a>],
     /// The literal of its format string.
     pub literal: Token<'a>,
-    /// The arguments behind its format string.
+    /// The arguments after its format string.
     pub arguments: &'s [Argument],
 }
 
 /// Returns the range between two byte offsets of a text. An offset within a character goes back to
-/// its start, and an end that is in front of the start is there.
+/// its start, and the range is empty if its end comes before its start.
 pub fn range_in(text: &str, from: usize, to: usize) -> Range<usize>
     ensures { IsSpan text.now result }
 {
@@ -87,11 +87,10 @@ fn value_range(site: Site<'_, '_>, index: usize) -> Range<usize> {
 /// Returns the bytes of a range of the literal, whose offsets are those of the literal with lines
 /// that end with LF.
 fn literal_range(site: Site<'_, '_>, span: &Range<usize>) -> Range<usize> {
-    let start = site.literal.start;
-    let text = site.literal.text;
-    start.saturating_add(offset_in(text, span.start))..start.saturating_add(offset_in(
-        text, span.end,
-    ))
+    let literal = site.literal;
+    let start = offset_in(literal.text, span.start);
+    let end = offset_in(literal.text, span.end);
+    literal.start.saturating_add(start)..literal.start.saturating_add(end)
 }
 
 /// Returns a range again, or another one if there is none.
@@ -143,7 +142,7 @@ fn takes_next(argument: &Placeholder<'_>) -> bool {
 /// Returns the range in the literal of the first placeholder that takes the next argument, or that
 /// of its precision if only that does. Returns `None` if one of them refers to an argument by a
 /// number that is written.
-fn taking_span(checked: &Checked<'_>) -> Option<Range<usize>> {
+fn first_taker(checked: &Checked<'_>) -> Option<Range<usize>> {
     let mut found = None;
     let mut number = 0usize;
     for piece in &checked.pieces {
@@ -152,7 +151,7 @@ fn taking_span(checked: &Checked<'_>) -> Option<Range<usize>> {
                 return None;
             }
             if found.is_none() && takes_next(argument) {
-                found = Some(taken_span(checked, argument, number));
+                found = Some(taker_span(checked, argument, number));
             }
             number = number.saturating_add(1);
         }
@@ -162,7 +161,7 @@ fn taking_span(checked: &Checked<'_>) -> Option<Range<usize>> {
 
 /// Returns the range in the literal of what takes the next argument: the placeholder of a number,
 /// or its precision.
-fn taken_span(checked: &Checked<'_>, argument: &Placeholder<'_>, number: usize) -> Range<usize> {
+fn taker_span(checked: &Checked<'_>, argument: &Placeholder<'_>, number: usize) -> Range<usize> {
     if !matches!(argument.position, Position::ArgumentImplicitlyIs(_)) {
         return range_or(&argument.format.precision_span, &argument.position_span);
     }
@@ -174,7 +173,7 @@ fn taken_span(checked: &Checked<'_>, argument: &Placeholder<'_>, number: usize) 
 
 /// Returns the range in the literal of the first of references by an index that is too large.
 fn missing_span(checked: &Checked<'_>, missing: &[Missing]) -> Range<usize> {
-    if let Some(span) = taking_span(checked) {
+    if let Some(span) = first_taker(checked) {
         return span;
     }
     match missing.first() {
@@ -216,10 +215,9 @@ pub fn primary_span(
             literal_range(site, &part_span(checked, reference.piece, reference.part))
         }
         CallFault::UnknownTrait { piece, .. } => literal_range(site, &type_span(checked, *piece)),
-        CallFault::MissingArguments(missing) => literal_range(
-            site,
-            &missing_span(checked, missing),
-        ),
+        CallFault::MissingArguments(missing) => {
+            literal_range(site, &missing_span(checked, missing))
+        }
         CallFault::UnusedArguments(unused) => value_range(site, first_of(unused)),
         CallFault::RedundantArguments(redundant) => argument_range(site, first_of(redundant)),
         CallFault::NameUsedByIndex { index, .. } => name_range(site, *index),

@@ -1,4 +1,4 @@
-use Rattle.std.proofs.Common.{◌≡◌, ◌∙◌, ◌++◌, ◌∷◌, [], ap, map, subst, sym, take}
+use Rattle.std.proofs.Common.{◌∙◌, ◌++◌, ◌∷◌, [], ap, map, subst, sym, take}
 use Rattle.std.proofs.lemmas.List.{take_all}
 use Rattle.call_faults.specs.Seen.{seen_fault, told}
 use Rattle.call_faults.proofs.Collecting.{map-next}

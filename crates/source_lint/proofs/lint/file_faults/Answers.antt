@@ -1,7 +1,6 @@
-use Rattle.std.proofs.Common.{◌≡◌, ◌∙◌, [], ap, map, subst, sym}
-use Rattle.rust_trees.specs.Balances.{BreaksAt}
+use Rattle.std.proofs.Common.{◌∙◌, [], ap, map, subst}
 use Rattle.format_calls.specs.Rows.{entry}
-use Rattle.source_lint.specs.Defined.{defined}
+use Rattle.source_lint.specs.Macros.{macro_names}
 use Rattle.source_lint.specs.Reports.{ReadsCalls}
 use Rattle.source_lint.proofs.Reporting.{same-leaves}
 use Rattle.source_lint.proofs.lint.file_faults.Goals as goal
@@ -17,6 +16,6 @@ returns-clause-report c =
       reads = subst (λ v. ReadsCalls (map entry c.args.options.now.table.rows.items) v
           c.args.options.now.is_from_2021 r.0 c.in_ok-found.found.calls.items
           c.in_ok-found.found.findings.items)
-          (ap (map (λ w. w.now)) c.as_slice.ensures.value ∙ (n.2 ∙ ap defined same)) r.2;
+          (ap (map (λ w. w.now)) c.as_slice.ensures.value ∙ (n.2 ∙ ap macro_names same)) r.2;
       breaks = c.broken.ensures r.0 (r.3 [] c.new-balance.ensures);
     }

@@ -1,17 +1,17 @@
-use Rattle.std.proofs.Common.{◌≡◌, length, map}
+use Rattle.std.proofs.Common.{length, map}
 use Rattle.std.specs.List.{All}
 use Rattle.format_calls.specs.Rows.{entry}
 use Rattle.source_lint.specs.Findings.{IsSpan}
 use Rattle.source_lint.proofs.Joining.{ReadingFile}
 use Rattle.source_lint.proofs.lint.read_file.Given as goal
 
-abbrev pub invariant-loop-part : goal.invariant-loop-part
-invariant-loop-part l = record {
-  read : ReadingFile (map entry l.table.rows.items) (map (λ w. w.now) l.file.defined.now)
+abbrev pub invariant-loop-found : goal.invariant-loop-found
+invariant-loop-found l = record {
+  read : ReadingFile (map entry l.table.rows.items) (map (λ w. w.now) l.file.macros.now)
       l.file.is_from_2021 l.initial.rest l.rest l.found.calls.items l.found.findings.items
       l.initial.balance l.balance;
   spans : All (λ x. IsSpan l.file.text.now x.span) l.found.findings.items;
 }
 
-abbrev pub decreases-loop-part : goal.decreases-loop-part
-decreases-loop-part l = length l.rest.rest
+abbrev pub decreases-loop-found : goal.decreases-loop-found
+decreases-loop-found l = length l.rest.rest

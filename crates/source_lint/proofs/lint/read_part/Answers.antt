@@ -1,14 +1,14 @@
-use Rattle.std.proofs.Common.{◌≡◌, ◌∷◌, List, refl, rules, subst, sym}
+use Rattle.std.proofs.Common.{◌≡◌, ◌∷◌, map, rules, subst, sym}
 use Rattle.std.specs.Prelude.{Contains}
-use Rattle.format_calls.specs.declared.listing.Call.{Call}
-use Rattle.source_lint.proofs.Elements.{behind-here, here}
-use Rattle.source_lint.proofs.Joining.{Reading, reading-all, reading-more, reading-none}
+use Rattle.source_lint.proofs.Elements.{after-here, here}
+use Rattle.std.proofs.lemmas.List.{nil_from_length}
+use Rattle.source_lint.specs.Readings.{ReadsAll}
+use Rattle.source_lint.proofs.Joining.{reading-all, reading-more, reading-none}
 use Rattle.source_lint.proofs.lint.read_part.Goals as goal
 
 pub loop-call-init : goal.loop-call-init
 loop-call-init c = record {
-  read = subst (λ v. Reading _ _ _ c.in_ok-calls.calls.items v _ _ _ _)
-      (sym c.as_slice-rest.ensures.value) (reading-none _ _ _ c.in_ok-calls.calls.items _ _);
+  read = reading-none _ _ _ c.as_slice-rest.result.now _ _;
   are_calls = λ d h. (c.in_ok-calls.ensures.each d).0
       (subst (λ v. Contains v d) c.as_slice-rest.ensures.value h);
   spans = λ h. h;
@@ -28,13 +28,15 @@ loop-call-preserved c =
       read = reading-more _ _ _ _ _ _ _ c.in_ok-reading.reading _ _ _ _ _ _ e
           c.loop-call.invariant.read c.in_ok-push.ensures.items c.in_ok-reading.ensures.read;
       are_calls = λ d h. c.loop-call.invariant.are_calls d
-          (subst (λ v. Contains v d) (sym e) (behind-here c.in-Some.call.now d h));
+          (subst (λ v. Contains v d) (sym e) (after-here c.in-Some.call.now
+          c.in-Some.others.now d h));
       spans = λ h. c.in_ok-reading.ensures.spans (c.loop-call.invariant.spans h);
     }
 
 pub returns-clause-read : goal.returns-clause-read
 returns-clause-read c =
-    let r = reading-all _ _ _ _ _ _ _ _ _ (search rules) c.loop-call.invariant.read in (
+    let none = nil_from_length c.loop-call.rest.now c.in_default.ensures.cases in
+    let r = reading-all _ _ _ _ _ _ _ _ _ none c.loop-call.invariant.read in (
       r.0,
       r.1,
       r.2,
@@ -45,6 +47,7 @@ returns-clause-read c =
           each = c.in_ok-calls.ensures.each;
           in_order = c.in_ok-calls.ensures.in_order;
         };
-        reads = r.4;
+        reads = subst (λ v. ReadsAll (map (λ w. w.now) c.args.file.macros.now)
+            c.args.file.is_from_2021 c.args.part.now v r.0 r.1) c.as_slice-rest.ensures.value r.4;
       },
     )

@@ -1,4 +1,4 @@
-use Rattle.std.proofs.Common.{List, length, map}
+use Rattle.std.proofs.Common.{length, map}
 use Rattle.std.specs.Prelude.{Contains}
 use Rattle.std.specs.List.{All}
 use Rattle.format_calls.specs.Calls.{IsCall}
@@ -10,9 +10,9 @@ use Rattle.source_lint.proofs.lint.read_part.Given as goal
 
 abbrev pub invariant-loop-call : goal.invariant-loop-call
 invariant-loop-call l = record {
-  read : Reading (map (λ w. w.now) l.file.defined.now) l.file.is_from_2021 l.part l.calls.items
-      l.rest l.initial.found.calls.items l.found.calls.items l.initial.found.findings.items
-      l.found.findings.items;
+  read : Reading (map (λ w. w.now) l.file.macros.now) l.file.is_from_2021 l.part
+      l.initial.rest l.rest l.initial.found.calls.items l.found.calls.items
+      l.initial.found.findings.items l.found.findings.items;
   are_calls : (c : Call) → Contains l.rest c → IsCall (map entry l.table.rows.items) l.part c;
   spans : All (λ x. IsSpan l.file.text.now x.span) l.initial.found.findings.items
       → All (λ x. IsSpan l.file.text.now x.span) l.found.findings.items;

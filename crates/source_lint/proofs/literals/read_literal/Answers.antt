@@ -1,4 +1,4 @@
-use Rattle.std.proofs.Common.{◌≡◌, ◌∙◌, ap, arith, chars, string_bytes, subst, sym}
+use Rattle.std.proofs.Common.{◌≡◌, ◌∙◌, ap, arith, chars, string_bytes, subst}
 use Rattle.rustc_parse_format.specs.Literal.{IsLiteral}
 use Rattle.source_lint.specs.Literals.{without_crs}
 use Rattle.source_lint.proofs.Widths.{short-hashes}

@@ -1,4 +1,4 @@
-use Rattle.std.proofs.Common.{◌≡◌, ◌∙◌, ◌++◌, ap, chars, rules, string_bytes, sym}
+use Rattle.std.proofs.Common.{◌∙◌, ◌++◌, ap, chars, rules, string_bytes, sym}
 use Rattle.std.proofs.lemmas.Str.{IsUtf8-string_bytes, chars-nil}
 use Rattle.std.proofs.lemmas.List.{append-nil}
 use Rattle.rust_trees.proofs.PlaceSteps.{split-none}

@@ -1,6 +1,6 @@
 use Rattle.std.proofs.Common.{ap, map}
 use Rattle.call_faults.specs.Seen.{seen_given, start}
-use Rattle.source_lint.proofs.Found.{found-same}
+use Rattle.source_lint.proofs.CheckedCalls.{found-same}
 use Rattle.source_lint.proofs.readings.check_string.Goals as goal
 
 pub returns-clause-told : goal.returns-clause-told

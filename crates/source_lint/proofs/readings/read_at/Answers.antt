@@ -1,12 +1,15 @@
-use Rattle.std.proofs.Common.{◌≡◌, ◌∙◌, ◌+◌, ap, arith, drop, map, rules, subst, sym}
-use Rattle.source_lint.proofs.Calling.{behind-one, literal-there, string-there}
+use Rattle.std.proofs.Common.{◌≡◌, ◌∙◌, ◌+◌, ap, arith, map, sym}
+use Rattle.rust_trees.specs.Leaves.{leaf}
+use Rattle.source_lint.specs.Literals.{appends_newline}
+use Rattle.source_lint.proofs.Calling.{after-one, reads-at, string-there}
 use Rattle.source_lint.proofs.MovedArguments.{LiesIn, arguments-lie}
 use Rattle.source_lint.proofs.MovedStrings.{lies-get}
 use Rattle.source_lint.proofs.readings.read_at.Goals as goal
 
 pub returns-in_default-clause-read : goal.returns-in_default-clause-read
 returns-in_default-clause-read c =
-    string-there _ _ _ c.requires.literal.1 (search rules)
+    string-there c.args.arguments.now c.args.index c.requires.literal.0 c.requires.literal.1
+    c.in_default.ensures
 
 pub are_counted-is_counted-requires : goal.are_counted-is_counted-requires
 are_counted-is_counted-requires c =
@@ -16,3 +19,20 @@ are_counted-is_counted-requires c =
     let s = l.starts in
     let r = l.rises in
     record { pair = c.requires.pair; start = (omega (arith, s, r), l.ends) }
+
+pub returns-clause-read : goal.returns-clause-read
+returns-clause-read c =
+    let tokens : map leaf c.tokens-tokens.result.now ≡ c.args.part.now = c.tokens-tokens.ensures in
+    let name = rw tokens at c.name_at-name.ensures in
+    let t = c.are_counted-is_counted.ensures in
+    let r = rw tokens at c.in_ok-reading.ensures.read in (
+      r.0,
+      r.1,
+      reads-at c.args.part.now c.args.call.now c.args.arguments.now _ c.args.index
+          c.in-Some.string (leaf c.in-Some-token_at.literal) t.0
+          c.appends_newline-appended_newline.result c.are_counted-is_counted.result
+          c.in_ok-reading.reading r.0 (sym c.in-Some.ensures)
+          (sym (rw tokens at c.in-Some-token_at.ensures.value)) t.1
+          (c.appends_newline-appended_newline.ensures ∙ ap appends_newline name) t.2
+          (after-one c.args.arguments.now c.args.index) r.2,
+    )

@@ -1,4 +1,4 @@
-use Rattle.std.proofs.Common.{◌≡◌, ◌∙◌, ◌++◌, [], List, ap, chars, inl, inr, map, refl, subst, sym}
+use Rattle.std.proofs.Common.{◌≡◌, ◌∙◌, [], List, ap, chars, inl, inr, map, refl, subst, sym}
 use Rattle.std.proofs.lemmas.List.{append-nil}
 use Rattle.rust_trees.specs.Leaves.{leaf}
 use Rattle.call_faults.specs.Arguments.{Given}
@@ -7,7 +7,7 @@ use Rattle.source_lint.specs.Findings.{TellAll, counted_faults}
 use Rattle.source_lint.specs.Givens.{given}
 use Rattle.source_lint.specs.Literals.{without_crs}
 use Rattle.source_lint.specs.Readings.{counted_givens, faults_of, start_of, told_of}
-use Rattle.source_lint.proofs.Found.{start-same}
+use Rattle.source_lint.proofs.CheckedCalls.{start-same}
 use Rattle.source_lint.proofs.readings.read_string.Goals as goal
 
 pub check_string-requires : goal.check_string-requires

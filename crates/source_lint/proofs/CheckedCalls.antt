@@ -1,5 +1,5 @@
--- What is found in a call that was checked.
-use Rattle.std.proofs.Common.{◌≡◌, ◌++◌, ℕ, Bool, List, [], refl, ap, sym, subst, ◌∙◌, length, map, true}
+-- The findings in a call that was checked.
+use Rattle.std.proofs.Common.{◌≡◌, ◌++◌, ℕ, Bool, List, [], ap, subst, ◌∙◌, length, map, true}
 use Rattle.std.proofs.Common.{Option, Some}
 use Rattle.rustc_parse_format.specs.Characters.{Text}
 use Rattle.rustc_parse_format.specs.Literal.{newline}
@@ -8,7 +8,6 @@ use Rattle.rustc_parse_format.specs.State.{State, after_all, calls, first_state}
 use Rattle.rustc_parse_format.specs.Types.{Format, Piece}
 use Rattle.rustc_parse_format.specs.World.{Place}
 use Rattle.call_faults.specs.Arguments.{Given}
-use Rattle.call_faults.specs.CallFaults.{CallFault}
 use Rattle.call_faults.specs.Calls.{call_faults, kept_indices}
 use Rattle.call_faults.specs.Seen.{seen_fault, seen_given, told}
 use Rattle.call_faults.specs.Texts.{text_fault}
@@ -51,7 +50,7 @@ told-same s x gs e f h k =
       numbers = [];
     }) k))
 
--- What a checked call tells is what is found of the string at whose start the parser was.
+-- The findings of a checked call are those of the string at whose start the parser was.
 pub found-same : (s : State) (x : Checked) (gs : List Given) (captures b : Bool) (xs : List Finding)
     → captures ≡ true → map seen_given x.given.now ≡ gs → x.kept.items ≡ kept_indices gs
     → map seen x.pieces.items ≡ pieces s → x.parser ≡ after_all s (calls s)

@@ -1,7 +1,7 @@
 use Rattle.std.proofs.Common.{◌≡◌, false, map, take}
 use Rattle.std.specs.List.{list_any}
 use Rattle.std.specs.Str.{bytes_eq}
-use Rattle.source_lint.proofs.defined.is_defined.Given as goal
+use Rattle.source_lint.proofs.macros.is_defined.Given as goal
 
 -- None of the names so far is the word.
 abbrev pub invariant-loop-name : goal.invariant-loop-name

@@ -3,8 +3,8 @@
 ghost use Rattle.std.specs.Prelude.{◌≡◌, ◌++◌, List, IfOk, OnOk, map, option_map};
 ghost use Rattle.std.specs.List.{list_any};
 ghost use Rattle.std.specs.Str.{bytes_eq};
-ghost use Rattle.source_lint.specs.Defined.{begins_definition, defined, definition};
-ghost use Rattle.source_lint.specs.Defined.{is_macro_rules};
+ghost use Rattle.source_lint.specs.Macros.{begins_definition, definition, is_macro_rules};
+ghost use Rattle.source_lint.specs.Macros.{macro_names};
 ghost use Rattle.source_lint.specs.Files.{AreLeaves};
 ghost use Rattle.rust_trees.specs.Leaves.{Leaf, leaf};
 
@@ -20,7 +20,7 @@ fn is_macro_rules(token: &Token<'_>) -> bool
     matches!(token.kind, Kind::Ident) && token.text == "macro_rules"
 }
 
-/// Returns whether two tokens, one behind the other, are `macro_rules` and `!`.
+/// Returns whether two tokens, one after the other, are `macro_rules` and `!`.
 fn begins_definition(word: Option<Token<'_>>, mark: Option<Token<'_>>) -> bool
     ensures { result ≡ begins_definition (option_map leaf word.entry) (option_map leaf mark.entry) }
 {
@@ -30,7 +30,7 @@ fn begins_definition(word: Option<Token<'_>>, mark: Option<Token<'_>>) -> bool
     }
 }
 
-/// Adds the name of the macro that a token defines behind two others, if it does. Returns `Err` if
+/// Adds the name of the macro that a token defines after two others, if it does. Returns `Err` if
 /// an allocation fails.
 fn put_definition<'a>(
     found: &mut Vec<&'a [u8]>,
@@ -50,9 +50,9 @@ fn put_definition<'a>(
 
 /// Returns the names of the macros that a file defines by `macro_rules!`, without `r#`. Returns
 /// `Err` if an allocation fails.
-pub fn defined<'a>(alloc: Global, text: &'a str) -> Result<Vec<&'a [u8]>, AllocError>
+pub fn macro_names<'a>(alloc: Global, text: &'a str) -> Result<Vec<&'a [u8]>, AllocError>
     ensures { IfOk result (λ v. (ls : List Leaf) × AreLeaves text.now ls
-        × (map (λ w. w.now) v.items ≡ defined ls)) }
+        × (map (λ w. w.now) v.items ≡ macro_names ls)) }
 {
     let mut found = Vec::new(alloc);
     let mut rest = Tokens::new(text);

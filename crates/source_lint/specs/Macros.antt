@@ -16,15 +16,15 @@ begins_definition None m = false
 begins_definition (Some w) None = false
 begins_definition (Some w) (Some m) = is_macro_rules w && is_mark_of (code "!") (Some m)
 
--- The name of the macro that a token defines behind these two, if it does.
+-- The name of the macro that a token defines after these two, if it does.
 abbrev pub definition : Option Leaf → Option Leaf → Leaf → List (List ℕ)
 definition w m x = if begins_definition w m && is_word x then word x ∷ [] else []
 
--- The names of the macros that these tokens define, where two tokens stand in front of them.
-abbrev pub defined_behind : Option Leaf → Option Leaf → List Leaf → List (List ℕ)
-defined_behind w m [] = []
-defined_behind w m (x ∷ xs) = definition w m x ++ defined_behind m (Some x) xs
+-- The names of the macros that these tokens define, where two tokens stand before them.
+abbrev pub names_after : Option Leaf → Option Leaf → List Leaf → List (List ℕ)
+names_after w m [] = []
+names_after w m (x ∷ xs) = definition w m x ++ names_after m (Some x) xs
 
 -- The names of the macros that these tokens define.
-abbrev pub defined : List Leaf → List (List ℕ)
-defined xs = defined_behind None None xs
+abbrev pub macro_names : List Leaf → List (List ℕ)
+macro_names xs = names_after None None xs

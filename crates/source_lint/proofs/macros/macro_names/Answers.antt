@@ -1,6 +1,6 @@
 use Rattle.std.proofs.Common.{ap, map, refl}
 use Rattle.source_lint.proofs.Defining.{defines-all, defines-more, defines-none}
-use Rattle.source_lint.proofs.defined.defined.Goals as goal
+use Rattle.source_lint.proofs.macros.macro_names.Goals as goal
 
 pub loop-token-init : goal.loop-token-init
 loop-token-init c = defines-none _ _ (ap (λ v. map (λ w. w.now) v) c.new-found.ensures.items)

@@ -2,7 +2,7 @@ use Rattle.std.proofs.Common.{length, map}
 use Rattle.std.specs.Prelude.{option_map}
 use Rattle.rust_trees.specs.Leaves.{leaf}
 use Rattle.source_lint.proofs.Defining.{Defines}
-use Rattle.source_lint.proofs.defined.defined.Given as goal
+use Rattle.source_lint.proofs.macros.macro_names.Given as goal
 
 abbrev pub invariant-loop-token : goal.invariant-loop-token
 invariant-loop-token l = Defines l.initial.rest l.rest (map (λ w. w.now) l.found.items)
