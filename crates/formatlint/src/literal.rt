@@ -6,8 +6,8 @@ use crate::recorder::Recorder;
 use clap::ArgMatches;
 use drawn_faults::put_glyphs;
 use format_lint::run::run;
-use listing_json::{Listing, list};
 use lint_words::{put_failure, put_not_literal, system_words, wants_colours};
+use listing_json::{Listing, list};
 use literal_faults::{file_fault, snippet_of};
 use piece_listing::run::{read_input, run as list_as_text, write_whole};
 use piece_listing::verdict::RunFault;
@@ -70,11 +70,7 @@ fn listing_input<'a>(matches: &ArgMatches<'_>, input: &'a [u8]) -> &'a [u8] {
 }
 
 /// Returns the listing of an input, in the form that the arguments name.
-fn listing_of(
-    alloc: Global,
-    matches: &ArgMatches<'_>,
-    input: &[u8],
-) -> Result<Listing, RunFault> {
+fn listing_of(alloc: Global, matches: &ArgMatches<'_>, input: &[u8]) -> Result<Listing, RunFault> {
     let words = list_words(alloc, matches)?;
     let bytes = listing_input(matches, input);
     if matches.get_str("format") == Some("json") {

@@ -4,10 +4,10 @@ use Rattle.message_forms.proofs.json_lines.put_details.Goals as goal
 
 pub returns : goal.returns
 returns c = rw (
-      ← c.saturating_sub-more.ensures,
-      ← c.replacement-text.ensures,
-      ← c.applicability-word.ensures,
-    ) (
+  ← c.saturating_sub-more.ensures,
+  ← c.replacement-text.ensures,
+  ← c.applicability-word.ensures,
+) (
     c.in_ok-put_end.ensures
     ∙ (c.in_ok-put_text_or_null-4.ensures _
     ∙ (c.in_ok-put_text_or_null-3.ensures _
