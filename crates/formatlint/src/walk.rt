@@ -82,7 +82,12 @@ impl<'a> Walk<'a> {
 
     /// Returns the entries of a folder, the first one last. The failure of an entry
     /// that cannot be read is added to the totals.
-    fn entries(&self, rt: &HostRuntime, folder: &str, totals: &mut Totals) -> io::Result<Vec<Entry>> {
+    fn entries(
+        &self,
+        rt: &HostRuntime,
+        folder: &str,
+        totals: &mut Totals,
+    ) -> io::Result<Vec<Entry>> {
         let shown = if folder.is_empty() { "." } else { folder };
         let mut found = Vec::new(rt.alloc());
         for entry in fs::read_dir(rt, shown)? {
