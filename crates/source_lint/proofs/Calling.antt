@@ -1,6 +1,7 @@
 -- A call that is read.
 use Rattle.std.proofs.Common.{◌≡◌, ◌<◌, ◌≤◌, ◌+◌, ◌-◌, ◌⊎◌, ℕ, Bool, false, List, Option, None}
-use Rattle.std.proofs.Common.{Some, inl, inr, sym, subst, ◌∙◌, length, length-drop, arith, drop, take}
+use Rattle.std.proofs.Common.{Some, inl, inr, sym, subst, ◌∙◌, length, length-drop, arith, drop}
+use Rattle.std.proofs.Common.{take}
 use Rattle.std.specs.Prelude.{Result, slice_get}
 use Rattle.std.proofs.lemmas.Bool.{cases_lt}
 use Rattle.std.proofs.lemmas.List.{take_all}
