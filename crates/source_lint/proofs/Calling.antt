@@ -1,26 +1,24 @@
 -- A call that is read.
-use Rattle.std.proofs.Common.{◌≡◌, ◌<◌, ◌≤◌, ◌+◌, ◌-◌, ◌⊎◌, ℕ, Bool, false, List, Option}
-use Rattle.std.proofs.Common.{Some, None, inl, inr, sym, subst, ◌∙◌, length, length-drop}
-use Rattle.std.proofs.Common.{arith, drop, map, take}
-use Rattle.std.specs.Prelude.{Result, chars, not, slice_get}
-use Rattle.std.specs.List.{list_any}
+use Rattle.std.proofs.Common.{◌≡◌, ◌<◌, ◌≤◌, ◌+◌, ◌-◌, ◌⊎◌, ℕ, Bool, false, List, Option, None}
+use Rattle.std.proofs.Common.{Some, inl, inr, sym, subst, ◌∙◌, length, length-drop, arith, drop}
+use Rattle.std.proofs.Common.{take}
+use Rattle.std.specs.Prelude.{Result, slice_get}
 use Rattle.std.proofs.lemmas.Bool.{cases_lt}
 use Rattle.std.proofs.lemmas.List.{take_all}
 use Rattle.std.proofs.lemmas.Option.{none-some}
+use Rattle.rustc_parse_format.specs.Characters.{Text}
 use Rattle.rust_trees.specs.Forests.{IsPair}
 use Rattle.rust_trees.specs.Leaves.{Leaf}
 use Rattle.rust_trees.proofs.Nested.{nested}
 use Rattle.format_calls.specs.Arguments.{AreArguments}
-use Rattle.format_calls.specs.Counted.{AreTrees, is_uncounted}
 use Rattle.format_calls.specs.Strings.{format_string}
 use Rattle.format_calls.specs.declared.listing.Call.{Call}
 use Rattle.format_calls.specs.declared.split.Argument.{Argument}
 use Rattle.format_calls.specs.declared.strings.Reason.{Reason}
+use Rattle.call_faults.specs.Arguments.{Given}
 use Rattle.source_lint.specs.declared.report.CallReading.{CallReading}
 use Rattle.source_lint.specs.declared.report.Finding.{Finding}
-use Rattle.source_lint.specs.Givens.{given}
-use Rattle.source_lint.specs.Literals.{appends_newline, without_crs}
-use Rattle.source_lint.specs.Readings.{ReadsAt, ReadsBy, ReadsLiteral, ReadsUnless, name_at}
+use Rattle.source_lint.specs.Readings.{ReadsBy, ReadsLiteral, ReadsUnless}
 
 -- One token opens the pair that a token closes.
 pub opening-once : (xs : List Leaf) (m n c : ℕ) → IsPair xs m c → IsPair xs n c → m ≡ n
@@ -47,37 +45,24 @@ after-one args n =
     let d = length-drop (n + 1) args in
     take_all (length args - (n + 1)) (drop (n + 1) args) (omega (arith, d))
 
--- The reading of a call whose format string is this literal.
-pub reads-at : (xs : List Leaf) (c : Call) (args others : List Argument) (n : ℕ) (a : Argument)
-    (x : Leaf) (trees : List ℕ) (appended counted : Bool) (r : CallReading) (fs : List Finding)
-    → slice_get args n ≡ Some a → slice_get xs a.start ≡ Some x
-    → AreTrees xs a.end trees c.close → appended ≡ appends_newline (name_at xs c.name)
-    → counted ≡ not (list_any (is_uncounted xs) trees) → others ≡ drop (n + 1) args
-    → ReadsLiteral (without_crs (chars x.text)) appended counted (map (given xs) others) r fs
-    → ReadsAt xs c args n r fs
-reads-at xs c args others n a x trees appended counted r fs e f t p q o h = record {
-  string = a;
-  is_string = e;
-  literal = x;
-  is_literal = f;
-  trees = trees;
-  are_trees = t;
-  reads = subst (λ v. ReadsLiteral (without_crs (chars x.text)) v
-      (not (list_any (is_uncounted xs) trees)) (map (given xs) (drop (n + 1) args)) r fs) p
-      (subst (λ v. ReadsLiteral (without_crs (chars x.text)) appended v
-      (map (given xs) (drop (n + 1) args)) r fs) q
-      (subst (λ v. ReadsLiteral (without_crs (chars x.text)) appended counted (map (given xs) v)
-      r fs) o h));
-}
+-- The same is read where all that is known of the call is the same.
+pub reads-by : (t : Text) (a b p q m n : Bool) (gs hs : List Given) (r : CallReading)
+    (fs : List Finding) → a ≡ b → p ≡ q → m ≡ n → gs ≡ hs → ReadsLiteral t a p m gs r fs
+    → ReadsLiteral t b q n hs r fs
+reads-by t a b p q m n gs hs r fs e f g h k =
+    subst (λ v. ReadsLiteral t v q n hs r fs) e
+    (subst (λ v. ReadsLiteral t a v n hs r fs) f
+    (subst (λ v. ReadsLiteral t a p v hs r fs) g
+    (subst (λ (v : List Given). ReadsLiteral t a p m v r fs) h k)))
 
 -- The reading of a call whose macro the file does not define.
 pub reads-here : (is_new t : Bool) (xs : List Leaf) (c : Call) (bs : List Argument)
     (o : Result ℕ Reason) (r : CallReading) (fs : List Finding) → false ≡ t
     → AreArguments xs (c.name + 3) bs c.close → o ≡ format_string xs c.rule bs is_new
-    → ReadsBy xs c bs o r fs → ReadsUnless t is_new xs c r fs
+    → ReadsBy is_new xs c bs o r fs → ReadsUnless t is_new xs c r fs
 reads-here is_new t xs c bs o r fs n a e h =
     subst (λ v. ReadsUnless v is_new xs c r fs) n
-    (bs, a, subst (λ v. ReadsBy xs c bs v r fs) e h)
+    (bs, a, subst (λ v. ReadsBy is_new xs c bs v r fs) e h)
 
 -- The arguments of a call, by the pair that its last token closes.
 pub arguments-here : (xs : List Leaf) (c : Call) (bs ds : List Argument) (n : ℕ) → ds ≡ bs

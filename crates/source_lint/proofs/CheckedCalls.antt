@@ -1,5 +1,5 @@
 -- The findings in a call that was checked.
-use Rattle.std.proofs.Common.{◌≡◌, ◌++◌, ℕ, Bool, List, [], ap, subst, ◌∙◌, length, map, true}
+use Rattle.std.proofs.Common.{◌≡◌, ◌++◌, ℕ, Bool, List, [], ap, subst, ◌∙◌, length, map}
 use Rattle.std.proofs.Common.{Option, Some}
 use Rattle.rustc_parse_format.specs.Characters.{Text}
 use Rattle.rustc_parse_format.specs.Literal.{newline}
@@ -52,17 +52,17 @@ told-same s x gs e f h k =
 
 -- The findings of a checked call are those of the string at whose start the parser was.
 pub found-same : (s : State) (x : Checked) (gs : List Given) (captures b : Bool) (xs : List Finding)
-    → captures ≡ true → map seen_given x.given.now ≡ gs → x.kept.items ≡ kept_indices gs
+    → map seen_given x.given.now ≡ gs → x.kept.items ≡ kept_indices gs
     → map seen x.pieces.items ≡ pieces s → x.parser ≡ after_all s (calls s)
     → map seen_fault x.faults.items
     ≡ call_faults captures gs (text_fault s) (map seen x.pieces.items)
     → TellAll (told x []) (counted_faults b (map seen_fault x.faults.items)) xs
-    → TellAll (told_of s gs) (counted_faults b (faults_of s gs)) xs
-found-same s x gs captures b xs c e f h k l t =
-    let faults : map seen_fault x.faults.items ≡ faults_of s gs =
-    l ∙ (ap (λ v. call_faults v gs (text_fault s) (map seen x.pieces.items)) c
-    ∙ ap (λ v. call_faults true gs (text_fault s) v) h) in
-    subst (λ v. TellAll v (counted_faults b (faults_of s gs)) xs) (told-same s x gs e f h k)
+    → TellAll (told_of s gs) (counted_faults b (faults_of captures s gs)) xs
+found-same s x gs captures b xs e f h k l t =
+    let faults : map seen_fault x.faults.items ≡ faults_of captures s gs =
+    l ∙ ap (λ v. call_faults captures gs (text_fault s) v) h in
+    subst (λ v. TellAll v (counted_faults b (faults_of captures s gs)) xs)
+    (told-same s x gs e f h k)
     (subst (λ v. TellAll (told x []) (counted_faults b v) xs) faults t)
 
 -- A parser at the start of a literal that was read.

@@ -1,7 +1,7 @@
 -- The reading of a call among other tokens.
 use Rattle.std.proofs.Common.{◌≡◌, ◌<◌, ◌+◌, ℕ, Bool, true, false, List, ap, sym}
-use Rattle.std.proofs.Common.{subst, ◌∙◌, length, arith, map, drop}
-use Rattle.std.specs.Prelude.{Result, Ok, Err, chars, not, option_map}
+use Rattle.std.proofs.Common.{subst, ◌∙◌, length, arith, map}
+use Rattle.std.specs.Prelude.{Result, Ok, Err, not, option_map}
 use Rattle.std.specs.List.{list_any}
 use Rattle.std.specs.Str.{bytes_eq}
 use Rattle.std.proofs.lemmas.Option.{slice_get-map}
@@ -9,7 +9,6 @@ use Rattle.rust_trees.specs.Leaves.{Leaf}
 use Rattle.rust_trees.specs.Forests.{IsPair}
 use Rattle.rust_trees.proofs.Growing.{pair-within}
 use Rattle.format_calls.specs.Arguments.{AreArguments}
-use Rattle.format_calls.specs.Counted.{is_uncounted}
 use Rattle.format_calls.specs.Parts.{moved}
 use Rattle.format_calls.specs.Strings.{format_string}
 use Rattle.format_calls.specs.declared.listing.Call.{Call}
@@ -17,10 +16,10 @@ use Rattle.format_calls.specs.declared.split.Argument.{Argument}
 use Rattle.format_calls.specs.declared.strings.Reason.{Reason}
 use Rattle.source_lint.specs.declared.report.CallReading.{CallReading}
 use Rattle.source_lint.specs.declared.report.Finding.{Finding}
-use Rattle.source_lint.specs.Givens.{given}
-use Rattle.source_lint.specs.Literals.{appends_newline, without_crs}
-use Rattle.source_lint.specs.Readings.{Reads, ReadsAt, ReadsBy, ReadsLiteral, ReadsUnless}
-use Rattle.source_lint.specs.Readings.{name_at, name_of_leaf}
+use Rattle.source_lint.specs.Literals.{appends_newline}
+use Rattle.source_lint.specs.Readings.{Reads, ReadsAt, ReadsBy, ReadsUnless, captures, name_at}
+use Rattle.source_lint.specs.Readings.{name_of_leaf}
+use Rattle.source_lint.proofs.Calling.{reads-by}
 use Rattle.source_lint.proofs.Embedding.{Embeds}
 use Rattle.source_lint.proofs.MovedArguments.{LiesIn, arguments-at, arguments-lie, counted-at}
 use Rattle.source_lint.proofs.MovedArguments.{shifted, trees-at}
@@ -30,11 +29,11 @@ name-same : (xs ys : List Leaf) (g i : ℕ) → Embeds xs ys g → i < length xs
     → name_at ys (g + i) ≡ name_at xs i
 name-same xs ys g i e h = ap (λ o. name_of_leaf o) (e.same i h)
 
-at-same : (xs ys : List Leaf) (g : ℕ) (c : Call) (bs : List Argument) (n : ℕ) (r : CallReading)
-    (fs : List Finding) → Embeds xs ys g → IsPair xs (c.name + 2) c.close
-    → AreArguments xs (c.name + 3) bs c.close → ReadsAt xs c bs n r fs
-    → ReadsAt ys (moved g c) (map (shifted g) bs) n r fs
-at-same xs ys g c bs n r fs e p k h =
+at-same : (is_new : Bool) (xs ys : List Leaf) (g : ℕ) (c : Call) (bs : List Argument) (n : ℕ)
+    (r : CallReading) (fs : List Finding) → Embeds xs ys g → IsPair xs (c.name + 2) c.close
+    → AreArguments xs (c.name + 3) bs c.close → ReadsAt is_new xs c bs n r fs
+    → ReadsAt is_new ys (moved g c) (map (shifted g) bs) n r fs
+at-same is_new xs ys g c bs n r fs e p k h =
     let w = (pair-within xs (c.name + 2) c.close p).1 in
     let q = p.ends in
     let all = arguments-lie xs (c.name + 3) c.close bs k in
@@ -43,6 +42,7 @@ at-same xs ys g c bs n r fs e p k h =
     let s = l.starts in
     let t = l.stops in
     let u = l.rises in
+    let name = name-same xs ys g c.name e (omega (arith, w, q)) in
     record {
       string = shifted g h.string;
       is_string = slice_get-map (shifted g) bs n ∙ ap (λ o. option_map (shifted g) o) h.is_string;
@@ -51,25 +51,20 @@ at-same xs ys g c bs n r fs e p k h =
       trees = map (λ v. g + v) h.trees;
       are_trees = trees-at xs ys g (c.name + 2) c.close h.string.end h.trees e p
           (omega (arith, s, u)) h.are_trees;
-      reads = subst (λ v. ReadsLiteral (without_crs (chars h.literal.text)) (appends_newline v)
-          (not (list_any (is_uncounted ys) (map (λ v. g + v) h.trees)))
-          (map (given ys) (drop (n + 1) (map (shifted g) bs))) r fs)
-          (sym (name-same xs ys g c.name e (omega (arith, w, q))))
-          (subst (λ v. ReadsLiteral (without_crs (chars h.literal.text))
-          (appends_newline (name_at xs c.name)) (not v)
-          (map (given ys) (drop (n + 1) (map (shifted g) bs))) r fs)
-          (sym (counted-at xs ys g (c.name + 2) c.close h.string.end h.trees e p h.are_trees))
-          (subst (λ v. ReadsLiteral (without_crs (chars h.literal.text))
-          (appends_newline (name_at xs c.name)) (not (list_any (is_uncounted xs) h.trees)) v r fs)
-          (sym (others-same xs ys g (c.name + 3) c.close (n + 1) bs e w all)) h.reads));
+      reads = reads-by _ _ _ _ _ _ _ _ _ r fs (ap appends_newline (sym name))
+          (ap (captures is_new c.rule) (sym name))
+          (ap not (sym (counted-at xs ys g (c.name + 2) c.close h.string.end h.trees e p
+          h.are_trees)))
+          (sym (others-same xs ys g (c.name + 3) c.close (n + 1) bs e w all)) h.reads;
     }
 
-by-same : (xs ys : List Leaf) (g : ℕ) (c : Call) (bs : List Argument) (o : Result ℕ Reason)
-    (r : CallReading) (fs : List Finding) → Embeds xs ys g → IsPair xs (c.name + 2) c.close
-    → AreArguments xs (c.name + 3) bs c.close → ReadsBy xs c bs o r fs
-    → ReadsBy ys (moved g c) (map (shifted g) bs) o r fs
-by-same xs ys g c bs (Ok n) r fs e p k h = at-same xs ys g c bs n r fs e p k h
-by-same xs ys g c bs (Err x) r fs e p k h = h
+by-same : (is_new : Bool) (xs ys : List Leaf) (g : ℕ) (c : Call) (bs : List Argument)
+    (o : Result ℕ Reason) (r : CallReading) (fs : List Finding) → Embeds xs ys g
+    → IsPair xs (c.name + 2) c.close → AreArguments xs (c.name + 3) bs c.close
+    → ReadsBy is_new xs c bs o r fs
+    → ReadsBy is_new ys (moved g c) (map (shifted g) bs) o r fs
+by-same is_new xs ys g c bs (Ok n) r fs e p k h = at-same is_new xs ys g c bs n r fs e p k h
+by-same is_new xs ys g c bs (Err x) r fs e p k h = h
 
 unless-same : (b is_new : Bool) (xs ys : List Leaf) (g : ℕ) (c : Call) (r : CallReading)
     (fs : List Finding) → Embeds xs ys g → IsPair xs (c.name + 2) c.close
@@ -81,10 +76,10 @@ unless-same false is_new xs ys g c r fs e p h =
       map (shifted g) h.0,
       subst (λ v. AreArguments ys v (map (shifted g) h.0) (g + c.close)) n
           (arguments-at xs ys g (c.name + 2) c.close (c.name + 3) h.0 e p (omega arith) h.1),
-      subst (λ v. ReadsBy ys (moved g c) (map (shifted g) h.0) v r fs)
+      subst (λ v. ReadsBy is_new ys (moved g c) (map (shifted g) h.0) v r fs)
           (sym (string-same xs ys g (c.name + 3) c.close c.rule h.0 is_new e w
           (arguments-lie xs (c.name + 3) c.close h.0 h.1)))
-          (by-same xs ys g c h.0 (format_string xs c.rule h.0 is_new) r fs e p h.1 h.2),
+          (by-same is_new xs ys g c h.0 (format_string xs c.rule h.0 is_new) r fs e p h.1 h.2),
     )
 
 -- The same is read, and the same is found.

@@ -1,6 +1,6 @@
 -- The reading of a call, and the findings in it.
-use Rattle.std.specs.Prelude.{◌≡◌, ◌+◌, ◌++◌, ◌⊎◌, not, ℕ, Bool, true, false, List, [], ◌∷◌, Option}
-use Rattle.std.specs.Prelude.{Some, None, Result, Ok, Err, chars, drop, length, map}
+use Rattle.std.specs.Prelude.{◌≡◌, ◌+◌, ◌++◌, ◌⊎◌, ◌||◌, not, ℕ, Bool, true, false, List, [], ◌∷◌}
+use Rattle.std.specs.Prelude.{Option, Some, None, Result, Ok, Err, chars, codes, drop, length, map}
 use Rattle.std.specs.Prelude.{slice_get}
 use Rattle.std.specs.List.{list_any}
 use Rattle.std.specs.Str.{bytes_eq}
@@ -18,6 +18,8 @@ use Rattle.format_calls.specs.Strings.{format_string}
 use Rattle.format_calls.specs.declared.listing.Call.{Call}
 use Rattle.format_calls.specs.declared.split.Argument.{Argument}
 use Rattle.format_calls.specs.declared.strings.Reason.{Reason}
+use Rattle.format_calls.specs.declared.table.Rule.{Rule}
+use Rattle.format_calls.specs.declared.table.Rule.TheVariants.{At, ByEdition, AfterFields}
 use Rattle.call_faults.specs.Arguments.{Given}
 use Rattle.call_faults.specs.CallFaults.{CallFault}
 use Rattle.call_faults.specs.Calls.{call_faults, kept_indices}
@@ -51,9 +53,10 @@ told_of s gs = record {
   numbers = [];
 }
 
--- The faults of a call with this format string and these arguments.
-abbrev pub faults_of : State → List Given → List CallFault
-faults_of s gs = call_faults true gs (text_fault s) (pieces s)
+-- The faults of a call with this format string, which captures variables or not, and with these
+-- arguments.
+abbrev pub faults_of : Bool → State → List Given → List CallFault
+faults_of captures s gs = call_faults captures gs (text_fault s) (pieces s)
 
 -- The arguments that count: none if their number is not known.
 abbrev pub counted_givens : Bool → List Given → List Given
@@ -67,17 +70,18 @@ reading_of false = StringAlone
 
 -- This is the reading of a call with this format string and these arguments, and these are the
 -- findings. If the number of arguments is not known, only the fault of the string counts.
-abbrev pub Finds : Bool → State → List Given → CallReading → List Finding → Type 0
-Finds counted s gs r fs = (r ≡ reading_of counted)
+abbrev pub Finds : Bool → Bool → State → List Given → CallReading → List Finding → Type 0
+Finds captures counted s gs r fs = (r ≡ reading_of counted)
     × TellAll (told_of s (counted_givens counted gs))
-    (counted_faults counted (faults_of s (counted_givens counted gs))) fs
+    (counted_faults counted (faults_of captures s (counted_givens counted gs))) fs
 
 -- The same where the format string is this literal, which may stand for no text.
-abbrev pub ReadsLiteral : Text → Bool → Bool → List Given → CallReading → List Finding → Type 0
-ReadsLiteral literal appended counted gs r fs =
+abbrev pub ReadsLiteral : Text → Bool → Bool → Bool → List Given → CallReading → List Finding
+    → Type 0
+ReadsLiteral literal appended captures counted gs r fs =
     (((style : Option ℕ) (t : Text) → IsLiteral style literal t → ⊥) × (r ≡ Malformed) × (fs ≡ []))
     ⊎ ((style : Option ℕ) × (t : Text) × IsLiteral style literal t
-    × Finds counted (start_of appended style literal t) gs r fs)
+    × Finds captures counted (start_of appended style literal t) gs r fs)
 
 abbrev pub name_of_leaf : Option Leaf → List ℕ
 name_of_leaf None = []
@@ -87,10 +91,17 @@ name_of_leaf (Some x) = word x
 abbrev pub name_at : List Leaf → ℕ → List ℕ
 name_at xs i = name_of_leaf (slice_get xs i)
 
+-- The format string of a macro captures variables, unless the macro puts it into another text: so
+-- does `unreachable!` of the standard library before the edition 2021.
+abbrev pub captures : Bool → Rule → List ℕ → Bool
+captures is_new (At n) w = true
+captures is_new (ByEdition n) w = is_new || not (bytes_eq w (codes "unreachable"))
+captures is_new AfterFields w = true
+
 -- The same where the format string is the argument n of these, and the others after it are
 -- formatted.
-pub record ReadsAt (xs : List Leaf) (c : Call) (args : List Argument) (n : ℕ) (r : CallReading)
-    (fs : List Finding) : Type 0 where
+pub record ReadsAt (is_new : Bool) (xs : List Leaf) (c : Call) (args : List Argument) (n : ℕ)
+    (r : CallReading) (fs : List Finding) : Type 0 where
   pub string : Argument
   pub is_string : slice_get args n ≡ Some string
   pub literal : Leaf
@@ -98,20 +109,21 @@ pub record ReadsAt (xs : List Leaf) (c : Call) (args : List Argument) (n : ℕ) 
   pub trees : List ℕ
   pub are_trees : AreTrees xs string.end trees c.close
   pub reads : ReadsLiteral (without_crs (chars literal.text)) (appends_newline (name_at xs c.name))
-      (not (list_any (is_uncounted xs) trees)) (map (given xs) (drop (n + 1) args)) r fs
+      (captures is_new c.rule (name_at xs c.name)) (not (list_any (is_uncounted xs) trees))
+      (map (given xs) (drop (n + 1) args)) r fs
 
 -- The same where the argument n is the format string, or where none is for this reason.
-abbrev pub ReadsBy : List Leaf → Call → List Argument → Result ℕ Reason → CallReading
+abbrev pub ReadsBy : Bool → List Leaf → Call → List Argument → Result ℕ Reason → CallReading
     → List Finding → Type 0
-ReadsBy xs c args (Ok n) r fs = ReadsAt xs c args n r fs
-ReadsBy xs c args (Err e) r fs = (r ≡ Unread e) × (fs ≡ [])
+ReadsBy is_new xs c args (Ok n) r fs = ReadsAt is_new xs c args n r fs
+ReadsBy is_new xs c args (Err e) r fs = (r ≡ Unread e) × (fs ≡ [])
 
 -- The same, unless the file defines a macro of this name.
 abbrev pub ReadsUnless : Bool → Bool → List Leaf → Call → CallReading → List Finding → Type 0
 ReadsUnless true is_new xs c r fs = (r ≡ Redefined) × (fs ≡ [])
 ReadsUnless false is_new xs c r fs = (args : List Argument)
     × AreArguments xs (c.name + 3) args c.close
-    × ReadsBy xs c args (format_string xs c.rule args is_new) r fs
+    × ReadsBy is_new xs c args (format_string xs c.rule args is_new) r fs
 
 -- This is the reading of a call, and these are the findings in it, where the file defines macros of
 -- these names, and its edition is from 2021 on or not.

@@ -1,7 +1,7 @@
 //! The reading of a call, and its findings.
 
-ghost use Rattle.std.specs.Prelude.{◌≡◌, ◌+◌, ◌<◌, ◌^◌, ◌++◌, List, IfOk, IsTrue, OnOk, Some, chars};
-ghost use Rattle.std.specs.Prelude.{length, map, slice_get, true};
+ghost use Rattle.std.specs.Prelude.{◌≡◌, ◌+◌, ◌<◌, ◌^◌, ◌++◌, List, IfOk, IsTrue, OnOk, Some};
+ghost use Rattle.std.specs.Prelude.{chars, length, map, slice_get};
 ghost use Rattle.std.specs.List.{All};
 ghost use Rattle.rustc_parse_format.specs.World.{hashes};
 ghost use Rattle.rust_trees.specs.Forests.{IsPair};
@@ -13,8 +13,9 @@ ghost use Rattle.call_faults.specs.Seen.{seen_given, start};
 ghost use Rattle.source_lint.specs.Findings.{IsSpan, TellAll, counted_faults};
 ghost use Rattle.source_lint.specs.Givens.{given};
 ghost use Rattle.source_lint.specs.Literals.{without_crs};
-ghost use Rattle.source_lint.specs.Readings.{Reads, ReadsAt, ReadsLiteral, counted_givens};
-ghost use Rattle.source_lint.specs.Readings.{faults_of, name_at, reading_of, told_of};
+ghost use Rattle.source_lint.specs.Readings.{Reads, ReadsAt, ReadsLiteral, captures};
+ghost use Rattle.source_lint.specs.Readings.{counted_givens, faults_of, name_at, reading_of};
+ghost use Rattle.source_lint.specs.Readings.{told_of};
 ghost use Rattle.source_lint.specs.declared.report.Finding.{Finding as FindingValue};
 
 use crate::findings::put_findings;
@@ -24,7 +25,7 @@ use crate::macros::is_defined;
 use crate::report::{CallReading, Finding};
 use crate::spans::Site;
 use call_faults::{FormatString, Given, call_faults};
-use format_calls::{Argument, Call, are_counted, arguments, format_string, token_at, word};
+use format_calls::{Argument, Call, Rule, are_counted, arguments, format_string, token_at, word};
 use rust_trees::{Source, Token};
 use std::alloc::{AllocError, Global};
 
@@ -88,12 +89,11 @@ fn check_string<'c>(
     given: &'c [Given<'c>],
     is_counted: bool,
 ) -> Result<(), AllocError>
-    requires short { hashes string.style + length string.text.now + 2 < 2 ^ 64 }
-    requires captures { string.captures ≡ true }
-    ensures told { OnOk result ((xs : List FindingValue)
+    requires { hashes string.style + length string.text.now + 2 < 2 ^ 64 }
+    ensures told { OnOk result (let s = start string.entry in (xs : List FindingValue)
         × (findings.new.items ≡ findings.old.items ++ xs)
-        × TellAll (told_of (start string.entry) (map seen_given given.now))
-        (counted_faults is_counted (faults_of (start string.entry) (map seen_given given.now))) xs) }
+        × TellAll (told_of s (map seen_given given.now)) (counted_faults is_counted
+        (faults_of string.entry.captures s (map seen_given given.now))) xs) }
     ensures spans { OnOk result (All (λ x. IsSpan site.entry.text.now x.span) findings.old.items
         → All (λ x. IsSpan site.entry.text.now x.span) findings.new.items) }
 {
@@ -109,12 +109,13 @@ fn read_string(
     findings: &mut Vec<Finding>,
     site: Site<'_, '_>,
     appended_newline: bool,
+    captures: bool,
     is_counted: bool,
 ) -> Result<CallReading, AllocError>
     ensures read { IfOk result (λ r. (xs : List FindingValue)
         × (findings.new.items ≡ findings.old.items ++ xs)
-        × ReadsLiteral (without_crs (chars site.entry.literal.text.now)) appended_newline is_counted
-        (map (given (map leaf site.entry.tokens.now)) site.entry.arguments.now) r xs) }
+        × ReadsLiteral (without_crs (chars site.entry.literal.text.now)) appended_newline captures
+        is_counted (map (given (map leaf site.entry.tokens.now)) site.entry.arguments.now) r xs) }
     ensures spans { OnOk result (All (λ x. IsSpan site.entry.text.now x.span) findings.old.items
         → All (λ x. IsSpan site.entry.text.now x.span) findings.new.items) }
 {
@@ -130,10 +131,21 @@ fn read_string(
         style: literal.style,
         snippet: Some(snippet),
         appended_newline,
-        captures: true,
+        captures,
     };
     check_string(alloc, findings, site, string, list, is_counted)?;
     Ok(reading_of(is_counted))
+}
+
+/// Returns whether the format string of a macro captures variables. `unreachable!` of the standard
+/// library puts it into another text before the edition 2021, where it captures none.
+fn captures(rule: Rule, name: &[u8], is_from_2021: bool) -> bool
+    ensures { result ≡ captures is_from_2021 rule name.now }
+{
+    match rule {
+        Rule::ByEdition(_) => is_from_2021 || name != b"unreachable".as_slice(),
+        Rule::At(_) | Rule::AfterFields => true,
+    }
 }
 
 /// Returns the argument of an index, or `None` if there is none.
@@ -164,7 +176,7 @@ fn read_at(
         × IsTrue (is_text part.now a) }
     ensures read { IfOk result (λ r. (xs : List FindingValue)
         × (findings.new.items ≡ findings.old.items ++ xs)
-        × ReadsAt part.now call.now arguments.now index r xs) }
+        × ReadsAt file.entry.is_from_2021 part.now call.now arguments.now index r xs) }
     ensures spans { OnOk result (All (λ x. IsSpan file.entry.text.now x.span) findings.old.items
         → All (λ x. IsSpan file.entry.text.now x.span) findings.new.items) }
 {
@@ -182,11 +194,18 @@ fn read_at(
         literal,
         arguments: others,
     };
-    let close = call.close;
     let name = name_at(tokens, call.name);
     let appended_newline = appends_newline(name);
-    let is_counted = are_counted(part, call.name + 2, string.end, close);
-    let reading = read_string(alloc, findings, site, appended_newline, is_counted)?;
+    let captures = captures(call.rule, name, file.is_from_2021);
+    let is_counted = are_counted(part, call.name + 2, string.end, call.close);
+    let reading = read_string(
+        alloc,
+        findings,
+        site,
+        appended_newline,
+        captures,
+        is_counted,
+    )?;
     Ok(reading)
 }
 

@@ -10,6 +10,6 @@ returns-clause-told c =
       t.0,
       t.1,
       found-same (start c.args.string) c.in_ok-checked.checked (map seen_given c.args.given.now)
-          c.args.string.captures c.args.is_counted t.0 c.requires.captures
+          c.args.string.captures c.args.is_counted t.0
           (ap (λ v. map seen_given v.now) k.given) k.kept k.walk.0 k.walk.1 k.faults t.2,
     )

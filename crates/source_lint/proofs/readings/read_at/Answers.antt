@@ -1,7 +1,9 @@
 use Rattle.std.proofs.Common.{◌≡◌, ◌∙◌, ◌+◌, ap, arith, map, sym}
 use Rattle.rust_trees.specs.Leaves.{leaf}
+use Rattle.source_lint.specs.Givens.{given}
 use Rattle.source_lint.specs.Literals.{appends_newline}
-use Rattle.source_lint.proofs.Calling.{after-one, reads-at, string-there}
+use Rattle.source_lint.specs.Readings.{captures}
+use Rattle.source_lint.proofs.Calling.{after-one, reads-by, string-there}
 use Rattle.source_lint.proofs.MovedArguments.{LiesIn, arguments-lie}
 use Rattle.source_lint.proofs.MovedStrings.{lies-get}
 use Rattle.source_lint.proofs.readings.read_at.Goals as goal
@@ -28,11 +30,18 @@ returns-clause-read c =
     let r = rw tokens at c.in_ok-reading.ensures.read in (
       r.0,
       r.1,
-      reads-at c.args.part.now c.args.call.now c.args.arguments.now _ c.args.index
-          c.in-Some.string (leaf c.in-Some-token_at.literal) t.0
-          c.appends_newline-appended_newline.result c.are_counted-is_counted.result
-          c.in_ok-reading.reading r.0 (sym c.in-Some.ensures)
-          (sym (rw tokens at c.in-Some-token_at.ensures.value)) t.1
-          (c.appends_newline-appended_newline.ensures ∙ ap appends_newline name) t.2
-          (after-one c.args.arguments.now c.args.index) r.2,
+      record {
+        string = c.in-Some.string;
+        is_string = sym c.in-Some.ensures;
+        literal = leaf c.in-Some-token_at.literal;
+        is_literal = sym (rw tokens at c.in-Some-token_at.ensures.value);
+        trees = t.0;
+        are_trees = t.1;
+        reads = reads-by _ _ _ _ _ _ _ _ _ _ _
+            (c.appends_newline-appended_newline.ensures ∙ ap appends_newline name)
+            (c.captures-captures.ensures
+            ∙ ap (captures c.args.file.is_from_2021 c.args.call.now.rule) name)
+            t.2 (ap (map (given c.args.part.now)) (after-one c.args.arguments.now c.args.index))
+            r.2;
+      },
     )

@@ -11,10 +11,8 @@ use Rattle.source_lint.proofs.CheckedCalls.{start-same}
 use Rattle.source_lint.proofs.readings.read_string.Goals as goal
 
 pub check_string-requires : goal.check_string-requires
-check_string-requires c = record {
-  short = rw c.as_str-text.ensures.value (rw c.in-Some.is at c.in_ok-literal.ensures.short);
-  captures = refl;
-}
+check_string-requires c =
+    rw c.as_str-text.ensures.value (rw c.in-Some.is at c.in_ok-literal.ensures.short)
 
 pub returns-in_default-clause-read : goal.returns-in_default-clause-read
 returns-in_default-clause-read c =
@@ -27,7 +25,8 @@ returns-clause-read c =
     let t = c.in_ok-check_string.ensures.told in
     let appended = c.args.appended_newline in
     let style = c.in-Some.literal.style in
-    let s = start-same (chars c.as_str-snippet.result.now) (chars c.as_str-text.result.now)
+    let start = start_of appended style token r.stands_for in
+    let same = start-same (chars c.as_str-snippet.result.now) (chars c.as_str-text.result.now)
     r.stands_for token style appended
     (ap chars c.as_str-text.ensures.value ∙ r.text)
     (ap chars c.as_str-snippet.ensures.value ∙ r.snippet) in
@@ -42,12 +41,12 @@ returns-clause-read c =
         r.is_literal,
         (
           c.reading_of.ensures,
-          subst (λ (gs : List Given). TellAll (told_of (start_of appended style token r.stands_for) gs)
-              (counted_faults c.args.is_counted
-              (faults_of (start_of appended style token r.stands_for) gs)) t.0) given
+          subst (λ (gs : List Given). TellAll (told_of start gs)
+              (counted_faults c.args.is_counted (faults_of c.args.captures start gs)) t.0) given
               (subst (λ q. TellAll (told_of q (map seen_given c.as_slice-list.result.now))
               (counted_faults c.args.is_counted
-              (faults_of q (map seen_given c.as_slice-list.result.now))) t.0) s t.2),
+              (faults_of c.args.captures q (map seen_given c.as_slice-list.result.now))) t.0)
+              same t.2),
         ),
       ),
     )
