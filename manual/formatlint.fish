@@ -13,6 +13,7 @@ complete -c formatlint -l tokens -d 'Print the tokens of the string, in colours 
 complete -c formatlint -l all -d 'Draw all faults of the string, each with its id and whether it follows from another'
 complete -c formatlint -l list -d 'List the pieces and the faults of the string, each in a line, as formatread does'
 complete -c formatlint -l args -x -d 'With --list: name arguments, as in 2,w, and list those that are missing or unused'
+complete -c formatlint -l format -x -a 'text json' -d 'With --list: text, as formatread writes it, or json, an object in each line'
 complete -c formatlint -l mode -x -a 'format asm diagnostic diagnostic-named' -d 'What the string is'
 complete -c formatlint -l color -x -a 'auto always never' -d 'Whether tokens have colours; auto: if standard output is a terminal that has them'
 complete -c formatlint -l list-ids -d 'List the ids of all kinds of faults'
