@@ -115,11 +115,11 @@ pub fn hang<'a>(alloc: Global, marks: &[Mark<'a>]) -> Result<Vec<Hung<'a>>, Allo
     for mark in marks {
         let others = &marks[list.len() + 1..];
         let depth = depth_of(down, mark, others);
+        down = depth_behind(depth, mark, others);
         list.push(Hung {
             mark: *mark,
             down: depth,
         })?;
-        down = depth_behind(depth, mark, others);
     }
     Ok(list)
 }
