@@ -103,7 +103,7 @@ itself c l m e =
     let o : is_in_range 127 159 c ≡ false = grind (arith, nat_tests) in
     rw (n, l, o, parts.1) refl
 
-glyph-harmless : (c : ℕ) → is_obeyed (glyph c) ≡ false
+pub glyph-harmless : (c : ℕ) → is_obeyed (glyph c) ≡ false
 unfolding glyph
 glyph-harmless c =
     let late = is_in_range 0x80 0x9F c || is_bidi_control c in

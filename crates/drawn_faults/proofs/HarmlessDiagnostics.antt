@@ -37,9 +37,9 @@ use Rattle.drawn_faults.proofs.HarmlessDrawings.{of_numbered, of_old, of_parting
 abbrev Quiet : List Cell → Type 0
 Quiet cs = NonePass is_obeyed (map (λ c. c.character) cs)
 
-if_quiet : (b : Bool) {cs ds : List Cell} → Quiet cs → Quiet ds → Quiet (cond b cs ds)
-if_quiet true p q = p
-if_quiet false p q = q
+if_quiet : (b : Bool) (cs ds : List Cell) → Quiet cs → Quiet ds → Quiet (cond b cs ds)
+if_quiet true cs ds p q = p
+if_quiet false cs ds p q = q
 
 quiet-put_at : (n : ℕ) (c : Cell) (row : List Cell) → is_obeyed c.character ≡ false → Quiet row
     → Quiet (put_at n c row)
@@ -75,11 +75,13 @@ AreSigned (m ∷ ms) = (is_obeyed m.sign ≡ false) × AreSigned ms
 with_mark-signed : (before : Mark → Mark → Bool) (m : Mark) (ms : List Mark)
     → is_obeyed m.sign ≡ false → AreSigned ms → AreSigned (with_mark before m ms)
 with_mark-signed before m [] e p = (e, tt)
-with_mark-signed before m (n ∷ ns) e p = by_test (before m n)
+with_mark-signed before m (n ∷ ns) e p =
+    by_test (before m n) (with_mark before m ns) (with_mark-signed before m ns e p.1)
   where
-    by_test : (b : Bool) → AreSigned (cond b (m ∷ n ∷ ns) (n ∷ with_mark before m ns))
-    by_test true = (e, p)
-    by_test false = (p.0, with_mark-signed before m ns e p.1)
+    by_test : (b : Bool) (ms : List Mark) → AreSigned ms
+        → AreSigned (cond b (m ∷ n ∷ ns) (n ∷ ms))
+    by_test true ms q = (e, p)
+    by_test false ms q = (p.0, q)
 
 sorted-signed : (before : Mark → Mark → Bool) (done ms : List Mark) → AreSigned done → AreSigned ms
     → AreSigned (sorted before done ms)
@@ -89,16 +91,18 @@ sorted-signed before done (m ∷ ms) p q =
 
 in_line-signed : (n : ℕ) (ms : List Mark) → AreSigned ms → AreSigned (in_line n ms)
 in_line-signed n [] p = tt
-in_line-signed n (m ∷ ms) p = by_test (m.line == n)
+in_line-signed n (m ∷ ms) p =
+    by_test (m.line == n) (in_line n ms) (in_line-signed n ms p.1)
   where
-    by_test : (b : Bool) → AreSigned (cond b (m ∷ in_line n ms) (in_line n ms))
-    by_test true = (p.0, in_line-signed n ms p.1)
-    by_test false = in_line-signed n ms p.1
+    by_test : (b : Bool) (ns : List Mark) → AreSigned ns → AreSigned (cond b (m ∷ ns) ns)
+    by_test true ns q = (p.0, q)
+    by_test false ns q = q
 
 -- rows under a line
 quiet-side_text : (h : Hung) (row : List Cell) → Quiet row → Quiet (with_side_text h row)
 quiet-side_text h row q =
     if_quiet (has_text h.mark && (h.down == 0))
+    (put_from h.mark.to (space ∷ cells (style_of h.mark) h.mark.text) row) row
     (quiet-put_from h.mark.to (space ∷ cells (style_of h.mark) h.mark.text) row
     (written-harmless 32 refl, quiet-cells (style_of h.mark) h.mark.text) q) q
 
@@ -125,6 +129,7 @@ quiet-bars : (n : ℕ) (hs : List Hung) (row : List Cell) → Quiet row → Quie
 quiet-bars n [] row q = q
 quiet-bars n (h ∷ hs) row q =
     quiet-bars n hs (with_bar n h row) (if_quiet (has_text h.mark && nat_lt n h.down)
+    (put_at h.mark.from (cell (style_of h.mark) 124) row) row
     (quiet-put_at h.mark.from (cell (style_of h.mark) 124) row (written-harmless 124 refl) q) q)
 
 quiet-texts : (n : ℕ) (hs : List Hung) (row : List Cell) → Quiet row → Quiet (hung_texts n hs row)
@@ -132,6 +137,7 @@ quiet-texts n [] row q = q
 quiet-texts n (h ∷ hs) row q =
     quiet-texts n hs (with_hung_text n h row)
     (if_quiet (has_text h.mark && (nat_lt 0 h.down && (n == h.down)))
+    (put_from h.mark.from (cells (style_of h.mark) h.mark.text) row) row
     (quiet-put_from h.mark.from (cells (style_of h.mark) h.mark.text) row
     (quiet-cells (style_of h.mark) h.mark.text) q) q)
 

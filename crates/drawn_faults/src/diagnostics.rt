@@ -158,6 +158,25 @@ fn put_drawn(
     Ok(())
 }
 
+/// Adds the drawing of a diagnostic.
+#[tactic(auto, unfolding(crate::specs::Diagnostics::diagnostic_text))]
+fn put_diagnostic(
+    out: &mut String,
+    picture: &Picture<'_>,
+    diagnostic: &Diagnostic<'_>,
+) -> Result<(), AllocError>
+    requires { length picture.now.source.now < 2 ^ 59 }
+    ensures { OnOk result (string_bytes out.new ≡ string_bytes out.old
+        ++ diagnostic_text (seen_picture picture.now) (seen_diagnostic diagnostic.now)) }
+{
+    let alloc = *out.allocator();
+    let labels = labels_of(alloc, picture, diagnostic.labels)?;
+    let gutter = gutter_of(alloc, picture, diagnostic, &labels)?;
+    let frame = frame_of(picture, gutter, &labels);
+    put_drawn(out, &frame, diagnostic, &labels)?;
+    Ok(())
+}
+
 /// Returns the text that shows a diagnostic under its source, as rustc 1.95 draws it without
 /// colours. Its ranges are byte ranges of the source that count from `literal_start` of the picture
 /// on, as the spans of an error do.
@@ -190,7 +209,7 @@ pub fn draw_labels(
 
 /// Appends the text that [`draw_labels`] returns to `out`. Returns `Err` if an allocation fails, or
 /// if the source has 2^59 bytes or more; a part of the text may then be in `out`.
-#[tactic(auto, using(crate::proofs::HarmlessDiagnostics::harmless_diagnostic), unfolding(crate::specs::Diagnostics::diagnostic_text))]
+#[tactic(auto, using(crate::proofs::HarmlessDiagnostics::harmless_diagnostic))]
 pub fn put_labels(
     out: &mut String,
     picture: &Picture<'_>,
@@ -204,10 +223,6 @@ pub fn put_labels(
     if picture.source.len() >= 1 << 59 {
         return Err(AllocError);
     }
-    let alloc = *out.allocator();
-    let labels = labels_of(alloc, picture, diagnostic.labels)?;
-    let gutter = gutter_of(alloc, picture, diagnostic, &labels)?;
-    let frame = frame_of(picture, gutter, &labels);
-    put_drawn(out, &frame, diagnostic, &labels)?;
+    put_diagnostic(out, picture, diagnostic)?;
     Ok(())
 }
