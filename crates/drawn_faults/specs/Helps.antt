@@ -1,15 +1,14 @@
 -- Helps with edits in one line: the new line with signs under what is inserted, or the old and the
 -- new line where something is replaced or removed.
 use Rattle.std.specs.Prelude.{ℕ, ◌+◌, ◌-◌, ◌++◌, ◌==◌, ◌&&◌, Bool, if◌then◌else◌, List, [], ◌∷◌}
-use Rattle.std.specs.Prelude.{chars, codes, drop, false, map, take}
+use Rattle.std.specs.Prelude.{chars, codes, drop, take}
 use Rattle.std.specs.List.{list_all}
 use Rattle.std.specs.Str.{encode_utf8_all}
 use Rattle.rustc_parse_format.specs.Characters.{Text}
-use Rattle.rustc_parse_format.specs.World.{Place}
 use Rattle.drawn_faults.specs.Glyphs.{glyph_bytes, glyphs, run, width}
 use Rattle.drawn_faults.specs.Labels.{Edit, Frame}
 use Rattle.drawn_faults.specs.Lines.{numbered}
-use Rattle.drawn_faults.specs.Places.{Picture, extent, line}
+use Rattle.drawn_faults.specs.Places.{line}
 use Rattle.drawn_faults.specs.Rows.{under}
 use Rattle.drawn_faults.specs.Suggestions.{old_row, parting}
 
