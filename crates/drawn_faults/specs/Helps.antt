@@ -20,7 +20,7 @@ are_in_line n es = list_all (λ e. (e.extent.start.line == n) && (e.extent.end.l
 abbrev pub are_insertions : List Edit → Bool
 are_insertions es = list_all (λ e. e.extent.start.chars == e.extent.end.chars) es
 
--- What edits in a line, from left to right, make of what is left of it behind its first n
+-- What edits in a line, from left to right, make of what is left of it after its first n
 -- characters.
 abbrev pub edited_from : ℕ → List Edit → Text → List ℕ
 edited_from n [] t = encode_utf8_all (glyphs t)
@@ -33,7 +33,7 @@ abbrev pub columns_of : ℕ → Text → ℕ
 columns_of n [] = n
 columns_of n (c ∷ t) = columns_of (n + width c) t
 
--- The signs under what these edits insert, behind the column n of the line as it was.
+-- The signs under what these edits insert, after the column n of the line as it was.
 abbrev pub pluses : ℕ → List Edit → List ℕ
 pluses n [] = []
 pluses n (e ∷ es) =
