@@ -1,23 +1,21 @@
 -- A terminal obeys no character of the drawing of a diagnostic, but for line feeds.
-use Rattle.std.proofs.Common.{◌≡◌, ◌+◌, ◌-◌, ◌++◌, ◌∷◌, ◌&&◌, ◌==◌, ℕ, suc, zero, [], false, true}
-use Rattle.std.proofs.Common.{Bool, List, None, Option, Some, chars, codes, cond, drop, filter}
-use Rattle.std.proofs.Common.{if◌then◌else◌, length, map, max, nat_lt, refl, replicate, take}
-use Rattle.std.specs.List.{list_all}
+use Rattle.std.proofs.Common.{◌≡◌, ◌-◌, ◌∷◌, ◌&&◌, ◌==◌, ℕ, suc, zero, [], false, true}
+use Rattle.std.proofs.Common.{Bool, List, None, Option, Some, chars, codes, cond, drop}
+use Rattle.std.proofs.Common.{if◌then◌else◌, length, map, nat_lt, refl, replicate, take}
 use Rattle.std.specs.Option.{option_map_or}
 use Rattle.std.specs.Str.{NonePass}
 use Rattle.rustc_parse_format.specs.Characters.{Text}
 use Rattle.rustc_parse_format.specs.World.{Place}
 use Rattle.drawn_faults.specs.Diagnostics.{Diagnostic, Help, Note, SourceLabel, diagnostic_text}
 use Rattle.drawn_faults.specs.Diagnostics.{drawn_in, each_in_line, first_spot, frame_of}
-use Rattle.drawn_faults.specs.Diagnostics.{gap_behind, gutter_of, help_rows, helps_rows, in_line}
-use Rattle.drawn_faults.specs.Diagnostics.{indented, label_of, labels_rows, level_word, line_rows}
+use Rattle.drawn_faults.specs.Diagnostics.{gap_after, gutter_of, helps_rows, in_line}
+use Rattle.drawn_faults.specs.Diagnostics.{indented, label_of, labels_rows, level_word}
 use Rattle.drawn_faults.specs.Diagnostics.{marked_lines, next_line, notes_rows, parting_above}
 use Rattle.drawn_faults.specs.Diagnostics.{placed_edit, plain_note, shown_label, shown_note, titled}
-use Rattle.drawn_faults.specs.Glyphs.{IsHarmless, glyph, glyph_bytes, glyph_count, glyphs}
-use Rattle.drawn_faults.specs.Glyphs.{is_obeyed, run}
+use Rattle.drawn_faults.specs.Glyphs.{IsHarmless, glyph, glyph_count, glyphs}
+use Rattle.drawn_faults.specs.Glyphs.{is_obeyed}
 use Rattle.drawn_faults.specs.Helps.{are_in_line, are_insertions, columns_of, edited_from}
 use Rattle.drawn_faults.specs.Helps.{edits_rows, inserted_rows, pluses, replaced_rows}
-use Rattle.drawn_faults.specs.Helps.{rows_in_line}
 use Rattle.drawn_faults.specs.Labels.{Edit, Frame, Label, mark}
 use Rattle.drawn_faults.specs.Marks.{Hung, bars, cell, cells, depth, hang, has_text, hung_row}
 use Rattle.drawn_faults.specs.Marks.{hung_rows, hung_texts, is_right_of, mark_rows, put_at}
@@ -163,15 +161,15 @@ of_marks g ms p =
     (of_rows_below g (depth 0 hs) hs)
 
 -- lines with labels
-of_gap_behind : (f : Frame) (o : Option ℕ) (n : ℕ) → IsHarmless (gap_behind f o n)
-of_gap_behind f None n = text [] refl
-of_gap_behind f (Some m) n = of_gap f m n
+of_gap_after : (f : Frame) (o : Option ℕ) (n : ℕ) → IsHarmless (gap_after f o n)
+of_gap_after f None n = text [] refl
+of_gap_after f (Some m) n = of_gap f m n
 
 of_next_line : (f : Frame) (o : Option ℕ) (n : ℕ) (ms : List Mark) → AreSigned ms
     → IsHarmless (next_line f o n ms)
 of_next_line f o n ms p =
     either (option_map_or (λ m. m == n) o false) (text [] refl)
-    (join (of_gap_behind f o n)
+    (join (of_gap_after f o n)
     (join (of_code f n) (of_marks f.gutter (in_line n ms) (in_line-signed n ms p))))
 
 of_marked_lines : (f : Frame) (o : Option ℕ) (ms : List Mark) → AreSigned ms

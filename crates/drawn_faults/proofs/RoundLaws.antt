@@ -434,18 +434,19 @@ pub none-seen : (o : Option DeclaredFixed) (P : Type 0) → IfNone (option_map s
 none-seen None P h = h
 none-seen (Some f) P h = tt
 
--- If no more rounds can be made, or no more are, the best of them all is the result.
+-- If no round leaves fewer, the best one is the result.
 pub best-is : (mode : Mode) (input : List ℕ) (style : Option ℕ) (literal : List ℕ)
     (appended : Bool) (k : ℕ) (best : Option Fixed) (fewest : ℕ)
     → IsBest mode style appended (record { snippet = literal; text = input }) k best fewest
     → ((n : ℕ) (h : Fixed)
-    → IsBetter mode style appended (record { snippet = literal; text = input }) n h → n ≤ k)
+    → IsBetter mode style appended (record { snippet = literal; text = input }) n h
+    → fewest ≤ faulty mode h.text)
     → IfSome best (λ g. IsFixed mode input style literal appended g)
-best-is mode input style literal appended k None fewest b all = tt
-best-is mode input style literal appended k (Some g) fewest b all = record {
+best-is mode input style literal appended k None fewest b least = tt
+best-is mode input style literal appended k (Some g) fewest b least = record {
   round = b.some.round;
   better = b.some.better;
-  fewest = λ m h y. subst (λ c. c ≤ faulty mode h.text) b.some.count (b.least m h (all m h y) y);
+  fewest = λ m h y. subst (λ c. c ≤ faulty mode h.text) b.some.count (least m h y);
   first = λ m h y lt. subst (λ c. c < faulty mode h.text) b.some.count (b.some.early m h y lt);
 }
 
@@ -453,27 +454,35 @@ pub best-none : (mode : Mode) (input : List ℕ) (style : Option ℕ) (literal :
     (appended : Bool) (k : ℕ) (best : Option Fixed) (fewest : ℕ)
     → IsBest mode style appended (record { snippet = literal; text = input }) k best fewest
     → ((n : ℕ) (h : Fixed)
-    → IsBetter mode style appended (record { snippet = literal; text = input }) n h → n ≤ k)
+    → IsBetter mode style appended (record { snippet = literal; text = input }) n h
+    → fewest ≤ faulty mode h.text)
     → IfNone best ((g : Fixed) → IsFixed mode input style literal appended g → ⊥)
-best-none mode input style literal appended k None fewest b all =
-    λ g x. absurd (omega (
-      arith,
-      b.none,
-      x.better.fewer,
-      b.least x.round g (all x.round g x.better) x.better,
-    ))
-best-none mode input style literal appended k (Some h) fewest b all = tt
+best-none mode input style literal appended k None fewest b least =
+    λ g x. absurd (omega (arith, b.none, x.better.fewer, least x.round g x.better))
+best-none mode input style literal appended k (Some h) fewest b least = tt
 
--- Where a round makes nothing, no more rounds are there.
+-- Where a round makes nothing, no more rounds are there,
 pub rounds-end : (mode : Mode) (style : Option ℕ) (appended : Bool) (f : Fixed) (k : ℕ)
+    (best : Option Fixed) (fewest : ℕ) → IsBest mode style appended f k best fewest
     → ((g : Fixed) → AreRounds mode style appended (suc k) f g → ⊥)
-    → (n : ℕ) (h : Fixed) → IsBetter mode style appended f n h → n ≤ k
-rounds-end mode style appended f k none n h x = elim (cases_order n (suc k)) [
+    → (n : ℕ) (h : Fixed) → IsBetter mode style appended f n h → fewest ≤ faulty mode h.text
+rounds-end mode style appended f k best fewest b none n h x = elim (cases_order n (suc k)) [
   | inl e ↦ absurd (none h (subst (λ m. AreRounds mode style appended m f h) e x.rounds))
-  | inr (inl lt) ↦ omega (arith, lt)
+  | inr (inl lt) ↦ b.least n h (omega (arith, lt)) x
   | inr (inr gt) ↦ (let front = rounds-front mode style appended (suc k) n f h
       (omega (arith, gt)) x.rounds in absurd (none front.0 front.1))
 ]
+
+-- and none leaves fewer than none.
+pub none-left : (b : Best) (f : Fixed) (o : Option ℕ) → o ≡ Some 0 → (offered b f o).calls ≡ 0
+none-left b f None e = absurd (cc)
+none-left b f (Some n) e =
+    let none : n ≡ 0 = cc in
+    elim (cases_lt n b.calls) [
+      | inl lt ↦ (let h : nat_lt n b.calls ≡ true = search (arith, lt) in rw h none)
+      | inr ge ↦ (let h : nat_lt n b.calls ≡ false = search (arith, ge) in
+          rw h (omega (arith, ge, none)))
+    ]
 
 -- A literal is fixed to one result.
 pub fixed-one : (mode : Mode) (input : List ℕ) (style : Option ℕ) (literal : List ℕ)

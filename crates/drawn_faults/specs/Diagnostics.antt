@@ -1,6 +1,6 @@
 -- The drawing of a diagnostic under its source, as bytes, from top to bottom. The layout is that of
 -- rustc 1.95.
-use Rattle.std.specs.Prelude.{ℕ, ◌+◌, ◌++◌, ◌==◌, ◌&&◌, ◌||◌, Bool, true, false, not}
+use Rattle.std.specs.Prelude.{ℕ, ◌+◌, ◌++◌, ◌==◌, ◌&&◌, ◌||◌, Bool, true, false}
 use Rattle.std.specs.Prelude.{if◌then◌else◌, max, nat_lt}
 use Rattle.std.specs.Prelude.{min, List, [], ◌∷◌, map, filter, length, Option, Some, None}
 use Rattle.std.specs.Prelude.{unwrap_or}
@@ -137,9 +137,9 @@ abbrev pub in_line : ℕ → List Mark → List Mark
 in_line n ms = filter (λ m. m.line == n) ms
 
 -- What is between a line that was drawn, if there is one, and the next one.
-abbrev pub gap_behind : Frame → Option ℕ → ℕ → List ℕ
-gap_behind f None n = []
-gap_behind f (Some m) n = gap f m n
+abbrev pub gap_after : Frame → Option ℕ → ℕ → List ℕ
+gap_after f None n = []
+gap_after f (Some m) n = gap f m n
 
 -- A line and the rows under it.
 abbrev pub line_rows : Frame → ℕ → List Mark → List ℕ
@@ -149,9 +149,9 @@ line_rows f n ms = code_row f n ++ mark_rows f.gutter (in_line n ms)
 abbrev pub next_line : Frame → Option ℕ → ℕ → List Mark → List ℕ
 next_line f before n ms =
     if option_map_or (λ m. m == n) before false then []
-    else gap_behind f before n ++ line_rows f n ms
+    else gap_after f before n ++ line_rows f n ms
 
--- The lines of these labels, which are sorted, behind the line that was drawn before.
+-- The lines of these labels, which are sorted, after the line that was drawn before.
 abbrev pub marked_lines : Frame → Option ℕ → List Mark → List ℕ
 marked_lines f before [] = []
 marked_lines f before (m ∷ ms) =
@@ -172,13 +172,13 @@ labels_rows f [] = each_in_line f []
 labels_rows f (l ∷ []) = single_rows f l
 labels_rows f (l ∷ k ∷ ls) = each_in_line f (l ∷ k ∷ ls)
 
--- A title behind a word, and the labels under it.
+-- A title after a word, and the labels under it.
 unfoldable pub titled : Frame → List ℕ → List ℕ → List Label → List ℕ
 titled f word title ls =
     word ++ (glyph_bytes title ++ (codes "\n"
     ++ (arrow f (first_spot ls) ++ (parting f ++ labels_rows f ls))))
 
--- What is behind a character of a note: after a line feed the margin of the next line.
+-- What is after a character of a note: after a line feed the margin of the next line.
 abbrev pub margin : ℕ → ℕ → List ℕ
 margin gutter c = if c == 10 then run gutter 32 ++ codes "         " else []
 

@@ -1,15 +1,14 @@
 -- Helps with edits in one line: the new line with signs under what is inserted, or the old and the
 -- new line where something is replaced or removed.
 use Rattle.std.specs.Prelude.{ℕ, ◌+◌, ◌-◌, ◌++◌, ◌==◌, ◌&&◌, Bool, if◌then◌else◌, List, [], ◌∷◌}
-use Rattle.std.specs.Prelude.{chars, codes, drop, false, map, take}
+use Rattle.std.specs.Prelude.{chars, codes, drop, take}
 use Rattle.std.specs.List.{list_all}
 use Rattle.std.specs.Str.{encode_utf8_all}
 use Rattle.rustc_parse_format.specs.Characters.{Text}
-use Rattle.rustc_parse_format.specs.World.{Place}
 use Rattle.drawn_faults.specs.Glyphs.{glyph_bytes, glyphs, run, width}
 use Rattle.drawn_faults.specs.Labels.{Edit, Frame}
 use Rattle.drawn_faults.specs.Lines.{numbered}
-use Rattle.drawn_faults.specs.Places.{Picture, extent, line}
+use Rattle.drawn_faults.specs.Places.{line}
 use Rattle.drawn_faults.specs.Rows.{under}
 use Rattle.drawn_faults.specs.Suggestions.{old_row, parting}
 
@@ -21,7 +20,7 @@ are_in_line n es = list_all (λ e. (e.extent.start.line == n) && (e.extent.end.l
 abbrev pub are_insertions : List Edit → Bool
 are_insertions es = list_all (λ e. e.extent.start.chars == e.extent.end.chars) es
 
--- What edits in a line, from left to right, make of what is left of it behind its first n
+-- What edits in a line, from left to right, make of what is left of it after its first n
 -- characters.
 abbrev pub edited_from : ℕ → List Edit → Text → List ℕ
 edited_from n [] t = encode_utf8_all (glyphs t)
@@ -34,7 +33,7 @@ abbrev pub columns_of : ℕ → Text → ℕ
 columns_of n [] = n
 columns_of n (c ∷ t) = columns_of (n + width c) t
 
--- The signs under what these edits insert, behind the column n of the line as it was.
+-- The signs under what these edits insert, after the column n of the line as it was.
 abbrev pub pluses : ℕ → List Edit → List ℕ
 pluses n [] = []
 pluses n (e ∷ es) =

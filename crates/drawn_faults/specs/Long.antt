@@ -77,7 +77,8 @@ unfoldable pub last_rows : Frame → Label → List ℕ
 last_rows f l =
     bar_row f l.extent.end.line
     ++ under f.gutter
-    (codes "|" ++ (run (max (l.extent.end.column - f.cut) 1) 95 ++ (codes "^ " ++ glyph_bytes l.text)))
+    (codes "|" ++ (run (max (l.extent.end.column - f.cut) 1) 95
+    ++ (codes "^ " ++ glyph_bytes l.text)))
 
 -- What is between the first and the last line: at most three lines behind the first one, without
 -- bare ones at their end, and the line before the last one if it is far from these and not bare.

@@ -67,7 +67,7 @@ pub fn put_at(row: &mut Vec<Cell>, column: usize, cell: Cell) -> Result<(), Allo
     Ok(())
 }
 
-/// Puts a cell into so many columns of a row. Returns the column behind them.
+/// Puts a cell into so many columns of a row. Returns the column after them.
 pub fn put_run_at(
     row: &mut Vec<Cell>,
     from: usize,
@@ -88,7 +88,7 @@ pub fn put_run_at(
 }
 
 /// Puts a space and then a text, as it is drawn, into a row from a column on.
-pub fn put_behind(
+pub fn put_after(
     row: &mut Vec<Cell>,
     from: usize,
     style: Style,
@@ -125,10 +125,8 @@ pub fn put_from(
 pub fn put_written(out: &mut String, cells: &[Cell]) -> Result<(), AllocError>
     ensures { OnOk result (string_bytes out.new ≡ string_bytes out.old ++ written cells.now) }
 {
-    let mut rest = cells;
-    while let Some((cell, others)) = rest.split_first() {
+    for cell in cells {
         out.push(cell.character)?;
-        rest = others;
     }
     Ok(())
 }

@@ -19,12 +19,12 @@ use crate::suggestions::put_parting;
 use std::alloc::{AllocError, Global};
 use std::ops::Range;
 
-/// How bad it is what a diagnostic says.
+/// The severity of a diagnostic.
 #[derive(Clone, Copy, Debug, Eq, PartialEq)]
 pub enum Level {
-    /// Nothing can be compiled.
+    /// The source does not compile.
     Error,
-    /// Something is to be looked at.
+    /// The source compiles, but may not do what is meant.
     Warning,
 }
 
@@ -39,12 +39,12 @@ pub struct SourceLabel<'a> {
     pub text: &'a str,
 }
 
-/// What is drawn under a source.
+/// A diagnostic that is drawn under its source.
 #[derive(Clone, Copy, Debug, Drop)]
 pub struct Diagnostic<'a> {
-    /// Whether it is an error or a warning.
+    /// The severity: an error or a warning.
     pub level: Level,
-    /// What it says.
+    /// The message, which is drawn first.
     pub title: &'a str,
     /// The labels, in any order.
     pub labels: &'a [SourceLabel<'a>],
@@ -183,12 +183,12 @@ fn put_diagnostic(
 ///
 /// From top to bottom: what it says; the path, and the line and column at which the first primary
 /// label in the source begins, or the source without one; the lines in which labels begin, each
-/// with its number and the signs of its labels under it; the notes; the helps; an empty line. A text
-/// of a label stands right of its signs, or hangs from a bar where there is no room. Between lines
-/// with labels there is the line between them, or `...` for several. A label over several lines is
-/// drawn so if it is the only one, and else has one sign where it begins. Edits of a help are shown
-/// if they are all in one line and from left to right: those that only insert something by the new
-/// line with the sign `+` under what is new, others by the old and the new line.
+/// with its number and the signs of its labels under it; the notes; the helps; an empty line. The
+/// text of a label stands right of its signs, or hangs from a bar where there is no room. Between
+/// lines with labels there is the line between them, or `...` for several. A label over several
+/// lines is drawn so if it is the only one, and else has one sign where it begins. Edits of a help
+/// are shown if they are all in one line and from left to right: those that only insert something
+/// by the new line with the sign `+` under what is new, others by the old and the new line.
 ///
 /// The widths of characters and the spans that do not fit are those of [`draw`](crate::draw). It
 /// takes the square of the number of labels in a line, and has as many rows there. Returns `Err` if

@@ -1,7 +1,7 @@
 //! How far below the signs of a line the texts of labels hang.
 
 ghost use Rattle.std.specs.Prelude.{◌≡◌, ◌+◌, ◌<◌, ◌≤◌, ◌^◌, IfOk, map};
-ghost use Rattle.drawn_faults.specs.Marks.{depth, depth_behind, depth_of, hang, has_text};
+ghost use Rattle.drawn_faults.specs.Marks.{depth, depth_after, depth_of, hang, has_text};
 ghost use Rattle.drawn_faults.specs.Marks.{is_crossed, is_lowering, is_meeting, is_reaching};
 ghost use Rattle.drawn_faults.specs.Marks.{is_shadow, seen_hung, text_depth};
 ghost use Rattle.drawn_faults.specs.Rows.{seen_mark};
@@ -90,9 +90,9 @@ fn depth_of(down: usize, mark: &Mark<'_>, others: &[Mark<'_>]) -> usize
 }
 
 /// Returns how far down the texts of labels left of a label hang at least.
-fn depth_behind(down: usize, mark: &Mark<'_>, others: &[Mark<'_>]) -> usize
+fn depth_after(down: usize, mark: &Mark<'_>, others: &[Mark<'_>]) -> usize
     requires { down < 2 ^ 63 }
-    ensures value { result ≡ depth_behind down (seen_mark mark.now) (map seen_mark others.now) }
+    ensures value { result ≡ depth_after down (seen_mark mark.now) (map seen_mark others.now) }
     ensures near { result ≤ down + 1 }
 {
     if is_lowering(down, mark, others) {
@@ -115,7 +115,7 @@ pub fn hang<'a>(alloc: Global, marks: &[Mark<'a>]) -> Result<Vec<Hung<'a>>, Allo
     for mark in marks {
         let others = &marks[list.len() + 1..];
         let depth = depth_of(down, mark, others);
-        down = depth_behind(depth, mark, others);
+        down = depth_after(depth, mark, others);
         list.push(Hung {
             mark: *mark,
             down: depth,

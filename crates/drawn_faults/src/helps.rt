@@ -28,7 +28,7 @@ use std::alloc::{AllocError, Global};
 /// A help of a diagnostic.
 #[derive(Clone, Copy, Debug, Drop)]
 pub struct SourceHelp<'a> {
-    /// What to do.
+    /// The text, which says what to do.
     pub text: &'a str,
     /// The edits that do it, from left to right. They are shown if all are in one line.
     pub edits: &'a [SourceEdit<'a>],
@@ -64,14 +64,14 @@ fn put_edited(out: &mut String, line: &str, edits: &[Edit<'_>]) -> Result<(), Al
         ++ edited_from 0 (map seen_edit edits.now) (chars line.now)) }
 {
     let mut passed = 0;
-    let mut behind = line;
+    let mut rest = line;
     for edit in edits {
-        put_front(out, behind, edit.extent.start.chars.saturating_sub(passed))?;
+        put_front(out, rest, edit.extent.start.chars.saturating_sub(passed))?;
         put_glyphs(out, edit.text, 0)?;
-        behind = behind_chars(behind, edit.extent.end.chars.saturating_sub(passed));
+        rest = behind_chars(rest, edit.extent.end.chars.saturating_sub(passed));
         passed = edit.extent.end.chars;
     }
-    put_glyphs(out, behind, 0)?;
+    put_glyphs(out, rest, 0)?;
     Ok(())
 }
 

@@ -5,7 +5,7 @@ ghost use Rattle.std.specs.Prelude.{◌≡◌, ◌++◌, ◌<◌, ◌^◌, [], I
 ghost use Rattle.std.specs.Prelude.{◌==◌, false, string_bytes, true, unwrap_or};
 ghost use Rattle.std.specs.Option.{option_map_or};
 ghost use Rattle.drawn_faults.specs.Diagnostics.{each_in_line, earlier, first_spot};
-ghost use Rattle.drawn_faults.specs.Diagnostics.{frame_of, gap_behind, is_before};
+ghost use Rattle.drawn_faults.specs.Diagnostics.{frame_of, gap_after, is_before};
 ghost use Rattle.drawn_faults.specs.Diagnostics.{in_line, labels_rows, last_edit_line};
 ghost use Rattle.drawn_faults.specs.Diagnostics.{last_label_line, line_rows, lower, lowest};
 ghost use Rattle.drawn_faults.specs.Diagnostics.{marked_lines, next_line, single_rows};
@@ -192,7 +192,7 @@ fn in_line<'a>(
 }
 
 /// Adds what is between a line that was drawn, if there is one, and the next one.
-fn put_gap_behind(
+fn put_gap_after(
     out: &mut String,
     frame: &Frame<'_>,
     before: Option<usize>,
@@ -201,7 +201,7 @@ fn put_gap_behind(
     requires cut { frame.now.cut < 2 ^ 62 }
     requires before { IfSome before (λ n. n < 2 ^ 59) }
     ensures { OnOk result (string_bytes out.new ≡ string_bytes out.old
-        ++ gap_behind (seen_frame frame.now) before number) }
+        ++ gap_after (seen_frame frame.now) before number) }
 {
     if let Some(before) = before {
         put_gap(out, frame, before, number)?;
@@ -254,7 +254,7 @@ fn put_next_line(
     if is_drawn(before, number) {
         return Ok(());
     }
-    put_gap_behind(out, frame, before, number)?;
+    put_gap_after(out, frame, before, number)?;
     put_line_rows(out, frame, number, marks)?;
     Ok(())
 }

@@ -9,7 +9,7 @@ ghost use Rattle.drawn_faults.specs.Marks.{signs_of, with_bar, with_hung_text, w
 ghost use Rattle.drawn_faults.specs.Marks.{with_signs, written};
 ghost use Rattle.drawn_faults.specs.Rows.{seen_mark, under};
 
-use crate::cells::{Cell, put_at, put_behind, put_from, put_run_at, put_written, style_of};
+use crate::cells::{Cell, put_after, put_at, put_from, put_run_at, put_written, style_of};
 use crate::hanging::{Hung, depth, hang, has_text};
 use crate::mark::Mark;
 use crate::order::covered_first;
@@ -22,7 +22,7 @@ fn put_side_text(row: &mut Vec<Cell>, hung: &Hung<'_>) -> Result<(), AllocError>
 {
     let mark = &hung.mark;
     if has_text(mark) && hung.down == 0 {
-        put_behind(row, mark.to, style_of(mark), mark.text)?;
+        put_after(row, mark.to, style_of(mark), mark.text)?;
     }
     Ok(())
 }

@@ -91,7 +91,7 @@ pub fn put_titled(
     Ok(())
 }
 
-/// Adds what is behind a character of a note: after a line feed the margin of the next line.
+/// Adds what is after a character of a note: after a line feed the margin of the next line.
 fn put_margin(out: &mut String, gutter: usize, c: char) -> Result<(), AllocError>
     ensures { OnOk result (string_bytes out.new ≡ string_bytes out.old ++ margin gutter c) }
 {

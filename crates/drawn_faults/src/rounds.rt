@@ -183,6 +183,10 @@ pub fn fix(
             return Ok(best.literal);
         };
         let calls = count_left(alloc, old.list.as_slice(), fixed.text.as_str(), mode)?;
+        if let Some(0) = calls {
+            offer(&mut best, fixed, calls);
+            return Ok(best.literal);
+        }
         reached = next_round(alloc, &fixed, style, appended_newline, mode)?;
         offer(&mut best, fixed, calls);
         rounds += 1;

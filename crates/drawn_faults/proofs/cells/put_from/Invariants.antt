@@ -1,4 +1,4 @@
-use Rattle.std.proofs.Common.{◌≡◌, chars, length, map}
+use Rattle.std.proofs.Common.{◌≡◌, length}
 use denote.Text.{Utf8}
 use denote.Shadow.{shadow}
 use Rattle.drawn_faults.specs.Marks.{cells, put_from}

@@ -1,4 +1,4 @@
-use Rattle.std.proofs.Common.{◌∙◌, arith}
+use Rattle.std.proofs.Common.{◌∙◌}
 use Rattle.drawn_faults.proofs.MarkLemmas.{put-run}
 use Rattle.drawn_faults.proofs.cells.put_run_at.Goals as goal
 

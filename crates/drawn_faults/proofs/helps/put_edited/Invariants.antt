@@ -8,8 +8,8 @@ use Rattle.drawn_faults.proofs.helps.put_edited.Given as goal
 -- What is added, and then what is left, is all.
 abbrev pub invariant-loop-edit : goal.invariant-loop-edit
 invariant-loop-edit l = record {
-  is_text : shadow (Utf8 l.behind);
+  is_text : shadow (Utf8 l.rest);
   same : string_bytes l.out
-      ++ edited_from l.passed (map seen_edit (drop l.edit-index l.edits)) (chars l.behind)
+      ++ edited_from l.passed (map seen_edit (drop l.edit-index l.edits)) (chars l.rest)
       ≡ string_bytes l.fn.out ++ edited_from 0 (map seen_edit l.edits) (chars l.line);
 }

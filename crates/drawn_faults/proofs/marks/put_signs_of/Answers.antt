@@ -1,5 +1,4 @@
 use Rattle.std.proofs.Common.{[], append-nil}
-use Rattle.drawn_faults.specs.Rows.{seen_mark}
 use Rattle.drawn_faults.proofs.marks.put_signs_of.Goals as goal
 
 pub returns : goal.returns
