@@ -3,7 +3,9 @@
 //! they write and their statuses are the same.
 mod cases;
 use cases::Random;
+use std::ffi::OsStr;
 use std::io::Write;
+use std::os::unix::ffi::OsStrExt;
 use std::process::{Command, Output, Stdio};
 
 /// Words of formatread, right and wrong.
@@ -74,6 +76,8 @@ fn make_folder(folder: &str) {
         std::os::unix::fs::symlink(to, format!("{folder}/{name}")).expect("a link");
     }
     std::fs::write(format!("{folder}/literal"), " \"{a?}\"\n").expect("a file");
+    let no_text = [folder.as_bytes(), b"/folder.rs/\xff.rs"].concat();
+    std::fs::write(OsStr::from_bytes(&no_text), "").expect("a file");
 }
 
 /// Writes the files of a folder anew.

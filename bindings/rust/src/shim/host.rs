@@ -149,8 +149,10 @@ pub mod fs {
         std::fs::metadata(path)
     }
 
+    /// Returns a name. One that is not UTF-8 is an error, which the standard library has as a kind of
+    /// its own only since Rust 1.87.
     fn text_of(name: OsString) -> Result<String> {
-        let fault = |_| Error::from(ErrorKind::InvalidData);
+        let fault = |_| Error::new(ErrorKind::InvalidData, "invalid filename");
         name.into_string().map_err(fault)
     }
 
