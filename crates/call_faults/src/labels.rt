@@ -330,9 +330,9 @@ impl<'a> Checked<'a> {
     ghost use Rattle.call_faults.specs.Labels.{labels};
     ghost use Rattle.call_faults.specs.Seen.{seen_call, seen_fault, seen_label};
 
-    /// Returns the labels of one of the faults, as rustc has them, with its first primary label
-    /// where rustc says that the fault is. A fault of the string has the labels of its error.
-    /// Returns `Err` if an allocation fails.
+    /// Returns the labels of one of the faults, as rustc has them. The primary label that begins
+    /// first in the source is where rustc says that the fault is. A fault of the string has the
+    /// labels of its error. Returns `Err` if an allocation fails.
     #[tactic(auto, unfolding(crate::specs::Labels::labels))]
     pub fn labels(&self, alloc: Global, fault: &CallFault<'a>) -> Result<Vec<CallLabel>, AllocError>
         ensures { IfOk result (λ v. map seen_label v.items
