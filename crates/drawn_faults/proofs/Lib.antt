@@ -6,6 +6,7 @@ pub mod HarmlessDiagnostics
 pub mod LineLemmas
 pub mod RowLemmas
 pub mod MarkLemmas
+pub mod EditedLines
 pub mod EditLaws
 pub mod FixLaws
 pub mod CallFaults

@@ -10,13 +10,14 @@ use Rattle.drawn_faults.specs.declared.places.Picture.{Picture as DeclaredPictur
 use Rattle.drawn_faults.specs.declared.extent.Spot.{Spot}
 use Rattle.drawn_faults.specs.declared.extent.Extent.{Extent as DeclaredExtent}
 
--- What a fault is drawn in: the path of the source, its text, the number of its first line, and the
--- byte offset at which the literal begins.
+-- What a fault is drawn in: the path of the source, its text, the number of its first line, the
+-- byte offset at which the literal begins, and whether there are colours.
 pub record Picture : Type 0 where
   pub path : List ℕ
   pub source : List ℕ
   pub line_start : ℕ
   pub literal_start : ℕ
+  pub colours : Bool
 
 -- A picture as a contract sees it.
 abbrev pub seen_picture : DeclaredPicture → Picture
@@ -25,6 +26,7 @@ seen_picture p = record {
   source = p.source.now;
   line_start = p.line_start;
   literal_start = p.literal_start;
+  colours = p.colours;
 }
 
 -- The byte is a line feed.

@@ -8,27 +8,38 @@ ghost use Rattle.drawn_faults.specs.Glyphs.{IsHarmless};
 ghost use Rattle.drawn_faults.specs.Places.{seen_picture};
 ghost use Rattle.drawn_faults.specs.Labels.{primary, seen_edit, seen_frame, seen_label};
 ghost use Rattle.drawn_faults.specs.Drawing.{arrow, below, drawing, head, labelled_rows};
-ghost use Rattle.drawn_faults.specs.Drawing.{note_row, parting_before, title};
+ghost use Rattle.drawn_faults.specs.Drawing.{note_row, note_word, parting_before, title};
 ghost use Rattle.drawn_faults.specs.Suggestions.{help_rows};
 
 use crate::extent::Spot;
-use crate::glyphs::{put_glyphs_between, put_run};
+use crate::glyphs::{put_glyphs, put_run};
 use crate::labels::{Edit, Frame, Label, edit_of, frame_for, mark, second, text_name};
 use crate::lines::{put_decimal, put_labelled, put_two_labels};
 use crate::long::put_long;
+use crate::paint::{Gutter, Palette, Style, put_closing, put_opening, put_painted};
 use crate::places::Picture;
 use crate::suggestions::{put_edit, put_parting};
 use rustc_parse_format::{ParseError, ParseMode};
 use std::alloc::{AllocError, Global};
 
 /// Adds what the error is.
-fn put_title(out: &mut String, mode: ParseMode, description: &str) -> Result<(), AllocError>
+fn put_title(
+    out: &mut String,
+    palette: Palette,
+    mode: ParseMode,
+    description: &str,
+) -> Result<(), AllocError>
     ensures { OnOk result (string_bytes out.new ≡ string_bytes out.old
-        ++ title (seen_mode mode) description.now) }
+        ++ title palette (seen_mode mode) description.now) }
 {
-    out.push_str("error: invalid ")?;
+    put_painted(out, palette, Style::Primary, "error")?;
+    put_opening(out, palette, Style::Bold)?;
+    out.push_str(": invalid ")?;
     out.push_str(text_name(mode))?;
-    put_glyphs_between(out, ": ", description, "\n")?;
+    out.push_str(": ")?;
+    put_glyphs(out, description, 0)?;
+    put_closing(out, palette)?;
+    out.push_str("\n")?;
     Ok(())
 }
 
@@ -42,8 +53,10 @@ pub fn put_arrow(out: &mut String, frame: &Frame<'_>, at: Spot) -> Result<(), Al
 {
     let line = frame.picture.line_start as usize + at.line;
     let column = at.chars + 1;
-    put_run(out, ' ', frame.gutter)?;
-    put_glyphs_between(out, "--> ", frame.picture.path, ":")?;
+    put_run(out, ' ', frame.gutter.columns)?;
+    put_painted(out, frame.gutter.palette, Style::Secondary, "--> ")?;
+    put_glyphs(out, frame.picture.path, 0)?;
+    out.push_str(":")?;
     put_decimal(out, line)?;
     out.push_str(":")?;
     put_decimal(out, column)?;
@@ -65,7 +78,7 @@ fn put_head(
     ensures { OnOk result (string_bytes out.new ≡ string_bytes out.old
         ++ head (seen_mode mode) (seen_frame frame.now) description.now at) }
 {
-    put_title(out, mode, description)?;
+    put_title(out, frame.gutter.palette, mode, description)?;
     put_arrow(out, frame, at)?;
     put_parting(out, frame)?;
     Ok(())
@@ -117,14 +130,27 @@ fn put_labels(
     Ok(())
 }
 
+/// Adds what a note begins with.
+pub fn put_note_word(out: &mut String, gutter: Gutter) -> Result<(), AllocError>
+    ensures { OnOk result (string_bytes out.new ≡ string_bytes out.old ++ note_word gutter) }
+{
+    put_run(out, ' ', gutter.columns)?;
+    out.push_str(" ")?;
+    put_painted(out, gutter.palette, Style::Secondary, "= ")?;
+    put_painted(out, gutter.palette, Style::Bold, "note")?;
+    out.push_str(": ")?;
+    Ok(())
+}
+
 /// Adds the row of a note, if there is one.
-fn put_note(out: &mut String, gutter: usize, note: &Option<String>) -> Result<(), AllocError>
+fn put_note(out: &mut String, gutter: Gutter, note: &Option<String>) -> Result<(), AllocError>
     ensures { OnOk result (string_bytes out.new ≡ string_bytes out.old
         ++ note_row gutter (option_map string_bytes note.now)) }
 {
     if let Some(note) = note {
-        put_run(out, ' ', gutter)?;
-        put_glyphs_between(out, " = note: ", note.as_str(), "\n")?;
+        put_note_word(out, gutter)?;
+        put_glyphs(out, note.as_str(), 0)?;
+        out.push_str("\n")?;
     }
     Ok(())
 }
