@@ -1,6 +1,7 @@
 pub mod GlyphLemmas
 pub mod PrintableLemmas
 pub mod Harmless
+pub mod Coloured
 pub mod HarmlessDrawings
 pub mod HarmlessDiagnostics
 pub mod LineLemmas

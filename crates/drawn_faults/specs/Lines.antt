@@ -1,5 +1,5 @@
 -- Lines of the source with labels in one line, as bytes.
-use Rattle.std.specs.Prelude.{ℕ, ◌+◌, ◌-◌, ◌==◌, ◌++◌, if◌then◌else◌, nat_lt}
+use Rattle.std.specs.Prelude.{ℕ, ◌+◌, ◌-◌, ◌==◌, ◌&&◌, ◌++◌, if◌then◌else◌, nat_lt}
 use Rattle.std.specs.Prelude.{List, [], length, drop}
 use Rattle.std.specs.Prelude.{chars, codes, decimal}
 use Rattle.std.specs.Str.{encode_utf8_all}
@@ -29,15 +29,16 @@ shown p cut t =
     if cut == 0 then encode_utf8_all (glyphs t)
     else painted p Secondary (codes "...") ++ encode_utf8_all (drop (cut + 3) (glyphs t))
 
--- What is behind a bar: a line and what is in front of it, or nothing for an empty line.
-abbrev pub behind_bar : List ℕ → List ℕ → List ℕ
-behind_bar front code = if length code == 0 then [] else front ++ code
+-- What is after a bar: a line and what is in front of it, or nothing for an empty line.
+abbrev pub behind_bar : Palette → List ℕ → ℕ → Text → List ℕ
+behind_bar p front cut t =
+    if (cut == 0) && (length (encode_utf8_all (glyphs t)) == 0) then []
+    else front ++ shown p cut t
 
 -- A line of the source, and what is in front of it.
 unfoldable pub source_line : Frame → List ℕ → ℕ → List ℕ
 source_line f front n =
-    behind_bar front (shown f.gutter.palette f.cut (chars (line n f.picture.source)))
-    ++ codes "\n"
+    behind_bar f.gutter.palette front f.cut (chars (line n f.picture.source)) ++ codes "\n"
 
 -- A line of the source with its number, after what is in front of it.
 abbrev pub source_row : Frame → List ℕ → ℕ → List ℕ

@@ -131,3 +131,8 @@ IsColoured t = (ps : List Part) × (t ≡ flat_map part_bytes ps) × AreSafe ps
 abbrev pub IsColourOf : List ℕ → List ℕ → Type 0
 IsColourOf t u =
     (ps : List Part) × (t ≡ flat_map part_bytes ps) × (u ≡ flat_map text_bytes ps) × AreSafe ps
+
+-- A terminal obeys nothing of a text, but for colours if it may have some.
+abbrev pub IsHarmlessWith : Bool → List ℕ → Type 0
+IsHarmlessWith false t = IsHarmless t
+IsHarmlessWith true t = IsColoured t

@@ -1,5 +1,5 @@
 -- The source around a literal, its lines, and the places in it that a byte offset means.
-use Rattle.std.specs.Prelude.{ℕ, ◌+◌, ◌-◌, Bool, true, ◌&&◌, ◌==◌, if◌then◌else◌, nat_lt, min, max}
+use Rattle.std.specs.Prelude.{ℕ, ◌+◌, ◌-◌, Bool, true, false, ◌&&◌, ◌==◌, if◌then◌else◌, nat_lt, min, max}
 use Rattle.std.specs.Prelude.{zero, suc, List, [], ◌∷◌, length, chars}
 use Rattle.std.specs.List.{before_first, after_first, fold}
 use Rattle.std.specs.Char.{is_whitespace, len_utf8}
@@ -27,6 +27,16 @@ seen_picture p = record {
   line_start = p.line_start;
   literal_start = p.literal_start;
   colours = p.colours;
+}
+
+-- The picture without colours.
+abbrev pub uncoloured : Picture → Picture
+uncoloured p = record {
+  path = p.path;
+  source = p.source;
+  line_start = p.line_start;
+  literal_start = p.literal_start;
+  colours = false;
 }
 
 -- The byte is a line feed.

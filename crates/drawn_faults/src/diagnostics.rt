@@ -4,9 +4,9 @@
 ghost use Rattle.std.specs.Prelude.{◌≡◌, ◌++◌, ◌<◌, ◌^◌, IfOk, OnOk, length, map, string_bytes};
 ghost use Rattle.drawn_faults.specs.Diagnostics.{diagnostic_text, drawn_in, gutter_of, label_of};
 ghost use Rattle.drawn_faults.specs.Diagnostics.{level_of, level_word, parting_above};
-ghost use Rattle.drawn_faults.specs.Glyphs.{IsHarmless};
 ghost use Rattle.drawn_faults.specs.Labels.{seen_frame, seen_label};
-ghost use Rattle.drawn_faults.specs.Places.{seen_picture};
+ghost use Rattle.drawn_faults.specs.Painting.{IsColourOf, IsHarmlessWith};
+ghost use Rattle.drawn_faults.specs.Places.{seen_picture, uncoloured};
 ghost use Rattle.drawn_faults.specs.SeenDiagnostics.{is_warning, seen_diagnostic};
 ghost use Rattle.drawn_faults.specs.SeenDiagnostics.{seen_source_label};
 
@@ -190,8 +190,8 @@ fn put_diagnostic(
     Ok(())
 }
 
-/// Returns the text that shows a diagnostic under its source, as rustc 1.95 draws it without
-/// colours. Its ranges are byte ranges of the source that count from `literal_start` of the picture
+/// Returns the text that shows a diagnostic under its source, as rustc 1.95 draws it, with
+/// the colours that rustc gives it on a terminal if the picture has them. Its ranges are byte ranges of the source that count from `literal_start` of the picture
 /// on, as the spans of an error do.
 ///
 /// From top to bottom: what it says; the path, and the line and column at which the first primary
@@ -213,7 +213,11 @@ pub fn draw_labels(
 ) -> Result<String, AllocError>
     ensures drawn { IfOk result (λ s. string_bytes s
         ≡ diagnostic_text (seen_picture picture.now) (seen_diagnostic diagnostic.now)) }
-    ensures harmless { IfOk result (λ s. IsHarmless (string_bytes s)) }
+    // Without its colours it is the drawing without colours, and a terminal obeys nothing of it but
+    // these.
+    ensures coloured { IfOk result (λ s. IsColourOf (string_bytes s)
+        (diagnostic_text (uncoloured (seen_picture picture.now)) (seen_diagnostic diagnostic.now))) }
+    ensures harmless { IfOk result (λ s. IsHarmlessWith picture.now.colours (string_bytes s)) }
 {
     let mut out = String::new(alloc);
     put_labels(&mut out, picture, diagnostic)?;
@@ -230,7 +234,10 @@ pub fn put_labels(
 ) -> Result<(), AllocError>
     ensures drawn { OnOk result (string_bytes out.new ≡ string_bytes out.old
         ++ diagnostic_text (seen_picture picture.now) (seen_diagnostic diagnostic.now)) }
-    ensures harmless { IsHarmless
+    ensures coloured { IsColourOf
+        (diagnostic_text (seen_picture picture.now) (seen_diagnostic diagnostic.now))
+        (diagnostic_text (uncoloured (seen_picture picture.now)) (seen_diagnostic diagnostic.now)) }
+    ensures harmless { IsHarmlessWith picture.now.colours
         (diagnostic_text (seen_picture picture.now) (seen_diagnostic diagnostic.now)) }
 {
     if picture.source.len() >= 1 << 59 {

@@ -4,8 +4,8 @@
 ghost use Rattle.std.specs.Prelude.{◌≡◌, ◌++◌, ◌<◌, ◌^◌, IfOk, IfSome, None, OnOk, length};
 ghost use Rattle.std.specs.Prelude.{option_map, string_bytes};
 ghost use Rattle.rustc_parse_format.specs.Seen.{seen_error, seen_mode};
-ghost use Rattle.drawn_faults.specs.Glyphs.{IsHarmless};
-ghost use Rattle.drawn_faults.specs.Places.{seen_picture};
+ghost use Rattle.drawn_faults.specs.Painting.{IsColourOf, IsHarmlessWith};
+ghost use Rattle.drawn_faults.specs.Places.{seen_picture, uncoloured};
 ghost use Rattle.drawn_faults.specs.Labels.{primary, seen_edit, seen_frame, seen_label};
 ghost use Rattle.drawn_faults.specs.Drawing.{arrow, below, drawing, head, labelled_rows};
 ghost use Rattle.drawn_faults.specs.Drawing.{note_row, note_word, parting_before, title};
@@ -258,7 +258,7 @@ fn least_length(picture: &Picture<'_>, error: &ParseError) -> usize {
 }
 
 /// Returns the text that shows an error of a literal of this mode under its source, as rustc 1.95
-/// draws it without colours. The spans of the error are byte ranges of the literal: its parser had
+/// draws it, with the colours that rustc gives it on a terminal if the picture has them. The spans of the error are byte ranges of the literal: its parser had
 /// this literal as its snippet, and that was the source literal.
 ///
 /// From top to bottom: what the error is, and its path, line and column, which counts characters;
@@ -284,7 +284,11 @@ pub fn draw(
 ) -> Result<String, AllocError>
     ensures drawn { IfOk result (λ s. string_bytes s
         ≡ drawing (seen_mode mode) (seen_picture picture.now) (seen_error error.now)) }
-    ensures harmless { IfOk result (λ s. IsHarmless (string_bytes s)) }
+    // Without its colours it is the drawing without colours, and a terminal obeys nothing of it but
+    // these.
+    ensures coloured { IfOk result (λ s. IsColourOf (string_bytes s)
+        (drawing (seen_mode mode) (uncoloured (seen_picture picture.now)) (seen_error error.now))) }
+    ensures harmless { IfOk result (λ s. IsHarmlessWith picture.now.colours (string_bytes s)) }
 {
     let mut out = String::new(alloc);
     put_drawing(&mut out, mode, picture, error)?;
@@ -302,7 +306,10 @@ pub fn put_drawing(
 ) -> Result<(), AllocError>
     ensures drawn { OnOk result (string_bytes out.new ≡ string_bytes out.old
         ++ drawing (seen_mode mode) (seen_picture picture.now) (seen_error error.now)) }
-    ensures harmless { IsHarmless
+    ensures coloured { IsColourOf
+        (drawing (seen_mode mode) (seen_picture picture.now) (seen_error error.now))
+        (drawing (seen_mode mode) (uncoloured (seen_picture picture.now)) (seen_error error.now)) }
+    ensures harmless { IsHarmlessWith picture.now.colours
         (drawing (seen_mode mode) (seen_picture picture.now) (seen_error error.now)) }
 {
     if picture.source.len() >= 1 << 59 {

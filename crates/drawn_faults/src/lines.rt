@@ -88,7 +88,6 @@ fn put_shown(
 }
 
 /// Adds what is behind a bar: a line, and what is in front of it.
-#[tactic(auto, unfolding(crate::specs::Lines::shown))]
 fn put_behind_bar(
     out: &mut String,
     palette: Palette,
@@ -98,7 +97,7 @@ fn put_behind_bar(
 ) -> Result<(), AllocError>
     requires { cut < 2 ^ 62 }
     ensures { OnOk result (string_bytes out.new
-        ≡ string_bytes out.old ++ behind_bar front.now (shown palette cut (chars text.now))) }
+        ≡ string_bytes out.old ++ behind_bar palette front.now cut (chars text.now)) }
 {
     if cut > 0 || !draws_nothing(text) {
         out.push_str(front)?;

@@ -1,0 +1,172 @@
+-- Lemmas on texts with colours: without these they are the texts that are drawn without colours.
+use Rattle.std.proofs.Common.{◌≡◌, ◌∙◌, ◌==◌, ℕ, zero, suc, Bool, true, false, List, [], ◌∷◌, ◌++◌}
+use Rattle.std.proofs.Common.{ap, append-nil, append_assoc, codes, cond, encode_utf8_all, length}
+use Rattle.std.proofs.Common.{map, refl, replicate, subst, sym}
+use Rattle.std.specs.Prelude.{encode_utf8, flat_map}
+use Rattle.std.specs.Char.{is_ascii_digit}
+use Rattle.std.specs.List.{list_all}
+use Rattle.std.specs.Str.{NonePass}
+use Rattle.drawn_faults.specs.Glyphs.{IsHarmless, is_obeyed, run}
+use Rattle.drawn_faults.specs.Painting.{AreSafe, IsColourOf, IsColoured, Part, Piece, Sgr, Text}
+use Rattle.drawn_faults.specs.Painting.{change, closing, escape, level_escape, opening, painted}
+use Rattle.drawn_faults.specs.Painting.{part_bytes, pieces, pieces_after, plain_text, rank, reset_of}
+use Rattle.drawn_faults.specs.Painting.{text_bytes}
+use Rattle.drawn_faults.specs.Rows.{cell_pieces, written}
+use Rattle.drawn_faults.specs.declared.cells.Cell.{Cell}
+use Rattle.drawn_faults.specs.declared.paint.Palette.{Palette}
+use Rattle.drawn_faults.specs.declared.paint.Palette.TheVariants.{Colourless, Error, Warning, Note}
+use Rattle.drawn_faults.specs.declared.paint.Style.{Style}
+use Rattle.drawn_faults.specs.declared.paint.Style.TheVariants.{Plain, Primary, PrimaryText}
+use Rattle.drawn_faults.specs.declared.paint.Style.TheVariants.{Secondary, SecondaryText, Bold}
+use Rattle.drawn_faults.specs.declared.paint.Style.TheVariants.{Help, Addition, Removal}
+use Rattle.drawn_faults.proofs.Harmless.{join as join_harmless, text as written_text}
+
+safe-append : (ps qs : List Part) → AreSafe ps → AreSafe qs → AreSafe (ps ++ qs)
+safe-append [] qs p q = q
+safe-append (Text bs ∷ ps) qs p q = (p.0, safe-append ps qs p.1 q)
+safe-append (Sgr n ∷ ps) qs p q = (p.0, safe-append ps qs p.1 q)
+
+bytes-append : (f : Part → List ℕ) (ps qs : List Part)
+    → flat_map f (ps ++ qs) ≡ flat_map f ps ++ flat_map f qs
+bytes-append f [] qs = refl
+bytes-append f (p ∷ ps) qs =
+    ap (λ t. f p ++ t) (bytes-append f ps qs)
+    ∙ sym (append_assoc (f p) (flat_map f ps) (flat_map f qs))
+
+bytes-joined : (f : Part → List ℕ) (ps qs : List Part) {s t : List ℕ} → s ≡ flat_map f ps
+    → t ≡ flat_map f qs → s ++ t ≡ flat_map f (ps ++ qs)
+bytes-joined f ps qs {s = s} {t = t} d e =
+    ap (λ u. u ++ t) d ∙ ap (λ u. flat_map f ps ++ u) e ∙ sym (bytes-append f ps qs)
+
+-- two texts after each other
+pub join : {s t u v : List ℕ} → IsColourOf s t → IsColourOf u v → IsColourOf (s ++ u) (t ++ v)
+join (ps, d, e, p) (qs, f, g, q) = (
+  ps ++ qs,
+  bytes-joined part_bytes ps qs d f,
+  bytes-joined text_bytes ps qs e g,
+  safe-append ps qs p q,
+)
+
+-- one of two texts
+pub either : (k : Bool) {s t u v : List ℕ} → IsColourOf s t → IsColourOf u v
+    → IsColourOf (cond k s u) (cond k t v)
+either true p q = p
+either false p q = q
+
+one_of : (k : Bool) {s t u : List ℕ} → IsColourOf s u → IsColourOf t u → IsColourOf (cond k s t) u
+one_of true p q = p
+one_of false p q = q
+
+-- a text without colours
+pub plain : {t : List ℕ} → IsHarmless t → IsColourOf t t
+plain {t = t} h = (Text t ∷ [], sym (append-nil t), sym (append-nil t), (h, tt))
+
+pub nothing : IsColourOf [] []
+nothing = ([], refl, refl, tt)
+
+-- escapes
+of_level : (p : Palette) → IsColourOf (level_escape p) []
+of_level Colourless = nothing
+of_level Error = (Sgr (codes "1") ∷ Sgr (codes "91") ∷ [], refl, refl, (refl, (refl, tt)))
+of_level Warning = (Sgr (codes "1") ∷ Sgr (codes "33") ∷ [], refl, refl, (refl, (refl, tt)))
+of_level Note = (Sgr (codes "1") ∷ Sgr (codes "92") ∷ [], refl, refl, (refl, (refl, tt)))
+
+of_escape : (p : Palette) (s : Style) → IsColourOf (escape p s) []
+unfolding escape
+of_escape p Plain = nothing
+of_escape p Primary = of_level p
+of_escape p PrimaryText = of_level p
+of_escape p Secondary = (Sgr (codes "1") ∷ Sgr (codes "94") ∷ [], refl, refl, (refl, (refl, tt)))
+of_escape p SecondaryText =
+    (Sgr (codes "1") ∷ Sgr (codes "94") ∷ [], refl, refl, (refl, (refl, tt)))
+of_escape p Bold = (Sgr (codes "1") ∷ [], refl, refl, (refl, tt))
+of_escape p Help = (Sgr (codes "1") ∷ Sgr (codes "96") ∷ [], refl, refl, (refl, (refl, tt)))
+of_escape p Addition = (Sgr (codes "92") ∷ [], refl, refl, (refl, tt))
+of_escape p Removal = (Sgr (codes "91") ∷ [], refl, refl, (refl, tt))
+
+reset : IsColourOf (codes "\u{1b}[0m") []
+reset = (Sgr (codes "0") ∷ [], refl, refl, (refl, tt))
+
+of_opening : (p : Palette) (s : Style) → IsColourOf (opening p s) []
+of_opening Colourless s = nothing
+of_opening Error s = of_escape Error s
+of_opening Warning s = of_escape Warning s
+of_opening Note s = of_escape Note s
+
+of_closing : (p : Palette) → IsColourOf (closing p) []
+of_closing Colourless = nothing
+of_closing Error = reset
+of_closing Warning = reset
+of_closing Note = reset
+
+of_reset : (s : Style) → IsColourOf (reset_of s) []
+of_reset s = one_of (rank s == 0) nothing reset
+
+of_change : (p : Palette) (s t : Style) → IsColourOf (change p s t) []
+of_change p s t = one_of (rank s == rank t) nothing (join (of_reset s) (of_escape p t))
+
+-- a text in a style
+pub of_painted : (p : Palette) (s : Style) {bs : List ℕ} → IsHarmless bs
+    → IsColourOf (painted p s bs) (painted Colourless s bs)
+of_painted p s {bs = bs} h =
+    either (length bs == 0) nothing (join (of_opening p s) (join (plain h) (of_closing p)))
+
+-- pieces whose texts a terminal does not obey
+abbrev pub AreQuiet : List Piece → Type 0
+AreQuiet [] = Unit {0}
+AreQuiet (x ∷ xs) = IsHarmless x.text × AreQuiet xs
+
+quiet-plain : (xs : List Piece) → AreQuiet xs → IsHarmless (plain_text xs)
+quiet-plain [] q = written_text [] refl
+quiet-plain (x ∷ xs) q = join_harmless q.0 (quiet-plain xs q.1)
+
+of_text : (p : Palette) (s t : Style) (bs : List ℕ) {u v w : List ℕ} → IsHarmless bs
+    → IsColourOf u w → IsColourOf v w
+    → IsColourOf (cond (length bs == 0) u (change p s t ++ (bs ++ v))) (bs ++ w)
+of_text p s t [] h x y = x
+of_text p s t (c ∷ bs) h x y = join (of_change p s t) (join (plain h) y)
+
+of_pieces_after : (p : Palette) (s : Style) (xs : List Piece) → AreQuiet xs
+    → IsColourOf (pieces_after p s xs) (plain_text xs)
+of_pieces_after p s [] q = of_reset s
+of_pieces_after p s (x ∷ xs) q =
+    of_text p s x.style x.text q.0 (of_pieces_after p s xs q.1) (of_pieces_after p x.style xs q.1)
+
+pub of_pieces : (p : Palette) (xs : List Piece) → AreQuiet xs
+    → IsColourOf (pieces p xs) (pieces Colourless xs)
+of_pieces Colourless xs q = plain (quiet-plain xs q)
+of_pieces Error xs q = of_pieces_after Error Plain xs q
+of_pieces Warning xs q = of_pieces_after Warning Plain xs q
+of_pieces Note xs q = of_pieces_after Note Plain xs q
+
+-- rows of cells
+abbrev pub Quiet : List Cell → Type 0
+Quiet cs = NonePass is_obeyed (map (λ c. c.character) cs)
+
+pub quiet-append : (a b : List Cell) → Quiet a → Quiet b → Quiet (a ++ b)
+quiet-append [] b p q = q
+quiet-append (c ∷ a) b p q = (p.0, quiet-append a b p.1 q)
+
+one-harmless : (c : ℕ) → is_obeyed c ≡ false → IsHarmless (encode_utf8 c)
+one-harmless c e = (c ∷ [], sym (append-nil (encode_utf8 c)), (e, tt))
+
+quiet-cells : (cs : List Cell) → Quiet cs → AreQuiet (cell_pieces cs)
+quiet-cells [] q = tt
+quiet-cells (c ∷ cs) q = (one-harmless c.character q.0, quiet-cells cs q.1)
+
+pub of_written : (p : Palette) (cs : List Cell) → Quiet cs
+    → IsColourOf (written p cs) (written Colourless cs)
+of_written p cs q = of_pieces p (cell_pieces cs) (quiet-cells cs q)
+
+-- A terminal obeys nothing of such a text but colours,
+pub coloured : {t u : List ℕ} → IsColourOf t u → IsColoured t
+coloured (ps, d, e, p) = (ps, d, p)
+
+parts-harmless : (ps : List Part) → AreSafe ps → IsHarmless (flat_map text_bytes ps)
+parts-harmless [] p = written_text [] refl
+parts-harmless (Text bs ∷ ps) p = join_harmless p.0 (parts-harmless ps p.1)
+parts-harmless (Sgr n ∷ ps) p = parts-harmless ps p.1
+
+-- and nothing of it without these.
+pub uncoloured-harmless : {t u : List ℕ} → IsColourOf t u → IsHarmless u
+uncoloured-harmless (ps, d, e, p) = subst IsHarmless (sym e) (parts-harmless ps p)
