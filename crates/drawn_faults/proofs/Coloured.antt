@@ -7,7 +7,8 @@ use Rattle.std.specs.Char.{is_ascii_digit}
 use Rattle.std.specs.List.{list_all}
 use Rattle.std.specs.Str.{NonePass}
 use Rattle.drawn_faults.specs.Glyphs.{IsHarmless, is_obeyed, run}
-use Rattle.drawn_faults.specs.Painting.{AreSafe, IsColourOf, IsColoured, Part, Piece, Sgr, Text}
+use Rattle.drawn_faults.specs.Painting.{AreSafe, IsColourOf, IsColoured, IsHarmlessWith, Part}
+use Rattle.drawn_faults.specs.Painting.{Piece, Sgr, Text}
 use Rattle.drawn_faults.specs.Painting.{change, closing, escape, level_escape, opening, painted}
 use Rattle.drawn_faults.specs.Painting.{part_bytes, pieces, pieces_after, plain_text, rank, reset_of}
 use Rattle.drawn_faults.specs.Painting.{text_bytes}
@@ -170,3 +171,23 @@ parts-harmless (Sgr n ∷ ps) p = parts-harmless ps p.1
 -- and nothing of it without these.
 pub uncoloured-harmless : {t u : List ℕ} → IsColourOf t u → IsHarmless u
 uncoloured-harmless (ps, d, e, p) = subst IsHarmless (sym e) (parts-harmless ps p)
+
+-- two texts with colours after each other
+pub joined : {s t : List ℕ} → IsColoured s → IsColoured t → IsColoured (s ++ t)
+joined (ps, e, p) (qs, f, q) =
+    (ps ++ qs, bytes-joined part_bytes ps qs e f, safe-append ps qs p q)
+
+-- an escape with a number
+pub sgr : (n : List ℕ) → list_all is_ascii_digit n ≡ true
+    → IsColoured (codes "\u{1b}[" ++ (n ++ codes "m"))
+sgr n e = (Sgr n ∷ [], sym (append-nil (codes "\u{1b}[" ++ (n ++ codes "m"))), (e, tt))
+
+-- texts that have colours or none
+pub joined_with : (b : Bool) {s t : List ℕ} → IsHarmlessWith b s → IsHarmlessWith b t
+    → IsHarmlessWith b (s ++ t)
+joined_with true p q = joined p q
+joined_with false p q = join_harmless p q
+
+pub plain_with : (b : Bool) {t : List ℕ} → IsHarmless t → IsHarmlessWith b t
+plain_with true h = coloured (plain h)
+plain_with false h = h

@@ -66,7 +66,7 @@ pub some-front : (n c : ℕ) (t : Text) → 0 < n → 0 < glyph_count c
 some-front zero c t l h = absurd (omega (arith, l))
 some-front (suc n) c t l h = some-drawn c (take n t) h
 
-none-front : (n c : ℕ) (t : Text) → 0 < n → glyph_count c ≡ 0
+pub none-front : (n c : ℕ) (t : Text) → 0 < n → glyph_count c ≡ 0
     → encode_utf8_all (glyphs (take n (c ∷ t))) ≡ encode_utf8_all (glyphs (take (n - 1) t))
 none-front zero c t l h = absurd (omega (arith, l))
 none-front (suc n) c t l h =
@@ -80,8 +80,15 @@ pub ruleset drawn_front = (some-front, none-front)
 pub run-some : (n c : ℕ) → 0 < n → (length (run n c) == 0) ≡ false
 run-some n c h = let some = some-run n c h in grind (arith, nat_tests)
 
--- what `put_painted_run` needs
-pub ruleset runs = (run-some)
+-- A character has bytes.
+pub some-encoded : (c : ℕ) → (length (encode_utf8 c) == 0) ≡ false
+some-encoded c =
+    let a = length-encode c in
+    let b = len_utf8_bounds c in
+    grind (arith, nat_tests)
+
+-- what `put_in_styles` needs
+pub ruleset encoded = (some-encoded)
 
 -- what `draws_nothing` needs
 pub ruleset drawn_first = (some-drawn)

@@ -271,7 +271,6 @@ pub fn put_painted_glyphs(
 }
 
 /// Adds a character again and again, in a style.
-#[tactic(auto, using(crate::proofs::GlyphLemmas::runs))]
 pub fn put_painted_run(
     out: &mut String,
     palette: Palette,

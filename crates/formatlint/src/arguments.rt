@@ -52,17 +52,15 @@ pub fn file_of<'a>(matches: &ArgMatches<'a>) -> Option<&'a str> {
 }
 
 /// Returns which answer is shown for one string.
-fn show_of(matches: &ArgMatches<'_>, has_colours: bool) -> Show {
+fn show_of(matches: &ArgMatches<'_>) -> Show {
     if matches.get_flag("fix") {
         Show::Fix
     } else if matches.get_flag("all") {
         Show::All
-    } else if !matches.get_flag("tokens") {
-        Show::Fault
-    } else if has_colours {
-        Show::Colours
-    } else {
+    } else if matches.get_flag("tokens") {
         Show::Tokens
+    } else {
+        Show::Fault
     }
 }
 
@@ -72,7 +70,8 @@ pub fn task_of<'a>(matches: &ArgMatches<'_>, path: &'a str, has_colours: bool) -
         mode: mode_of(matches),
         is_literal: !matches.get_flag("text"),
         path,
-        show: show_of(matches, has_colours),
+        show: show_of(matches),
+        colours: has_colours,
     }
 }
 

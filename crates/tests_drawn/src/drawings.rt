@@ -53,6 +53,7 @@ fn drawn(
         source: source.as_str(),
         line_start: row.line,
         literal_start: row.before.len(),
+        colours: false,
     };
     let mut drawing = draw(alloc, mode, &picture, error)?;
     put_drawing(&mut drawing, mode, &picture, error)?;
