@@ -22,6 +22,7 @@ fn check(mode: ParseMode, row: &row::Row) {
         source: &source,
         line_start: row.line,
         literal_start: row.before.len(),
+        colours: false,
     };
     let wanted = row.lines.join("\n") + "\n\n";
     assert_eq!(draw(mode, &picture, &errors[0]), wanted, "{}", row.literal);

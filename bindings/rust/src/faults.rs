@@ -35,7 +35,7 @@ pub use crate::proved::rustc_parse_format::Fault;
 ///
 /// let source = "println!(\"{a!}\");";
 /// let errors = errors_of("{a!}\n", None, Some("\"{a!}\"".to_string()), true, ParseMode::Format);
-/// let picture = Picture { path: "a.rs", source, line_start: 1, literal_start: 9 };
+/// let picture = Picture { path: "a.rs", source, line_start: 1, literal_start: 9, colours: false };
 /// let wanted = "\
 /// error: invalid format string: expected `}`, found `!`
 ///  --> a.rs:1:13

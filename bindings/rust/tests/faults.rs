@@ -287,6 +287,7 @@ fn spans() {
             source,
             line_start: 7,
             literal_start: 0,
+            colours: false,
         };
         let drawing = draw(Format, &picture, &error(span, second, Suggestion::None));
         assert_eq!(
@@ -312,6 +313,7 @@ fn what_a_terminal_obeys() {
         source: "\u{61c}\u{9b}\u{200e}\u{200d}ab",
         line_start: 7,
         literal_start: 2,
+        colours: false,
     };
     let wanted = "error: invalid format string: d\u{241b}[31m\n --> a\u{2407}.rs:7:5\n  |\n\
         7 | \u{fffd}\u{fffd}\u{fffd}ab\n  |    ^- \u{2421}s\n  |    |\n\

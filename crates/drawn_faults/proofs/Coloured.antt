@@ -88,13 +88,13 @@ of_escape p Removal = (Sgr (codes "91") ∷ [], refl, refl, (refl, tt))
 reset : IsColourOf (codes "\u{1b}[0m") []
 reset = (Sgr (codes "0") ∷ [], refl, refl, (refl, tt))
 
-of_opening : (p : Palette) (s : Style) → IsColourOf (opening p s) []
+pub of_opening : (p : Palette) (s : Style) → IsColourOf (opening p s) []
 of_opening Colourless s = nothing
 of_opening Error s = of_escape Error s
 of_opening Warning s = of_escape Warning s
 of_opening Note s = of_escape Note s
 
-of_closing : (p : Palette) → IsColourOf (closing p) []
+pub of_closing : (p : Palette) → IsColourOf (closing p) []
 of_closing Colourless = nothing
 of_closing Error = reset
 of_closing Warning = reset

@@ -39,7 +39,8 @@ use Rattle.drawn_faults.specs.declared.paint.Style.TheVariants.{Plain as PlainSt
 use Rattle.drawn_faults.specs.declared.paint.Style.TheVariants.{Addition, Bold, Help, Primary}
 use Rattle.drawn_faults.specs.declared.paint.Style.TheVariants.{PrimaryText, Removal, Secondary}
 use Rattle.drawn_faults.proofs.Coloured.{AreQuiet, Quiet, coloured, either, join, nothing}
-use Rattle.drawn_faults.proofs.Coloured.{of_painted, of_pieces, of_written, plain, quiet-append}
+use Rattle.drawn_faults.proofs.Coloured.{of_closing, of_opening, of_painted, of_pieces, of_written}
+use Rattle.drawn_faults.proofs.Coloured.{plain, quiet-append}
 use Rattle.drawn_faults.proofs.Coloured.{uncoloured-harmless}
 use Rattle.drawn_faults.proofs.Harmless.{behind-harmless, decimal-harmless, glyphs-harmless}
 use Rattle.drawn_faults.proofs.Harmless.{join as join_harmless, run-harmless, text as harmless_text}
@@ -165,8 +166,9 @@ of_both g m n h k = either (nat_lt m.from n.from) (of_pair g m n h k) (of_pair g
 pub of_numbered : (f : Frame) (n : ℕ) → IsColourOf (numbered f n) (numbered (plain_frame f) n)
 unfolding numbered
 of_numbered f n =
-    join (spaces (f.gutter.columns - length (decimal (f.picture.line_start + n))))
-    (of_painted f.gutter.palette Secondary (decimal-harmless (f.picture.line_start + n)))
+    join (of_opening f.gutter.palette Secondary)
+    (join (spaces (f.gutter.columns - length (decimal (f.picture.line_start + n))))
+    (join (plain (decimal-harmless (f.picture.line_start + n))) (of_closing f.gutter.palette)))
 
 of_number_bar : (f : Frame) (n : ℕ) → IsColourOf (number_bar f n) (number_bar (plain_frame f) n)
 of_number_bar f n =

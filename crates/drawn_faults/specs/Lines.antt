@@ -5,7 +5,7 @@ use Rattle.std.specs.Prelude.{chars, codes, decimal}
 use Rattle.std.specs.Str.{encode_utf8_all}
 use Rattle.rustc_parse_format.specs.Characters.{Text}
 use Rattle.drawn_faults.specs.Glyphs.{glyphs, run}
-use Rattle.drawn_faults.specs.Painting.{painted}
+use Rattle.drawn_faults.specs.Painting.{closing, opening, painted}
 use Rattle.drawn_faults.specs.Places.{line}
 use Rattle.drawn_faults.specs.Rows.{Mark, alone, both, under}
 use Rattle.drawn_faults.specs.Labels.{Frame}
@@ -15,8 +15,9 @@ use Rattle.drawn_faults.specs.declared.paint.Style.TheVariants.{Secondary}
 -- The number of a line of the source in the gutter, at its right.
 unfoldable pub numbered : Frame → ℕ → List ℕ
 numbered f n =
-    run (f.gutter.columns - length (decimal (f.picture.line_start + n))) 32
-    ++ painted f.gutter.palette Secondary (decimal (f.picture.line_start + n))
+    opening f.gutter.palette Secondary
+    ++ (run (f.gutter.columns - length (decimal (f.picture.line_start + n))) 32
+    ++ (decimal (f.picture.line_start + n) ++ closing f.gutter.palette))
 
 -- A number, and the bar after it.
 abbrev pub number_bar : Frame → ℕ → List ℕ

@@ -6,13 +6,11 @@ ghost use Rattle.drawn_faults.specs.Rows.{seen_mark};
 ghost use Rattle.drawn_faults.specs.Labels.{seen_frame};
 ghost use Rattle.drawn_faults.specs.Lines.{apart, behind_bar, code_row, gap, labelled, number_bar};
 ghost use Rattle.drawn_faults.specs.Lines.{numbered, shown, source_line, source_row, two_labels};
-ghost use Rattle.drawn_faults.specs.Painting.{painted};
-ghost use Rattle.drawn_faults.specs.declared.paint.Style.TheVariants.{Secondary};
 
 use crate::glyphs::{draws_nothing, put_glyphs, put_run};
 use crate::labels::{Frame, digits};
 use crate::mark::Mark;
-use crate::paint::{Palette, Style, put_painted};
+use crate::paint::{Palette, Style, put_closing, put_opening, put_painted};
 use crate::places::line;
 use crate::rows::{put_both, put_one};
 use itoa::Buffer;
@@ -27,20 +25,6 @@ pub fn put_decimal(out: &mut String, number: usize) -> Result<(), AllocError>
     Ok(())
 }
 
-/// Adds the number of a line in decimal digits.
-fn put_painted_decimal(
-    out: &mut String,
-    palette: Palette,
-    number: usize,
-) -> Result<(), AllocError>
-    ensures { OnOk result (string_bytes out.new
-        ≡ string_bytes out.old ++ painted palette Secondary (decimal number)) }
-{
-    let mut digits = Buffer::new();
-    put_painted(out, palette, Style::Secondary, digits.format(number))?;
-    Ok(())
-}
-
 /// Adds the number of a line of the source, at the right of its gutter.
 #[tactic(auto, unfolding(crate::specs::Lines::numbered))]
 pub fn put_line_number(out: &mut String, frame: &Frame<'_>, line: usize) -> Result<(), AllocError>
@@ -49,8 +33,10 @@ pub fn put_line_number(out: &mut String, frame: &Frame<'_>, line: usize) -> Resu
         ++ numbered (seen_frame frame.now) line) }
 {
     let number = frame.picture.line_start as usize + line;
+    put_opening(out, frame.gutter.palette, Style::Secondary)?;
     put_run(out, ' ', frame.gutter.columns.saturating_sub(digits(number)))?;
-    put_painted_decimal(out, frame.gutter.palette, number)?;
+    put_decimal(out, number)?;
+    put_closing(out, frame.gutter.palette)?;
     Ok(())
 }
 

@@ -5,18 +5,21 @@
 // That source is proved, and each contract here is its. That this text means the same is tested:
 // by results from outside, and beside what is proved (.ci/bindings) and the original (tools/agree).
 
+pub(crate) mod cells;
 pub(crate) mod drawing;
+pub(crate) mod extent;
 pub(crate) mod fixes;
 pub(crate) mod glyphs;
 pub(crate) mod labels;
 pub(crate) mod lines;
 pub(crate) mod long;
+pub(crate) mod mark;
+pub(crate) mod paint;
 pub(crate) mod places;
 pub(crate) mod printable;
 pub(crate) mod rounds;
 pub(crate) mod rows;
 pub(crate) mod suggestions;
-
 pub use drawing::{draw, put_drawing};
 pub use fixes::{edits, errors_of, Edit, Fixed};
 pub use glyphs::put_glyphs;

@@ -1,4 +1,4 @@
-//! Findings in the form that is asked for.
+//! Findings in the forms of messages.
 
 // Extracted from crates/formatlint/src/forms.rt by tools/extract: not to be edited.
 // That source is proved, and each contract here is its. That this text means the same is tested:
@@ -89,7 +89,7 @@ fn level_of(finding: &Finding) -> Level {
     }
 }
 
-/// Appends a message as people read it. Returns `Err` if an allocation fails.
+/// Appends a message in the form for people. Returns `Err` if an allocation fails.
 #[inline]
 fn put_human(out: &mut String, message: &Message<'_>) -> Result<(), AllocError> {
     put_short(out, message)
@@ -140,7 +140,8 @@ pub fn put_finding<'a>(
     put_message(out, form, is_first, &message)
 }
 
-/// Appends what stands in front of all messages. Returns `Err` if an allocation fails.
+/// Appends the start of the output, which comes before all messages. Returns `Err` if an allocation
+/// fails.
 #[inline]
 pub fn put_start(out: &mut String, form: Form, version: &str) -> Result<(), AllocError> {
     match form {
@@ -149,7 +150,8 @@ pub fn put_start(out: &mut String, form: Form, version: &str) -> Result<(), Allo
     }
 }
 
-/// Appends what stands behind all messages. Returns `Err` if an allocation fails.
+/// Appends the end of the output, which comes after all messages. Returns `Err` if an allocation
+/// fails.
 #[inline]
 pub fn put_end(out: &mut String, form: Form, is_whole: bool) -> Result<(), AllocError> {
     match form {

@@ -1,4 +1,4 @@
-//! What is found in a call: its faults, in words and with their places in the file.
+//! The findings of a call: its faults, in words and with their places in the file.
 
 // Extracted from crates/source_lint/src/findings.rt by tools/extract: not to be edited.
 // That source is proved, and each contract here is its. That this text means the same is tested:
@@ -24,7 +24,7 @@ fn is_text_fault(fault: &CallFault<'_>) -> bool {
     matches!(fault, CallFault::Text(_))
 }
 
-/// Returns what is found of a fault of a call. Returns `Err` if an allocation fails.
+/// Returns the finding of a fault of a call. Returns `Err` if an allocation fails.
 // ensures tells { IfOk result (λ x. Tells (told checked.now []) (seen_fault fault.now) x) }
 // ensures span { IfOk result (λ x. IsSpan site.entry.text.now x.span) }
 #[inline]
@@ -45,7 +45,7 @@ fn finding<'c>(
     })
 }
 
-/// Adds what is found of a fault of a call, unless only that of its string counts. Returns `Err` if
+/// Adds the finding of a fault of a call, unless only that of its string counts. Returns `Err` if
 /// an allocation fails.
 // ensures told { OnOk result ((xs : List FindingValue)
 //     × (findings.new.items ≡ findings.old.items ++ xs)
@@ -67,7 +67,7 @@ fn put_finding<'c>(
     Ok(())
 }
 
-/// Adds what is found of the faults of a call, or only of that of its string. Returns `Err` if an
+/// Adds the findings of the faults of a call, or only that of its string. Returns `Err` if an
 /// allocation fails.
 // ensures told { OnOk result ((xs : List FindingValue)
 //     × (findings.new.items ≡ findings.old.items ++ xs) × TellAll (told checked.now [])

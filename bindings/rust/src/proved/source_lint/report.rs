@@ -1,4 +1,4 @@
-//! What is asked about a file, and what is found in it.
+//! The options for reading a file, and the report on it.
 
 // Extracted from crates/source_lint/src/report.rt by tools/extract: not to be edited.
 // That source is proved, and each contract here is its. That this text means the same is tested:
@@ -32,9 +32,9 @@ pub enum CallReading {
     Malformed,
 }
 
-/// What is wrong with a call, as rustc tells it.
+/// A fault of a call, in rustc's words.
 pub struct Finding {
-    /// Whether it is a warning, and no error.
+    /// Whether it is a warning. Any other fault is an error.
     pub is_warning: bool,
     /// The id of its kind, in kebab case.
     pub id: &'static str,
@@ -44,12 +44,12 @@ pub struct Finding {
     pub span: Range<usize>,
 }
 
-/// What was read of a file, and what is wrong with it.
+/// The readings of the calls of a file, and the faults of these calls.
 pub struct Report {
     /// How much of each call of a macro of the table was read, in the order of their names.
     pub calls: Vec<CallReading>,
-    /// What is wrong with these calls, one call after the other.
+    /// The faults of these calls, one call after the other.
     pub findings: Vec<Finding>,
-    /// Where the file breaks, or `None` if it does not. Calls in front of that place are read.
+    /// Where the file breaks, or `None` if it does not. Calls before that place are read.
     pub broken: Option<BreakAt>,
 }

@@ -1,4 +1,4 @@
-//! Where in a file the faults of a call are.
+//! The places of the faults of a call in its file.
 
 // Extracted from crates/source_lint/src/spans.rt by tools/extract: not to be edited.
 // That source is proved, and each contract here is its. That this text means the same is tested:
@@ -13,21 +13,21 @@ use crate::shim::alloc::{AllocError, Global};
 use crate::shim::prelude::*;
 use std::ops::Range;
 
-/// Where a call and its parts are.
+/// A call and its parts in the file.
 #[derive(Clone, Copy)]
 pub struct Site<'s, 'a> {
     /// The text of the file.
     pub text: &'a str,
-    /// Tokens of the file, with those of the call.
+    /// The tokens of the part of the file that has the call.
     pub tokens: &'s [Token<'a>],
     /// The literal of its format string.
     pub literal: Token<'a>,
-    /// The arguments behind its format string.
+    /// The arguments after its format string.
     pub arguments: &'s [Argument],
 }
 
 /// Returns the range between two byte offsets of a text. An offset within a character goes back to
-/// its start, and an end that is in front of the start is there.
+/// its start, and the range is empty if its end comes before its start.
 // ensures { IsSpan text.now result }
 #[inline]
 pub fn range_in(text: &str, from: usize, to: usize) -> Range<usize> {
@@ -94,10 +94,10 @@ fn value_range(site: Site<'_, '_>, index: usize) -> Range<usize> {
 /// that end with LF.
 #[inline]
 fn literal_range(site: Site<'_, '_>, span: &Range<usize>) -> Range<usize> {
-    let start = site.literal.start;
-    let text = site.literal.text;
-    start.saturating_add(offset_in(text, span.start))
-        ..start.saturating_add(offset_in(text, span.end))
+    let literal = site.literal;
+    let start = offset_in(literal.text, span.start);
+    let end = offset_in(literal.text, span.end);
+    literal.start.saturating_add(start)..literal.start.saturating_add(end)
 }
 
 /// Returns a range again, or another one if there is none.
@@ -155,7 +155,7 @@ fn takes_next(argument: &Placeholder<'_>) -> bool {
 /// of its precision if only that does. Returns `None` if one of them refers to an argument by a
 /// number that is written.
 #[inline]
-fn taking_span(checked: &Checked<'_>) -> Option<Range<usize>> {
+fn first_taker(checked: &Checked<'_>) -> Option<Range<usize>> {
     let mut found = None;
     let mut number = 0usize;
     for piece in &checked.pieces {
@@ -164,7 +164,7 @@ fn taking_span(checked: &Checked<'_>) -> Option<Range<usize>> {
                 return None;
             }
             if found.is_none() && takes_next(argument) {
-                found = Some(taken_span(checked, argument, number));
+                found = Some(taker_span(checked, argument, number));
             }
             number = number.saturating_add(1);
         }
@@ -175,7 +175,7 @@ fn taking_span(checked: &Checked<'_>) -> Option<Range<usize>> {
 /// Returns the range in the literal of what takes the next argument: the placeholder of a number,
 /// or its precision.
 #[inline]
-fn taken_span(checked: &Checked<'_>, argument: &Placeholder<'_>, number: usize) -> Range<usize> {
+fn taker_span(checked: &Checked<'_>, argument: &Placeholder<'_>, number: usize) -> Range<usize> {
     if !matches!(argument.position, Position::ArgumentImplicitlyIs(_)) {
         return range_or(&argument.format.precision_span, &argument.position_span);
     }
@@ -188,7 +188,7 @@ fn taken_span(checked: &Checked<'_>, argument: &Placeholder<'_>, number: usize) 
 /// Returns the range in the literal of the first of references by an index that is too large.
 #[inline]
 fn missing_span(checked: &Checked<'_>, missing: &[Missing]) -> Range<usize> {
-    if let Some(span) = taking_span(checked) {
+    if let Some(span) = first_taker(checked) {
         return span;
     }
     match missing.first() {

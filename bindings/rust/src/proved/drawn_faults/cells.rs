@@ -1,0 +1,79 @@
+//! A row as cells, into which texts are put over one another. What begins with `put_` writes into a
+//! row or appends to `out`, and returns `Err` if an allocation fails.
+
+// Extracted from crates/drawn_faults/src/cells.rt by tools/extract: not to be edited.
+// That source is proved, and each contract here is its. That this text means the same is tested:
+// by results from outside, and beside what is proved (.ci/bindings) and the original (tools/agree).
+
+use crate::proved::drawn_faults::mark::Mark;
+use crate::proved::drawn_faults::paint::{has_colours, put_change, put_reset, Palette, Style};
+use crate::shim::alloc::AllocError;
+use crate::shim::prelude::*;
+
+/// A character in a row.
+#[derive(Clone, Copy)]
+pub struct Cell {
+    pub character: char,
+    pub style: Style,
+}
+
+/// Returns the style of the signs of a label, and of its bar.
+// ensures { result ≡ style_of (seen_mark mark.now) }
+#[inline]
+pub fn style_of(mark: &Mark<'_>) -> Style {
+    if mark.sign == '^' {
+        Style::Primary
+    } else {
+        Style::Secondary
+    }
+}
+
+/// Returns the style of the text of a label.
+// ensures { result ≡ text_style (seen_mark mark.now) }
+#[inline]
+pub fn text_style(mark: &Mark<'_>) -> Style {
+    if mark.sign == '^' {
+        Style::PrimaryText
+    } else {
+        Style::SecondaryText
+    }
+}
+
+/// Returns a space.
+// ensures { result ≡ space }
+#[inline]
+pub fn space() -> Cell {
+    Cell {
+        character: ' ',
+        style: Style::Plain,
+    }
+}
+
+/// Adds the characters of cells in their styles.
+// ensures { OnOk result (string_bytes out.new ≡ string_bytes out.old
+//     ++ pieces_after palette Plain (cell_pieces cells.now)) }
+#[inline]
+fn put_in_styles(out: &mut String, palette: Palette, cells: &[Cell]) -> Result<(), AllocError> {
+    let mut style = Style::Plain;
+    for cell in cells {
+        put_change(out, palette, style, cell.style)?;
+        out.try_push(cell.character)?;
+        style = cell.style;
+    }
+    put_reset(out, style)?;
+    Ok(())
+}
+
+/// Adds the characters of cells, in their styles if there are colours.
+// ensures { OnOk result (string_bytes out.new
+//     ≡ string_bytes out.old ++ written palette cells.now) }
+#[inline]
+pub fn put_written(out: &mut String, palette: Palette, cells: &[Cell]) -> Result<(), AllocError> {
+    if has_colours(palette) {
+        return Ok(put_in_styles(out, palette, cells)?);
+    }
+    for cell in cells {
+        out.try_push(cell.character)?;
+    }
+    Ok(())
+}
