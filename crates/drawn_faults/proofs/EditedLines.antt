@@ -1,12 +1,14 @@
--- A line of the source with what edits replace is that line.
+-- A line of the source with what edits replace is that line, and the pieces of a line with edits.
 use Rattle.std.proofs.Common.{◌≡◌, ℕ, ◌-◌, zero, suc, max, List, [], ◌∷◌, ◌++◌, ◌∙◌, ap, sym, refl}
 use Rattle.std.proofs.Common.{append-nil, append_assoc, drop, encode_utf8_all, replicate, take}
 use Rattle.std.proofs.lemmas.Str.{encodes-append}
 use Rattle.rustc_parse_format.specs.Characters.{Text}
-use Rattle.drawn_faults.specs.Glyphs.{glyph, glyph_count, glyphs}
+use Rattle.drawn_faults.specs.Glyphs.{glyph, glyph_bytes, glyph_count, glyphs}
+use Rattle.drawn_faults.specs.Helps.{edited_from}
 use Rattle.drawn_faults.specs.Labels.{Edit}
-use Rattle.drawn_faults.specs.Painting.{plain_text}
+use Rattle.drawn_faults.specs.Painting.{piece, plain_text}
 use Rattle.drawn_faults.specs.Suggestions.{first_in, last_in, old_pieces}
+use Rattle.drawn_faults.specs.declared.paint.Style.TheVariants.{Addition, Plain, Removal}
 
 front-drawn : (n : ℕ) (t : Text) → glyphs (take n t) ++ glyphs (drop n t) ≡ glyphs t
 front-drawn zero t = refl
@@ -35,5 +37,20 @@ old-line n bytes k (e ∷ es) t =
     ∙ ap (λ x. encode_utf8_all (glyphs (take (from - k) t)) ++ x) (drawn-front (to - from) u)
     ∙ drawn-front (from - k) t
 
--- what `put_old_line` needs
-pub ruleset old_lines = (old-line)
+-- The pieces of the first one of some edits, and of the others.
+pub old-step : (n bytes k : ℕ) (e : Edit) (es : List Edit) (t removed rest : Text) (from to : ℕ)
+    → from ≡ max (first_in n e) k → to ≡ max (last_in n bytes e) from
+    → removed ≡ drop (from - k) t → rest ≡ drop (to - from) removed
+    → piece Plain (encode_utf8_all (glyphs (take (from - k) t)))
+    ∷ piece Removal (encode_utf8_all (glyphs (take (to - from) removed)))
+    ∷ old_pieces n bytes to es rest
+    ≡ old_pieces n bytes k (e ∷ es) t
+old-step n bytes k e es t removed rest from to f g h r = rw (r, h, g, f) refl
+
+-- The pieces of the first one of some edits of a new line, and of the others.
+pub new-step : (n : ℕ) (e : Edit) (es : List Edit) (t rest : Text) (count past : ℕ)
+    → count ≡ e.extent.start.chars - n → past ≡ e.extent.end.chars - n → rest ≡ drop past t
+    → piece Plain (encode_utf8_all (glyphs (take count t)))
+    ∷ piece Addition (glyph_bytes e.text) ∷ edited_from e.extent.end.chars es rest
+    ≡ edited_from n (e ∷ es) t
+new-step n e es t rest count past f g r = rw (r, g, f) refl

@@ -87,9 +87,6 @@ some-encoded c =
     let b = len_utf8_bounds c in
     grind (arith, nat_tests)
 
--- what `put_in_styles` needs
-pub ruleset encoded = (some-encoded)
-
 -- what `draws_nothing` needs
 pub ruleset drawn_first = (some-drawn)
 

@@ -309,6 +309,7 @@ unfolding parting
 of_parting f = join (of_blank f.gutter) (text (codes "\n") refl)
 
 pub of_help_word : (p : Palette) → IsColourOf (help_word p) (help_word Colourless)
+unfolding help_word
 of_help_word p =
     join (of_painted p Help (harmless_text (codes "help") refl)) (text (codes ": ") refl)
 

@@ -18,7 +18,7 @@ unfoldable pub parting : Frame → List ℕ
 parting f = blank f.gutter ++ codes "\n"
 
 -- The word that a help begins with.
-abbrev pub help_word : Palette → List ℕ
+unfoldable pub help_word : Palette → List ℕ
 help_word p = painted p Help (codes "help") ++ codes ": "
 
 -- What a suggestion is.

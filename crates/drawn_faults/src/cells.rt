@@ -126,7 +126,6 @@ pub fn put_from(
 }
 
 /// Adds the characters of cells in their styles.
-#[tactic(auto, using(crate::proofs::GlyphLemmas::encoded))]
 fn put_in_styles(out: &mut String, palette: Palette, cells: &[Cell]) -> Result<(), AllocError>
     ensures { OnOk result (string_bytes out.new ≡ string_bytes out.old
         ++ pieces_after palette Plain (cell_pieces cells.now)) }

@@ -23,7 +23,7 @@ use crate::glyphs::{
 use crate::labels::{Edit, Frame};
 use crate::lines::put_line_number;
 use crate::marked::last_edit_line;
-use crate::paint::{Gutter, Palette, Style, has_colours, put_change, put_reset};
+use crate::paint::{Gutter, Palette, Style, has_colours, put_reset, put_sign};
 use crate::places::{Picture, line};
 use crate::rows::put_gutter;
 use crate::suggestions::{put_help_word, put_old, put_parting};
@@ -77,8 +77,7 @@ fn put_coloured_edits(
         ++ pieces_after palette Plain (piece style sign.now
         ∷ edited_from 0 (map seen_edit edits.now) (chars line.now))) }
 {
-    put_change(out, palette, Style::Plain, style)?;
-    out.push_str(sign)?;
+    put_sign(out, palette, style, sign)?;
     let mut last = style;
     let mut passed = 0;
     let mut rest = line;

@@ -1,10 +1,12 @@
 //! Texts in the styles that rustc gives them on a terminal. What begins with `put_` appends to
 //! `out`, and returns `Err` if an allocation fails.
 
-ghost use Rattle.std.specs.Prelude.{◌≡◌, ◌++◌, List, OnOk, codes, string_bytes};
-ghost use Rattle.drawn_faults.specs.Painting.{change, closing, escape, has_colours};
-ghost use Rattle.drawn_faults.specs.Painting.{level_escape, opening, painted, palette_of, rank};
-ghost use Rattle.drawn_faults.specs.Painting.{reset_of};
+ghost use Rattle.std.specs.Prelude.{◌≡◌, ◌++◌, ◌∷◌, ◌==◌, List, OnOk, codes, false, length};
+ghost use Rattle.std.specs.Prelude.{string_bytes};
+ghost use Rattle.drawn_faults.specs.Painting.{Piece, change, closing, escape, has_colours};
+ghost use Rattle.drawn_faults.specs.Painting.{level_escape, opening, painted, palette_of, piece};
+ghost use Rattle.drawn_faults.specs.Painting.{pieces_after, rank, reset_of};
+ghost use Rattle.drawn_faults.specs.declared.paint.Style.TheVariants.{Plain};
 
 use std::alloc::AllocError;
 
@@ -135,6 +137,23 @@ pub fn put_change(
     }
     put_reset(out, before)?;
     out.push_str(escape(palette, after))?;
+    Ok(())
+}
+
+/// Adds a text in a style, without its end.
+pub fn put_sign(
+    out: &mut String,
+    palette: Palette,
+    style: Style,
+    sign: &str,
+) -> Result<(), AllocError>
+    requires { (length sign.now == 0) ≡ false }
+    ensures { OnOk result ((xs : List Piece) → string_bytes out.new
+        ++ pieces_after palette style xs
+        ≡ string_bytes out.old ++ pieces_after palette Plain (piece style sign.now ∷ xs)) }
+{
+    put_change(out, palette, Style::Plain, style)?;
+    out.push_str(sign)?;
     Ok(())
 }
 

@@ -11,12 +11,10 @@ ghost use Rattle.drawn_faults.specs.Suggestions.{last_in, new_row, old_pieces, o
 ghost use Rattle.drawn_faults.specs.Suggestions.{parting};
 ghost use Rattle.drawn_faults.specs.declared.paint.Style.TheVariants.{Addition, Plain, Removal};
 
-use crate::glyphs::{
-    behind_chars, put_front, put_front_after, put_glyphs, put_glyphs_after, put_glyphs_between,
-};
+use crate::glyphs::{behind_chars, put_front, put_front_after, put_glyphs, put_glyphs_after};
 use crate::labels::{Edit, Frame};
 use crate::lines::put_line_number;
-use crate::paint::{Palette, Style, has_colours, put_change, put_painted, put_reset};
+use crate::paint::{Palette, Style, has_colours, put_painted, put_reset, put_sign};
 use crate::places::{behind_lines, line, split_line};
 use crate::rows::put_blank;
 use std::alloc::AllocError;
@@ -33,6 +31,7 @@ pub fn put_parting(out: &mut String, frame: &Frame<'_>) -> Result<(), AllocError
 }
 
 /// Adds the word that a help begins with.
+#[tactic(auto, unfolding(crate::specs::Suggestions::help_word))]
 pub fn put_help_word(out: &mut String, palette: Palette) -> Result<(), AllocError>
     ensures { OnOk result (string_bytes out.new ≡ string_bytes out.old ++ help_word palette) }
 {
@@ -47,7 +46,9 @@ fn put_help_title(out: &mut String, palette: Palette, text: &str) -> Result<(), 
         ≡ string_bytes out.old ++ help_title palette text.now) }
 {
     put_help_word(out, palette)?;
-    put_glyphs_between(out, "did you mean `", text, "`?\n")?;
+    out.push_str("did you mean `")?;
+    put_glyphs(out, text, 0)?;
+    out.push_str("`?\n")?;
     Ok(())
 }
 
@@ -86,8 +87,7 @@ fn put_removed(
         ++ pieces_after palette Plain (piece Removal (codes "- ")
         ∷ old_pieces number (length line.now) 0 (map seen_edit edits.now) (chars line.now))) }
 {
-    put_change(out, palette, Style::Plain, Style::Removal)?;
-    out.push_str("- ")?;
+    put_sign(out, palette, Style::Removal, "- ")?;
     let mut style = Style::Removal;
     let mut passed = 0;
     let mut rest = line;
@@ -106,7 +106,6 @@ fn put_removed(
 }
 
 /// Adds a line of the source without its edits, after a sign.
-#[tactic(auto, using(crate::proofs::EditedLines::old_lines))]
 fn put_old_line(
     out: &mut String,
     palette: Palette,
@@ -184,8 +183,7 @@ fn put_coloured_edit(
         ++ pieces_after palette Plain (piece Addition (codes "+ ")
         ∷ edited (seen_edit edit.now) first.now last.now)) }
 {
-    put_change(out, palette, Style::Plain, Style::Addition)?;
-    out.push_str("+ ")?;
+    put_sign(out, palette, Style::Addition, "+ ")?;
     let count = edit.extent.start.chars;
     let style = put_front_after(out, palette, Style::Addition, Style::Plain, first, count)?;
     let style = put_glyphs_after(out, palette, style, Style::Addition, edit.text)?;

@@ -14,5 +14,5 @@ invariant-loop-edit l = record {
       ++ plain_text (edited_from l.passed (map seen_edit (drop l.edit-index l.edits))
       (chars l.rest))
       ≡ string_bytes l.fn.out
-      ++ plain_text (piece l.style l.sign ∷ edited_from 0 (map seen_edit l.edits) (chars l.line));
+      ++ plain_text (piece l.fn.style l.fn.sign ∷ edited_from 0 (map seen_edit l.edits) (chars l.line));
 }
