@@ -1,7 +1,8 @@
 -- Lemmas on texts with colours: without these they are the texts that are drawn without colours.
 use Rattle.std.proofs.Common.{◌≡◌, ◌∙◌, ◌==◌, ℕ, zero, suc, Bool, true, false, List, [], ◌∷◌, ◌++◌}
 use Rattle.std.proofs.Common.{ap, append-nil, append_assoc, codes, cond, encode_utf8_all, length}
-use Rattle.std.proofs.Common.{map, refl, replicate, subst, sym}
+use Rattle.std.proofs.Common.{arith, map, refl, subst, sym}
+use Rattle.std.proofs.lemmas.Bool.Decides.{nat_tests}
 use Rattle.std.specs.Prelude.{encode_utf8, flat_map}
 use Rattle.std.specs.Char.{is_ascii_digit}
 use Rattle.std.specs.List.{list_all}
@@ -41,12 +42,12 @@ bytes-joined f ps qs {s = s} {t = t} d e =
 
 -- two texts after each other
 pub join : {s t u v : List ℕ} → IsColourOf s t → IsColourOf u v → IsColourOf (s ++ u) (t ++ v)
-join (ps, d, e, p) (qs, f, g, q) = (
-  ps ++ qs,
-  bytes-joined part_bytes ps qs d f,
-  bytes-joined text_bytes ps qs e g,
-  safe-append ps qs p q,
-)
+join p q = record {
+  parts = p.parts ++ q.parts;
+  are_all = bytes-joined part_bytes p.parts q.parts p.are_all q.are_all;
+  are_plain = bytes-joined text_bytes p.parts q.parts p.are_plain q.are_plain;
+  are_safe = safe-append p.parts q.parts p.are_safe q.are_safe;
+}
 
 -- one of two texts
 pub either : (k : Bool) {s t u v : List ℕ} → IsColourOf s t → IsColourOf u v
@@ -60,33 +61,87 @@ one_of false p q = q
 
 -- a text without colours
 pub plain : {t : List ℕ} → IsHarmless t → IsColourOf t t
-plain {t = t} h = (Text t ∷ [], sym (append-nil t), sym (append-nil t), (h, tt))
+plain {t = t} h = record {
+  parts = Text t ∷ [];
+  are_all = sym (append-nil t);
+  are_plain = sym (append-nil t);
+  are_safe = (h, tt);
+}
 
 pub nothing : IsColourOf [] []
-nothing = ([], refl, refl, tt)
+nothing = record { parts = []; are_all = refl; are_plain = refl; are_safe = tt }
 
 -- escapes
 of_level : (p : Palette) → IsColourOf (level_escape p) []
 of_level Colourless = nothing
-of_level Error = (Sgr (codes "1") ∷ Sgr (codes "91") ∷ [], refl, refl, (refl, (refl, tt)))
-of_level Warning = (Sgr (codes "1") ∷ Sgr (codes "33") ∷ [], refl, refl, (refl, (refl, tt)))
-of_level Note = (Sgr (codes "1") ∷ Sgr (codes "92") ∷ [], refl, refl, (refl, (refl, tt)))
+of_level Error = record {
+  parts = Sgr (codes "1") ∷ Sgr (codes "91") ∷ [];
+  are_all = refl;
+  are_plain = refl;
+  are_safe = (refl, (refl, tt));
+}
+of_level Warning = record {
+  parts = Sgr (codes "1") ∷ Sgr (codes "33") ∷ [];
+  are_all = refl;
+  are_plain = refl;
+  are_safe = (refl, (refl, tt));
+}
+of_level Note = record {
+  parts = Sgr (codes "1") ∷ Sgr (codes "92") ∷ [];
+  are_all = refl;
+  are_plain = refl;
+  are_safe = (refl, (refl, tt));
+}
 
 of_escape : (p : Palette) (s : Style) → IsColourOf (escape p s) []
 unfolding escape
 of_escape p Plain = nothing
 of_escape p Primary = of_level p
 of_escape p PrimaryText = of_level p
-of_escape p Secondary = (Sgr (codes "1") ∷ Sgr (codes "94") ∷ [], refl, refl, (refl, (refl, tt)))
-of_escape p SecondaryText =
-    (Sgr (codes "1") ∷ Sgr (codes "94") ∷ [], refl, refl, (refl, (refl, tt)))
-of_escape p Bold = (Sgr (codes "1") ∷ [], refl, refl, (refl, tt))
-of_escape p Help = (Sgr (codes "1") ∷ Sgr (codes "96") ∷ [], refl, refl, (refl, (refl, tt)))
-of_escape p Addition = (Sgr (codes "92") ∷ [], refl, refl, (refl, tt))
-of_escape p Removal = (Sgr (codes "91") ∷ [], refl, refl, (refl, tt))
+of_escape p Secondary = record {
+  parts = Sgr (codes "1") ∷ Sgr (codes "94") ∷ [];
+  are_all = refl;
+  are_plain = refl;
+  are_safe = (refl, (refl, tt));
+}
+of_escape p SecondaryText = record {
+  parts = Sgr (codes "1") ∷ Sgr (codes "94") ∷ [];
+  are_all = refl;
+  are_plain = refl;
+  are_safe = (refl, (refl, tt));
+}
+of_escape p Bold = record {
+  parts = Sgr (codes "1") ∷ [];
+  are_all = refl;
+  are_plain = refl;
+  are_safe = (refl, tt);
+}
+of_escape p Help = record {
+  parts = Sgr (codes "1") ∷ Sgr (codes "96") ∷ [];
+  are_all = refl;
+  are_plain = refl;
+  are_safe = (refl, (refl, tt));
+}
+of_escape p Addition = record {
+  parts = Sgr (codes "92") ∷ [];
+  are_all = refl;
+  are_plain = refl;
+  are_safe = (refl, tt);
+}
+of_escape p Removal = record {
+  parts = Sgr (codes "91") ∷ [];
+  are_all = refl;
+  are_plain = refl;
+  are_safe = (refl, tt);
+}
 
 reset : IsColourOf (codes "\u{1b}[0m") []
-reset = (Sgr (codes "0") ∷ [], refl, refl, (refl, tt))
+reset = record {
+  parts = Sgr (codes "0") ∷ [];
+  are_all = refl;
+  are_plain = refl;
+  are_safe = (refl, tt);
+}
 
 pub of_opening : (p : Palette) (s : Style) → IsColourOf (opening p s) []
 of_opening Colourless s = nothing
@@ -125,7 +180,9 @@ of_text : (p : Palette) (s t : Style) (bs : List ℕ) {u v w : List ℕ} → IsH
     → IsColourOf u w → IsColourOf v w
     → IsColourOf (cond (length bs == 0) u (change p s t ++ (bs ++ v))) (bs ++ w)
 of_text p s t [] h x y = x
-of_text p s t (c ∷ bs) h x y = join (of_change p s t) (join (plain h) y)
+of_text p s t (c ∷ bs) h x y =
+    let some : (length (c ∷ bs) == 0) ≡ false = grind (arith, nat_tests) in
+    rw some (join (of_change p s t) (join (plain h) y))
 
 of_pieces_after : (p : Palette) (s : Style) (xs : List Piece) → AreQuiet xs
     → IsColourOf (pieces_after p s xs) (plain_text xs)
@@ -149,7 +206,7 @@ quiet-append [] b p q = q
 quiet-append (c ∷ a) b p q = (p.0, quiet-append a b p.1 q)
 
 one-harmless : (c : ℕ) → is_obeyed c ≡ false → IsHarmless (encode_utf8 c)
-one-harmless c e = (c ∷ [], sym (append-nil (encode_utf8 c)), (e, tt))
+one-harmless c e = (c ∷ [], append-nil (encode_utf8 c), (e, tt))
 
 quiet-cells : (cs : List Cell) → Quiet cs → AreQuiet (cell_pieces cs)
 quiet-cells [] q = tt
@@ -161,7 +218,7 @@ of_written p cs q = of_pieces p (cell_pieces cs) (quiet-cells cs q)
 
 -- A terminal obeys nothing of such a text but colours,
 pub coloured : {t u : List ℕ} → IsColourOf t u → IsColoured t
-coloured (ps, d, e, p) = (ps, d, p)
+coloured h = (h.parts, h.are_all, h.are_safe)
 
 parts-harmless : (ps : List Part) → AreSafe ps → IsHarmless (flat_map text_bytes ps)
 parts-harmless [] p = written_text [] refl
@@ -170,7 +227,7 @@ parts-harmless (Sgr n ∷ ps) p = parts-harmless ps p.1
 
 -- and nothing of it without these.
 pub uncoloured-harmless : {t u : List ℕ} → IsColourOf t u → IsHarmless u
-uncoloured-harmless (ps, d, e, p) = subst IsHarmless (sym e) (parts-harmless ps p)
+uncoloured-harmless h = subst IsHarmless (sym h.are_plain) (parts-harmless h.parts h.are_safe)
 
 -- two texts with colours after each other
 pub joined : {s t : List ℕ} → IsColoured s → IsColoured t → IsColoured (s ++ t)
@@ -183,10 +240,10 @@ pub sgr : (n : List ℕ) → list_all is_ascii_digit n ≡ true
 sgr n e = (Sgr n ∷ [], sym (append-nil (codes "\u{1b}[" ++ (n ++ codes "m"))), (e, tt))
 
 -- texts that have colours or none
-pub joined_with : (b : Bool) {s t : List ℕ} → IsHarmlessWith b s → IsHarmlessWith b t
+pub joined_with : (b : Bool) (s t : List ℕ) → IsHarmlessWith b s → IsHarmlessWith b t
     → IsHarmlessWith b (s ++ t)
-joined_with true p q = joined p q
-joined_with false p q = join_harmless p q
+joined_with true s t p q = joined p q
+joined_with false s t p q = join_harmless p q
 
 pub plain_with : (b : Bool) {t : List ℕ} → IsHarmless t → IsHarmlessWith b t
 plain_with true h = coloured (plain h)

@@ -2,7 +2,9 @@
 -- no character of that, but for line feeds.
 use Rattle.std.proofs.Common.{◌≡◌, ◌∙◌, ◌-◌, ◌∷◌, ◌&&◌, ◌==◌, ℕ, suc, zero, [], false, true}
 use Rattle.std.proofs.Common.{Bool, List, None, Option, Some, ap, chars, codes, cond, drop}
-use Rattle.std.proofs.Common.{if◌then◌else◌, length, map, nat_lt, refl, replicate, take}
+use Rattle.std.proofs.Common.{◌+◌, if◌then◌else◌, length, map, nat_lt, refl, replicate, subst, sym}
+use Rattle.std.proofs.Common.{take}
+use Rattle.std.specs.Prelude.{decimal, unwrap_or}
 use Rattle.std.specs.Option.{option_map_or}
 use Rattle.std.specs.Str.{NonePass}
 use Rattle.rustc_parse_format.specs.Characters.{Text}
@@ -11,20 +13,21 @@ use Rattle.drawn_faults.specs.Diagnostics.{Diagnostic, Help, Note, SourceLabel, 
 use Rattle.drawn_faults.specs.Diagnostics.{drawn_in, each_in_line, first_spot, frame_of}
 use Rattle.drawn_faults.specs.Diagnostics.{gap_after, gutter_of, helps_rows, in_line}
 use Rattle.drawn_faults.specs.Diagnostics.{indented, label_of, labels_rows, last_edit_line}
-use Rattle.drawn_faults.specs.Diagnostics.{last_help_line, last_label_line, last_note_line}
+use Rattle.drawn_faults.specs.Diagnostics.{last_help_line, last_label_line, last_line_of}
+use Rattle.drawn_faults.specs.Diagnostics.{last_note_line}
 use Rattle.drawn_faults.specs.Diagnostics.{level_word, lower, lowest, marked_lines, next_line}
 use Rattle.drawn_faults.specs.Diagnostics.{note_gutter, notes_rows, parting_above, placed_edit}
 use Rattle.drawn_faults.specs.Diagnostics.{plain_note, shown_label, shown_note, titled}
 use Rattle.drawn_faults.specs.Glyphs.{IsHarmless, glyph, glyph_count, glyphs, is_obeyed}
 use Rattle.drawn_faults.specs.Helps.{are_in_line, are_insertions, columns_of, edited_from}
 use Rattle.drawn_faults.specs.Helps.{edits_rows, inserted_rows, new_row, pluses, replaced_rows}
-use Rattle.drawn_faults.specs.Labels.{Edit, Frame, Label, line_indent, mark}
+use Rattle.drawn_faults.specs.Labels.{Edit, Frame, Label, cut_of, line_indent, mark}
 use Rattle.drawn_faults.specs.Marks.{Hung, bars, cells, depth, hang, has_text, hung_row}
 use Rattle.drawn_faults.specs.Marks.{hung_rows, hung_texts, is_right_of, mark_rows, put_at}
 use Rattle.drawn_faults.specs.Marks.{put_from, rows_below, rows_of, side_texts, sign_row, signs_of}
 use Rattle.drawn_faults.specs.Marks.{sorted, with_bar, with_hung_text, with_mark}
 use Rattle.drawn_faults.specs.Marks.{with_side_text, with_signs}
-use Rattle.drawn_faults.specs.Painting.{IsColourOf, IsHarmlessWith}
+use Rattle.drawn_faults.specs.Painting.{IsColourOf, IsHarmlessWith, Piece, piece}
 use Rattle.drawn_faults.specs.Places.{Picture, extent, line, uncoloured}
 use Rattle.drawn_faults.specs.Rows.{Mark, cell, is_covered, space, style_of, text_style, under}
 use Rattle.drawn_faults.specs.Rows.{written}
@@ -33,7 +36,7 @@ use Rattle.drawn_faults.specs.declared.paint.Gutter.{Gutter}
 use Rattle.drawn_faults.specs.declared.paint.Palette.{Palette}
 use Rattle.drawn_faults.specs.declared.paint.Palette.TheVariants.{Colourless}
 use Rattle.drawn_faults.specs.declared.paint.Style.{Style}
-use Rattle.drawn_faults.specs.declared.paint.Style.TheVariants.{Addition, Bold, Plain, Primary}
+use Rattle.drawn_faults.specs.declared.paint.Style.TheVariants.{Addition, Bold, Primary}
 use Rattle.drawn_faults.specs.declared.paint.Style.TheVariants.{Secondary}
 use Rattle.drawn_faults.proofs.Coloured.{AreQuiet, Quiet, either, join, nothing, of_painted}
 use Rattle.drawn_faults.proofs.Coloured.{of_pieces, of_written, plain}
@@ -214,16 +217,16 @@ of_labels f (l ∷ []) p =
     either (l.extent.start.line == l.extent.end.line) (of_each f (l ∷ []) p) (of_long f l)
 of_labels f (l ∷ k ∷ ls) p = of_each f (l ∷ k ∷ ls) p
 
-of_titled : (f : Frame) (s : Style) (word title : List ℕ) (ls : List Label) → IsHarmless word
+of_titled : (f : Frame) (p : Palette) (word title : List ℕ) (ls : List Label) → IsHarmless word
     → HaveSigns ls
-    → IsColourOf (titled f s word title ls) (titled (plain_frame f) s word title ls)
+    → IsColourOf (titled f p word title ls) (titled (plain_frame f) Colourless word title ls)
 unfolding titled
-of_titled f s word title ls w p =
+of_titled f p word title ls w q =
     join (of_painted f.gutter.palette Primary w)
-    (join (of_painted f.gutter.palette s
+    (join (of_painted p Bold
     (join_harmless (harmless_text (codes ": ") refl) (glyphs-harmless (chars title))))
     (join (text (codes "\n") refl)
-    (join (of_arrow f (first_spot ls)) (join (of_parting f) (of_labels f ls p)))))
+    (join (of_arrow f (first_spot ls)) (join (of_parting f) (of_labels f ls q)))))
 
 -- notes
 of_indented : (g : Gutter) (t : Text) → IsColourOf (indented g t) (indented (off g) t)
@@ -249,14 +252,24 @@ lowest-same p o (l ∷ ls) =
     lowest-same p (lower (lower o (line_indent p l.extent.start.line))
     (line_indent p l.extent.end.line)) ls
 
+frame-same : (p : Picture) (g : Gutter) (ls : List Label)
+    → plain_frame (frame_of p g ls) ≡ frame_of (uncoloured p) (off g) ls
+unfolding frame_of
+frame-same p g ls =
+    ap (λ (n : Option ℕ). record {
+      picture = uncoloured p;
+      gutter = off g;
+      cut = cut_of (unwrap_or n 0);
+    }) (sym (lowest-same p None ls))
+
 of_shown_note : (p : Picture) (g : Gutter) (t : List ℕ) (ls : List Label) → HaveSigns ls
     → IsColourOf (shown_note p g t ls) (shown_note (uncoloured p) (off g) t ls)
-unfolding frame_of
 of_shown_note p g t [] q = of_plain_note g t
 of_shown_note p g t (l ∷ ls) q =
-    rw (lowest-same p None (l ∷ ls))
-    (of_titled (frame_of p (note_gutter p g) (l ∷ ls)) Plain (codes "note") t (l ∷ ls)
-    (harmless_text (codes "note") refl) q)
+    let f = frame_of p (note_gutter p g) (l ∷ ls) in
+    subst (λ e. IsColourOf (titled f Colourless (codes "note") t (l ∷ ls))
+    (titled e Colourless (codes "note") t (l ∷ ls))) (frame-same p (note_gutter p g) (l ∷ ls))
+    (of_titled f Colourless (codes "note") t (l ∷ ls) (harmless_text (codes "note") refl) q)
 
 of_notes : (p : Picture) (g : Gutter) (ns : List Note)
     → IsColourOf (notes_rows p g ns) (notes_rows (uncoloured p) (off g) ns)
@@ -285,10 +298,12 @@ of_pluses p n (e ∷ es) =
 of_new_row : (f : Frame) (s : Style) {sign : List ℕ} (n : ℕ) (es : List Edit) → IsHarmless sign
     → IsColourOf (new_row f s sign n es) (new_row (plain_frame f) s sign n es)
 unfolding new_row
-of_new_row f s n es h =
+of_new_row f s {sign = sign} n es h =
+    let t = chars (line n f.picture.source) in
+    let xs : List Piece = piece s sign ∷ edited_from 0 es t in
+    let q : AreQuiet xs = (h, quiet-edited 0 es t) in
     join (of_numbered f n) (join (text (codes " ") refl)
-    (join (of_pieces f.gutter.palette _
-    (h, quiet-edited 0 es (chars (line n f.picture.source)))) (text (codes "\n") refl)))
+    (join (of_pieces f.gutter.palette xs q) (text (codes "\n") refl)))
 
 of_inserted : (f : Frame) (n : ℕ) (es : List Edit)
     → IsColourOf (inserted_rows f n es) (inserted_rows (plain_frame f) n es)
@@ -343,7 +358,7 @@ of_drawn_in : (f : Frame) (d : Diagnostic) (ls : List Label) → HaveSigns ls
     → IsColourOf (drawn_in f d ls) (drawn_in (plain_frame f) d ls)
 unfolding drawn_in
 of_drawn_in f d ls q =
-    join (of_titled f Bold (level_word d.is_warning) d.title ls (of_word d.is_warning) q)
+    join (of_titled f f.gutter.palette (level_word d.is_warning) d.title ls (of_word d.is_warning) q)
     (join (of_parting_above f d) (join (of_notes f.picture f.gutter d.notes)
     (join (of_helps f d.helps) (text (codes "\n") refl))))
 
@@ -360,16 +375,29 @@ unfolding extent
 help-same p n [] = refl
 help-same p n (h ∷ hs) = help-same p (last_edit_line n (map (placed_edit p) h.edits)) hs
 
+gutter-same : (p : Picture) (d : Diagnostic) → off (gutter_of p d) ≡ gutter_of (uncoloured p) d
+unfolding extent
+gutter-same p d =
+    let n = last_label_line 0 (map (label_of p) d.labels) in
+    let same : last_line_of (uncoloured p) d ≡ last_line_of p d =
+    help-same p (last_note_line (uncoloured p) n d.notes) d.helps
+    ∙ ap (λ k. last_help_line p k d.helps) (note-same p n d.notes) in
+    ap (λ (k : ℕ). record {
+      columns = length (decimal (p.line_start + k));
+      palette = Colourless;
+    }) (sym same)
+
 -- The drawing without its colours is the one without colours.
 pub diagnostic-coloured : (p : Picture) (d : Diagnostic)
     → IsColourOf (diagnostic_text p d) (diagnostic_text (uncoloured p) d)
-unfolding diagnostic_text frame_of extent
+unfolding diagnostic_text extent
 diagnostic-coloured p d =
     let ls = map (label_of p) d.labels in
-    let n = last_label_line 0 ls in
-    rw (note-same p n d.notes, help-same p (last_note_line p n d.notes) d.helps,
-    lowest-same p None ls)
-    (of_drawn_in (frame_of p (gutter_of p d) ls) d ls (labels-signs p d.labels))
+    let f = frame_of p (gutter_of p d) ls in
+    subst (λ g. IsColourOf (drawn_in f d ls) (drawn_in (frame_of (uncoloured p) g ls) d ls))
+    (gutter-same p d)
+    (subst (λ e. IsColourOf (drawn_in f d ls) (drawn_in e d ls)) (frame-same p (gutter_of p d) ls)
+    (of_drawn_in f d ls (labels-signs p d.labels)))
 
 -- A terminal obeys nothing of it but colours.
 pub diagnostic-harmless : (p : Picture) (d : Diagnostic)

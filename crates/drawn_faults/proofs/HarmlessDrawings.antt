@@ -20,7 +20,7 @@ use Rattle.drawn_faults.specs.Lines.{apart, code_row, gap, labelled, number_bar,
 use Rattle.drawn_faults.specs.Lines.{behind_bar, source_line, source_row, two_labels}
 use Rattle.drawn_faults.specs.Long.{bar_gap, bar_row, bar_rows, between, first_rows, is_bare_line}
 use Rattle.drawn_faults.specs.Long.{last_rows, lead, long_rows, signed_row, without_bare}
-use Rattle.drawn_faults.specs.Painting.{IsColourOf, IsHarmlessWith, painted, pieces}
+use Rattle.drawn_faults.specs.Painting.{IsColourOf, IsHarmlessWith, Piece, painted, piece}
 use Rattle.drawn_faults.specs.Places.{Picture, behind_lines, extent, first_line, line, uncoloured}
 use Rattle.drawn_faults.specs.Rows.{Mark, alone, bar_style, bars, beside, blank, both, columns}
 use Rattle.drawn_faults.specs.Rows.{covering, hanging, has_column, is_covered, label_text}
@@ -330,10 +330,11 @@ pub of_old : (f : Frame) (n : ℕ) (es : List Edit) (bs : List ℕ)
     → IsColourOf (old_row f n es bs) (old_row (plain_frame f) n es bs)
 unfolding old_row
 of_old f n es bs =
+    let xs : List Piece = piece Removal (codes "- ") ∷ old_pieces n (length bs) 0 es (chars bs) in
+    let q : AreQuiet xs =
+    (harmless_text (codes "- ") refl, quiet-old n (length bs) 0 es (chars bs)) in
     join (of_numbered f n) (join (text (codes " ") refl)
-    (join (of_pieces f.gutter.palette _
-    (harmless_text (codes "- ") refl, quiet-old n (length bs) 0 es (chars bs)))
-    (text (codes "\n") refl)))
+    (join (of_pieces f.gutter.palette xs q) (text (codes "\n") refl)))
 
 of_old_rows : (f : Frame) (e : Edit) (n k : ℕ) (bs : List ℕ)
     → IsColourOf (old_rows f e n k bs) (old_rows (plain_frame f) e n k bs)
@@ -344,12 +345,14 @@ of_old_rows f e n (suc k) bs =
 of_new : (f : Frame) (e : Edit) → IsColourOf (new_row f e) (new_row (plain_frame f) e)
 unfolding new_row
 of_new f e =
-    let first = chars (line e.extent.start.line f.picture.source) in
-    let last = chars (line e.extent.end.line f.picture.source) in
+    let first = line e.extent.start.line f.picture.source in
+    let last = line e.extent.end.line f.picture.source in
+    let xs : List Piece = piece Addition (codes "+ ") ∷ edited e first last in
+    let q : AreQuiet xs = (harmless_text (codes "+ ") refl,
+    (glyphs-harmless (take e.extent.start.chars (chars first)), (glyphs-harmless (chars e.text),
+    (glyphs-harmless (drop e.extent.end.chars (chars last)), tt)))) in
     join (of_numbered f e.extent.start.line) (join (text (codes " ") refl)
-    (join (of_pieces f.gutter.palette _ (harmless_text (codes "+ ") refl,
-    (glyphs-harmless (take e.extent.start.chars first), (glyphs-harmless (chars e.text),
-    (glyphs-harmless (drop e.extent.end.chars last), tt))))) (text (codes "\n") refl)))
+    (join (of_pieces f.gutter.palette xs q) (text (codes "\n") refl)))
 
 of_edit : (f : Frame) (e : Edit) → IsColourOf (edit_rows f e) (edit_rows (plain_frame f) e)
 unfolding edit_rows

@@ -1,4 +1,5 @@
 pub mod GlyphLemmas
+pub mod Joining
 pub mod PrintableLemmas
 pub mod Harmless
 pub mod Coloured

@@ -22,10 +22,9 @@ use Rattle.drawn_faults.specs.Suggestions.{help_word, parting}
 use Rattle.drawn_faults.specs.declared.extent.Spot.{Spot}
 use Rattle.drawn_faults.specs.declared.paint.Gutter.{Gutter}
 use Rattle.drawn_faults.specs.declared.paint.Palette.{Palette}
-use Rattle.drawn_faults.specs.declared.paint.Palette.TheVariants.{Error, Warning}
+use Rattle.drawn_faults.specs.declared.paint.Palette.TheVariants.{Colourless, Error, Warning}
 use Rattle.drawn_faults.specs.declared.paint.Palette.TheVariants.{Note as NotePalette}
-use Rattle.drawn_faults.specs.declared.paint.Style.{Style}
-use Rattle.drawn_faults.specs.declared.paint.Style.TheVariants.{Bold, Plain, Primary}
+use Rattle.drawn_faults.specs.declared.paint.Style.TheVariants.{Bold, Primary}
 
 -- A label: its range, whether the diagnostic is about that range, and its text.
 pub record SourceLabel : Type 0 where
@@ -179,11 +178,11 @@ labels_rows f [] = each_in_line f []
 labels_rows f (l ∷ []) = single_rows f l
 labels_rows f (l ∷ k ∷ ls) = each_in_line f (l ∷ k ∷ ls)
 
--- A title after a word, where the title has this style, and the labels under it.
-unfoldable pub titled : Frame → Style → List ℕ → List ℕ → List Label → List ℕ
-titled f style word title ls =
+-- A title, in these colours, after a word, and the labels under it.
+unfoldable pub titled : Frame → Palette → List ℕ → List ℕ → List Label → List ℕ
+titled f colours word title ls =
     painted f.gutter.palette Primary word
-    ++ (painted f.gutter.palette style (codes ": " ++ glyph_bytes title) ++ (codes "\n"
+    ++ (painted colours Bold (codes ": " ++ glyph_bytes title) ++ (codes "\n"
     ++ (arrow f (first_spot ls) ++ (parting f ++ labels_rows f ls))))
 
 -- What is after a character of a note: after a line feed the margin of the next line.
@@ -207,7 +206,7 @@ note_gutter p g = record { columns = g.columns; palette = palette_of p.colours N
 abbrev pub shown_note : Picture → Gutter → List ℕ → List Label → List ℕ
 shown_note p g t [] = plain_note g t
 shown_note p g t (l ∷ ls) =
-    titled (frame_of p (note_gutter p g) (l ∷ ls)) Plain (codes "note") t (l ∷ ls)
+    titled (frame_of p (note_gutter p g) (l ∷ ls)) Colourless (codes "note") t (l ∷ ls)
 
 -- The notes.
 abbrev pub notes_rows : Picture → Gutter → List Note → List ℕ
@@ -241,7 +240,7 @@ level_of is_warning = if is_warning then Warning else Error
 -- The drawing of a diagnostic with these labels in a layout. It ends in an empty line.
 unfoldable pub drawn_in : Frame → Diagnostic → List Label → List ℕ
 drawn_in f d ls =
-    titled f Bold (level_word d.is_warning) d.title ls
+    titled f f.gutter.palette (level_word d.is_warning) d.title ls
     ++ (parting_above f d
     ++ (notes_rows f.picture f.gutter d.notes ++ (helps_rows f d.helps ++ codes "\n")))
 

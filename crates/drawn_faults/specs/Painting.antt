@@ -128,9 +128,11 @@ abbrev pub IsColoured : List ℕ → Type 0
 IsColoured t = (ps : List Part) × (t ≡ flat_map part_bytes ps) × AreSafe ps
 
 -- A terminal obeys nothing of the text t but colours, and without these it is the text u.
-abbrev pub IsColourOf : List ℕ → List ℕ → Type 0
-IsColourOf t u =
-    (ps : List Part) × (t ≡ flat_map part_bytes ps) × (u ≡ flat_map text_bytes ps) × AreSafe ps
+pub record IsColourOf (t u : List ℕ) : Type 0 where
+  pub parts : List Part
+  pub are_all : t ≡ flat_map part_bytes parts
+  pub are_plain : u ≡ flat_map text_bytes parts
+  pub are_safe : AreSafe parts
 
 -- A terminal obeys nothing of a text, but for colours if it may have some.
 abbrev pub IsHarmlessWith : Bool → List ℕ → Type 0

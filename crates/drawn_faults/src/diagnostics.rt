@@ -14,7 +14,7 @@ use crate::helps::{SourceHelp, last_help_line, put_helps};
 use crate::labels::{Frame, Label, digits};
 use crate::marked::{frame_of, last_label_line};
 use crate::notes::{SourceNote, last_note_line, put_notes, put_titled};
-use crate::paint::{Gutter, Palette, Style, palette_of};
+use crate::paint::{Gutter, Palette, palette_of};
 use crate::places::Picture;
 use crate::suggestions::put_parting;
 use std::alloc::{AllocError, Global};
@@ -159,7 +159,7 @@ fn put_drawn(
     put_titled(
         out,
         frame,
-        Style::Bold,
+        frame.gutter.palette,
         level_word(diagnostic.level),
         diagnostic.title,
         labels,

@@ -74,25 +74,25 @@ pub fn last_note_line(
     Ok(line)
 }
 
-/// Adds a title after a word, where the title has this style, and labels under it.
+/// Adds a title, in these colours, after a word, and labels under it.
 #[tactic(auto, unfolding(crate::specs::Diagnostics::titled))]
 pub fn put_titled(
     out: &mut String,
     frame: &Frame<'_>,
-    style: Style,
+    palette: Palette,
     word: &str,
     title: &str,
     labels: &[Label<'_>],
 ) -> Result<(), AllocError>
     requires { frame.now.cut < 2 ^ 62 }
     ensures { OnOk result (string_bytes out.new ≡ string_bytes out.old
-        ++ titled (seen_frame frame.now) style word.now title.now (map seen_label labels.now)) }
+        ++ titled (seen_frame frame.now) palette word.now title.now (map seen_label labels.now)) }
 {
     put_painted(out, frame.gutter.palette, Style::Primary, word)?;
-    put_opening(out, frame.gutter.palette, style)?;
+    put_opening(out, palette, Style::Bold)?;
     out.push_str(": ")?;
     put_glyphs(out, title, 0)?;
-    put_closing(out, frame.gutter.palette)?;
+    put_closing(out, palette)?;
     out.push_str("\n")?;
     put_arrow(out, frame, first_spot(labels))?;
     put_parting(out, frame)?;
@@ -154,7 +154,7 @@ fn put_shown_note(
             let columns = gutter.columns;
             let palette = palette_of(picture.colours, Palette::Note);
             let frame = frame_of(picture, Gutter { columns, palette }, labels);
-            put_titled(out, &frame, Style::Plain, "note", text, labels)?;
+            put_titled(out, &frame, Palette::Colourless, "note", text, labels)?;
         }
     }
     Ok(())

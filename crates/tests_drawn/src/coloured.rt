@@ -155,45 +155,51 @@ fn removed_and_added_parts(rt: HostRuntime) -> Result<(), Fail> {
 #[test]
 fn inserted_part(rt: HostRuntime) -> Result<(), Fail> {
     let source = "fn main() {\n\
-        \x20   let a = \"\";\n\
-        \x20   println!(a);\n\
+        \x20   println!(\"a \", 1);\n\
         }\n";
     let labels = [
         SourceLabel {
-            span: 41..42,
+            span: 31..32,
             is_primary: true,
-            text: "",
+            text: "argument never used",
+        },
+        SourceLabel {
+            span: 25..29,
+            is_primary: false,
+            text: "formatting specifier missing",
         },
     ];
     let edits = [
         Edit {
-            span: 41..41,
-            text: "\"{}\", ",
+            span: 28..28,
+            text: "{}",
         },
     ];
     let helps = [
         SourceHelp {
-            text: "you might be missing a string literal to format with",
+            text: "format specifiers use curly braces, consider adding a format specifier",
             edits: &edits,
         },
     ];
     let diagnostic = Diagnostic {
         level: Level::Error,
-        title: "format argument must be a string literal",
+        title: "argument never used",
         labels: &labels,
         notes: &[],
         helps: &helps,
     };
-    let expected = "\u{1b}[1m\u{1b}[91merror\u{1b}[0m\u{1b}[1m: format argument must be a string literal\u{1b}[0m\n\
-        \x20\u{1b}[1m\u{1b}[94m--> \u{1b}[0mt.rs:3:14\n\
+    let expected = "\u{1b}[1m\u{1b}[91merror\u{1b}[0m\u{1b}[1m: argument never used\u{1b}[0m\n\
+        \x20\u{1b}[1m\u{1b}[94m--> \u{1b}[0mt.rs:2:20\n\
         \x20 \u{1b}[1m\u{1b}[94m|\u{1b}[0m\n\
-        \u{1b}[1m\u{1b}[94m3\u{1b}[0m \u{1b}[1m\u{1b}[94m|\u{1b}[0m     println!(a);\n\
-        \x20 \u{1b}[1m\u{1b}[94m|\u{1b}[0m              \u{1b}[1m\u{1b}[91m^\u{1b}[0m\n\
+        \u{1b}[1m\u{1b}[94m2\u{1b}[0m \u{1b}[1m\u{1b}[94m|\u{1b}[0m     println!(\"a \", 1);\n\
+        \x20 \u{1b}[1m\u{1b}[94m|\u{1b}[0m              \u{1b}[1m\u{1b}[94m----\u{1b}[0m  \u{1b}[1m\u{1b}[91m^\u{1b}[0m \u{1b}[1m\u{1b}[91margument never used\u{1b}[0m\n\
+        \x20 \u{1b}[1m\u{1b}[94m|\u{1b}[0m              \u{1b}[1m\u{1b}[94m|\u{1b}[0m\n\
+        \x20 \u{1b}[1m\u{1b}[94m|\u{1b}[0m              \u{1b}[1m\u{1b}[94mformatting specifier missing\u{1b}[0m\n\
         \x20 \u{1b}[1m\u{1b}[94m|\u{1b}[0m\n\
-        \u{1b}[1m\u{1b}[96mhelp\u{1b}[0m: you might be missing a string literal to format with\n\
+        \u{1b}[1m\u{1b}[96mhelp\u{1b}[0m: format specifiers use curly braces, consider adding a format specifier\n\
         \x20 \u{1b}[1m\u{1b}[94m|\u{1b}[0m\n\
-        \u{1b}[1m\u{1b}[94m3\u{1b}[0m \u{1b}[1m\u{1b}[94m| \u{1b}[0m    println!(\u{1b}[92m\"{}\", \u{1b}[0ma);\n\
-        \x20 \u{1b}[1m\u{1b}[94m|\u{1b}[0m              \u{1b}[92m+++++\u{1b}[0m\n\
+        \u{1b}[1m\u{1b}[94m2\u{1b}[0m \u{1b}[1m\u{1b}[94m| \u{1b}[0m    println!(\"a \u{1b}[92m{}\u{1b}[0m\", 1);\n\
+        \x20 \u{1b}[1m\u{1b}[94m|\u{1b}[0m                 \u{1b}[92m++\u{1b}[0m\n\
         \n";
     check(&rt, rt.alloc(), source, &diagnostic, expected)
 }
@@ -204,11 +210,11 @@ fn warning_with_a_note(rt: HostRuntime) -> Result<(), Fail> {
     let source = "#![warn(unreachable_code)]\n\
         fn main() {\n\
         \x20   return;\n\
-        \x20   println!();\n\
+        \x20   let _ = 1;\n\
         }\n";
     let labels = [
         SourceLabel {
-            span: 2526..2593,
+            span: 55..65,
             is_primary: true,
             text: "unreachable statement",
         },
@@ -236,7 +242,7 @@ fn warning_with_a_note(rt: HostRuntime) -> Result<(), Fail> {
         \x20 \u{1b}[1m\u{1b}[94m|\u{1b}[0m\n\
         \u{1b}[1m\u{1b}[94m3\u{1b}[0m \u{1b}[1m\u{1b}[94m|\u{1b}[0m     return;\n\
         \x20 \u{1b}[1m\u{1b}[94m|\u{1b}[0m     \u{1b}[1m\u{1b}[94m------\u{1b}[0m \u{1b}[1m\u{1b}[94many code following this expression is unreachable\u{1b}[0m\n\
-        \u{1b}[1m\u{1b}[94m4\u{1b}[0m \u{1b}[1m\u{1b}[94m|\u{1b}[0m     println!();\n\
+        \u{1b}[1m\u{1b}[94m4\u{1b}[0m \u{1b}[1m\u{1b}[94m|\u{1b}[0m     let _ = 1;\n\
         \x20 \u{1b}[1m\u{1b}[94m|\u{1b}[0m     \u{1b}[1m\u{1b}[33m^^^^^^^^^^\u{1b}[0m \u{1b}[1m\u{1b}[33munreachable statement\u{1b}[0m\n\
         \x20 \u{1b}[1m\u{1b}[94m|\u{1b}[0m\n\
         \u{1b}[1m\u{1b}[92mnote\u{1b}[0m: the lint level is defined here\n\

@@ -1,0 +1,26 @@
+-- What was appended text by text is appended as one.
+use Rattle.std.proofs.Common.{◌≡◌, ℕ, List, ◌++◌, ◌∙◌, append_assoc}
+
+pub join3 : (o a b c : List ℕ) → ((o ++ a) ++ b) ++ c ≡ o ++ (a ++ (b ++ c))
+join3 o a b c = append_assoc (o ++ a) b c ∙ append_assoc o a (b ++ c)
+
+pub join4 : (o a b c d : List ℕ) → (((o ++ a) ++ b) ++ c) ++ d ≡ o ++ (a ++ (b ++ (c ++ d)))
+join4 o a b c d = append_assoc ((o ++ a) ++ b) c d ∙ join3 o a b (c ++ d)
+
+join5 : (o a b c d e : List ℕ)
+    → ((((o ++ a) ++ b) ++ c) ++ d) ++ e ≡ o ++ (a ++ (b ++ (c ++ (d ++ e))))
+join5 o a b c d e = append_assoc (((o ++ a) ++ b) ++ c) d e ∙ join4 o a b c (d ++ e)
+
+pub join6 : (o a b c d e f : List ℕ)
+    → (((((o ++ a) ++ b) ++ c) ++ d) ++ e) ++ f ≡ o ++ (a ++ (b ++ (c ++ (d ++ (e ++ f)))))
+join6 o a b c d e f = append_assoc ((((o ++ a) ++ b) ++ c) ++ d) e f ∙ join5 o a b c d (e ++ f)
+
+join7 : (o a b c d e f g : List ℕ) → ((((((o ++ a) ++ b) ++ c) ++ d) ++ e) ++ f) ++ g
+    ≡ o ++ (a ++ (b ++ (c ++ (d ++ (e ++ (f ++ g))))))
+join7 o a b c d e f g =
+    append_assoc (((((o ++ a) ++ b) ++ c) ++ d) ++ e) f g ∙ join6 o a b c d e (f ++ g)
+
+pub join8 : (o a b c d e f g h : List ℕ) → (((((((o ++ a) ++ b) ++ c) ++ d) ++ e) ++ f) ++ g) ++ h
+    ≡ o ++ (a ++ (b ++ (c ++ (d ++ (e ++ (f ++ (g ++ h)))))))
+join8 o a b c d e f g h =
+    append_assoc ((((((o ++ a) ++ b) ++ c) ++ d) ++ e) ++ f) g h ∙ join7 o a b c d e f (g ++ h)
