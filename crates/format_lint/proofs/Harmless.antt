@@ -68,7 +68,7 @@ id-written (TupleIndex s) = refl
 of_finding : (mode : Mode) (p : Picture) (f : Finding)
     → IsHarmlessWith p.colours (drawn_finding mode p f)
 of_finding mode p f =
-    joined_with p.colours (plain_with p.colours
+    joined_with p.colours _ _ (plain_with p.colours
     (join (either f.follows (text (codes "follows: ") refl) (text (codes "fault: ") refl))
     (join (text (fault_id f.fault) (id-written f.fault)) (text (codes "\n") refl))))
     (drawing-harmless mode p (message f.fault))
@@ -77,7 +77,7 @@ of_findings : (mode : Mode) (p : Picture) (fs : List Finding)
     → IsHarmlessWith p.colours (flat_map (drawn_finding mode p) fs)
 of_findings mode p [] = plain_with p.colours (text [] refl)
 of_findings mode p (f ∷ fs) =
-    joined_with p.colours (of_finding mode p f) (of_findings mode p fs)
+    joined_with p.colours _ _ (of_finding mode p f) (of_findings mode p fs)
 
 of_more : (n : ℕ) → IsHarmless (more n)
 of_more n =
@@ -92,7 +92,7 @@ of_error mode p (Some m) = drawing-harmless mode p m
 of_drawn : (all : Bool) (a : Task) (s : Source) → IsHarmlessWith a.colours (drawn all a s).0
 of_drawn true a s =
     let fs = findings a.mode s in
-    joined_with a.colours (of_findings a.mode (picture a s) (take most_drawn fs))
+    joined_with a.colours _ _ (of_findings a.mode (picture a s) (take most_drawn fs))
     (plain_with a.colours (of_more (length fs - most_drawn)))
 of_drawn false a s = of_error a.mode (picture a s) (first_error (start a.mode s))
 
@@ -185,9 +185,9 @@ of_tokens false t xs = of_lines t xs
 
 of_lexed : (a : Task) (s : Source) → IsHarmlessWith a.colours (lexed a s).0
 of_lexed a s =
-    joined_with a.colours
+    joined_with a.colours _ _
     (of_tokens a.colours (chars (unwrap_or s.literal s.text)) (tokens_in a s))
-    (joined_with a.colours
+    (joined_with a.colours _ _
     (plain_with a.colours (either a.colours (text (codes "\n") refl) (text [] refl)))
     (of_drawn false a s))
 

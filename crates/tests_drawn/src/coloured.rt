@@ -1,7 +1,8 @@
 //! Drawings of several labels in colours, against those of rustc 1.95.
 
-use drawn_faults::draw_labels;
-use drawn_faults::{Diagnostic, Edit, Level, Picture, SourceHelp, SourceLabel, SourceNote};
+use drawn_faults::{
+    Diagnostic, Edit, Level, Picture, SourceHelp, SourceLabel, SourceNote, draw_labels,
+};
 use std::alloc::Global;
 use std::process::Abort;
 use std::test::Fail;
@@ -66,7 +67,8 @@ fn signs_over_signs(rt: HostRuntime) -> Result<(), Fail> {
         notes: &notes,
         helps: &[],
     };
-    let expected = "\u{1b}[1m\u{1b}[91merror\u{1b}[0m\u{1b}[1m: 2 positional arguments in format string, but there is 1 argument\u{1b}[0m\n\
+    let expected =
+        "\u{1b}[1m\u{1b}[91merror\u{1b}[0m\u{1b}[1m: 2 positional arguments in format string, but there is 1 argument\u{1b}[0m\n\
         \x20\u{1b}[1m\u{1b}[94m--> \u{1b}[0mt.rs:2:17\n\
         \x20 \u{1b}[1m\u{1b}[94m|\u{1b}[0m\n\
         \u{1b}[1m\u{1b}[94m2\u{1b}[0m \u{1b}[1m\u{1b}[94m|\u{1b}[0m     println!(\"ab{:.*}\", 1);\n\
@@ -113,18 +115,14 @@ fn removed_and_added_parts(rt: HostRuntime) -> Result<(), Fail> {
             text: "{}",
         },
     ];
-    let notes = [
-        SourceNote {
-            text: "printf formatting is not supported; see the documentation for `std::fmt`",
-            spans: &[],
-        },
-    ];
-    let helps = [
-        SourceHelp {
-            text: "format specifiers use curly braces",
-            edits: &edits,
-        },
-    ];
+    let notes = [SourceNote {
+        text: "printf formatting is not supported; see the documentation for `std::fmt`",
+        spans: &[],
+    }];
+    let helps = [SourceHelp {
+        text: "format specifiers use curly braces",
+        edits: &edits,
+    }];
     let diagnostic = Diagnostic {
         level: Level::Error,
         title: "multiple unused formatting arguments",
@@ -132,7 +130,8 @@ fn removed_and_added_parts(rt: HostRuntime) -> Result<(), Fail> {
         notes: &notes,
         helps: &helps,
     };
-    let expected = "\u{1b}[1m\u{1b}[91merror\u{1b}[0m\u{1b}[1m: multiple unused formatting arguments\u{1b}[0m\n\
+    let expected =
+        "\u{1b}[1m\u{1b}[91merror\u{1b}[0m\u{1b}[1m: multiple unused formatting arguments\u{1b}[0m\n\
         \x20\u{1b}[1m\u{1b}[94m--> \u{1b}[0mt.rs:2:36\n\
         \x20 \u{1b}[1m\u{1b}[94m|\u{1b}[0m\n\
         \u{1b}[1m\u{1b}[94m2\u{1b}[0m \u{1b}[1m\u{1b}[94m|\u{1b}[0m     let _ = format!(\"{} %d %s\", 3, 4, 5);\n\
@@ -169,18 +168,14 @@ fn inserted_part(rt: HostRuntime) -> Result<(), Fail> {
             text: "formatting specifier missing",
         },
     ];
-    let edits = [
-        Edit {
-            span: 28..28,
-            text: "{}",
-        },
-    ];
-    let helps = [
-        SourceHelp {
-            text: "format specifiers use curly braces, consider adding a format specifier",
-            edits: &edits,
-        },
-    ];
+    let edits = [Edit {
+        span: 28..28,
+        text: "{}",
+    }];
+    let helps = [SourceHelp {
+        text: "format specifiers use curly braces, consider adding a format specifier",
+        edits: &edits,
+    }];
     let diagnostic = Diagnostic {
         level: Level::Error,
         title: "argument never used",
@@ -224,12 +219,10 @@ fn warning_with_a_note(rt: HostRuntime) -> Result<(), Fail> {
             text: "any code following this expression is unreachable",
         },
     ];
-    let notes = [
-        SourceNote {
-            text: "the lint level is defined here",
-            spans: &[8..24],
-        },
-    ];
+    let notes = [SourceNote {
+        text: "the lint level is defined here",
+        spans: &[8..24],
+    }];
     let diagnostic = Diagnostic {
         level: Level::Warning,
         title: "unreachable statement",
@@ -285,7 +278,8 @@ fn three_named(rt: HostRuntime) -> Result<(), Fail> {
         notes: &[],
         helps: &[],
     };
-    let expected = "\u{1b}[1m\u{1b}[91merror\u{1b}[0m\u{1b}[1m: positional arguments cannot follow named arguments\u{1b}[0m\n\
+    let expected =
+        "\u{1b}[1m\u{1b}[91merror\u{1b}[0m\u{1b}[1m: positional arguments cannot follow named arguments\u{1b}[0m\n\
         \x20\u{1b}[1m\u{1b}[94m--> \u{1b}[0mt.rs:3:9\n\
         \x20 \u{1b}[1m\u{1b}[94m|\u{1b}[0m\n\
         \u{1b}[1m\u{1b}[94m2\u{1b}[0m \u{1b}[1m\u{1b}[94m|\u{1b}[0m     println!(\"{} {a}\", a=1, b=2,\n\
@@ -343,7 +337,8 @@ fn far_apart(rt: HostRuntime) -> Result<(), Fail> {
         notes: &[],
         helps: &[],
     };
-    let expected = "\u{1b}[1m\u{1b}[91merror\u{1b}[0m\u{1b}[1m: 4 positional arguments in format string, but there is 1 argument\u{1b}[0m\n\
+    let expected =
+        "\u{1b}[1m\u{1b}[91merror\u{1b}[0m\u{1b}[1m: 4 positional arguments in format string, but there is 1 argument\u{1b}[0m\n\
         \x20\u{1b}[1m\u{1b}[94m--> \u{1b}[0mt.rs:2:15\n\
         \x20 \u{1b}[1m\u{1b}[94m|\u{1b}[0m\n\
         \u{1b}[1m\u{1b}[94m2\u{1b}[0m \u{1b}[1m\u{1b}[94m|\u{1b}[0m     println!(\"{} {}\n\

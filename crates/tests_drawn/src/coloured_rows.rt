@@ -453,5 +453,26 @@ const WIDE: Row = Row {
 
 /// All rows. Nothing else names the table, since what names it is checked with all of its text.
 pub fn coloured_rows() -> &'static [Row] {
-    &[UNMATCHED, AT_THE_END, FAR, RAW_IDENT, RAW_WORD, NO_COLON, LONG, LONG_INDENT, LONG_DOTS, LONG_CUT, NO_NAME, FLAG, FLAG_X, LINE_START, FLAG_LINES, NEXT_LINE, IN_BETWEEN, DOTS, CUT, WIDE]
+    &[
+        UNMATCHED,
+        AT_THE_END,
+        FAR,
+        RAW_IDENT,
+        RAW_WORD,
+        NO_COLON,
+        LONG,
+        LONG_INDENT,
+        LONG_DOTS,
+        LONG_CUT,
+        NO_NAME,
+        FLAG,
+        FLAG_X,
+        LINE_START,
+        FLAG_LINES,
+        NEXT_LINE,
+        IN_BETWEEN,
+        DOTS,
+        CUT,
+        WIDE,
+    ]
 }
