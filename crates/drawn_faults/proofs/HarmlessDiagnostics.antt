@@ -282,9 +282,13 @@ of_notes p g (n ∷ ns) =
 -- helps
 quiet-edited : (n : ℕ) (es : List Edit) (t : Text) → AreQuiet (edited_from n es t)
 quiet-edited n [] t = (glyphs-harmless t, tt)
-quiet-edited n (e ∷ es) t =
-    (glyphs-harmless (take (e.extent.start.chars - n) t), (glyphs-harmless (chars e.text),
-    quiet-edited e.extent.end.chars es (drop (e.extent.end.chars - n) t)))
+quiet-edited n (e ∷ es) t = (
+  glyphs-harmless (take (e.extent.start.chars - n) t),
+  (
+    glyphs-harmless (chars e.text),
+    quiet-edited e.extent.end.chars es (drop (e.extent.end.chars - n) t),
+  ),
+)
 
 of_pluses : (p : Palette) (n : ℕ) (es : List Edit)
     → IsColourOf (pluses p n es) (pluses Colourless n es)
@@ -406,4 +410,4 @@ diagnostic-harmless p d =
     harmless-with {p = p} (λ q. diagnostic_text q d) (diagnostic-coloured p d)
 
 -- what `put_labels` needs
-pub ruleset harmless_diagnostic = (diagnostic-harmless, diagnostic-coloured)
+pub ruleset harmless_diagnostic = (diagnostic-harmless)

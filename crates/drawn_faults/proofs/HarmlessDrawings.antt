@@ -322,9 +322,13 @@ quiet-old : (n bytes k : ℕ) (es : List Edit) (t : Text) → AreQuiet (old_piec
 quiet-old n bytes k [] t = (glyphs-harmless t, tt)
 quiet-old n bytes k (e ∷ es) t =
     let from = max (first_in n e) k in
-    let to = max (last_in n bytes e) from in
-    (glyphs-harmless (take (from - k) t), (glyphs-harmless (take (to - from) (drop (from - k) t)),
-    quiet-old n bytes to es (drop (to - from) (drop (from - k) t))))
+    let to = max (last_in n bytes e) from in (
+      glyphs-harmless (take (from - k) t),
+      (
+        glyphs-harmless (take (to - from) (drop (from - k) t)),
+        quiet-old n bytes to es (drop (to - from) (drop (from - k) t)),
+      ),
+    )
 
 pub of_old : (f : Frame) (n : ℕ) (es : List Edit) (bs : List ℕ)
     → IsColourOf (old_row f n es bs) (old_row (plain_frame f) n es bs)
@@ -348,9 +352,16 @@ of_new f e =
     let first = line e.extent.start.line f.picture.source in
     let last = line e.extent.end.line f.picture.source in
     let xs : List Piece = piece Addition (codes "+ ") ∷ edited e first last in
-    let q : AreQuiet xs = (harmless_text (codes "+ ") refl,
-    (glyphs-harmless (take e.extent.start.chars (chars first)), (glyphs-harmless (chars e.text),
-    (glyphs-harmless (drop e.extent.end.chars (chars last)), tt)))) in
+    let q : AreQuiet xs = (
+      harmless_text (codes "+ ") refl,
+      (
+        glyphs-harmless (take e.extent.start.chars (chars first)),
+        (
+          glyphs-harmless (chars e.text),
+          (glyphs-harmless (drop e.extent.end.chars (chars last)), tt),
+        ),
+      ),
+    ) in
     join (of_numbered f e.extent.start.line) (join (text (codes " ") refl)
     (join (of_pieces f.gutter.palette xs q) (text (codes "\n") refl)))
 
@@ -493,4 +504,4 @@ drawing-harmless mode p m =
     harmless-with {p = p} (λ q. drawing mode q m) (drawing-coloured mode p m)
 
 -- what `put_drawing` needs
-pub ruleset harmless_drawing = (drawing-harmless, drawing-coloured)
+pub ruleset harmless_drawing = (drawing-harmless)

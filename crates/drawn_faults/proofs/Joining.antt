@@ -1,5 +1,18 @@
 -- What was appended text by text is appended as one.
-use Rattle.std.proofs.Common.{◌≡◌, ℕ, List, ◌++◌, ◌∙◌, append_assoc}
+use Rattle.std.proofs.Common.{◌≡◌, ◌==◌, ℕ, List, ◌∷◌, ◌++◌, ◌∙◌, append_assoc, arith, false, length}
+use Rattle.std.proofs.Common.{refl}
+use Rattle.std.proofs.lemmas.Bool.Decides.{nat_tests}
+use Rattle.drawn_faults.specs.Painting.{closing, opening, painted}
+use Rattle.drawn_faults.specs.declared.paint.Palette.{Palette}
+use Rattle.drawn_faults.specs.declared.paint.Style.{Style}
+
+-- a text that begins with a character has a style
+some-length : (c : ℕ) (cs : List ℕ) → (length (c ∷ cs) == 0) ≡ false
+some-length c cs = grind (arith, nat_tests)
+
+pub some-painted : (p : Palette) (s : Style) (c : ℕ) (cs : List ℕ)
+    → opening p s ++ ((c ∷ cs) ++ closing p) ≡ painted p s (c ∷ cs)
+some-painted p s c cs = rw (some-length c cs) refl
 
 pub join3 : (o a b c : List ℕ) → ((o ++ a) ++ b) ++ c ≡ o ++ (a ++ (b ++ c))
 join3 o a b c = append_assoc (o ++ a) b c ∙ append_assoc o a (b ++ c)

@@ -219,7 +219,13 @@ fn put_replaced(
         ++ replaced_rows (seen_frame frame.now) number (map seen_edit edits.now)) }
 {
     put_parting(out, frame)?;
-    put_old(out, frame, number, line(frame.picture.source, number), edits)?;
+    put_old(
+        out,
+        frame,
+        number,
+        line(frame.picture.source, number),
+        edits,
+    )?;
     put_new_row(out, frame, Style::Addition, "+ ", number, edits)?;
     put_parting(out, frame)?;
     Ok(())

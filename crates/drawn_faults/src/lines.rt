@@ -34,7 +34,11 @@ pub fn put_line_number(out: &mut String, frame: &Frame<'_>, line: usize) -> Resu
 {
     let number = frame.picture.line_start as usize + line;
     put_opening(out, frame.gutter.palette, Style::Secondary)?;
-    put_run(out, ' ', frame.gutter.columns.saturating_sub(digits(number)))?;
+    put_run(
+        out,
+        ' ',
+        frame.gutter.columns.saturating_sub(digits(number)),
+    )?;
     put_decimal(out, number)?;
     put_closing(out, frame.gutter.palette)?;
     Ok(())
@@ -54,12 +58,7 @@ pub fn put_number_bar(out: &mut String, frame: &Frame<'_>, line: usize) -> Resul
 
 /// Adds a line as it is drawn.
 #[tactic(auto, unfolding(crate::specs::Lines::shown))]
-fn put_shown(
-    out: &mut String,
-    palette: Palette,
-    text: &str,
-    cut: usize,
-) -> Result<(), AllocError>
+fn put_shown(out: &mut String, palette: Palette, text: &str, cut: usize) -> Result<(), AllocError>
     requires { cut < 2 ^ 62 }
     ensures { OnOk result (string_bytes out.new
         ≡ string_bytes out.old ++ shown palette cut (chars text.now)) }

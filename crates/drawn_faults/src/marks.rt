@@ -9,7 +9,9 @@ ghost use Rattle.drawn_faults.specs.Marks.{signs_of, with_bar, with_hung_text, w
 ghost use Rattle.drawn_faults.specs.Marks.{with_signs};
 ghost use Rattle.drawn_faults.specs.Rows.{seen_mark, under, written};
 
-use crate::cells::{Cell, put_after, put_at, put_from, put_run_at, put_written, style_of, text_style};
+use crate::cells::{
+    Cell, put_after, put_at, put_from, put_run_at, put_written, style_of, text_style,
+};
 use crate::hanging::{Hung, depth, hang, has_text};
 use crate::mark::Mark;
 use crate::order::covered_first;

@@ -14,9 +14,7 @@ use crate::drawing::{put_arrow, put_note_word};
 use crate::glyphs::{glyph, glyph_count, put_glyphs, put_run, split_first};
 use crate::labels::{Frame, Label};
 use crate::marked::{first_spot, frame_of, last_label_line, put_labels_rows};
-use crate::paint::{
-    Gutter, Palette, Style, palette_of, put_closing, put_opening, put_painted,
-};
+use crate::paint::{Gutter, Palette, Style, palette_of, put_closing, put_opening, put_painted};
 use crate::places::Picture;
 use crate::suggestions::put_parting;
 use std::alloc::{AllocError, Global};

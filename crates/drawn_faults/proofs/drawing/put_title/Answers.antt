@@ -4,7 +4,7 @@ use Rattle.drawn_faults.specs.Glyphs.{glyph_bytes}
 use Rattle.drawn_faults.specs.Labels.{text_name}
 use Rattle.drawn_faults.specs.Painting.{closing, opening, painted}
 use Rattle.drawn_faults.specs.declared.paint.Style.TheVariants.{Bold, Primary}
-use Rattle.drawn_faults.proofs.Joining.{join4}
+use Rattle.drawn_faults.proofs.Joining.{join4, some-painted}
 use Rattle.drawn_faults.proofs.drawing.put_title.Goals as goal
 
 pub returns : goal.returns
@@ -33,4 +33,6 @@ returns c =
     )
     (ap (λ t. (t ++ z) ++ l) (join4 ((o ++ e) ++ a) i n s g)
     ∙ ap (λ t. t ++ l) (append_assoc ((o ++ e) ++ a) x z ∙ append_assoc (o ++ e) a (x ++ z))
-    ∙ append_assoc (o ++ e) (a ++ (x ++ z)) l ∙ append_assoc o e ((a ++ (x ++ z)) ++ l))
+    ∙ append_assoc (o ++ e) (a ++ (x ++ z)) l ∙ append_assoc o e ((a ++ (x ++ z)) ++ l)
+    ∙ ap (λ t. o ++ (e ++ (t ++ l)))
+    (some-painted p Bold 58 (codes " invalid " ++ (n ++ (s ++ g)))))

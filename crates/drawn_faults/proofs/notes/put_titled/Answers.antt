@@ -6,7 +6,7 @@ use Rattle.drawn_faults.specs.Labels.{seen_frame, seen_label}
 use Rattle.drawn_faults.specs.Painting.{closing, opening, painted}
 use Rattle.drawn_faults.specs.Suggestions.{parting}
 use Rattle.drawn_faults.specs.declared.paint.Style.TheVariants.{Bold, Primary}
-use Rattle.drawn_faults.proofs.Joining.{join6}
+use Rattle.drawn_faults.proofs.Joining.{join6, some-painted}
 use Rattle.drawn_faults.proofs.notes.put_titled.Goals as goal
 
 pub returns : goal.returns
@@ -39,4 +39,6 @@ returns c =
     (ap (λ t. ((((t ++ z) ++ l) ++ r) ++ q) ++ m) (append_assoc ((o ++ e) ++ a) s g)
     ∙ ap (λ t. (((t ++ l) ++ r) ++ q) ++ m) (append_assoc ((o ++ e) ++ a) (s ++ g) z
     ∙ append_assoc (o ++ e) a ((s ++ g) ++ z))
-    ∙ join6 o e (a ++ ((s ++ g) ++ z)) l r q m)
+    ∙ join6 o e (a ++ ((s ++ g) ++ z)) l r q m
+    ∙ ap (λ t. o ++ (e ++ (t ++ (l ++ (r ++ (q ++ m))))))
+    (some-painted c.args.palette Bold 58 (codes " " ++ g)))
