@@ -231,22 +231,6 @@ pub fn put_glyphs(out: &mut String, text: &str, skipped: usize) -> Result<(), Al
     Ok(())
 }
 
-/// Adds a text as it is drawn, between two others.
-// ensures { OnOk result (string_bytes out.new
-//     ≡ string_bytes out.old ++ (a.now ++ (glyph_bytes text.now ++ b.now))) }
-#[inline]
-pub fn put_glyphs_between(
-    out: &mut String,
-    a: &str,
-    text: &str,
-    b: &str,
-) -> Result<(), AllocError> {
-    out.try_push_str(a)?;
-    put_glyphs(out, text, 0)?;
-    out.try_push_str(b)?;
-    Ok(())
-}
-
 /// Adds a text as it is drawn, in a style.
 // ensures { OnOk result (string_bytes out.new
 //     ≡ string_bytes out.old ++ painted palette style (glyph_bytes text.now)) }

@@ -8,7 +8,7 @@
 use crate::proved::drawn_faults::glyphs::{draws_nothing, put_glyphs, put_run};
 use crate::proved::drawn_faults::labels::{digits, Frame};
 use crate::proved::drawn_faults::mark::Mark;
-use crate::proved::drawn_faults::paint::{put_painted, Palette, Style};
+use crate::proved::drawn_faults::paint::{put_closing, put_opening, put_painted, Palette, Style};
 use crate::proved::drawn_faults::places::line;
 use crate::proved::drawn_faults::rows::{put_both, put_one};
 use crate::shim::alloc::AllocError;
@@ -24,20 +24,6 @@ pub fn put_decimal(out: &mut String, number: usize) -> Result<(), AllocError> {
     Ok(())
 }
 
-/// Adds the number of a line in decimal digits.
-// ensures { OnOk result (string_bytes out.new
-//     ≡ string_bytes out.old ++ painted palette Secondary (decimal number)) }
-#[inline]
-fn put_painted_decimal(
-    out: &mut String,
-    palette: Palette,
-    number: usize,
-) -> Result<(), AllocError> {
-    let mut digits = Buffer::new();
-    put_painted(out, palette, Style::Secondary, digits.format(number))?;
-    Ok(())
-}
-
 /// Adds the number of a line of the source, at the right of its gutter.
 // requires { line < 2 ^ 61 }
 // ensures { OnOk result (string_bytes out.new ≡ string_bytes out.old
@@ -45,12 +31,14 @@ fn put_painted_decimal(
 #[inline]
 pub fn put_line_number(out: &mut String, frame: &Frame<'_>, line: usize) -> Result<(), AllocError> {
     let number = frame.picture.line_start as usize + line;
+    put_opening(out, frame.gutter.palette, Style::Secondary)?;
     put_run(
         out,
         ' ',
         frame.gutter.columns.saturating_sub(digits(number)),
     )?;
-    put_painted_decimal(out, frame.gutter.palette, number)?;
+    put_decimal(out, number)?;
+    put_closing(out, frame.gutter.palette)?;
     Ok(())
 }
 

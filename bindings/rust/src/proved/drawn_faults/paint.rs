@@ -141,6 +141,23 @@ pub fn put_change(
     Ok(())
 }
 
+/// Adds a text in a style, without its end.
+// requires { (length sign.now == 0) ≡ false }
+// ensures { OnOk result ((xs : List Piece) → string_bytes out.new
+//     ++ pieces_after palette style xs
+//     ≡ string_bytes out.old ++ pieces_after palette Plain (piece style sign.now ∷ xs)) }
+#[inline]
+pub fn put_sign(
+    out: &mut String,
+    palette: Palette,
+    style: Style,
+    sign: &str,
+) -> Result<(), AllocError> {
+    put_change(out, palette, Style::Plain, style)?;
+    out.try_push_str(sign)?;
+    Ok(())
+}
+
 /// Adds what is before a text in a style.
 // ensures { OnOk result (string_bytes out.new
 //     ≡ string_bytes out.old ++ opening palette style) }

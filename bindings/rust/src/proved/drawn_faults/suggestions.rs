@@ -6,12 +6,12 @@
 // by results from outside, and beside what is proved (.ci/bindings) and the original (tools/agree).
 
 use crate::proved::drawn_faults::glyphs::{
-    behind_chars, put_front, put_front_after, put_glyphs, put_glyphs_after, put_glyphs_between,
+    behind_chars, put_front, put_front_after, put_glyphs, put_glyphs_after,
 };
 use crate::proved::drawn_faults::labels::{Edit, Frame};
 use crate::proved::drawn_faults::lines::put_line_number;
 use crate::proved::drawn_faults::paint::{
-    has_colours, put_change, put_painted, put_reset, Palette, Style,
+    has_colours, put_painted, put_reset, put_sign, Palette, Style,
 };
 use crate::proved::drawn_faults::places::{behind_lines, line, split_line};
 use crate::proved::drawn_faults::rows::put_blank;
@@ -43,7 +43,9 @@ pub fn put_help_word(out: &mut String, palette: Palette) -> Result<(), AllocErro
 #[inline]
 fn put_help_title(out: &mut String, palette: Palette, text: &str) -> Result<(), AllocError> {
     put_help_word(out, palette)?;
-    put_glyphs_between(out, "did you mean `", text, "`?\n")?;
+    out.try_push_str("did you mean `")?;
+    put_glyphs(out, text, 0)?;
+    out.try_push_str("`?\n")?;
     Ok(())
 }
 
@@ -82,8 +84,7 @@ fn put_removed(
     line: &str,
     edits: &[Edit<'_>],
 ) -> Result<(), AllocError> {
-    put_change(out, palette, Style::Plain, Style::Removal)?;
-    out.try_push_str("- ")?;
+    put_sign(out, palette, Style::Removal, "- ")?;
     let mut style = Style::Removal;
     let mut passed = 0;
     let mut rest = line;
@@ -178,8 +179,7 @@ fn put_coloured_edit(
     first: &str,
     last: &str,
 ) -> Result<(), AllocError> {
-    put_change(out, palette, Style::Plain, Style::Addition)?;
-    out.try_push_str("+ ")?;
+    put_sign(out, palette, Style::Addition, "+ ")?;
     let count = edit.extent.start.chars;
     let style = put_front_after(out, palette, Style::Addition, Style::Plain, first, count)?;
     let style = put_glyphs_after(out, palette, style, Style::Addition, edit.text)?;
