@@ -14,8 +14,8 @@ pub use crate::proved::drawn_faults::{Edit, Fixed, Picture};
 pub use crate::proved::rustc_parse_format::Fault;
 
 /// Returns the text that shows an error of a literal of this mode under its source, as rustc 1.95
-/// draws it, in its colours if the picture has them. The spans of the error are byte ranges of the literal: its parser had
-/// this literal as its snippet, and that was the source literal.
+/// draws it, in its colours if the picture has them. The spans of the error are byte ranges of the
+/// literal: its parser had this literal as its snippet, and that was the source literal.
 ///
 /// From top to bottom: what the error is, and its path, line and column, which counts characters;
 /// the lines with labels, each with its number and the signs of the labels under it; the note; the
