@@ -2,14 +2,16 @@
 
 ghost use Rattle.std.specs.Prelude.{◌≡◌};
 
+use crate::drawings::put_drawing;
 use fault_rules::RULES;
 use message_forms::{
-    Level, Message, Span, put_github, put_json, put_sarif_end, put_sarif_result, put_sarif_start,
-    put_short,
+    Child, ChildLevel, Level, Message, Span, Suggestion, put_github, put_json, put_sarif_end,
+    put_sarif_result, put_sarif_start, put_short,
 };
 use rust_trees::Places;
-use source_lint::Finding;
-use std::alloc::AllocError;
+use source_lint::{Finding, Help};
+use std::alloc::{AllocError, Global};
+use std::ops::Range;
 
 /// The form of messages.
 #[derive(Clone, Copy, PartialEq)]
@@ -54,12 +56,12 @@ fn lines_around(text: &str, start: usize, end: usize) -> &str {
     lines.strip_suffix('\r').unwrap_or(lines)
 }
 
-/// Returns the primary span of a finding.
-fn span_of<'a>(file: &File<'a>, form: Form, finding: &Finding) -> Span<'a>
+/// Returns a range of a file as messages have it, without a label or a suggestion.
+fn span_of<'a>(file: &File<'a>, form: Form, range: &Range<usize>) -> Span<'a>
     requires { file.now.places ≡ file.now.text.now }
 {
-    let byte_start = file.text.floor_char_boundary(finding.span.start);
-    let byte_end = file.text.floor_char_boundary(finding.span.end);
+    let byte_start = file.text.floor_char_boundary(range.start);
+    let byte_end = file.text.floor_char_boundary(range.end);
     let lines = match form {
         Form::Json => lines_around(file.text, byte_start, byte_end),
         _ => "",
@@ -85,32 +87,132 @@ fn level_of(finding: &Finding) -> Level {
     }
 }
 
-/// Appends a message in the form for people. Returns `Err` if an allocation fails.
-fn put_human(out: &mut String, message: &Message<'_>) -> Result<(), AllocError> {
+/// Returns the labels of a finding as ranges of its message. Returns `Err` if an allocation fails.
+fn label_spans<'a>(
+    alloc: Global,
+    file: &File<'a>,
+    finding: &'a Finding,
+) -> Result<Vec<Span<'a>>, AllocError>
+    requires { file.now.places ≡ file.now.text.now }
+{
+    let mut spans = Vec::new(alloc);
+    for label in &finding.labels {
+        let mut span = span_of(file, Form::Json, &label.range);
+        span.is_primary = label.is_primary;
+        if !label.text.is_empty() {
+            span.label = Some(label.text.as_str());
+        }
+        spans.push(span)?;
+    }
+    Ok(spans)
+}
+
+/// Returns the edits of a help as ranges of its message. Returns `Err` if an allocation fails.
+fn edit_spans<'a>(
+    alloc: Global,
+    file: &File<'a>,
+    help: &'a Help,
+) -> Result<Vec<Span<'a>>, AllocError>
+    requires { file.now.places ≡ file.now.text.now }
+{
+    let mut spans = Vec::new(alloc);
+    for edit in &help.edits {
+        let mut span = span_of(file, Form::Json, &edit.range);
+        span.suggestion = Some(Suggestion {
+            text: edit.text.as_str(),
+            is_sure: false,
+        });
+        spans.push(span)?;
+    }
+    Ok(spans)
+}
+
+/// Returns the ranges of the notes of a finding, and then those of its help. Returns `Err` if an
+/// allocation fails.
+fn child_spans<'a>(
+    alloc: Global,
+    file: &File<'a>,
+    finding: &'a Finding,
+) -> Result<Vec<Vec<Span<'a>>>, AllocError>
+    requires { file.now.places ≡ file.now.text.now }
+{
+    let mut all = Vec::new(alloc);
+    for note in &finding.notes {
+        let mut spans = Vec::new(alloc);
+        for range in &note.ranges {
+            spans.push(span_of(file, Form::Json, range))?;
+        }
+        all.push(spans)?;
+    }
+    if let Some(help) = &finding.help {
+        all.push(edit_spans(alloc, file, help)?)?;
+    }
+    Ok(all)
+}
+
+/// Returns the notes and the help of a finding, with these ranges. Returns `Err` if an allocation
+/// fails.
+fn children<'a, 's>(
+    alloc: Global,
+    finding: &'a Finding,
+    ranges: &'s [Vec<Span<'a>>],
+) -> Result<Vec<Child<'a, 's>>, AllocError> {
+    let mut children = Vec::new(alloc);
+    for (note, spans) in finding.notes.iter().zip(ranges) {
+        children.push(Child {
+            level: ChildLevel::Note,
+            text: note.text.as_str(),
+            spans: spans.as_slice(),
+        })?;
+    }
+    if let (Some(help), Some(spans)) = (&finding.help, ranges.last()) {
+        children.push(Child {
+            level: ChildLevel::Help,
+            text: help.text.as_str(),
+            spans: spans.as_slice(),
+        })?;
+    }
+    Ok(children)
+}
+
+/// Appends a message in the form for people: drawn, or else in a line. Returns `Err` if an
+/// allocation fails.
+fn put_human(
+    out: &mut String,
+    file: &File<'_>,
+    finding: &Finding,
+    message: &Message<'_>,
+) -> Result<(), AllocError>
+    requires { file.now.places ≡ file.now.text.now }
+{
+    if put_drawing(out, file, finding)? {
+        return Ok(());
+    }
     put_short(out, message)
 }
 
 /// Appends a message as a line of JSON. Returns `Err` if an allocation fails.
-fn put_line(out: &mut String, message: &Message<'_>) -> Result<(), AllocError> {
-    let mut rendered = String::new(*out.allocator());
-    put_human(&mut rendered, message)?;
-    put_json(out, message, &[message.primary], &[], rendered.as_str())
-}
-
-/// Appends a message in a form. Returns `Err` if an allocation fails.
-fn put_message(
+fn put_line<'a>(
     out: &mut String,
-    form: Form,
-    is_first: bool,
-    message: &Message<'_>,
-) -> Result<(), AllocError> {
-    match form {
-        Form::Human => put_human(out, message),
-        Form::Short => put_short(out, message),
-        Form::Json => put_line(out, message),
-        Form::Github => put_github(out, message),
-        Form::Sarif => put_sarif_result(out, is_first, message),
-    }
+    file: &'a File<'a>,
+    finding: &'a Finding,
+    message: &Message<'a>,
+) -> Result<(), AllocError>
+    requires { file.now.places ≡ file.now.text.now }
+{
+    let alloc = *out.allocator();
+    let mut rendered = String::new(alloc);
+    put_human(&mut rendered, file, finding, message)?;
+    let spans = label_spans(alloc, file, finding)?;
+    let ranges = child_spans(alloc, file, finding)?;
+    let children = children(alloc, finding, ranges.as_slice())?;
+    put_json(
+        out,
+        message,
+        spans.as_slice(),
+        children.as_slice(),
+        rendered.as_str(),
+    )
 }
 
 /// Appends a finding in a form. Returns `Err` if an allocation fails.
@@ -128,9 +230,15 @@ pub fn put_finding<'a>(
         id: finding.id,
         title: finding.title.as_str(),
         path: file.path,
-        primary: span_of(file, form, finding),
+        primary: span_of(file, form, &finding.span),
     };
-    put_message(out, form, is_first, &message)
+    match form {
+        Form::Human => put_human(out, file, finding, &message),
+        Form::Short => put_short(out, &message),
+        Form::Json => put_line(out, file, finding, &message),
+        Form::Github => put_github(out, &message),
+        Form::Sarif => put_sarif_result(out, is_first, &message),
+    }
 }
 
 /// Appends the start of the output, which comes before all messages. Returns `Err` if an allocation

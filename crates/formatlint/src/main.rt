@@ -2,6 +2,7 @@
 #![tactic(auto)]
 
 mod arguments;
+mod drawings;
 mod editions;
 mod failure;
 mod files;
