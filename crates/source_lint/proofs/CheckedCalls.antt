@@ -1,69 +1,33 @@
--- The findings in a call that was checked.
-use Rattle.std.proofs.Common.{◌≡◌, ◌++◌, ℕ, Bool, List, [], ap, subst, ◌∙◌, length, map}
+-- A call that was checked.
+use Rattle.std.proofs.Common.{◌≡◌, ◌++◌, ℕ, Bool, List, ap, refl, ◌∙◌, map}
 use Rattle.std.proofs.Common.{Option, Some}
 use Rattle.rustc_parse_format.specs.Characters.{Text}
 use Rattle.rustc_parse_format.specs.Literal.{newline}
 use Rattle.rustc_parse_format.specs.Seen.{seen}
 use Rattle.rustc_parse_format.specs.State.{State, after_all, calls, first_state}
-use Rattle.rustc_parse_format.specs.Types.{Format, Piece}
-use Rattle.rustc_parse_format.specs.World.{Place}
+use Rattle.rustc_parse_format.specs.Types.{Format}
 use Rattle.call_faults.specs.Arguments.{Given}
 use Rattle.call_faults.specs.Calls.{call_faults, kept_indices}
-use Rattle.call_faults.specs.Seen.{seen_fault, seen_given, told}
+use Rattle.call_faults.specs.Labels.{Call}
+use Rattle.call_faults.specs.Seen.{seen_call, seen_fault, seen_given}
 use Rattle.call_faults.specs.Texts.{text_fault}
-use Rattle.call_faults.specs.Words.{Told}
 use Rattle.call_faults.specs.declared.checker.Checked.{Checked}
-use Rattle.source_lint.specs.declared.report.Finding.{Finding}
-use Rattle.source_lint.specs.Findings.{TellAll, counted_faults}
-use Rattle.source_lint.specs.Readings.{faults_of, pieces, start_of, told_of}
+use Rattle.source_lint.specs.Readings.{call_of, pieces, start_of}
 
-told-same : (s : State) (x : Checked) (gs : List Given) → map seen_given x.given.now ≡ gs
-    → x.kept.items ≡ kept_indices gs → map seen x.pieces.items ≡ pieces s
-    → x.parser ≡ after_all s (calls s) → ◌≡◌ {A = Told Place} (told x []) (told_of s gs)
-told-same s x gs e f h k =
-    ap (λ (v : List Given). record {
-      given = v;
-      count = length x.kept.items;
-      pieces = map seen x.pieces.items;
-      taken = x.parser.next;
-      numbers = [];
-    }) e
-    ∙ (ap (λ v. record {
-      given = gs;
-      count = length v;
-      pieces = map seen x.pieces.items;
-      taken = x.parser.next;
-      numbers = [];
-    }) f
-    ∙ (ap (λ (v : List (Piece Place)). record {
-      given = gs;
-      count = length (kept_indices gs);
-      pieces = v;
-      taken = x.parser.next;
-      numbers = [];
-    }) h
-    ∙ ap (λ (v : State). record {
-      given = gs;
-      count = length (kept_indices gs);
-      pieces = pieces s;
-      taken = v.next;
-      numbers = [];
-    }) k))
-
--- The findings of a checked call are those of the string at whose start the parser was.
-pub found-same : (s : State) (x : Checked) (gs : List Given) (captures b : Bool) (xs : List Finding)
+-- A checked call is that of the string at whose start the parser was.
+pub call-same : (s : State) (x : Checked) (gs : List Given) (captures : Bool)
     → map seen_given x.given.now ≡ gs → x.kept.items ≡ kept_indices gs
     → map seen x.pieces.items ≡ pieces s → x.parser ≡ after_all s (calls s)
     → map seen_fault x.faults.items
     ≡ call_faults captures gs (text_fault s) (map seen x.pieces.items)
-    → TellAll (told x []) (counted_faults b (map seen_fault x.faults.items)) xs
-    → TellAll (told_of s gs) (counted_faults b (faults_of captures s gs)) xs
-found-same s x gs captures b xs e f h k l t =
-    let faults : map seen_fault x.faults.items ≡ faults_of captures s gs =
+    → ◌≡◌ {A = Call} (seen_call x) (call_of captures s gs)
+call-same s x gs captures e f h k l =
+    let faults : map seen_fault x.faults.items
+    ≡ call_faults captures gs (text_fault s) (pieces s) =
     l ∙ ap (λ v. call_faults captures gs (text_fault s) v) h in
-    subst (λ v. TellAll v (counted_faults b (faults_of captures s gs)) xs)
-    (told-same s x gs e f h k)
-    (subst (λ v. TellAll (told x []) (counted_faults b v) xs) faults t)
+    let places = ap (λ (v : State). v.arg_places) k in
+    let taken = ap (λ (v : State). v.next) k in
+    rw (e, f, h, places, taken, faults) refl
 
 -- A parser at the start of a literal that was read.
 pub start-same : (snippet text t lines : Text) (style : Option ℕ) (appended : Bool)

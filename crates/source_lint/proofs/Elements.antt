@@ -1,10 +1,12 @@
 -- Elements of lists that are mapped.
-use Rattle.std.proofs.Common.{◌≡◌, ◌⊎◌, List, [], ◌∷◌, inl, inr, subst}
+use Rattle.std.proofs.Common.{◌≡◌, ◌++◌, ◌⊎◌, List, [], ◌∷◌, inl, inr, refl, subst, sym}
 use Rattle.std.proofs.Common.{arith, map}
 use Rattle.std.specs.Prelude.{Contains}
 use Rattle.std.proofs.lemmas.List.Elements.{Contains-append_cases, Contains-append_left}
 use Rattle.std.proofs.lemmas.List.Elements.{Contains-append_right}
-use Rattle.std.proofs.lemmas.List.Elements.{Contains-push, Contains-push_cases}
+use Rattle.std.specs.List.{All}
+use Rattle.std.proofs.lemmas.List.{map-append}
+use Rattle.std.proofs.lemmas.List.Elements.{All-push, Contains-push, Contains-push_cases}
 
 pub nothing-in : {A B : Type 0} (x : A) → Contains [] x → B
 nothing-in x h = absurd (omega (arith, h.1))
@@ -54,3 +56,22 @@ in-mapped f (y ∷ ys) z h = by_first (in-first (f y) (map f ys) z h) (λ k. in-
     by_first (inr k) again =
         let c = again k in
         record { from = c.from; is_in = after-here y ys c.from c.is_in; is_it = c.is_it }
+
+-- What is read of each element of two lists stays the same with one more of each.
+pub mapped-more : {A B C D : Type 0} (f : A → D) (g : C → D) (seen : B → C) (xs zs : List A)
+    (ys : List B) (x : A) (y : B) → zs ≡ xs ++ x ∷ [] → map f xs ≡ map g (map seen ys)
+    → f x ≡ g (seen y) → map f zs ≡ map g (map seen (ys ++ y ∷ []))
+mapped-more f g seen xs zs ys x y e h k =
+    rw (
+      e,
+      map-append f xs (x ∷ []),
+      h,
+      k,
+      map-append seen ys (y ∷ []),
+      map-append g (map seen ys) (seen y ∷ []),
+    ) refl
+
+-- So does a property of all elements.
+pub all-more : {A : Type 0} (P : A → Type 0) (xs zs : List A) (x : A) → zs ≡ xs ++ x ∷ []
+    → All P xs → P x → All P zs
+all-more P xs zs x e h p = subst (λ v. All P v) (sym e) (All-push P xs x h p)

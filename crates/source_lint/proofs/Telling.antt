@@ -3,13 +3,12 @@ use Rattle.std.proofs.Common.{◌≡◌, ◌++◌, Bool, true, false, List, [], 
 use Rattle.std.proofs.Common.{subst, ◌∙◌}
 use Rattle.std.proofs.lemmas.List.{append_assoc, append-nil}
 use Rattle.std.proofs.lemmas.List.Elements.{filter-append}
-use Rattle.rustc_parse_format.specs.World.{Place}
 use Rattle.call_faults.specs.CallFaults.{CallFault}
-use Rattle.call_faults.specs.Words.{Told}
+use Rattle.call_faults.specs.Labels.{Call}
 use Rattle.source_lint.specs.declared.report.Finding.{Finding}
 use Rattle.source_lint.specs.Findings.{TellAll, counted_faults, is_text_fault}
 
-tell-join : (c : Told Place) (fs gs : List CallFault) (xs ys : List Finding) → TellAll c fs xs
+tell-join : (c : Call) (fs gs : List CallFault) (xs ys : List Finding) → TellAll c fs xs
     → TellAll c gs ys → TellAll c (fs ++ gs) (xs ++ ys)
 tell-join c [] gs [] ys h k = k
 tell-join c [] gs (x ∷ xs) ys h k = absurd h
@@ -22,15 +21,15 @@ counted-join true fs gs = refl
 counted-join false fs gs = sym (filter-append is_text_fault fs gs)
 
 -- The findings so far of these faults.
-abbrev pub Telling : Told Place → Bool → List CallFault → List Finding → List Finding → Type 0
+abbrev pub Telling : Call → Bool → List CallFault → List Finding → List Finding → Type 0
 Telling c b fs old now = (xs : List Finding) × (now ≡ old ++ xs)
     × TellAll c (counted_faults b fs) xs
 
-pub telling-none : (c : Told Place) (b : Bool) (old : List Finding) → Telling c b [] old old
+pub telling-none : (c : Call) (b : Bool) (old : List Finding) → Telling c b [] old old
 telling-none c true old = ([], sym (append-nil old), tt)
 telling-none c false old = ([], sym (append-nil old), tt)
 
-pub telling-more : (c : Told Place) (b : Bool) (fs all : List CallFault) (f : CallFault)
+pub telling-more : (c : Call) (b : Bool) (fs all : List CallFault) (f : CallFault)
     (old now next : List Finding) → all ≡ fs ++ f ∷ [] → Telling c b fs old now
     → Telling c b (f ∷ []) now next → Telling c b all old next
 telling-more c b fs all f old now next e t x = (

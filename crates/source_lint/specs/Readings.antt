@@ -1,6 +1,6 @@
 -- The reading of a call, and the findings in it.
 use Rattle.std.specs.Prelude.{◌≡◌, ◌+◌, ◌++◌, ◌⊎◌, ◌||◌, not, ℕ, Bool, true, false, List, [], ◌∷◌}
-use Rattle.std.specs.Prelude.{Option, Some, None, Result, Ok, Err, chars, codes, drop, length, map}
+use Rattle.std.specs.Prelude.{Option, Some, None, Result, Ok, Err, chars, codes, drop, map}
 use Rattle.std.specs.Prelude.{slice_get}
 use Rattle.std.specs.List.{list_any}
 use Rattle.std.specs.Str.{bytes_eq}
@@ -21,15 +21,14 @@ use Rattle.format_calls.specs.declared.strings.Reason.{Reason}
 use Rattle.format_calls.specs.declared.table.Rule.{Rule}
 use Rattle.format_calls.specs.declared.table.Rule.TheVariants.{At, ByEdition, AfterFields}
 use Rattle.call_faults.specs.Arguments.{Given}
-use Rattle.call_faults.specs.CallFaults.{CallFault}
 use Rattle.call_faults.specs.Calls.{call_faults, kept_indices}
+use Rattle.call_faults.specs.Labels.{Call as CheckedCall}
 use Rattle.call_faults.specs.Texts.{text_fault}
-use Rattle.call_faults.specs.Words.{Told}
 use Rattle.source_lint.specs.declared.report.CallReading.{CallReading}
 use Rattle.source_lint.specs.declared.report.CallReading.TheVariants.{Whole, StringAlone, Redefined}
 use Rattle.source_lint.specs.declared.report.CallReading.TheVariants.{Unread, Malformed}
 use Rattle.source_lint.specs.declared.report.Finding.{Finding}
-use Rattle.source_lint.specs.Findings.{TellAll, counted_faults}
+use Rattle.source_lint.specs.Findings.{AreFindings}
 use Rattle.source_lint.specs.Givens.{given}
 use Rattle.source_lint.specs.Literals.{appends_newline, without_crs}
 
@@ -43,20 +42,16 @@ start_of appended style literal t =
 abbrev pub pieces : State → List (Piece Place)
 pieces s = pieces_in s.world (pieces_of (calls s))
 
--- The parts of a call with this format string and these arguments that titles tell.
-abbrev pub told_of : State → List Given → Told Place
-told_of s gs = record {
+-- A call with this format string, which captures variables or not, and with these arguments.
+abbrev pub call_of : Bool → State → List Given → CheckedCall
+call_of captures s gs = record {
   given = gs;
-  count = length (kept_indices gs);
+  kept = kept_indices gs;
   pieces = pieces s;
+  places = (after_all s (calls s)).arg_places;
   taken = (after_all s (calls s)).next;
-  numbers = [];
+  faults = call_faults captures gs (text_fault s) (pieces s);
 }
-
--- The faults of a call with this format string, which captures variables or not, and with these
--- arguments.
-abbrev pub faults_of : Bool → State → List Given → List CallFault
-faults_of captures s gs = call_faults captures gs (text_fault s) (pieces s)
 
 -- The arguments that count: none if their number is not known.
 abbrev pub counted_givens : Bool → List Given → List Given
@@ -72,8 +67,7 @@ reading_of false = StringAlone
 -- findings. If the number of arguments is not known, only the fault of the string counts.
 abbrev pub Finds : Bool → Bool → State → List Given → CallReading → List Finding → Type 0
 Finds captures counted s gs r fs = (r ≡ reading_of counted)
-    × TellAll (told_of s (counted_givens counted gs))
-    (counted_faults counted (faults_of captures s (counted_givens counted gs))) fs
+    × AreFindings counted (call_of captures s (counted_givens counted gs)) fs
 
 -- The same where the format string is this literal, which may stand for no text.
 abbrev pub ReadsLiteral : Text → Bool → Bool → Bool → List Given → CallReading → List Finding

@@ -3,12 +3,14 @@
 ghost use Rattle.std.specs.Prelude.{◌≡◌, ◌++◌, ◌∷◌, [], List, IfOk, OnOk, map};
 ghost use Rattle.std.specs.List.{All};
 ghost use Rattle.call_faults.specs.CallFaults.{is_warning};
-ghost use Rattle.call_faults.specs.Seen.{seen_fault, told};
-ghost use Rattle.source_lint.specs.Findings.{IsSpan, TellAll, Tells, counted_faults, is_text_fault};
+ghost use Rattle.call_faults.specs.Seen.{seen_call, seen_fault};
+ghost use Rattle.source_lint.specs.Findings.{AreFindings, HasSpans, TellAll, Tells};
+ghost use Rattle.source_lint.specs.Findings.{counted_faults, is_text_fault};
 ghost use Rattle.source_lint.specs.declared.report.Finding.{Finding as FindingValue};
 
+use crate::labels::{help, labels, notes, primary_span};
 use crate::report::Finding;
-use crate::spans::{Site, primary_span};
+use crate::spans::Site;
 use call_faults::{CallFault, Checked};
 use std::alloc::{AllocError, Global};
 
@@ -33,17 +35,23 @@ fn finding<'c>(
     checked: &Checked<'c>,
     fault: &CallFault<'c>,
 ) -> Result<Finding, AllocError>
-    ensures tells { IfOk result (λ x. Tells (told checked.now []) (seen_fault fault.now) x) }
-    ensures span { IfOk result (λ x. IsSpan site.entry.text.now x.span) }
+    ensures tells { IfOk result (λ x. Tells (seen_call checked.now) (seen_fault fault.now) x) }
+    ensures spans { IfOk result (λ x. HasSpans site.entry.text.now x) }
 {
     let mut title = String::new(alloc);
     checked.put_title(&mut title, fault)?;
-    let span = primary_span(alloc, site, checked, fault)?;
+    let labels = labels(alloc, site, checked.labels(alloc, fault)?)?;
+    let span = primary_span(site, &labels);
+    let notes = notes(alloc, site, checked.notes(alloc, fault)?)?;
+    let help = help(alloc, site, checked.help(alloc, fault)?)?;
     Ok(Finding {
         is_warning: is_warning(fault),
         id: fault.id(),
         title,
         span,
+        labels,
+        notes,
+        help,
     })
 }
 
@@ -59,9 +67,10 @@ fn put_finding<'c>(
 ) -> Result<(), AllocError>
     ensures told { OnOk result ((xs : List FindingValue)
         × (findings.new.items ≡ findings.old.items ++ xs)
-        × TellAll (told checked.now []) (counted_faults is_whole (seen_fault fault.now ∷ [])) xs) }
-    ensures spans { OnOk result (All (λ x. IsSpan site.entry.text.now x.span) findings.old.items
-        → All (λ x. IsSpan site.entry.text.now x.span) findings.new.items) }
+        × TellAll (seen_call checked.now) (counted_faults is_whole (seen_fault fault.now ∷ []))
+        xs) }
+    ensures spans { OnOk result (All (HasSpans site.entry.text.now) findings.old.items
+        → All (HasSpans site.entry.text.now) findings.new.items) }
 {
     if is_whole || is_text_fault(fault) {
         findings.push(finding(alloc, site, checked, fault)?)?;
@@ -79,10 +88,10 @@ pub fn put_findings<'c>(
     is_whole: bool,
 ) -> Result<(), AllocError>
     ensures told { OnOk result ((xs : List FindingValue)
-        × (findings.new.items ≡ findings.old.items ++ xs) × TellAll (told checked.now [])
-        (counted_faults is_whole (map seen_fault checked.now.faults.items)) xs) }
-    ensures spans { OnOk result (All (λ x. IsSpan site.entry.text.now x.span) findings.old.items
-        → All (λ x. IsSpan site.entry.text.now x.span) findings.new.items) }
+        × (findings.new.items ≡ findings.old.items ++ xs)
+        × AreFindings is_whole (seen_call checked.now) xs) }
+    ensures spans { OnOk result (All (HasSpans site.entry.text.now) findings.old.items
+        → All (HasSpans site.entry.text.now) findings.new.items) }
 {
     for fault in &checked.faults {
         put_finding(alloc, findings, site, checked, fault, is_whole)?;

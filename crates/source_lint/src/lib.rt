@@ -3,6 +3,7 @@
 
 mod findings;
 mod givens;
+mod labels;
 mod lint;
 mod literals;
 mod macros;
@@ -11,4 +12,4 @@ mod report;
 mod spans;
 
 pub use lint::file_faults;
-pub use report::{CallReading, Finding, Options, Report};
+pub use report::{CallReading, Edit, Finding, Help, Label, Note, Options, Report};

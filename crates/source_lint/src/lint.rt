@@ -6,7 +6,7 @@ ghost use Rattle.rust_trees.specs.Balances.{IsBalanced};
 ghost use Rattle.rust_trees.specs.Leaves.{Leaf};
 ghost use Rattle.format_calls.specs.Rows.{entry};
 ghost use Rattle.source_lint.specs.Files.{AreLeaves};
-ghost use Rattle.source_lint.specs.Findings.{IsSpan};
+ghost use Rattle.source_lint.specs.Findings.{HasSpans};
 ghost use Rattle.source_lint.specs.Reports.{IsReport, ReadsCalls};
 ghost use Rattle.source_lint.specs.declared.report.CallReading.{CallReading as ReadingValue};
 ghost use Rattle.source_lint.specs.declared.report.Finding.{Finding as FindingValue};
@@ -39,9 +39,9 @@ fn read_part(
         × (found.new.findings.items ≡ found.old.findings.items ++ xs)
         × ReadsCalls (map entry table.now.rows.items) (map (λ w. w.now) file.entry.macros.now)
         file.entry.is_from_2021 part.now rs xs) }
-    ensures spans { OnOk result (All (λ x. IsSpan file.entry.text.now x.span)
+    ensures spans { OnOk result (All (HasSpans file.entry.text.now)
         found.old.findings.items
-        → All (λ x. IsSpan file.entry.text.now x.span) found.new.findings.items) }
+        → All (HasSpans file.entry.text.now) found.new.findings.items) }
 {
     let calls = calls(alloc, part, table)?;
     let mut rest = calls.as_slice();
@@ -65,7 +65,7 @@ fn read_file(
         × ReadsCalls (map entry table.now.rows.items) (map (λ w. w.now) file.entry.macros.now)
         file.entry.is_from_2021 ls f.calls.items f.findings.items
         × ((w : List Leaf) → IsBalanced w balance.old → IsBalanced (w ++ ls) balance.new)) }
-    ensures spans { IfOk result (λ f. All (λ x. IsSpan file.entry.text.now x.span)
+    ensures spans { IfOk result (λ f. All (HasSpans file.entry.text.now)
         f.findings.items) }
 {
     let mut found = Readings {
@@ -85,7 +85,7 @@ fn read_file(
 pub fn file_faults(alloc: Global, text: &str, options: &Options<'_>) -> Result<Report, AllocError>
     ensures report { IfOk result (λ r. IsReport (map entry options.now.table.rows.items)
         options.now.is_from_2021 text.now r) }
-    ensures spans { IfOk result (λ r. All (λ x. IsSpan text.now x.span) r.findings.items) }
+    ensures spans { IfOk result (λ r. All (HasSpans text.now) r.findings.items) }
 {
     let names = macro_names(alloc, text)?;
     let file = File {

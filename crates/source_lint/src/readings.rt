@@ -10,12 +10,11 @@ ghost use Rattle.format_calls.specs.Arguments.{AreArguments};
 ghost use Rattle.format_calls.specs.Strings.{is_text};
 ghost use Rattle.format_calls.specs.declared.split.Argument.{Argument as ArgumentValue};
 ghost use Rattle.call_faults.specs.Seen.{seen_given, start};
-ghost use Rattle.source_lint.specs.Findings.{IsSpan, TellAll, counted_faults};
+ghost use Rattle.source_lint.specs.Findings.{AreFindings, HasSpans};
 ghost use Rattle.source_lint.specs.Givens.{given};
 ghost use Rattle.source_lint.specs.Literals.{without_crs};
-ghost use Rattle.source_lint.specs.Readings.{Reads, ReadsAt, ReadsLiteral, captures};
-ghost use Rattle.source_lint.specs.Readings.{counted_givens, faults_of, name_at, reading_of};
-ghost use Rattle.source_lint.specs.Readings.{told_of};
+ghost use Rattle.source_lint.specs.Readings.{Reads, ReadsAt, ReadsLiteral, call_of};
+ghost use Rattle.source_lint.specs.Readings.{captures, counted_givens, name_at, reading_of};
 ghost use Rattle.source_lint.specs.declared.report.Finding.{Finding as FindingValue};
 
 use crate::findings::put_findings;
@@ -92,10 +91,9 @@ fn check_string<'c>(
     requires { hashes string.style + length string.text.now + 2 < 2 ^ 64 }
     ensures told { OnOk result (let s = start string.entry in (xs : List FindingValue)
         × (findings.new.items ≡ findings.old.items ++ xs)
-        × TellAll (told_of s (map seen_given given.now)) (counted_faults is_counted
-        (faults_of string.entry.captures s (map seen_given given.now))) xs) }
-    ensures spans { OnOk result (All (λ x. IsSpan site.entry.text.now x.span) findings.old.items
-        → All (λ x. IsSpan site.entry.text.now x.span) findings.new.items) }
+        × AreFindings is_counted (call_of string.entry.captures s (map seen_given given.now)) xs) }
+    ensures spans { OnOk result (All (HasSpans site.entry.text.now) findings.old.items
+        → All (HasSpans site.entry.text.now) findings.new.items) }
 {
     let checked = call_faults(alloc, string, given)?;
     put_findings(alloc, findings, site, &checked, is_counted)?;
@@ -116,8 +114,8 @@ fn read_string(
         × (findings.new.items ≡ findings.old.items ++ xs)
         × ReadsLiteral (without_crs (chars site.entry.literal.text.now)) appended_newline captures
         is_counted (map (given (map leaf site.entry.tokens.now)) site.entry.arguments.now) r xs) }
-    ensures spans { OnOk result (All (λ x. IsSpan site.entry.text.now x.span) findings.old.items
-        → All (λ x. IsSpan site.entry.text.now x.span) findings.new.items) }
+    ensures spans { OnOk result (All (HasSpans site.entry.text.now) findings.old.items
+        → All (HasSpans site.entry.text.now) findings.new.items) }
 {
     let Some(literal) = read_literal(alloc, site.literal.text, appended_newline)? else {
         return Ok(CallReading::Malformed);
@@ -177,8 +175,8 @@ fn read_at(
     ensures read { IfOk result (λ r. (xs : List FindingValue)
         × (findings.new.items ≡ findings.old.items ++ xs)
         × ReadsAt file.entry.is_from_2021 part.now call.now arguments.now index r xs) }
-    ensures spans { OnOk result (All (λ x. IsSpan file.entry.text.now x.span) findings.old.items
-        → All (λ x. IsSpan file.entry.text.now x.span) findings.new.items) }
+    ensures spans { OnOk result (All (HasSpans file.entry.text.now) findings.old.items
+        → All (HasSpans file.entry.text.now) findings.new.items) }
 {
     let tokens = part.tokens();
     let Some(string) = argument_at(arguments, index) else {
@@ -222,8 +220,8 @@ pub fn read_call(
         × (findings.new.items ≡ findings.old.items ++ xs)
         × Reads (map (λ w. w.now) file.entry.macros.now) file.entry.is_from_2021 part.now call.now
         r xs) }
-    ensures spans { OnOk result (All (λ x. IsSpan file.entry.text.now x.span) findings.old.items
-        → All (λ x. IsSpan file.entry.text.now x.span) findings.new.items) }
+    ensures spans { OnOk result (All (HasSpans file.entry.text.now) findings.old.items
+        → All (HasSpans file.entry.text.now) findings.new.items) }
 {
     let name = name_at(part.tokens(), call.name);
     if is_defined(file.macros, name) {

@@ -29,6 +29,46 @@ pub enum CallReading {
     Malformed,
 }
 
+/// A label of a finding under the source.
+#[derive(Drop)]
+pub struct Label {
+    /// The bytes of the file that it is about. Both ends are at characters.
+    pub range: Range<usize>,
+    /// Whether the fault is about this range: it has the sign `^`, and the others have `-`.
+    pub is_primary: bool,
+    /// Its text, in rustc's words, or an empty one.
+    pub text: String,
+}
+
+/// A note of a finding.
+#[derive(Drop)]
+pub struct Note {
+    /// Its text, in rustc's words, which may have several lines.
+    pub text: String,
+    /// The bytes of the file that it shows. Both ends of each range are at characters. A note
+    /// without any is a row under the labels, and one with some has a drawing of its own.
+    pub ranges: Vec<Range<usize>>,
+}
+
+/// A text that a help puts in the place of another one.
+#[derive(Drop)]
+pub struct Edit {
+    /// The bytes of the file that it replaces: none where text is only inserted. Both ends are at
+    /// characters.
+    pub range: Range<usize>,
+    /// The new text, which is empty where text is only removed.
+    pub text: String,
+}
+
+/// A help of a finding.
+#[derive(Drop)]
+pub struct Help {
+    /// The advice, in rustc's words.
+    pub text: String,
+    /// The edits that follow it, in the order of the source.
+    pub edits: Vec<Edit>,
+}
+
 /// A fault of a call, in rustc's words.
 #[derive(Drop)]
 pub struct Finding {
@@ -40,6 +80,12 @@ pub struct Finding {
     pub title: String,
     /// The primary span: the bytes of the file that it is about. Both ends are at characters.
     pub span: Range<usize>,
+    /// The labels, in rustc's order.
+    pub labels: Vec<Label>,
+    /// The notes, in rustc's order.
+    pub notes: Vec<Note>,
+    /// The help, if there is one that is no label.
+    pub help: Option<Help>,
 }
 
 /// The readings of the calls of a file, and the faults of these calls.

@@ -1,6 +1,6 @@
 use Rattle.std.proofs.Common.{◌∙◌, ◌++◌, ◌∷◌, [], ap, map, subst, sym, take}
 use Rattle.std.proofs.lemmas.List.{take_all}
-use Rattle.call_faults.specs.Seen.{seen_fault, told}
+use Rattle.call_faults.specs.Seen.{seen_call, seen_fault}
 use Rattle.call_faults.proofs.Collecting.{map-next}
 use Rattle.source_lint.proofs.Telling.{Telling, telling-more, telling-none}
 use Rattle.source_lint.proofs.findings.put_findings.Goals as goal
@@ -22,7 +22,7 @@ loop-fault-preserved c =
 
 pub returns-clause-told : goal.returns-clause-told
 returns-clause-told c =
-    subst (λ v. Telling (told c.args.checked.now []) c.args.is_whole (map seen_fault v)
+    subst (λ v. Telling (seen_call c.args.checked.now) c.args.is_whole (map seen_fault v)
     c.args.findings.now.items c.loop-fault.findings.items)
     (take_all c.loop-fault.fault-index c.deref-fault-items.result.now c.loop-fault-test.false
     ∙ c.deref-fault-items.ensures.value)

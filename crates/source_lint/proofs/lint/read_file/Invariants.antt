@@ -1,7 +1,7 @@
 use Rattle.std.proofs.Common.{length, map}
 use Rattle.std.specs.List.{All}
 use Rattle.format_calls.specs.Rows.{entry}
-use Rattle.source_lint.specs.Findings.{IsSpan}
+use Rattle.source_lint.specs.Findings.{HasSpans}
 use Rattle.source_lint.proofs.Joining.{ReadingFile}
 use Rattle.source_lint.proofs.lint.read_file.Given as goal
 
@@ -10,7 +10,7 @@ invariant-loop-found l = record {
   read : ReadingFile (map entry l.table.rows.items) (map (λ w. w.now) l.file.macros.now)
       l.file.is_from_2021 l.initial.rest l.rest l.found.calls.items l.found.findings.items
       l.initial.balance l.balance;
-  spans : All (λ x. IsSpan l.file.text.now x.span) l.found.findings.items;
+  spans : All (HasSpans l.file.text.now) l.found.findings.items;
 }
 
 abbrev pub decreases-loop-found : goal.decreases-loop-found

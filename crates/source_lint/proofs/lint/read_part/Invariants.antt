@@ -4,7 +4,7 @@ use Rattle.std.specs.List.{All}
 use Rattle.format_calls.specs.Calls.{IsCall}
 use Rattle.format_calls.specs.Rows.{entry}
 use Rattle.format_calls.specs.declared.listing.Call.{Call}
-use Rattle.source_lint.specs.Findings.{IsSpan}
+use Rattle.source_lint.specs.Findings.{HasSpans}
 use Rattle.source_lint.proofs.Joining.{Reading}
 use Rattle.source_lint.proofs.lint.read_part.Given as goal
 
@@ -14,8 +14,8 @@ invariant-loop-call l = record {
       l.initial.rest l.rest l.initial.found.calls.items l.found.calls.items
       l.initial.found.findings.items l.found.findings.items;
   are_calls : (c : Call) → Contains l.rest c → IsCall (map entry l.table.rows.items) l.part c;
-  spans : All (λ x. IsSpan l.file.text.now x.span) l.initial.found.findings.items
-      → All (λ x. IsSpan l.file.text.now x.span) l.found.findings.items;
+  spans : All (HasSpans l.file.text.now) l.initial.found.findings.items
+      → All (HasSpans l.file.text.now) l.found.findings.items;
 }
 
 abbrev pub decreases-loop-call : goal.decreases-loop-call

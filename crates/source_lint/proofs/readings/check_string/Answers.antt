@@ -1,6 +1,7 @@
-use Rattle.std.proofs.Common.{ap, map}
+use Rattle.std.proofs.Common.{ap, map, subst}
 use Rattle.call_faults.specs.Seen.{seen_given, start}
-use Rattle.source_lint.proofs.CheckedCalls.{found-same}
+use Rattle.source_lint.specs.Findings.{AreFindings}
+use Rattle.source_lint.proofs.CheckedCalls.{call-same}
 use Rattle.source_lint.proofs.readings.check_string.Goals as goal
 
 pub returns-clause-told : goal.returns-clause-told
@@ -9,7 +10,8 @@ returns-clause-told c =
     let k = c.in_ok-checked.ensures in (
       t.0,
       t.1,
-      found-same (start c.args.string) c.in_ok-checked.checked (map seen_given c.args.given.now)
-          c.args.string.captures c.args.is_counted t.0
-          (ap (λ v. map seen_given v.now) k.given) k.kept k.walk.0 k.walk.1 k.faults t.2,
+      subst (λ v. AreFindings c.args.is_counted v t.0)
+          (call-same (start c.args.string) c.in_ok-checked.checked
+          (map seen_given c.args.given.now) c.args.string.captures
+          (ap (λ v. map seen_given v.now) k.given) k.kept k.walk.0 k.walk.1 k.faults) t.2,
     )

@@ -3,10 +3,10 @@ use Rattle.std.proofs.lemmas.List.{append-nil}
 use Rattle.rust_trees.specs.Leaves.{leaf}
 use Rattle.call_faults.specs.Arguments.{Given}
 use Rattle.call_faults.specs.Seen.{seen_given}
-use Rattle.source_lint.specs.Findings.{TellAll, counted_faults}
+use Rattle.source_lint.specs.Findings.{AreFindings}
 use Rattle.source_lint.specs.Givens.{given}
 use Rattle.source_lint.specs.Literals.{without_crs}
-use Rattle.source_lint.specs.Readings.{counted_givens, faults_of, start_of, told_of}
+use Rattle.source_lint.specs.Readings.{call_of, counted_givens, start_of}
 use Rattle.source_lint.proofs.CheckedCalls.{start-same}
 use Rattle.source_lint.proofs.readings.read_string.Goals as goal
 
@@ -41,11 +41,10 @@ returns-clause-read c =
         r.is_literal,
         (
           c.reading_of.ensures,
-          subst (λ (gs : List Given). TellAll (told_of start gs)
-              (counted_faults c.args.is_counted (faults_of c.args.captures start gs)) t.0) given
-              (subst (λ q. TellAll (told_of q (map seen_given c.as_slice-list.result.now))
-              (counted_faults c.args.is_counted
-              (faults_of c.args.captures q (map seen_given c.as_slice-list.result.now))) t.0)
+          subst (λ (gs : List Given). AreFindings c.args.is_counted
+              (call_of c.args.captures start gs) t.0) given
+              (subst (λ q. AreFindings c.args.is_counted
+              (call_of c.args.captures q (map seen_given c.as_slice-list.result.now)) t.0)
               same t.2),
         ),
       ),

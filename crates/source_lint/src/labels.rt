@@ -1,0 +1,134 @@
+//! The labels, notes and helps of findings, with their ranges in the file.
+
+ghost use Rattle.std.specs.Prelude.{◌≡◌, IfOk, IfSome, length, map, option_map, string_bytes};
+ghost use Rattle.std.specs.List.{All};
+ghost use Rattle.call_faults.specs.Seen.{seen_edit, seen_help, seen_label, seen_note};
+ghost use Rattle.source_lint.specs.Findings.{IsSpan};
+
+use crate::report::{Edit, Help, Label, Note};
+use crate::spans::{Site, range_in, spot_range};
+use call_faults::{CallEdit, CallHelp, CallLabel, CallNote, Spot};
+use std::alloc::{AllocError, Global};
+use std::ops::Range;
+
+/// Returns labels of a call with their ranges. Returns `Err` if an allocation fails.
+pub fn labels(
+    alloc: Global,
+    site: Site<'_, '_>,
+    labels: Vec<CallLabel>,
+) -> Result<Vec<Label>, AllocError>
+    ensures primary { IfOk result (λ v. map (λ x. x.is_primary) v.items
+        ≡ map (λ l. l.is_primary) (map seen_label labels.items)) }
+    ensures texts { IfOk result (λ v. map (λ x. string_bytes x.text) v.items
+        ≡ map (λ l. l.text) (map seen_label labels.items)) }
+    ensures spans { IfOk result (λ v. All (λ x. IsSpan site.entry.text.now x.range) v.items) }
+{
+    let mut found = Vec::new(alloc);
+    for label in labels {
+        found.push(Label {
+            range: spot_range(site, label.spot),
+            is_primary: label.is_primary,
+            text: label.text,
+        })?;
+    }
+    Ok(found)
+}
+
+/// Returns the ranges of places of a call. Returns `Err` if an allocation fails.
+fn ranges(
+    alloc: Global,
+    site: Site<'_, '_>,
+    spots: &[Spot],
+) -> Result<Vec<Range<usize>>, AllocError>
+    ensures count { IfOk result (λ v. length v.items ≡ length spots.now) }
+    ensures spans { IfOk result (λ v. All (λ r. IsSpan site.entry.text.now r) v.items) }
+{
+    let mut found = Vec::new(alloc);
+    for spot in spots {
+        found.push(spot_range(site, *spot))?;
+    }
+    Ok(found)
+}
+
+/// Returns notes of a call with the ranges that they show. Returns `Err` if an allocation fails.
+pub fn notes(
+    alloc: Global,
+    site: Site<'_, '_>,
+    notes: Vec<CallNote>,
+) -> Result<Vec<Note>, AllocError>
+    ensures texts { IfOk result (λ v. map (λ x. string_bytes x.text) v.items
+        ≡ map (λ n. n.text) (map seen_note notes.items)) }
+    ensures counts { IfOk result (λ v. map (λ x. length x.ranges.items) v.items
+        ≡ map (λ n. length n.spots) (map seen_note notes.items)) }
+    ensures spans { IfOk result (λ v. All (λ x. All (λ r. IsSpan site.entry.text.now r)
+        x.ranges.items) v.items) }
+{
+    let mut found = Vec::new(alloc);
+    for note in notes {
+        let ranges = ranges(alloc, site, &note.spots)?;
+        found.push(Note {
+            text: note.text,
+            ranges,
+        })?;
+    }
+    Ok(found)
+}
+
+/// Returns edits of a call with their ranges. Returns `Err` if an allocation fails.
+fn edits(alloc: Global, site: Site<'_, '_>, edits: Vec<CallEdit>) -> Result<Vec<Edit>, AllocError>
+    ensures texts { IfOk result (λ v. map (λ x. string_bytes x.text) v.items
+        ≡ map (λ e. e.text) (map seen_edit edits.items)) }
+    ensures spans { IfOk result (λ v. All (λ x. IsSpan site.entry.text.now x.range) v.items) }
+{
+    let mut found = Vec::new(alloc);
+    for edit in edits {
+        found.push(Edit {
+            range: spot_range(site, edit.spot),
+            text: edit.text,
+        })?;
+    }
+    Ok(found)
+}
+
+/// Returns a help of a call with the ranges of its edits. Returns `Err` if an allocation fails.
+pub fn help(
+    alloc: Global,
+    site: Site<'_, '_>,
+    help: Option<CallHelp>,
+) -> Result<Option<Help>, AllocError>
+    ensures text { IfOk result (λ o. option_map (λ x. string_bytes x.text) o
+        ≡ option_map (λ h. h.text) (option_map seen_help help)) }
+    ensures edits { IfOk result (λ o. option_map (λ x. map (λ e. string_bytes e.text) x.edits.items)
+        o ≡ option_map (λ h. map (λ e. e.text) h.edits) (option_map seen_help help)) }
+    ensures spans { IfOk result (λ o. IfSome o (λ x. All (λ e. IsSpan site.entry.text.now e.range)
+        x.edits.items)) }
+{
+    match help {
+        None => Ok(None),
+        Some(help) => {
+            let edits = edits(alloc, site, help.edits)?;
+            Ok(Some(Help {
+                text: help.text,
+                edits,
+            }))
+        }
+    }
+}
+
+/// Returns the range of the primary label that comes first in the file, or an empty one if there is
+/// none.
+pub fn primary_span(site: Site<'_, '_>, labels: &[Label]) -> Range<usize>
+    ensures { IsSpan site.entry.text.now result }
+{
+    let mut start = 0;
+    let mut end = 0;
+    let mut is_found = false;
+    for label in labels {
+        if label.is_primary && (!is_found || label.range.start < start) {
+            start = label.range.start;
+            end = label.range.end;
+            is_found = true;
+        }
+    }
+    range_in(site.text, start, end)
+}
