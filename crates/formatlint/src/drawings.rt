@@ -64,12 +64,13 @@ fn extent(finding: &Finding) -> Range<usize> {
     extent
 }
 
-/// Returns the byte offset at which the line of an offset starts.
+/// Returns the byte offset at which the line of an offset starts, after a byte order mark at the
+/// start of the file.
 fn line_start(text: &str, offset: usize) -> usize {
     let (front, _) = text.split_at(text.floor_char_boundary(offset));
     match front.rsplit_once('\n') {
         Some((before, _)) => before.len() + 1,
-        None => 0,
+        None => text.len() - text.strip_prefix('\u{feff}').unwrap_or(text).len(),
     }
 }
 
@@ -112,7 +113,11 @@ fn excerpt_of<'a>(
         source.push_str(line.strip_suffix('\r').unwrap_or(line))?;
         source.push('\n')?;
     }
-    let number = u32::try_from(place.line).unwrap_or(u32::MAX);
+    let number = if place.line < 1 << 32 {
+        place.line as u32
+    } else {
+        u32::MAX
+    };
     Ok(Some(Excerpt {
         lines,
         start,

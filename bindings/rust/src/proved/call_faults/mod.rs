@@ -8,10 +8,16 @@ pub(crate) mod arguments;
 pub(crate) mod checker;
 pub(crate) mod compared;
 pub(crate) mod faults;
+pub(crate) mod helps;
+pub(crate) mod labels;
 pub(crate) mod lookups;
+pub(crate) mod missing_labels;
+pub(crate) mod notes;
+pub(crate) mod spots;
 pub(crate) mod text;
 pub(crate) mod titles;
 
 pub use arguments::Given;
 pub use checker::{call_faults, Checked, FormatString};
 pub use faults::{CallFault, Missing, Part, Reference};
+pub use spots::{CallEdit, CallHelp, CallLabel, CallNote, Spot};

@@ -5,13 +5,14 @@
 // That source is proved, and each contract here is its. That this text means the same is tested:
 // by results from outside, and beside what is proved (.ci/bindings) and the original (tools/agree).
 
+use crate::proved::drawn_faults::extent::Spot;
 use crate::proved::drawn_faults::glyphs::{put_glyphs_between, put_run};
 use crate::proved::drawn_faults::labels::{
     edit_of, frame_for, mark, second, text_name, Edit, Frame, Label,
 };
 use crate::proved::drawn_faults::lines::{put_decimal, put_labelled, put_two_labels};
 use crate::proved::drawn_faults::long::put_long;
-use crate::proved::drawn_faults::places::{Picture, Spot};
+use crate::proved::drawn_faults::places::Picture;
 use crate::proved::drawn_faults::suggestions::{put_edit, put_parting};
 use crate::proved::rustc_parse_format::{ParseError, ParseMode};
 use crate::shim::alloc::{AllocError, Global};
@@ -34,7 +35,7 @@ fn put_title(out: &mut String, mode: ParseMode, description: &str) -> Result<(),
 // ensures { OnOk result (string_bytes out.new ≡ string_bytes out.old
 //     ++ arrow (seen_frame frame.now) at) }
 #[inline]
-fn put_arrow(out: &mut String, frame: &Frame<'_>, at: Spot) -> Result<(), AllocError> {
+pub fn put_arrow(out: &mut String, frame: &Frame<'_>, at: Spot) -> Result<(), AllocError> {
     let line = frame.picture.line_start as usize + at.line;
     let column = at.chars + 1;
     put_run(out, ' ', frame.gutter)?;

@@ -34,7 +34,7 @@ fn is_bidi_control(c: char) -> bool {
 /// Returns the character that is drawn for a character.
 // ensures { result ≡ glyph c }
 #[inline]
-fn glyph(c: char) -> char {
+pub fn glyph(c: char) -> char {
     match c {
         '\t' => ' ',
         '\n' => '\n',
@@ -50,7 +50,7 @@ fn glyph(c: char) -> char {
 // ensures value { result ≡ glyph_count c }
 // ensures few { result ≤ 4 }
 #[inline]
-fn glyph_count(c: char) -> usize {
+pub fn glyph_count(c: char) -> usize {
     match c {
         '\t' => 4,
         '\u{200d}' => 0,

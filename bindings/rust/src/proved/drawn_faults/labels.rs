@@ -4,10 +4,11 @@
 // That source is proved, and each contract here is its. That this text means the same is tested:
 // by results from outside, and beside what is proved (.ci/bindings) and the original (tools/agree).
 
+use crate::proved::drawn_faults::extent::Extent;
 use crate::proved::drawn_faults::fixes::is_offered;
 use crate::proved::drawn_faults::glyphs::indent;
-use crate::proved::drawn_faults::places::{behind_lines, Extent, Picture};
-use crate::proved::drawn_faults::rows::Mark;
+use crate::proved::drawn_faults::mark::Mark;
+use crate::proved::drawn_faults::places::{behind_lines, Picture};
 use crate::proved::rustc_parse_format::{ParseError, ParseMode, Suggestion};
 use std::ops::Range;
 
@@ -158,7 +159,7 @@ fn other_line(label: &Label<'_>, second: &Option<Label<'_>>) -> usize {
 // ensures value { result ≡ line_indent (seen_picture picture.now) number }
 // ensures small { IfSome result (λ n. n < 2 ^ 62) }
 #[inline]
-fn line_indent(picture: &Picture<'_>, number: usize) -> Option<usize> {
+pub fn line_indent(picture: &Picture<'_>, number: usize) -> Option<usize> {
     indent(behind_lines(picture.source, number))
 }
 
@@ -202,7 +203,7 @@ fn least_indent(picture: &Picture<'_>, number: usize, other: usize) -> usize {
 // ensures value { result ≡ cut_of indent }
 // ensures less { result ≤ indent }
 #[inline]
-fn cut_of(indent: usize) -> usize {
+pub fn cut_of(indent: usize) -> usize {
     if indent > 26 {
         indent - 22
     } else {
@@ -258,7 +259,8 @@ pub fn frame_for<'a>(
 // ensures line { result.line ≡ label.now.extent.start.line }
 #[inline]
 pub fn mark<'a>(label: &Label<'a>, cut: usize) -> Mark<'a> {
-    let Extent { start, end } = label.extent;
+    let start = label.extent.start;
+    let end = label.extent.end;
     let from = start.column.saturating_sub(cut);
     let to = if end.line == start.line {
         end.column.saturating_sub(cut)

@@ -7,8 +7,9 @@
 
 use crate::proved::drawn_faults::glyphs::{draws_nothing, put_glyphs, put_run};
 use crate::proved::drawn_faults::labels::{digits, Frame};
+use crate::proved::drawn_faults::mark::Mark;
 use crate::proved::drawn_faults::places::line;
-use crate::proved::drawn_faults::rows::{put_both, put_one, Mark};
+use crate::proved::drawn_faults::rows::{put_both, put_one};
 use crate::shim::alloc::AllocError;
 use crate::shim::itoa::Buffer;
 use crate::shim::prelude::*;
@@ -88,7 +89,7 @@ pub fn put_source(
 // ensures { OnOk result (string_bytes out.new ≡ string_bytes out.old
 //     ++ code_row (seen_frame frame.now) number) }
 #[inline]
-fn put_code(out: &mut String, frame: &Frame<'_>, number: usize) -> Result<(), AllocError> {
+pub fn put_code(out: &mut String, frame: &Frame<'_>, number: usize) -> Result<(), AllocError> {
     put_source(out, frame, " |", " ", number)?;
     Ok(())
 }
@@ -115,7 +116,7 @@ pub fn put_labelled(
 // ensures { OnOk result (string_bytes out.new ≡ string_bytes out.old
 //     ++ gap (seen_frame frame.now) first last) }
 #[inline]
-fn put_gap(
+pub fn put_gap(
     out: &mut String,
     frame: &Frame<'_>,
     first: usize,

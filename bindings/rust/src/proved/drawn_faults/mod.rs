@@ -5,21 +5,34 @@
 // That source is proved, and each contract here is its. That this text means the same is tested:
 // by results from outside, and beside what is proved (.ci/bindings) and the original (tools/agree).
 
+pub(crate) mod cells;
+pub(crate) mod diagnostics;
 pub(crate) mod drawing;
+pub(crate) mod extent;
 pub(crate) mod fixes;
 pub(crate) mod glyphs;
+pub(crate) mod hanging;
+pub(crate) mod helps;
 pub(crate) mod labels;
 pub(crate) mod lines;
 pub(crate) mod long;
+pub(crate) mod mark;
+pub(crate) mod marked;
+pub(crate) mod marks;
+pub(crate) mod notes;
+pub(crate) mod order;
 pub(crate) mod places;
 pub(crate) mod printable;
 pub(crate) mod rounds;
 pub(crate) mod rows;
 pub(crate) mod suggestions;
 
+pub use diagnostics::{put_labels, Diagnostic, Level, SourceLabel};
 pub use drawing::{draw, put_drawing};
 pub use fixes::{edits, errors_of, Edit, Fixed};
 pub use glyphs::put_glyphs;
+pub use helps::SourceHelp;
+pub use notes::SourceNote;
 pub use places::Picture;
 pub use printable::{is_ascii_or_as_is, is_drawn_as_is};
 pub use rounds::fix;

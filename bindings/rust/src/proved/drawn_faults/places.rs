@@ -4,6 +4,7 @@
 // That source is proved, and each contract here is its. That this text means the same is tested:
 // by results from outside, and beside what is proved (.ci/bindings) and the original (tools/agree).
 
+use crate::proved::drawn_faults::extent::{Extent, Spot};
 use crate::proved::drawn_faults::glyphs::{split_first, width};
 use crate::proved::drawn_faults::printable::split_printable;
 use std::ops::Range;
@@ -21,33 +22,13 @@ pub struct Picture<'a> {
     pub literal_start: usize,
 }
 
-/// A place in a source.
-#[derive(Clone, Copy)]
-pub struct Spot {
-    /// The number of the line, counted from 0.
-    pub line: usize,
-    /// How many characters of the line are before the place.
-    pub chars: usize,
-    /// How many columns these take.
-    pub column: usize,
-    /// Whether these are all white space.
-    pub is_indent: bool,
-}
-
 /// The place at the start of a text.
-const ORIGIN: Spot = Spot {
+pub const ORIGIN: Spot = Spot {
     line: 0,
     chars: 0,
     column: 0,
     is_indent: true,
 };
-
-/// The places at which a range begins and ends.
-#[derive(Clone, Copy)]
-pub struct Extent {
-    pub start: Spot,
-    pub end: Spot,
-}
 
 /// Returns the place behind a character.
 // requires small_line { spot.line < 2 ^ 62 }
@@ -190,7 +171,7 @@ pub fn line(text: &str, number: usize) -> &str {
 impl Picture<'_> {
     /// Returns where a range of the literal begins and ends.
     // requires { length self.now.source.now < 2 ^ 59 }
-    // ensures value { result ≡ extent (seen_picture self.now) (pair range.now) }
+    // ensures value { seen_extent result ≡ extent (seen_picture self.now) (pair range.now) }
     // ensures small_line { result.start.line < 2 ^ 59 }
     // ensures small_end { result.end.line < 2 ^ 59 }
     // ensures small_chars { result.start.chars < 2 ^ 59 }

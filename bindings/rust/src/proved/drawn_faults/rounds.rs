@@ -63,8 +63,7 @@ fn is_part(part: &[Fault<'_>], whole: &[Fault<'_>]) -> bool {
 }
 
 /// Returns how many calls over a text find a fault, or `None` if not all of these faults are old
-/// ones, in their order.
-/// Returns `Err` as `faults_of` does.
+/// ones, in their order. Returns `Err` as `faults_of` does.
 // ensures { IfOk result (λ o. o ≡ count_left (map fault_id (map seen_fault old.now))
 //     (seen_mode mode) text.now) }
 #[inline]
@@ -176,6 +175,10 @@ pub fn fix(
             return Ok(best.literal);
         };
         let calls = count_left(alloc, old.list.as_slice(), fixed.text.as_str(), mode)?;
+        if let Some(0) = calls {
+            offer(&mut best, fixed, calls);
+            return Ok(best.literal);
+        }
         reached = next_round(alloc, &fixed, style, appended_newline, mode)?;
         offer(&mut best, fixed, calls);
         rounds += 1;

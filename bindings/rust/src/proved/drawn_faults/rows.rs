@@ -6,23 +6,9 @@
 // by results from outside, and beside what is proved (.ci/bindings) and the original (tools/agree).
 
 use crate::proved::drawn_faults::glyphs::{put_glyphs, put_glyphs_between, put_run};
+use crate::proved::drawn_faults::mark::Mark;
 use crate::shim::alloc::AllocError;
 use crate::shim::prelude::*;
-
-/// A label in one line.
-#[derive(Clone, Copy)]
-pub struct Mark<'a> {
-    /// The number of the line, counted from 0.
-    pub line: usize,
-    /// The first column of the label.
-    pub from: usize,
-    /// The first column behind the label.
-    pub to: usize,
-    /// The sign under its columns.
-    pub sign: char,
-    /// Its text.
-    pub text: &'a str,
-}
 
 /// Returns the sign in a column under two labels, of which `m` covers `n`.
 // ensures { result ≡ sign_at (seen_mark m.now) (seen_mark n.now) column }
@@ -156,7 +142,7 @@ fn put_bar_and_text(
 /// Returns whether the label `m` is covered by the label `n`.
 // ensures { result ≡ is_covered (seen_mark m.now) (seen_mark n.now) }
 #[inline]
-fn is_covered(m: &Mark<'_>, n: &Mark<'_>) -> bool {
+pub fn is_covered(m: &Mark<'_>, n: &Mark<'_>) -> bool {
     let (long, short) = (m.to.saturating_sub(m.from), n.to.saturating_sub(n.from));
     short < long || (short == long && m.sign < n.sign)
 }

@@ -38,7 +38,7 @@ fn put_help_title(out: &mut String, text: &str) -> Result<(), AllocError> {
 // ensures { OnOk result (string_bytes out.new ≡ string_bytes out.old
 //     ++ old_row (seen_frame frame.now) number line.now) }
 #[inline]
-fn put_old(
+pub fn put_old(
     out: &mut String,
     frame: &Frame<'_>,
     number: usize,

@@ -1,25 +1,25 @@
-//! The rules.
+//! The rules, one for each kind of fault.
 
 // Extracted from crates/fault_rules/src/rules.rt by tools/extract: not to be edited.
 // That source is proved, and each contract here is its. That this text means the same is tested:
 // by results from outside, and beside what is proved (.ci/bindings) and the original (tools/agree).
 
-/// What is known of a kind of fault.
+/// The rule of a kind of fault: its meaning, and an example.
 #[derive(Clone, Copy)]
 pub struct Rule {
-    /// Its id, in kebab case.
+    /// The id of the kind, in kebab case.
     pub id: &'static str,
-    /// What it is, in half a sentence.
+    /// The meaning in half a sentence.
     pub summary: &'static str,
-    /// What the language says, and what can be done.
+    /// The rule of the language, and how the fault is avoided.
     pub explanation: &'static str,
     /// A call that has the fault, or a string of a message of the compiler.
     pub example: &'static str,
-    /// The same without the fault.
-    pub mended: &'static str,
+    /// The example without the fault.
+    pub correction: &'static str,
 }
 
-/// How many kinds of faults there are.
+/// The number of kinds of faults.
 pub const COUNT: usize = 25;
 
 /// A rule for each kind of fault: first those of format strings, and then those of calls.
@@ -30,7 +30,7 @@ pub const RULES: [Rule; COUNT] = [
         explanation: "A closing brace ends a placeholder. One that is to be printed is written \
             twice.",
         example: "println!(\"done }\");",
-        mended: "println!(\"done }}\");",
+        correction: "println!(\"done }}\");",
     },
     Rule {
         id: "missing-closing-brace",
@@ -38,15 +38,15 @@ pub const RULES: [Rule; COUNT] = [
         explanation: "An opening brace begins a placeholder, which ends with a closing one. An \
             opening brace that is to be printed is written twice.",
         example: "println!(\"{name\", name = 1);",
-        mended: "println!(\"{name}\", name = 1);",
+        correction: "println!(\"{name}\", name = 1);",
     },
     Rule {
         id: "closing-brace-as-fill",
         summary: "no `}` at the end, after one that was read as the fill",
-        explanation: "Behind a colon, a character in front of `<`, `^` or `>` fills the width, \
+        explanation: "After a colon, a character before `<`, `^` or `>` fills the width, \
             and this may be a brace. The colon can be left out where nothing follows it.",
         example: "println!(\"{:}<\", 1);",
-        mended: "println!(\"{}<\", 1);",
+        correction: "println!(\"{}<\", 1);",
     },
     Rule {
         id: "underscore-as-name",
@@ -54,14 +54,14 @@ pub const RULES: [Rule; COUNT] = [
         explanation: "A single underscore names no argument. Without a name the next argument is \
             taken.",
         example: "println!(\"{_}\", 1);",
-        mended: "println!(\"{}\", 1);",
+        correction: "println!(\"{}\", 1);",
     },
     Rule {
         id: "integer-too-large",
         summary: "a number above 65535",
         explanation: "Indices, widths and precisions are at most 65535.",
         example: "println!(\"{:65536}\", 1);",
-        mended: "println!(\"{:65535}\", 1);",
+        correction: "println!(\"{:65535}\", 1);",
     },
     Rule {
         id: "unnamed-argument",
@@ -69,75 +69,75 @@ pub const RULES: [Rule; COUNT] = [
         explanation: "In the messages of the compiler itself (`--mode diagnostic-named`) each \
             placeholder is a name.",
         example: "\"found {0}\"",
-        mended: "\"found {ty}\"",
+        correction: "\"found {ty}\"",
     },
     Rule {
         id: "text-after-colon",
         summary: "text after a colon",
         explanation: "In the messages of the compiler itself (`--mode diagnostic-named`) nothing \
-            stands behind the name of a placeholder.",
+            follows the name of a placeholder.",
         example: "\"found {ty:?}\"",
-        mended: "\"found {ty}\"",
+        correction: "\"found {ty}\"",
     },
     Rule {
         id: "raw-identifier",
         summary: "a raw identifier in a placeholder",
         explanation: "In a placeholder even a keyword is written without `r#`.",
         example: "println!(\"{r#type}\");",
-        mended: "println!(\"{type}\");",
+        correction: "println!(\"{type}\");",
     },
     Rule {
         id: "flag-after-type",
         summary: "a flag after the type `?`",
-        explanation: "The type comes last in a placeholder, behind the flags, the width and the \
+        explanation: "The type comes last in a placeholder, after the flags, the width and the \
             precision.",
         example: "println!(\"{:?#}\", 1);",
-        mended: "println!(\"{:#?}\", 1);",
+        correction: "println!(\"{:#?}\", 1);",
     },
     Rule {
         id: "missing-colon",
         summary: "no `:` before the `?`",
         explanation: "A colon separates the argument from how it is formatted.",
         example: "println!(\"{x?}\", x = 1);",
-        mended: "println!(\"{x:?}\", x = 1);",
+        correction: "println!(\"{x:?}\", x = 1);",
     },
     Rule {
         id: "debug-before-colon",
         summary: "a `?` before the `:`",
         explanation: "A colon separates the argument from how it is formatted, and the `?` \
-            belongs behind it.",
+            belongs after it.",
         example: "println!(\"{x?:}\", x = 1);",
-        mended: "println!(\"{x:?}\", x = 1);",
+        correction: "println!(\"{x:?}\", x = 1);",
     },
     Rule {
         id: "alignment-before-colon",
         summary: "`<`, `>` or `^`, with no `:` before it",
         explanation: "A colon separates the argument from how it is formatted, and the alignment \
-            belongs behind it.",
+            belongs after it.",
         example: "println!(\"{x>8}\", x = 1);",
-        mended: "println!(\"{x:>8}\", x = 1);",
+        correction: "println!(\"{x:>8}\", x = 1);",
     },
     Rule {
         id: "numeric-grouping",
         summary: "a `,`, as Python has it",
         explanation: "Rust does not group digits.",
         example: "println!(\"{x:,}\", x = 1000);",
-        mended: "println!(\"{x}\", x = 1000);",
+        correction: "println!(\"{x}\", x = 1000);",
     },
     Rule {
         id: "debug-equals",
         summary: "a `=`, as Python has it",
         explanation: "Rust does not print the name of an argument in front of its value.",
         example: "println!(\"{x=}\", x = 1);",
-        mended: "println!(\"x={x}\", x = 1);",
+        correction: "println!(\"x={x}\", x = 1);",
     },
     Rule {
         id: "sign-before-colon",
         summary: "a `+`, with no `:` before it",
         explanation: "A colon separates the argument from how it is formatted, and the sign \
-            belongs behind it.",
+            belongs after it.",
         example: "println!(\"{x+}\", x = 1);",
-        mended: "println!(\"{x:+}\", x = 1);",
+        correction: "println!(\"{x:+}\", x = 1);",
     },
     Rule {
         id: "field-access",
@@ -145,7 +145,7 @@ pub const RULES: [Rule; COUNT] = [
         explanation: "A placeholder takes an argument or a variable, and no expression: a field \
             is passed as an argument.",
         example: "println!(\"{self.name}\");",
-        mended: "println!(\"{}\", self.name);",
+        correction: "println!(\"{}\", self.name);",
     },
     Rule {
         id: "tuple-index",
@@ -153,21 +153,21 @@ pub const RULES: [Rule; COUNT] = [
         explanation: "A placeholder takes an argument or a variable, and no expression: a field \
             is passed as an argument.",
         example: "println!(\"{pair.0}\");",
-        mended: "println!(\"{}\", pair.0);",
+        correction: "println!(\"{}\", pair.0);",
     },
     Rule {
         id: "positional-after-named",
-        summary: "an argument without a name behind one with a name",
+        summary: "an argument without a name after one with a name",
         explanation: "Arguments with names come last.",
         example: "println!(\"{a} {}\", a = 1, 2);",
-        mended: "println!(\"{a} {}\", 2, a = 1);",
+        correction: "println!(\"{a} {}\", 2, a = 1);",
     },
     Rule {
         id: "repeated-name",
         summary: "an argument with the name of an earlier one",
         explanation: "Each name is given once.",
         example: "println!(\"{a}\", a = 1, a = 2);",
-        mended: "println!(\"{a}\", a = 1);",
+        correction: "println!(\"{a}\", a = 1);",
     },
     Rule {
         id: "missing-name",
@@ -176,7 +176,7 @@ pub const RULES: [Rule; COUNT] = [
             call itself. Where a macro makes the string, and in `unreachable!` before the edition \
             2021, it has to be an argument.",
         example: "unreachable!(\"{} in {state}\", 1);",
-        mended: "unreachable!(\"{} in {state}\", 1, state = state);",
+        correction: "unreachable!(\"{} in {state}\", 1, state = state);",
     },
     Rule {
         id: "unknown-trait",
@@ -184,7 +184,7 @@ pub const RULES: [Rule; COUNT] = [
         explanation: "The type of a placeholder is empty or one of `?`, `x?`, `X?`, `b`, `e`, \
             `E`, `o`, `p`, `x` and `X`.",
         example: "println!(\"{:d}\", 1);",
-        mended: "println!(\"{}\", 1);",
+        correction: "println!(\"{}\", 1);",
     },
     Rule {
         id: "missing-argument",
@@ -192,14 +192,14 @@ pub const RULES: [Rule; COUNT] = [
         explanation: "Each placeholder without a name takes the next argument, and an index \
             counts the arguments from 0.",
         example: "println!(\"{} {}\", 1);",
-        mended: "println!(\"{} {}\", 1, 2);",
+        correction: "println!(\"{} {}\", 1, 2);",
     },
     Rule {
         id: "unused-argument",
         summary: "an argument that no placeholder refers to",
         explanation: "Each argument is formatted by a placeholder of the string.",
         example: "println!(\"{}\", 1, 2);",
-        mended: "println!(\"{} {}\", 1, 2);",
+        correction: "println!(\"{} {}\", 1, 2);",
     },
     Rule {
         id: "redundant-argument",
@@ -207,14 +207,14 @@ pub const RULES: [Rule; COUNT] = [
         explanation: "A placeholder with the name of a variable takes the variable, so it is no \
             argument.",
         example: "println!(\"{x}\", x);",
-        mended: "println!(\"{x}\");",
+        correction: "println!(\"{x}\");",
     },
     Rule {
         id: "name-used-by-index",
         summary: "an argument with a name that is referred to by its index",
         explanation: "This is a warning: the program compiles, and the name is of no use.",
         example: "println!(\"{}\", x = 1);",
-        mended: "println!(\"{x}\", x = 1);",
+        correction: "println!(\"{x}\", x = 1);",
     },
 ];
 
@@ -222,7 +222,7 @@ pub const RULES: [Rule; COUNT] = [
 // ensures some { is_some result ≡ is_id id.now (map (λ r. r.id.now) rules.now) }
 // ensures rule { IfSome result (λ r. r.id.now ≡ id.now) }
 #[inline]
-fn found(rules: &[Rule], id: &str) -> Option<Rule> {
+fn find(rules: &[Rule], id: &str) -> Option<Rule> {
     for rule in rules {
         if rule.id == id {
             return Some(*rule);
@@ -236,5 +236,5 @@ fn found(rules: &[Rule], id: &str) -> Option<Rule> {
 // ensures rule { IfSome result (λ r. r.id.now ≡ id.now) }
 #[inline]
 pub fn rule_of(id: &str) -> Option<Rule> {
-    found(RULES.as_slice(), id)
+    find(RULES.as_slice(), id)
 }

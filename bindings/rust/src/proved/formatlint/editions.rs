@@ -4,7 +4,7 @@
 // That source is proved, and each contract here is its. That this text means the same is tested:
 // by results from outside, and beside what is proved (.ci/bindings) and the original (tools/agree).
 
-use crate::proved::package_edition::{edition_in, is_from_2021, workspace_edition, Declared};
+use crate::proved::package_edition::{edition_in, is_from_2021, workspace_edition, Declaration};
 use crate::shim::host::fs;
 use crate::shim::prelude::*;
 use std::io;
@@ -15,12 +15,12 @@ const MOST: u64 = 1 << 20;
 
 /// The editions of files.
 pub struct Editions<'a> {
-    /// The edition that was asked for, or `None`.
-    given: Option<&'a str>,
+    /// The edition of all files, or `None`.
+    edition: Option<&'a str>,
     /// The folder of the last file that was asked about.
     folder: String,
     /// Whether its edition is 2021 or a later one, or `None` if no file was asked about.
-    known: Option<bool>,
+    answer: Option<bool>,
 }
 
 /// Returns the folder of a file.
@@ -47,31 +47,31 @@ fn manifest(rt: &crate::shim::host::HostRuntime, folder: &str) -> io::Result<Str
     Ok(text)
 }
 
-/// What the manifests up to a folder say.
+/// The result of reading the manifests from a folder upwards.
 #[derive(Clone, Copy)]
 enum Reading {
-    /// The edition is 2021 or a later one, or an earlier one.
-    Known(bool),
+    /// Whether the edition is 2021 or a later one.
+    Edition(bool),
     /// The edition is that of the workspace, whose manifest is further up.
-    Inherited,
+    Workspace,
     /// There is no package yet.
     Nothing,
 }
 
-/// Returns what a manifest adds to what those below it say.
+/// Returns the result of reading one manifest more, which lies above the others.
 #[inline]
 fn read_on(reading: Reading, text: &str) -> Reading {
     if matches!(reading, Reading::Nothing) {
         match edition_in(text) {
-            Declared::NoPackage => return Reading::Nothing,
-            Declared::Nothing => return Reading::Known(false),
-            Declared::Edition(edition) => return Reading::Known(is_from_2021(edition)),
-            Declared::Inherited => {}
+            Declaration::NoPackage => return Reading::Nothing,
+            Declaration::NoEdition => return Reading::Edition(false),
+            Declaration::Edition(edition) => return Reading::Edition(is_from_2021(edition)),
+            Declaration::Workspace => {}
         }
     }
     match workspace_edition(text) {
-        Some(edition) => Reading::Known(is_from_2021(edition)),
-        None => Reading::Inherited,
+        Some(edition) => Reading::Edition(is_from_2021(edition)),
+        None => Reading::Workspace,
     }
 }
 
@@ -85,7 +85,7 @@ fn edition_of(rt: &crate::shim::host::HostRuntime, folder: &str) -> bool {
         if let Ok(text) = manifest(rt, rest) {
             reading = read_on(reading, text.as_str());
         }
-        if let Reading::Known(is_from_2021) = reading {
+        if let Reading::Edition(is_from_2021) = reading {
             return is_from_2021;
         }
         match rest.rsplit_once('/') {
@@ -97,18 +97,18 @@ fn edition_of(rt: &crate::shim::host::HostRuntime, folder: &str) -> bool {
 }
 
 impl<'a> Editions<'a> {
-    /// Returns the editions where this one was asked for, or none.
+    /// Returns the editions of files, which are all this one unless it is `None`.
     #[inline]
-    pub fn new(rt: &crate::shim::host::HostRuntime, given: Option<&'a str>) -> Editions<'a> {
+    pub fn new(rt: &crate::shim::host::HostRuntime, edition: Option<&'a str>) -> Editions<'a> {
         Editions {
-            given,
+            edition,
             folder: String::made_in(rt.alloc()),
-            known: None,
+            answer: None,
         }
     }
 
     /// Returns whether the edition of the file with this path is 2021 or a later one: the edition
-    /// that was asked for, or that of the nearest package above the file. A manifest without the
+    /// of all files, or that of the nearest package above the file. A manifest without the
     /// key means 2015, and without a manifest it is 2021. Returns an error if an allocation fails.
     #[inline]
     pub fn is_from_2021(
@@ -116,21 +116,21 @@ impl<'a> Editions<'a> {
         rt: &crate::shim::host::HostRuntime,
         path: &str,
     ) -> io::Result<bool> {
-        if let Some(edition) = self.given {
+        if let Some(edition) = self.edition {
             return Ok(is_from_2021(edition));
         }
         let folder = folder_of(path);
-        if let Some(known) = self.known {
+        if let Some(answer) = self.answer {
             if self.folder.as_str() == folder {
-                return Ok(known);
+                return Ok(answer);
             }
         }
-        let found = match fs::canonicalize(rt, folder) {
+        let answer = match fs::canonicalize(rt, folder) {
             Ok(whole) => edition_of(rt, whole.as_str()),
             Err(_) => true,
         };
         self.folder = String::made_from(rt.alloc(), folder)?;
-        self.known = Some(found);
-        Ok(found)
+        self.answer = Some(answer);
+        Ok(answer)
     }
 }

@@ -1,4 +1,4 @@
-//! Why something was not done.
+//! The reason why there is no answer.
 
 // Extracted from crates/formatlint/src/failure.rt by tools/extract: not to be edited.
 // That source is proved, and each contract here is its. That this text means the same is tested:
@@ -8,9 +8,9 @@ use crate::proved::piece_listing::verdict::RunFault;
 use crate::shim::alloc::AllocError;
 use std::io;
 
-/// Why there is no answer.
+/// The reason why there is no answer.
 pub struct Failure {
-    /// What failed.
+    /// The kind of failure.
     pub fault: RunFault,
     /// The error of the system, if it has one.
     pub error: Option<io::Error>,

@@ -8,8 +8,8 @@ use crate::proved::formatlint::editions::Editions;
 use crate::proved::formatlint::failure::Failure;
 use crate::proved::formatlint::forms::{put_end, put_finding, put_start, File, Form};
 use crate::proved::formatlint::literal::tell_of_terminal;
-use crate::proved::formatlint::noted::Noted;
-use crate::proved::formatlint::told::Told;
+use crate::proved::formatlint::recorder::Recorder;
+use crate::proved::formatlint::totals::Totals;
 use crate::proved::formatlint::walk::Walk;
 use crate::proved::piece_listing::run::write_whole;
 use crate::proved::rust_trees::{BreakKind, Places};
@@ -22,11 +22,11 @@ use std::io::Read;
 /// The most bytes of a file that are read.
 const MOST: usize = 64 << 20;
 
-/// What is written at once, at least, if more is to come.
+/// The number of bytes of messages above which they are written, although more may come.
 const CHUNK: usize = 1 << 16;
 
-/// What is asked for of files.
-pub struct Asked<'a> {
+/// A request to read files and folders.
+pub struct Request<'a> {
     /// The paths of files and folders.
     pub paths: &'a [&'a str],
     /// The names of files and folders that are excluded.
@@ -43,13 +43,13 @@ pub struct Asked<'a> {
 
 /// A run.
 struct Run<'a> {
-    asked: &'a Asked<'a>,
+    request: &'a Request<'a>,
     options: Options<'a>,
     editions: Editions<'a>,
-    told: Told,
-    /// What is still to be written.
+    totals: Totals,
+    /// The text that is still to be written.
     out: String,
-    /// Whether a message was put.
+    /// Whether there was a message.
     has_messages: bool,
 }
 
@@ -66,7 +66,7 @@ fn break_words(kind: BreakKind) -> &'static str {
 /// Writes a text to standard output.
 #[inline]
 pub fn write(rt: &crate::shim::host::HostRuntime, text: &str) -> Result<(), Failure> {
-    let mut writer = Noted::new(rt.stdout());
+    let mut writer = Recorder::new(rt.stdout());
     match write_whole(&mut writer, text.as_bytes()) {
         Ok(()) => Ok(()),
         Err(fault) => Err(Failure {
@@ -77,7 +77,7 @@ pub fn write(rt: &crate::shim::host::HostRuntime, text: &str) -> Result<(), Fail
 }
 
 impl<'a> Run<'a> {
-    /// Writes what is still to be written.
+    /// Writes the text that is still to be written.
     #[inline]
     fn flush(&mut self, rt: &crate::shim::host::HostRuntime) -> Result<(), Failure> {
         write(rt, self.out.as_str())?;
@@ -85,7 +85,7 @@ impl<'a> Run<'a> {
         Ok(())
     }
 
-    /// Puts the messages of a file.
+    /// Appends the messages of a file, and writes them from time to time.
     // requires { file.now.places ≡ file.now.text.now }
     #[inline]
     fn put_findings<'x>(
@@ -96,7 +96,7 @@ impl<'a> Run<'a> {
     ) -> Result<(), Failure> {
         for finding in &report.findings {
             let is_first = !self.has_messages;
-            put_finding(&mut self.out, self.asked.form, is_first, file, finding)?;
+            put_finding(&mut self.out, self.request.form, is_first, file, finding)?;
             self.has_messages = true;
             if self.out.len() > CHUNK {
                 self.flush(rt)?;
@@ -106,14 +106,14 @@ impl<'a> Run<'a> {
     }
 }
 
-/// What was read of a file.
+/// The part of a file that was read.
 #[derive(Clone, Copy)]
 enum Extent {
     /// All of it.
     Whole,
-    /// What is in front of bytes that are not UTF-8.
+    /// The text before bytes that are not UTF-8.
     Text,
-    /// The first bytes.
+    /// The first 64 MiB.
     Front,
 }
 
@@ -137,25 +137,25 @@ fn text_of(bytes: &[u8]) -> (&str, Extent) {
     }
 }
 
-/// Tells why a file was not read to its end, if it was not.
+/// Adds a failure to the totals if a file was not read to its end.
 // requires { file.now.places ≡ file.now.text.now }
 #[inline]
 fn tell_end(
     rt: &crate::shim::host::HostRuntime,
-    told: &mut Told,
+    totals: &mut Totals,
     file: &File<'_>,
     extent: Extent,
     report: &Report,
 ) {
     let end = file.places.at(file.text.len());
     match extent {
-        Extent::Text => told.fail_at(rt, file.path, end, "not UTF-8"),
-        Extent::Front => told.fail_at(rt, file.path, end, "longer than 64 MiB"),
+        Extent::Text => totals.fail_at(rt, file.path, end, "not UTF-8"),
+        Extent::Front => totals.fail_at(rt, file.path, end, "longer than 64 MiB"),
         Extent::Whole => {
             if let Some(broken) = &report.broken {
                 let start = file.text.boundary_at_most(broken.start);
                 let place = file.places.at(start);
-                told.fail_at(rt, file.path, place, break_words(broken.kind));
+                totals.fail_at(rt, file.path, place, break_words(broken.kind));
             }
         }
     }
@@ -170,7 +170,7 @@ fn read_all<R: Read>(rt: &crate::shim::host::HostRuntime, stream: R) -> io::Resu
 }
 
 impl<'a> Run<'a> {
-    /// Reads the bytes of a file, and puts the messages about it.
+    /// Reads the bytes of a file, and writes the messages about it.
     #[inline]
     fn lint<'x>(
         &mut self,
@@ -184,7 +184,7 @@ impl<'a> Run<'a> {
             Err(error) => return Err(Failure::of(error)),
         };
         let report = file_faults(rt.alloc(), text, &self.options)?;
-        self.told.add(&report);
+        self.totals.add(&report);
         let is_broken = report.broken.is_some() || !matches!(extent, Extent::Whole);
         if report.findings.is_empty() && !is_broken {
             return Ok(());
@@ -193,19 +193,19 @@ impl<'a> Run<'a> {
         let file = File { path, text, places };
         self.put_findings(rt, &file, &report)?;
         self.flush(rt)?;
-        tell_end(rt, &mut self.told, &file, extent, &report);
+        tell_end(rt, &mut self.totals, &file, extent, &report);
         Ok(())
     }
 
-    /// Reads what comes from standard input.
+    /// Reads standard input.
     #[inline]
     fn lint_stdin(&mut self, rt: &crate::shim::host::HostRuntime) -> Result<(), Failure> {
         tell_of_terminal(rt);
-        let path = self.asked.stdin_path.unwrap_or("<stdin>");
+        let path = self.request.stdin_path.unwrap_or("<stdin>");
         match read_all(rt, rt.stdin()) {
             Ok(bytes) => self.lint(rt, path, bytes.as_slice()),
             Err(error) => {
-                self.told.fail(rt, path, &error);
+                self.totals.fail(rt, path, &error);
                 Ok(())
             }
         }
@@ -225,7 +225,7 @@ impl<'a> Run<'a> {
         match read {
             Ok(bytes) => self.lint(rt, path, bytes.as_slice()),
             Err(error) => {
-                self.told.fail(rt, path, &error);
+                self.totals.fail(rt, path, &error);
                 Ok(())
             }
         }
@@ -238,9 +238,9 @@ impl<'a> Run<'a> {
         rt: &crate::shim::host::HostRuntime,
         path: &str,
     ) -> Result<(), Failure> {
-        let mut walk = Walk::new(rt.alloc(), path, self.asked.excluded)?;
+        let mut walk = Walk::new(rt.alloc(), path, self.request.excluded)?;
         for _ in 0..u64::MAX {
-            match walk.next(rt, &mut self.told)? {
+            match walk.next(rt, &mut self.totals)? {
                 Some(path) => self.lint_file(rt, path.as_str())?,
                 None => break,
             }
@@ -262,45 +262,45 @@ impl<'a> Run<'a> {
             Ok(data) if data.is_dir() => self.lint_folder(rt, path),
             Ok(_) => self.lint_file(rt, path),
             Err(error) => {
-                self.told.fail(rt, path, &error);
+                self.totals.fail(rt, path, &error);
                 Ok(())
             }
         }
     }
 
-    /// Reads all that is asked for.
+    /// Reads all paths of the request.
     #[inline]
     fn lint_all(&mut self, rt: &crate::shim::host::HostRuntime) -> Result<(), Failure> {
-        put_start(&mut self.out, self.asked.form, self.asked.version)?;
+        put_start(&mut self.out, self.request.form, self.request.version)?;
         self.flush(rt)?;
-        if self.asked.paths.is_empty() {
+        if self.request.paths.is_empty() {
             self.lint_folder(rt, "")?;
         }
-        let paths = self.asked.paths;
+        let paths = self.request.paths;
         for path in paths {
             self.lint_path(rt, path)?;
         }
-        put_end(&mut self.out, self.asked.form, self.told.failures == 0)?;
+        put_end(&mut self.out, self.request.form, self.totals.failures == 0)?;
         self.flush(rt)
     }
 }
 
-/// Reads all that is asked for, and writes the messages about it. Returns what was read and found,
-/// also if that ended with a failure.
+/// Reads all paths of a request, and writes the messages about them. Returns the totals, also if
+/// the run ended with a failure.
 #[inline]
 pub fn lint<'a>(
     rt: &crate::shim::host::HostRuntime,
-    asked: &'a Asked<'a>,
+    request: &'a Request<'a>,
     options: Options<'a>,
-) -> (Told, Result<(), Failure>) {
+) -> (Totals, Result<(), Failure>) {
     let mut run = Run {
-        asked,
+        request,
         options,
-        editions: Editions::new(rt, asked.edition),
-        told: Told::new(),
+        editions: Editions::new(rt, request.edition),
+        totals: Totals::new(),
         out: String::made_in(rt.alloc()),
         has_messages: false,
     };
     let result = run.lint_all(rt);
-    (run.told, result)
+    (run.totals, result)
 }

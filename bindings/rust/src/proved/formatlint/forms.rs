@@ -1,18 +1,20 @@
-//! Findings in the form that is asked for.
+//! Findings in the forms of messages.
 
 // Extracted from crates/formatlint/src/forms.rt by tools/extract: not to be edited.
 // That source is proved, and each contract here is its. That this text means the same is tested:
 // by results from outside, and beside what is proved (.ci/bindings) and the original (tools/agree).
 
 use crate::proved::fault_rules::RULES;
+use crate::proved::formatlint::drawings::put_drawing;
 use crate::proved::message_forms::{
-    put_github, put_json, put_sarif_end, put_sarif_result, put_sarif_start, put_short, Level,
-    Message, Span,
+    put_github, put_json, put_sarif_end, put_sarif_result, put_sarif_start, put_short, Child,
+    ChildLevel, Level, Message, Span, Suggestion,
 };
 use crate::proved::rust_trees::Places;
-use crate::proved::source_lint::Finding;
-use crate::shim::alloc::AllocError;
+use crate::proved::source_lint::{Finding, Help};
+use crate::shim::alloc::{AllocError, Global};
 use crate::shim::prelude::*;
+use std::ops::Range;
 
 /// The form of messages.
 #[derive(Clone, Copy, PartialEq)]
@@ -57,12 +59,12 @@ fn lines_around(text: &str, start: usize, end: usize) -> &str {
     lines.strip_suffix('\r').unwrap_or(lines)
 }
 
-/// Returns the primary span of a finding.
+/// Returns a range of a file as messages have it, without a label or a suggestion.
 // requires { file.now.places ≡ file.now.text.now }
 #[inline]
-fn span_of<'a>(file: &File<'a>, form: Form, finding: &Finding) -> Span<'a> {
-    let byte_start = file.text.boundary_at_most(finding.span.start);
-    let byte_end = file.text.boundary_at_most(finding.span.end);
+fn span_of<'a>(file: &File<'a>, form: Form, range: &Range<usize>) -> Span<'a> {
+    let byte_start = file.text.boundary_at_most(range.start);
+    let byte_end = file.text.boundary_at_most(range.end);
     let lines = match form {
         Form::Json => lines_around(file.text, byte_start, byte_end),
         _ => "",
@@ -89,35 +91,133 @@ fn level_of(finding: &Finding) -> Level {
     }
 }
 
-/// Appends a message as people read it. Returns `Err` if an allocation fails.
+/// Returns the labels of a finding as ranges of its message. Returns `Err` if an allocation fails.
+// requires { file.now.places ≡ file.now.text.now }
 #[inline]
-fn put_human(out: &mut String, message: &Message<'_>) -> Result<(), AllocError> {
+fn label_spans<'a>(
+    alloc: Global,
+    file: &File<'a>,
+    finding: &'a Finding,
+) -> Result<Vec<Span<'a>>, AllocError> {
+    let mut spans = Vec::made_in(alloc);
+    for label in &finding.labels {
+        let mut span = span_of(file, Form::Json, &label.range);
+        span.is_primary = label.is_primary;
+        if !label.text.is_empty() {
+            span.label = Some(label.text.as_str());
+        }
+        spans.try_push(span)?;
+    }
+    Ok(spans)
+}
+
+/// Returns the edits of a help as ranges of its message. Returns `Err` if an allocation fails.
+// requires { file.now.places ≡ file.now.text.now }
+#[inline]
+fn edit_spans<'a>(
+    alloc: Global,
+    file: &File<'a>,
+    help: &'a Help,
+) -> Result<Vec<Span<'a>>, AllocError> {
+    let mut spans = Vec::made_in(alloc);
+    for edit in &help.edits {
+        let mut span = span_of(file, Form::Json, &edit.range);
+        span.suggestion = Some(Suggestion {
+            text: edit.text.as_str(),
+            is_sure: false,
+        });
+        spans.try_push(span)?;
+    }
+    Ok(spans)
+}
+
+/// Returns the ranges of the notes of a finding, and then those of its help. Returns `Err` if an
+/// allocation fails.
+// requires { file.now.places ≡ file.now.text.now }
+#[inline]
+fn child_spans<'a>(
+    alloc: Global,
+    file: &File<'a>,
+    finding: &'a Finding,
+) -> Result<Vec<Vec<Span<'a>>>, AllocError> {
+    let mut all = Vec::made_in(alloc);
+    for note in &finding.notes {
+        let mut spans = Vec::made_in(alloc);
+        for range in &note.ranges {
+            spans.try_push(span_of(file, Form::Json, range))?;
+        }
+        all.try_push(spans)?;
+    }
+    if let Some(help) = &finding.help {
+        all.try_push(edit_spans(alloc, file, help)?)?;
+    }
+    Ok(all)
+}
+
+/// Returns the notes and the help of a finding, with these ranges. Returns `Err` if an allocation
+/// fails.
+#[inline]
+fn children<'a, 's>(
+    alloc: Global,
+    finding: &'a Finding,
+    ranges: &'s [Vec<Span<'a>>],
+) -> Result<Vec<Child<'a, 's>>, AllocError> {
+    let mut children = Vec::made_in(alloc);
+    for (note, spans) in finding.notes.iter().zip(ranges) {
+        children.try_push(Child {
+            level: ChildLevel::Note,
+            text: note.text.as_str(),
+            spans: spans.as_slice(),
+        })?;
+    }
+    if let (Some(help), Some(spans)) = (&finding.help, ranges.last()) {
+        children.try_push(Child {
+            level: ChildLevel::Help,
+            text: help.text.as_str(),
+            spans: spans.as_slice(),
+        })?;
+    }
+    Ok(children)
+}
+
+/// Appends a message in the form for people: drawn, or else in a line. Returns `Err` if an
+/// allocation fails.
+// requires { file.now.places ≡ file.now.text.now }
+#[inline]
+fn put_human(
+    out: &mut String,
+    file: &File<'_>,
+    finding: &Finding,
+    message: &Message<'_>,
+) -> Result<(), AllocError> {
+    if put_drawing(out, file, finding)? {
+        return Ok(());
+    }
     put_short(out, message)
 }
 
 /// Appends a message as a line of JSON. Returns `Err` if an allocation fails.
+// requires { file.now.places ≡ file.now.text.now }
 #[inline]
-fn put_line(out: &mut String, message: &Message<'_>) -> Result<(), AllocError> {
-    let mut rendered = String::made_in(*out.own_allocator());
-    put_human(&mut rendered, message)?;
-    put_json(out, message, &[message.primary], &[], rendered.as_str())
-}
-
-/// Appends a message in a form. Returns `Err` if an allocation fails.
-#[inline]
-fn put_message(
+fn put_line<'a>(
     out: &mut String,
-    form: Form,
-    is_first: bool,
-    message: &Message<'_>,
+    file: &'a File<'a>,
+    finding: &'a Finding,
+    message: &Message<'a>,
 ) -> Result<(), AllocError> {
-    match form {
-        Form::Human => put_human(out, message),
-        Form::Short => put_short(out, message),
-        Form::Json => put_line(out, message),
-        Form::Github => put_github(out, message),
-        Form::Sarif => put_sarif_result(out, is_first, message),
-    }
+    let alloc = *out.own_allocator();
+    let mut rendered = String::made_in(alloc);
+    put_human(&mut rendered, file, finding, message)?;
+    let spans = label_spans(alloc, file, finding)?;
+    let ranges = child_spans(alloc, file, finding)?;
+    let children = children(alloc, finding, ranges.as_slice())?;
+    put_json(
+        out,
+        message,
+        spans.as_slice(),
+        children.as_slice(),
+        rendered.as_str(),
+    )
 }
 
 /// Appends a finding in a form. Returns `Err` if an allocation fails.
@@ -135,12 +235,19 @@ pub fn put_finding<'a>(
         id: finding.id,
         title: finding.title.as_str(),
         path: file.path,
-        primary: span_of(file, form, finding),
+        primary: span_of(file, form, &finding.span),
     };
-    put_message(out, form, is_first, &message)
+    match form {
+        Form::Human => put_human(out, file, finding, &message),
+        Form::Short => put_short(out, &message),
+        Form::Json => put_line(out, file, finding, &message),
+        Form::Github => put_github(out, &message),
+        Form::Sarif => put_sarif_result(out, is_first, &message),
+    }
 }
 
-/// Appends what stands in front of all messages. Returns `Err` if an allocation fails.
+/// Appends the start of the output, which comes before all messages. Returns `Err` if an allocation
+/// fails.
 #[inline]
 pub fn put_start(out: &mut String, form: Form, version: &str) -> Result<(), AllocError> {
     match form {
@@ -149,7 +256,8 @@ pub fn put_start(out: &mut String, form: Form, version: &str) -> Result<(), Allo
     }
 }
 
-/// Appends what stands behind all messages. Returns `Err` if an allocation fails.
+/// Appends the end of the output, which comes after all messages. Returns `Err` if an allocation
+/// fails.
 #[inline]
 pub fn put_end(out: &mut String, form: Form, is_whole: bool) -> Result<(), AllocError> {
     match form {

@@ -6,9 +6,9 @@
 
 use crate::proved::drawn_faults::put_glyphs;
 use crate::proved::format_lint::run::run;
-use crate::proved::formatlint::asked::{file_of, list_words, task_of, when_of};
+use crate::proved::formatlint::arguments::{file_of, list_words, task_of, when_of};
 use crate::proved::formatlint::failure::Failure;
-use crate::proved::formatlint::noted::Noted;
+use crate::proved::formatlint::recorder::Recorder;
 use crate::proved::lint_words::{put_failure, put_not_literal, system_words, wants_colours};
 use crate::proved::listing_json::{list, Listing};
 use crate::proved::literal_faults::{file_fault, snippet_of};
@@ -24,7 +24,7 @@ use std::io::{Read, Write};
 /// Reads a stream to its end.
 #[inline]
 fn read<R: Read>(rt: &crate::shim::host::HostRuntime, stream: R) -> Result<Vec<u8>, Failure> {
-    let mut reader = Noted::new(stream);
+    let mut reader = Recorder::new(stream);
     match read_input(rt.alloc(), &mut reader) {
         Ok(bytes) => Ok(bytes),
         Err(fault) => Err(Failure {
@@ -47,7 +47,7 @@ fn input(rt: &crate::shim::host::HostRuntime, file: Option<&str>) -> Result<Vec<
     }
 }
 
-/// Says on standard error that standard input is read, if it is a terminal.
+/// Writes to standard error that standard input is read, if it is a terminal.
 #[inline]
 pub fn tell_of_terminal(rt: &crate::shim::host::HostRuntime) {
     if rt.stdin().is_terminal() {
@@ -68,10 +68,9 @@ fn has_colours(rt: &crate::shim::host::HostRuntime, matches: &ArgMatches<'_>) ->
     )
 }
 
-/// Returns the bytes of an input that are listed: a text, or the literal without what may stand
-/// around it.
+/// Returns the bytes of an input that are listed: all of a text, or the literal in a file.
 #[inline]
-fn listed<'a>(matches: &ArgMatches<'_>, input: &'a [u8]) -> &'a [u8] {
+fn listing_input<'a>(matches: &ArgMatches<'_>, input: &'a [u8]) -> &'a [u8] {
     if matches.get_flag("text") {
         return input;
     }
@@ -85,7 +84,7 @@ fn listed<'a>(matches: &ArgMatches<'_>, input: &'a [u8]) -> &'a [u8] {
 #[inline]
 fn listing_of(alloc: Global, matches: &ArgMatches<'_>, input: &[u8]) -> Result<Listing, RunFault> {
     let words = list_words(alloc, matches)?;
-    let bytes = listed(matches, input);
+    let bytes = listing_input(matches, input);
     if matches.get_str("format") == Some("json") {
         return list(alloc, bytes, words.as_slice());
     }
@@ -129,15 +128,15 @@ fn answer(
     input: &[u8],
 ) -> Result<usize, Failure> {
     let alloc = rt.alloc();
-    let mut writer = Noted::new(rt.stdout());
-    let told = if matches.get_flag("list") {
+    let mut writer = Recorder::new(rt.stdout());
+    let result = if matches.get_flag("list") {
         answer_listing(rt, &mut writer, matches, input)
     } else {
         let task = task_of(matches, path, has_colours(rt, matches));
         let mut reader = input;
         run(alloc, &mut reader, &mut writer, task)
     };
-    match told {
+    match result {
         Ok(count) => Ok(count),
         Err(fault) => Err(Failure {
             fault,
@@ -146,7 +145,7 @@ fn answer(
     }
 }
 
-/// Appends the lines that say why there is no answer.
+/// Appends the lines with the reason why there is no answer.
 #[inline]
 fn put_why(
     out: &mut String,
@@ -172,7 +171,7 @@ fn put_why(
 /// signal SIGPIPE.
 const GONE: u8 = 141;
 
-/// Says why there is no answer, and returns the exit status.
+/// Writes to standard error why there is no answer, and returns the exit status.
 #[inline]
 pub fn tell(
     rt: &crate::shim::host::HostRuntime,
@@ -195,7 +194,8 @@ pub fn tell(
     }
 }
 
-/// Says on standard error how many mistakes there are besides the first, where only that is drawn.
+/// Writes to standard error how many mistakes there are besides the first, where only that is
+/// drawn.
 #[inline]
 fn tell_others(rt: &crate::shim::host::HostRuntime, matches: &ArgMatches<'_>, count: usize) {
     if count > 1 && !matches.get_flag("all") {
@@ -204,8 +204,8 @@ fn tell_others(rt: &crate::shim::host::HostRuntime, matches: &ArgMatches<'_>, co
     }
 }
 
-/// Does what the arguments ask for of one string. Returns the exit status, or `None` if the list of
-/// arguments is none.
+/// Reads one string, and writes the answer. Returns the exit status, or `None` if the value of
+/// `--args` is no list of arguments.
 #[inline]
 pub fn literal_status(rt: &crate::shim::host::HostRuntime, matches: &ArgMatches<'_>) -> Option<u8> {
     let file = file_of(matches);

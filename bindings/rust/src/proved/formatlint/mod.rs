@@ -5,15 +5,16 @@
 // by results from outside, and beside what is proved (.ci/bindings) and the original (tools/agree).
 
 use crate::shim::prelude::*;
-pub(crate) mod asked;
+pub(crate) mod arguments;
+pub(crate) mod drawings;
 pub(crate) mod editions;
 pub(crate) mod failure;
 pub(crate) mod files;
 pub(crate) mod forms;
 pub(crate) mod literal;
-pub(crate) mod noted;
 pub(crate) mod options;
-pub(crate) mod told;
+pub(crate) mod recorder;
+pub(crate) mod totals;
 pub(crate) mod walk;
 
 use crate::proved::fault_rules::{put_explanation, rule_of, RULES};
@@ -22,25 +23,25 @@ use crate::shim::alloc::AllocError;
 use crate::shim::clap::error::ErrorKind;
 use crate::shim::clap::{ArgMatches, Error};
 use crate::shim::host::env;
-use asked::{form_of, table_of};
-use files::{lint, write, Asked};
+use arguments::{form_of, table_of};
+use files::{lint, write, Request};
 use forms::Form;
 use literal::{literal_status, tell};
 use options::{command, VERSION};
 use std::process::ExitCode;
-use told::Told;
+use totals::Totals;
 
-/// What is said of a list of arguments that is none.
+/// The error message for a value of `--args` that is no list of arguments.
 const WRONG_LIST: &str =
     "invalid value for '--args <LIST>': it is a number of arguments, and then \
     names, each after a comma, as in 2,w";
 
-/// What is said of several paths where one string is read.
+/// The error message for several paths where one string is read.
 const SEVERAL: &str = "--literal and --text read one string, of one file or of standard input";
 
-/// Returns the error of wrong arguments.
+/// Returns the error that a value of the arguments is wrong, with the reason.
 #[inline]
-fn wrong(rt: &crate::shim::host::HostRuntime, why: &str) -> Result<u8, Error> {
+fn value_error(rt: &crate::shim::host::HostRuntime, why: &str) -> Result<u8, Error> {
     Err(command(rt.alloc())?.error(ErrorKind::ValueValidation, why)?)
 }
 
@@ -56,25 +57,26 @@ fn put_ids(out: &mut String) -> Result<(), AllocError> {
 
 /// Writes a text to standard output. Returns the exit status.
 #[inline]
-fn written(rt: &crate::shim::host::HostRuntime, text: &str) -> u8 {
+fn print(rt: &crate::shim::host::HostRuntime, text: &str) -> u8 {
     match write(rt, text) {
         Ok(()) => 0,
         Err(failure) => tell(rt, "<stdout>", &[], &failure),
     }
 }
 
-/// Writes what a kind of fault is. Returns the exit status.
+/// Writes the explanation of the kind of fault with this id. Returns the exit status, and `Err` if
+/// no kind has the id or an allocation fails.
 #[inline]
 fn explain(rt: &crate::shim::host::HostRuntime, id: &str) -> Result<u8, Error> {
     let Some(rule) = rule_of(id) else {
         let why = crate::shim::format_in!(rt.alloc();
             "no kind of fault has the id '{id}': --list-ids lists all"
         )?;
-        return wrong(rt, why.as_str());
+        return value_error(rt, why.as_str());
     };
     let mut out = String::made_in(rt.alloc());
     put_explanation(&mut out, &rule)?;
-    Ok(written(rt, out.as_str()))
+    Ok(print(rt, out.as_str()))
 }
 
 /// Reads one string. Returns the exit status.
@@ -84,20 +86,21 @@ fn read_string(rt: &crate::shim::host::HostRuntime, matches: &ArgMatches<'_>) ->
         .get_strs("path")
         .map_or(false, |paths| paths.len() > 1)
     {
-        return wrong(rt, SEVERAL);
+        return value_error(rt, SEVERAL);
     }
     match literal_status(rt, matches) {
         Some(status) => Ok(status),
-        None => wrong(rt, WRONG_LIST),
+        None => value_error(rt, WRONG_LIST),
     }
 }
 
-/// Returns the exit status where this was read and found.
+/// Returns the exit status of a run with these totals: 3 if something could not be read, otherwise
+/// 1 if there is a fault, and 0 if there is none.
 #[inline]
-fn status_of(told: &Told) -> u8 {
-    if told.failures > 0 {
+fn status_of(totals: &Totals) -> u8 {
+    if totals.failures > 0 {
         3
-    } else if told.faults > 0 {
+    } else if totals.faults > 0 {
         1
     } else {
         0
@@ -109,20 +112,20 @@ fn status_of(told: &Told) -> u8 {
 fn read_files(
     rt: &crate::shim::host::HostRuntime,
     matches: &ArgMatches<'_>,
-    asked: &Asked<'_>,
+    request: &Request<'_>,
     options: Options<'_>,
 ) -> u8 {
-    let (told, result) = lint(rt, asked, options);
+    let (totals, result) = lint(rt, request, options);
     if let Err(failure) = result {
         return tell(rt, "<stdout>", &[], &failure);
     }
     if matches.get_flag("stats") {
-        told.show_counts(rt);
+        totals.show_counts(rt);
     }
-    if !matches.get_flag("quiet") && !matches!(asked.form, Form::Json | Form::Sarif) {
-        told.sum_up(rt);
+    if !matches.get_flag("quiet") && !matches!(request.form, Form::Json | Form::Sarif) {
+        totals.sum_up(rt);
     }
-    status_of(&told)
+    status_of(&totals)
 }
 
 /// Reads the files and folders that the arguments name. Returns the exit status.
@@ -138,11 +141,11 @@ fn files_status(
                 "invalid value '{word}' for '--macro <NAME:INDEX>': \
                 it is the name of a macro and a number, as in say:0"
             )?;
-            return wrong(rt, why.as_str());
+            return value_error(rt, why.as_str());
         }
         Err(None) => return Err(crate::shim::alloc::refused()),
     };
-    let asked = Asked {
+    let request = Request {
         paths: matches.get_strs("path").unwrap_or(&[]),
         excluded: matches.get_strs("exclude").unwrap_or(&[]),
         stdin_path: matches.get_str("stdin-path"),
@@ -154,7 +157,7 @@ fn files_status(
         table,
         is_from_2021: true,
     };
-    Ok(read_files(rt, matches, &asked, options))
+    Ok(read_files(rt, matches, &request, options))
 }
 
 /// Reads the arguments of the program and does what they ask for. Returns the exit status, and
@@ -165,7 +168,7 @@ fn status(rt: &crate::shim::host::HostRuntime, words: &[String]) -> Result<u8, E
     if matches.get_flag("list-ids") {
         let mut out = String::made_in(rt.alloc());
         put_ids(&mut out)?;
-        return Ok(written(rt, out.as_str()));
+        return Ok(print(rt, out.as_str()));
     }
     if let Some(id) = matches.get_str("explain") {
         return explain(rt, id);

@@ -4,7 +4,7 @@
 // That source is proved, and each contract here is its. That this text means the same is tested:
 // by results from outside, and beside what is proved (.ci/bindings) and the original (tools/agree).
 
-use crate::proved::formatlint::told::Told;
+use crate::proved::formatlint::totals::Totals;
 use crate::shim::alloc::{AllocError, Global};
 use crate::shim::host::fs;
 use crate::shim::host::fs::DirEntry;
@@ -19,18 +19,18 @@ struct Entry {
 }
 
 /// The source files below a folder, in the order of names: those whose name ends in `.rs`. Links
-/// are not followed, and hidden folders, those with the name `target` and what is excluded are left
-/// out.
+/// are not followed, and hidden folders, those with the name `target` and the excluded names are
+/// left out.
 pub struct Walk<'a> {
-    /// What is still to be read, the next one last.
+    /// The files and folders that are still to be read, the next one last.
     rest: Vec<Entry>,
     /// The names of files and folders that are excluded.
     excluded: &'a [&'a str],
 }
 
-/// Returns the path of a name in a folder, which has no path if it is the one where one stands.
+/// Returns the path of a name in a folder. An empty path is that of the current folder.
 #[inline]
-fn joined(alloc: Global, folder: &str, name: &str) -> Result<String, AllocError> {
+fn join(alloc: Global, folder: &str, name: &str) -> Result<String, AllocError> {
     let mut path = String::made_from(alloc, folder)?;
     if !folder.is_empty() && !folder.ends_with('/') {
         path.try_push('/')?;
@@ -46,7 +46,7 @@ fn is_left_out(name: &str) -> bool {
 }
 
 impl<'a> Walk<'a> {
-    /// Returns the files below a folder. Without a path it is the one where one stands. Returns
+    /// Returns the files below a folder. An empty path is that of the current folder. Returns
     /// `Err` if an allocation fails.
     #[inline]
     pub fn new(
@@ -83,19 +83,20 @@ impl<'a> Walk<'a> {
             kind.is_file() && name.ends_with(".rs")
         };
         if is_read {
-            let path = joined(rt.alloc(), folder, name)?;
+            let path = join(rt.alloc(), folder, name)?;
             found.try_push(Entry { path, is_folder })?;
         }
         Ok(())
     }
 
-    /// Returns the entries of a folder, the first one last. What cannot be read of it is told.
+    /// Returns the entries of a folder, the first one last. The failure of an entry
+    /// that cannot be read is added to the totals.
     #[inline]
     fn entries(
         &self,
         rt: &crate::shim::host::HostRuntime,
         folder: &str,
-        told: &mut Told,
+        totals: &mut Totals,
     ) -> io::Result<Vec<Entry>> {
         let shown = if folder.is_empty() { "." } else { folder };
         let mut found = Vec::made_in(rt.alloc());
@@ -105,7 +106,7 @@ impl<'a> Walk<'a> {
                 Err(error) => Err(error),
             };
             if let Err(error) = added {
-                told.fail(rt, shown, &error);
+                totals.fail(rt, shown, &error);
             }
         }
         found.sort_in()?;
@@ -113,13 +114,13 @@ impl<'a> Walk<'a> {
         Ok(found)
     }
 
-    /// Returns the path of the next file, or `None` if there is none. A folder that cannot be read
-    /// is told. Returns `Err` if an allocation fails.
+    /// Returns the path of the next file, or `None` if there is none. The failure of
+    /// a folder that cannot be read is added to the totals. Returns `Err` if an allocation fails.
     #[inline]
     pub fn next(
         &mut self,
         rt: &crate::shim::host::HostRuntime,
-        told: &mut Told,
+        totals: &mut Totals,
     ) -> Result<Option<String>, AllocError> {
         for _ in 0..u64::MAX {
             let Some(entry) = self.rest.pop() else {
@@ -128,9 +129,9 @@ impl<'a> Walk<'a> {
             if !entry.is_folder {
                 return Ok(Some(entry.path));
             }
-            match self.entries(rt, entry.path.as_str(), told) {
+            match self.entries(rt, entry.path.as_str(), totals) {
                 Ok(mut found) => self.rest.try_append(&mut found)?,
-                Err(error) => told.fail(rt, entry.path.as_str(), &error),
+                Err(error) => totals.fail(rt, entry.path.as_str(), &error),
             }
         }
         Ok(None)

@@ -1,10 +1,10 @@
-//! Whether the output is in colours.
+//! The choice whether the output is in colours.
 
 // Extracted from crates/lint_words/src/colours.rt by tools/extract: not to be edited.
 // That source is proved, and each contract here is its. That this text means the same is tested:
 // by results from outside, and beside what is proved (.ci/bindings) and the original (tools/agree).
 
-/// The choice when colours are written.
+/// The value of `--color`: when the output is in colours.
 #[derive(Clone, Copy, Debug, Eq, PartialEq)]
 pub enum When {
     /// If the output is a terminal that has them.

@@ -79,7 +79,7 @@ fn put_number(out: &mut String, number: usize) -> Result<(), AllocError> {
 }
 
 /// Appends a place: the line, a colon and the column. Returns `Err` if an allocation fails.
-// ensures { OnOk result (string_bytes out.new ≡ string_bytes out.old ++ written place) }
+// ensures { OnOk result (string_bytes out.new ≡ string_bytes out.old ++ place_text place) }
 #[inline]
 fn put_place(out: &mut String, place: Place) -> Result<(), AllocError> {
     put_number(out, place.line)?;

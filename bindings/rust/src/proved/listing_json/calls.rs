@@ -44,7 +44,8 @@ fn put_piece_line(
 ) -> Result<(), AllocError> {
     let mut writer = begin_line(alloc, out);
     put_piece(alloc, &mut writer, taken, argument)?;
-    end_line(out, writer)
+    end_line(out, writer)?;
+    Ok(())
 }
 
 /// Appends the line of a piece, if there is one.
@@ -70,7 +71,8 @@ fn put_given(
 fn put_fault_line(alloc: Global, out: &mut Vec<u8>, fault: &Fault<'_>) -> Result<(), AllocError> {
     let mut writer = begin_line(alloc, out);
     put_fault(alloc, &mut writer, fault)?;
-    end_line(out, writer)
+    end_line(out, writer)?;
+    Ok(())
 }
 
 /// Appends a line for each fault.

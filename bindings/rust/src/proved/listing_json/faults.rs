@@ -11,18 +11,16 @@ use crate::shim::alloc::{AllocError, Global};
 use crate::shim::json::Writer;
 use std::ops::Range;
 
-/// Appends a key and a note, or null if there is none.
-// ensures tokens { OnOk result (writer.new.tokens ≡ writer.old.tokens
-//     ++ key (codes "note") ∷ json_tokens (maybe string (option_map string_bytes note.now))) }
+/// Appends a note, or null if there is none.
+// ensures tokens { OnOk result (writer.new.tokens
+//     ≡ writer.old.tokens ++ json_tokens (maybe string (option_map string_bytes note.now))) }
 // ensures before { writer.new.before ≡ writer.old.before }
 #[inline]
 fn put_note(writer: &mut Writer, note: &Option<String>) -> Result<(), AllocError> {
-    writer.key("note")?;
     match note {
-        Some(text) => writer.string(text.as_str())?,
-        None => writer.null()?,
+        Some(text) => writer.string(text.as_str()),
+        None => writer.null(),
     }
-    Ok(())
 }
 
 /// Appends a label and its span.
@@ -38,9 +36,9 @@ fn put_label(writer: &mut Writer, label: &str, span: &Range<usize>) -> Result<()
     Ok(())
 }
 
-/// Appends a key and a second label with its span, or null if there is none.
+/// Appends a second label with its span, or null if there is none.
 // ensures tokens { OnOk result (writer.new.tokens ≡ writer.old.tokens
-//     ++ key (codes "secondary_label") ∷ json_tokens (maybe label_value
+//     ++ json_tokens (maybe label_value
 //     (option_map (λ x. (string_bytes x.0, pair x.1)) second.now))) }
 // ensures before { writer.new.before ≡ writer.old.before }
 #[inline]
@@ -48,12 +46,10 @@ fn put_secondary(
     writer: &mut Writer,
     second: &Option<(String, Range<usize>)>,
 ) -> Result<(), AllocError> {
-    writer.key("secondary_label")?;
     match second {
-        Some((label, span)) => put_label(writer, label.as_str(), span)?,
-        None => writer.null()?,
+        Some((label, span)) => put_label(writer, label.as_str(), span),
+        None => writer.null(),
     }
-    Ok(())
 }
 
 /// Appends a suggestion of this kind for a span.
@@ -92,42 +88,40 @@ fn put_reorder(writer: &mut Writer, span: &Range<usize>, text: &str) -> Result<(
     Ok(())
 }
 
-/// Appends a key and a suggestion, or null if there is none.
-// ensures tokens { OnOk result (writer.new.tokens ≡ writer.old.tokens
-//     ++ key (codes "suggestion") ∷ json_tokens (suggestion_value
-//     (seen_suggestion suggestion.now))) }
+/// Appends a suggestion, or null if there is none.
+// ensures tokens { OnOk result (writer.new.tokens
+//     ≡ writer.old.tokens ++ json_tokens (suggestion_value (seen_suggestion suggestion.now))) }
 // ensures before { writer.new.before ≡ writer.old.before }
 #[inline]
 fn put_suggestion(writer: &mut Writer, suggestion: &Suggestion) -> Result<(), AllocError> {
-    writer.key("suggestion")?;
     match suggestion {
-        Suggestion::None => writer.null()?,
-        Suggestion::UsePositional => put_bare_mend(writer, "use-positional")?,
-        Suggestion::RemoveRawIdent(span) => put_mend(writer, "remove-raw-ident", span)?,
-        Suggestion::ReorderFormatParameter(span, text) => {
-            put_reorder(writer, span, text.as_str())?;
-        }
-        Suggestion::AddMissingColon(span) => put_mend(writer, "add-missing-colon", span)?,
+        Suggestion::None => writer.null(),
+        Suggestion::UsePositional => put_bare_mend(writer, "use-positional"),
+        Suggestion::RemoveRawIdent(span) => put_mend(writer, "remove-raw-ident", span),
+        Suggestion::ReorderFormatParameter(span, text) => put_reorder(writer, span, text.as_str()),
+        Suggestion::AddMissingColon(span) => put_mend(writer, "add-missing-colon", span),
         Suggestion::UseRustDebugPrintingMacro => {
-            put_bare_mend(writer, "use-rust-debug-printing-macro")?;
+            put_bare_mend(writer, "use-rust-debug-printing-macro")
         }
     }
-    Ok(())
 }
 
 /// Appends the error of a fault with this id.
 // ensures tokens { OnOk result (writer.new.tokens
 //     ≡ writer.old.tokens ++ json_tokens (error_value id.now (seen_error error.now))) }
-// ensures before { writer.new.before ≡ writer.old.before }
+// ensures before { OnOk result (writer.new.before ≡ writer.old.before) }
 #[inline]
 fn put_error(writer: &mut Writer, id: &str, error: &ParseError) -> Result<(), AllocError> {
     begin_kind(writer, "fault")?;
     put_string(writer, "id", id)?;
     put_string(writer, "description", error.description.as_str())?;
+    writer.key("note")?;
     put_note(writer, &error.note)?;
     put_string(writer, "label", error.label.as_str())?;
     put_span_of(writer, "span", &error.span)?;
+    writer.key("secondary_label")?;
     put_secondary(writer, &error.secondary_label)?;
+    writer.key("suggestion")?;
     put_suggestion(writer, &error.suggestion)?;
     writer.end_object()?;
     Ok(())
@@ -136,10 +130,9 @@ fn put_error(writer: &mut Writer, id: &str, error: &ParseError) -> Result<(), Al
 /// Appends a fault.
 // ensures tokens { OnOk result (writer.new.tokens
 //     ≡ writer.old.tokens ++ json_tokens (fault_value (seen_fault fault.now))) }
-// ensures before { writer.new.before ≡ writer.old.before }
+// ensures before { OnOk result (writer.new.before ≡ writer.old.before) }
 #[inline]
 pub fn put_fault(alloc: Global, writer: &mut Writer, fault: &Fault<'_>) -> Result<(), AllocError> {
     let error = fault.error(alloc)?;
-    put_error(writer, fault.id(), &error)?;
-    Ok(())
+    put_error(writer, fault.id(), &error)
 }

@@ -56,7 +56,8 @@ fn used_by<'a>(
         return Ok(Uses::new(alloc));
     }
     let (pieces, _) = read_all(alloc, text, style, snippet, false, task.mode)?;
-    uses_of(alloc, pieces.as_slice())
+    let used = uses_of(alloc, pieces.as_slice())?;
+    Ok(used)
 }
 
 /// Returns the report on the arguments that are missing or unused in a text. Returns `Err` if an

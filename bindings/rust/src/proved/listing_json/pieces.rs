@@ -16,19 +16,17 @@ use crate::shim::json::Writer;
 use crate::shim::prelude::*;
 use std::ops::Range;
 
-/// Appends a key and a position.
-// ensures tokens { OnOk result (writer.new.tokens ≡ writer.old.tokens
-//     ++ key (codes "position") ∷ json_tokens (position_value (seen_position position.now))) }
+/// Appends a position.
+// ensures tokens { OnOk result (writer.new.tokens
+//     ≡ writer.old.tokens ++ json_tokens (position_value (seen_position position.now))) }
 // ensures before { writer.new.before ≡ writer.old.before }
 #[inline]
 fn put_position(writer: &mut Writer, position: &Position<'_>) -> Result<(), AllocError> {
-    writer.key("position")?;
     match position {
-        Position::ArgumentImplicitlyIs(n) => put_index(writer, "implicit", *n)?,
-        Position::ArgumentIs(n) => put_index(writer, "index", *n)?,
-        Position::ArgumentNamed(name) => put_name(writer, "name", name)?,
+        Position::ArgumentImplicitlyIs(n) => put_index(writer, "implicit", *n),
+        Position::ArgumentIs(n) => put_index(writer, "index", *n),
+        Position::ArgumentNamed(name) => put_name(writer, "name", name),
     }
-    Ok(())
 }
 
 /// Appends a count that is a number.
@@ -86,49 +84,43 @@ fn put_char(alloc: Global, writer: &mut Writer, c: char) -> Result<(), AllocErro
     Ok(())
 }
 
-/// Appends a key and a fill character, or null if there is none.
-// ensures tokens { OnOk result (writer.new.tokens ≡ writer.old.tokens
-//     ++ key (codes "fill") ∷ json_tokens (maybe fill_value fill)) }
+/// Appends a fill character, or null if there is none.
+// ensures tokens { OnOk result (writer.new.tokens
+//     ≡ writer.old.tokens ++ json_tokens (maybe fill_value fill)) }
 // ensures before { writer.new.before ≡ writer.old.before }
 #[inline]
 fn put_fill(alloc: Global, writer: &mut Writer, fill: Option<char>) -> Result<(), AllocError> {
-    writer.key("fill")?;
     match fill {
-        Some(c) => put_char(alloc, writer, c)?,
-        None => writer.null()?,
+        Some(c) => put_char(alloc, writer, c),
+        None => writer.null(),
     }
-    Ok(())
 }
 
-/// Appends a key and an alignment, or null if none is given.
-// ensures tokens { OnOk result (writer.new.tokens ≡ writer.old.tokens
-//     ++ key (codes "align") ∷ json_tokens (align_value (seen_alignment align))) }
+/// Appends an alignment, or null if none is given.
+// ensures tokens { OnOk result (writer.new.tokens
+//     ≡ writer.old.tokens ++ json_tokens (align_value (seen_alignment align))) }
 // ensures before { writer.new.before ≡ writer.old.before }
 #[inline]
 fn put_align(writer: &mut Writer, align: Alignment) -> Result<(), AllocError> {
-    writer.key("align")?;
     match align {
-        Alignment::AlignLeft => writer.string("left")?,
-        Alignment::AlignRight => writer.string("right")?,
-        Alignment::AlignCenter => writer.string("center")?,
-        Alignment::AlignUnknown => writer.null()?,
+        Alignment::AlignLeft => writer.string("left"),
+        Alignment::AlignRight => writer.string("right"),
+        Alignment::AlignCenter => writer.string("center"),
+        Alignment::AlignUnknown => writer.null(),
     }
-    Ok(())
 }
 
-/// Appends a key and a sign flag, or null if there is none.
-// ensures tokens { OnOk result (writer.new.tokens ≡ writer.old.tokens
-//     ++ key (codes "sign") ∷ json_tokens (maybe sign_value (option_map seen_sign sign))) }
+/// Appends a sign flag, or null if there is none.
+// ensures tokens { OnOk result (writer.new.tokens
+//     ≡ writer.old.tokens ++ json_tokens (maybe sign_value (option_map seen_sign sign))) }
 // ensures before { writer.new.before ≡ writer.old.before }
 #[inline]
 fn put_sign(writer: &mut Writer, sign: Option<Sign>) -> Result<(), AllocError> {
-    writer.key("sign")?;
     match sign {
-        Some(Sign::Plus) => writer.string("plus")?,
-        Some(Sign::Minus) => writer.string("minus")?,
-        None => writer.null()?,
+        Some(Sign::Plus) => writer.string("plus"),
+        Some(Sign::Minus) => writer.string("minus"),
+        None => writer.null(),
     }
-    Ok(())
 }
 
 /// Appends a key and whether a flag is present.
@@ -142,36 +134,23 @@ fn put_flag(writer: &mut Writer, name: &str, flag: bool) -> Result<(), AllocErro
     Ok(())
 }
 
-/// Appends a key and the case of hexadecimal digits, or null if it is not given.
-// ensures tokens { OnOk result (writer.new.tokens ≡ writer.old.tokens
-//     ++ key (codes "debug_hex") ∷ json_tokens (maybe hex_value (option_map seen_debug_hex hex))) }
+/// Appends the case of hexadecimal digits, or null if it is not given.
+// ensures tokens { OnOk result (writer.new.tokens
+//     ≡ writer.old.tokens ++ json_tokens (maybe hex_value (option_map seen_debug_hex hex))) }
 // ensures before { writer.new.before ≡ writer.old.before }
 #[inline]
 fn put_hex(writer: &mut Writer, hex: Option<DebugHex>) -> Result<(), AllocError> {
-    writer.key("debug_hex")?;
     match hex {
-        Some(DebugHex::Lower) => writer.string("lower")?,
-        Some(DebugHex::Upper) => writer.string("upper")?,
-        None => writer.null()?,
+        Some(DebugHex::Lower) => writer.string("lower"),
+        Some(DebugHex::Upper) => writer.string("upper"),
+        None => writer.null(),
     }
-    Ok(())
-}
-
-/// Appends a key and a type.
-// ensures tokens { OnOk result (writer.new.tokens ≡ writer.old.tokens
-//     ++ key (codes "ty") ∷ json_tokens (text_value (chars ty.now))) }
-// ensures before { writer.new.before ≡ writer.old.before }
-#[inline]
-fn put_type(writer: &mut Writer, ty: &str) -> Result<(), AllocError> {
-    writer.key("ty")?;
-    put_text(writer, ty)?;
-    Ok(())
 }
 
 /// Appends a format specification.
 // ensures tokens { OnOk result (writer.new.tokens
 //     ≡ writer.old.tokens ++ json_tokens (format_value (seen_spec format.now))) }
-// ensures before { writer.new.before ≡ writer.old.before }
+// ensures before { OnOk result (writer.new.before ≡ writer.old.before) }
 #[inline]
 fn put_format(
     alloc: Global,
@@ -179,18 +158,23 @@ fn put_format(
     format: &FormatSpec<'_>,
 ) -> Result<(), AllocError> {
     writer.begin_object()?;
+    writer.key("fill")?;
     put_fill(alloc, writer, format.fill)?;
     put_maybe_span(writer, "fill_span", &format.fill_span)?;
+    writer.key("align")?;
     put_align(writer, format.align)?;
+    writer.key("sign")?;
     put_sign(writer, format.sign)?;
     put_flag(writer, "alternate", format.alternate)?;
     put_flag(writer, "zero_pad", format.zero_pad)?;
+    writer.key("debug_hex")?;
     put_hex(writer, format.debug_hex)?;
     put_count(writer, "precision", &format.precision)?;
     put_maybe_span(writer, "precision_span", &format.precision_span)?;
     put_count(writer, "width", &format.width)?;
     put_maybe_span(writer, "width_span", &format.width_span)?;
-    put_type(writer, format.ty)?;
+    writer.key("ty")?;
+    put_text(writer, format.ty)?;
     put_maybe_span(writer, "ty_span", &format.ty_span)?;
     writer.end_object()?;
     Ok(())
@@ -212,7 +196,7 @@ fn put_run(writer: &mut Writer, text: &str) -> Result<(), AllocError> {
 /// Appends a placeholder.
 // ensures tokens { OnOk result (writer.new.tokens
 //     ≡ writer.old.tokens ++ json_tokens (placeholder_value (seen_argument argument.now))) }
-// ensures before { writer.new.before ≡ writer.old.before }
+// ensures before { OnOk result (writer.new.before ≡ writer.old.before) }
 #[inline]
 fn put_placeholder(
     alloc: Global,
@@ -220,6 +204,7 @@ fn put_placeholder(
     argument: &Argument<'_>,
 ) -> Result<(), AllocError> {
     begin_kind(writer, "placeholder")?;
+    writer.key("position")?;
     put_position(writer, &argument.position)?;
     put_span_of(writer, "position_span", &argument.position_span)?;
     writer.key("format")?;
@@ -231,7 +216,7 @@ fn put_placeholder(
 /// Appends a piece. A placeholder is in `argument`.
 // ensures tokens { OnOk result (writer.new.tokens ≡ writer.old.tokens
 //     ++ json_tokens (piece_value (seen_taken argument.now taken.now))) }
-// ensures before { writer.new.before ≡ writer.old.before }
+// ensures before { OnOk result (writer.new.before ≡ writer.old.before) }
 #[inline]
 pub fn put_piece(
     alloc: Global,
@@ -240,8 +225,7 @@ pub fn put_piece(
     argument: &Argument<'_>,
 ) -> Result<(), AllocError> {
     match taken {
-        Taken::Lit(text) => put_run(writer, text)?,
-        Taken::NextArgument => put_placeholder(alloc, writer, argument)?,
+        Taken::Lit(text) => put_run(writer, text),
+        Taken::NextArgument => put_placeholder(alloc, writer, argument),
     }
-    Ok(())
 }

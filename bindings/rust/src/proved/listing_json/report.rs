@@ -22,7 +22,8 @@ fn put_index_line(
 ) -> Result<(), AllocError> {
     let mut writer = begin_line(alloc, out);
     put_index(&mut writer, kind, index)?;
-    end_line(out, writer)
+    end_line(out, writer)?;
+    Ok(())
 }
 
 /// Appends a line for each index.
@@ -53,7 +54,8 @@ fn put_name_line(
 ) -> Result<(), AllocError> {
     let mut writer = begin_line(alloc, out);
     put_name(&mut writer, kind, name)?;
-    end_line(out, writer)
+    end_line(out, writer)?;
+    Ok(())
 }
 
 /// Appends a line for each name.

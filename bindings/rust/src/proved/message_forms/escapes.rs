@@ -1,5 +1,5 @@
-//! Texts as the forms have them. What begins with `put_` appends to `out`, and returns `Err` if an
-//! allocation fails.
+//! Texts as the forms have them. A function whose name begins with `put_` appends to `out`, and
+//! returns `Err` if an allocation fails.
 
 // Extracted from crates/message_forms/src/escapes.rt by tools/extract: not to be edited.
 // That source is proved, and each contract here is its. That this text means the same is tested:
@@ -9,7 +9,7 @@ use crate::shim::alloc::AllocError;
 use crate::shim::itoa::Buffer;
 use crate::shim::prelude::*;
 
-/// Returns the first character of a text and what is after it, or `None` if the text is empty.
+/// Returns the first character of a text and the rest after it, or `None` if the text is empty.
 // ensures parts { MatchOption result (text.now ≡ [])
 //     (λ x. text.now ≡ encode_utf8 x.0 ++ x.1.now) }
 // ensures chars { MatchOption result (chars text.now ≡ [])
@@ -31,7 +31,7 @@ pub fn put_number(out: &mut String, number: usize) -> Result<(), AllocError> {
     Ok(())
 }
 
-/// Adds what stands for a control character of ASCII in a string of JSON that has no shorter form.
+/// Adds the escape of a control character of ASCII in a string of JSON that has no shorter one.
 // requires { code < 32 }
 // ensures { OnOk result (string_bytes out.new ≡ string_bytes out.old ++ code_text code) }
 #[inline]
@@ -65,8 +65,8 @@ fn upper_digit(digit: u8) -> char {
     }
 }
 
-/// Returns the letter behind the backslash in what stands for a byte in a string of JSON, or 0 if
-/// it has no such short form.
+/// Returns the letter after the backslash in the short escape of a byte in a string of JSON, or 0
+/// if the byte has none.
 // ensures { result ≡ escape_letter byte }
 #[inline]
 fn escape_letter(byte: u8) -> u8 {
@@ -81,7 +81,7 @@ fn escape_letter(byte: u8) -> u8 {
     }
 }
 
-/// Adds what stands for a byte of ASCII in a string of JSON.
+/// Adds a byte of ASCII as a string of JSON has it.
 // requires { byte < 128 }
 // ensures { OnOk result (string_bytes out.new ≡ string_bytes out.old ++ byte_text byte) }
 #[inline]
@@ -97,7 +97,7 @@ fn put_byte(out: &mut String, byte: u8) -> Result<(), AllocError> {
     Ok(out.try_push(byte as char)?)
 }
 
-/// Adds what stands for a character in a string of JSON.
+/// Adds a character as a string of JSON has it.
 // ensures { OnOk result (string_bytes out.new ≡ string_bytes out.old ++ escape (encode_utf8 c)) }
 #[inline]
 fn put_escape(out: &mut String, c: char) -> Result<(), AllocError> {
@@ -121,7 +121,7 @@ pub fn put_quoted(out: &mut String, text: &str) -> Result<(), AllocError> {
     Ok(())
 }
 
-/// Adds what stands for a character in a workflow command: in a property, or behind them.
+/// Adds a character as a workflow command has it: in a property, or after the properties.
 // ensures { OnOk result (string_bytes out.new
 //     ≡ string_bytes out.old ++ encode_utf8_all (command_char is_property c)) }
 #[inline]
@@ -137,7 +137,7 @@ fn put_command_char(out: &mut String, is_property: bool, c: char) -> Result<(), 
     Ok(())
 }
 
-/// Adds a text as a workflow command has it: in a property, or behind them.
+/// Adds a text as a workflow command has it: in a property, or after the properties.
 // ensures { OnOk result (string_bytes out.new
 //     ≡ string_bytes out.old ++ command_text is_property text.now) }
 #[inline]
@@ -157,7 +157,7 @@ fn stays_in_uri(byte: u8) -> bool {
     byte.is_ascii_alphanumeric() || matches!(byte, b'-' | b'.' | b'/' | b'_' | b'~')
 }
 
-/// Adds what stands for a byte in a path of a URI.
+/// Adds a byte as a path of a URI has it.
 // ensures { OnOk result (string_bytes out.new ≡ string_bytes out.old ++ uri_byte byte) }
 #[inline]
 fn put_uri_byte(out: &mut String, byte: u8) -> Result<(), AllocError> {

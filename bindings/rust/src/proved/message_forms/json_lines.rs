@@ -1,5 +1,5 @@
-//! The form of rustc's `--error-format=json`. What begins with `put_` appends to `out`, and returns
-//! `Err` if an allocation fails.
+//! The form of rustc's `--error-format=json`. A function whose name begins with `put_` appends to
+//! `out`, and returns `Err` if an allocation fails.
 
 // Extracted from crates/message_forms/src/json_lines.rt by tools/extract: not to be edited.
 // That source is proved, and each contract here is its. That this text means the same is tested:
@@ -26,7 +26,7 @@ fn put_line(out: &mut String, line: &str, from: usize, to: usize) -> Result<(), 
     Ok(())
 }
 
-/// Returns the first line of a text, and what is left behind it.
+/// Returns the first line of a text, and the text after its line end.
 // ensures line { result.0.now ≡ before_first is_lf text.now }
 // ensures rest { result.1.now ≡ after_first is_lf text.now }
 #[inline]
@@ -45,7 +45,7 @@ fn length_of(text: &str) -> usize {
     text.chars().count()
 }
 
-/// Adds the lines of a span that begins and ends at these columns, and how many of them are behind
+/// Adds the lines of a span that begins and ends at these columns, where `more` lines come after
 /// the first one.
 // ensures { OnOk result (string_bytes out.new
 //     ≡ string_bytes out.old ++ json_text (array (line_items more from to lines.now))) }
@@ -62,10 +62,10 @@ fn put_lines(
     let mut start = from;
     let mut left = more;
     while left > 0 {
-        let (line, behind) = split_line(rest);
+        let (line, tail) = split_line(rest);
         put_line(out, line, start, length_of(line) + 1)?;
         out.try_push_str(",")?;
-        rest = behind;
+        rest = tail;
         start = 1;
         left -= 1;
     }
@@ -90,7 +90,7 @@ fn put_places(out: &mut String, path: &str, span: &Span<'_>) -> Result<(), Alloc
     Ok(())
 }
 
-/// Returns the text of a suggestion.
+/// Returns the text of a suggestion, or `None` if there is no suggestion.
 // ensures { option_map (λ t. t.now) result ≡ option_map (λ x. x.text.now) suggestion.now }
 #[inline]
 fn replacement<'a>(suggestion: &Option<Suggestion<'a>>) -> Option<&'a str> {
@@ -100,7 +100,7 @@ fn replacement<'a>(suggestion: &Option<Suggestion<'a>>) -> Option<&'a str> {
     }
 }
 
-/// Returns how sure a suggestion is.
+/// Returns the word for how sure a suggestion is, or `None` if there is no suggestion.
 // ensures { text_or_null (option_map (λ t. t.now) result) ≡ applicability_json suggestion.now }
 #[inline]
 fn applicability(suggestion: &Option<Suggestion<'_>>) -> Option<&'static str> {
@@ -111,11 +111,11 @@ fn applicability(suggestion: &Option<Suggestion<'_>>) -> Option<&'static str> {
     }
 }
 
-/// Adds the members that say what is said of a span, and the end of its object.
+/// Adds the members of a span that come after its places, and the end of its object.
 // ensures { OnOk result (string_bytes out.new
-//     ≡ string_bytes out.old ++ object_text true (said_members span.now)) }
+//     ≡ string_bytes out.old ++ object_text true (detail_members span.now)) }
 #[inline]
-fn put_said(out: &mut String, span: &Span<'_>) -> Result<(), AllocError> {
+fn put_details(out: &mut String, span: &Span<'_>) -> Result<(), AllocError> {
     put_truth(out, true, "is_primary", span.is_primary)?;
     put_key(out, true, "text")?;
     let more = span.end.line.saturating_sub(span.start.line);
@@ -136,7 +136,7 @@ fn put_said(out: &mut String, span: &Span<'_>) -> Result<(), AllocError> {
 #[inline]
 fn put_span(out: &mut String, path: &str, span: &Span<'_>) -> Result<(), AllocError> {
     put_places(out, path, span)?;
-    put_said(out, span)?;
+    put_details(out, span)?;
     Ok(())
 }
 
@@ -160,7 +160,7 @@ fn put_spans(out: &mut String, path: &str, spans: &[Span<'_>]) -> Result<(), All
 // ensures { OnOk result (string_bytes out.new
 //     ≡ string_bytes out.old ++ json_text (array no_items)) }
 #[inline]
-fn put_none(out: &mut String) -> Result<(), AllocError> {
+fn put_empty_array(out: &mut String) -> Result<(), AllocError> {
     out.try_push_str("[]")?;
     Ok(())
 }
@@ -176,7 +176,7 @@ fn put_child(out: &mut String, path: &str, child: &Child<'_, '_>) -> Result<(), 
     put_key(out, true, "spans")?;
     put_spans(out, path, child.spans)?;
     put_key(out, true, "children")?;
-    put_none(out)?;
+    put_empty_array(out)?;
     put_text_or_null(out, "rendered", None)?;
     put_end(out)?;
     Ok(())
@@ -213,7 +213,7 @@ fn put_code(out: &mut String, id: &str) -> Result<(), AllocError> {
     Ok(())
 }
 
-/// Adds the members with what stands below a message, and the end of its object.
+/// Adds the spans of a message, its notes and helps and its drawing, and the end of its object.
 // ensures { OnOk result (string_bytes out.new ≡ string_bytes out.old
 //     ++ object_text true (below_members path.now spans.now children.now rendered.now)) }
 #[inline]
@@ -234,9 +234,9 @@ fn put_below(
 }
 
 /// Appends a message as a line of JSON with the members that rustc writes with
-/// `--error-format=json`: all ranges that it speaks of, what stands below it, and how it is drawn
-/// for people. Its id stands in the place of rustc's code. Returns `Err` if an allocation fails,
-/// and a part of the line may then be appended.
+/// `--error-format=json`: its ranges, its notes and helps, and its drawing for people. Its id
+/// stands in the place of rustc's code. Returns `Err` if an allocation fails, and a part of the
+/// line may then be appended.
 // ensures { OnOk result (string_bytes out.new ≡ string_bytes out.old ++ (json_text
 //     (message_json message.now spans.now children.now rendered.now) ++ codes "\n")) }
 #[inline]

@@ -1,5 +1,6 @@
-//! Members of objects of JSON. What begins with `put_` appends to `out`, and returns `Err` if an
-//! allocation fails. `is_later` is whether another member of the object stands in front.
+//! Members of objects of JSON. A function whose name begins with `put_` appends to `out`, and
+//! returns `Err` if an allocation fails. `is_later` is whether another member of the object comes
+//! before.
 
 // Extracted from crates/message_forms/src/members.rt by tools/extract: not to be edited.
 // That source is proved, and each contract here is its. That this text means the same is tested:
@@ -9,7 +10,7 @@ use crate::proved::message_forms::escapes::{put_number, put_quoted};
 use crate::shim::alloc::AllocError;
 use crate::shim::prelude::*;
 
-/// Returns what stands in front of a member.
+/// Returns the text before a member: the brace of its object, or a comma after another member.
 // ensures { result.now ≡ opening is_later }
 #[inline]
 fn opening(is_later: bool) -> &'static str {
@@ -90,7 +91,7 @@ pub fn put_text(out: &mut String, is_later: bool, key: &str, text: &str) -> Resu
     Ok(())
 }
 
-/// Adds a member with a text, or with `null`, behind another one.
+/// Adds a member with a text, or with `null`, after another one.
 // ensures { OnOk result ((ms : Members) → string_bytes out.new ++ object_text true ms
 //     ≡ string_bytes out.old ++ object_text true (member key.now
 //     (text_or_null (option_map (λ t. t.now) text.entry)) ms)) }
@@ -131,7 +132,7 @@ pub fn put_truth(
     Ok(())
 }
 
-/// Adds a comma, if the item that follows is behind another one.
+/// Adds a comma, if the item that follows comes after another one.
 // ensures { OnOk result (string_bytes out.new ≡ string_bytes out.old ++ comma_if is_later) }
 #[inline]
 pub fn put_comma(out: &mut String, is_later: bool) -> Result<(), AllocError> {

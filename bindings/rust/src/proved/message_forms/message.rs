@@ -1,4 +1,4 @@
-//! Messages.
+//! Messages about files, with notes, helps and suggestions.
 
 // Extracted from crates/message_forms/src/message.rt by tools/extract: not to be edited.
 // That source is proved, and each contract here is its. That this text means the same is tested:
@@ -6,12 +6,12 @@
 
 use crate::proved::rust_trees::Place;
 
-/// How bad it is what a message tells.
+/// The level of a message.
 #[derive(Clone, Copy, Debug, PartialEq)]
 pub enum Level {
-    /// The program does not compile.
+    /// The message tells why the program does not compile.
     Error,
-    /// It compiles.
+    /// The program compiles.
     Warning,
 }
 
@@ -20,7 +20,7 @@ pub enum Level {
 pub struct Suggestion<'a> {
     /// The text.
     pub text: &'a str,
-    /// Whether it can be applied without a look at it.
+    /// Whether the text can be applied without a look at it.
     pub is_sure: bool,
 }
 
@@ -35,30 +35,30 @@ pub struct Span<'a> {
     pub start: Place,
     /// The place at which it ends.
     pub end: Place,
-    /// The lines of the file that it is in, from the start of the first one to the end of the last
-    /// one, where no line end follows.
+    /// The lines of the file that the range is in, from the start of the first one to the end of
+    /// the last one, without the line end there.
     pub lines: &'a str,
-    /// Whether it is what the message is about.
+    /// Whether the message is about this range.
     pub is_primary: bool,
-    /// What is said of it, or `None`.
+    /// The label of the range, or `None`.
     pub label: Option<&'a str>,
-    /// What is suggested for it, or `None`.
+    /// The suggestion for the range, or `None`.
     pub suggestion: Option<Suggestion<'a>>,
 }
 
-/// What stands below a message.
+/// The level of a child of a message.
 #[derive(Clone, Copy, Debug, PartialEq)]
 pub enum ChildLevel {
-    /// What else is to be known.
+    /// The child is a note: it tells more about the message.
     Note,
-    /// What can be done.
+    /// The child is a help: it tells how to mend the fault.
     Help,
 }
 
 /// A note or a help below a message.
 #[derive(Clone, Copy)]
 pub struct Child<'a, 's> {
-    /// Which of both it is.
+    /// Whether it is a note or a help.
     pub level: ChildLevel,
     /// Its text.
     pub text: &'a str,
@@ -69,11 +69,11 @@ pub struct Child<'a, 's> {
 /// A message about a file.
 #[derive(Clone, Copy)]
 pub struct Message<'a> {
-    /// How bad it is.
+    /// The level of the message.
     pub level: Level,
-    /// The id of its kind.
+    /// The id of the kind of message.
     pub id: &'a str,
-    /// What it tells.
+    /// The title.
     pub title: &'a str,
     /// The path of the file.
     pub path: &'a str,
@@ -81,7 +81,7 @@ pub struct Message<'a> {
     pub primary: Span<'a>,
 }
 
-/// Returns what rustc calls a level.
+/// Returns the word of rustc for a level.
 // ensures { result.now ≡ level_name level }
 #[inline]
 pub fn level_name(level: Level) -> &'static str {
@@ -91,7 +91,7 @@ pub fn level_name(level: Level) -> &'static str {
     }
 }
 
-/// Returns what rustc calls a level of a child.
+/// Returns the word of rustc for the level of a child.
 // ensures { result.now ≡ child_name level }
 #[inline]
 pub fn child_name(level: ChildLevel) -> &'static str {

@@ -17,6 +17,6 @@ pub(crate) mod short;
 
 pub use github::put_github;
 pub use json_lines::put_json;
-pub use message::{Level, Message, Span};
+pub use message::{Child, ChildLevel, Level, Message, Span, Suggestion};
 pub use sarif::{put_sarif_end, put_sarif_result, put_sarif_start};
 pub use short::put_short;

@@ -1,5 +1,5 @@
-//! The form of SARIF 2.1.0. What begins with `put_` appends to `out`, and returns `Err` if an
-//! allocation fails.
+//! The form of SARIF 2.1.0. A function whose name begins with `put_` appends to `out`, and returns
+//! `Err` if an allocation fails.
 
 // Extracted from crates/message_forms/src/sarif.rt by tools/extract: not to be edited.
 // That source is proved, and each contract here is its. That this text means the same is tested:
@@ -24,7 +24,7 @@ fn put_plain(out: &mut String, text: &str) -> Result<(), AllocError> {
     Ok(())
 }
 
-/// Adds a member with a plain text as a message, behind another one.
+/// Adds a member with a plain text as a message, after another one.
 // ensures { OnOk result ((ms : Members) → string_bytes out.new ++ object_text true ms
 //     ≡ string_bytes out.old ++ object_text true (member key.now (plain text.now) ms)) }
 #[inline]
@@ -116,8 +116,8 @@ fn put_result(out: &mut String, message: &Message<'_>) -> Result<(), AllocError>
     Ok(())
 }
 
-/// Appends a message as a result of a log, in front of which others may stand. Returns `Err` if an
-/// allocation fails, and a part of it may then be appended.
+/// Appends a message as a result of a log. Another result comes before it unless `is_first` is
+/// true. Returns `Err` if an allocation fails, and a part of it may then be appended.
 // ensures { OnOk result ((more : Items) → string_bytes out.new ++ array_text true more
 //     ≡ string_bytes out.old ++ array_text (not is_first) (item (result_json message.now) more)) }
 #[inline]
@@ -131,7 +131,7 @@ pub fn put_sarif_result(
     Ok(())
 }
 
-/// Returns what a rule says. Returns `Err` if an allocation fails.
+/// Returns the text of a rule. Returns `Err` if an allocation fails.
 // ensures { IfOk result (λ s. string_bytes s ≡ explanation_text rule.now) }
 #[inline]
 fn explanation(alloc: Global, rule: &Rule) -> Result<String, AllocError> {
@@ -208,7 +208,7 @@ fn put_run_start(out: &mut String, version: &str, rules: &[Rule]) -> Result<(), 
     Ok(())
 }
 
-/// Appends the start of a log, up to its results, which [`put_sarif_result`] appends; behind them
+/// Appends the start of a log, up to its results, which [`put_sarif_result`] appends; after them
 /// [`put_sarif_end`] ends it. Returns `Err` if an allocation fails, and a part of it may then be
 /// appended.
 // With the results and an end it is a log.
@@ -230,7 +230,7 @@ pub fn put_sarif_start(out: &mut String, version: &str, rules: &[Rule]) -> Resul
     Ok(())
 }
 
-/// Adds whether all that was asked for was done.
+/// Adds an invocation: whether the program could read all files.
 // ensures { OnOk result (string_bytes out.new
 //     ≡ string_bytes out.old ++ json_text (invocation is_whole)) }
 #[inline]
@@ -240,7 +240,7 @@ fn put_invocation(out: &mut String, is_whole: bool) -> Result<(), AllocError> {
     Ok(())
 }
 
-/// Adds whether all that was asked for was done, as the only invocation.
+/// Adds the only invocation: whether the program could read all files.
 // ensures { OnOk result (string_bytes out.new
 //     ≡ string_bytes out.old ++ json_text (array (item (invocation is_whole) no_items))) }
 #[inline]
@@ -251,9 +251,9 @@ fn put_invocations(out: &mut String, is_whole: bool) -> Result<(), AllocError> {
     Ok(())
 }
 
-/// Appends the end of a log, from the end of its results on: whether all that was asked for was
-/// done, and a line end. Returns `Err` if an allocation fails, and a part of it may then be
-/// appended.
+/// Appends the end of a log, from the end of its results on: whether the program could read all
+/// files (`is_whole`), and a line end. Returns `Err` if an allocation fails, and a part of it may
+/// then be appended.
 // ensures { OnOk result (string_bytes out.new ≡ string_bytes out.old
 //     ++ (array_text true no_items ++ (log_end is_whole ++ codes "\n"))) }
 #[inline]

@@ -15,23 +15,23 @@ pub enum Line<'a> {
     Table,
     /// The edition, with this value.
     Edition(&'a str),
-    /// The edition of the workspace is meant.
-    Inherited,
+    /// The edition is that of the workspace.
+    WorkspaceEdition,
     /// Any other line.
     Other,
 }
 
-/// Returns what stands behind the key `edition` and a character, or `None` if the line has another
+/// Returns the text after the key `edition` and this character, or `None` if the line has another
 /// key.
 #[inline]
-fn behind_key(line: &str, mark: char) -> Option<&str> {
+fn text_after_key(line: &str, mark: char) -> Option<&str> {
     let rest = line.strip_prefix("edition")?;
     Some(rest.trim_start().strip_prefix(mark)?.trim_start())
 }
 
 /// Returns the text between quotes at the start of a value, or `None` if there is none.
 #[inline]
-fn quoted(value: &str) -> Option<&str> {
+fn quoted_text(value: &str) -> Option<&str> {
     if let Some(rest) = value.strip_prefix('"') {
         let (text, _) = rest.split_once('"')?;
         return Some(text);
@@ -40,23 +40,23 @@ fn quoted(value: &str) -> Option<&str> {
     Some(text)
 }
 
-/// Returns what a line with a value says.
+/// Returns the meaning of a line that is no head of a table.
 #[inline]
 fn entry(line: &str) -> Line<'_> {
-    if behind_key(line, '.').map_or(false, |rest| rest.starts_with("workspace")) {
-        return Line::Inherited;
+    if text_after_key(line, '.').map_or(false, |rest| rest.starts_with("workspace")) {
+        return Line::WorkspaceEdition;
     }
-    let Some(value) = behind_key(line, '=') else {
+    let Some(value) = text_after_key(line, '=') else {
         return Line::Other;
     };
-    match quoted(value) {
+    match quoted_text(value) {
         Some(edition) => Line::Edition(edition),
-        None if value.starts_with('{') => Line::Inherited,
+        None if value.starts_with('{') => Line::WorkspaceEdition,
         None => Line::Other,
     }
 }
 
-/// Returns which table begins with the head that is left behind its bracket.
+/// Returns which table begins with a head, by the text after its bracket.
 #[inline]
 fn head(rest: &str) -> Line<'_> {
     match rest.split_once(']') {
@@ -69,7 +69,7 @@ fn head(rest: &str) -> Line<'_> {
     }
 }
 
-/// Returns what a line of a manifest says.
+/// Returns the meaning of a line of a manifest.
 #[inline]
 pub fn line_of(text: &str) -> Line<'_> {
     let line = text.trim();

@@ -1,4 +1,4 @@
-//! Manifests.
+//! The edition that a manifest declares.
 
 // Extracted from crates/package_edition/src/manifest.rt by tools/extract: not to be edited.
 // That source is proved, and each contract here is its. That this text means the same is tested:
@@ -6,41 +6,41 @@
 
 use crate::proved::package_edition::lines::{line_of, Line};
 
-/// What a manifest says of the edition of its package.
+/// The edition that a manifest declares for its package.
 #[derive(Clone, Copy)]
-pub enum Declared<'a> {
-    /// It is of no package.
+pub enum Declaration<'a> {
+    /// The manifest is of no package.
     NoPackage,
-    /// Nothing, so it is 2015.
-    Nothing,
-    /// It is that of the workspace.
-    Inherited,
+    /// The package has no edition, so it is 2015.
+    NoEdition,
+    /// The edition is that of the workspace.
+    Workspace,
     /// The edition.
     Edition(&'a str),
 }
 
-/// Returns what a manifest says of the edition of its package.
+/// Returns the edition that the text of a manifest declares for its package.
 #[inline]
-pub fn edition_in(manifest: &str) -> Declared<'_> {
-    let mut found = Declared::NoPackage;
+pub fn edition_in(manifest: &str) -> Declaration<'_> {
+    let mut declaration = Declaration::NoPackage;
     let mut is_inside = false;
     for text in manifest.lines() {
         match line_of(text) {
             Line::Package => {
                 is_inside = true;
-                found = Declared::Nothing;
+                declaration = Declaration::NoEdition;
             }
             Line::WorkspacePackage | Line::Table => is_inside = false,
-            Line::Edition(edition) if is_inside => return Declared::Edition(edition),
-            Line::Inherited if is_inside => return Declared::Inherited,
+            Line::Edition(edition) if is_inside => return Declaration::Edition(edition),
+            Line::WorkspaceEdition if is_inside => return Declaration::Workspace,
             _ => {}
         }
     }
-    found
+    declaration
 }
 
-/// Returns the edition that a manifest has for the packages of its workspace, or `None` if it has
-/// none.
+/// Returns the edition that the text of a manifest declares for the packages of its workspace, or
+/// `None` if it declares none.
 #[inline]
 pub fn workspace_edition(manifest: &str) -> Option<&str> {
     let mut is_inside = false;
@@ -56,6 +56,8 @@ pub fn workspace_edition(manifest: &str) -> Option<&str> {
 }
 
 /// Returns whether an edition is 2021 or a later one: neither 2015 nor 2018.
+// ensures { result ≡ (not (bytes_eq edition.now (codes "2015"))
+//     && not (bytes_eq edition.now (codes "2018"))) }
 #[inline]
 pub fn is_from_2021(edition: &str) -> bool {
     edition != "2015" && edition != "2018"

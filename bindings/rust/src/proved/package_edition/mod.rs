@@ -7,4 +7,4 @@
 pub(crate) mod lines;
 pub(crate) mod manifest;
 
-pub use manifest::{edition_in, is_from_2021, workspace_edition, Declared};
+pub use manifest::{edition_in, is_from_2021, workspace_edition, Declaration};

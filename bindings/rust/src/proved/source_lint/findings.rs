@@ -1,12 +1,13 @@
-//! What is found in a call: its faults, in words and with their places in the file.
+//! The findings of a call: its faults, in words and with their places in the file.
 
 // Extracted from crates/source_lint/src/findings.rt by tools/extract: not to be edited.
 // That source is proved, and each contract here is its. That this text means the same is tested:
 // by results from outside, and beside what is proved (.ci/bindings) and the original (tools/agree).
 
 use crate::proved::call_faults::{CallFault, Checked};
+use crate::proved::source_lint::labels::{help, labels, notes, primary_span};
 use crate::proved::source_lint::report::Finding;
-use crate::proved::source_lint::spans::{primary_span, Site};
+use crate::proved::source_lint::spans::Site;
 use crate::shim::alloc::{AllocError, Global};
 use crate::shim::prelude::*;
 
@@ -24,9 +25,9 @@ fn is_text_fault(fault: &CallFault<'_>) -> bool {
     matches!(fault, CallFault::Text(_))
 }
 
-/// Returns what is found of a fault of a call. Returns `Err` if an allocation fails.
-// ensures tells { IfOk result (λ x. Tells (told checked.now []) (seen_fault fault.now) x) }
-// ensures span { IfOk result (λ x. IsSpan site.entry.text.now x.span) }
+/// Returns the finding of a fault of a call. Returns `Err` if an allocation fails.
+// ensures tells { IfOk result (λ x. Tells (seen_call checked.now) (seen_fault fault.now) x) }
+// ensures spans { IfOk result (λ x. HasSpans site.entry.text.now x) }
 #[inline]
 fn finding<'c>(
     alloc: Global,
@@ -36,22 +37,29 @@ fn finding<'c>(
 ) -> Result<Finding, AllocError> {
     let mut title = String::made_in(alloc);
     checked.put_title(&mut title, fault)?;
-    let span = primary_span(alloc, site, checked, fault)?;
+    let labels = labels(alloc, site, checked.labels(alloc, fault)?)?;
+    let span = primary_span(site, &labels);
+    let notes = notes(alloc, site, checked.notes(alloc, fault)?)?;
+    let help = help(alloc, site, checked.help(alloc, fault)?)?;
     Ok(Finding {
         is_warning: is_warning(fault),
         id: fault.id(),
         title,
         span,
+        labels,
+        notes,
+        help,
     })
 }
 
-/// Adds what is found of a fault of a call, unless only that of its string counts. Returns `Err` if
+/// Adds the finding of a fault of a call, unless only that of its string counts. Returns `Err` if
 /// an allocation fails.
 // ensures told { OnOk result ((xs : List FindingValue)
 //     × (findings.new.items ≡ findings.old.items ++ xs)
-//     × TellAll (told checked.now []) (counted_faults is_whole (seen_fault fault.now ∷ [])) xs) }
-// ensures spans { OnOk result (All (λ x. IsSpan site.entry.text.now x.span) findings.old.items
-//     → All (λ x. IsSpan site.entry.text.now x.span) findings.new.items) }
+//     × TellAll (seen_call checked.now) (counted_faults is_whole (seen_fault fault.now ∷ []))
+//     xs) }
+// ensures spans { OnOk result (All (HasSpans site.entry.text.now) findings.old.items
+//     → All (HasSpans site.entry.text.now) findings.new.items) }
 #[inline]
 fn put_finding<'c>(
     alloc: Global,
@@ -67,13 +75,13 @@ fn put_finding<'c>(
     Ok(())
 }
 
-/// Adds what is found of the faults of a call, or only of that of its string. Returns `Err` if an
+/// Adds the findings of the faults of a call, or only that of its string. Returns `Err` if an
 /// allocation fails.
 // ensures told { OnOk result ((xs : List FindingValue)
-//     × (findings.new.items ≡ findings.old.items ++ xs) × TellAll (told checked.now [])
-//     (counted_faults is_whole (map seen_fault checked.now.faults.items)) xs) }
-// ensures spans { OnOk result (All (λ x. IsSpan site.entry.text.now x.span) findings.old.items
-//     → All (λ x. IsSpan site.entry.text.now x.span) findings.new.items) }
+//     × (findings.new.items ≡ findings.old.items ++ xs)
+//     × AreFindings is_whole (seen_call checked.now) xs) }
+// ensures spans { OnOk result (All (HasSpans site.entry.text.now) findings.old.items
+//     → All (HasSpans site.entry.text.now) findings.new.items) }
 #[inline]
 pub fn put_findings<'c>(
     alloc: Global,

@@ -1,4 +1,4 @@
-//! What placeholders can tell of the arguments of a call.
+//! The arguments of a call, as its placeholders refer to them.
 
 // Extracted from crates/source_lint/src/givens.rt by tools/extract: not to be edited.
 // That source is proved, and each contract here is its. That this text means the same is tested:
@@ -80,7 +80,7 @@ fn variable_of<'a>(tokens: &[Token<'a>], argument: &Argument) -> Option<&'a str>
     }
 }
 
-/// Returns what placeholders can tell of an argument.
+/// Returns an argument as placeholders refer to it.
 // ensures { seen_given result ≡ given (map leaf tokens.now) argument.now }
 #[inline]
 fn given<'a>(tokens: &[Token<'a>], argument: &Argument) -> Given<'a> {
@@ -90,7 +90,7 @@ fn given<'a>(tokens: &[Token<'a>], argument: &Argument) -> Given<'a> {
     }
 }
 
-/// Returns what placeholders can tell of arguments. Returns `Err` if an allocation fails.
+/// Returns arguments as placeholders refer to them. Returns `Err` if an allocation fails.
 // ensures { IfOk result (λ v. map seen_given v.items
 //     ≡ map (given (map leaf tokens.now)) arguments.now) }
 #[inline]

@@ -1,4 +1,4 @@
-//! What is wrong with the format strings of a file.
+//! The faults of the format strings of a file.
 
 // Extracted from crates/source_lint/src/lint.rt by tools/extract: not to be edited.
 // That source is proved, and each contract here is its. That this text means the same is tested:
@@ -6,32 +6,32 @@
 
 use crate::proved::format_calls::{calls, next_part, Table};
 use crate::proved::rust_trees::{Balance, Source, Tokens};
-use crate::proved::source_lint::defined::defined;
+use crate::proved::source_lint::macros::macro_names;
 use crate::proved::source_lint::readings::{read_call, File};
 use crate::proved::source_lint::report::{CallReading, Finding, Options, Report};
 use crate::shim::alloc::{AllocError, Global};
 use crate::shim::prelude::*;
 
-/// What was read of the calls of a file so far, and what was found in them.
-struct Found {
+/// The readings of the calls of a file so far, and the findings in these calls.
+struct Readings {
     calls: Vec<CallReading>,
     findings: Vec<Finding>,
 }
 
 /// Reads the calls of a part of a file, one after the other, and adds how much of each is read and
-/// what is found. Returns `Err` if an allocation fails.
+/// its findings. Returns `Err` if an allocation fails.
 // ensures read { OnOk result ((rs : List ReadingValue) × (xs : List FindingValue)
 //     × (found.new.calls.items ≡ found.old.calls.items ++ rs)
 //     × (found.new.findings.items ≡ found.old.findings.items ++ xs)
-//     × ReadsCalls (map entry table.now.rows.items) (map (λ w. w.now) file.entry.defined.now)
+//     × ReadsCalls (map entry table.now.rows.items) (map (λ w. w.now) file.entry.macros.now)
 //     file.entry.is_from_2021 part.now rs xs) }
-// ensures spans { OnOk result (All (λ x. IsSpan file.entry.text.now x.span)
+// ensures spans { OnOk result (All (HasSpans file.entry.text.now)
 //     found.old.findings.items
-//     → All (λ x. IsSpan file.entry.text.now x.span) found.new.findings.items) }
+//     → All (HasSpans file.entry.text.now) found.new.findings.items) }
 #[inline]
 fn read_part(
     alloc: Global,
-    found: &mut Found,
+    found: &mut Readings,
     file: File<'_, '_>,
     part: &Source<'_>,
     table: &Table<'_>,
@@ -49,10 +49,10 @@ fn read_part(
 /// Reads the calls of a file, part by part, and adds all its tokens to `balance`. Returns `Err` if
 /// an allocation fails.
 // ensures read { IfOk result (λ f. (ls : List Leaf) × AreLeaves file.entry.text.now ls
-//     × ReadsCalls (map entry table.now.rows.items) (map (λ w. w.now) file.entry.defined.now)
+//     × ReadsCalls (map entry table.now.rows.items) (map (λ w. w.now) file.entry.macros.now)
 //     file.entry.is_from_2021 ls f.calls.items f.findings.items
 //     × ((w : List Leaf) → IsBalanced w balance.old → IsBalanced (w ++ ls) balance.new)) }
-// ensures spans { IfOk result (λ f. All (λ x. IsSpan file.entry.text.now x.span)
+// ensures spans { IfOk result (λ f. All (HasSpans file.entry.text.now)
 //     f.findings.items) }
 #[inline]
 fn read_file(
@@ -60,8 +60,8 @@ fn read_file(
     file: File<'_, '_>,
     table: &Table<'_>,
     balance: &mut Balance,
-) -> Result<Found, AllocError> {
-    let mut found = Found {
+) -> Result<Readings, AllocError> {
+    let mut found = Readings {
         calls: Vec::made_in(alloc),
         findings: Vec::made_in(alloc),
     };
@@ -72,18 +72,18 @@ fn read_file(
     Ok(found)
 }
 
-/// Reads a source file, and returns what is wrong with its calls of macros that take a format
-/// string. Lines may end with LF or CRLF, and a byte order mark may stand at the start. Returns
-/// `Err` if an allocation fails.
+/// Reads a source file, and returns the faults of its calls of macros that take a format string.
+/// Lines may end with LF or CRLF, and a byte order mark may stand at the start. Returns `Err` if an
+/// allocation fails.
 // ensures report { IfOk result (λ r. IsReport (map entry options.now.table.rows.items)
 //     options.now.is_from_2021 text.now r) }
-// ensures spans { IfOk result (λ r. All (λ x. IsSpan text.now x.span) r.findings.items) }
+// ensures spans { IfOk result (λ r. All (HasSpans text.now) r.findings.items) }
 #[inline]
 pub fn file_faults(alloc: Global, text: &str, options: &Options<'_>) -> Result<Report, AllocError> {
-    let names = defined(alloc, text)?;
+    let names = macro_names(alloc, text)?;
     let file = File {
         text,
-        defined: names.as_slice(),
+        macros: names.as_slice(),
         is_from_2021: options.is_from_2021,
     };
     let mut balance = Balance::new(alloc);

@@ -29,14 +29,14 @@ fn begins_line(text: &str) -> bool {
     }
 }
 
-/// Returns whether a character is a CR in front of an LF, where `rest` follows it.
+/// Returns whether a character is a CR before an LF, where `rest` follows it.
 // ensures { result ≡ (c == 13 && first_passes is_lf (chars rest.now)) }
 #[inline]
 fn is_dropped(c: char, rest: &str) -> bool {
     c == '\r' && begins_line(rest)
 }
 
-/// Returns a text without the CR in front of each LF. Returns `Err` if an allocation fails.
+/// Returns a text without the CR before each LF. Returns `Err` if an allocation fails.
 // ensures { IfOk result (λ s. chars (string_bytes s) ≡ without_crs (chars text.now)) }
 #[inline]
 fn without_crs(alloc: Global, text: &str) -> Result<String, AllocError> {
@@ -98,7 +98,7 @@ pub fn read_literal(
 }
 
 /// Returns the byte offset in a token of a byte offset in its literal with lines that end with LF:
-/// the CRs in front of it count.
+/// the CRs before it count.
 #[inline]
 pub fn offset_in(token: &str, offset: usize) -> usize {
     let mut passed = 0;

@@ -1,17 +1,18 @@
-//! What is wrong with the format strings of a Rust source file, from its text ([`file_faults`]).
+//! The faults of the format strings of a Rust source file, from its text ([`file_faults`]).
 
 // Extracted from crates/source_lint/src/lib.rt by tools/extract: not to be edited.
 // That source is proved, and each contract here is its. That this text means the same is tested:
 // by results from outside, and beside what is proved (.ci/bindings) and the original (tools/agree).
 
-pub(crate) mod defined;
 pub(crate) mod findings;
 pub(crate) mod givens;
+pub(crate) mod labels;
 pub(crate) mod lint;
 pub(crate) mod literals;
+pub(crate) mod macros;
 pub(crate) mod readings;
 pub(crate) mod report;
 pub(crate) mod spans;
 
 pub use lint::file_faults;
-pub use report::{CallReading, Finding, Options, Report};
+pub use report::{CallReading, Finding, Help, Options, Report};

@@ -1,4 +1,4 @@
-//! What is read of a call, and what is found in it.
+//! The reading of a call, and its findings.
 
 // Extracted from crates/source_lint/src/readings.rt by tools/extract: not to be edited.
 // That source is proved, and each contract here is its. That this text means the same is tested:
@@ -6,13 +6,13 @@
 
 use crate::proved::call_faults::{call_faults, FormatString, Given};
 use crate::proved::format_calls::{
-    are_counted, arguments, format_string, token_at, word, Argument, Call,
+    are_counted, arguments, format_string, token_at, word, Argument, Call, Rule,
 };
 use crate::proved::rust_trees::{Source, Token};
-use crate::proved::source_lint::defined::is_defined;
 use crate::proved::source_lint::findings::put_findings;
 use crate::proved::source_lint::givens::givens;
 use crate::proved::source_lint::literals::{appends_newline, read_literal};
+use crate::proved::source_lint::macros::is_defined;
 use crate::proved::source_lint::report::{CallReading, Finding};
 use crate::proved::source_lint::spans::Site;
 use crate::shim::alloc::{AllocError, Global};
@@ -24,7 +24,7 @@ pub struct File<'s, 'a> {
     /// The text.
     pub text: &'a str,
     /// The names of the macros that it defines.
-    pub defined: &'s [&'a [u8]],
+    pub macros: &'s [&'a [u8]],
     /// Whether its edition is 2021 or a later one.
     pub is_from_2021: bool,
 }
@@ -39,7 +39,7 @@ fn name_at<'a>(tokens: &[Token<'a>], name: usize) -> &'a [u8] {
     }
 }
 
-/// Returns what placeholders can tell of arguments, or nothing if their number is not known.
+/// Returns arguments as placeholders refer to them, or none if their number is not known.
 /// Returns `Err` if an allocation fails.
 // ensures { IfOk result (λ v. map seen_given v.items
 //     ≡ counted_givens is_counted (map (given (map leaf tokens.now)) arguments.now)) }
@@ -68,16 +68,14 @@ fn reading_of(is_counted: bool) -> CallReading {
     }
 }
 
-/// Checks a call with this format string and these arguments, and adds what is found. Returns `Err`
+/// Checks a call with this format string and these arguments, and adds its findings. Returns `Err`
 /// if an allocation fails.
-// requires short { hashes string.style + length string.text.now + 2 < 2 ^ 64 }
-// requires captures { string.captures ≡ true }
-// ensures told { OnOk result ((xs : List FindingValue)
+// requires { hashes string.style + length string.text.now + 2 < 2 ^ 64 }
+// ensures told { OnOk result (let s = start string.entry in (xs : List FindingValue)
 //     × (findings.new.items ≡ findings.old.items ++ xs)
-//     × TellAll (told_of (start string.entry) (map seen_given given.now))
-//     (counted_faults is_counted (faults_of (start string.entry) (map seen_given given.now))) xs) }
-// ensures spans { OnOk result (All (λ x. IsSpan site.entry.text.now x.span) findings.old.items
-//     → All (λ x. IsSpan site.entry.text.now x.span) findings.new.items) }
+//     × AreFindings is_counted (call_of string.entry.captures s (map seen_given given.now)) xs) }
+// ensures spans { OnOk result (All (HasSpans site.entry.text.now) findings.old.items
+//     → All (HasSpans site.entry.text.now) findings.new.items) }
 #[inline]
 fn check_string<'c>(
     alloc: Global,
@@ -92,20 +90,21 @@ fn check_string<'c>(
     Ok(())
 }
 
-/// Reads the format string of a call, which is this literal, with the arguments behind it, and adds
-/// what is found. Returns `Err` if an allocation fails.
+/// Reads the format string of a call, which is the literal of the site, with the arguments after
+/// it, and adds the findings. Returns `Err` if an allocation fails.
 // ensures read { IfOk result (λ r. (xs : List FindingValue)
 //     × (findings.new.items ≡ findings.old.items ++ xs)
-//     × ReadsLiteral (without_crs (chars site.entry.literal.text.now)) appended_newline is_counted
-//     (map (given (map leaf site.entry.tokens.now)) site.entry.arguments.now) r xs) }
-// ensures spans { OnOk result (All (λ x. IsSpan site.entry.text.now x.span) findings.old.items
-//     → All (λ x. IsSpan site.entry.text.now x.span) findings.new.items) }
+//     × ReadsLiteral (without_crs (chars site.entry.literal.text.now)) appended_newline captures
+//     is_counted (map (given (map leaf site.entry.tokens.now)) site.entry.arguments.now) r xs) }
+// ensures spans { OnOk result (All (HasSpans site.entry.text.now) findings.old.items
+//     → All (HasSpans site.entry.text.now) findings.new.items) }
 #[inline]
 fn read_string(
     alloc: Global,
     findings: &mut Vec<Finding>,
     site: Site<'_, '_>,
     appended_newline: bool,
+    captures: bool,
     is_counted: bool,
 ) -> Result<CallReading, AllocError> {
     let Some(literal) = read_literal(alloc, site.literal.text, appended_newline)? else {
@@ -120,10 +119,21 @@ fn read_string(
         style: literal.style,
         snippet: Some(snippet),
         appended_newline,
-        captures: true,
+        captures,
     };
     check_string(alloc, findings, site, string, list, is_counted)?;
     Ok(reading_of(is_counted))
+}
+
+/// Returns whether the format string of a macro captures variables. `unreachable!` of the standard
+/// library puts it into another text before the edition 2021, where it captures none.
+// ensures { result ≡ captures is_from_2021 rule name.now }
+#[inline]
+fn captures(rule: Rule, name: &[u8], is_from_2021: bool) -> bool {
+    match rule {
+        Rule::ByEdition(_) => is_from_2021 || name != b"unreachable".as_slice(),
+        Rule::At(_) | Rule::AfterFields => true,
+    }
 }
 
 /// Returns the argument of an index, or `None` if there is none.
@@ -137,7 +147,7 @@ fn argument_at(arguments: &[Argument], index: usize) -> Option<Argument> {
     }
 }
 
-/// Reads a call whose format string is the argument of this index, and adds what is found. Returns
+/// Reads a call whose format string is the argument of this index, and adds its findings. Returns
 /// `Err` if an allocation fails.
 // requires pair { IsPair part.now (call.now.name + 2) call.now.close }
 // requires split { AreArguments part.now (call.now.name + 3) arguments.now call.now.close }
@@ -145,9 +155,9 @@ fn argument_at(arguments: &[Argument], index: usize) -> Option<Argument> {
 //     × IsTrue (is_text part.now a) }
 // ensures read { IfOk result (λ r. (xs : List FindingValue)
 //     × (findings.new.items ≡ findings.old.items ++ xs)
-//     × ReadsAt part.now call.now arguments.now index r xs) }
-// ensures spans { OnOk result (All (λ x. IsSpan file.entry.text.now x.span) findings.old.items
-//     → All (λ x. IsSpan file.entry.text.now x.span) findings.new.items) }
+//     × ReadsAt file.entry.is_from_2021 part.now call.now arguments.now index r xs) }
+// ensures spans { OnOk result (All (HasSpans file.entry.text.now) findings.old.items
+//     → All (HasSpans file.entry.text.now) findings.new.items) }
 #[inline]
 fn read_at(
     alloc: Global,
@@ -172,22 +182,29 @@ fn read_at(
         literal,
         arguments: others,
     };
-    let close = call.close;
     let name = name_at(tokens, call.name);
     let appended_newline = appends_newline(name);
-    let is_counted = are_counted(part, call.name + 2, string.end, close);
-    let reading = read_string(alloc, findings, site, appended_newline, is_counted)?;
+    let captures = captures(call.rule, name, file.is_from_2021);
+    let is_counted = are_counted(part, call.name + 2, string.end, call.close);
+    let reading = read_string(
+        alloc,
+        findings,
+        site,
+        appended_newline,
+        captures,
+        is_counted,
+    )?;
     Ok(reading)
 }
 
-/// Reads a call, and adds what is found in it. Returns `Err` if an allocation fails.
+/// Reads a call, and adds its findings. Returns `Err` if an allocation fails.
 // requires { IsPair part.now (call.now.name + 2) call.now.close }
 // ensures read { IfOk result (λ r. (xs : List FindingValue)
 //     × (findings.new.items ≡ findings.old.items ++ xs)
-//     × Reads (map (λ w. w.now) file.entry.defined.now) file.entry.is_from_2021 part.now call.now
+//     × Reads (map (λ w. w.now) file.entry.macros.now) file.entry.is_from_2021 part.now call.now
 //     r xs) }
-// ensures spans { OnOk result (All (λ x. IsSpan file.entry.text.now x.span) findings.old.items
-//     → All (λ x. IsSpan file.entry.text.now x.span) findings.new.items) }
+// ensures spans { OnOk result (All (HasSpans file.entry.text.now) findings.old.items
+//     → All (HasSpans file.entry.text.now) findings.new.items) }
 #[inline]
 pub fn read_call(
     alloc: Global,
@@ -197,7 +214,7 @@ pub fn read_call(
     call: &Call,
 ) -> Result<CallReading, AllocError> {
     let name = name_at(part.tokens(), call.name);
-    if is_defined(file.defined, name) {
+    if is_defined(file.macros, name) {
         return Ok(CallReading::Redefined);
     }
     let Some(arguments) = arguments(alloc, part, call.close)? else {

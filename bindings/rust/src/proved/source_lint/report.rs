@@ -1,4 +1,4 @@
-//! What is asked about a file, and what is found in it.
+//! The options for reading a file, and the report on it.
 
 // Extracted from crates/source_lint/src/report.rt by tools/extract: not to be edited.
 // That source is proved, and each contract here is its. That this text means the same is tested:
@@ -32,9 +32,45 @@ pub enum CallReading {
     Malformed,
 }
 
-/// What is wrong with a call, as rustc tells it.
+/// A label of a finding under the source.
+pub struct Label {
+    /// The bytes of the file that it is about. Both ends are at characters.
+    pub range: Range<usize>,
+    /// Whether the fault is about this range: it has the sign `^`, and the others have `-`.
+    pub is_primary: bool,
+    /// Its text, in rustc's words, or an empty one.
+    pub text: String,
+}
+
+/// A note of a finding.
+pub struct Note {
+    /// Its text, in rustc's words, which may have several lines.
+    pub text: String,
+    /// The bytes of the file that it shows. Both ends of each range are at characters. A note
+    /// without any is a row under the labels, and one with some has a drawing of its own.
+    pub ranges: Vec<Range<usize>>,
+}
+
+/// A text that a help puts in the place of another one.
+pub struct Edit {
+    /// The bytes of the file that it replaces: none where text is only inserted. Both ends are at
+    /// characters.
+    pub range: Range<usize>,
+    /// The new text, which is empty where text is only removed.
+    pub text: String,
+}
+
+/// A help of a finding.
+pub struct Help {
+    /// The advice, in rustc's words.
+    pub text: String,
+    /// The edits that follow it, in the order of the source.
+    pub edits: Vec<Edit>,
+}
+
+/// A fault of a call, in rustc's words.
 pub struct Finding {
-    /// Whether it is a warning, and no error.
+    /// Whether it is a warning. Any other fault is an error.
     pub is_warning: bool,
     /// The id of its kind, in kebab case.
     pub id: &'static str,
@@ -42,14 +78,20 @@ pub struct Finding {
     pub title: String,
     /// The primary span: the bytes of the file that it is about. Both ends are at characters.
     pub span: Range<usize>,
+    /// The labels, in rustc's order.
+    pub labels: Vec<Label>,
+    /// The notes, in rustc's order.
+    pub notes: Vec<Note>,
+    /// The help, if there is one that is no label.
+    pub help: Option<Help>,
 }
 
-/// What was read of a file, and what is wrong with it.
+/// The readings of the calls of a file, and the faults of these calls.
 pub struct Report {
     /// How much of each call of a macro of the table was read, in the order of their names.
     pub calls: Vec<CallReading>,
-    /// What is wrong with these calls, one call after the other.
+    /// The faults of these calls, one call after the other.
     pub findings: Vec<Finding>,
-    /// Where the file breaks, or `None` if it does not. Calls in front of that place are read.
+    /// Where the file breaks, or `None` if it does not. Calls before that place are read.
     pub broken: Option<BreakAt>,
 }

@@ -1,6 +1,6 @@
 //! The macros that a file defines by `macro_rules!`.
 
-// Extracted from crates/source_lint/src/defined.rt by tools/extract: not to be edited.
+// Extracted from crates/source_lint/src/macros.rt by tools/extract: not to be edited.
 // That source is proved, and each contract here is its. That this text means the same is tested:
 // by results from outside, and beside what is proved (.ci/bindings) and the original (tools/agree).
 
@@ -17,7 +17,7 @@ fn is_macro_rules(token: &Token<'_>) -> bool {
     matches!(token.kind, Kind::Ident) && token.text == "macro_rules"
 }
 
-/// Returns whether two tokens, one behind the other, are `macro_rules` and `!`.
+/// Returns whether two tokens, one after the other, are `macro_rules` and `!`.
 // ensures { result ≡ begins_definition (option_map leaf word.entry) (option_map leaf mark.entry) }
 #[inline]
 fn begins_definition(word: Option<Token<'_>>, mark: Option<Token<'_>>) -> bool {
@@ -27,7 +27,7 @@ fn begins_definition(word: Option<Token<'_>>, mark: Option<Token<'_>>) -> bool {
     }
 }
 
-/// Adds the name of the macro that a token defines behind two others, if it does. Returns `Err` if
+/// Adds the name of the macro that a token defines after two others, if it does. Returns `Err` if
 /// an allocation fails.
 // ensures { OnOk result (map (λ w. w.now) found.new.items ≡ map (λ w. w.now) found.old.items
 //     ++ definition (option_map leaf before.entry) (option_map leaf last.entry)
@@ -48,9 +48,9 @@ fn put_definition<'a>(
 /// Returns the names of the macros that a file defines by `macro_rules!`, without `r#`. Returns
 /// `Err` if an allocation fails.
 // ensures { IfOk result (λ v. (ls : List Leaf) × AreLeaves text.now ls
-//     × (map (λ w. w.now) v.items ≡ defined ls)) }
+//     × (map (λ w. w.now) v.items ≡ macro_names ls)) }
 #[inline]
-pub fn defined<'a>(alloc: Global, text: &'a str) -> Result<Vec<&'a [u8]>, AllocError> {
+pub fn macro_names<'a>(alloc: Global, text: &'a str) -> Result<Vec<&'a [u8]>, AllocError> {
     let mut found = Vec::made_in(alloc);
     let mut rest = Tokens::new(text);
     let mut before = None;

@@ -1,6 +1,6 @@
-//! What the options ask for.
+//! The values that the arguments of the program stand for.
 
-// Extracted from crates/formatlint/src/asked.rt by tools/extract: not to be edited.
+// Extracted from crates/formatlint/src/arguments.rt by tools/extract: not to be edited.
 // That source is proved, and each contract here is its. That this text means the same is tested:
 // by results from outside, and beside what is proved (.ci/bindings) and the original (tools/agree).
 
@@ -13,13 +13,13 @@ use crate::shim::alloc::{AllocError, Global};
 use crate::shim::clap::ArgMatches;
 use crate::shim::prelude::*;
 
-/// Returns the word that names the mode that is asked for.
+/// Returns the word for the mode.
 #[inline]
 fn mode_word<'a>(matches: &ArgMatches<'a>) -> &'a str {
     matches.get_str("mode").unwrap_or("format")
 }
 
-/// Returns the mode that is asked for.
+/// Returns the mode.
 #[inline]
 fn mode_of(matches: &ArgMatches<'_>) -> ParseMode {
     match mode_word(matches) {
@@ -30,7 +30,7 @@ fn mode_of(matches: &ArgMatches<'_>) -> ParseMode {
     }
 }
 
-/// Returns when colours are asked for.
+/// Returns when colours are written.
 #[inline]
 pub fn when_of(matches: &ArgMatches<'_>) -> When {
     match matches.get_str("color").unwrap_or("auto") {
@@ -40,7 +40,7 @@ pub fn when_of(matches: &ArgMatches<'_>) -> When {
     }
 }
 
-/// Returns the form of messages that is asked for.
+/// Returns the form of messages.
 #[inline]
 pub fn form_of(matches: &ArgMatches<'_>) -> Form {
     match matches.get_str("message-format").unwrap_or("human") {
@@ -61,7 +61,7 @@ pub fn file_of<'a>(matches: &ArgMatches<'a>) -> Option<&'a str> {
     }
 }
 
-/// Returns what is to be shown of one string.
+/// Returns which answer is shown for one string.
 #[inline]
 fn show_of(matches: &ArgMatches<'_>, has_colours: bool) -> Show {
     if matches.get_flag("fix") {
@@ -77,7 +77,7 @@ fn show_of(matches: &ArgMatches<'_>, has_colours: bool) -> Show {
     }
 }
 
-/// Returns the task that is asked for, where the input has this path.
+/// Returns the task for one string, where the input has this path.
 #[inline]
 pub fn task_of<'a>(matches: &ArgMatches<'_>, path: &'a str, has_colours: bool) -> Task<'a> {
     Task {
@@ -88,7 +88,7 @@ pub fn task_of<'a>(matches: &ArgMatches<'_>, path: &'a str, has_colours: bool) -
     }
 }
 
-/// Returns the arguments with which `formatread` lists what is asked for. Returns `Err` if an
+/// Returns the arguments with which `formatread` writes the listing. Returns `Err` if an
 /// allocation fails.
 #[inline]
 pub fn list_words(alloc: Global, matches: &ArgMatches<'_>) -> Result<Vec<String>, AllocError> {

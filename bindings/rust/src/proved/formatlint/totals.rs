@@ -1,6 +1,6 @@
-//! What is told beside the messages: on standard error.
+//! The totals of a run over files, and the lines about it on standard error.
 
-// Extracted from crates/formatlint/src/told.rt by tools/extract: not to be edited.
+// Extracted from crates/formatlint/src/totals.rt by tools/extract: not to be edited.
 // That source is proved, and each contract here is its. That this text means the same is tested:
 // by results from outside, and beside what is proved (.ci/bindings) and the original (tools/agree).
 
@@ -12,7 +12,7 @@ use crate::proved::source_lint::{CallReading, Report};
 use crate::shim::prelude::*;
 use std::io;
 
-/// How many calls were not read, by the reason.
+/// The numbers of calls whose format string was not read, by the reason.
 struct Unread {
     missing: usize,
     edition: usize,
@@ -24,19 +24,19 @@ struct Unread {
     malformed: usize,
 }
 
-/// What was read, and what was found.
-pub struct Told {
-    /// How many files were read, at least in part.
+/// The numbers of files, calls, faults and failures of a run.
+pub struct Totals {
+    /// The number of files that were read, at least in part.
     pub files: usize,
     calls: usize,
     whole: usize,
     alone: usize,
     unread: Unread,
-    /// How many faults were found.
+    /// The number of faults that were found.
     pub faults: usize,
-    /// How many warnings were found.
+    /// The number of warnings that were found.
     pub warnings: usize,
-    /// How often something was not read or not written.
+    /// The number of files and folders, or parts of them, that could not be read.
     pub failures: usize,
 }
 
@@ -86,11 +86,11 @@ impl Unread {
     }
 }
 
-impl Told {
-    /// Returns that nothing was read.
+impl Totals {
+    /// Returns the totals of a run that read nothing.
     #[inline]
-    pub fn new() -> Told {
-        Told {
+    pub fn new() -> Totals {
+        Totals {
             files: 0,
             calls: 0,
             whole: 0,
@@ -124,7 +124,7 @@ impl Told {
         }
     }
 
-    /// Counts what was read of a file, and what was found in it.
+    /// Counts a file, its calls, and the faults and warnings in it.
     #[inline]
     pub fn add(&mut self, report: &Report) {
         count(&mut self.files);
@@ -140,7 +140,8 @@ impl Told {
         }
     }
 
-    /// Tells that something was not read, with the words of the system.
+    /// Counts a failure, and writes to standard error why the file or folder with this path was not
+    /// read, in the words of the system.
     #[inline]
     pub fn fail(&mut self, rt: &crate::shim::host::HostRuntime, path: &str, error: &io::Error) {
         count(&mut self.failures);
@@ -158,7 +159,7 @@ impl Told {
         };
     }
 
-    /// Tells why a file was not read from a place on.
+    /// Counts a failure, and writes to standard error why a file was not read from a place on.
     #[inline]
     pub fn fail_at(
         &mut self,

@@ -1,0 +1,214 @@
+//! What rustc suggests for faults, in its words.
+
+// Extracted from crates/call_faults/src/helps.rt by tools/extract: not to be edited.
+// That source is proved, and each contract here is its. That this text means the same is tested:
+// by results from outside, and beside what is proved (.ci/bindings) and the original (tools/agree).
+
+use crate::proved::call_faults::arguments::Given;
+use crate::proved::call_faults::checker::Checked;
+use crate::proved::call_faults::faults::{CallFault, Part, Reference};
+use crate::proved::call_faults::labels::{have_names, is_last};
+use crate::proved::call_faults::notes::{are_missing, put_specifiers};
+use crate::proved::call_faults::spots::{bytes_at, index_spot, CallEdit, CallHelp, Spot};
+use crate::proved::call_faults::titles::name_of;
+use crate::proved::rustc_parse_format::{Fault, Suggestion};
+use crate::shim::alloc::{AllocError, Global};
+use crate::shim::prelude::*;
+
+/// Returns a help with one edit. Returns `Err` if an allocation fails.
+// ensures { IfOk result (λ h. seen_help h ≡ record {
+//   text = string_bytes text;
+//   edits = record { spot = spot; text = string_bytes new } ∷ [];
+// }) }
+#[inline]
+fn single(alloc: Global, text: String, spot: Spot, new: String) -> Result<CallHelp, AllocError> {
+    let mut edits = Vec::made_in(alloc);
+    edits.try_push(CallEdit { spot, text: new })?;
+    Ok(CallHelp { text, edits })
+}
+
+/// Adds this many placeholders.
+// ensures { OnOk result (string_bytes out.new ≡ string_bytes out.old ++ placeholders count) }
+#[inline]
+fn put_placeholders(out: &mut String, count: usize) -> Result<(), AllocError> {
+    let mut left = count;
+    while left > 0 {
+        out.try_push_str("{}")?;
+        left -= 1;
+    }
+    Ok(())
+}
+
+/// Returns the help for so many unused arguments, or `None` if there is none. Returns `Err` if an
+/// allocation fails.
+// ensures { IfOk result (λ o. option_map seen_help o
+//     ≡ unused_help (seen_call call.now) count) }
+#[inline]
+fn unused_help(
+    alloc: Global,
+    call: &Checked<'_>,
+    count: usize,
+) -> Result<Option<CallHelp>, AllocError> {
+    if are_missing(&call.faults) || count != call.kept.len() {
+        return Ok(None);
+    }
+    let says = "format specifiers use curly braces, consider adding ";
+    let mut text = String::made_from(alloc, says)?;
+    put_specifiers(&mut text, count)?;
+    let mut new = String::made_in(alloc);
+    put_placeholders(&mut new, count)?;
+    let help = single(alloc, text, Spot::LiteralEnd, new)?;
+    Ok(Some(help))
+}
+
+/// Returns where the text is that is removed with an argument.
+// ensures { result ≡ removed_spot (map seen_given given.now) index }
+#[inline]
+fn removed_spot(given: &[Given<'_>], index: usize) -> Spot {
+    if is_last(given, index) {
+        Spot::Value(index)
+    } else {
+        Spot::ValueUpToNext(index)
+    }
+}
+
+/// Adds the edits that remove arguments.
+// ensures { OnOk result (map seen_edit edits.new.items ≡ map seen_edit edits.old.items
+//     ++ map (removal (map seen_given given.now)) indices.now) }
+#[inline]
+fn push_removals(
+    edits: &mut Vec<CallEdit>,
+    given: &[Given<'_>],
+    indices: &[usize],
+) -> Result<(), AllocError> {
+    let alloc = *edits.own_allocator();
+    let mut rest = indices;
+    while let Some((index, others)) = rest.split_first() {
+        let text = String::made_in(alloc);
+        let spot = removed_spot(given, *index);
+        edits.try_push(CallEdit { spot, text })?;
+        rest = others;
+    }
+    Ok(())
+}
+
+/// Returns the help for redundant arguments, or `None` if there is none. Returns `Err` if an
+/// allocation fails.
+// ensures { IfOk result (λ o. option_map seen_help o
+//     ≡ redundant_help (map seen_given given.now) redundant.now) }
+#[inline]
+fn redundant_help(
+    alloc: Global,
+    given: &[Given<'_>],
+    redundant: &[usize],
+) -> Result<Option<CallHelp>, AllocError> {
+    if redundant.len() <= 1 || have_names(given) {
+        return Ok(None);
+    }
+    let mut edits = Vec::made_in(alloc);
+    push_removals(&mut edits, given, redundant)?;
+    let text = String::made_from(alloc, "this can be removed")?;
+    Ok(Some(CallHelp { text, edits }))
+}
+
+/// Returns what is behind a name in a part of a placeholder.
+// ensures { result.now ≡ behind_name part }
+#[inline]
+fn behind_name(part: Part) -> &'static str {
+    match part {
+        Part::Position => "",
+        Part::Precision | Part::Width => "$",
+    }
+}
+
+/// Returns the name of an argument as a part of a placeholder has it. Returns `Err` if an
+/// allocation fails.
+// ensures { IfOk result (λ s. string_bytes s ≡ name_in part (chars name.now)) }
+#[inline]
+fn name_in(alloc: Global, part: Part, name: &str) -> Result<String, AllocError> {
+    let mut text = String::made_from(alloc, name)?;
+    text.try_push_str(behind_name(part))?;
+    Ok(text)
+}
+
+/// Returns the help for a use by index of an argument with a name. Returns `Err` if an allocation
+/// fails.
+// ensures { IfOk result (λ h. seen_help h
+//     ≡ by_index_help (seen_call call.now) reference index) }
+#[inline]
+fn by_index_help(
+    alloc: Global,
+    call: &Checked<'_>,
+    reference: Reference,
+    index: usize,
+) -> Result<CallHelp, AllocError> {
+    let says = "use the named argument by name to avoid ambiguity";
+    let text = String::made_from(alloc, says)?;
+    let new = name_in(alloc, reference.part, name_of(call.given, index))?;
+    let spot = index_spot(&call.pieces, reference);
+    let help = single(alloc, text, spot, new)?;
+    Ok(help)
+}
+
+/// Returns the help that replaces a text. Returns `Err` if an allocation fails.
+// ensures { IfOk result (λ h. seen_help h ≡ replacing spot new.now) }
+#[inline]
+fn replacing(alloc: Global, spot: Spot, new: &str) -> Result<CallHelp, AllocError> {
+    let mut text = String::made_from(alloc, "did you mean `")?;
+    text.try_push_str(new)?;
+    text.try_push_str("`?")?;
+    let new = String::made_from(alloc, new)?;
+    let help = single(alloc, text, spot, new)?;
+    Ok(help)
+}
+
+/// Returns the help for a fault of the string, or `None` if it has none that replaces something.
+/// Returns `Err` if an allocation fails.
+// ensures { IfOk result (λ o. option_map seen_help o
+//     ≡ text_help (message (seen_text_fault fault.now)).suggestion) }
+#[inline]
+fn text_help(alloc: Global, fault: &Fault<'_>) -> Result<Option<CallHelp>, AllocError> {
+    match fault.suggestion(alloc)? {
+        Suggestion::ReorderFormatParameter(span, text) => {
+            let help = replacing(alloc, bytes_at(&span), &text)?;
+            Ok(Some(help))
+        }
+        Suggestion::None
+        | Suggestion::UsePositional
+        | Suggestion::RemoveRawIdent(_)
+        | Suggestion::AddMissingColon(_)
+        | Suggestion::UseRustDebugPrintingMacro => Ok(None),
+    }
+}
+
+impl<'a> Checked<'a> {
+    /// Returns what rustc suggests for one of the faults, or `None` if it suggests nothing or does
+    /// so in a label. The suggestions for which the source of the call is needed are left out: to
+    /// pass a field as an argument, to use `dbg!`, and those for the directives of other languages.
+    /// Returns `Err` if an allocation fails.
+    // ensures { IfOk result (λ o. option_map seen_help o
+    //     ≡ help (seen_call self.now) (seen_fault fault.now)) }
+    #[inline]
+    pub fn help(
+        &self,
+        alloc: Global,
+        fault: &CallFault<'a>,
+    ) -> Result<Option<CallHelp>, AllocError> {
+        match fault {
+            CallFault::PositionalAfterNamed { .. }
+            | CallFault::RepeatedName { .. }
+            | CallFault::MissingName { .. }
+            | CallFault::UnknownTrait { .. }
+            | CallFault::MissingArguments(_) => Ok(None),
+            CallFault::Text(fault) => text_help(alloc, fault),
+            CallFault::UnusedArguments(unused) => unused_help(alloc, self, unused.len()),
+            CallFault::RedundantArguments(redundant) => {
+                redundant_help(alloc, self.given, redundant)
+            }
+            CallFault::NameUsedByIndex { reference, index } => {
+                let help = by_index_help(alloc, self, *reference, *index)?;
+                Ok(Some(help))
+            }
+        }
+    }
+}

@@ -1,0 +1,352 @@
+//! The labels of faults, in rustc's words. What begins with `push_` adds to the end of `labels`,
+//! and returns `Err` if an allocation fails.
+
+// Extracted from crates/call_faults/src/labels.rt by tools/extract: not to be edited.
+// That source is proved, and each contract here is its. That this text means the same is tested:
+// by results from outside, and beside what is proved (.ci/bindings) and the original (tools/agree).
+
+use crate::proved::call_faults::arguments::Given;
+use crate::proved::call_faults::checker::Checked;
+use crate::proved::call_faults::faults::{CallFault, Reference};
+use crate::proved::call_faults::missing_labels::{few_labels, push_missing};
+use crate::proved::call_faults::spots::{
+    bytes_at, named_spot, push_plain, push_primary, push_secondary, type_spot, use_spot, CallLabel,
+    Spot,
+};
+use crate::proved::call_faults::titles::{have_numbers, name_of, never_used, put_name_between};
+use crate::proved::rustc_parse_format::{Fault, ParseError, Suggestion};
+use crate::shim::alloc::{AllocError, Global};
+use crate::shim::prelude::*;
+use std::ops::Range;
+
+/// Returns what is said of an argument with a name in front of one without.
+// ensures { result.now ≡ named_text }
+#[inline]
+fn named_text() -> &'static str {
+    "named argument"
+}
+
+/// Adds the labels of arguments that have a name.
+// ensures { OnOk result (map seen_label labels.new.items ≡ map seen_label labels.old.items
+//     ++ map (λ n. secondary (WholeArgument n) named_text) named.now) }
+#[inline]
+fn push_named(labels: &mut Vec<CallLabel>, named: &[usize]) -> Result<(), AllocError> {
+    let mut rest = named;
+    while let Some((index, others)) = rest.split_first() {
+        push_secondary(labels, Spot::Argument(*index), named_text())?;
+        rest = others;
+    }
+    Ok(())
+}
+
+/// Adds the label of a second range of an error.
+// ensures { OnOk result (map seen_label labels.new.items ≡ map seen_label labels.old.items
+//     ++ second_label (seen_error error.now).span (pair span.now) text.now ∷ []) }
+#[inline]
+fn push_second_label(
+    labels: &mut Vec<CallLabel>,
+    error: &ParseError,
+    span: &Range<usize>,
+    text: &str,
+) -> Result<(), AllocError> {
+    if span.start == error.span.start && span.end == error.span.end {
+        push_primary(labels, bytes_at(span), text)?;
+    } else {
+        push_secondary(labels, bytes_at(span), text)?;
+    }
+    Ok(())
+}
+
+/// Adds a help that is drawn as a label.
+// ensures { OnOk result (map seen_label labels.new.items ≡ map seen_label labels.old.items
+//     ++ inline_help (seen_error error.now).span (seen_error error.now).suggestion) }
+#[inline]
+fn push_inline_help(labels: &mut Vec<CallLabel>, error: &ParseError) -> Result<(), AllocError> {
+    match &error.suggestion {
+        Suggestion::RemoveRawIdent(span) => {
+            push_second_label(labels, error, span, "help: remove the `r#`")?;
+        }
+        Suggestion::AddMissingColon(span) => {
+            let text = "help: add a colon before the format specifier: `:?`";
+            push_second_label(labels, error, span, text)?;
+        }
+        Suggestion::None
+        | Suggestion::UsePositional
+        | Suggestion::ReorderFormatParameter(..)
+        | Suggestion::UseRustDebugPrintingMacro => {}
+    }
+    Ok(())
+}
+
+/// Adds the second label of an error of the string.
+// ensures { OnOk result (map seen_label labels.new.items ≡ map seen_label labels.old.items
+//     ++ second_labels (seen_error error.now).span (seen_error error.now).second
+//     (seen_error error.now).suggestion) }
+#[inline]
+fn push_second(labels: &mut Vec<CallLabel>, error: &ParseError) -> Result<(), AllocError> {
+    match &error.secondary_label {
+        None => push_inline_help(labels, error)?,
+        Some((text, span)) => push_second_label(labels, error, span, text)?,
+    }
+    Ok(())
+}
+
+/// Adds the labels of a fault of the string.
+// ensures { OnOk result (map seen_label labels.new.items ≡ map seen_label labels.old.items
+//     ++ text_labels (message (seen_text_fault fault.now))) }
+#[inline]
+fn push_text(
+    alloc: Global,
+    labels: &mut Vec<CallLabel>,
+    fault: &Fault<'_>,
+) -> Result<(), AllocError> {
+    let error = fault.error(alloc)?;
+    let mut text = String::made_from(alloc, &error.label)?;
+    text.try_push_str(" in format string")?;
+    push_primary(labels, bytes_at(&error.span), &text)?;
+    push_second(labels, &error)?;
+    Ok(())
+}
+
+/// Adds the labels of arguments that are not used.
+// ensures { OnOk result (map seen_label labels.new.items ≡ map seen_label labels.old.items
+//     ++ unused_labels (map seen_given given.now) unused.now) }
+#[inline]
+fn push_unused(
+    labels: &mut Vec<CallLabel>,
+    given: &[Given<'_>],
+    unused: &[usize],
+) -> Result<(), AllocError> {
+    let mut rest = unused;
+    while let Some((index, others)) = rest.split_first() {
+        push_primary(labels, Spot::Value(*index), never_used(given, *index))?;
+        rest = others;
+    }
+    Ok(())
+}
+
+/// Returns what is said of a literal that lacks a placeholder.
+// ensures { result.now ≡ single_text }
+#[inline]
+fn single_text() -> &'static str {
+    "formatting specifier missing"
+}
+
+/// Adds the labels of an argument that is not used, and that of the literal.
+// ensures { OnOk result (map seen_label labels.new.items ≡ map seen_label labels.old.items
+//     ++ one_unused (map seen_given given.now) index) }
+#[inline]
+fn push_one_unused(
+    labels: &mut Vec<CallLabel>,
+    given: &[Given<'_>],
+    index: usize,
+) -> Result<(), AllocError> {
+    push_primary(labels, Spot::Value(index), never_used(given, index))?;
+    push_secondary(labels, Spot::Literal, single_text())?;
+    Ok(())
+}
+
+/// Returns what is said of a literal that lacks several placeholders.
+// ensures { result.now ≡ several_text }
+#[inline]
+fn several_text() -> &'static str {
+    "multiple missing formatting specifiers"
+}
+
+/// Adds the labels of several arguments that are not used, and that of the literal.
+// ensures { OnOk result (map seen_label labels.new.items ≡ map seen_label labels.old.items
+//     ++ many_unused (map seen_given given.now) unused.now) }
+#[inline]
+fn push_many_unused(
+    labels: &mut Vec<CallLabel>,
+    given: &[Given<'_>],
+    unused: &[usize],
+) -> Result<(), AllocError> {
+    push_secondary(labels, Spot::Literal, several_text())?;
+    push_unused(labels, given, unused)?;
+    Ok(())
+}
+
+/// Adds the labels of arguments that are not used, and that of the literal.
+// ensures { OnOk result (map seen_label labels.new.items ≡ map seen_label labels.old.items
+//     ++ unused_and_literal (map seen_given given.now) unused.now) }
+#[inline]
+fn push_unused_and_literal(
+    labels: &mut Vec<CallLabel>,
+    given: &[Given<'_>],
+    unused: &[usize],
+) -> Result<(), AllocError> {
+    match unused {
+        [index] => push_one_unused(labels, given, *index)?,
+        _ => push_many_unused(labels, given, unused)?,
+    }
+    Ok(())
+}
+
+/// Returns whether an argument is the last one.
+// ensures { result ≡ is_last (map seen_given given.now) index }
+#[inline]
+pub(crate) fn is_last(given: &[Given<'_>], index: usize) -> bool {
+    given.len().saturating_sub(index) == 1
+}
+
+/// Returns whether one of these arguments has a name.
+// ensures { result ≡ have_names (map seen_given given.now) }
+#[inline]
+pub(crate) fn have_names(given: &[Given<'_>]) -> bool {
+    for first in given {
+        if first.name.is_some() {
+            return true;
+        }
+    }
+    false
+}
+
+/// Returns what is said of an argument that is left out.
+// ensures { result.now ≡ removal_text }
+#[inline]
+fn removal_text() -> &'static str {
+    "help: this can be removed"
+}
+
+/// Adds the labels of an argument that is left out, which is not the last one.
+// ensures { OnOk result (map seen_label labels.new.items
+//     ≡ map seen_label labels.old.items ++ removal_up_to_next index) }
+#[inline]
+fn push_removal_up_to_next(labels: &mut Vec<CallLabel>, index: usize) -> Result<(), AllocError> {
+    push_secondary(labels, Spot::ValueUpToNext(index), removal_text())?;
+    push_plain(labels, Spot::Value(index))?;
+    Ok(())
+}
+
+/// Adds the labels of an argument that is left out.
+// ensures { OnOk result (map seen_label labels.new.items ≡ map seen_label labels.old.items
+//     ++ removal_labels (map seen_given given.now) index) }
+#[inline]
+fn push_removal(
+    labels: &mut Vec<CallLabel>,
+    given: &[Given<'_>],
+    index: usize,
+) -> Result<(), AllocError> {
+    if is_last(given, index) {
+        push_primary(labels, Spot::Value(index), removal_text())?;
+    } else {
+        push_removal_up_to_next(labels, index)?;
+    }
+    Ok(())
+}
+
+/// Adds labels without a text of the values of redundant arguments.
+// ensures { OnOk result (map seen_label labels.new.items ≡ map seen_label labels.old.items
+//     ++ map (λ i. primary (Value i) []) indices.now) }
+#[inline]
+fn push_bare(labels: &mut Vec<CallLabel>, indices: &[usize]) -> Result<(), AllocError> {
+    let mut rest = indices;
+    while let Some((index, others)) = rest.split_first() {
+        push_plain(labels, Spot::Value(*index))?;
+        rest = others;
+    }
+    Ok(())
+}
+
+/// Adds the labels of redundant arguments.
+// ensures { OnOk result (map seen_label labels.new.items ≡ map seen_label labels.old.items
+//     ++ redundant_labels (map seen_given given.now) redundant.now) }
+#[inline]
+fn push_redundant(
+    labels: &mut Vec<CallLabel>,
+    given: &[Given<'_>],
+    redundant: &[usize],
+) -> Result<(), AllocError> {
+    if let [index] = redundant {
+        if !have_names(given) {
+            return push_removal(labels, given, *index);
+        }
+    }
+    push_bare(labels, redundant)
+}
+
+/// Returns what is said of an argument with a name that is used by its index.
+// ensures { result.now ≡ by_index_text }
+#[inline]
+fn by_index_text() -> &'static str {
+    "this named argument is referred to by position in formatting string"
+}
+
+/// Returns what is said of the use by index of an argument with a name. Returns `Err` if an
+/// allocation fails.
+// ensures { IfOk result (λ s. string_bytes s ≡ use_text (chars name.now)) }
+#[inline]
+fn use_text(alloc: Global, name: &str) -> Result<String, AllocError> {
+    let mut text = String::made_in(alloc);
+    let before = "this formatting argument uses named argument ";
+    put_name_between(&mut text, before, name, " by position")?;
+    Ok(text)
+}
+
+/// Adds the labels of the use by index of an argument with a name.
+// ensures { OnOk result (map seen_label labels.new.items ≡ map seen_label labels.old.items
+//     ++ by_index_labels (seen_call call.now) reference index) }
+#[inline]
+fn push_by_index(
+    labels: &mut Vec<CallLabel>,
+    call: &Checked<'_>,
+    reference: Reference,
+    index: usize,
+) -> Result<(), AllocError> {
+    let text = use_text(*labels.own_allocator(), name_of(call.given, index))?;
+    let spot = use_spot(&call.pieces, call.parser.arg_places(), reference);
+    push_primary(labels, Spot::Name(index), by_index_text())?;
+    push_secondary(labels, spot, &text)?;
+    Ok(())
+}
+
+impl<'a> Checked<'a> {
+    /// Returns the labels of one of the faults, as rustc has them. The primary label that begins
+    /// first in the source is where rustc says that the fault is. A fault of the string has the
+    /// labels of its error. Returns `Err` if an allocation fails.
+    // ensures { IfOk result (λ v. map seen_label v.items
+    //     ≡ labels (seen_call self.now) (seen_fault fault.now)) }
+    #[inline]
+    pub fn labels(
+        &self,
+        alloc: Global,
+        fault: &CallFault<'a>,
+    ) -> Result<Vec<CallLabel>, AllocError> {
+        let mut labels = Vec::made_in(alloc);
+        match fault {
+            CallFault::PositionalAfterNamed { index, named } => {
+                let text = "positional arguments must be before named arguments";
+                push_primary(&mut labels, Spot::Argument(*index), text)?;
+                push_named(&mut labels, named)?;
+            }
+            CallFault::RepeatedName { index, first } => {
+                push_secondary(&mut labels, Spot::Name(*first), "previously here")?;
+                push_primary(&mut labels, Spot::Name(*index), "duplicate argument")?;
+            }
+            CallFault::Text(fault) => push_text(alloc, &mut labels, fault)?,
+            CallFault::MissingName { reference, .. } => {
+                push_plain(&mut labels, named_spot(&self.pieces, *reference))?;
+            }
+            CallFault::UnknownTrait { piece, .. } => {
+                push_plain(&mut labels, type_spot(&self.pieces, *piece))?;
+            }
+            CallFault::MissingArguments(missing) => {
+                if !have_numbers(&self.pieces) {
+                    return few_labels(alloc, self);
+                }
+                push_missing(&mut labels, &self.pieces, missing)?;
+            }
+            CallFault::UnusedArguments(unused) => {
+                push_unused_and_literal(&mut labels, self.given, unused)?;
+            }
+            CallFault::RedundantArguments(redundant) => {
+                push_redundant(&mut labels, self.given, redundant)?;
+            }
+            CallFault::NameUsedByIndex { reference, index } => {
+                push_by_index(&mut labels, self, *reference, *index)?;
+            }
+        }
+        Ok(labels)
+    }
+}

@@ -1,0 +1,180 @@
+//! The labels of missing arguments. What begins with `push_` adds to the end of `labels`, and
+//! returns `Err` if an allocation fails.
+
+// Extracted from crates/call_faults/src/missing_labels.rt by tools/extract: not to be edited.
+// That source is proved, and each contract here is its. That this text means the same is tested:
+// by results from outside, and beside what is proved (.ci/bindings) and the original (tools/agree).
+
+use crate::proved::call_faults::checker::Checked;
+use crate::proved::call_faults::faults::Missing;
+use crate::proved::call_faults::spots::{
+    behind, first_spot, push_plain, push_secondary, reference_spot, spot_of, CallLabel, Spot,
+};
+use crate::proved::call_faults::titles::put_number;
+use crate::proved::rustc_parse_format::{Count, Piece, Position};
+use crate::shim::alloc::{AllocError, Global};
+use crate::shim::prelude::*;
+use std::ops::Range;
+
+/// Adds the labels of references by an index that is too large.
+// ensures { OnOk result (map seen_label labels.new.items ≡ map seen_label labels.old.items
+//     ++ map (λ m. primary (reference_spot (map seen pieces.now) m.reference) []) missing.now) }
+#[inline]
+pub(crate) fn push_missing(
+    labels: &mut Vec<CallLabel>,
+    pieces: &[Piece<'_>],
+    missing: &[Missing],
+) -> Result<(), AllocError> {
+    let mut rest = missing;
+    while let Some((first, others)) = rest.split_first() {
+        push_plain(labels, reference_spot(pieces, first.reference))?;
+        rest = others;
+    }
+    Ok(())
+}
+
+/// Returns the index of the argument that a precision takes by `*`, or `None` if it takes none.
+// ensures { result ≡ star_of (seen_count count.now) }
+#[inline]
+pub(crate) fn star_of(count: &Count<'_>) -> Option<usize> {
+    match count {
+        Count::CountIsStar(index) => Some(*index),
+        Count::CountIs(_)
+        | Count::CountIsName(..)
+        | Count::CountIsParam(_)
+        | Count::CountImplied => None,
+    }
+}
+
+/// Returns whether a position is the next argument.
+// ensures { result ≡ is_next (seen_position position.now) }
+#[inline]
+fn is_next(position: &Position<'_>) -> bool {
+    matches!(position, Position::ArgumentImplicitlyIs(_))
+}
+
+/// Adds the label of a placeholder that takes the next argument, if the piece is one.
+// ensures { OnOk result (map seen_label labels.new.items ≡ map seen_label labels.old.items
+//     ++ next_label (seen piece.now) (map pair places.now)) }
+#[inline]
+fn push_next(
+    labels: &mut Vec<CallLabel>,
+    piece: &Piece<'_>,
+    places: &[Range<usize>],
+) -> Result<(), AllocError> {
+    let Piece::NextArgument(argument) = piece else {
+        return Ok(());
+    };
+    if is_next(&argument.position) {
+        push_plain(labels, first_spot(places))?;
+    }
+    Ok(())
+}
+
+/// Adds the labels of those of pieces that take the next argument.
+// ensures { OnOk result (map seen_label labels.new.items ≡ map seen_label labels.old.items
+//     ++ next_labels (map seen pieces.now) (map pair places.now)) }
+#[inline]
+fn push_nexts(
+    labels: &mut Vec<CallLabel>,
+    pieces: &[Piece<'_>],
+    places: &[Range<usize>],
+) -> Result<(), AllocError> {
+    let mut left = places;
+    for piece in pieces {
+        push_next(labels, piece, left)?;
+        left = behind(piece, left);
+    }
+    Ok(())
+}
+
+/// Adds labels without a text of the values of arguments.
+// ensures { OnOk result (map seen_label labels.new.items ≡ map seen_label labels.old.items
+//     ++ map (λ i. secondary (Value i) []) indices.now) }
+#[inline]
+fn push_values(labels: &mut Vec<CallLabel>, indices: &[usize]) -> Result<(), AllocError> {
+    let mut rest = indices;
+    while let Some((index, others)) = rest.split_first() {
+        push_secondary(labels, Spot::Value(*index), "")?;
+        rest = others;
+    }
+    Ok(())
+}
+
+/// Adds how many arguments are expected.
+// ensures { OnOk result (string_bytes out.new ≡ string_bytes out.old ++ expected_count count) }
+#[inline]
+fn put_expected(out: &mut String, count: usize) -> Result<(), AllocError> {
+    if count == 1 {
+        out.try_push_str("is 1 argument")?;
+        return Ok(());
+    }
+    out.try_push_str("are ")?;
+    put_number(out, count)?;
+    out.try_push_str(" arguments")?;
+    Ok(())
+}
+
+/// Adds the text of a precision that takes the argument `index` by `*`, where `taken` are taken in
+/// all.
+// ensures { OnOk result (string_bytes out.new ≡ string_bytes out.old ++ star_text index taken) }
+#[inline]
+fn put_star(out: &mut String, index: usize, taken: usize) -> Result<(), AllocError> {
+    out.try_push_str("this precision flag adds an extra required argument at position ")?;
+    put_number(out, index)?;
+    out.try_push_str(", which is why there ")?;
+    put_expected(out, taken)?;
+    out.try_push_str(" expected")?;
+    Ok(())
+}
+
+/// Adds the label of a precision that takes an argument by `*`, if the piece has one.
+// ensures { OnOk result (map seen_label labels.new.items ≡ map seen_label labels.old.items
+//     ++ star_label taken (seen piece.now)) }
+#[inline]
+fn push_star(
+    labels: &mut Vec<CallLabel>,
+    taken: usize,
+    piece: &Piece<'_>,
+) -> Result<(), AllocError> {
+    let Piece::NextArgument(argument) = piece else {
+        return Ok(());
+    };
+    let Some(index) = star_of(&argument.format.precision) else {
+        return Ok(());
+    };
+    let mut text = String::made_in(*labels.own_allocator());
+    put_star(&mut text, index, taken)?;
+    labels.try_push(CallLabel {
+        spot: spot_of(&argument.format.precision_span),
+        is_primary: !is_next(&argument.position),
+        text,
+    })?;
+    Ok(())
+}
+
+/// Adds the labels of the precisions of pieces that take arguments by `*`.
+// ensures { OnOk result (map seen_label labels.new.items ≡ map seen_label labels.old.items
+//     ++ star_labels taken (map seen pieces.now)) }
+#[inline]
+fn push_stars(
+    labels: &mut Vec<CallLabel>,
+    taken: usize,
+    pieces: &[Piece<'_>],
+) -> Result<(), AllocError> {
+    for piece in pieces {
+        push_star(labels, taken, piece)?;
+    }
+    Ok(())
+}
+
+/// Returns the labels of too few arguments, where none is referred to by a number that is written.
+// ensures { IfOk result (λ v. map seen_label v.items ≡ few_labels (seen_call call.now)) }
+#[inline]
+pub(crate) fn few_labels(alloc: Global, call: &Checked<'_>) -> Result<Vec<CallLabel>, AllocError> {
+    let mut labels = Vec::made_in(alloc);
+    push_values(&mut labels, &call.kept)?;
+    push_stars(&mut labels, call.parser.curarg(), &call.pieces)?;
+    push_nexts(&mut labels, &call.pieces, call.parser.arg_places())?;
+    Ok(labels)
+}

@@ -1,0 +1,306 @@
+//! The places of a call that something is said of, and what is said of them, as plain data.
+
+// Extracted from crates/call_faults/src/spots.rt by tools/extract: not to be edited.
+// That source is proved, and each contract here is its. That this text means the same is tested:
+// by results from outside, and beside what is proved (.ci/bindings) and the original (tools/agree).
+
+use crate::proved::call_faults::faults::{Part, Reference};
+use crate::proved::rustc_parse_format::{Argument, Count, Piece};
+use crate::shim::alloc::AllocError;
+use crate::shim::prelude::*;
+use std::ops::Range;
+
+/// A place in the source of a call, which is a byte range there. An argument is named by its index
+/// among all that are given.
+#[derive(Clone, Copy, Debug, PartialEq)]
+pub enum Spot {
+    /// An argument, from its name on if it has one.
+    Argument(usize),
+    /// The name of an argument, as it is written.
+    Name(usize),
+    /// The value of an argument: its expression.
+    Value(usize),
+    /// The value of an argument, and what is behind it up to the value of the next one.
+    ValueUpToNext(usize),
+    /// The literal of the format string.
+    Literal,
+    /// The empty range in front of the closing quote of that literal.
+    LiteralEnd,
+    /// These bytes of that literal, as the spans of the parser count them.
+    Bytes {
+        /// The offset of the first byte.
+        start: usize,
+        /// The offset behind the last byte.
+        end: usize,
+    },
+}
+
+/// A label under the source of a call.
+#[derive(Debug, PartialEq)]
+pub struct CallLabel {
+    /// Where it is.
+    pub spot: Spot,
+    /// Whether the fault is about this place: it has the sign `^`, and the others have `-`.
+    pub is_primary: bool,
+    /// Its text, in rustc's words, or an empty one.
+    pub text: String,
+}
+
+/// A note of a fault.
+#[derive(Debug, PartialEq)]
+pub struct CallNote {
+    /// Its text, in rustc's words, which may have several lines.
+    pub text: String,
+    /// The places that it shows. A note without any is a row under the labels, and one with some
+    /// has a drawing of its own.
+    pub spots: Vec<Spot>,
+}
+
+/// A text that a help puts in the place of another one.
+#[derive(Debug, PartialEq)]
+pub struct CallEdit {
+    /// Where the other text is. That range is empty where text is only inserted.
+    pub spot: Spot,
+    /// The new text, which is empty where text is only removed.
+    pub text: String,
+}
+
+/// A help of a fault.
+#[derive(Debug, PartialEq)]
+pub struct CallHelp {
+    /// What to do, in rustc's words.
+    pub text: String,
+    /// The edits that do it, in the order of the source.
+    pub edits: Vec<CallEdit>,
+}
+
+/// Adds a label of a place that the fault is about.
+// ensures { OnOk result (map seen_label labels.new.items
+//     ≡ map seen_label labels.old.items ++ primary spot text.now ∷ []) }
+#[inline]
+pub(crate) fn push_primary(
+    labels: &mut Vec<CallLabel>,
+    spot: Spot,
+    text: &str,
+) -> Result<(), AllocError> {
+    let text = String::made_from(*labels.own_allocator(), text)?;
+    labels.try_push(CallLabel {
+        spot,
+        is_primary: true,
+        text,
+    })?;
+    Ok(())
+}
+
+/// Adds a label without a text of a place that the fault is about.
+// ensures { OnOk result (map seen_label labels.new.items
+//     ≡ map seen_label labels.old.items ++ primary spot [] ∷ []) }
+#[inline]
+pub(crate) fn push_plain(labels: &mut Vec<CallLabel>, spot: Spot) -> Result<(), AllocError> {
+    push_primary(labels, spot, "")?;
+    Ok(())
+}
+
+/// Adds a label of another place.
+// ensures { OnOk result (map seen_label labels.new.items
+//     ≡ map seen_label labels.old.items ++ secondary spot text.now ∷ []) }
+#[inline]
+pub(crate) fn push_secondary(
+    labels: &mut Vec<CallLabel>,
+    spot: Spot,
+    text: &str,
+) -> Result<(), AllocError> {
+    let text = String::made_from(*labels.own_allocator(), text)?;
+    labels.try_push(CallLabel {
+        spot,
+        is_primary: false,
+        text,
+    })?;
+    Ok(())
+}
+
+/// Returns a range of the literal.
+// ensures { result ≡ bytes_at (pair span.now) }
+#[inline]
+pub(crate) fn bytes_at(span: &Range<usize>) -> Spot {
+    Spot::Bytes {
+        start: span.start,
+        end: span.end,
+    }
+}
+
+/// Returns a range of the literal, or the whole literal if there is none.
+// ensures { result ≡ spot_of (option_map pair span.now) }
+#[inline]
+pub(crate) fn spot_of(span: &Option<Range<usize>>) -> Spot {
+    match span {
+        None => Spot::Literal,
+        Some(span) => bytes_at(span),
+    }
+}
+
+/// Returns the placeholder with an index among pieces, or `None` if that is text or behind the end.
+// ensures { option_map (λ a. seen_argument a.now) result
+//     ≡ placeholder_at (map seen pieces.now) index }
+#[inline]
+fn placeholder_at<'p, 'a>(pieces: &'p [Piece<'a>], index: usize) -> Option<&'p Argument<'a>> {
+    match pieces.get(index) {
+        Some(Piece::NextArgument(argument)) => Some(argument),
+        Some(Piece::Lit(_)) | None => None,
+    }
+}
+
+/// Returns where a part of a placeholder is.
+// ensures { result ≡ part_spot part (seen_argument argument.now) }
+#[inline]
+fn part_spot(argument: &Argument<'_>, part: Part) -> Spot {
+    match part {
+        Part::Position => bytes_at(&argument.position_span),
+        Part::Precision => spot_of(&argument.format.precision_span),
+        Part::Width => spot_of(&argument.format.width_span),
+    }
+}
+
+/// Returns where a reference is.
+// ensures { result ≡ reference_spot (map seen pieces.now) reference }
+#[inline]
+pub(crate) fn reference_spot(pieces: &[Piece<'_>], reference: Reference) -> Spot {
+    match placeholder_at(pieces, reference.piece) {
+        None => Spot::Literal,
+        Some(argument) => part_spot(argument, reference.part),
+    }
+}
+
+/// Returns where the name of a width or a precision is.
+// ensures { result ≡ count_spot (seen_count count.now) }
+#[inline]
+fn count_spot(count: &Count<'_>) -> Spot {
+    match count {
+        Count::CountIsName(_, span) => bytes_at(span),
+        Count::CountIs(_)
+        | Count::CountIsParam(_)
+        | Count::CountIsStar(_)
+        | Count::CountImplied => Spot::Literal,
+    }
+}
+
+/// Returns where the name in a part of a placeholder is.
+// ensures { result ≡ name_spot part (seen_argument argument.now) }
+#[inline]
+fn name_spot(argument: &Argument<'_>, part: Part) -> Spot {
+    match part {
+        Part::Position => bytes_at(&argument.position_span),
+        Part::Precision => count_spot(&argument.format.precision),
+        Part::Width => count_spot(&argument.format.width),
+    }
+}
+
+/// Returns where the name of a reference is.
+// ensures { result ≡ named_spot (map seen pieces.now) reference }
+#[inline]
+pub(crate) fn named_spot(pieces: &[Piece<'_>], reference: Reference) -> Spot {
+    match placeholder_at(pieces, reference.piece) {
+        None => Spot::Literal,
+        Some(argument) => name_spot(argument, reference.part),
+    }
+}
+
+/// Returns where the type of the placeholder with an index is.
+// ensures { result ≡ type_spot (map seen pieces.now) index }
+#[inline]
+pub(crate) fn type_spot(pieces: &[Piece<'_>], index: usize) -> Spot {
+    match placeholder_at(pieces, index) {
+        None => Spot::Literal,
+        Some(argument) => spot_of(&argument.format.ty_span),
+    }
+}
+
+/// Returns the places of the placeholders behind a piece, from those from that piece on.
+// ensures { map pair result.now ≡ behind (seen piece.now) (map pair places.now) }
+#[inline]
+pub(crate) fn behind<'p>(piece: &Piece<'_>, places: &'p [Range<usize>]) -> &'p [Range<usize>] {
+    match piece {
+        Piece::Lit(_) => places,
+        Piece::NextArgument(_) => match places {
+            [] => places,
+            [_, others @ ..] => others,
+        },
+    }
+}
+
+/// Returns the places of the placeholders behind pieces, from those from the first of them on.
+// ensures { map pair result.now ≡ behind_all (map seen pieces.now) (map pair places.now) }
+#[inline]
+fn behind_all<'p>(pieces: &[Piece<'_>], places: &'p [Range<usize>]) -> &'p [Range<usize>] {
+    let mut left = places;
+    for piece in pieces {
+        left = behind(piece, left);
+    }
+    left
+}
+
+/// Returns the first one of places, or the whole literal if there is none.
+// ensures { result ≡ spot_of (slice_get (map pair places.now) 0) }
+#[inline]
+pub(crate) fn first_spot(places: &[Range<usize>]) -> Spot {
+    match places.first() {
+        None => Spot::Literal,
+        Some(place) => bytes_at(place),
+    }
+}
+
+/// Returns the place of the placeholder with an index among pieces, or the whole literal if it has
+/// none.
+// ensures { result ≡ spot_of (place_of (map seen pieces.now) (map pair places.now) index) }
+#[inline]
+fn place_spot(pieces: &[Piece<'_>], places: &[Range<usize>], index: usize) -> Spot {
+    let front = &pieces[..index.min(pieces.len())];
+    first_spot(behind_all(front, places))
+}
+
+/// Returns a range without its first byte, which is the dot of a precision.
+// ensures { result ≡ behind_dot (option_map pair span.now) }
+#[inline]
+fn behind_dot(span: &Option<Range<usize>>) -> Spot {
+    match span {
+        None => Spot::Literal,
+        Some(span) => Spot::Bytes {
+            start: span.start.saturating_add(1).min(span.end),
+            end: span.end,
+        },
+    }
+}
+
+/// Returns where a use by index is shown: the whole placeholder, or the width or the precision
+/// without its dot.
+// ensures { result ≡ use_spot (map seen pieces.now) (map pair places.now) reference }
+#[inline]
+pub(crate) fn use_spot(
+    pieces: &[Piece<'_>],
+    places: &[Range<usize>],
+    reference: Reference,
+) -> Spot {
+    match placeholder_at(pieces, reference.piece) {
+        None => Spot::Literal,
+        Some(argument) => match reference.part {
+            Part::Position => place_spot(pieces, places, reference.piece),
+            Part::Precision => behind_dot(&argument.format.precision_span),
+            Part::Width => spot_of(&argument.format.width_span),
+        },
+    }
+}
+
+/// Returns where a reference has the index of its argument: its position, or its width or its
+/// precision without its dot.
+// ensures { result ≡ index_spot (map seen pieces.now) reference }
+#[inline]
+pub(crate) fn index_spot(pieces: &[Piece<'_>], reference: Reference) -> Spot {
+    match placeholder_at(pieces, reference.piece) {
+        None => Spot::Literal,
+        Some(argument) => match reference.part {
+            Part::Position => bytes_at(&argument.position_span),
+            Part::Precision => behind_dot(&argument.format.precision_span),
+            Part::Width => spot_of(&argument.format.width_span),
+        },
+    }
+}

@@ -1,0 +1,191 @@
+//! The drawing of a diagnostic under its source: a title, several labels, notes and helps. What
+//! begins with `put_` appends to `out`, and returns `Err` if an allocation fails.
+
+// Extracted from crates/drawn_faults/src/diagnostics.rt by tools/extract: not to be edited.
+// That source is proved, and each contract here is its. That this text means the same is tested:
+// by results from outside, and beside what is proved (.ci/bindings) and the original (tools/agree).
+
+use crate::proved::drawn_faults::helps::{last_help_line, put_helps, SourceHelp};
+use crate::proved::drawn_faults::labels::{digits, Frame, Label};
+use crate::proved::drawn_faults::marked::{frame_of, last_label_line};
+use crate::proved::drawn_faults::notes::{last_note_line, put_notes, put_titled, SourceNote};
+use crate::proved::drawn_faults::places::Picture;
+use crate::proved::drawn_faults::suggestions::put_parting;
+use crate::shim::alloc::{AllocError, Global};
+use crate::shim::prelude::*;
+use std::ops::Range;
+
+/// The severity of a diagnostic.
+#[derive(Clone, Copy, Debug, Eq, PartialEq)]
+pub enum Level {
+    /// The source does not compile.
+    Error,
+    /// The source compiles, but may not do what is meant.
+    Warning,
+}
+
+/// A label of a range of the source.
+#[derive(Clone, Debug, Eq, PartialEq)]
+pub struct SourceLabel<'a> {
+    /// The range.
+    pub span: Range<usize>,
+    /// Whether the diagnostic is about this range: its sign is `^`, and that of the others `-`.
+    pub is_primary: bool,
+    /// Its text, which may be empty.
+    pub text: &'a str,
+}
+
+/// A diagnostic that is drawn under its source.
+#[derive(Clone, Copy, Debug)]
+pub struct Diagnostic<'a> {
+    /// The severity: an error or a warning.
+    pub level: Level,
+    /// The message, which is drawn first.
+    pub title: &'a str,
+    /// The labels, in any order.
+    pub labels: &'a [SourceLabel<'a>],
+    /// The notes.
+    pub notes: &'a [SourceNote<'a>],
+    /// The helps.
+    pub helps: &'a [SourceHelp<'a>],
+}
+
+/// Returns a label with its place in the source.
+// requires { length picture.now.source.now < 2 ^ 59 }
+// ensures { seen_label result
+//     ≡ label_of (seen_picture picture.now) (seen_source_label label.now) }
+#[inline]
+fn label_of<'a>(picture: &Picture<'_>, label: &SourceLabel<'a>) -> Label<'a> {
+    Label {
+        sign: if label.is_primary { '^' } else { '-' },
+        text: label.text,
+        extent: picture.extent(&label.span),
+    }
+}
+
+/// Returns labels with their places in the source. Returns `Err` if an allocation fails.
+// requires { length picture.now.source.now < 2 ^ 59 }
+// ensures { IfOk result (λ v. map seen_label v.items
+//     ≡ map (label_of (seen_picture picture.now)) (map seen_source_label labels.now)) }
+#[inline]
+fn labels_of<'a>(
+    alloc: Global,
+    picture: &Picture<'_>,
+    labels: &[SourceLabel<'a>],
+) -> Result<Vec<Label<'a>>, AllocError> {
+    let mut list = Vec::made_in(alloc);
+    for label in labels {
+        list.try_push(label_of(picture, label))?;
+    }
+    Ok(list)
+}
+
+/// Returns the columns of the numbers of the lines of a diagnostic with these labels. Returns `Err`
+/// if an allocation fails.
+// requires source { length picture.now.source.now < 2 ^ 59 }
+// requires labels { map seen_label labels.now ≡ map (label_of (seen_picture picture.now))
+//     (seen_diagnostic diagnostic.now).labels }
+// ensures { IfOk result (λ n. n
+//     ≡ gutter_of (seen_picture picture.now) (seen_diagnostic diagnostic.now)) }
+#[inline]
+fn gutter_of(
+    alloc: Global,
+    picture: &Picture<'_>,
+    diagnostic: &Diagnostic<'_>,
+    labels: &[Label<'_>],
+) -> Result<usize, AllocError> {
+    let last = last_label_line(0, labels);
+    let last = last_note_line(alloc, picture, last, diagnostic.notes)?;
+    let last = last_help_line(alloc, picture, last, diagnostic.helps)?;
+    Ok(digits(picture.line_start as usize + last))
+}
+
+/// Adds the row between the labels and what is below them, if there is anything.
+// ensures { OnOk result (string_bytes out.new ≡ string_bytes out.old
+//     ++ parting_above (seen_frame frame.now) (seen_diagnostic diagnostic.now)) }
+#[inline]
+fn put_parting_above(
+    out: &mut String,
+    frame: &Frame<'_>,
+    diagnostic: &Diagnostic<'_>,
+) -> Result<(), AllocError> {
+    if diagnostic.notes.is_empty() && diagnostic.helps.is_empty() {
+        return Ok(());
+    }
+    put_parting(out, frame)?;
+    Ok(())
+}
+
+/// Returns the word that a title begins with.
+// ensures { result.now ≡ level_word (is_warning level) }
+#[inline]
+fn level_word(level: Level) -> &'static str {
+    match level {
+        Level::Error => "error: ",
+        Level::Warning => "warning: ",
+    }
+}
+
+/// Adds the drawing of a diagnostic with these labels in a layout.
+// requires source { length frame.now.picture.now.source.now < 2 ^ 59 }
+// requires cut { frame.now.cut < 2 ^ 62 }
+// ensures { OnOk result (string_bytes out.new ≡ string_bytes out.old
+//     ++ drawn_in (seen_frame frame.now) (seen_diagnostic diagnostic.now)
+//     (map seen_label labels.now)) }
+#[inline]
+fn put_drawn(
+    out: &mut String,
+    frame: &Frame<'_>,
+    diagnostic: &Diagnostic<'_>,
+    labels: &[Label<'_>],
+) -> Result<(), AllocError> {
+    put_titled(
+        out,
+        frame,
+        level_word(diagnostic.level),
+        diagnostic.title,
+        labels,
+    )?;
+    put_parting_above(out, frame, diagnostic)?;
+    put_notes(out, frame.picture, frame.gutter, diagnostic.notes)?;
+    put_helps(out, frame, diagnostic.helps)?;
+    out.try_push_str("\n")?;
+    Ok(())
+}
+
+/// Adds the drawing of a diagnostic.
+// requires { length picture.now.source.now < 2 ^ 59 }
+// ensures { OnOk result (string_bytes out.new ≡ string_bytes out.old
+//     ++ diagnostic_text (seen_picture picture.now) (seen_diagnostic diagnostic.now)) }
+#[inline]
+fn put_diagnostic(
+    out: &mut String,
+    picture: &Picture<'_>,
+    diagnostic: &Diagnostic<'_>,
+) -> Result<(), AllocError> {
+    let alloc = *out.own_allocator();
+    let labels = labels_of(alloc, picture, diagnostic.labels)?;
+    let gutter = gutter_of(alloc, picture, diagnostic, &labels)?;
+    let frame = frame_of(picture, gutter, &labels);
+    put_drawn(out, &frame, diagnostic, &labels)?;
+    Ok(())
+}
+
+/// Appends the text that [`draw_labels`] returns to `out`. Returns `Err` if an allocation fails, or
+/// if the source has 2^59 bytes or more; a part of the text may then be in `out`.
+// ensures drawn { OnOk result (string_bytes out.new ≡ string_bytes out.old
+//     ++ diagnostic_text (seen_picture picture.now) (seen_diagnostic diagnostic.now)) }
+// ensures harmless { IsHarmless
+//     (diagnostic_text (seen_picture picture.now) (seen_diagnostic diagnostic.now)) }
+#[inline]
+pub fn put_labels(
+    out: &mut String,
+    picture: &Picture<'_>,
+    diagnostic: &Diagnostic<'_>,
+) -> Result<(), AllocError> {
+    if picture.source.len() >= 1 << (usize::BITS - 5) {
+        return crate::shim::alloc::refuse();
+    }
+    put_diagnostic(out, picture, diagnostic)?;
+    Ok(())
+}

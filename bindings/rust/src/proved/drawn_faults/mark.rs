@@ -1,0 +1,20 @@
+//! A label as it is drawn in a line.
+
+// Extracted from crates/drawn_faults/src/mark.rt by tools/extract: not to be edited.
+// That source is proved, and each contract here is its. That this text means the same is tested:
+// by results from outside, and beside what is proved (.ci/bindings) and the original (tools/agree).
+
+/// A label in one line.
+#[derive(Clone, Copy)]
+pub struct Mark<'a> {
+    /// The number of the line, counted from 0.
+    pub line: usize,
+    /// The first column of the label.
+    pub from: usize,
+    /// The first column behind the label.
+    pub to: usize,
+    /// The sign under its columns.
+    pub sign: char,
+    /// Its text.
+    pub text: &'a str,
+}

@@ -1,0 +1,205 @@
+//! The rows under a line with several labels. What begins with `put_` appends to `out` or writes
+//! into a row, and returns `Err` if an allocation fails.
+
+// Extracted from crates/drawn_faults/src/marks.rt by tools/extract: not to be edited.
+// That source is proved, and each contract here is its. That this text means the same is tested:
+// by results from outside, and beside what is proved (.ci/bindings) and the original (tools/agree).
+
+use crate::proved::drawn_faults::cells::{
+    put_after, put_at, put_from, put_run_at, put_written, style_of, Cell,
+};
+use crate::proved::drawn_faults::hanging::{depth, hang, has_text, Hung};
+use crate::proved::drawn_faults::mark::Mark;
+use crate::proved::drawn_faults::order::covered_first;
+use crate::proved::drawn_faults::rows::put_gutter;
+use crate::shim::alloc::{AllocError, Global};
+use crate::shim::prelude::*;
+
+/// Puts the text of a label that stands right of its signs into a row.
+// ensures { OnOk result (row.new.items ≡ with_side_text (seen_hung hung.now) row.old.items) }
+#[inline]
+fn put_side_text(row: &mut Vec<Cell>, hung: &Hung<'_>) -> Result<(), AllocError> {
+    let mark = &hung.mark;
+    if has_text(mark) && hung.down == 0 {
+        put_after(row, mark.to, style_of(mark), mark.text)?;
+    }
+    Ok(())
+}
+
+/// Puts the texts of labels that stand right of their signs into a row.
+// ensures { OnOk result (row.new.items
+//     ≡ side_texts (map seen_hung hung.now) row.old.items) }
+#[inline]
+fn put_side_texts(row: &mut Vec<Cell>, hung: &[Hung<'_>]) -> Result<(), AllocError> {
+    for first in hung {
+        put_side_text(row, first)?;
+    }
+    Ok(())
+}
+
+/// Puts the signs of a label into a row.
+// ensures { OnOk result (row.new.items
+//     ≡ put_from (seen_mark mark.now).from (signs_of (seen_mark mark.now)) row.old.items) }
+#[inline]
+fn put_signs_of(row: &mut Vec<Cell>, mark: &Mark<'_>) -> Result<(), AllocError> {
+    let style = style_of(mark);
+    let character = mark.sign;
+    let columns = mark.to.saturating_sub(mark.from);
+    put_run_at(row, mark.from, columns, Cell { character, style })?;
+    Ok(())
+}
+
+/// Puts the signs of labels into a row, each over those before it.
+// ensures { OnOk result (row.new.items
+//     ≡ with_signs (map seen_mark marks.now) row.old.items) }
+#[inline]
+fn put_signs(row: &mut Vec<Cell>, marks: &[Mark<'_>]) -> Result<(), AllocError> {
+    for mark in marks {
+        put_signs_of(row, mark)?;
+    }
+    Ok(())
+}
+
+/// Returns the row of signs of labels, with the texts right of them. Returns `Err` if an allocation
+/// fails.
+// ensures { IfOk result (λ v. v.items
+//     ≡ sign_row (map seen_mark marks.now) (map seen_hung hung.now)) }
+#[inline]
+fn sign_row(alloc: Global, marks: &[Mark<'_>], hung: &[Hung<'_>]) -> Result<Vec<Cell>, AllocError> {
+    let mut row = Vec::made_in(alloc);
+    put_side_texts(&mut row, hung)?;
+    let covered = covered_first(alloc, marks)?;
+    put_signs(&mut row, &covered)?;
+    Ok(row)
+}
+
+/// Puts the bar of a label that hangs more than `n` rows down into a row.
+// ensures { OnOk result (row.new.items ≡ with_bar n (seen_hung hung.now) row.old.items) }
+#[inline]
+fn put_bar(row: &mut Vec<Cell>, n: usize, hung: &Hung<'_>) -> Result<(), AllocError> {
+    if has_text(&hung.mark) && n < hung.down {
+        let style = style_of(&hung.mark);
+        let character = '|';
+        put_at(row, hung.mark.from, Cell { character, style })?;
+    }
+    Ok(())
+}
+
+/// Puts the bars of labels into the row with `n` rows between it and the signs.
+// ensures { OnOk result (row.new.items ≡ bars n (map seen_hung hung.now) row.old.items) }
+#[inline]
+fn put_bars(row: &mut Vec<Cell>, n: usize, hung: &[Hung<'_>]) -> Result<(), AllocError> {
+    for first in hung {
+        put_bar(row, n, first)?;
+    }
+    Ok(())
+}
+
+/// Puts the text of a label that hangs `n` rows down into a row.
+// ensures { OnOk result (row.new.items ≡ with_hung_text n (seen_hung hung.now) row.old.items) }
+#[inline]
+fn put_hung_text(row: &mut Vec<Cell>, n: usize, hung: &Hung<'_>) -> Result<(), AllocError> {
+    let mark = &hung.mark;
+    if has_text(mark) && hung.down > 0 && n == hung.down {
+        put_from(row, mark.from, style_of(mark), mark.text)?;
+    }
+    Ok(())
+}
+
+/// Puts the texts of labels that hang `n` rows down into a row.
+// ensures { OnOk result (row.new.items ≡ hung_texts n (map seen_hung hung.now) row.old.items) }
+#[inline]
+fn put_hung_texts(row: &mut Vec<Cell>, n: usize, hung: &[Hung<'_>]) -> Result<(), AllocError> {
+    for first in hung {
+        put_hung_text(row, n, first)?;
+    }
+    Ok(())
+}
+
+/// Returns the row with `n` rows between it and the signs. Returns `Err` if an allocation fails.
+// ensures { IfOk result (λ v. v.items ≡ hung_row n (map seen_hung hung.now)) }
+#[inline]
+fn hung_row(alloc: Global, n: usize, hung: &[Hung<'_>]) -> Result<Vec<Cell>, AllocError> {
+    let mut row = Vec::made_in(alloc);
+    put_bars(&mut row, n, hung)?;
+    put_hung_texts(&mut row, n, hung)?;
+    Ok(row)
+}
+
+/// Adds a row under a line.
+// ensures { OnOk result (string_bytes out.new
+//     ≡ string_bytes out.old ++ under gutter (written row.now)) }
+#[inline]
+fn put_row(out: &mut String, gutter: usize, row: &[Cell]) -> Result<(), AllocError> {
+    put_gutter(out, gutter)?;
+    put_written(out, row)?;
+    out.try_push_str("\n")?;
+    Ok(())
+}
+
+/// Adds so many rows below the signs.
+// ensures { OnOk result (string_bytes out.new
+//     ≡ string_bytes out.old ++ hung_rows gutter count (map seen_hung hung.now)) }
+#[inline]
+fn put_hung_rows(
+    out: &mut String,
+    gutter: usize,
+    count: usize,
+    hung: &[Hung<'_>],
+) -> Result<(), AllocError> {
+    let alloc = *out.own_allocator();
+    for above in 0..count {
+        let row = hung_row(alloc, above, hung)?;
+        put_row(out, gutter, &row)?;
+    }
+    Ok(())
+}
+
+/// Adds the rows below the signs, of labels that hang as far down as `most`.
+// ensures { OnOk result (string_bytes out.new
+//     ≡ string_bytes out.old ++ rows_below gutter most (map seen_hung hung.now)) }
+#[inline]
+fn put_rows_below(
+    out: &mut String,
+    gutter: usize,
+    most: usize,
+    hung: &[Hung<'_>],
+) -> Result<(), AllocError> {
+    if most == 0 {
+        return Ok(());
+    }
+    put_hung_rows(out, gutter, most, hung)?;
+    let row = hung_row(*out.own_allocator(), most, hung)?;
+    put_row(out, gutter, &row)?;
+    Ok(())
+}
+
+/// Adds the rows of hung labels.
+// ensures { OnOk result (string_bytes out.new ≡ string_bytes out.old
+//     ++ rows_of gutter (map seen_mark marks.now) (map seen_hung hung.now)) }
+#[inline]
+fn put_rows_of(
+    out: &mut String,
+    gutter: usize,
+    marks: &[Mark<'_>],
+    hung: &[Hung<'_>],
+) -> Result<(), AllocError> {
+    let row = sign_row(*out.own_allocator(), marks, hung)?;
+    put_row(out, gutter, &row)?;
+    put_rows_below(out, gutter, depth(hung), hung)?;
+    Ok(())
+}
+
+/// Adds the rows under a line, of labels in it from right to left.
+// ensures { OnOk result (string_bytes out.new ≡ string_bytes out.old
+//     ++ mark_rows gutter (map seen_mark marks.now)) }
+#[inline]
+pub fn put_mark_rows(
+    out: &mut String,
+    gutter: usize,
+    marks: &[Mark<'_>],
+) -> Result<(), AllocError> {
+    let hung = hang(*out.own_allocator(), marks)?;
+    put_rows_of(out, gutter, marks, &hung)?;
+    Ok(())
+}

@@ -1,0 +1,167 @@
+//! Notes of a diagnostic, and labels under a title. What begins with `put_` appends to `out`, and
+//! returns `Err` if an allocation fails.
+
+// Extracted from crates/drawn_faults/src/notes.rt by tools/extract: not to be edited.
+// That source is proved, and each contract here is its. That this text means the same is tested:
+// by results from outside, and beside what is proved (.ci/bindings) and the original (tools/agree).
+
+use crate::proved::drawn_faults::drawing::put_arrow;
+use crate::proved::drawn_faults::glyphs::{
+    glyph, glyph_count, put_glyphs_between, put_run, split_first,
+};
+use crate::proved::drawn_faults::labels::{Frame, Label};
+use crate::proved::drawn_faults::marked::{first_spot, frame_of, last_label_line, put_labels_rows};
+use crate::proved::drawn_faults::places::Picture;
+use crate::proved::drawn_faults::suggestions::put_parting;
+use crate::shim::alloc::{AllocError, Global};
+use crate::shim::prelude::*;
+use std::ops::Range;
+
+/// A note of a diagnostic.
+#[derive(Clone, Copy, Debug)]
+pub struct SourceNote<'a> {
+    /// Its text, of one or more lines.
+    pub text: &'a str,
+    /// The ranges of the source that it shows. A note without any is a row.
+    pub spans: &'a [Range<usize>],
+}
+
+/// Returns labels of ranges that a note shows. Returns `Err` if an allocation fails.
+// requires { length picture.now.source.now < 2 ^ 59 }
+// ensures { IfOk result (λ v. map seen_label v.items
+//     ≡ map (shown_label (seen_picture picture.now)) (map pair spans.now)) }
+#[inline]
+fn shown_labels(
+    alloc: Global,
+    picture: &Picture<'_>,
+    spans: &[Range<usize>],
+) -> Result<Vec<Label<'static>>, AllocError> {
+    let mut list = Vec::made_in(alloc);
+    for span in spans {
+        list.try_push(Label {
+            sign: '^',
+            text: "",
+            extent: picture.extent(span),
+        })?;
+    }
+    Ok(list)
+}
+
+/// Returns the last line that notes show, or `last` if that is further down. Returns `Err` if an
+/// allocation fails.
+// requires source { length picture.now.source.now < 2 ^ 59 }
+// requires small { last < 2 ^ 59 }
+// ensures value { IfOk result (λ n. n
+//     ≡ last_note_line (seen_picture picture.now) last (map seen_note notes.now)) }
+// ensures small { IfOk result (λ n. n < 2 ^ 59) }
+#[inline]
+pub fn last_note_line(
+    alloc: Global,
+    picture: &Picture<'_>,
+    last: usize,
+    notes: &[SourceNote<'_>],
+) -> Result<usize, AllocError> {
+    let mut line = last;
+    for note in notes {
+        let labels = shown_labels(alloc, picture, note.spans)?;
+        line = last_label_line(line, &labels);
+    }
+    Ok(line)
+}
+
+/// Adds a title, and labels under it.
+// requires { frame.now.cut < 2 ^ 62 }
+// ensures { OnOk result (string_bytes out.new ≡ string_bytes out.old
+//     ++ titled (seen_frame frame.now) start.now title.now (map seen_label labels.now)) }
+#[inline]
+pub fn put_titled(
+    out: &mut String,
+    frame: &Frame<'_>,
+    start: &str,
+    title: &str,
+    labels: &[Label<'_>],
+) -> Result<(), AllocError> {
+    put_glyphs_between(out, start, title, "\n")?;
+    put_arrow(out, frame, first_spot(labels))?;
+    put_parting(out, frame)?;
+    put_labels_rows(out, frame, labels)?;
+    Ok(())
+}
+
+/// Adds what is after a character of a note: after a line feed the margin of the next line.
+// ensures { OnOk result (string_bytes out.new ≡ string_bytes out.old ++ margin gutter c) }
+#[inline]
+fn put_margin(out: &mut String, gutter: usize, c: char) -> Result<(), AllocError> {
+    if c == '\n' {
+        put_run(out, ' ', gutter)?;
+        out.try_push_str("         ")?;
+    }
+    Ok(())
+}
+
+/// Adds a text whose lines but the first one begin with a margin.
+// ensures { OnOk result (string_bytes out.new
+//     ≡ string_bytes out.old ++ indented gutter (chars text.now)) }
+#[inline]
+fn put_indented(out: &mut String, gutter: usize, text: &str) -> Result<(), AllocError> {
+    let mut rest = text;
+    while let Some((c, tail)) = split_first(rest) {
+        put_run(out, glyph(c), glyph_count(c))?;
+        put_margin(out, gutter, c)?;
+        rest = tail;
+    }
+    Ok(())
+}
+
+/// Adds a note that shows nothing.
+// ensures { OnOk result (string_bytes out.new
+//     ≡ string_bytes out.old ++ plain_note gutter text.now) }
+#[inline]
+fn put_plain_note(out: &mut String, gutter: usize, text: &str) -> Result<(), AllocError> {
+    put_run(out, ' ', gutter)?;
+    out.try_push_str(" = note: ")?;
+    put_indented(out, gutter, text)?;
+    out.try_push_str("\n")?;
+    Ok(())
+}
+
+/// Adds a note with labels for what it shows.
+// requires { length picture.now.source.now < 2 ^ 59 }
+// ensures { OnOk result (string_bytes out.new ≡ string_bytes out.old
+//     ++ shown_note (seen_picture picture.now) gutter text.now (map seen_label labels.now)) }
+#[inline]
+fn put_shown_note(
+    out: &mut String,
+    picture: &Picture<'_>,
+    gutter: usize,
+    text: &str,
+    labels: &[Label<'_>],
+) -> Result<(), AllocError> {
+    match labels {
+        [] => put_plain_note(out, gutter, text)?,
+        _ => {
+            let frame = frame_of(picture, gutter, labels);
+            put_titled(out, &frame, "note: ", text, labels)?;
+        }
+    }
+    Ok(())
+}
+
+/// Adds notes.
+// requires { length picture.now.source.now < 2 ^ 59 }
+// ensures { OnOk result (string_bytes out.new ≡ string_bytes out.old
+//     ++ notes_rows (seen_picture picture.now) gutter (map seen_note notes.now)) }
+#[inline]
+pub fn put_notes(
+    out: &mut String,
+    picture: &Picture<'_>,
+    gutter: usize,
+    notes: &[SourceNote<'_>],
+) -> Result<(), AllocError> {
+    let alloc = *out.own_allocator();
+    for note in notes {
+        let labels = shown_labels(alloc, picture, note.spans)?;
+        put_shown_note(out, picture, gutter, note.text, &labels)?;
+    }
+    Ok(())
+}

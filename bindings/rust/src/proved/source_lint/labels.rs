@@ -1,0 +1,134 @@
+//! The labels, notes and helps of findings, with their ranges in the file.
+
+// Extracted from crates/source_lint/src/labels.rt by tools/extract: not to be edited.
+// That source is proved, and each contract here is its. That this text means the same is tested:
+// by results from outside, and beside what is proved (.ci/bindings) and the original (tools/agree).
+
+use crate::proved::call_faults::{CallEdit, CallHelp, CallLabel, CallNote, Spot};
+use crate::proved::source_lint::report::{Edit, Help, Label, Note};
+use crate::proved::source_lint::spans::{range_in, spot_range, Site};
+use crate::shim::alloc::{AllocError, Global};
+use crate::shim::prelude::*;
+use std::ops::Range;
+
+/// Returns labels of a call with their ranges. Returns `Err` if an allocation fails.
+// ensures primary { IfOk result (λ v. map (λ x. x.is_primary) v.items
+//     ≡ map (λ l. l.is_primary) (map seen_label labels.items)) }
+// ensures texts { IfOk result (λ v. map (λ x. string_bytes x.text) v.items
+//     ≡ map (λ l. l.text) (map seen_label labels.items)) }
+// ensures spans { IfOk result (λ v. All (λ x. IsSpan site.entry.text.now x.range) v.items) }
+#[inline]
+pub fn labels(
+    alloc: Global,
+    site: Site<'_, '_>,
+    labels: Vec<CallLabel>,
+) -> Result<Vec<Label>, AllocError> {
+    let mut found = Vec::made_in(alloc);
+    for label in labels {
+        found.try_push(Label {
+            range: spot_range(site, label.spot),
+            is_primary: label.is_primary,
+            text: label.text,
+        })?;
+    }
+    Ok(found)
+}
+
+/// Returns the ranges of places of a call. Returns `Err` if an allocation fails.
+// ensures count { IfOk result (λ v. length v.items ≡ length spots.now) }
+// ensures spans { IfOk result (λ v. All (λ r. IsSpan site.entry.text.now r) v.items) }
+#[inline]
+fn ranges(
+    alloc: Global,
+    site: Site<'_, '_>,
+    spots: &[Spot],
+) -> Result<Vec<Range<usize>>, AllocError> {
+    let mut found = Vec::made_in(alloc);
+    for spot in spots {
+        found.try_push(spot_range(site, *spot))?;
+    }
+    Ok(found)
+}
+
+/// Returns notes of a call with the ranges that they show. Returns `Err` if an allocation fails.
+// ensures texts { IfOk result (λ v. map (λ x. string_bytes x.text) v.items
+//     ≡ map (λ n. n.text) (map seen_note notes.items)) }
+// ensures counts { IfOk result (λ v. map (λ x. length x.ranges.items) v.items
+//     ≡ map (λ n. length n.spots) (map seen_note notes.items)) }
+// ensures spans { IfOk result (λ v. All (λ x. All (λ r. IsSpan site.entry.text.now r)
+//     x.ranges.items) v.items) }
+#[inline]
+pub fn notes(
+    alloc: Global,
+    site: Site<'_, '_>,
+    notes: Vec<CallNote>,
+) -> Result<Vec<Note>, AllocError> {
+    let mut found = Vec::made_in(alloc);
+    for note in notes {
+        let ranges = ranges(alloc, site, &note.spots)?;
+        found.try_push(Note {
+            text: note.text,
+            ranges,
+        })?;
+    }
+    Ok(found)
+}
+
+/// Returns edits of a call with their ranges. Returns `Err` if an allocation fails.
+// ensures texts { IfOk result (λ v. map (λ x. string_bytes x.text) v.items
+//     ≡ map (λ e. e.text) (map seen_edit edits.items)) }
+// ensures spans { IfOk result (λ v. All (λ x. IsSpan site.entry.text.now x.range) v.items) }
+#[inline]
+fn edits(alloc: Global, site: Site<'_, '_>, edits: Vec<CallEdit>) -> Result<Vec<Edit>, AllocError> {
+    let mut found = Vec::made_in(alloc);
+    for edit in edits {
+        found.try_push(Edit {
+            range: spot_range(site, edit.spot),
+            text: edit.text,
+        })?;
+    }
+    Ok(found)
+}
+
+/// Returns a help of a call with the ranges of its edits. Returns `Err` if an allocation fails.
+// ensures text { IfOk result (λ o. option_map (λ x. string_bytes x.text) o
+//     ≡ option_map (λ h. h.text) (option_map seen_help help)) }
+// ensures edits { IfOk result (λ o. option_map (λ x. map (λ e. string_bytes e.text) x.edits.items)
+//     o ≡ option_map (λ h. map (λ e. e.text) h.edits) (option_map seen_help help)) }
+// ensures spans { IfOk result (λ o. IfSome o (λ x. All (λ e. IsSpan site.entry.text.now e.range)
+//     x.edits.items)) }
+#[inline]
+pub fn help(
+    alloc: Global,
+    site: Site<'_, '_>,
+    help: Option<CallHelp>,
+) -> Result<Option<Help>, AllocError> {
+    match help {
+        None => Ok(None),
+        Some(help) => {
+            let edits = edits(alloc, site, help.edits)?;
+            Ok(Some(Help {
+                text: help.text,
+                edits,
+            }))
+        }
+    }
+}
+
+/// Returns the range of the primary label that comes first in the file, or an empty one if there is
+/// none.
+// ensures { IsSpan site.entry.text.now result }
+#[inline]
+pub fn primary_span(site: Site<'_, '_>, labels: &[Label]) -> Range<usize> {
+    let mut start = 0;
+    let mut end = 0;
+    let mut is_found = false;
+    for label in labels {
+        if label.is_primary && (!is_found || label.range.start < start) {
+            start = label.range.start;
+            end = label.range.end;
+            is_found = true;
+        }
+    }
+    range_in(site.text, start, end)
+}
