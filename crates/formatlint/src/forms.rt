@@ -39,12 +39,13 @@ pub struct File<'a> {
     pub places: Places<'a>,
 }
 
-/// Returns the lines of a text around a range, without the last line end.
+/// Returns the lines of a text around a range, without the last LF, and without a byte order mark at
+/// the start of the text.
 fn lines_around(text: &str, start: usize, end: usize) -> &str {
     let (front, _) = text.split_at(text.floor_char_boundary(start));
     let from = match front.rsplit_once('\n') {
         Some((before, _)) => before.len() + 1,
-        None => 0,
+        None => text.len() - text.strip_prefix('\u{feff}').unwrap_or(text).len(),
     };
     let (_, back) = text.split_at(text.floor_char_boundary(end));
     let to = text.len()
@@ -52,8 +53,7 @@ fn lines_around(text: &str, start: usize, end: usize) -> &str {
             Some((line, _)) => back.len() - line.len(),
             None => 0,
         };
-    let lines = text.get(from..to).unwrap_or("");
-    lines.strip_suffix('\r').unwrap_or(lines)
+    text.get(from..to).unwrap_or("")
 }
 
 /// Returns a range of a file as messages have it, without a label or a suggestion.

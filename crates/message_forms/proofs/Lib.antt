@@ -2,3 +2,4 @@ pub mod Escaped
 pub mod Texts
 pub mod Lines
 pub mod Harmless
+mod LineEnds

@@ -1,6 +1,6 @@
 -- A message as a value of JSON, with the members of rustc's `--error-format=json`.
-use Rattle.std.specs.Prelude.{ℕ, zero, suc, ◌+◌, ◌-◌, ◌==◌, Bool, List, Option, Some, None}
-use Rattle.std.specs.Prelude.{chars, codes, length, option_map}
+use Rattle.std.specs.Prelude.{ℕ, zero, suc, ◌+◌, ◌-◌, ◌==◌, ◌∷◌, [], Bool, List, Option, Some, None}
+use Rattle.std.specs.Prelude.{if◌then◌else◌, chars, codes, length, option_map}
 use Rattle.std.specs.List.{before_first, after_first}
 use Rattle.serde_json.specs.Data.{Data, null, boolean, string, array, object}
 use Rattle.serde_json.specs.Data.{Items, no_items, item, Members, no_members, member}
@@ -15,6 +15,16 @@ use Rattle.message_forms.specs.Words.{applicability, child_name, level_name}
 abbrev pub is_lf : ℕ → Bool
 is_lf b = b == 10
 
+-- A text without a CR at its end.
+unfoldable pub without_cr : List ℕ → List ℕ
+without_cr [] = []
+without_cr (b ∷ []) = if b == 13 then [] else (b ∷ [])
+without_cr (b ∷ c ∷ bs) = b ∷ without_cr (c ∷ bs)
+
+-- The first line of a text, without its line end.
+abbrev pub first_line : List ℕ → List ℕ
+first_line bs = without_cr (before_first is_lf bs)
+
 -- A line of a span with the columns between which the span is.
 abbrev pub line_json : List ℕ → ℕ → ℕ → Data
 line_json l from to = object (member (codes "text") (string l)
@@ -24,9 +34,9 @@ line_json l from to = object (member (codes "text") (string l)
 -- The lines of a span that begins at a column and ends at another one, where this many more come
 -- after the first one.
 abbrev pub line_items : ℕ → ℕ → ℕ → List ℕ → Items
-line_items zero from to bs = item (line_json (before_first is_lf bs) from to) no_items
+line_items zero from to bs = item (line_json (first_line bs) from to) no_items
 line_items (suc n) from to bs = item
-    (line_json (before_first is_lf bs) from (length (chars (before_first is_lf bs)) + 1))
+    (line_json (first_line bs) from (length (chars (first_line bs)) + 1))
     (line_items n 1 to (after_first is_lf bs))
 
 -- The lines of a span.

@@ -3,11 +3,11 @@
 
 ghost use Rattle.std.specs.Prelude.{◌≡◌, ◌≤◌, ◌++◌, OnOk, chars, codes, false, length, option_map};
 ghost use Rattle.std.specs.Prelude.{string_bytes, true};
-ghost use Rattle.std.specs.List.{after_first, before_first};
+ghost use Rattle.std.specs.List.{after_first};
 ghost use Rattle.serde_json.specs.Data.{Members, array, no_items};
 ghost use Rattle.message_forms.specs.Json.{applicability_json, below_members, child_json};
-ghost use Rattle.message_forms.specs.Json.{code_json, is_lf, line_items, line_json};
-ghost use Rattle.message_forms.specs.Json.{message_json, place_members};
+ghost use Rattle.message_forms.specs.Json.{code_json, first_line, is_lf, line_items, line_json};
+ghost use Rattle.message_forms.specs.Json.{message_json, place_members, without_cr};
 ghost use Rattle.message_forms.specs.Json.{detail_members, span_json};
 ghost use Rattle.message_forms.specs.Texts.{items_of, json_text, object_text, text_or_null};
 
@@ -29,14 +29,24 @@ fn put_line(out: &mut String, line: &str, from: usize, to: usize) -> Result<(), 
     Ok(())
 }
 
-/// Returns the first line of a text, and the text after its line end.
+/// Returns a line without the CR at its end, if it has one.
+fn without_cr(line: &str) -> &str
+    ensures { result.now ≡ without_cr line.now }
+{
+    match line.strip_suffix('\r') {
+        Some(front) => front,
+        None => line,
+    }
+}
+
+/// Returns the first line of a text without its line end, and the text after that.
 fn split_line(text: &str) -> (&str, &str)
-    ensures line { result.0.now ≡ before_first is_lf text.now }
+    ensures line { result.0.now ≡ first_line text.now }
     ensures rest { result.1.now ≡ after_first is_lf text.now }
 {
     match text.split_once('\n') {
-        Some((line, rest)) => (line, rest),
-        None => (text, ""),
+        Some((line, rest)) => (without_cr(line), rest),
+        None => (without_cr(text), ""),
     }
 }
 

@@ -190,6 +190,7 @@ fn read_at(
         text: file.text,
         tokens,
         literal,
+        has_crs: literal.text.contains('\r'),
         arguments: others,
     };
     let name = name_at(tokens, call.name);
