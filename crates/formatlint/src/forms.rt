@@ -39,8 +39,8 @@ pub struct File<'a> {
     pub places: Places<'a>,
 }
 
-/// Returns the lines of a text around a range, without the last LF, and without a byte order mark at
-/// the start of the text.
+/// Returns the lines of a text around a range, without the last LF and a byte order mark at the
+/// start of the text.
 fn lines_around(text: &str, start: usize, end: usize) -> &str {
     let (front, _) = text.split_at(text.floor_char_boundary(start));
     let from = match front.rsplit_once('\n') {

@@ -41,6 +41,9 @@ fn in_a_drawing(rt: HostRuntime) -> Result<(), Fail> {
 fn in_a_text_of_lines(rt: HostRuntime) -> Result<(), Fail> {
     let mut out = String::from_str(rt.alloc(), "> ")?;
     put_glyphs(&mut out, "a\n\tb\u{85}\u{a0}\u{61b}\u{2069}\u{200b}", 0)?;
-    assert_eq!(rt; out.as_str(), "> a\n    b\u{fffd}\u{a0}\u{61b}\u{fffd}\u{200b}");
+    assert_eq!(rt;
+        out.as_str(),
+        "> a\n    b\u{fffd}\u{a0}\u{61b}\u{fffd}\u{200b}"
+    );
     Ok(())
 }

@@ -1,7 +1,8 @@
 //! Drawings of several labels, against those of rustc 1.95.
 
-use drawn_faults::{Diagnostic, Edit, Level, Picture, SourceHelp, SourceLabel, SourceNote};
-use drawn_faults::draw_labels;
+use drawn_faults::{
+    Diagnostic, Edit, Level, Picture, SourceHelp, SourceLabel, SourceNote, draw_labels,
+};
 use std::alloc::{AllocError, Global};
 use std::test::Fail;
 
@@ -107,12 +108,10 @@ fn texts_that_hang(rt: HostRuntime) -> Result<(), Fail> {
             text: "argument never used",
         },
     ];
-    let notes = [
-        SourceNote {
-            text: "consider adding 2 format specifiers",
-            spans: &[],
-        },
-    ];
+    let notes = [SourceNote {
+        text: "consider adding 2 format specifiers",
+        spans: &[],
+    }];
     let diagnostic = Diagnostic {
         level: Level::Error,
         title: "multiple unused formatting arguments",
@@ -171,12 +170,10 @@ fn lines_in_between(rt: HostRuntime) -> Result<(), Fail> {
             text: "argument never used",
         },
     ];
-    let edits = [
-        Edit {
-            span: 92..92,
-            text: "{}{}{}",
-        },
-    ];
+    let edits = [Edit {
+        span: 92..92,
+        text: "{}{}{}",
+    }];
     let helps = [SourceHelp {
         text: "format specifiers use curly braces, consider adding 3 format specifiers",
         edits: &edits,
@@ -232,12 +229,10 @@ fn a_note_with_its_own_drawing(rt: HostRuntime) -> Result<(), Fail> {
         },
     ];
     let spans = [92..93, 96..97];
-    let notes = [
-        SourceNote {
-            text: "the formatting specifiers are referencing the bindings already",
-            spans: &spans,
-        },
-    ];
+    let notes = [SourceNote {
+        text: "the formatting specifiers are referencing the bindings already",
+        spans: &spans,
+    }];
     let edits = [
         Edit {
             span: 101..104,
@@ -300,12 +295,10 @@ fn a_name_in_place_of_an_index(rt: HostRuntime) -> Result<(), Fail> {
             text: "this formatting argument uses named argument `z` by position",
         },
     ];
-    let edits = [
-        Edit {
-            span: 95..96,
-            text: "z",
-        },
-    ];
+    let edits = [Edit {
+        span: 95..96,
+        text: "z",
+    }];
     let helps = [SourceHelp {
         text: "use the named argument by name to avoid ambiguity",
         edits: &edits,
@@ -355,12 +348,10 @@ fn a_name_that_is_inserted(rt: HostRuntime) -> Result<(), Fail> {
             text: "this formatting argument uses named argument `z` by position",
         },
     ];
-    let edits = [
-        Edit {
-            span: 94..94,
-            text: "z",
-        },
-    ];
+    let edits = [Edit {
+        span: 94..94,
+        text: "z",
+    }];
     let helps = [SourceHelp {
         text: "use the named argument by name to avoid ambiguity",
         edits: &edits,
@@ -397,16 +388,13 @@ fn a_note_of_several_lines(rt: HostRuntime) -> Result<(), Fail> {
         \x20let (a, b, c, d, w) = (1, 2, 3, 4, 5);\n\
         \x20   let _ = format!(\"\\t{:q}\", a);\n\
         }\n";
-    let labels = [
-        SourceLabel {
-            span: 95..96,
-            is_primary: true,
-            text: "",
-        },
-    ];
-    let notes = [
-        SourceNote {
-            text: "the only appropriate formatting traits are:\n\
+    let labels = [SourceLabel {
+        span: 95..96,
+        is_primary: true,
+        text: "",
+    }];
+    let notes = [SourceNote {
+        text: "the only appropriate formatting traits are:\n\
                 - ``, which uses the `Display` trait\n\
                 - `?`, which uses the `Debug` trait\n\
                 - `e`, which uses the `LowerExp` trait\n\
@@ -416,9 +404,8 @@ fn a_note_of_several_lines(rt: HostRuntime) -> Result<(), Fail> {
                 - `b`, which uses the `Binary` trait\n\
                 - `x`, which uses the `LowerHex` trait\n\
                 - `X`, which uses the `UpperHex` trait",
-            spans: &[],
-        },
-    ];
+        spans: &[],
+    }];
     let diagnostic = Diagnostic {
         level: Level::Error,
         title: "unknown format trait `q`",
@@ -467,12 +454,10 @@ fn labels_of_one_place(rt: HostRuntime) -> Result<(), Fail> {
             text: "help: add a colon before the format specifier: `:?`",
         },
     ];
-    let notes = [
-        SourceNote {
-            text: "to print `{`, you can escape it using `{{`",
-            spans: &[],
-        },
-    ];
+    let notes = [SourceNote {
+        text: "to print `{`, you can escape it using `{{`",
+        spans: &[],
+    }];
     let diagnostic = Diagnostic {
         level: Level::Error,
         title: "invalid format string: expected `}`, found `?`",
@@ -516,12 +501,10 @@ fn a_help_beside_a_deep_indent(rt: HostRuntime) -> Result<(), Fail> {
             text: "formatting specifier missing",
         },
     ];
-    let edits = [
-        Edit {
-            span: 133..133,
-            text: "{}",
-        },
-    ];
+    let edits = [Edit {
+        span: 133..133,
+        text: "{}",
+    }];
     let helps = [SourceHelp {
         text: "format specifiers use curly braces, consider adding a format specifier",
         edits: &edits,

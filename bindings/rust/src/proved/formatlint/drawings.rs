@@ -222,6 +222,23 @@ fn notes<'f>(
     Ok(notes)
 }
 
+/// Returns the help of a finding, with these edits, or none. Returns `Err` if an allocation fails.
+#[inline]
+fn helps<'f>(
+    alloc: Global,
+    finding: &'f Finding,
+    edits: &'f [Edit<'f>],
+) -> Result<Vec<SourceHelp<'f>>, AllocError> {
+    let mut helps = Vec::made_in(alloc);
+    if let Some(help) = &finding.help {
+        helps.try_push(SourceHelp {
+            text: help.text.as_str(),
+            edits,
+        })?;
+    }
+    Ok(helps)
+}
+
 /// Returns the level of a finding.
 #[inline]
 fn level(finding: &Finding) -> Level {
@@ -234,24 +251,18 @@ fn level(finding: &Finding) -> Level {
 
 /// Appends the drawing of a finding under these lines. Returns `Err` if an allocation fails.
 #[inline]
-fn put_drawn(
+fn put_drawn<'x>(
     out: &mut String,
-    path: &str,
-    excerpt: &Excerpt<'_>,
-    finding: &Finding,
+    path: &'x str,
+    excerpt: &'x Excerpt<'_>,
+    finding: &'x Finding,
 ) -> Result<(), AllocError> {
     let alloc = *out.own_allocator();
     let labels = excerpt.labels(alloc, finding)?;
     let ranges = excerpt.note_ranges(alloc, finding)?;
     let notes = notes(alloc, finding, ranges.as_slice())?;
     let edits = excerpt.edits(alloc, finding)?;
-    let mut helps = Vec::made_in(alloc);
-    if let Some(help) = &finding.help {
-        helps.try_push(SourceHelp {
-            text: help.text.as_str(),
-            edits: edits.as_slice(),
-        })?;
-    }
+    let helps = helps(alloc, finding, edits.as_slice())?;
     let picture = Picture {
         path,
         source: excerpt.source.as_str(),

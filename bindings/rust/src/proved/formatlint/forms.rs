@@ -41,13 +41,14 @@ pub struct File<'a> {
     pub places: Places<'a>,
 }
 
-/// Returns the lines of a text around a range, without the last line end.
+/// Returns the lines of a text around a range, without the last LF and a byte order mark at the
+/// start of the text.
 #[inline]
 fn lines_around(text: &str, start: usize, end: usize) -> &str {
     let (front, _) = text.split_at(text.boundary_at_most(start));
     let from = match front.rsplit_once('\n') {
         Some((before, _)) => before.len() + 1,
-        None => 0,
+        None => text.len() - text.strip_prefix('\u{feff}').unwrap_or(text).len(),
     };
     let (_, back) = text.split_at(text.boundary_at_most(end));
     let to = text.len()
@@ -55,8 +56,7 @@ fn lines_around(text: &str, start: usize, end: usize) -> &str {
             Some((line, _)) => back.len() - line.len(),
             None => 0,
         };
-    let lines = text.get(from..to).unwrap_or("");
-    lines.strip_suffix('\r').unwrap_or(lines)
+    text.get(from..to).unwrap_or("")
 }
 
 /// Returns a range of a file as messages have it, without a label or a suggestion.

@@ -26,14 +26,24 @@ fn put_line(out: &mut String, line: &str, from: usize, to: usize) -> Result<(), 
     Ok(())
 }
 
-/// Returns the first line of a text, and the text after its line end.
-// ensures line { result.0.now ≡ before_first is_lf text.now }
+/// Returns a line without the CR at its end, if it has one.
+// ensures { result.now ≡ without_cr line.now }
+#[inline]
+fn without_cr(line: &str) -> &str {
+    match line.strip_suffix('\r') {
+        Some(front) => front,
+        None => line,
+    }
+}
+
+/// Returns the first line of a text without its line end, and the text after that.
+// ensures line { result.0.now ≡ first_line text.now }
 // ensures rest { result.1.now ≡ after_first is_lf text.now }
 #[inline]
 fn split_line(text: &str) -> (&str, &str) {
     match text.split_once('\n') {
-        Some((line, rest)) => (line, rest),
-        None => (text, ""),
+        Some((line, rest)) => (without_cr(line), rest),
+        None => (without_cr(text), ""),
     }
 }
 

@@ -98,9 +98,12 @@ pub fn read_literal(
 }
 
 /// Returns the byte offset in a token of a byte offset in its literal with lines that end with LF:
-/// the CRs before it count.
+/// the CRs before it count, if the token has any.
 #[inline]
-pub fn offset_in(token: &str, offset: usize) -> usize {
+pub fn offset_in(token: &str, has_crs: bool, offset: usize) -> usize {
+    if !has_crs {
+        return offset;
+    }
     let mut passed = 0;
     let mut left = offset;
     let mut rest = token;

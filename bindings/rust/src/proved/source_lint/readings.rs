@@ -180,6 +180,7 @@ fn read_at(
         text: file.text,
         tokens,
         literal,
+        has_crs: literal.text.contains('\r'),
         arguments: others,
     };
     let name = name_at(tokens, call.name);

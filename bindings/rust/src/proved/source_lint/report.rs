@@ -21,8 +21,8 @@ pub struct Options<'a> {
 pub enum CallReading {
     /// Its format string and its arguments.
     Whole,
-    /// Its format string alone: how many arguments there are is not known, since a macro repeats
-    /// some of them.
+    /// Its format string alone: how many arguments there are is not known, for example because a
+    /// macro repeats some of them.
     StringAlone,
     /// Nothing, since the file defines a macro of this name by `macro_rules!`.
     Redefined,

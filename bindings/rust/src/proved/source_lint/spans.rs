@@ -20,6 +20,8 @@ pub struct Site<'s, 'a> {
     pub tokens: &'s [Token<'a>],
     /// The literal of its format string.
     pub literal: Token<'a>,
+    /// Whether the literal has a CR.
+    pub has_crs: bool,
     /// The arguments after its format string.
     pub arguments: &'s [Argument],
 }
@@ -115,9 +117,10 @@ fn literal_end(literal: Token<'_>) -> Range<usize> {
 /// Returns the bytes of a range of the literal, whose offsets are those of the literal with lines
 /// that end with LF.
 #[inline]
-fn literal_range(literal: Token<'_>, from: usize, to: usize) -> Range<usize> {
-    let start = offset_in(literal.text, from);
-    let end = offset_in(literal.text, to);
+fn literal_range(site: Site<'_, '_>, from: usize, to: usize) -> Range<usize> {
+    let literal = site.literal;
+    let start = offset_in(literal.text, site.has_crs, from);
+    let end = offset_in(literal.text, site.has_crs, to);
     literal.start.saturating_add(start)..literal.start.saturating_add(end)
 }
 
@@ -133,7 +136,7 @@ pub fn spot_range(site: Site<'_, '_>, spot: Spot) -> Range<usize> {
         Spot::ValueUpToNext(index) => range_up_to_next(site, index),
         Spot::Literal => literal.start..literal.start.saturating_add(literal.text.len()),
         Spot::LiteralEnd => literal_end(literal),
-        Spot::Bytes { start, end } => literal_range(literal, start, end),
+        Spot::Bytes { start, end } => literal_range(site, start, end),
     };
     range_in(site.text, range.start, range.end)
 }
