@@ -13,6 +13,7 @@ ghost use Rattle.call_faults.specs.Seen.{seen_given, start};
 ghost use Rattle.source_lint.specs.Findings.{AreFindings, HasSpans};
 ghost use Rattle.source_lint.specs.Givens.{given};
 ghost use Rattle.source_lint.specs.Literals.{without_crs};
+ghost use Rattle.source_lint.specs.Macros.{names_in};
 ghost use Rattle.source_lint.specs.Readings.{Reads, ReadsAt, ReadsLiteral, call_of};
 ghost use Rattle.source_lint.specs.Readings.{captures, counted_givens, name_at, reading_of};
 ghost use Rattle.source_lint.specs.declared.report.Finding.{Finding as FindingValue};
@@ -27,6 +28,7 @@ use call_faults::{FormatString, Given, call_faults};
 use format_calls::{Argument, Call, Rule, are_counted, arguments, format_string, token_at, word};
 use rust_trees::{Source, Token};
 use std::alloc::{AllocError, Global};
+use std::collections::BTreeSet;
 
 /// A file, with what its calls are read by.
 #[derive(Clone, Copy)]
@@ -34,7 +36,7 @@ pub struct File<'s, 'a> {
     /// The text.
     pub text: &'a str,
     /// The names of the macros that it defines.
-    pub macros: &'s [&'a [u8]],
+    pub macros: &'s BTreeSet<&'a [u8]>,
     /// Whether its edition is 2021 or a later one.
     pub is_from_2021: bool,
 }
@@ -209,17 +211,17 @@ fn read_at(
 }
 
 /// Reads a call, and adds its findings. Returns `Err` if an allocation fails.
-pub fn read_call(
+pub fn read_call<'a>(
     alloc: Global,
     findings: &mut Vec<Finding>,
-    file: File<'_, '_>,
-    part: &Source<'_>,
+    file: File<'_, 'a>,
+    part: &Source<'a>,
     call: &Call,
 ) -> Result<CallReading, AllocError>
     requires { IsPair part.now (call.now.name + 2) call.now.close }
     ensures read { IfOk result (λ r. (xs : List FindingValue)
         × (findings.new.items ≡ findings.old.items ++ xs)
-        × Reads (map (λ w. w.now) file.entry.macros.now) file.entry.is_from_2021 part.now call.now
+        × Reads (names_in file.entry.macros.now) file.entry.is_from_2021 part.now call.now
         r xs) }
     ensures spans { OnOk result (All (HasSpans file.entry.text.now) findings.old.items
         → All (HasSpans file.entry.text.now) findings.new.items) }

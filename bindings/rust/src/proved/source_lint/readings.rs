@@ -17,6 +17,7 @@ use crate::proved::source_lint::report::{CallReading, Finding};
 use crate::proved::source_lint::spans::Site;
 use crate::shim::alloc::{AllocError, Global};
 use crate::shim::prelude::*;
+use std::collections::BTreeSet;
 
 /// A file, with what its calls are read by.
 #[derive(Clone, Copy)]
@@ -24,7 +25,7 @@ pub struct File<'s, 'a> {
     /// The text.
     pub text: &'a str,
     /// The names of the macros that it defines.
-    pub macros: &'s [&'a [u8]],
+    pub macros: &'s BTreeSet<&'a [u8]>,
     /// Whether its edition is 2021 or a later one.
     pub is_from_2021: bool,
 }
@@ -202,16 +203,16 @@ fn read_at(
 // requires { IsPair part.now (call.now.name + 2) call.now.close }
 // ensures read { IfOk result (λ r. (xs : List FindingValue)
 //     × (findings.new.items ≡ findings.old.items ++ xs)
-//     × Reads (map (λ w. w.now) file.entry.macros.now) file.entry.is_from_2021 part.now call.now
+//     × Reads (names_in file.entry.macros.now) file.entry.is_from_2021 part.now call.now
 //     r xs) }
 // ensures spans { OnOk result (All (HasSpans file.entry.text.now) findings.old.items
 //     → All (HasSpans file.entry.text.now) findings.new.items) }
 #[inline]
-pub fn read_call(
+pub fn read_call<'a>(
     alloc: Global,
     findings: &mut Vec<Finding>,
-    file: File<'_, '_>,
-    part: &Source<'_>,
+    file: File<'_, 'a>,
+    part: &Source<'a>,
     call: &Call,
 ) -> Result<CallReading, AllocError> {
     let name = name_at(part.tokens(), call.name);
