@@ -20,7 +20,7 @@ ghost use Rattle.source_lint.specs.declared.report.Finding.{Finding as FindingVa
 
 use crate::findings::put_findings;
 use crate::givens::givens;
-use crate::literals::{appends_newline, read_literal};
+use crate::literals::{appends_newline, dropped_crs, read_literal};
 use crate::macros::is_defined;
 use crate::report::{CallReading, Finding};
 use crate::spans::Site;
@@ -188,11 +188,12 @@ fn read_at(
         return Ok(CallReading::Malformed);
     };
     let others = &arguments[index + 1..];
+    let crs = dropped_crs(alloc, literal.text)?;
     let site = Site {
         text: file.text,
         tokens,
         literal,
-        has_crs: literal.text.contains('\r'),
+        crs: &crs,
         arguments: others,
     };
     let name = name_at(tokens, call.name);

@@ -11,7 +11,7 @@ use crate::proved::format_calls::{
 use crate::proved::rust_trees::{Source, Token};
 use crate::proved::source_lint::findings::put_findings;
 use crate::proved::source_lint::givens::givens;
-use crate::proved::source_lint::literals::{appends_newline, read_literal};
+use crate::proved::source_lint::literals::{appends_newline, dropped_crs, read_literal};
 use crate::proved::source_lint::macros::is_defined;
 use crate::proved::source_lint::report::{CallReading, Finding};
 use crate::proved::source_lint::spans::Site;
@@ -177,11 +177,12 @@ fn read_at(
         return Ok(CallReading::Malformed);
     };
     let others = &arguments[index + 1..];
+    let crs = dropped_crs(alloc, literal.text)?;
     let site = Site {
         text: file.text,
         tokens,
         literal,
-        has_crs: literal.text.contains('\r'),
+        crs: &crs,
         arguments: others,
     };
     let name = name_at(tokens, call.name);
