@@ -2,7 +2,7 @@
 
 ghost use Rattle.std.specs.Prelude.{◌≡◌, ◌+◌, ◌<◌, ◌^◌, ◌++◌, List, IfOk, IsTrue, OnOk, Some};
 ghost use Rattle.std.specs.Prelude.{chars, length, map, slice_get};
-ghost use Rattle.std.specs.List.{All};
+ghost use Rattle.std.specs.List.{All, list_any};
 ghost use Rattle.rustc_parse_format.specs.World.{hashes};
 ghost use Rattle.rust_trees.specs.Forests.{IsPair};
 ghost use Rattle.rust_trees.specs.Leaves.{leaf};
@@ -15,7 +15,8 @@ ghost use Rattle.source_lint.specs.Givens.{given};
 ghost use Rattle.source_lint.specs.Literals.{without_crs};
 ghost use Rattle.source_lint.specs.Macros.{names_in};
 ghost use Rattle.source_lint.specs.Readings.{Reads, ReadsAt, ReadsLiteral, call_of};
-ghost use Rattle.source_lint.specs.Readings.{captures, counted_givens, name_at, reading_of};
+ghost use Rattle.source_lint.specs.Readings.{captures, counted_givens, is_empty, name_at};
+ghost use Rattle.source_lint.specs.Readings.{reading_of};
 ghost use Rattle.source_lint.specs.declared.report.Finding.{Finding as FindingValue};
 
 use crate::findings::put_findings;
@@ -211,6 +212,25 @@ fn read_at(
     Ok(reading)
 }
 
+/// Returns whether no token stands where an argument should.
+fn is_empty(argument: &Argument) -> bool
+    ensures { result ≡ is_empty argument.now }
+{
+    argument.start == argument.end
+}
+
+/// Returns whether no token stands where one of these arguments should.
+fn has_empty(arguments: &[Argument]) -> bool
+    ensures { result ≡ list_any is_empty arguments.now }
+{
+    for argument in arguments {
+        if is_empty(argument) {
+            return true;
+        }
+    }
+    false
+}
+
 /// Reads a call, and adds its findings. Returns `Err` if an allocation fails.
 pub fn read_call<'a>(
     alloc: Global,
@@ -235,6 +255,9 @@ pub fn read_call<'a>(
         return Ok(CallReading::Whole);
     };
     let list = arguments.as_slice();
+    if has_empty(list) {
+        return Ok(CallReading::NoExpression);
+    }
     match format_string(part, call.rule, list, file.is_from_2021) {
         Err(reason) => Ok(CallReading::Unread(reason)),
         Ok(index) => {

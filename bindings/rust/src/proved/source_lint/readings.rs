@@ -200,6 +200,25 @@ fn read_at(
     Ok(reading)
 }
 
+/// Returns whether no token stands where an argument should.
+// ensures { result ≡ is_empty argument.now }
+#[inline]
+fn is_empty(argument: &Argument) -> bool {
+    argument.start == argument.end
+}
+
+/// Returns whether no token stands where one of these arguments should.
+// ensures { result ≡ list_any is_empty arguments.now }
+#[inline]
+fn has_empty(arguments: &[Argument]) -> bool {
+    for argument in arguments {
+        if is_empty(argument) {
+            return true;
+        }
+    }
+    false
+}
+
 /// Reads a call, and adds its findings. Returns `Err` if an allocation fails.
 // requires { IsPair part.now (call.now.name + 2) call.now.close }
 // ensures read { IfOk result (λ r. (xs : List FindingValue)
@@ -224,6 +243,9 @@ pub fn read_call<'a>(
         return Ok(CallReading::Whole);
     };
     let list = arguments.as_slice();
+    if has_empty(list) {
+        return Ok(CallReading::NoExpression);
+    }
     match format_string(part, call.rule, list, file.is_from_2021) {
         Err(reason) => Ok(CallReading::Unread(reason)),
         Ok(index) => {
