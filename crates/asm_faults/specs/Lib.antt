@@ -4,4 +4,6 @@ pub mod Lookups
 pub mod Templates
 pub mod Compared
 pub mod Calls
+pub mod Words
+pub mod Labels
 pub mod Seen

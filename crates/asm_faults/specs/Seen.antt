@@ -1,5 +1,5 @@
 -- What a contract sees of the values of this crate: texts as their characters, ranges as places.
-use Rattle.std.specs.Prelude.{◌≡◌, ℕ, List, Option, map, option_map}
+use Rattle.std.specs.Prelude.{◌≡◌, ℕ, List, Option, map, option_map, string_bytes}
 use Rattle.std.specs.BTreeMap.{BTreeMap, get_by}
 use Rattle.std.specs.Cmp.Lexicographic.{slice_cmp}
 use Rattle.std.specs.List.{list_any}
@@ -18,6 +18,7 @@ use Rattle.asm_faults.specs.declared.faults.AsmFault.TheVariants.{MissingName as
 use Rattle.asm_faults.specs.declared.faults.AsmFault.TheVariants.{LongModifier as LongIn}
 use Rattle.asm_faults.specs.declared.faults.AsmFault.TheVariants.{Text as TextIn}
 use Rattle.asm_faults.specs.declared.faults.AsmFault.TheVariants.{UnusedOperands as UnusedIn}
+use Rattle.asm_faults.specs.declared.labels.AsmLabel.{AsmLabel}
 use Rattle.asm_faults.specs.declared.lookups.Lookup.{Lookup as DeclaredLookup}
 use Rattle.asm_faults.specs.declared.lookups.Lookup.TheVariants.{Index as IndexIn, Name as NameIn}
 use Rattle.asm_faults.specs.declared.lookups.Lookup.TheVariants.{LongModifier as LongLookupIn}
@@ -30,6 +31,7 @@ use Rattle.asm_faults.specs.declared.templates.Template.{Template as DeclaredTem
 use Rattle.asm_faults.specs.AsmFaults.{AsmFault, PositionalAfter, RepeatedName, RegisterName}
 use Rattle.asm_faults.specs.AsmFaults.{WrongIndex, MissingName, LongModifier, TemplateFault}
 use Rattle.asm_faults.specs.AsmFaults.{UnusedOperands}
+use Rattle.asm_faults.specs.Labels.{Label, label}
 use Rattle.asm_faults.specs.Lookups.{Lookup, ByIndex, ByName, Long}
 use Rattle.asm_faults.specs.Operands.{Operand, Named, Register, Unnamed, index_of, is_other}
 use Rattle.asm_faults.specs.Templates.{Template}
@@ -64,6 +66,10 @@ seen_fault (MissingIn s w) = MissingName s (text w)
 seen_fault (LongIn s) = LongModifier s
 seen_fault (TextIn k f) = TemplateFault k (seen_text_fault f)
 seen_fault (UnusedIn is) = UnusedOperands is.items
+
+-- A label as a contract sees it.
+abbrev pub seen_label : AsmLabel → Label
+seen_label l = label l.spot l.is_primary (string_bytes l.text)
 
 -- What a map has for a name.
 abbrev pub found_in : BTreeMap (Bor (List ℕ)) ℕ → Text → Option ℕ
