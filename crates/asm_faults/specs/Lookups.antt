@@ -1,6 +1,6 @@
 -- What rustc looks up for the placeholders of a template, in its order.
 use Rattle.std.specs.Prelude.{ℕ, suc, Bool, true, false, ◌++◌, if◌then◌else◌, List, [], ◌∷◌, drop}
-use Rattle.std.specs.Prelude.{Option, Some, None}
+use Rattle.std.specs.Prelude.{Option, Some, None, length, nat_lt}
 use Rattle.rustc_parse_format.specs.Characters.{Text}
 use Rattle.rustc_parse_format.specs.Types.{Argument, Piece, Lit, NextArgument, Position, Implicit}
 use Rattle.rustc_parse_format.specs.Types.{Index, Named, Spec}
@@ -38,9 +38,7 @@ next_after n p = if is_next p then suc n else n
 
 -- The modifier has several characters.
 abbrev pub is_long : Text → Bool
-is_long [] = false
-is_long (c ∷ []) = false
-is_long (c ∷ d ∷ t) = true
+is_long t = nat_lt 1 (length t)
 
 -- What the position of the placeholder at s in the template k means, where one without a position
 -- means n.
@@ -60,15 +58,29 @@ modifier_lookups k f = if is_long f.ty then Long (spot_of k f.ty_span) ∷ [] el
 abbrev pub argument_lookups : ℕ → ℕ → AsmSpot → Argument Place → List Lookup
 argument_lookups k n s a = position_lookup k n s a ∷ modifier_lookups k a.format
 
+-- What is looked up for a piece of the template k, where ps are the places of its placeholder and of
+-- the later ones.
+abbrev pub one_lookups : ℕ → ℕ → List Place → Piece Place → List Lookup
+one_lookups k n ps (Lit t) = []
+one_lookups k n ps (NextArgument a) = argument_lookups k n (first_spot k ps) a
+
+-- The index that the next placeholder without a position means behind a piece.
+abbrev pub next_of : ℕ → Piece Place → ℕ
+next_of n (Lit t) = n
+next_of n (NextArgument a) = next_after n a.position
+
+-- The places that are left behind a piece.
+abbrev pub places_after : List Place → Piece Place → List Place
+places_after ps (Lit t) = ps
+places_after ps (NextArgument a) = drop 1 ps
+
 -- What is looked up for these pieces of the template k, whose placeholders have these places.
 abbrev pub piece_lookups : ℕ → ℕ → List Place → List (Piece Place) → List Lookup
 piece_lookups k n ps [] = []
-piece_lookups k n ps (Lit t ∷ qs) = piece_lookups k n ps qs
-piece_lookups k n ps (NextArgument a ∷ qs) = argument_lookups k n (first_spot k ps) a
-    ++ piece_lookups k (next_after n a.position) (drop 1 ps) qs
+piece_lookups k n ps (q ∷ qs) = one_lookups k n ps q
+    ++ piece_lookups k (next_of n q) (places_after ps q) qs
 
 -- The index that the next placeholder without a position means behind these pieces.
 abbrev pub next_behind : ℕ → List (Piece Place) → ℕ
 next_behind n [] = n
-next_behind n (Lit t ∷ qs) = next_behind n qs
-next_behind n (NextArgument a ∷ qs) = next_behind (next_after n a.position) qs
+next_behind n (q ∷ qs) = next_behind (next_of n q) qs

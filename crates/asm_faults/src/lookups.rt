@@ -4,8 +4,9 @@ ghost use Rattle.std.specs.Prelude.{◌≡◌, ◌≤◌, ◌∷◌, ◌++◌, [
 ghost use Rattle.std.specs.Prelude.{option_map};
 ghost use Rattle.rustc_parse_format.specs.Seen.{pair, seen, seen_argument, seen_position};
 ghost use Rattle.asm_faults.specs.Lookups.{argument_lookups, first_spot, is_long, is_next};
-ghost use Rattle.asm_faults.specs.Lookups.{modifier_lookups, next_after, next_behind};
-ghost use Rattle.asm_faults.specs.Lookups.{piece_lookups, position_lookup, spot_of};
+ghost use Rattle.asm_faults.specs.Lookups.{modifier_lookups, next_after, next_behind, next_of};
+ghost use Rattle.asm_faults.specs.Lookups.{one_lookups, piece_lookups, places_after};
+ghost use Rattle.asm_faults.specs.Lookups.{position_lookup, spot_of};
 ghost use Rattle.asm_faults.specs.Seen.{seen_lookup};
 
 use crate::faults::AsmSpot;
@@ -105,8 +106,7 @@ fn position_lookup<'a>(
 fn is_long(ty: &str) -> bool
     ensures { result ≡ is_long (chars ty.now) }
 {
-    let mut characters = ty.chars();
-    characters.next().is_some() && characters.next().is_some()
+    ty.chars().count() > 1
 }
 
 /// Adds what is looked up for the modifier of a placeholder. Returns `Err` if an allocation fails.
@@ -149,6 +149,39 @@ fn push_argument<'a>(
     Ok(())
 }
 
+/// Adds what is looked up for a piece, where `places` are those of its placeholder and of the later
+/// ones. Returns `Err` if an allocation fails.
+fn push_piece<'a>(
+    walk: &mut Walk<'a>,
+    template: usize,
+    places: &[Range<usize>],
+    piece: &Piece<'a>,
+) -> Result<(), AllocError>
+    requires { walk.old.next ≤ length walk.old.lookups.items }
+    ensures lookups { OnOk result (map seen_lookup walk.new.lookups.items
+        ≡ map seen_lookup walk.old.lookups.items
+        ++ one_lookups template walk.old.next (map pair places.now) (seen piece.now)) }
+    ensures next { OnOk result (walk.new.next ≡ next_of walk.old.next (seen piece.now)) }
+    ensures few { OnOk result (walk.new.next ≤ length walk.new.lookups.items) }
+{
+    match piece {
+        Piece::Lit(_) => Ok(()),
+        Piece::NextArgument(argument) => {
+            push_argument(walk, template, first_spot(template, places), argument)
+        }
+    }
+}
+
+/// Returns the places after that of a piece, if it is a placeholder.
+fn places_after<'p>(places: &'p [Range<usize>], piece: &Piece<'_>) -> &'p [Range<usize>]
+    ensures { map pair result.now ≡ places_after (map pair places.now) (seen piece.now) }
+{
+    match piece {
+        Piece::Lit(_) => places,
+        Piece::NextArgument(_) => others(places),
+    }
+}
+
 /// Adds what is looked up for the pieces of a template, whose placeholders have these places, in
 /// their order. Returns `Err` if an allocation fails.
 pub(crate) fn push_pieces<'a>(
@@ -166,13 +199,10 @@ pub(crate) fn push_pieces<'a>(
     ensures few { OnOk result (walk.new.next ≤ length walk.new.lookups.items) }
 {
     let mut places = places;
-    let mut rest = pieces;
-    while let Some((piece, behind)) = rest.split_first() {
-        if let Piece::NextArgument(argument) = piece {
-            push_argument(walk, template, first_spot(template, places), argument)?;
-            places = others(places);
-        }
-        rest = behind;
+    for piece in pieces {
+        let after = places_after(places, piece);
+        push_piece(walk, template, places, piece)?;
+        places = after;
     }
     Ok(())
 }
