@@ -102,11 +102,18 @@ fn position_lookup<'a>(
     }
 }
 
+/// Returns the number of characters of a text.
+fn length_of(text: &str) -> usize
+    ensures { result ≡ length (chars text.now) }
+{
+    text.chars().count()
+}
+
 /// Returns whether a modifier has several characters.
 fn is_long(ty: &str) -> bool
     ensures { result ≡ is_long (chars ty.now) }
 {
-    ty.chars().count() > 1
+    length_of(ty) > 1
 }
 
 /// Adds what is looked up for the modifier of a placeholder. Returns `Err` if an allocation fails.
