@@ -1,5 +1,6 @@
 // The crates that are extracted. Made by tools/extract: not to be edited.
 
+pub mod asm_faults;
 pub mod call_faults;
 pub mod drawn_faults;
 pub mod fault_rules;
