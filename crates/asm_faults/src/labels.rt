@@ -24,7 +24,7 @@ pub struct AsmLabel {
 }
 
 /// Adds a label.
-fn push(
+fn push_label(
     labels: &mut Vec<AsmLabel>,
     spot: AsmSpot,
     is_primary: bool,
@@ -51,7 +51,7 @@ fn push_named(
     for (index, operand) in operands.iter().enumerate() {
         if index < before {
             if let Operand::Named(_) = operand {
-                push(labels, AsmSpot::Operand(index), false, "named argument")?;
+                push_label(labels, AsmSpot::Operand(index), false, "named argument")?;
             }
         }
     }
@@ -68,7 +68,7 @@ fn push_registers(
         if index < before {
             if let Operand::Register { .. } = operand {
                 let text = "explicit register argument";
-                push(labels, AsmSpot::Operand(index), false, text)?;
+                push_label(labels, AsmSpot::Operand(index), false, text)?;
             }
         }
     }
@@ -82,14 +82,14 @@ fn push_wrong(
     spot: AsmSpot,
     index: usize,
 ) -> Result<(), AllocError> {
-    push(labels, spot, true, "from here")?;
+    push_label(labels, spot, true, "from here")?;
     match operands.get(index) {
         Some(Operand::Named(_)) => {
-            push(labels, AsmSpot::Operand(index), false, "named argument")?;
+            push_label(labels, AsmSpot::Operand(index), false, "named argument")?;
         }
         Some(Operand::Register { .. }) => {
             let text = "explicit register argument";
-            push(labels, AsmSpot::Operand(index), false, text)?;
+            push_label(labels, AsmSpot::Operand(index), false, text)?;
         }
         Some(Operand::Unnamed) | None => {}
     }
@@ -111,7 +111,7 @@ fn push_text(
         start: error.span.start,
         end: error.span.end,
     };
-    push(labels, spot, true, &text)?;
+    push_label(labels, spot, true, &text)?;
     if let Some((text, span)) = &error.secondary_label {
         let is_same = span.start == error.span.start && span.end == error.span.end;
         let second = AsmSpot::Bytes {
@@ -119,7 +119,7 @@ fn push_text(
             start: span.start,
             end: span.end,
         };
-        push(labels, second, is_same, text)?;
+        push_label(labels, second, is_same, text)?;
     }
     Ok(())
 }
@@ -132,7 +132,7 @@ fn push_unused(
 ) -> Result<(), AllocError> {
     for index in unused {
         let text = never_used(operands, *index);
-        push(labels, AsmSpot::Operand(*index), true, text)?;
+        push_label(labels, AsmSpot::Operand(*index), true, text)?;
     }
     Ok(())
 }
@@ -144,22 +144,22 @@ impl<'a> AsmCall<'a> {
         let mut labels = Vec::new(alloc);
         match fault {
             AsmFault::PositionalAfter { operand } => {
-                push(&mut labels, AsmSpot::Operand(*operand), true, "positional argument")?;
+                push_label(&mut labels, AsmSpot::Operand(*operand), true, "positional argument")?;
                 push_named(&mut labels, &self.operands, *operand)?;
                 push_registers(&mut labels, &self.operands, *operand)?;
             }
             AsmFault::RepeatedName { operand, first } => {
-                push(&mut labels, AsmSpot::Operand(*operand), true, "duplicate argument")?;
-                push(&mut labels, AsmSpot::Operand(*first), false, "previously here")?;
+                push_label(&mut labels, AsmSpot::Operand(*operand), true, "duplicate argument")?;
+                push_label(&mut labels, AsmSpot::Operand(*first), false, "previously here")?;
             }
             AsmFault::RegisterName { operand } => {
-                push(&mut labels, AsmSpot::Operand(*operand), true, "")?;
+                push_label(&mut labels, AsmSpot::Operand(*operand), true, "")?;
             }
             AsmFault::WrongIndex { spot, index } => {
                 push_wrong(&mut labels, &self.operands, *spot, *index)?;
             }
             AsmFault::MissingName { spot, .. } | AsmFault::LongModifier { spot } => {
-                push(&mut labels, *spot, true, "")?;
+                push_label(&mut labels, *spot, true, "")?;
             }
             AsmFault::Text { template, fault } => {
                 push_text(alloc, &mut labels, *template, fault)?;

@@ -21,7 +21,7 @@ pub struct AsmNote {
 }
 
 /// Adds a note or a help.
-fn push(
+fn push_note(
     notes: &mut Vec<AsmNote>,
     is_help: bool,
     text: &str,
@@ -77,18 +77,18 @@ fn push_wrong(
 ) -> Result<(), AllocError> {
     let mut text = String::new(alloc);
     put_count(&mut text, operands)?;
-    push(notes, false, &text, None)?;
+    push_note(notes, false, &text, None)?;
     let spot = Some(AsmSpot::Operand(index));
     match operands.get(index) {
         Some(Operand::Named(_)) => {
             let text = "named arguments cannot be referenced by position";
-            push(notes, false, text, spot)?;
+            push_note(notes, false, text, spot)?;
         }
         Some(Operand::Register { .. }) => {
             let text = "explicit register arguments cannot be used in the asm template";
-            push(notes, false, text, spot)?;
+            push_note(notes, false, text, spot)?;
             let text = "use the register name directly in the assembly code";
-            push(notes, true, text, spot)?;
+            push_note(notes, true, text, spot)?;
         }
         Some(Operand::Unnamed) | None => {}
     }
@@ -99,7 +99,7 @@ fn push_wrong(
 fn push_text(alloc: Global, notes: &mut Vec<AsmNote>, fault: &Fault<'_>) -> Result<(), AllocError> {
     let error = fault.error(alloc)?;
     if let Some(note) = &error.note {
-        push(notes, false, note, None)?;
+        push_note(notes, false, note, None)?;
     }
     Ok(())
 }
@@ -139,7 +139,7 @@ fn push_unused(
     text.push_str(" in an asm comment: `\"/*")?;
     put_placeholders(&mut text, operands, unused)?;
     text.push_str(" */\"`")?;
-    push(notes, true, &text, None)?;
+    push_note(notes, true, &text, None)?;
     Ok(())
 }
 
