@@ -12,8 +12,8 @@ use Rattle.call_faults.specs.Texts.{text_fault}
 use Rattle.asm_faults.specs.AsmFaults.{AsmFault, TemplateFault}
 use Rattle.asm_faults.specs.Lookups.{Lookup, next_behind, piece_lookups}
 
--- A template: the text that it stands for, the number of hashes of a raw literal, and the literal as
--- it is in the source, if it is known.
+-- A template: the text that it stands for, the number of hashes of a raw literal, and the literal
+-- as it is in the source, if it is known.
 pub record Template : Type 0 where
   pub text : Text
   pub style : Option ℕ

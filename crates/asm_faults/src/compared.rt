@@ -1,7 +1,7 @@
 //! The comparison of lookups with the operands.
 
-ghost use Rattle.std.specs.Prelude.{◌≡◌, ◌==◌, ◌++◌, ℕ, List, IfOk, OnOk, map, option_map};
-ghost use Rattle.std.specs.Prelude.{false, get_or, length};
+ghost use Rattle.std.specs.Prelude.{◌≡◌, ◌==◌, ◌++◌, ℕ, List, IfOk, OnOk, false, get_or, map};
+ghost use Rattle.std.specs.Prelude.{option_map};
 ghost use Rattle.std.specs.Option.{option_map_or};
 ghost use Rattle.std.specs.List.{filter_map, list_any};
 ghost use Rattle.asm_faults.specs.Operands.{Operand as OperandValue};
@@ -50,11 +50,7 @@ fn marks<'a>(
 
 /// Returns the indices of the operands that are not marked, but for those with a register of their
 /// own. Returns `Err` if an allocation fails.
-fn unmarked(
-    alloc: Global,
-    slots: &[Operand<'_>],
-    marks: &[bool],
-) -> Result<Vec<usize>, AllocError>
+fn unmarked(alloc: Global, slots: &[Operand<'_>], marks: &[bool]) -> Result<Vec<usize>, AllocError>
     ensures { IfOk result (λ v. v.items
         ≡ unused_from (λ i. get_or marks.now i false) 0 (map seen_operand slots.now)) }
 {

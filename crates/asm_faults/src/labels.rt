@@ -144,13 +144,28 @@ impl<'a> AsmCall<'a> {
         let mut labels = Vec::new(alloc);
         match fault {
             AsmFault::PositionalAfter { operand } => {
-                push_label(&mut labels, AsmSpot::Operand(*operand), true, "positional argument")?;
+                push_label(
+                    &mut labels,
+                    AsmSpot::Operand(*operand),
+                    true,
+                    "positional argument",
+                )?;
                 push_named(&mut labels, &self.operands, *operand)?;
                 push_registers(&mut labels, &self.operands, *operand)?;
             }
             AsmFault::RepeatedName { operand, first } => {
-                push_label(&mut labels, AsmSpot::Operand(*operand), true, "duplicate argument")?;
-                push_label(&mut labels, AsmSpot::Operand(*first), false, "previously here")?;
+                push_label(
+                    &mut labels,
+                    AsmSpot::Operand(*operand),
+                    true,
+                    "duplicate argument",
+                )?;
+                push_label(
+                    &mut labels,
+                    AsmSpot::Operand(*first),
+                    false,
+                    "previously here",
+                )?;
             }
             AsmFault::RegisterName { operand } => {
                 push_label(&mut labels, AsmSpot::Operand(*operand), true, "")?;

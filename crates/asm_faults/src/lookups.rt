@@ -1,11 +1,11 @@
 //! What is looked up for the placeholders of a template, in rustc's order.
 
-ghost use Rattle.std.specs.Prelude.{◌≡◌, ◌≤◌, ◌∷◌, ◌++◌, [], OnOk, chars, length, map, option_map};
-ghost use Rattle.std.specs.Prelude.{drop};
+ghost use Rattle.std.specs.Prelude.{◌≡◌, ◌≤◌, ◌∷◌, ◌++◌, [], OnOk, Some, chars, drop, length, map};
+ghost use Rattle.std.specs.Prelude.{option_map};
 ghost use Rattle.rustc_parse_format.specs.Seen.{pair, seen, seen_argument, seen_position};
 ghost use Rattle.asm_faults.specs.Lookups.{argument_lookups, first_spot, is_long, is_next};
-ghost use Rattle.asm_faults.specs.Lookups.{modifier_lookups, next_after, next_behind, piece_lookups};
-ghost use Rattle.asm_faults.specs.Lookups.{position_lookup, spot_of};
+ghost use Rattle.asm_faults.specs.Lookups.{modifier_lookups, next_after, next_behind};
+ghost use Rattle.asm_faults.specs.Lookups.{piece_lookups, position_lookup, spot_of};
 ghost use Rattle.asm_faults.specs.Seen.{seen_lookup};
 
 use crate::faults::AsmSpot;
@@ -115,15 +115,12 @@ fn push_modifier<'a>(
     template: usize,
     argument: &Argument<'a>,
 ) -> Result<(), AllocError>
-    ensures { OnOk result (map seen_lookup lookups.new.items ≡ map seen_lookup lookups.old.items
+    ensures lookups { OnOk result (map seen_lookup lookups.new.items ≡ map seen_lookup lookups.old.items
         ++ modifier_lookups template (seen_argument argument.now).format) }
     ensures more { OnOk result (length lookups.old.items ≤ length lookups.new.items) }
 {
     if is_long(argument.format.ty) {
-        lookups.push(Lookup::LongModifier(spot_of(
-            template,
-            &argument.format.ty_span,
-        )))?;
+        lookups.push(Lookup::LongModifier(spot_of(template, &argument.format.ty_span)))?;
     }
     Ok(())
 }

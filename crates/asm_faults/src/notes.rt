@@ -58,7 +58,11 @@ fn put_count(out: &mut String, operands: &[Operand<'_>]) -> Result<(), AllocErro
         out.push_str("s were given")?;
         return Ok(());
     }
-    out.push_str(if count == 1 { "there is " } else { "there are " })?;
+    out.push_str(if count == 1 {
+        "there is "
+    } else {
+        "there are "
+    })?;
     put_number(out, count)?;
     out.push(' ')?;
     out.push_str(noun)?;

@@ -1,12 +1,11 @@
 //! The list of operands of a call.
 
-ghost use Rattle.std.specs.Prelude.{◌≡◌, ◌∷◌, ◌++◌, [], ℕ, suc, List, IfOk, OnOk, chars, map};
-ghost use Rattle.std.specs.Prelude.{Some, None, if◌then◌else◌, length};
-ghost use Rattle.std.specs.List.{list_any};
+ghost use Rattle.std.specs.Prelude.{◌≡◌, ◌∷◌, ◌++◌, [], List, IfOk, OnOk, Some, chars, length};
+ghost use Rattle.std.specs.Prelude.{if◌then◌else◌, map};
 ghost use Rattle.std.specs.Str.{bytes_eq};
 ghost use Rattle.rustc_parse_format.specs.Characters.{Text};
-ghost use Rattle.asm_faults.specs.Operands.{Operand as OperandValue, faults_from, faults_of, index_of};
-ghost use Rattle.asm_faults.specs.Operands.{is_other, slot, slots_after};
+ghost use Rattle.asm_faults.specs.Operands.{Named, Operand as OperandValue, Register, Unnamed};
+ghost use Rattle.asm_faults.specs.Operands.{faults_from, faults_of, slot, slots_after};
 ghost use Rattle.asm_faults.specs.Seen.{Holds, found_in, seen_fault, seen_operand};
 
 use crate::faults::AsmFault;
@@ -77,10 +76,10 @@ fn add_unnamed<'a>(
     index: usize,
 ) -> Result<(), AllocError>
     ensures held { OnOk result ((ss : List OperandValue) → Holds ss operands.old
-        → Holds (ss ++ seen_operand Operand.Unnamed ∷ []) operands.new) }
+        → Holds (ss ++ Unnamed ∷ []) operands.new) }
     ensures told { OnOk result ((ss : List OperandValue) → Holds ss operands.old
         → map seen_fault faults.new.items ≡ map seen_fault faults.old.items
-        ++ faults_of ss index (seen_operand Operand.Unnamed)) }
+        ++ faults_of ss index Unnamed) }
 {
     if operands.has_others {
         faults.push(AsmFault::PositionalAfter { operand: index })?;
@@ -99,10 +98,10 @@ fn add_named<'a>(
 ) -> Result<(), AllocError>
     ensures held { OnOk result ((ss : List OperandValue) → Holds ss operands.old
         → index ≡ length ss
-        → Holds (ss ++ slot ss (seen_operand (Operand.Named name.entry)) ∷ []) operands.new) }
+        → Holds (ss ++ slot ss (Named (chars name.now)) ∷ []) operands.new) }
     ensures told { OnOk result ((ss : List OperandValue) → Holds ss operands.old
         → map seen_fault faults.new.items ≡ map seen_fault faults.old.items
-        ++ faults_of ss index (seen_operand (Operand.Named name.entry))) }
+        ++ faults_of ss index (Named (chars name.now))) }
 {
     match index_of(&operands.names, name) {
         Some(first) => {
@@ -130,10 +129,10 @@ fn add_register<'a>(
     has_name: bool,
 ) -> Result<(), AllocError>
     ensures held { OnOk result ((ss : List OperandValue) → Holds ss operands.old
-        → Holds (ss ++ seen_operand (Operand.Register has_name) ∷ []) operands.new) }
+        → Holds (ss ++ Register has_name ∷ []) operands.new) }
     ensures told { OnOk result ((ss : List OperandValue)
         → map seen_fault faults.new.items ≡ map seen_fault faults.old.items
-        ++ faults_of ss index (seen_operand (Operand.Register has_name))) }
+        ++ faults_of ss index (Register has_name)) }
 {
     if has_name {
         faults.push(AsmFault::RegisterName { operand: index })?;

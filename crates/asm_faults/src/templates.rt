@@ -1,16 +1,16 @@
 //! The templates of a call, one after the other.
 
-ghost use Rattle.std.specs.Prelude.{◌≡◌, ◌+◌, ◌<◌, ◌≤◌, ◌^◌, ◌++◌, ℕ, IfOk, OnOk, length, map};
-ghost use Rattle.std.specs.Prelude.{is_none, option_map};
+ghost use Rattle.std.specs.Prelude.{◌≡◌, ◌+◌, ◌<◌, ◌≤◌, ◌^◌, ◌++◌, IfOk, OnOk, length, map};
+ghost use Rattle.std.specs.Prelude.{option_map};
 ghost use Rattle.std.specs.List.{AllByRecursion};
+ghost use Rattle.rustc_parse_format.specs.Seen.{seen_snippet};
 ghost use Rattle.rustc_parse_format.specs.SeenFaults.{seen_fault as seen_text_fault};
 ghost use Rattle.rustc_parse_format.specs.World.{hashes};
-ghost use Rattle.rustc_parse_format.specs.Seen.{seen_snippet};
 ghost use Rattle.placeholder_check.specs.Seen.{text as seen_text};
 ghost use Rattle.call_faults.specs.Texts.{text_fault};
 ghost use Rattle.asm_faults.specs.Seen.{seen_fault, seen_lookup, seen_template};
-ghost use Rattle.asm_faults.specs.Templates.{start, template_fault, template_lookups};
-ghost use Rattle.asm_faults.specs.Templates.{lookups_from, next_behind_template};
+ghost use Rattle.asm_faults.specs.Templates.{lookups_from, next_behind_template, start};
+ghost use Rattle.asm_faults.specs.Templates.{template_fault, template_lookups};
 
 use crate::faults::AsmFault;
 use crate::lookups::{Walk, push_pieces};
@@ -89,7 +89,8 @@ fn push_template<'a>(
 }
 
 /// Adds what is looked up for the placeholders of templates, up to the first that is not in the
-/// grammar, and returns its fault, or `None` if there is none. Returns `Err` if an allocation fails.
+/// grammar, and returns its fault, or `None` if there is none. Returns `Err` if an allocation
+/// fails.
 pub(crate) fn push_templates<'a>(
     alloc: Global,
     walk: &mut Walk<'a>,

@@ -134,7 +134,11 @@ impl<'a> AsmCall<'a> {
                 Ok(())
             }
             AsmFault::RepeatedName { first, .. } => {
-                put_named(out, "duplicate argument named ", name_of(&self.operands, *first))
+                put_named(
+                    out,
+                    "duplicate argument named ",
+                    name_of(&self.operands, *first),
+                )
             }
             AsmFault::RegisterName { .. } => {
                 out.push_str("explicit register arguments cannot have names")?;
@@ -148,9 +152,7 @@ impl<'a> AsmCall<'a> {
                 out.push_str("asm template modifier must be a single character")?;
                 Ok(())
             }
-            AsmFault::Text { fault, .. } => {
-                put_text_title(*self.faults.allocator(), out, fault)
-            }
+            AsmFault::Text { fault, .. } => { put_text_title(*self.faults.allocator(), out, fault) }
             AsmFault::UnusedOperands(unused) => {
                 out.push_str(unused_title(&self.operands, unused))?;
                 Ok(())
