@@ -8,9 +8,7 @@ use crate::report::{CallReading, Finding, Help, Label, Note};
 use crate::spans::{Site, spot_range};
 use asm_faults::{AsmCall, AsmFault, AsmLabel, AsmNote, AsmSpot, Operand, Template, asm_faults};
 use call_faults::Spot;
-use format_calls::{
-    Argument, AsmPart, Call, are_counted, asm_part, template_count, token_at,
-};
+use format_calls::{Argument, AsmPart, Call, are_counted, asm_part, template_count, token_at};
 use rust_trees::{Source, Token};
 use std::alloc::{AllocError, Global};
 use std::ops::Range;
@@ -259,7 +257,11 @@ pub fn read_templates(
     let count = template_count(tokens, arguments);
     let templates = first_tokens(alloc, tokens, &arguments[..count])?;
     let operands = operands_of(alloc, tokens, &arguments[count..])?;
-    let end = if count > 0 { arguments[count - 1].end } else { call.close };
+    let end = if count > 0 {
+        arguments[count - 1].end
+    } else {
+        call.close
+    };
     let is_counted = operands.are_known && are_counted(part, call.name + 2, end, call.close);
     let site = AsmSite {
         text: file.text,
@@ -270,7 +272,11 @@ pub fn read_templates(
     let Some(literals) = literals(alloc, &templates)? else {
         return Ok(CallReading::Malformed);
     };
-    let read = if operands.is_raw { &literals[..0] } else { &literals[..] };
+    let read = if operands.is_raw {
+        &literals[..0]
+    } else {
+        &literals[..]
+    };
     put_findings(alloc, findings, site, read, &operands.list, is_counted)?;
     Ok(if is_counted {
         CallReading::Whole

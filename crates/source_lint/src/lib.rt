@@ -2,6 +2,7 @@
 #![tactic(auto)]
 
 mod assembly;
+mod attributes;
 mod findings;
 mod givens;
 mod labels;

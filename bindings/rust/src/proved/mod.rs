@@ -12,6 +12,7 @@ pub mod formatread;
 pub mod lint_words;
 pub mod listing_json;
 pub mod literal_faults;
+pub mod message_faults;
 pub mod message_forms;
 pub mod package_edition;
 pub mod piece_listing;

@@ -6,8 +6,8 @@
 
 use crate::proved::rustc_parse_format::Fault;
 
-/// A place in the source of a call, which is a byte range there. An operand and a template are named
-/// by their index among all that are given.
+/// A place in the source of a call, which is a byte range there. An operand and a template are
+/// named by their index among all that are given.
 #[derive(Clone, Copy, Debug, PartialEq)]
 pub enum AsmSpot {
     /// An operand, from its name on if it has one.

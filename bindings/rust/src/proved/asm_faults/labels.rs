@@ -28,7 +28,7 @@ pub struct AsmLabel {
 // ensures { OnOk result (map seen_label labels.new.items
 //     ≡ map seen_label labels.old.items ++ label spot is_primary text.now ∷ []) }
 #[inline]
-fn try_push(
+fn push_label(
     labels: &mut Vec<AsmLabel>,
     spot: AsmSpot,
     is_primary: bool,
@@ -53,7 +53,7 @@ fn push_named(
     for (index, operand) in operands.iter().enumerate() {
         if index < before {
             if let Operand::Named(_) = operand {
-                push(labels, AsmSpot::Operand(index), false, "named argument")?;
+                push_label(labels, AsmSpot::Operand(index), false, "named argument")?;
             }
         }
     }
@@ -71,7 +71,7 @@ fn push_registers(
         if index < before {
             if let Operand::Register { .. } = operand {
                 let text = "explicit register argument";
-                push(labels, AsmSpot::Operand(index), false, text)?;
+                push_label(labels, AsmSpot::Operand(index), false, text)?;
             }
         }
     }
@@ -86,14 +86,14 @@ fn push_wrong(
     spot: AsmSpot,
     index: usize,
 ) -> Result<(), AllocError> {
-    push(labels, spot, true, "from here")?;
+    push_label(labels, spot, true, "from here")?;
     match operands.get(index) {
         Some(Operand::Named(_)) => {
-            push(labels, AsmSpot::Operand(index), false, "named argument")?;
+            push_label(labels, AsmSpot::Operand(index), false, "named argument")?;
         }
         Some(Operand::Register { .. }) => {
             let text = "explicit register argument";
-            push(labels, AsmSpot::Operand(index), false, text)?;
+            push_label(labels, AsmSpot::Operand(index), false, text)?;
         }
         Some(Operand::Unnamed) | None => {}
     }
@@ -116,7 +116,7 @@ fn push_text(
         start: error.span.start,
         end: error.span.end,
     };
-    push(labels, spot, true, &text)?;
+    push_label(labels, spot, true, &text)?;
     if let Some((text, span)) = &error.secondary_label {
         let is_same = span.start == error.span.start && span.end == error.span.end;
         let second = AsmSpot::Bytes {
@@ -124,7 +124,7 @@ fn push_text(
             start: span.start,
             end: span.end,
         };
-        push(labels, second, is_same, text)?;
+        push_label(labels, second, is_same, text)?;
     }
     Ok(())
 }
@@ -138,7 +138,7 @@ fn push_unused(
 ) -> Result<(), AllocError> {
     for index in unused {
         let text = never_used(operands, *index);
-        push(labels, AsmSpot::Operand(*index), true, text)?;
+        push_label(labels, AsmSpot::Operand(*index), true, text)?;
     }
     Ok(())
 }
@@ -151,7 +151,7 @@ impl<'a> AsmCall<'a> {
         let mut labels = Vec::made_in(alloc);
         match fault {
             AsmFault::PositionalAfter { operand } => {
-                push(
+                push_label(
                     &mut labels,
                     AsmSpot::Operand(*operand),
                     true,
@@ -161,13 +161,13 @@ impl<'a> AsmCall<'a> {
                 push_registers(&mut labels, &self.operands, *operand)?;
             }
             AsmFault::RepeatedName { operand, first } => {
-                push(
+                push_label(
                     &mut labels,
                     AsmSpot::Operand(*operand),
                     true,
                     "duplicate argument",
                 )?;
-                push(
+                push_label(
                     &mut labels,
                     AsmSpot::Operand(*first),
                     false,
@@ -175,13 +175,13 @@ impl<'a> AsmCall<'a> {
                 )?;
             }
             AsmFault::RegisterName { operand } => {
-                push(&mut labels, AsmSpot::Operand(*operand), true, "")?;
+                push_label(&mut labels, AsmSpot::Operand(*operand), true, "")?;
             }
             AsmFault::WrongIndex { spot, index } => {
                 push_wrong(&mut labels, &self.operands, *spot, *index)?;
             }
             AsmFault::MissingName { spot, .. } | AsmFault::LongModifier { spot } => {
-                push(&mut labels, *spot, true, "")?;
+                push_label(&mut labels, *spot, true, "")?;
             }
             AsmFault::Text { template, fault } => {
                 push_text(alloc, &mut labels, *template, fault)?;

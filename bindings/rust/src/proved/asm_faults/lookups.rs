@@ -106,7 +106,7 @@ fn is_long(ty: &str) -> bool {
 }
 
 /// Adds what is looked up for the modifier of a placeholder. Returns `Err` if an allocation fails.
-// ensures { OnOk result (map seen_lookup lookups.new.items ≡ map seen_lookup lookups.old.items
+// ensures lookups { OnOk result (map seen_lookup lookups.new.items ≡ map seen_lookup lookups.old.items
 //     ++ modifier_lookups template (seen_argument argument.now).format) }
 // ensures more { OnOk result (length lookups.old.items ≤ length lookups.new.items) }
 #[inline]

@@ -27,7 +27,7 @@ pub struct AsmNote {
 
 /// Adds a note or a help.
 #[inline]
-fn try_push(
+fn push_note(
     notes: &mut Vec<AsmNote>,
     is_help: bool,
     text: &str,
@@ -90,18 +90,18 @@ fn push_wrong(
 ) -> Result<(), AllocError> {
     let mut text = String::made_in(alloc);
     put_count(&mut text, operands)?;
-    push(notes, false, &text, None)?;
+    push_note(notes, false, &text, None)?;
     let spot = Some(AsmSpot::Operand(index));
     match operands.get(index) {
         Some(Operand::Named(_)) => {
             let text = "named arguments cannot be referenced by position";
-            push(notes, false, text, spot)?;
+            push_note(notes, false, text, spot)?;
         }
         Some(Operand::Register { .. }) => {
             let text = "explicit register arguments cannot be used in the asm template";
-            push(notes, false, text, spot)?;
+            push_note(notes, false, text, spot)?;
             let text = "use the register name directly in the assembly code";
-            push(notes, true, text, spot)?;
+            push_note(notes, true, text, spot)?;
         }
         Some(Operand::Unnamed) | None => {}
     }
@@ -113,7 +113,7 @@ fn push_wrong(
 fn push_text(alloc: Global, notes: &mut Vec<AsmNote>, fault: &Fault<'_>) -> Result<(), AllocError> {
     let error = fault.error(alloc)?;
     if let Some(note) = &error.note {
-        push(notes, false, note, None)?;
+        push_note(notes, false, note, None)?;
     }
     Ok(())
 }
@@ -155,7 +155,7 @@ fn push_unused(
     text.try_push_str(" in an asm comment: `\"/*")?;
     put_placeholders(&mut text, operands, unused)?;
     text.try_push_str(" */\"`")?;
-    push(notes, true, &text, None)?;
+    push_note(notes, true, &text, None)?;
     Ok(())
 }
 

@@ -67,10 +67,10 @@ fn insert<'a>(
 /// Adds an operand without a name and without a register of its own, and its fault if it stands
 /// behind one that has one of them. Returns `Err` if an allocation fails.
 // ensures held { OnOk result ((ss : List OperandValue) → Holds ss operands.old
-//     → Holds (ss ++ seen_operand Operand.Unnamed ∷ []) operands.new) }
+//     → Holds (ss ++ Unnamed ∷ []) operands.new) }
 // ensures told { OnOk result ((ss : List OperandValue) → Holds ss operands.old
 //     → map seen_fault faults.new.items ≡ map seen_fault faults.old.items
-//     ++ faults_of ss index (seen_operand Operand.Unnamed)) }
+//     ++ faults_of ss index Unnamed) }
 #[inline]
 fn add_unnamed<'a>(
     operands: &mut Operands<'a>,
@@ -88,10 +88,10 @@ fn add_unnamed<'a>(
 /// then counts as unnamed. Returns `Err` if an allocation fails.
 // ensures held { OnOk result ((ss : List OperandValue) → Holds ss operands.old
 //     → index ≡ length ss
-//     → Holds (ss ++ slot ss (seen_operand (Operand.Named name.entry)) ∷ []) operands.new) }
+//     → Holds (ss ++ slot ss (Named (chars name.now)) ∷ []) operands.new) }
 // ensures told { OnOk result ((ss : List OperandValue) → Holds ss operands.old
 //     → map seen_fault faults.new.items ≡ map seen_fault faults.old.items
-//     ++ faults_of ss index (seen_operand (Operand.Named name.entry))) }
+//     ++ faults_of ss index (Named (chars name.now))) }
 #[inline]
 fn add_named<'a>(
     operands: &mut Operands<'a>,
@@ -119,10 +119,10 @@ fn add_named<'a>(
 /// Adds an operand with a register of its own, and its fault if it has a name. Returns `Err` if an
 /// allocation fails.
 // ensures held { OnOk result ((ss : List OperandValue) → Holds ss operands.old
-//     → Holds (ss ++ seen_operand (Operand.Register has_name) ∷ []) operands.new) }
+//     → Holds (ss ++ Register has_name ∷ []) operands.new) }
 // ensures told { OnOk result ((ss : List OperandValue)
 //     → map seen_fault faults.new.items ≡ map seen_fault faults.old.items
-//     ++ faults_of ss index (seen_operand (Operand.Register has_name))) }
+//     ++ faults_of ss index (Register has_name)) }
 #[inline]
 fn add_register<'a>(
     operands: &mut Operands<'a>,

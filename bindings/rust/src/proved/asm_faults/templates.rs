@@ -83,7 +83,8 @@ fn push_template<'a>(
 }
 
 /// Adds what is looked up for the placeholders of templates, up to the first that is not in the
-/// grammar, and returns its fault, or `None` if there is none. Returns `Err` if an allocation fails.
+/// grammar, and returns its fault, or `None` if there is none. Returns `Err` if an allocation
+/// fails.
 // requires fits { AllByRecursion (λ t. hashes t.style + length t.text.now + 2 < 2 ^ 64)
 //     templates.now }
 // requires few { walk.old.next ≤ length walk.old.lookups.items }

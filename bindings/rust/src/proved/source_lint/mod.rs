@@ -5,6 +5,7 @@
 // by results from outside, and beside what is proved (.ci/bindings) and the original (tools/agree).
 
 pub(crate) mod assembly;
+pub(crate) mod attributes;
 pub(crate) mod findings;
 pub(crate) mod givens;
 pub(crate) mod labels;
