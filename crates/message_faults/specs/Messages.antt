@@ -11,8 +11,9 @@ use Rattle.rustc_parse_format.specs.State.{State, calls}
 use Rattle.rustc_parse_format.specs.Types.{Argument, Piece, Lit, NextArgument}
 use Rattle.rustc_parse_format.specs.Types.{Position, Implicit, Index, Named}
 use Rattle.rustc_parse_format.specs.World.{Place, pieces_in}
-use Rattle.call_faults.specs.Spots.{bytes_at}
+use Rattle.call_faults.specs.Texts.{text_fault}
 use Rattle.call_faults.specs.declared.spots.Spot.{Spot}
+use Rattle.call_faults.specs.declared.spots.Spot.TheVariants.{Bytes, Literal}
 
 -- What can be wrong with a text, as plain data.
 pub data MessageFault : Type 0 where
@@ -29,10 +30,14 @@ pub data MessageFault : Type 0 where
 abbrev pub is_parameter : List Text → Text → Bool
 is_parameter ps w = bytes_eq w (codes "Self") || list_any (λ p. bytes_eq p w) ps
 
+-- A range of the literal, or all of it where its ranges are not known.
+abbrev pub spot_of : Bool → Place → Spot
+spot_of b p = if b then Bytes p.0 p.1 else Literal
+
 -- The fault of the specification of a placeholder, if it has one.
-abbrev pub specifier_faults : Option Place → List MessageFault
-specifier_faults None = []
-specifier_faults (Some p) = Specifier (bytes_at p) ∷ []
+abbrev pub specifier_faults : Bool → Option Place → List MessageFault
+specifier_faults b None = []
+specifier_faults b (Some p) = Specifier (spot_of b p) ∷ []
 
 -- The fault of a name, if it is none of these parameters. Without them each name may mean something.
 abbrev pub name_faults : Option (List Text) → Spot → Text → List MessageFault
@@ -46,22 +51,25 @@ position_faults ps s (Index n) = Positional s ∷ []
 position_faults ps s (Named w) = name_faults ps s w
 
 -- What is wrong with a placeholder.
-abbrev pub placeholder_faults : Option (List Text) → Argument Place → List MessageFault
-placeholder_faults ps a = specifier_faults a.format.ty_span
-    ++ position_faults ps (bytes_at a.position_span) a.position
+abbrev pub placeholder_faults : Option (List Text) → Bool → Argument Place → List MessageFault
+placeholder_faults ps b a = specifier_faults b a.format.ty_span
+    ++ position_faults ps (spot_of b a.position_span) a.position
 
 -- What is wrong with these pieces.
-abbrev pub faults_of : Option (List Text) → List (Piece Place) → List MessageFault
-faults_of ps [] = []
-faults_of ps (Lit t ∷ qs) = faults_of ps qs
-faults_of ps (NextArgument a ∷ qs) = placeholder_faults ps a ++ faults_of ps qs
+abbrev pub faults_of : Option (List Text) → Bool → List (Piece Place) → List MessageFault
+faults_of ps b [] = []
+faults_of ps b (Lit t ∷ qs) = faults_of ps b qs
+faults_of ps b (NextArgument a ∷ qs) = placeholder_faults ps b a ++ faults_of ps b qs
 
 -- The pieces of the text at whose start the parser is.
 abbrev pub pieces : State → List (Piece Place)
 pieces s = pieces_in s.world (pieces_of (calls s))
 
--- What is wrong with a text that has this fault or none, and these pieces.
-abbrev pub message_faults : Option (List Text) → Option (Fault Place) → List (Piece Place)
-    → List MessageFault
-message_faults ps None qs = faults_of ps qs
-message_faults ps (Some f) qs = TextFault f ∷ []
+-- What is wrong with a text that has this fault or none, at whose start the parser is.
+abbrev pub faults_or : Option (List Text) → State → Option (Fault Place) → List MessageFault
+faults_or ps s None = faults_of ps s.world.has_source (pieces s)
+faults_or ps s (Some f) = TextFault f ∷ []
+
+-- What is wrong with the text at whose start the parser is.
+abbrev pub message_faults : Option (List Text) → State → List MessageFault
+message_faults ps s = faults_or ps s (text_fault s)

@@ -1,5 +1,5 @@
 -- What a contract sees of the values of this crate.
-use Rattle.std.specs.Prelude.{option_map, false}
+use Rattle.std.specs.Prelude.{None, option_map, false}
 use Rattle.rustc_parse_format.specs.SeenFaults.{seen_fault as seen_text_fault}
 use Rattle.rustc_parse_format.specs.State.{State, first_state}
 use Rattle.rustc_parse_format.specs.Types.{Diagnostic}
@@ -15,7 +15,7 @@ use Rattle.message_faults.specs.Messages.{MissingParameter}
 
 -- A parser at the start of a text.
 abbrev pub start : Message → State
-start m = first_state Diagnostic (text m.text) m.style (option_map text m.snippet) false
+start m = first_state Diagnostic (text m.text) None (option_map text m.snippet) false
 
 -- A fault as a contract sees it.
 abbrev pub seen_fault : DeclaredFault → MessageFault

@@ -4,11 +4,9 @@ ghost use Rattle.std.specs.Prelude.{◌≡◌, ◌+◌, ◌<◌, ◌^◌, ◌++�
 ghost use Rattle.std.specs.Prelude.{option_map};
 ghost use Rattle.rustc_parse_format.specs.Seen.{pair, seen_argument, seen_snippet};
 ghost use Rattle.rustc_parse_format.specs.SeenFaults.{seen_fault as seen_text_fault};
-ghost use Rattle.rustc_parse_format.specs.World.{hashes};
 ghost use Rattle.placeholder_check.specs.Seen.{text as seen_text};
-ghost use Rattle.call_faults.specs.Spots.{bytes_at};
 ghost use Rattle.call_faults.specs.Texts.{text_fault};
-ghost use Rattle.message_faults.specs.Messages.{is_parameter, message_faults, name_faults, pieces};
+ghost use Rattle.message_faults.specs.Messages.{is_parameter, message_faults, name_faults, spot_of};
 ghost use Rattle.message_faults.specs.Messages.{placeholder_faults, specifier_faults};
 ghost use Rattle.message_faults.specs.Seen.{seen_fault, start};
 
@@ -23,9 +21,8 @@ use std::ops::Range;
 pub struct Message<'a> {
     /// The text that its literal stands for.
     pub text: &'a str,
-    /// `None` for an ordinary literal, and `Some` of the number of hashes for a raw one.
-    pub style: Option<usize>,
-    /// The literal as it is in the source, if it is known.
+    /// The literal as it is in the source, if it is known. In a raw one no place is shown: rustc
+    /// takes it for an ordinary one.
     pub snippet: Option<&'a str>,
     /// The parameters of the trait that are types or constants, or `None` if other names mean
     /// something too, as in the attribute of the compiler itself.
@@ -45,7 +42,7 @@ fn owned(alloc: Global, text: Option<&str>) -> Result<Option<String>, AllocError
 /// Returns the fault of a text that rustc shows, or `None` if it is in the grammar. Returns `Err`
 /// if an allocation fails.
 fn fault_of<'a>(alloc: Global, message: Message<'a>) -> Result<Option<Fault<'a>>, AllocError>
-    requires { hashes message.style + length message.text.now + 2 < 2 ^ 64 }
+    requires { length message.text.now + 2 < 2 ^ 64 }
     ensures { IfOk result (λ o. option_map seen_text_fault o
         ≡ text_fault (start message.entry)) }
 {
@@ -53,7 +50,7 @@ fn fault_of<'a>(alloc: Global, message: Message<'a>) -> Result<Option<Fault<'a>>
     let mut parser = Parser::new(
         alloc,
         message.text,
-        message.style,
+        None,
         snippet,
         false,
         ParseMode::Diagnostic,
@@ -77,10 +74,13 @@ fn is_parameter(parameters: &[&str], name: &str) -> bool
     false
 }
 
-/// Returns a range of the literal.
-fn bytes_at(span: &Range<usize>) -> Spot
-    ensures { result ≡ bytes_at (pair span.now) }
+/// Returns a range of the literal, or all of it where its ranges are not known.
+fn spot_of(is_known: bool, span: &Range<usize>) -> Spot
+    ensures { result ≡ spot_of is_known (pair span.now) }
 {
+    if !is_known {
+        return Spot::Literal;
+    }
     Spot::Bytes {
         start: span.start,
         end: span.end,
@@ -91,14 +91,15 @@ fn bytes_at(span: &Range<usize>) -> Spot
 /// allocation fails.
 fn push_specifier<'a>(
     faults: &mut Vec<MessageFault<'a>>,
+    is_known: bool,
     span: &Option<Range<usize>>,
 ) -> Result<(), AllocError>
     ensures { OnOk result (map seen_fault faults.new.items ≡ map seen_fault faults.old.items
-        ++ specifier_faults (option_map pair span.now)) }
+        ++ specifier_faults is_known (option_map pair span.now)) }
 {
     if let Some(span) = span {
         faults.push(MessageFault::Specifier {
-            spot: bytes_at(span),
+            spot: spot_of(is_known, span),
         })?;
     }
     Ok(())
@@ -126,14 +127,15 @@ fn push_name<'a>(
 fn push_placeholder<'a>(
     faults: &mut Vec<MessageFault<'a>>,
     parameters: Option<&[&str]>,
+    is_known: bool,
     argument: &Argument<'a>,
 ) -> Result<(), AllocError>
     ensures { OnOk result (map seen_fault faults.new.items ≡ map seen_fault faults.old.items
         ++ placeholder_faults (option_map (λ ps. map seen_text ps.now) parameters.entry)
-        (seen_argument argument.now)) }
+        is_known (seen_argument argument.now)) }
 {
-    push_specifier(faults, &argument.format.ty_span)?;
-    let spot = bytes_at(&argument.position_span);
+    push_specifier(faults, is_known, &argument.format.ty_span)?;
+    let spot = spot_of(is_known, &argument.position_span);
     match argument.position {
         Position::ArgumentNamed(name) => push_name(faults, parameters, spot, name)?,
         Position::ArgumentIs(_) | Position::ArgumentImplicitlyIs(_) => {
@@ -146,16 +148,15 @@ fn push_placeholder<'a>(
 /// Checks a text of the attribute `diagnostic::on_unimplemented`, and returns what is wrong, in the
 /// order of its placeholders. Their specifications and positions are both looked at.
 ///
-/// The number of hashes, the length of the text in bytes, and 2 must together fit into a `usize`.
-/// Returns `Err` if an allocation fails.
+/// The length of the text in bytes and 2 must together fit into a `usize`. Returns `Err` if an allocation fails.
 pub fn message_faults<'a>(
     alloc: Global,
     message: Message<'a>,
 ) -> Result<Vec<MessageFault<'a>>, AllocError>
-    requires { hashes message.style + length message.text.now + 2 < 2 ^ 64 }
+    requires { length message.text.now + 2 < 2 ^ 64 }
     ensures { IfOk result (λ v. map seen_fault v.items ≡ message_faults
         (option_map (λ ps. map seen_text ps.now) message.entry.parameters)
-        (text_fault (start message.entry)) (pieces (start message.entry))) }
+        (start message.entry)) }
 {
     let mut faults = Vec::new(alloc);
     if let Some(fault) = fault_of(alloc, message)? {
@@ -163,17 +164,18 @@ pub fn message_faults<'a>(
         return Ok(faults);
     }
     let snippet = owned(alloc, message.snippet)?;
-    let (pieces, _) = read_all(
+    let (pieces, parser) = read_all(
         alloc,
         message.text,
-        message.style,
+        None,
         snippet,
         false,
         ParseMode::Diagnostic,
     )?;
+    let is_known = parser.is_source_literal();
     for piece in &pieces {
         if let Piece::NextArgument(argument) = piece {
-            push_placeholder(&mut faults, message.parameters, argument)?;
+            push_placeholder(&mut faults, message.parameters, is_known, argument)?;
         }
     }
     Ok(faults)
