@@ -17,9 +17,8 @@ use std::ops::Range;
 pub struct Message<'a> {
     /// The text that its literal stands for.
     pub text: &'a str,
-    /// `None` for an ordinary literal, and `Some` of the number of hashes for a raw one.
-    pub style: Option<usize>,
-    /// The literal as it is in the source, if it is known.
+    /// The literal as it is in the source, if it is known. In a raw one no place is shown: rustc
+    /// takes it for an ordinary one.
     pub snippet: Option<&'a str>,
     /// The parameters of the trait that are types or constants, or `None` if other names mean
     /// something too, as in the attribute of the compiler itself.
@@ -38,7 +37,7 @@ fn owned(alloc: Global, text: Option<&str>) -> Result<Option<String>, AllocError
 
 /// Returns the fault of a text that rustc shows, or `None` if it is in the grammar. Returns `Err`
 /// if an allocation fails.
-// requires { hashes message.style + length message.text.now + 2 < 2 ^ 64 }
+// requires { length message.text.now + 2 < 2 ^ 64 }
 // ensures { IfOk result (λ o. option_map seen_text_fault o
 //     ≡ text_fault (start message.entry)) }
 #[inline]
@@ -47,7 +46,7 @@ fn fault_of<'a>(alloc: Global, message: Message<'a>) -> Result<Option<Fault<'a>>
     let mut parser = Parser::new(
         alloc,
         message.text,
-        message.style,
+        None,
         snippet,
         false,
         ParseMode::Diagnostic,
@@ -71,10 +70,13 @@ fn is_parameter(parameters: &[&str], name: &str) -> bool {
     false
 }
 
-/// Returns a range of the literal.
-// ensures { result ≡ bytes_at (pair span.now) }
+/// Returns a range of the literal, or all of it where its ranges are not known.
+// ensures { result ≡ spot_of is_known (pair span.now) }
 #[inline]
-fn bytes_at(span: &Range<usize>) -> Spot {
+fn spot_of(is_known: bool, span: &Range<usize>) -> Spot {
+    if !is_known {
+        return Spot::Literal;
+    }
     Spot::Bytes {
         start: span.start,
         end: span.end,
@@ -84,15 +86,16 @@ fn bytes_at(span: &Range<usize>) -> Spot {
 /// Adds the fault of the specification of a placeholder, if it has one. Returns `Err` if an
 /// allocation fails.
 // ensures { OnOk result (map seen_fault faults.new.items ≡ map seen_fault faults.old.items
-//     ++ specifier_faults (option_map pair span.now)) }
+//     ++ specifier_faults is_known (option_map pair span.now)) }
 #[inline]
 fn push_specifier<'a>(
     faults: &mut Vec<MessageFault<'a>>,
+    is_known: bool,
     span: &Option<Range<usize>>,
 ) -> Result<(), AllocError> {
     if let Some(span) = span {
         faults.try_push(MessageFault::Specifier {
-            spot: bytes_at(span),
+            spot: spot_of(is_known, span),
         })?;
     }
     Ok(())
@@ -119,15 +122,16 @@ fn push_name<'a>(
 /// Adds the faults of a placeholder. Returns `Err` if an allocation fails.
 // ensures { OnOk result (map seen_fault faults.new.items ≡ map seen_fault faults.old.items
 //     ++ placeholder_faults (option_map (λ ps. map seen_text ps.now) parameters.entry)
-//     (seen_argument argument.now)) }
+//     is_known (seen_argument argument.now)) }
 #[inline]
 fn push_placeholder<'a>(
     faults: &mut Vec<MessageFault<'a>>,
     parameters: Option<&[&str]>,
+    is_known: bool,
     argument: &Argument<'a>,
 ) -> Result<(), AllocError> {
-    push_specifier(faults, &argument.format.ty_span)?;
-    let spot = bytes_at(&argument.position_span);
+    push_specifier(faults, is_known, &argument.format.ty_span)?;
+    let spot = spot_of(is_known, &argument.position_span);
     match argument.position {
         Position::ArgumentNamed(name) => push_name(faults, parameters, spot, name)?,
         Position::ArgumentIs(_) | Position::ArgumentImplicitlyIs(_) => {
@@ -140,12 +144,11 @@ fn push_placeholder<'a>(
 /// Checks a text of the attribute `diagnostic::on_unimplemented`, and returns what is wrong, in the
 /// order of its placeholders. Their specifications and positions are both looked at.
 ///
-/// The number of hashes, the length of the text in bytes, and 2 must together fit into a `usize`.
-/// Returns `Err` if an allocation fails.
-// requires { hashes message.style + length message.text.now + 2 < 2 ^ 64 }
+/// The length of the text in bytes and 2 must together fit into a `usize`. Returns `Err` if an allocation fails.
+// requires { length message.text.now + 2 < 2 ^ 64 }
 // ensures { IfOk result (λ v. map seen_fault v.items ≡ message_faults
 //     (option_map (λ ps. map seen_text ps.now) message.entry.parameters)
-//     (text_fault (start message.entry)) (pieces (start message.entry))) }
+//     (start message.entry)) }
 #[inline]
 pub fn message_faults<'a>(
     alloc: Global,
@@ -157,17 +160,18 @@ pub fn message_faults<'a>(
         return Ok(faults);
     }
     let snippet = owned(alloc, message.snippet)?;
-    let (pieces, _) = read_all(
+    let (pieces, parser) = read_all(
         alloc,
         message.text,
-        message.style,
+        None,
         snippet,
         false,
         ParseMode::Diagnostic,
     )?;
+    let is_known = parser.is_source_literal();
     for piece in &pieces {
         if let Piece::NextArgument(argument) = piece {
-            push_placeholder(&mut faults, message.parameters, argument)?;
+            push_placeholder(&mut faults, message.parameters, is_known, argument)?;
         }
     }
     Ok(faults)

@@ -246,7 +246,6 @@ fn read_text(
     };
     let message = Message {
         text: read.text.as_str(),
-        style: read.style,
         snippet: Some(read.snippet.as_str()),
         parameters: if is_internal {
             None
