@@ -165,8 +165,7 @@ pub fn lint_each(
     for number in 0..count {
         let literal = literal(alloc, random, number, 3)?;
         let show = match number % 4 {
-            0 => Show::Tokens,
-            1 => Show::Colours,
+            0 | 1 => Show::Tokens,
             2 => Show::Fix,
             _ => Show::Fault,
         };
@@ -175,6 +174,7 @@ pub fn lint_each(
             is_literal: true,
             path: "src/main.rs",
             show,
+            colours: number % 4 == 1,
         };
         let mut reader = literal.as_bytes();
         let mut written = Vec::new(alloc);

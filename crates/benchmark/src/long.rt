@@ -58,12 +58,19 @@ pub fn list_each(
 }
 
 /// Shows an input.
-fn lint_one(alloc: Global, input: &str, show: Show, digest: &mut Digest) -> Result<(), AllocError> {
+fn lint_one(
+    alloc: Global,
+    input: &str,
+    show: Show,
+    colours: bool,
+    digest: &mut Digest,
+) -> Result<(), AllocError> {
     let task = Task {
         mode: ParseMode::Format,
         is_literal: true,
         path: "src/main.rs",
         show,
+        colours,
     };
     let mut reader = input.as_bytes();
     let mut written = Vec::new(alloc);
@@ -89,10 +96,10 @@ pub fn awkward(
                 let input = input.as_str();
                 match way {
                     0 => list_one(alloc, input, words.as_slice(), digest)?,
-                    1 => lint_one(alloc, input, Show::Fault, digest)?,
-                    2 => lint_one(alloc, input, Show::Tokens, digest)?,
-                    3 => lint_one(alloc, input, Show::Colours, digest)?,
-                    _ => lint_one(alloc, input, Show::Fix, digest)?,
+                    1 => lint_one(alloc, input, Show::Fault, false, digest)?,
+                    2 => lint_one(alloc, input, Show::Tokens, false, digest)?,
+                    3 => lint_one(alloc, input, Show::Tokens, true, digest)?,
+                    _ => lint_one(alloc, input, Show::Fix, false, digest)?,
                 }
             }
         }

@@ -11,7 +11,6 @@ use Rattle.std.proofs.lemmas.Str.{encodes-append, len_utf8_bounds, length-encode
 use Rattle.std.proofs.lemmas.List.{append-nil}
 use Rattle.rustc_parse_format.specs.Characters.{Text}
 use Rattle.drawn_faults.specs.Glyphs.{run, glyphs, glyph, glyph_count}
-use Rattle.drawn_faults.specs.Rows.{columns}
 
 run-suc : (n c : ℕ) → run (suc n) c ≡ run n c ++ encode_utf8 c
 run-suc zero c = append-nil (encode_utf8 c)
@@ -22,14 +21,6 @@ run-suc (suc n) c =
 -- One more character at the end.
 pub run-more : (n c : ℕ) → run (n + 1) c ≡ run n c ++ encode_utf8 c
 run-more n c = ap (λ k. run k c) (add-one n) ∙ run-suc n c
-
--- One more column at the end.
-pub columns-more : (f : ℕ → ℕ) (n : ℕ)
-    → encode_utf8_all (columns f (n + 1)) ≡ encode_utf8_all (columns f n) ++ encode_utf8 (f n)
-columns-more f n =
-    ap (λ k. encode_utf8_all (columns f k)) (add-one n)
-    ∙ (encodes-append (columns f n) (f n ∷ [])
-    ∙ ap (λ x. encode_utf8_all (columns f n) ++ x) (append-nil (encode_utf8 (f n))))
 
 -- A run without its first characters, and what comes after it.
 pub drop-run : (n s g : ℕ) (t : Text)
@@ -67,6 +58,33 @@ some-drawn c t h =
     let some = some-run (glyph_count c) (glyph c) h in
     let l : 0 < length (encode_utf8_all (glyphs (c ∷ t))) =
     omega (arith, n, length-append (run (glyph_count c) (glyph c)) (encode_utf8_all (glyphs t))) in
+    grind (arith, nat_tests)
+
+-- So it is with the first characters of one.
+pub some-front : (n c : ℕ) (t : Text) → 0 < n → 0 < glyph_count c
+    → (length (encode_utf8_all (glyphs (take n (c ∷ t)))) == 0) ≡ false
+some-front zero c t l h = absurd (omega (arith, l))
+some-front (suc n) c t l h = some-drawn c (take n t) h
+
+pub none-front : (n c : ℕ) (t : Text) → 0 < n → glyph_count c ≡ 0
+    → encode_utf8_all (glyphs (take n (c ∷ t))) ≡ encode_utf8_all (glyphs (take (n - 1) t))
+none-front zero c t l h = absurd (omega (arith, l))
+none-front (suc n) c t l h =
+    let a : suc n - 1 ≡ n = omega arith in
+    rw (a, h) refl
+
+-- what `front_draws_nothing` needs
+pub ruleset drawn_front = (some-front, none-front)
+
+-- A run is not empty if it has a character.
+pub run-some : (n c : ℕ) → 0 < n → (length (run n c) == 0) ≡ false
+run-some n c h = let some = some-run n c h in grind (arith, nat_tests)
+
+-- A character has bytes.
+pub some-encoded : (c : ℕ) → (length (encode_utf8 c) == 0) ≡ false
+some-encoded c =
+    let a = length-encode c in
+    let b = len_utf8_bounds c in
     grind (arith, nat_tests)
 
 -- what `draws_nothing` needs

@@ -13,7 +13,6 @@ use Rattle.std.specs.Str.{IsAscii, NonePass}
 use Rattle.rustc_parse_format.specs.Characters.{Text}
 use Rattle.drawn_faults.specs.Glyphs.{IsHarmless, glyph, glyph_count, glyphs}
 use Rattle.drawn_faults.specs.Glyphs.{is_bidi_control, is_obeyed, is_printable, run}
-use Rattle.drawn_faults.specs.Rows.{columns}
 
 -- two texts after each other
 pub join : {a b : List ℕ} → IsHarmless a → IsHarmless b → IsHarmless (a ++ b)
@@ -68,16 +67,6 @@ none-drop (suc n) (c ∷ t) p = none-drop n t p.1
 -- a character again and again
 pub run-harmless : (n c : ℕ) → is_obeyed c ≡ false → IsHarmless (run n c)
 run-harmless n c e = (replicate n c, refl, none-replicate n c e)
-
-none-columns : (f : ℕ → ℕ) (n : ℕ) → ((k : ℕ) → is_obeyed (f k) ≡ false)
-    → NonePass is_obeyed (columns f n)
-none-columns f zero h = tt
-none-columns f (suc n) h = none-append (columns f n) (f n ∷ []) (none-columns f n h) (h n, tt)
-
--- the columns of a row
-pub columns-harmless : (f : ℕ → ℕ) (n : ℕ) → ((k : ℕ) → is_obeyed (f k) ≡ false)
-    → IsHarmless (encode_utf8_all (columns f n))
-columns-harmless f n h = (columns f n, refl, none-columns f n h)
 
 -- the picture of a control character
 picture : (c : ℕ) → c < 32 → is_obeyed (0x2400 + c) ≡ false

@@ -1,7 +1,10 @@
--- A terminal obeys no character of the drawing of a diagnostic, but for line feeds.
-use Rattle.std.proofs.Common.{◌≡◌, ◌-◌, ◌∷◌, ◌&&◌, ◌==◌, ℕ, suc, zero, [], false, true}
-use Rattle.std.proofs.Common.{Bool, List, None, Option, Some, chars, codes, cond, drop}
-use Rattle.std.proofs.Common.{if◌then◌else◌, length, map, nat_lt, refl, replicate, take}
+-- The drawing of a diagnostic without its colours is the one without colours, and a terminal obeys
+-- no character of that, but for line feeds.
+use Rattle.std.proofs.Common.{◌≡◌, ◌∙◌, ◌-◌, ◌∷◌, ◌&&◌, ◌==◌, ℕ, suc, zero, [], false, true}
+use Rattle.std.proofs.Common.{Bool, List, None, Option, Some, ap, chars, codes, cond, drop}
+use Rattle.std.proofs.Common.{◌+◌, if◌then◌else◌, length, map, nat_lt, refl, replicate, subst, sym}
+use Rattle.std.proofs.Common.{take}
+use Rattle.std.specs.Prelude.{decimal, unwrap_or}
 use Rattle.std.specs.Option.{option_map_or}
 use Rattle.std.specs.Str.{NonePass}
 use Rattle.rustc_parse_format.specs.Characters.{Text}
@@ -9,32 +12,43 @@ use Rattle.rustc_parse_format.specs.World.{Place}
 use Rattle.drawn_faults.specs.Diagnostics.{Diagnostic, Help, Note, SourceLabel, diagnostic_text}
 use Rattle.drawn_faults.specs.Diagnostics.{drawn_in, each_in_line, first_spot, frame_of}
 use Rattle.drawn_faults.specs.Diagnostics.{gap_after, gutter_of, helps_rows, in_line}
-use Rattle.drawn_faults.specs.Diagnostics.{indented, label_of, labels_rows, level_word}
-use Rattle.drawn_faults.specs.Diagnostics.{marked_lines, next_line, notes_rows, parting_above}
-use Rattle.drawn_faults.specs.Diagnostics.{placed_edit, plain_note, shown_label, shown_note, titled}
-use Rattle.drawn_faults.specs.Glyphs.{IsHarmless, glyph, glyph_count, glyphs}
-use Rattle.drawn_faults.specs.Glyphs.{is_obeyed}
+use Rattle.drawn_faults.specs.Diagnostics.{indented, label_of, labels_rows, last_edit_line}
+use Rattle.drawn_faults.specs.Diagnostics.{last_help_line, last_label_line, last_line_of}
+use Rattle.drawn_faults.specs.Diagnostics.{last_note_line}
+use Rattle.drawn_faults.specs.Diagnostics.{level_word, lower, lowest, marked_lines, next_line}
+use Rattle.drawn_faults.specs.Diagnostics.{note_gutter, notes_rows, parting_above, placed_edit}
+use Rattle.drawn_faults.specs.Diagnostics.{plain_note, shown_label, shown_note, titled}
+use Rattle.drawn_faults.specs.Glyphs.{IsHarmless, glyph, glyph_count, glyphs, is_obeyed}
 use Rattle.drawn_faults.specs.Helps.{are_in_line, are_insertions, columns_of, edited_from}
-use Rattle.drawn_faults.specs.Helps.{edits_rows, inserted_rows, pluses, replaced_rows}
-use Rattle.drawn_faults.specs.Labels.{Edit, Frame, Label, mark}
-use Rattle.drawn_faults.specs.Marks.{Hung, bars, cell, cells, depth, hang, has_text, hung_row}
+use Rattle.drawn_faults.specs.Helps.{edits_rows, inserted_rows, new_row, pluses, replaced_rows}
+use Rattle.drawn_faults.specs.Labels.{Edit, Frame, Label, cut_of, line_indent, mark}
+use Rattle.drawn_faults.specs.Marks.{Hung, bars, cells, depth, hang, has_text, hung_row}
 use Rattle.drawn_faults.specs.Marks.{hung_rows, hung_texts, is_right_of, mark_rows, put_at}
 use Rattle.drawn_faults.specs.Marks.{put_from, rows_below, rows_of, side_texts, sign_row, signs_of}
-use Rattle.drawn_faults.specs.Marks.{sorted, space, style_of, with_bar, with_hung_text, with_mark}
-use Rattle.drawn_faults.specs.Marks.{with_side_text, with_signs, written}
-use Rattle.drawn_faults.specs.Places.{Picture, line}
-use Rattle.drawn_faults.specs.Rows.{Mark, is_covered, under}
+use Rattle.drawn_faults.specs.Marks.{sorted, with_bar, with_hung_text, with_mark}
+use Rattle.drawn_faults.specs.Marks.{with_side_text, with_signs}
+use Rattle.drawn_faults.specs.Painting.{IsColourOf, IsHarmlessWith, Piece, piece}
+use Rattle.drawn_faults.specs.Places.{Picture, extent, line, uncoloured}
+use Rattle.drawn_faults.specs.Rows.{Mark, cell, is_covered, space, style_of, text_style, under}
+use Rattle.drawn_faults.specs.Rows.{written}
 use Rattle.drawn_faults.specs.declared.cells.Cell.{Cell}
-use Rattle.drawn_faults.specs.declared.cells.Style.{Style}
-use Rattle.drawn_faults.proofs.Harmless.{either, glyph-harmless, glyphs-harmless, join, none-glyphs}
-use Rattle.drawn_faults.proofs.Harmless.{run-harmless, text, written-harmless}
-use Rattle.drawn_faults.proofs.HarmlessDrawings.{of_arrow, of_code, of_gap, of_glyphs, of_long}
-use Rattle.drawn_faults.proofs.HarmlessDrawings.{of_numbered, of_old, of_parting, of_under, spaces}
+use Rattle.drawn_faults.specs.declared.paint.Gutter.{Gutter}
+use Rattle.drawn_faults.specs.declared.paint.Palette.{Palette}
+use Rattle.drawn_faults.specs.declared.paint.Palette.TheVariants.{Colourless}
+use Rattle.drawn_faults.specs.declared.paint.Style.{Style}
+use Rattle.drawn_faults.specs.declared.paint.Style.TheVariants.{Addition, Bold, Primary}
+use Rattle.drawn_faults.specs.declared.paint.Style.TheVariants.{Secondary}
+use Rattle.drawn_faults.proofs.Coloured.{AreQuiet, Quiet, either, join, nothing, of_painted}
+use Rattle.drawn_faults.proofs.Coloured.{of_pieces, of_written, plain}
+use Rattle.drawn_faults.proofs.Harmless.{glyph-harmless, glyphs-harmless, none-glyphs}
+use Rattle.drawn_faults.proofs.Harmless.{join as join_harmless, run-harmless, text as harmless_text}
+use Rattle.drawn_faults.proofs.Harmless.{written-harmless}
+use Rattle.drawn_faults.proofs.HarmlessDrawings.{harmless-with, of_arrow, of_help_word}
+use Rattle.drawn_faults.proofs.HarmlessDrawings.{of_note_word, of_old, of_parting}
+use Rattle.drawn_faults.proofs.HarmlessRows.{of_code, of_gap, of_glyphs, of_long, of_numbered}
+use Rattle.drawn_faults.proofs.HarmlessRows.{of_under, off, plain_frame, spaces, text}
 
 -- rows of cells
-abbrev Quiet : List Cell → Type 0
-Quiet cs = NonePass is_obeyed (map (λ c. c.character) cs)
-
 if_quiet : (b : Bool) (cs ds : List Cell) → Quiet cs → Quiet ds → Quiet (cond b cs ds)
 if_quiet true cs ds p q = p
 if_quiet false cs ds p q = q
@@ -55,15 +69,12 @@ quiet-styled : (s : Style) (t : Text) → NonePass is_obeyed t → Quiet (map (c
 quiet-styled s [] p = tt
 quiet-styled s (c ∷ t) p = (p.0, quiet-styled s t p.1)
 
-quiet-cells : (s : Style) (t : List ℕ) → Quiet (cells s t)
-quiet-cells s t = quiet-styled s (glyphs (chars t)) (none-glyphs (chars t))
+quiet-text : (s : Style) (t : List ℕ) → Quiet (cells s t)
+quiet-text s t = quiet-styled s (glyphs (chars t)) (none-glyphs (chars t))
 
 quiet-replicate : (n : ℕ) (c : Cell) → is_obeyed c.character ≡ false → Quiet (replicate n c)
 quiet-replicate zero c e = tt
 quiet-replicate (suc n) c e = (e, quiet-replicate n c e)
-
-of_written : (cs : List Cell) → Quiet cs → IsHarmless (written cs)
-of_written cs q = (map (λ c. c.character) cs, refl, q)
 
 -- labels whose signs are harmless
 abbrev AreSigned : List Mark → Type 0
@@ -100,9 +111,9 @@ in_line-signed n (m ∷ ms) p =
 quiet-side_text : (h : Hung) (row : List Cell) → Quiet row → Quiet (with_side_text h row)
 quiet-side_text h row q =
     if_quiet (has_text h.mark && (h.down == 0))
-    (put_from h.mark.to (space ∷ cells (style_of h.mark) h.mark.text) row) row
-    (quiet-put_from h.mark.to (space ∷ cells (style_of h.mark) h.mark.text) row
-    (written-harmless 32 refl, quiet-cells (style_of h.mark) h.mark.text) q) q
+    (put_from h.mark.to (space ∷ cells (text_style h.mark) h.mark.text) row) row
+    (quiet-put_from h.mark.to (space ∷ cells (text_style h.mark) h.mark.text) row
+    (written-harmless 32 refl, quiet-text (text_style h.mark) h.mark.text) q) q
 
 quiet-side_texts : (hs : List Hung) (row : List Cell) → Quiet row → Quiet (side_texts hs row)
 quiet-side_texts [] row q = q
@@ -135,46 +146,51 @@ quiet-texts n [] row q = q
 quiet-texts n (h ∷ hs) row q =
     quiet-texts n hs (with_hung_text n h row)
     (if_quiet (has_text h.mark && (nat_lt 0 h.down && (n == h.down)))
-    (put_from h.mark.from (cells (style_of h.mark) h.mark.text) row) row
-    (quiet-put_from h.mark.from (cells (style_of h.mark) h.mark.text) row
-    (quiet-cells (style_of h.mark) h.mark.text) q) q)
+    (put_from h.mark.from (cells (text_style h.mark) h.mark.text) row) row
+    (quiet-put_from h.mark.from (cells (text_style h.mark) h.mark.text) row
+    (quiet-text (text_style h.mark) h.mark.text) q) q)
 
-of_hung_row : (g n : ℕ) (hs : List Hung) → IsHarmless (under g (written (hung_row n hs)))
+of_hung_row : (g : Gutter) (n : ℕ) (hs : List Hung)
+    → IsColourOf (under g (written g.palette (hung_row n hs)))
+    (under (off g) (written Colourless (hung_row n hs)))
 of_hung_row g n hs =
-    of_under g (of_written (hung_row n hs)
+    of_under g (of_written g.palette (hung_row n hs)
     (quiet-texts n hs (bars n hs []) (quiet-bars n hs [] tt)))
 
-of_hung_rows : (g n : ℕ) (hs : List Hung) → IsHarmless (hung_rows g n hs)
-of_hung_rows g zero hs = text [] refl
-of_hung_rows g (suc n) hs =
-    join (of_hung_rows g n hs) (of_hung_row g n hs)
+of_hung_rows : (g : Gutter) (n : ℕ) (hs : List Hung)
+    → IsColourOf (hung_rows g n hs) (hung_rows (off g) n hs)
+of_hung_rows g zero hs = nothing
+of_hung_rows g (suc n) hs = join (of_hung_rows g n hs) (of_hung_row g n hs)
 
-of_rows_below : (g n : ℕ) (hs : List Hung) → IsHarmless (rows_below g n hs)
+of_rows_below : (g : Gutter) (n : ℕ) (hs : List Hung)
+    → IsColourOf (rows_below g n hs) (rows_below (off g) n hs)
 of_rows_below g n hs =
-    either (n == 0) (text [] refl) (join (of_hung_rows g n hs) (of_hung_row g n hs))
+    either (n == 0) nothing (join (of_hung_rows g n hs) (of_hung_row g n hs))
 
-of_marks : (g : ℕ) (ms : List Mark) → AreSigned ms → IsHarmless (mark_rows g ms)
+of_marks : (g : Gutter) (ms : List Mark) → AreSigned ms
+    → IsColourOf (mark_rows g ms) (mark_rows (off g) ms)
 unfolding mark_rows rows_of
 of_marks g ms p =
     let hs = hang 0 ms in
-    join (of_under g (of_written (sign_row ms hs) (quiet-sign_row ms hs p)))
+    join (of_under g (of_written g.palette (sign_row ms hs) (quiet-sign_row ms hs p)))
     (of_rows_below g (depth 0 hs) hs)
 
 -- lines with labels
-of_gap_after : (f : Frame) (o : Option ℕ) (n : ℕ) → IsHarmless (gap_after f o n)
-of_gap_after f None n = text [] refl
+of_gap_after : (f : Frame) (o : Option ℕ) (n : ℕ)
+    → IsColourOf (gap_after f o n) (gap_after (plain_frame f) o n)
+of_gap_after f None n = nothing
 of_gap_after f (Some m) n = of_gap f m n
 
 of_next_line : (f : Frame) (o : Option ℕ) (n : ℕ) (ms : List Mark) → AreSigned ms
-    → IsHarmless (next_line f o n ms)
+    → IsColourOf (next_line f o n ms) (next_line (plain_frame f) o n ms)
 of_next_line f o n ms p =
-    either (option_map_or (λ m. m == n) o false) (text [] refl)
+    either (option_map_or (λ m. m == n) o false) nothing
     (join (of_gap_after f o n)
     (join (of_code f n) (of_marks f.gutter (in_line n ms) (in_line-signed n ms p))))
 
 of_marked_lines : (f : Frame) (o : Option ℕ) (ms : List Mark) → AreSigned ms
-    → IsHarmless (marked_lines f o ms)
-of_marked_lines f o [] p = text [] refl
+    → IsColourOf (marked_lines f o ms) (marked_lines (plain_frame f) o ms)
+of_marked_lines f o [] p = nothing
 of_marked_lines f o (m ∷ ms) p =
     join (of_next_line f o m.line (m ∷ ms) p) (of_marked_lines f (Some m.line) ms p.1)
 
@@ -188,95 +204,140 @@ unfolding mark
 marks-signed cut [] p = tt
 marks-signed cut (l ∷ ls) p = (p.0, marks-signed cut ls p.1)
 
-of_each : (f : Frame) (ls : List Label) → HaveSigns ls → IsHarmless (each_in_line f ls)
+of_each : (f : Frame) (ls : List Label) → HaveSigns ls
+    → IsColourOf (each_in_line f ls) (each_in_line (plain_frame f) ls)
 of_each f ls p =
     of_marked_lines f None (sorted is_right_of [] (map (mark f.cut) ls))
     (sorted-signed is_right_of [] (map (mark f.cut) ls) tt (marks-signed f.cut ls p))
 
-of_labels : (f : Frame) (ls : List Label) → HaveSigns ls → IsHarmless (labels_rows f ls)
+of_labels : (f : Frame) (ls : List Label) → HaveSigns ls
+    → IsColourOf (labels_rows f ls) (labels_rows (plain_frame f) ls)
 of_labels f [] p = of_each f [] p
 of_labels f (l ∷ []) p =
     either (l.extent.start.line == l.extent.end.line) (of_each f (l ∷ []) p) (of_long f l)
 of_labels f (l ∷ k ∷ ls) p = of_each f (l ∷ k ∷ ls) p
 
-of_titled : (f : Frame) (word title : List ℕ) (ls : List Label) → IsHarmless word → HaveSigns ls
-    → IsHarmless (titled f word title ls)
+of_titled : (f : Frame) (p : Palette) (word title : List ℕ) (ls : List Label) → IsHarmless word
+    → HaveSigns ls
+    → IsColourOf (titled f p word title ls) (titled (plain_frame f) Colourless word title ls)
 unfolding titled
-of_titled f word title ls w p =
-    join w (join (of_glyphs title) (join (text (codes "\n") refl)
-    (join (of_arrow f (first_spot ls)) (join (of_parting f) (of_labels f ls p)))))
+of_titled f p word title ls w q =
+    join (of_painted f.gutter.palette Primary w)
+    (join (of_painted p Bold
+    (join_harmless (harmless_text (codes ": ") refl) (glyphs-harmless (chars title))))
+    (join (text (codes "\n") refl)
+    (join (of_arrow f (first_spot ls)) (join (of_parting f) (of_labels f ls q)))))
 
 -- notes
-of_indented : (n : ℕ) (t : Text) → IsHarmless (indented n t)
-of_indented n [] = text [] refl
-of_indented n (c ∷ t) =
-    join (run-harmless (glyph_count c) (glyph c) (glyph-harmless c))
-    (join (either (c == 10) (join (spaces n) (text (codes "         ") refl)) (text [] refl))
-    (of_indented n t))
+of_indented : (g : Gutter) (t : Text) → IsColourOf (indented g t) (indented (off g) t)
+of_indented g [] = nothing
+of_indented g (c ∷ t) =
+    join (plain (run-harmless (glyph_count c) (glyph c) (glyph-harmless c)))
+    (join (either (c == 10) (join (spaces g.columns) (text (codes "         ") refl)) nothing)
+    (of_indented g t))
 
-of_plain_note : (g : ℕ) (t : List ℕ) → IsHarmless (plain_note g t)
+of_plain_note : (g : Gutter) (t : List ℕ) → IsColourOf (plain_note g t) (plain_note (off g) t)
 of_plain_note g t =
-    join (spaces g) (join (text (codes " = note: ") refl)
-    (join (of_indented g (chars t)) (text (codes "\n") refl)))
+    join (of_note_word g) (join (of_indented g (chars t)) (text (codes "\n") refl))
 
 shown-signs : (p : Picture) (ss : List Place) → HaveSigns (map (shown_label p) ss)
 shown-signs p [] = tt
 shown-signs p (s ∷ ss) = (written-harmless 94 refl, shown-signs p ss)
 
-of_shown_note : (p : Picture) (g : ℕ) (t : List ℕ) (ls : List Label) → HaveSigns ls
-    → IsHarmless (shown_note p g t ls)
+-- Lines have the same indent in the picture without colours.
+lowest-same : (p : Picture) (o : Option ℕ) (ls : List Label)
+    → lowest (uncoloured p) o ls ≡ lowest p o ls
+lowest-same p o [] = refl
+lowest-same p o (l ∷ ls) =
+    lowest-same p (lower (lower o (line_indent p l.extent.start.line))
+    (line_indent p l.extent.end.line)) ls
+
+frame-same : (p : Picture) (g : Gutter) (ls : List Label)
+    → plain_frame (frame_of p g ls) ≡ frame_of (uncoloured p) (off g) ls
+unfolding frame_of
+frame-same p g ls =
+    ap (λ (n : Option ℕ). record {
+      picture = uncoloured p;
+      gutter = off g;
+      cut = cut_of (unwrap_or n 0);
+    }) (sym (lowest-same p None ls))
+
+of_shown_note : (p : Picture) (g : Gutter) (t : List ℕ) (ls : List Label) → HaveSigns ls
+    → IsColourOf (shown_note p g t ls) (shown_note (uncoloured p) (off g) t ls)
 of_shown_note p g t [] q = of_plain_note g t
 of_shown_note p g t (l ∷ ls) q =
-    of_titled (frame_of p g (l ∷ ls)) (codes "note: ") t (l ∷ ls) (text (codes "note: ") refl) q
+    let f = frame_of p (note_gutter p g) (l ∷ ls) in
+    subst (λ e. IsColourOf (titled f Colourless (codes "note") t (l ∷ ls))
+    (titled e Colourless (codes "note") t (l ∷ ls))) (frame-same p (note_gutter p g) (l ∷ ls))
+    (of_titled f Colourless (codes "note") t (l ∷ ls) (harmless_text (codes "note") refl) q)
 
-of_notes : (p : Picture) (g : ℕ) (ns : List Note) → IsHarmless (notes_rows p g ns)
-of_notes p g [] = text [] refl
+of_notes : (p : Picture) (g : Gutter) (ns : List Note)
+    → IsColourOf (notes_rows p g ns) (notes_rows (uncoloured p) (off g) ns)
+unfolding extent
+of_notes p g [] = nothing
 of_notes p g (n ∷ ns) =
     join (of_shown_note p g n.text (map (shown_label p) n.spans) (shown-signs p n.spans))
     (of_notes p g ns)
 
 -- helps
-of_edited : (n : ℕ) (es : List Edit) (t : Text) → IsHarmless (edited_from n es t)
-of_edited n [] t = glyphs-harmless t
-of_edited n (e ∷ es) t =
-    join (glyphs-harmless (take (e.extent.start.chars - n) t))
-    (join (of_glyphs e.text)
-    (of_edited e.extent.end.chars es (drop (e.extent.end.chars - n) t)))
+quiet-edited : (n : ℕ) (es : List Edit) (t : Text) → AreQuiet (edited_from n es t)
+quiet-edited n [] t = (glyphs-harmless t, tt)
+quiet-edited n (e ∷ es) t = (
+  glyphs-harmless (take (e.extent.start.chars - n) t),
+  (
+    glyphs-harmless (chars e.text),
+    quiet-edited e.extent.end.chars es (drop (e.extent.end.chars - n) t),
+  ),
+)
 
-of_pluses : (n : ℕ) (es : List Edit) → IsHarmless (pluses n es)
-of_pluses n [] = text [] refl
-of_pluses n (e ∷ es) =
+of_pluses : (p : Palette) (n : ℕ) (es : List Edit)
+    → IsColourOf (pluses p n es) (pluses Colourless n es)
+of_pluses p n [] = nothing
+of_pluses p n (e ∷ es) =
     join (spaces (e.extent.start.column - n))
-    (join (run-harmless (columns_of 0 (chars e.text)) 43 (written-harmless 43 refl))
-    (of_pluses e.extent.start.column es))
+    (join (of_painted p Addition
+    (run-harmless (columns_of 0 (chars e.text)) 43 (written-harmless 43 refl)))
+    (of_pluses p e.extent.start.column es))
 
-of_inserted : (f : Frame) (n : ℕ) (es : List Edit) → IsHarmless (inserted_rows f n es)
+of_new_row : (f : Frame) (s : Style) {sign : List ℕ} (n : ℕ) (es : List Edit) → IsHarmless sign
+    → IsColourOf (new_row f s sign n es) (new_row (plain_frame f) s sign n es)
+unfolding new_row
+of_new_row f s {sign = sign} n es h =
+    let t = chars (line n f.picture.source) in
+    let xs : List Piece = piece s sign ∷ edited_from 0 es t in
+    let q : AreQuiet xs = (h, quiet-edited 0 es t) in
+    join (of_numbered f n) (join (text (codes " ") refl)
+    (join (of_pieces f.gutter.palette xs q) (text (codes "\n") refl)))
+
+of_inserted : (f : Frame) (n : ℕ) (es : List Edit)
+    → IsColourOf (inserted_rows f n es) (inserted_rows (plain_frame f) n es)
 unfolding inserted_rows
 of_inserted f n es =
-    join (of_parting f) (join (of_numbered f n) (join (text (codes " | ") refl)
-    (join (of_edited 0 es (chars (line n f.picture.source)))
-    (join (text (codes "\n") refl) (of_under f.gutter (of_pluses 0 es))))))
+    join (of_parting f) (join (of_new_row f Secondary n es (harmless_text (codes "| ") refl))
+    (of_under f.gutter (of_pluses f.gutter.palette 0 es)))
 
-of_replaced : (f : Frame) (n : ℕ) (es : List Edit) → IsHarmless (replaced_rows f n es)
+of_replaced : (f : Frame) (n : ℕ) (es : List Edit)
+    → IsColourOf (replaced_rows f n es) (replaced_rows (plain_frame f) n es)
 unfolding replaced_rows
 of_replaced f n es =
-    join (of_parting f) (join (of_old f n (line n f.picture.source))
-    (join (of_numbered f n) (join (text (codes " + ") refl)
-    (join (of_edited 0 es (chars (line n f.picture.source)))
-    (join (text (codes "\n") refl) (of_parting f))))))
+    join (of_parting f) (join (of_old f n es (line n f.picture.source))
+    (join (of_new_row f Addition n es (harmless_text (codes "+ ") refl)) (of_parting f)))
 
-of_edits : (f : Frame) (es : List Edit) → IsHarmless (edits_rows f es)
-of_edits f [] = text [] refl
+of_edits : (f : Frame) (es : List Edit)
+    → IsColourOf (edits_rows f es) (edits_rows (plain_frame f) es)
+of_edits f [] = nothing
 of_edits f (e ∷ es) =
     let n = e.extent.start.line in
     either (are_in_line n (e ∷ es))
     (either (are_insertions (e ∷ es)) (of_inserted f n (e ∷ es)) (of_replaced f n (e ∷ es)))
-    (text [] refl)
+    nothing
 
-of_helps : (f : Frame) (hs : List Help) → IsHarmless (helps_rows f hs)
-of_helps f [] = text [] refl
+of_helps : (f : Frame) (hs : List Help)
+    → IsColourOf (helps_rows f hs) (helps_rows (plain_frame f) hs)
+unfolding extent
+of_helps f [] = nothing
 of_helps f (h ∷ hs) =
-    join (join (text (codes "help: ") refl) (join (of_glyphs h.text)
+    join (join (of_help_word f.gutter.palette) (join (of_glyphs h.text)
     (join (text (codes "\n") refl) (of_edits f (map (placed_edit f.picture) h.edits)))))
     (of_helps f hs)
 
@@ -290,23 +351,65 @@ labels-signs p (l ∷ ls) = (by_test l.is_primary, labels-signs p ls)
     by_test false = written-harmless 45 refl
 
 of_word : (b : Bool) → IsHarmless (level_word b)
-of_word true = text (codes "warning: ") refl
-of_word false = text (codes "error: ") refl
+of_word true = harmless_text (codes "warning") refl
+of_word false = harmless_text (codes "error") refl
 
-of_parting_above : (f : Frame) (d : Diagnostic) → IsHarmless (parting_above f d)
+of_parting_above : (f : Frame) (d : Diagnostic)
+    → IsColourOf (parting_above f d) (parting_above (plain_frame f) d)
 of_parting_above f d =
-    either ((length d.notes == 0) && (length d.helps == 0)) (text [] refl) (of_parting f)
+    either ((length d.notes == 0) && (length d.helps == 0)) nothing (of_parting f)
 
--- A terminal obeys no character of it.
-pub diagnostic-harmless : (p : Picture) (d : Diagnostic) → IsHarmless (diagnostic_text p d)
-unfolding diagnostic_text drawn_in
-diagnostic-harmless p d =
-    let ls = map (label_of p) d.labels in
-    let f = frame_of p (gutter_of p d) ls in
-    join (of_titled f (level_word d.is_warning) d.title ls (of_word d.is_warning)
-    (labels-signs p d.labels))
+of_drawn_in : (f : Frame) (d : Diagnostic) (ls : List Label) → HaveSigns ls
+    → IsColourOf (drawn_in f d ls) (drawn_in (plain_frame f) d ls)
+unfolding drawn_in
+of_drawn_in f d ls q =
+    join
+    (of_titled f f.gutter.palette (level_word d.is_warning) d.title ls (of_word d.is_warning) q)
     (join (of_parting_above f d) (join (of_notes f.picture f.gutter d.notes)
     (join (of_helps f d.helps) (text (codes "\n") refl))))
+
+-- The picture without colours has the same lines.
+note-same : (p : Picture) (n : ℕ) (ns : List Note)
+    → last_note_line (uncoloured p) n ns ≡ last_note_line p n ns
+unfolding extent
+note-same p n [] = refl
+note-same p n (t ∷ ts) = note-same p (last_label_line n (map (shown_label p) t.spans)) ts
+
+help-same : (p : Picture) (n : ℕ) (hs : List Help)
+    → last_help_line (uncoloured p) n hs ≡ last_help_line p n hs
+unfolding extent
+help-same p n [] = refl
+help-same p n (h ∷ hs) = help-same p (last_edit_line n (map (placed_edit p) h.edits)) hs
+
+gutter-same : (p : Picture) (d : Diagnostic) → off (gutter_of p d) ≡ gutter_of (uncoloured p) d
+unfolding extent
+gutter-same p d =
+    let n = last_label_line 0 (map (label_of p) d.labels) in
+    let same : last_line_of (uncoloured p) d ≡ last_line_of p d =
+    help-same p (last_note_line (uncoloured p) n d.notes) d.helps
+    ∙ ap (λ k. last_help_line p k d.helps) (note-same p n d.notes) in
+    ap (λ (k : ℕ). record {
+      columns = length (decimal (p.line_start + k));
+      palette = Colourless;
+    }) (sym same)
+
+-- The drawing without its colours is the one without colours.
+pub diagnostic-coloured : (p : Picture) (d : Diagnostic)
+    → IsColourOf (diagnostic_text p d) (diagnostic_text (uncoloured p) d)
+unfolding diagnostic_text extent
+diagnostic-coloured p d =
+    let ls = map (label_of p) d.labels in
+    let f = frame_of p (gutter_of p d) ls in
+    subst (λ g. IsColourOf (drawn_in f d ls) (drawn_in (frame_of (uncoloured p) g ls) d ls))
+    (gutter-same p d)
+    (subst (λ e. IsColourOf (drawn_in f d ls) (drawn_in e d ls)) (frame-same p (gutter_of p d) ls)
+    (of_drawn_in f d ls (labels-signs p d.labels)))
+
+-- A terminal obeys nothing of it but colours.
+pub diagnostic-harmless : (p : Picture) (d : Diagnostic)
+    → IsHarmlessWith p.colours (diagnostic_text p d)
+diagnostic-harmless p d =
+    harmless-with {p = p} (λ q. diagnostic_text q d) (diagnostic-coloured p d)
 
 -- what `put_labels` needs
 pub ruleset harmless_diagnostic = (diagnostic-harmless)

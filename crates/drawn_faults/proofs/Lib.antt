@@ -1,11 +1,15 @@
 pub mod GlyphLemmas
+pub mod Joining
 pub mod PrintableLemmas
 pub mod Harmless
+pub mod Coloured
+pub mod HarmlessRows
 pub mod HarmlessDrawings
 pub mod HarmlessDiagnostics
 pub mod LineLemmas
 pub mod RowLemmas
 pub mod MarkLemmas
+pub mod EditedLines
 pub mod EditLaws
 pub mod FixLaws
 pub mod CallFaults

@@ -8,17 +8,23 @@ use Rattle.std.specs.Prelude.{codes, decimal, chars}
 use Rattle.std.specs.Option.{option_map_or}
 use Rattle.rustc_parse_format.specs.Characters.{Text}
 use Rattle.rustc_parse_format.specs.World.{Place}
-use Rattle.drawn_faults.specs.Drawing.{arrow}
+use Rattle.drawn_faults.specs.Drawing.{arrow, note_word}
 use Rattle.drawn_faults.specs.Glyphs.{glyph, glyph_bytes, glyph_count, run}
 use Rattle.drawn_faults.specs.Helps.{edits_rows}
 use Rattle.drawn_faults.specs.Labels.{Edit, Frame, Label, cut_of, line_indent, mark}
 use Rattle.drawn_faults.specs.Lines.{code_row, gap}
 use Rattle.drawn_faults.specs.Long.{long_rows}
 use Rattle.drawn_faults.specs.Marks.{is_right_of, mark_rows, sorted}
+use Rattle.drawn_faults.specs.Painting.{painted, palette_of}
 use Rattle.drawn_faults.specs.Places.{Picture, extent, origin}
 use Rattle.drawn_faults.specs.Rows.{Mark}
-use Rattle.drawn_faults.specs.Suggestions.{parting}
+use Rattle.drawn_faults.specs.Suggestions.{help_word, parting}
 use Rattle.drawn_faults.specs.declared.extent.Spot.{Spot}
+use Rattle.drawn_faults.specs.declared.paint.Gutter.{Gutter}
+use Rattle.drawn_faults.specs.declared.paint.Palette.{Palette}
+use Rattle.drawn_faults.specs.declared.paint.Palette.TheVariants.{Colourless, Error, Warning}
+use Rattle.drawn_faults.specs.declared.paint.Palette.TheVariants.{Note as NotePalette}
+use Rattle.drawn_faults.specs.declared.paint.Style.TheVariants.{Bold, Primary}
 
 -- A label: its range, whether the diagnostic is about that range, and its text.
 pub record SourceLabel : Type 0 where
@@ -106,7 +112,7 @@ lowest p o (l ∷ ls) =
     (line_indent p l.extent.end.line)) ls
 
 -- The layout of labels.
-unfoldable pub frame_of : Picture → ℕ → List Label → Frame
+unfoldable pub frame_of : Picture → Gutter → List Label → Frame
 frame_of p gutter ls = record {
   picture = p;
   gutter = gutter;
@@ -172,42 +178,45 @@ labels_rows f [] = each_in_line f []
 labels_rows f (l ∷ []) = single_rows f l
 labels_rows f (l ∷ k ∷ ls) = each_in_line f (l ∷ k ∷ ls)
 
--- A title after a word, and the labels under it.
-unfoldable pub titled : Frame → List ℕ → List ℕ → List Label → List ℕ
-titled f word title ls =
-    word ++ (glyph_bytes title ++ (codes "\n"
+-- A title, in these colours, after a word, and the labels under it.
+unfoldable pub titled : Frame → Palette → List ℕ → List ℕ → List Label → List ℕ
+titled f colours word title ls =
+    painted f.gutter.palette Primary word
+    ++ (painted colours Bold (codes ": " ++ glyph_bytes title) ++ (codes "\n"
     ++ (arrow f (first_spot ls) ++ (parting f ++ labels_rows f ls))))
 
 -- What is after a character of a note: after a line feed the margin of the next line.
-abbrev pub margin : ℕ → ℕ → List ℕ
-margin gutter c = if c == 10 then run gutter 32 ++ codes "         " else []
+abbrev pub margin : Gutter → ℕ → List ℕ
+margin g c = if c == 10 then run g.columns 32 ++ codes "         " else []
 
 -- A text whose lines but the first one begin with a margin.
-abbrev pub indented : ℕ → Text → List ℕ
-indented gutter [] = []
-indented gutter (c ∷ t) =
-    run (glyph_count c) (glyph c) ++ (margin gutter c ++ indented gutter t)
+abbrev pub indented : Gutter → Text → List ℕ
+indented g [] = []
+indented g (c ∷ t) = run (glyph_count c) (glyph c) ++ (margin g c ++ indented g t)
 
 -- A note that shows nothing.
-abbrev pub plain_note : ℕ → List ℕ → List ℕ
-plain_note gutter t =
-    run gutter 32 ++ (codes " = note: " ++ (indented gutter (chars t) ++ codes "\n"))
+abbrev pub plain_note : Gutter → List ℕ → List ℕ
+plain_note g t = note_word g ++ (indented g (chars t) ++ codes "\n")
+
+-- The gutter of a note that shows something.
+abbrev pub note_gutter : Picture → Gutter → Gutter
+note_gutter p g = record { columns = g.columns; palette = palette_of p.colours NotePalette }
 
 -- A note that shows these labels.
-abbrev pub shown_note : Picture → ℕ → List ℕ → List Label → List ℕ
-shown_note p gutter t [] = plain_note gutter t
-shown_note p gutter t (l ∷ ls) = titled (frame_of p gutter (l ∷ ls)) (codes "note: ") t (l ∷ ls)
+abbrev pub shown_note : Picture → Gutter → List ℕ → List Label → List ℕ
+shown_note p g t [] = plain_note g t
+shown_note p g t (l ∷ ls) =
+    titled (frame_of p (note_gutter p g) (l ∷ ls)) Colourless (codes "note") t (l ∷ ls)
 
 -- The notes.
-abbrev pub notes_rows : Picture → ℕ → List Note → List ℕ
-notes_rows p gutter [] = []
-notes_rows p gutter (n ∷ ns) =
-    shown_note p gutter n.text (map (shown_label p) n.spans) ++ notes_rows p gutter ns
+abbrev pub notes_rows : Picture → Gutter → List Note → List ℕ
+notes_rows p g [] = []
+notes_rows p g (n ∷ ns) = shown_note p g n.text (map (shown_label p) n.spans) ++ notes_rows p g ns
 
 -- A help and its edits.
 abbrev pub help_rows : Frame → Help → List ℕ
 help_rows f h =
-    codes "help: " ++ (glyph_bytes h.text ++ (codes "\n"
+    help_word f.gutter.palette ++ (glyph_bytes h.text ++ (codes "\n"
     ++ edits_rows f (map (placed_edit f.picture) h.edits)))
 
 -- The helps.
@@ -222,18 +231,25 @@ parting_above f d =
 
 -- The word that a title begins with.
 abbrev pub level_word : Bool → List ℕ
-level_word is_warning = if is_warning then codes "warning: " else codes "error: "
+level_word is_warning = if is_warning then codes "warning" else codes "error"
+
+-- The level whose colours a diagnostic has.
+abbrev pub level_of : Bool → Palette
+level_of is_warning = if is_warning then Warning else Error
 
 -- The drawing of a diagnostic with these labels in a layout. It ends in an empty line.
 unfoldable pub drawn_in : Frame → Diagnostic → List Label → List ℕ
 drawn_in f d ls =
-    titled f (level_word d.is_warning) d.title ls
+    titled f f.gutter.palette (level_word d.is_warning) d.title ls
     ++ (parting_above f d
     ++ (notes_rows f.picture f.gutter d.notes ++ (helps_rows f d.helps ++ codes "\n")))
 
--- The columns of the numbers of the lines of a diagnostic.
-abbrev pub gutter_of : Picture → Diagnostic → ℕ
-gutter_of p d = length (decimal (p.line_start + last_line_of p d))
+-- The gutter of a diagnostic.
+abbrev pub gutter_of : Picture → Diagnostic → Gutter
+gutter_of p d = record {
+  columns = length (decimal (p.line_start + last_line_of p d));
+  palette = palette_of p.colours (level_of d.is_warning);
+}
 
 -- The whole text.
 unfoldable pub diagnostic_text : Picture → Diagnostic → List ℕ

@@ -7,6 +7,7 @@ use Rattle.rustc_parse_format.specs.Faults.{Message}
 use Rattle.rustc_parse_format.specs.Types.{Mode}
 use Rattle.drawn_faults.specs.Edits.{offered}
 use Rattle.drawn_faults.specs.Glyphs.{glyph_bytes, run}
+use Rattle.drawn_faults.specs.Painting.{painted}
 use Rattle.drawn_faults.specs.Places.{Picture}
 use Rattle.drawn_faults.specs.Labels.{Label, Edit, Frame, primary, second, edit_of, frame, mark}
 use Rattle.drawn_faults.specs.Labels.{text_name}
@@ -14,24 +15,30 @@ use Rattle.drawn_faults.specs.Lines.{labelled, two_labels}
 use Rattle.drawn_faults.specs.Long.{long_rows}
 use Rattle.drawn_faults.specs.Suggestions.{help_rows, parting}
 use Rattle.drawn_faults.specs.declared.extent.Spot.{Spot}
+use Rattle.drawn_faults.specs.declared.paint.Gutter.{Gutter}
+use Rattle.drawn_faults.specs.declared.paint.Palette.{Palette}
+use Rattle.drawn_faults.specs.declared.paint.Style.TheVariants.{Bold, Primary, Secondary}
 
 -- What the error is.
-abbrev pub title : Mode → List ℕ → List ℕ
-title mode description =
-    codes "error: invalid " ++ (text_name mode
-    ++ (codes ": " ++ (glyph_bytes description ++ codes "\n")))
+abbrev pub title : Palette → Mode → List ℕ → List ℕ
+title p mode description =
+    painted p Primary (codes "error")
+    ++ (painted p Bold (codes ": invalid " ++ (text_name mode
+    ++ (codes ": " ++ glyph_bytes description)))
+    ++ codes "\n")
 
 -- Where the text is that the error is about: the path, the line, and the column, which counts
 -- characters.
 unfoldable pub arrow : Frame → Spot → List ℕ
 arrow f at =
-    run f.gutter 32 ++ (codes "--> " ++ (glyph_bytes f.picture.path ++ (codes ":"
+    run f.gutter.columns 32 ++ (painted f.gutter.palette Secondary (codes "--> ")
+    ++ (glyph_bytes f.picture.path ++ (codes ":"
     ++ (decimal (f.picture.line_start + at.line) ++ (codes ":" ++ (decimal (at.chars + 1)
     ++ codes "\n"))))))
 
 -- The lines above the source.
 unfoldable pub head : Mode → Frame → List ℕ → Spot → List ℕ
-head mode f description at = title mode description ++ (arrow f at ++ parting f)
+head mode f description at = title f.gutter.palette mode description ++ (arrow f at ++ parting f)
 
 -- The lines with labels. Of two labels each is drawn in the line in which it begins, and one over
 -- several lines has one sign there.
@@ -40,10 +47,16 @@ labelled_rows f l None =
     if l.extent.start.line == l.extent.end.line then labelled f (mark f.cut l) else long_rows f l
 labelled_rows f l (Some s) = two_labels f (mark f.cut l) (mark f.cut s)
 
+-- What a note begins with.
+abbrev pub note_word : Gutter → List ℕ
+note_word g =
+    run g.columns 32 ++ (codes " " ++ (painted g.palette Secondary (codes "= ")
+    ++ (painted g.palette Bold (codes "note") ++ codes ": ")))
+
 -- The row of a note.
-abbrev pub note_row : ℕ → Option (List ℕ) → List ℕ
-note_row gutter None = []
-note_row gutter (Some t) = run gutter 32 ++ (codes " = note: " ++ (glyph_bytes t ++ codes "\n"))
+abbrev pub note_row : Gutter → Option (List ℕ) → List ℕ
+note_row g None = []
+note_row g (Some t) = note_word g ++ (glyph_bytes t ++ codes "\n")
 
 -- The row between the labels and what is below them, if there is anything.
 abbrev pub parting_before : Frame → Option (List ℕ) → Option Edit → List ℕ

@@ -9,11 +9,14 @@ use Rattle.rustc_parse_format.specs.Faults.{RemoveRawIdent, ReorderFormatParamet
 use Rattle.rustc_parse_format.specs.Faults.{UseRustDebugPrintingMacro}
 use Rattle.drawn_faults.specs.Edits.{offered}
 use Rattle.drawn_faults.specs.Glyphs.{indent}
+use Rattle.drawn_faults.specs.Painting.{palette_of}
 use Rattle.drawn_faults.specs.Places.{Extent, Picture, seen_extent, seen_picture, extent, line}
 use Rattle.drawn_faults.specs.Rows.{Mark}
 use Rattle.drawn_faults.specs.declared.labels.Label.{Label as DeclaredLabel}
 use Rattle.drawn_faults.specs.declared.labels.Edit.{Edit as DeclaredEdit}
 use Rattle.drawn_faults.specs.declared.labels.Frame.{Frame as DeclaredFrame}
+use Rattle.drawn_faults.specs.declared.paint.Gutter.{Gutter}
+use Rattle.drawn_faults.specs.declared.paint.Palette.TheVariants.{Error}
 
 -- A label: the sign under its columns, its text, and where it is.
 pub record Label : Type 0 where
@@ -85,11 +88,10 @@ edit_of p (ReorderFormatParameter s t) = Some (record { text = t; extent = exten
 edit_of p (AddMissingColon s) = None
 edit_of p UseRustDebugPrintingMacro = None
 
--- How a picture is laid out: the columns of the numbers of lines, and how many columns at the start
--- of each line are cut.
+-- How a picture is laid out: the gutter, and how many columns at the start of each line are cut.
 pub record Frame : Type 0 where
   pub picture : Picture
-  pub gutter : ℕ
+  pub gutter : Gutter
   pub cut : ℕ
 
 -- A layout as a contract sees it.
@@ -134,7 +136,10 @@ cut_of n = if nat_lt 26 n then n - 22 else 0
 unfoldable pub frame : Picture → Label → Option Label → Option Edit → Frame
 frame p l s e = record {
   picture = p;
-  gutter = length (decimal (last_number p l s e));
+  gutter = record {
+    columns = length (decimal (last_number p l s e));
+    palette = palette_of p.colours Error;
+  };
   cut = cut_of (least (line_indent p l.extent.start.line) (line_indent p (other_line l s)));
 }
 

@@ -1,4 +1,5 @@
 pub mod Glyphs
+pub mod Painting
 pub mod Places
 pub mod Rows
 pub mod Labels

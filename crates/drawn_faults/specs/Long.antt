@@ -6,10 +6,13 @@ use Rattle.std.specs.List.{list_all}
 use Rattle.std.specs.Char.{is_whitespace}
 use Rattle.rustc_parse_format.specs.Characters.{Text}
 use Rattle.drawn_faults.specs.Glyphs.{glyph_bytes, run}
+use Rattle.drawn_faults.specs.Painting.{painted}
 use Rattle.drawn_faults.specs.Places.{line}
 use Rattle.drawn_faults.specs.Rows.{under}
 use Rattle.drawn_faults.specs.Labels.{Frame, Label}
-use Rattle.drawn_faults.specs.Lines.{source_row}
+use Rattle.drawn_faults.specs.Lines.{number_bar, source_line, source_row}
+use Rattle.drawn_faults.specs.declared.paint.Palette.{Palette}
+use Rattle.drawn_faults.specs.declared.paint.Style.TheVariants.{Primary, PrimaryText, Secondary}
 
 -- The character is a bracket.
 abbrev pub is_bracket : ℕ → Bool
@@ -48,9 +51,15 @@ without_bare f first zero = 0
 without_bare f first (suc n) =
     if is_bare_line f (first + suc n) then without_bare f first n else suc n
 
+-- A line of the source at the right of a sign of the label.
+abbrev pub signed_row : Frame → List ℕ → ℕ → List ℕ
+signed_row f sign n =
+    number_bar f n
+    ++ (codes " " ++ (painted f.gutter.palette Primary sign ++ source_line f (codes " ") n))
+
 -- A line between the first and the last one.
 abbrev pub bar_row : Frame → ℕ → List ℕ
-bar_row f n = source_row f (codes " | |") (codes " ") n
+bar_row f n = signed_row f (codes "|") n
 
 -- So many lines behind a line.
 abbrev pub bar_rows : Frame → ℕ → ℕ → List ℕ
@@ -62,23 +71,31 @@ bar_rows f first (suc n) = bar_rows f first n ++ bar_row f (first + suc n)
 unfoldable pub bar_gap : Frame → ℕ → ℕ → List ℕ
 bar_gap f first last =
     if last == first + 2 then bar_row f (first + 1)
-    else if nat_lt (first + 2) last then codes "..." ++ (run f.gutter 32 ++ codes "|\n") else []
+    else if nat_lt (first + 2) last then
+    painted f.gutter.palette Secondary (codes "...")
+    ++ (run f.gutter.columns 32 ++ (painted f.gutter.palette Primary (codes "|") ++ codes "\n"))
+    else []
+
+-- A text, a line to a column behind it, and the sign at its end.
+abbrev pub lead : Palette → List ℕ → ℕ → List ℕ
+lead p front n = painted p Primary (front ++ (run n 95 ++ codes "^"))
 
 -- The first line: with a slash in front of it where the label begins with the text of the line, or
 -- else with a row under it that leads to where the label begins.
 unfoldable pub first_rows : Frame → Label → List ℕ
 first_rows f l =
-    if l.extent.start.is_indent then source_row f (codes " | /") (codes " ") l.extent.start.line
-    else source_row f (codes " |") (codes "   ") l.extent.start.line
-    ++ under f.gutter (codes " " ++ (run (l.extent.start.column - f.cut + 1) 95 ++ codes "^"))
+    if l.extent.start.is_indent then signed_row f (codes "/") l.extent.start.line
+    else source_row f (codes "   ") l.extent.start.line
+    ++ under f.gutter
+    (lead f.gutter.palette (codes " ") (l.extent.start.column - f.cut + 1))
 
 -- The last line, and the row under it that leads to where the label ends, with its text.
 unfoldable pub last_rows : Frame → Label → List ℕ
 last_rows f l =
     bar_row f l.extent.end.line
     ++ under f.gutter
-    (codes "|" ++ (run (max (l.extent.end.column - f.cut) 1) 95
-    ++ (codes "^ " ++ glyph_bytes l.text)))
+    (lead f.gutter.palette (codes "|") (max (l.extent.end.column - f.cut) 1)
+    ++ (codes " " ++ painted f.gutter.palette PrimaryText (glyph_bytes l.text)))
 
 -- What is between the first and the last line: at most three lines behind the first one, without
 -- bare ones at their end, and the line before the last one if it is far from these and not bare.

@@ -1,5 +1,6 @@
 -- The source around a literal, its lines, and the places in it that a byte offset means.
-use Rattle.std.specs.Prelude.{ℕ, ◌+◌, ◌-◌, Bool, true, ◌&&◌, ◌==◌, if◌then◌else◌, nat_lt, min, max}
+use Rattle.std.specs.Prelude.{ℕ, ◌+◌, ◌-◌, Bool, true, false, ◌&&◌, ◌==◌, if◌then◌else◌, nat_lt}
+use Rattle.std.specs.Prelude.{min, max}
 use Rattle.std.specs.Prelude.{zero, suc, List, [], ◌∷◌, length, chars}
 use Rattle.std.specs.List.{before_first, after_first, fold}
 use Rattle.std.specs.Char.{is_whitespace, len_utf8}
@@ -10,13 +11,14 @@ use Rattle.drawn_faults.specs.declared.places.Picture.{Picture as DeclaredPictur
 use Rattle.drawn_faults.specs.declared.extent.Spot.{Spot}
 use Rattle.drawn_faults.specs.declared.extent.Extent.{Extent as DeclaredExtent}
 
--- What a fault is drawn in: the path of the source, its text, the number of its first line, and the
--- byte offset at which the literal begins.
+-- What a fault is drawn in: the path of the source, its text, the number of its first line, the
+-- byte offset at which the literal begins, and whether there are colours.
 pub record Picture : Type 0 where
   pub path : List ℕ
   pub source : List ℕ
   pub line_start : ℕ
   pub literal_start : ℕ
+  pub colours : Bool
 
 -- A picture as a contract sees it.
 abbrev pub seen_picture : DeclaredPicture → Picture
@@ -25,6 +27,17 @@ seen_picture p = record {
   source = p.source.now;
   line_start = p.line_start;
   literal_start = p.literal_start;
+  colours = p.colours;
+}
+
+-- The picture without colours.
+abbrev pub uncoloured : Picture → Picture
+uncoloured p = record {
+  path = p.path;
+  source = p.source;
+  line_start = p.line_start;
+  literal_start = p.literal_start;
+  colours = false;
 }
 
 -- The byte is a line feed.

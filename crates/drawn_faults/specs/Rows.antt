@@ -1,11 +1,16 @@
 -- The rows under a line of the source: the signs of labels, and their texts.
 use Rattle.std.specs.Prelude.{ℕ, ◌+◌, ◌-◌, Bool, ◌&&◌, ◌||◌, ◌==◌}
-use Rattle.std.specs.Prelude.{◌++◌, if◌then◌else◌, nat_lt, nat_le}
-use Rattle.std.specs.Prelude.{max, zero, suc, List, [], ◌∷◌, length, codes}
-use Rattle.std.specs.Str.{encode_utf8_all}
-use Rattle.rustc_parse_format.specs.Characters.{Text}
+use Rattle.std.specs.Prelude.{◌++◌, if◌then◌else◌, map, nat_lt, nat_le}
+use Rattle.std.specs.Prelude.{max, zero, suc, List, [], ◌∷◌, length, codes, encode_utf8}
 use Rattle.drawn_faults.specs.Glyphs.{glyph_bytes, run}
+use Rattle.drawn_faults.specs.Painting.{Piece, painted, piece, pieces}
+use Rattle.drawn_faults.specs.declared.cells.Cell.{Cell}
 use Rattle.drawn_faults.specs.declared.mark.Mark.{Mark as DeclaredMark}
+use Rattle.drawn_faults.specs.declared.paint.Gutter.{Gutter}
+use Rattle.drawn_faults.specs.declared.paint.Palette.{Palette}
+use Rattle.drawn_faults.specs.declared.paint.Style.{Style}
+use Rattle.drawn_faults.specs.declared.paint.Style.TheVariants.{Plain, Primary, PrimaryText}
+use Rattle.drawn_faults.specs.declared.paint.Style.TheVariants.{Secondary, SecondaryText}
 
 -- A label in one line: the number of the line, counted from 0, the columns that it has, up to the
 -- last one and without it, the sign under these columns, and its text.
@@ -20,46 +25,76 @@ pub record Mark : Type 0 where
 abbrev pub seen_mark : DeclaredMark → Mark
 seen_mark m = record { line = m.line; from = m.from; to = m.to; sign = m.sign; text = m.text.now }
 
+-- The style of the signs of a label, and of its bar.
+abbrev pub style_of : Mark → Style
+style_of m = if m.sign == 94 then Primary else Secondary
+
+-- The style of its text.
+abbrev pub text_style : Mark → Style
+text_style m = if m.sign == 94 then PrimaryText else SecondaryText
+
+-- A character in a style.
+abbrev pub cell : Style → ℕ → Cell
+cell s c = record { character = c; style = s }
+
+-- A space.
+abbrev pub space : Cell
+space = cell Plain 32
+
+-- Cells as pieces.
+abbrev pub cell_pieces : List Cell → List Piece
+cell_pieces cs = map (λ c. piece c.style (encode_utf8 c.character)) cs
+
+-- The characters of cells in their styles.
+abbrev pub written : Palette → List Cell → List ℕ
+written p cs = pieces p (cell_pieces cs)
+
 -- The label has this column.
 abbrev pub has_column : Mark → ℕ → Bool
 has_column m c = nat_le m.from c && nat_lt c m.to
 
 -- The sign in a column under two labels, of which the first one covers the second one.
-abbrev pub sign_at : Mark → Mark → ℕ → ℕ
-sign_at m n c = if has_column m c then m.sign else if has_column n c then n.sign else 32
-
--- What is in the column of a bar, and in the others.
-abbrev pub bar_at : ℕ → ℕ → ℕ
-bar_at at c = if c == at then 124 else 32
+abbrev pub sign_at : Mark → Mark → ℕ → Cell
+sign_at m n c =
+    if has_column m c then cell (style_of m) m.sign
+    else if has_column n c then cell (style_of n) n.sign else space
 
 -- The first n columns of a row.
-abbrev pub columns : (ℕ → ℕ) → ℕ → Text
+abbrev pub columns : (ℕ → Cell) → ℕ → List Cell
 columns f zero = []
 columns f (suc n) = columns f n ++ f n ∷ []
 
 -- The first n columns of a row of signs, as bytes.
-unfoldable pub signs : Mark → Mark → ℕ → List ℕ
-signs m n c = encode_utf8_all (columns (sign_at m n) c)
+unfoldable pub signs : Palette → Mark → Mark → ℕ → List ℕ
+signs p m n c = written p (columns (sign_at m n) c)
 
--- The first n columns of a row with a bar, as bytes.
-unfoldable pub bars : ℕ → ℕ → List ℕ
-bars at n = encode_utf8_all (columns (bar_at at) n)
+-- The first n columns of a row with the bar of a label.
+abbrev pub bars : Palette → Mark → ℕ → List ℕ
+bars p m n =
+    if nat_lt m.from n
+    then run m.from 32 ++ (painted p (style_of m) (codes "|") ++ run (n - m.from - 1) 32)
+    else run n 32
 
 -- The gutter of a row that has no number.
-abbrev pub blank : ℕ → List ℕ
-blank gutter = run gutter 32 ++ codes " |"
+abbrev pub blank : Gutter → List ℕ
+blank g = run g.columns 32 ++ (codes " " ++ painted g.palette Secondary (codes "|"))
 
 -- A row under a line: the gutter, and what is right of it.
-abbrev pub under : ℕ → List ℕ → List ℕ
-under gutter row = blank gutter ++ (codes " " ++ (row ++ codes "\n"))
+abbrev pub under : Gutter → List ℕ → List ℕ
+under g row = blank g ++ (codes " " ++ (row ++ codes "\n"))
+
+-- The text of a label.
+abbrev pub label_text : Palette → Mark → List ℕ
+label_text p m = painted p (text_style m) (glyph_bytes m.text)
 
 -- The signs of a label and its text behind them.
-unfoldable pub pointed : Mark → List ℕ
-pointed m = run (m.to - m.from) m.sign ++ (codes " " ++ glyph_bytes m.text)
+unfoldable pub pointed : Palette → Mark → List ℕ
+pointed p m =
+    painted p (style_of m) (run (m.to - m.from) m.sign) ++ (codes " " ++ label_text p m)
 
 -- The row of a label that is alone.
-unfoldable pub alone : Mark → List ℕ
-alone m = run m.from 32 ++ pointed m
+unfoldable pub alone : Palette → Mark → List ℕ
+alone p m = run m.from 32 ++ pointed p m
 
 -- The first label is covered by the second one, which is shorter, or as long and primary.
 abbrev pub is_covered : Mark → Mark → Bool
@@ -69,39 +104,45 @@ is_covered m n =
 
 -- The signs of two labels that overlap, of which the first one begins first: the one that covers is
 -- over the other.
-abbrev pub covering : Mark → Mark → List ℕ
-covering l r =
-    if is_covered r l then signs l r (max l.to r.to) else signs r l (max l.to r.to)
+abbrev pub covering : Palette → Mark → Mark → List ℕ
+covering p l r =
+    if is_covered r l then signs p l r (max l.to r.to) else signs p r l (max l.to r.to)
+
+-- The style of the bar of the second one of two such labels: that of the first one, if they begin
+-- together.
+abbrev pub bar_style : Mark → Mark → Style
+bar_style l r = if nat_lt l.from r.from then style_of r else style_of l
 
 -- Two such labels: their signs; a bar from each; the text of the second one; the text of the first
 -- one.
-unfoldable pub overlapping : ℕ → Mark → Mark → List ℕ
+unfoldable pub overlapping : Gutter → Mark → Mark → List ℕ
 overlapping g l r =
-    under g (covering l r)
-    ++ (under g (bars l.from r.from ++ codes "|")
-    ++ (under g (bars l.from r.from ++ glyph_bytes r.text)
-    ++ under g (run l.from 32 ++ glyph_bytes l.text)))
+    under g (covering g.palette l r)
+    ++ (under g (bars g.palette l r.from ++ painted g.palette (bar_style l r) (codes "|"))
+    ++ (under g (bars g.palette l r.from ++ label_text g.palette r)
+    ++ under g (run l.from 32 ++ label_text g.palette l)))
 
 -- Two labels with no room for the text of the first one between them, where each of its bytes
 -- takes a column, as all texts of labels are ASCII: it hangs from a bar.
-unfoldable pub hanging : ℕ → Mark → Mark → List ℕ
+unfoldable pub hanging : Gutter → Mark → Mark → List ℕ
 hanging g l r =
-    under g (signs l r r.to ++ (codes " " ++ glyph_bytes r.text))
-    ++ (under g (run l.from 32 ++ codes "|")
-    ++ under g (run l.from 32 ++ glyph_bytes l.text))
+    under g (signs g.palette l r r.to ++ (codes " " ++ label_text g.palette r))
+    ++ (under g (run l.from 32 ++ painted g.palette (style_of l) (codes "|"))
+    ++ under g (run l.from 32 ++ label_text g.palette l))
 
 -- Two labels beside each other.
-unfoldable pub beside : ℕ → Mark → Mark → List ℕ
+unfoldable pub beside : Gutter → Mark → Mark → List ℕ
 beside g l r =
-    under g (alone l ++ (run (r.from - (l.to + 1 + length l.text)) 32 ++ pointed r))
+    under g (alone g.palette l
+    ++ (run (r.from - (l.to + 1 + length l.text)) 32 ++ pointed g.palette r))
 
 -- The rows of two labels, of which the first one begins first.
-abbrev pub pair_rows : ℕ → Mark → Mark → List ℕ
+abbrev pub pair_rows : Gutter → Mark → Mark → List ℕ
 pair_rows g l r =
     if nat_lt r.from l.to then overlapping g l r
     else if nat_lt r.from (l.to + length l.text + 2) then hanging g l r
     else beside g l r
 
 -- The rows of two labels in a line. If they begin together, the second one is that on the left.
-unfoldable pub both : ℕ → Mark → Mark → List ℕ
+unfoldable pub both : Gutter → Mark → Mark → List ℕ
 both g m n = if nat_lt m.from n.from then pair_rows g m n else pair_rows g n m

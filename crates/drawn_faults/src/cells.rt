@@ -3,24 +3,17 @@
 
 ghost use Rattle.std.specs.Prelude.{◌≡◌, ◌++◌, ◌∷◌, ◌<◌, IfOk, List, OnOk, length, replicate};
 ghost use Rattle.std.specs.Prelude.{string_bytes};
-ghost use Rattle.drawn_faults.specs.Marks.{cells, put_at, put_from, space, style_of, written};
-ghost use Rattle.drawn_faults.specs.Rows.{seen_mark};
+ghost use Rattle.drawn_faults.specs.Marks.{cells, put_at, put_from};
+ghost use Rattle.drawn_faults.specs.Painting.{pieces_after};
+ghost use Rattle.drawn_faults.specs.Rows.{cell_pieces, seen_mark, space, style_of, text_style};
+ghost use Rattle.drawn_faults.specs.Rows.{written};
 ghost use Rattle.drawn_faults.specs.declared.cells.Cell.{Cell as CellValue};
+ghost use Rattle.drawn_faults.specs.declared.paint.Style.TheVariants.{Plain};
 
 use crate::glyphs::{glyph, glyph_count, split_first};
 use crate::mark::Mark;
+use crate::paint::{Palette, Style, has_colours, put_change, put_reset};
 use std::alloc::AllocError;
-
-/// How a character is shown.
-#[derive(Clone, Copy)]
-pub enum Style {
-    /// As the text of the source.
-    Plain,
-    /// As a primary label.
-    Primary,
-    /// As another label.
-    Secondary,
-}
 
 /// A character in a row.
 #[derive(Clone, Copy)]
@@ -29,7 +22,7 @@ pub struct Cell {
     pub style: Style,
 }
 
-/// Returns the style of what a label writes.
+/// Returns the style of the signs of a label, and of its bar.
 pub fn style_of(mark: &Mark<'_>) -> Style
     ensures { result ≡ style_of (seen_mark mark.now) }
 {
@@ -40,8 +33,19 @@ pub fn style_of(mark: &Mark<'_>) -> Style
     }
 }
 
+/// Returns the style of the text of a label.
+pub fn text_style(mark: &Mark<'_>) -> Style
+    ensures { result ≡ text_style (seen_mark mark.now) }
+{
+    if mark.sign == '^' {
+        Style::PrimaryText
+    } else {
+        Style::SecondaryText
+    }
+}
+
 /// Returns a space.
-fn space() -> Cell
+pub fn space() -> Cell
     ensures { result ≡ space }
 {
     Cell {
@@ -121,10 +125,29 @@ pub fn put_from(
     Ok(())
 }
 
-/// Adds the characters of cells.
-pub fn put_written(out: &mut String, cells: &[Cell]) -> Result<(), AllocError>
-    ensures { OnOk result (string_bytes out.new ≡ string_bytes out.old ++ written cells.now) }
+/// Adds the characters of cells in their styles.
+fn put_in_styles(out: &mut String, palette: Palette, cells: &[Cell]) -> Result<(), AllocError>
+    ensures { OnOk result (string_bytes out.new ≡ string_bytes out.old
+        ++ pieces_after palette Plain (cell_pieces cells.now)) }
 {
+    let mut style = Style::Plain;
+    for cell in cells {
+        put_change(out, palette, style, cell.style)?;
+        out.push(cell.character)?;
+        style = cell.style;
+    }
+    put_reset(out, style)?;
+    Ok(())
+}
+
+/// Adds the characters of cells, in their styles if there are colours.
+pub fn put_written(out: &mut String, palette: Palette, cells: &[Cell]) -> Result<(), AllocError>
+    ensures { OnOk result (string_bytes out.new
+        ≡ string_bytes out.old ++ written palette cells.now) }
+{
+    if has_colours(palette) {
+        return Ok(put_in_styles(out, palette, cells)?);
+    }
     for cell in cells {
         out.push(cell.character)?;
     }

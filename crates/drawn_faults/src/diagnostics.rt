@@ -3,10 +3,10 @@
 
 ghost use Rattle.std.specs.Prelude.{◌≡◌, ◌++◌, ◌<◌, ◌^◌, IfOk, OnOk, length, map, string_bytes};
 ghost use Rattle.drawn_faults.specs.Diagnostics.{diagnostic_text, drawn_in, gutter_of, label_of};
-ghost use Rattle.drawn_faults.specs.Diagnostics.{level_word, parting_above};
-ghost use Rattle.drawn_faults.specs.Glyphs.{IsHarmless};
+ghost use Rattle.drawn_faults.specs.Diagnostics.{level_of, level_word, parting_above};
 ghost use Rattle.drawn_faults.specs.Labels.{seen_frame, seen_label};
-ghost use Rattle.drawn_faults.specs.Places.{seen_picture};
+ghost use Rattle.drawn_faults.specs.Painting.{IsColourOf, IsHarmlessWith};
+ghost use Rattle.drawn_faults.specs.Places.{seen_picture, uncoloured};
 ghost use Rattle.drawn_faults.specs.SeenDiagnostics.{is_warning, seen_diagnostic};
 ghost use Rattle.drawn_faults.specs.SeenDiagnostics.{seen_source_label};
 
@@ -14,6 +14,7 @@ use crate::helps::{SourceHelp, last_help_line, put_helps};
 use crate::labels::{Frame, Label, digits};
 use crate::marked::{frame_of, last_label_line};
 use crate::notes::{SourceNote, last_note_line, put_notes, put_titled};
+use crate::paint::{Gutter, Palette, palette_of};
 use crate::places::Picture;
 use crate::suggestions::put_parting;
 use std::alloc::{AllocError, Global};
@@ -84,14 +85,13 @@ fn labels_of<'a>(
     Ok(list)
 }
 
-/// Returns the columns of the numbers of the lines of a diagnostic with these labels. Returns `Err`
-/// if an allocation fails.
+/// Returns the gutter of a diagnostic with these labels. Returns `Err` if an allocation fails.
 fn gutter_of(
     alloc: Global,
     picture: &Picture<'_>,
     diagnostic: &Diagnostic<'_>,
     labels: &[Label<'_>],
-) -> Result<usize, AllocError>
+) -> Result<Gutter, AllocError>
     requires source { length picture.now.source.now < 2 ^ 59 }
     requires labels { map seen_label labels.now ≡ map (label_of (seen_picture picture.now))
         (seen_diagnostic diagnostic.now).labels }
@@ -101,7 +101,9 @@ fn gutter_of(
     let last = last_label_line(0, labels);
     let last = last_note_line(alloc, picture, last, diagnostic.notes)?;
     let last = last_help_line(alloc, picture, last, diagnostic.helps)?;
-    Ok(digits(picture.line_start as usize + last))
+    let columns = digits(picture.line_start as usize + last);
+    let palette = palette_of(picture.colours, level_of(diagnostic.level));
+    Ok(Gutter { columns, palette })
 }
 
 /// Adds the row between the labels and what is below them, if there is anything.
@@ -125,8 +127,18 @@ fn level_word(level: Level) -> &'static str
     ensures { result.now ≡ level_word (is_warning level) }
 {
     match level {
-        Level::Error => "error: ",
-        Level::Warning => "warning: ",
+        Level::Error => "error",
+        Level::Warning => "warning",
+    }
+}
+
+/// Returns the level whose colours a diagnostic has.
+fn level_of(level: Level) -> Palette
+    ensures { result ≡ level_of (is_warning level) }
+{
+    match level {
+        Level::Error => Palette::Error,
+        Level::Warning => Palette::Warning,
     }
 }
 
@@ -147,6 +159,7 @@ fn put_drawn(
     put_titled(
         out,
         frame,
+        frame.gutter.palette,
         level_word(diagnostic.level),
         diagnostic.title,
         labels,
@@ -177,9 +190,9 @@ fn put_diagnostic(
     Ok(())
 }
 
-/// Returns the text that shows a diagnostic under its source, as rustc 1.95 draws it without
-/// colours. Its ranges are byte ranges of the source that count from `literal_start` of the picture
-/// on, as the spans of an error do.
+/// Returns the text that shows a diagnostic under its source, as rustc 1.95 draws it, with the
+/// colours that rustc gives it on a terminal if the picture has them. Its ranges are byte ranges of
+/// the source that count from `literal_start` of the picture on, as the spans of an error do.
 ///
 /// From top to bottom: what it says; the path, and the line and column at which the first primary
 /// label in the source begins, or the source without one; the lines in which labels begin, each
@@ -200,7 +213,11 @@ pub fn draw_labels(
 ) -> Result<String, AllocError>
     ensures drawn { IfOk result (λ s. string_bytes s
         ≡ diagnostic_text (seen_picture picture.now) (seen_diagnostic diagnostic.now)) }
-    ensures harmless { IfOk result (λ s. IsHarmless (string_bytes s)) }
+    // Without its colours it is the drawing without colours, and a terminal obeys nothing of it but
+    // these.
+    ensures coloured { IfOk result (λ s. IsColourOf (string_bytes s) (diagnostic_text
+        (uncoloured (seen_picture picture.now)) (seen_diagnostic diagnostic.now))) }
+    ensures harmless { IfOk result (λ s. IsHarmlessWith picture.now.colours (string_bytes s)) }
 {
     let mut out = String::new(alloc);
     put_labels(&mut out, picture, diagnostic)?;
@@ -217,7 +234,10 @@ pub fn put_labels(
 ) -> Result<(), AllocError>
     ensures drawn { OnOk result (string_bytes out.new ≡ string_bytes out.old
         ++ diagnostic_text (seen_picture picture.now) (seen_diagnostic diagnostic.now)) }
-    ensures harmless { IsHarmless
+    ensures coloured { IsColourOf
+        (diagnostic_text (seen_picture picture.now) (seen_diagnostic diagnostic.now))
+        (diagnostic_text (uncoloured (seen_picture picture.now)) (seen_diagnostic diagnostic.now)) }
+    ensures harmless { IsHarmlessWith picture.now.colours
         (diagnostic_text (seen_picture picture.now) (seen_diagnostic diagnostic.now)) }
 {
     if picture.source.len() >= 1 << 59 {

@@ -2,33 +2,60 @@
 //! returns `Err` if an allocation fails.
 
 ghost use Rattle.std.specs.Prelude.{◌≡◌, ◌++◌, ◌<◌, ◌^◌, IfOk, IfSome, None, OnOk, length};
-ghost use Rattle.std.specs.Prelude.{option_map, string_bytes};
+ghost use Rattle.std.specs.Prelude.{codes, option_map, string_bytes};
 ghost use Rattle.rustc_parse_format.specs.Seen.{seen_error, seen_mode};
-ghost use Rattle.drawn_faults.specs.Glyphs.{IsHarmless};
-ghost use Rattle.drawn_faults.specs.Places.{seen_picture};
+ghost use Rattle.drawn_faults.specs.Painting.{IsColourOf, IsHarmlessWith, opening, painted};
+ghost use Rattle.drawn_faults.specs.Places.{seen_picture, uncoloured};
 ghost use Rattle.drawn_faults.specs.Labels.{primary, seen_edit, seen_frame, seen_label};
 ghost use Rattle.drawn_faults.specs.Drawing.{arrow, below, drawing, head, labelled_rows};
-ghost use Rattle.drawn_faults.specs.Drawing.{note_row, parting_before, title};
+ghost use Rattle.drawn_faults.specs.Drawing.{note_row, note_word, parting_before, title};
 ghost use Rattle.drawn_faults.specs.Suggestions.{help_rows};
+ghost use Rattle.drawn_faults.specs.declared.paint.Style.TheVariants.{Bold, Primary};
 
 use crate::extent::Spot;
-use crate::glyphs::{put_glyphs_between, put_run};
+use crate::glyphs::{put_glyphs, put_run};
 use crate::labels::{Edit, Frame, Label, edit_of, frame_for, mark, second, text_name};
 use crate::lines::{put_decimal, put_labelled, put_two_labels};
 use crate::long::put_long;
+use crate::paint::{
+    Gutter, Palette, Style, has_colours, put_closing, put_note_sign, put_opening, put_painted,
+};
 use crate::places::Picture;
 use crate::suggestions::{put_edit, put_parting};
 use rustc_parse_format::{ParseError, ParseMode};
 use std::alloc::{AllocError, Global};
 
-/// Adds what the error is.
-fn put_title(out: &mut String, mode: ParseMode, description: &str) -> Result<(), AllocError>
+/// Adds what all titles begin with, up to the name of the text, in which the style goes on.
+fn put_title_start(out: &mut String, palette: Palette) -> Result<(), AllocError>
     ensures { OnOk result (string_bytes out.new ≡ string_bytes out.old
-        ++ title (seen_mode mode) description.now) }
+        ++ (painted palette Primary (codes "error") ++ (opening palette Bold
+        ++ codes ": invalid "))) }
 {
-    out.push_str("error: invalid ")?;
+    if !has_colours(palette) {
+        return Ok(out.push_str("error: invalid ")?);
+    }
+    put_painted(out, palette, Style::Primary, "error")?;
+    put_opening(out, palette, Style::Bold)?;
+    out.push_str(": invalid ")?;
+    Ok(())
+}
+
+/// Adds what the error is.
+fn put_title(
+    out: &mut String,
+    palette: Palette,
+    mode: ParseMode,
+    description: &str,
+) -> Result<(), AllocError>
+    ensures { OnOk result (string_bytes out.new ≡ string_bytes out.old
+        ++ title palette (seen_mode mode) description.now) }
+{
+    put_title_start(out, palette)?;
     out.push_str(text_name(mode))?;
-    put_glyphs_between(out, ": ", description, "\n")?;
+    out.push_str(": ")?;
+    put_glyphs(out, description, 0)?;
+    put_closing(out, palette)?;
+    out.push_str("\n")?;
     Ok(())
 }
 
@@ -42,8 +69,10 @@ pub fn put_arrow(out: &mut String, frame: &Frame<'_>, at: Spot) -> Result<(), Al
 {
     let line = frame.picture.line_start as usize + at.line;
     let column = at.chars + 1;
-    put_run(out, ' ', frame.gutter)?;
-    put_glyphs_between(out, "--> ", frame.picture.path, ":")?;
+    put_run(out, ' ', frame.gutter.columns)?;
+    put_painted(out, frame.gutter.palette, Style::Secondary, "--> ")?;
+    put_glyphs(out, frame.picture.path, 0)?;
+    out.push_str(":")?;
     put_decimal(out, line)?;
     out.push_str(":")?;
     put_decimal(out, column)?;
@@ -65,7 +94,7 @@ fn put_head(
     ensures { OnOk result (string_bytes out.new ≡ string_bytes out.old
         ++ head (seen_mode mode) (seen_frame frame.now) description.now at) }
 {
-    put_title(out, mode, description)?;
+    put_title(out, frame.gutter.palette, mode, description)?;
     put_arrow(out, frame, at)?;
     put_parting(out, frame)?;
     Ok(())
@@ -117,14 +146,24 @@ fn put_labels(
     Ok(())
 }
 
+/// Adds what a note begins with.
+pub fn put_note_word(out: &mut String, gutter: Gutter) -> Result<(), AllocError>
+    ensures { OnOk result (string_bytes out.new ≡ string_bytes out.old ++ note_word gutter) }
+{
+    put_run(out, ' ', gutter.columns)?;
+    put_note_sign(out, gutter.palette)?;
+    Ok(())
+}
+
 /// Adds the row of a note, if there is one.
-fn put_note(out: &mut String, gutter: usize, note: &Option<String>) -> Result<(), AllocError>
+fn put_note(out: &mut String, gutter: Gutter, note: &Option<String>) -> Result<(), AllocError>
     ensures { OnOk result (string_bytes out.new ≡ string_bytes out.old
         ++ note_row gutter (option_map string_bytes note.now)) }
 {
     if let Some(note) = note {
-        put_run(out, ' ', gutter)?;
-        put_glyphs_between(out, " = note: ", note.as_str(), "\n")?;
+        put_note_word(out, gutter)?;
+        put_glyphs(out, note.as_str(), 0)?;
+        out.push_str("\n")?;
     }
     Ok(())
 }
@@ -232,8 +271,9 @@ fn least_length(picture: &Picture<'_>, error: &ParseError) -> usize {
 }
 
 /// Returns the text that shows an error of a literal of this mode under its source, as rustc 1.95
-/// draws it without colours. The spans of the error are byte ranges of the literal: its parser had
-/// this literal as its snippet, and that was the source literal.
+/// draws it, with the colours that rustc gives it on a terminal if the picture has them. The spans
+/// of the error are byte ranges of the literal: its parser had this literal as its snippet, and
+/// that was the source literal.
 ///
 /// From top to bottom: what the error is, and its path, line and column, which counts characters;
 /// the lines with labels, each with its number and the signs of the labels under it; the note; the
@@ -258,7 +298,11 @@ pub fn draw(
 ) -> Result<String, AllocError>
     ensures drawn { IfOk result (λ s. string_bytes s
         ≡ drawing (seen_mode mode) (seen_picture picture.now) (seen_error error.now)) }
-    ensures harmless { IfOk result (λ s. IsHarmless (string_bytes s)) }
+    // Without its colours it is the drawing without colours, and a terminal obeys nothing of it but
+    // these.
+    ensures coloured { IfOk result (λ s. IsColourOf (string_bytes s)
+        (drawing (seen_mode mode) (uncoloured (seen_picture picture.now)) (seen_error error.now))) }
+    ensures harmless { IfOk result (λ s. IsHarmlessWith picture.now.colours (string_bytes s)) }
 {
     let mut out = String::new(alloc);
     put_drawing(&mut out, mode, picture, error)?;
@@ -276,7 +320,10 @@ pub fn put_drawing(
 ) -> Result<(), AllocError>
     ensures drawn { OnOk result (string_bytes out.new ≡ string_bytes out.old
         ++ drawing (seen_mode mode) (seen_picture picture.now) (seen_error error.now)) }
-    ensures harmless { IsHarmless
+    ensures coloured { IsColourOf
+        (drawing (seen_mode mode) (seen_picture picture.now) (seen_error error.now))
+        (drawing (seen_mode mode) (uncoloured (seen_picture picture.now)) (seen_error error.now)) }
+    ensures harmless { IsHarmlessWith picture.now.colours
         (drawing (seen_mode mode) (seen_picture picture.now) (seen_error error.now)) }
 {
     if picture.source.len() >= 1 << 59 {

@@ -2,12 +2,14 @@
 //! to `out`, and returns `Err` if an allocation fails.
 
 ghost use Rattle.std.specs.Prelude.{◌≡◌, ◌∷◌, ◌++◌, ◌<◌, ◌≤◌, ◌^◌, [], chars, drop};
-ghost use Rattle.std.specs.Prelude.{◌*◌, ◌==◌, length, take};
+ghost use Rattle.std.specs.Prelude.{◌*◌, ◌==◌, List, length, take};
 ghost use Rattle.std.specs.Prelude.{IfOk, IfSome, MatchOption, OnOk, encode_utf8_all, string_bytes};
 ghost use Rattle.drawn_faults.specs.Glyphs.{IsHarmless, glyph, glyph_bytes, glyph_count, glyphs};
 ghost use Rattle.drawn_faults.specs.Glyphs.{indent, is_bidi_control, run, width};
+ghost use Rattle.drawn_faults.specs.Painting.{Piece, painted, piece, pieces_after};
 ghost use Rattle.drawn_faults.specs.Places.{first_line};
 
+use crate::paint::{Palette, Style, has_colours, put_change, put_closing, put_opening};
 use crate::printable::{split_as_is, split_printable};
 use std::alloc::AllocError;
 use unicode_width::UnicodeWidthChar;
@@ -109,6 +111,26 @@ pub fn draws_nothing(text: &str) -> bool
             return false;
         }
         rest = tail;
+    }
+    true
+}
+
+/// Returns whether nothing is drawn of the first characters of a text.
+#[tactic(auto, using(crate::proofs::GlyphLemmas::drawn_front))]
+fn front_draws_nothing(text: &str, count: usize) -> bool
+    ensures { result ≡ (length (encode_utf8_all (glyphs (take count (chars text.now)))) == 0) }
+{
+    let mut rest = text;
+    let mut left = count;
+    while left > 0 {
+        let Some((c, tail)) = split_first(rest) else {
+            break;
+        };
+        if glyph_count(c) > 0 {
+            return false;
+        }
+        rest = tail;
+        left -= 1;
     }
     true
 }
@@ -219,15 +241,88 @@ pub fn put_glyphs(out: &mut String, text: &str, skipped: usize) -> Result<(), Al
     Ok(())
 }
 
-/// Adds a text as it is drawn, between two others.
-pub fn put_glyphs_between(out: &mut String, a: &str, text: &str, b: &str) -> Result<(), AllocError>
+/// Adds a text as it is drawn, in a style.
+#[tactic(auto, using(crate::proofs::Joining::without_colours))]
+pub fn put_painted_glyphs(
+    out: &mut String,
+    palette: Palette,
+    style: Style,
+    text: &str,
+) -> Result<(), AllocError>
     ensures { OnOk result (string_bytes out.new
-        ≡ string_bytes out.old ++ (a.now ++ (glyph_bytes text.now ++ b.now))) }
+        ≡ string_bytes out.old ++ painted palette style (glyph_bytes text.now)) }
 {
-    out.push_str(a)?;
-    put_glyphs(out, text, 0)?;
-    out.push_str(b)?;
+    if !has_colours(palette) {
+        return Ok(put_glyphs(out, text, 0)?);
+    }
+    if !draws_nothing(text) {
+        put_opening(out, palette, style)?;
+        put_glyphs(out, text, 0)?;
+        put_closing(out, palette)?;
+    }
     Ok(())
+}
+
+/// Adds a character again and again, in a style.
+pub fn put_painted_run(
+    out: &mut String,
+    palette: Palette,
+    style: Style,
+    c: char,
+    count: usize,
+) -> Result<(), AllocError>
+    ensures { OnOk result (string_bytes out.new
+        ≡ string_bytes out.old ++ painted palette style (run count c)) }
+{
+    if count > 0 {
+        put_opening(out, palette, style)?;
+        put_run(out, c, count)?;
+        put_closing(out, palette)?;
+    }
+    Ok(())
+}
+
+/// Adds the first characters of a text, as they are drawn, in the style `after`, where a text of
+/// the style `before` is before them. Returns the style of the last text that is drawn.
+pub fn put_front_after(
+    out: &mut String,
+    palette: Palette,
+    before: Style,
+    after: Style,
+    text: &str,
+    count: usize,
+) -> Result<Style, AllocError>
+    ensures { IfOk result (λ s. (xs : List Piece) → string_bytes out.new
+        ++ pieces_after palette s xs ≡ string_bytes out.old ++ pieces_after palette before
+        (piece after (encode_utf8_all (glyphs (take count (chars text.now)))) ∷ xs)) }
+{
+    if front_draws_nothing(text, count) {
+        return Ok(before);
+    }
+    put_change(out, palette, before, after)?;
+    put_front(out, text, count)?;
+    Ok(after)
+}
+
+/// Adds a text as it is drawn, in the style `after`, where a text of the style `before` is before
+/// it. Returns the style of the last text that is drawn.
+pub fn put_glyphs_after(
+    out: &mut String,
+    palette: Palette,
+    before: Style,
+    after: Style,
+    text: &str,
+) -> Result<Style, AllocError>
+    ensures { IfOk result (λ s. (xs : List Piece) → string_bytes out.new
+        ++ pieces_after palette s xs ≡ string_bytes out.old ++ pieces_after palette before
+        (piece after (glyph_bytes text.now) ∷ xs)) }
+{
+    if draws_nothing(text) {
+        return Ok(before);
+    }
+    put_change(out, palette, before, after)?;
+    put_glyphs(out, text, 0)?;
+    Ok(after)
 }
 
 /// Adds the first characters of a text, as they are drawn.

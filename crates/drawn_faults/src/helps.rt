@@ -1,28 +1,32 @@
 //! Helps of a diagnostic, and their edits in one line. What begins with `put_` appends to `out`,
 //! and returns `Err` if an allocation fails.
 
-ghost use Rattle.std.specs.Prelude.{◌≡◌, ◌++◌, ◌<◌, ◌^◌, IfOk, OnOk, chars, length, map};
-ghost use Rattle.std.specs.Prelude.{string_bytes};
+ghost use Rattle.std.specs.Prelude.{◌≡◌, ◌++◌, ◌∷◌, ◌<◌, ◌^◌, IfOk, OnOk, chars, length, map};
+ghost use Rattle.std.specs.Prelude.{◌==◌, false, string_bytes};
 ghost use Rattle.drawn_faults.specs.Diagnostics.{help_rows, helps_rows, last_help_line};
 ghost use Rattle.drawn_faults.specs.Diagnostics.{placed_edit};
 ghost use Rattle.drawn_faults.specs.Helps.{are_in_line, are_insertions, columns_of, edited_from};
-ghost use Rattle.drawn_faults.specs.Helps.{edits_rows, inserted_rows, pluses, replaced_rows};
-ghost use Rattle.drawn_faults.specs.Helps.{rows_in_line};
+ghost use Rattle.drawn_faults.specs.Helps.{edits_rows, inserted_rows, new_row, pluses};
+ghost use Rattle.drawn_faults.specs.Helps.{replaced_rows, rows_in_line};
 ghost use Rattle.drawn_faults.specs.Labels.{seen_edit, seen_frame};
+ghost use Rattle.drawn_faults.specs.Painting.{piece, pieces, pieces_after};
 ghost use Rattle.drawn_faults.specs.Places.{seen_picture};
 ghost use Rattle.drawn_faults.specs.Rows.{under};
 ghost use Rattle.drawn_faults.specs.SeenDiagnostics.{seen_help, seen_source_edit};
+ghost use Rattle.drawn_faults.specs.declared.paint.Style.TheVariants.{Plain};
 
 use crate::fixes::Edit as SourceEdit;
 use crate::glyphs::{
-    behind_chars, put_front, put_glyphs, put_glyphs_between, put_run, split_first, width,
+    behind_chars, put_front, put_front_after, put_glyphs, put_glyphs_after, put_painted_run,
+    put_run, split_first, width,
 };
 use crate::labels::{Edit, Frame};
 use crate::lines::put_line_number;
 use crate::marked::last_edit_line;
+use crate::paint::{Gutter, Palette, Style, has_colours, put_reset, put_sign};
 use crate::places::{Picture, line};
 use crate::rows::put_gutter;
-use crate::suggestions::{put_old, put_parting};
+use crate::suggestions::{put_help_word, put_old, put_parting};
 use std::alloc::{AllocError, Global};
 
 /// A help of a diagnostic.
@@ -58,11 +62,55 @@ fn are_insertions(edits: &[Edit<'_>]) -> bool
     true
 }
 
-/// Adds what edits in a line, from left to right, make of it.
-fn put_edited(out: &mut String, line: &str, edits: &[Edit<'_>]) -> Result<(), AllocError>
+/// Adds what edits in a line, from left to right, make of it, after a sign of this style, in
+/// colours.
+fn put_coloured_edits(
+    out: &mut String,
+    palette: Palette,
+    style: Style,
+    sign: &str,
+    line: &str,
+    edits: &[Edit<'_>],
+) -> Result<(), AllocError>
+    requires { (length sign.now == 0) ≡ false }
     ensures { OnOk result (string_bytes out.new ≡ string_bytes out.old
-        ++ edited_from 0 (map seen_edit edits.now) (chars line.now)) }
+        ++ pieces_after palette Plain (piece style sign.now
+        ∷ edited_from 0 (map seen_edit edits.now) (chars line.now))) }
 {
+    put_sign(out, palette, style, sign)?;
+    let mut last = style;
+    let mut passed = 0;
+    let mut rest = line;
+    for edit in edits {
+        let count = edit.extent.start.chars.saturating_sub(passed);
+        let before = put_front_after(out, palette, last, Style::Plain, rest, count)?;
+        last = put_glyphs_after(out, palette, before, Style::Addition, edit.text)?;
+        rest = behind_chars(rest, edit.extent.end.chars.saturating_sub(passed));
+        passed = edit.extent.end.chars;
+    }
+    let end = put_glyphs_after(out, palette, last, Style::Plain, rest)?;
+    put_reset(out, end)?;
+    Ok(())
+}
+
+/// Adds what edits in a line, from left to right, make of it, after a sign of this style.
+fn put_edited(
+    out: &mut String,
+    palette: Palette,
+    style: Style,
+    sign: &str,
+    line: &str,
+    edits: &[Edit<'_>],
+) -> Result<(), AllocError>
+    requires { (length sign.now == 0) ≡ false }
+    ensures { OnOk result (string_bytes out.new ≡ string_bytes out.old
+        ++ pieces palette (piece style sign.now
+        ∷ edited_from 0 (map seen_edit edits.now) (chars line.now))) }
+{
+    if has_colours(palette) {
+        return Ok(put_coloured_edits(out, palette, style, sign, line, edits)?);
+    }
+    out.push_str(sign)?;
     let mut passed = 0;
     let mut rest = line;
     for edit in edits {
@@ -72,6 +120,29 @@ fn put_edited(out: &mut String, line: &str, edits: &[Edit<'_>]) -> Result<(), Al
         passed = edit.extent.end.chars;
     }
     put_glyphs(out, rest, 0)?;
+    Ok(())
+}
+
+/// Adds the row of a line with edits, after a sign of this style.
+#[tactic(auto, unfolding(crate::specs::Helps::new_row))]
+fn put_new_row(
+    out: &mut String,
+    frame: &Frame<'_>,
+    style: Style,
+    sign: &str,
+    number: usize,
+    edits: &[Edit<'_>],
+) -> Result<(), AllocError>
+    requires number { number < 2 ^ 59 }
+    requires sign { (length sign.now == 0) ≡ false }
+    ensures { OnOk result (string_bytes out.new ≡ string_bytes out.old
+        ++ new_row (seen_frame frame.now) style sign.now number (map seen_edit edits.now)) }
+{
+    put_line_number(out, frame, number)?;
+    out.push_str(" ")?;
+    let line = line(frame.picture.source, number);
+    put_edited(out, frame.gutter.palette, style, sign, line, edits)?;
+    out.push_str("\n")?;
     Ok(())
 }
 
@@ -92,26 +163,27 @@ fn columns_of(text: &str) -> Result<usize, AllocError>
 }
 
 /// Adds the signs under what edits insert.
-fn put_pluses(out: &mut String, edits: &[Edit<'_>]) -> Result<(), AllocError>
+fn put_pluses(out: &mut String, palette: Palette, edits: &[Edit<'_>]) -> Result<(), AllocError>
     ensures { OnOk result (string_bytes out.new
-        ≡ string_bytes out.old ++ pluses 0 (map seen_edit edits.now)) }
+        ≡ string_bytes out.old ++ pluses palette 0 (map seen_edit edits.now)) }
 {
     let mut column = 0;
     for edit in edits {
         put_run(out, ' ', edit.extent.start.column.saturating_sub(column))?;
-        put_run(out, '+', columns_of(edit.text)?)?;
+        let columns = columns_of(edit.text)?;
+        put_painted_run(out, palette, Style::Addition, '+', columns)?;
         column = edit.extent.start.column;
     }
     Ok(())
 }
 
 /// Adds the row of these signs.
-fn put_plus_row(out: &mut String, gutter: usize, edits: &[Edit<'_>]) -> Result<(), AllocError>
-    ensures { OnOk result (string_bytes out.new
-        ≡ string_bytes out.old ++ under gutter (pluses 0 (map seen_edit edits.now))) }
+fn put_plus_row(out: &mut String, gutter: Gutter, edits: &[Edit<'_>]) -> Result<(), AllocError>
+    ensures { OnOk result (string_bytes out.new ≡ string_bytes out.old
+        ++ under gutter (pluses gutter.palette 0 (map seen_edit edits.now))) }
 {
     put_gutter(out, gutter)?;
-    put_pluses(out, edits)?;
+    put_pluses(out, gutter.palette, edits)?;
     out.push_str("\n")?;
     Ok(())
 }
@@ -129,10 +201,7 @@ fn put_inserted(
         ++ inserted_rows (seen_frame frame.now) number (map seen_edit edits.now)) }
 {
     put_parting(out, frame)?;
-    put_line_number(out, frame, number)?;
-    out.push_str(" | ")?;
-    put_edited(out, line(frame.picture.source, number), edits)?;
-    out.push_str("\n")?;
+    put_new_row(out, frame, Style::Secondary, "| ", number, edits)?;
     put_plus_row(out, frame.gutter, edits)?;
     Ok(())
 }
@@ -150,12 +219,14 @@ fn put_replaced(
         ++ replaced_rows (seen_frame frame.now) number (map seen_edit edits.now)) }
 {
     put_parting(out, frame)?;
-    let old = line(frame.picture.source, number);
-    put_old(out, frame, number, old)?;
-    put_line_number(out, frame, number)?;
-    out.push_str(" + ")?;
-    put_edited(out, old, edits)?;
-    out.push_str("\n")?;
+    put_old(
+        out,
+        frame,
+        number,
+        line(frame.picture.source, number),
+        edits,
+    )?;
+    put_new_row(out, frame, Style::Addition, "+ ", number, edits)?;
     put_parting(out, frame)?;
     Ok(())
 }
@@ -242,7 +313,9 @@ fn put_help(out: &mut String, frame: &Frame<'_>, help: &SourceHelp<'_>) -> Resul
     ensures { OnOk result (string_bytes out.new ≡ string_bytes out.old
         ++ help_rows (seen_frame frame.now) (seen_help help.now)) }
 {
-    put_glyphs_between(out, "help: ", help.text, "\n")?;
+    put_help_word(out, frame.gutter.palette)?;
+    put_glyphs(out, help.text, 0)?;
+    out.push_str("\n")?;
     let edits = placed_edits(*out.allocator(), frame.picture, help.edits)?;
     put_edits(out, frame, &edits)?;
     Ok(())

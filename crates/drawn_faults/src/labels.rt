@@ -15,6 +15,7 @@ use crate::extent::Extent;
 use crate::fixes::is_offered;
 use crate::glyphs::indent;
 use crate::mark::Mark;
+use crate::paint::{Gutter, Palette, palette_of};
 use crate::places::{Picture, behind_lines};
 use rustc_parse_format::{ParseError, ParseMode, Suggestion};
 use std::ops::Range;
@@ -44,8 +45,8 @@ pub struct Edit<'a> {
 pub struct Frame<'a> {
     /// The source.
     pub picture: &'a Picture<'a>,
-    /// How many columns the numbers of the lines have.
-    pub gutter: usize,
+    /// The columns of the numbers of the lines, and the colours.
+    pub gutter: Gutter,
     /// How many columns at the start of each line are cut.
     pub cut: usize,
 }
@@ -245,11 +246,12 @@ pub fn frame_for<'a>(
         .end
         .line
         .max(last_line(second).max(edit_line(edit)));
-    let gutter = digits(picture.line_start as usize + last);
+    let columns = digits(picture.line_start as usize + last);
+    let palette = palette_of(picture.colours, Palette::Error);
     let indent = least_indent(picture, label.extent.start.line, other_line(label, second));
     Frame {
         picture,
-        gutter,
+        gutter: Gutter { columns, palette },
         cut: cut_of(indent),
     }
 }

@@ -19,6 +19,7 @@ mod marked;
 mod marks;
 mod notes;
 mod order;
+mod paint;
 mod places;
 mod printable;
 mod rounds;

@@ -4,12 +4,13 @@
 ghost use Rattle.std.specs.Prelude.{◌≡◌, ◌++◌, ◌<◌, ◌^◌, OnOk, chars, codes, decimal, string_bytes};
 ghost use Rattle.drawn_faults.specs.Rows.{seen_mark};
 ghost use Rattle.drawn_faults.specs.Labels.{seen_frame};
-ghost use Rattle.drawn_faults.specs.Lines.{apart, behind_bar, code_row, gap, labelled, numbered};
-ghost use Rattle.drawn_faults.specs.Lines.{shown, source_row, two_labels};
+ghost use Rattle.drawn_faults.specs.Lines.{apart, behind_bar, code_row, gap, labelled, number_bar};
+ghost use Rattle.drawn_faults.specs.Lines.{numbered, shown, source_line, source_row, two_labels};
 
 use crate::glyphs::{draws_nothing, put_glyphs, put_run};
 use crate::labels::{Frame, digits};
 use crate::mark::Mark;
+use crate::paint::{Palette, Style, put_closing, put_gutter_bar, put_opening, put_painted};
 use crate::places::line;
 use crate::rows::{put_both, put_one};
 use itoa::Buffer;
@@ -32,59 +33,95 @@ pub fn put_line_number(out: &mut String, frame: &Frame<'_>, line: usize) -> Resu
         ++ numbered (seen_frame frame.now) line) }
 {
     let number = frame.picture.line_start as usize + line;
-    put_run(out, ' ', frame.gutter.saturating_sub(digits(number)))?;
+    put_opening(out, frame.gutter.palette, Style::Secondary)?;
+    put_run(
+        out,
+        ' ',
+        frame.gutter.columns.saturating_sub(digits(number)),
+    )?;
     put_decimal(out, number)?;
+    put_closing(out, frame.gutter.palette)?;
+    Ok(())
+}
+
+/// Adds the number of a line of the source, and the bar after it.
+pub fn put_number_bar(out: &mut String, frame: &Frame<'_>, line: usize) -> Result<(), AllocError>
+    requires { line < 2 ^ 61 }
+    ensures { OnOk result (string_bytes out.new ≡ string_bytes out.old
+        ++ number_bar (seen_frame frame.now) line) }
+{
+    put_line_number(out, frame, line)?;
+    put_gutter_bar(out, frame.gutter.palette)?;
     Ok(())
 }
 
 /// Adds a line as it is drawn.
 #[tactic(auto, unfolding(crate::specs::Lines::shown))]
-fn put_shown(out: &mut String, text: &str, cut: usize) -> Result<(), AllocError>
+fn put_shown(out: &mut String, palette: Palette, text: &str, cut: usize) -> Result<(), AllocError>
     requires { cut < 2 ^ 62 }
     ensures { OnOk result (string_bytes out.new
-        ≡ string_bytes out.old ++ shown cut (chars text.now)) }
+        ≡ string_bytes out.old ++ shown palette cut (chars text.now)) }
 {
     if cut == 0 {
         put_glyphs(out, text, 0)?;
     } else {
-        out.push_str("...")?;
+        put_painted(out, palette, Style::Secondary, "...")?;
         put_glyphs(out, text, cut + 3)?;
     }
     Ok(())
 }
 
 /// Adds what is behind a bar: a line, and what is in front of it.
-#[tactic(auto, unfolding(crate::specs::Lines::shown))]
-fn put_behind_bar(out: &mut String, front: &str, text: &str, cut: usize) -> Result<(), AllocError>
+fn put_behind_bar(
+    out: &mut String,
+    palette: Palette,
+    front: &str,
+    text: &str,
+    cut: usize,
+) -> Result<(), AllocError>
     requires { cut < 2 ^ 62 }
     ensures { OnOk result (string_bytes out.new
-        ≡ string_bytes out.old ++ behind_bar front.now (shown cut (chars text.now))) }
+        ≡ string_bytes out.old ++ behind_bar palette front.now cut (chars text.now)) }
 {
     if cut > 0 || !draws_nothing(text) {
         out.push_str(front)?;
-        put_shown(out, text, cut)?;
+        put_shown(out, palette, text, cut)?;
     }
     Ok(())
 }
 
-/// Adds a line of the source, with its number, a bar, and what is in front of it.
-#[tactic(auto, unfolding(crate::specs::Lines::source_row))]
+/// Adds a line of the source, and what is in front of it.
+#[tactic(auto, unfolding(crate::specs::Lines::source_line))]
+pub fn put_source_line(
+    out: &mut String,
+    frame: &Frame<'_>,
+    front: &str,
+    number: usize,
+) -> Result<(), AllocError>
+    requires { frame.now.cut < 2 ^ 62 }
+    ensures { OnOk result (string_bytes out.new ≡ string_bytes out.old
+        ++ source_line (seen_frame frame.now) front.now number) }
+{
+    let line = line(frame.picture.source, number);
+    put_behind_bar(out, frame.gutter.palette, front, line, frame.cut)?;
+    out.push_str("\n")?;
+    Ok(())
+}
+
+/// Adds a line of the source with its number, after what is in front of it.
 pub fn put_source(
     out: &mut String,
     frame: &Frame<'_>,
-    bar: &str,
     front: &str,
     number: usize,
 ) -> Result<(), AllocError>
     requires number { number < 2 ^ 61 }
     requires cut { frame.now.cut < 2 ^ 62 }
     ensures { OnOk result (string_bytes out.new ≡ string_bytes out.old
-        ++ source_row (seen_frame frame.now) bar.now front.now number) }
+        ++ source_row (seen_frame frame.now) front.now number) }
 {
-    put_line_number(out, frame, number)?;
-    out.push_str(bar)?;
-    put_behind_bar(out, front, line(frame.picture.source, number), frame.cut)?;
-    out.push_str("\n")?;
+    put_number_bar(out, frame, number)?;
+    put_source_line(out, frame, front, number)?;
     Ok(())
 }
 
@@ -95,7 +132,7 @@ pub fn put_code(out: &mut String, frame: &Frame<'_>, number: usize) -> Result<()
     ensures { OnOk result (string_bytes out.new ≡ string_bytes out.old
         ++ code_row (seen_frame frame.now) number) }
 {
-    put_source(out, frame, " |", " ", number)?;
+    put_source(out, frame, " ", number)?;
     Ok(())
 }
 
@@ -128,7 +165,8 @@ pub fn put_gap(
     if last == first + 2 {
         put_code(out, frame, first + 1)?;
     } else if last > first + 2 {
-        out.push_str("...\n")?;
+        put_painted(out, frame.gutter.palette, Style::Secondary, "...")?;
+        out.push_str("\n")?;
     }
     Ok(())
 }

@@ -2,7 +2,7 @@
 //! allocation fails.
 
 ghost use Rattle.std.specs.Prelude.{◌≡◌, ◌+◌, ◌-◌, ◌++◌, ◌<◌, ◌≤◌, ◌^◌, OnOk, chars, codes, max};
-ghost use Rattle.std.specs.Prelude.{string_bytes};
+ghost use Rattle.std.specs.Prelude.{length, string_bytes};
 ghost use Rattle.std.specs.Char.{is_whitespace};
 ghost use Rattle.std.specs.List.{list_all};
 ghost use Rattle.drawn_faults.specs.Glyphs.{glyph_bytes, run};
@@ -10,11 +10,15 @@ ghost use Rattle.drawn_faults.specs.Rows.{under};
 ghost use Rattle.drawn_faults.specs.Labels.{seen_frame, seen_label};
 ghost use Rattle.drawn_faults.specs.Long.{bar_gap, bar_row, bar_rows, between, first_rows};
 ghost use Rattle.drawn_faults.specs.Long.{is_bare, is_bare_line, is_bracket, is_comment};
-ghost use Rattle.drawn_faults.specs.Long.{is_plain_comment, last_rows, long_rows, without_bare};
+ghost use Rattle.drawn_faults.specs.Long.{is_plain_comment, last_rows, lead, long_rows};
+ghost use Rattle.drawn_faults.specs.Long.{signed_row, without_bare};
+ghost use Rattle.drawn_faults.specs.Painting.{painted};
+ghost use Rattle.drawn_faults.specs.declared.paint.Style.TheVariants.{PrimaryText};
 
-use crate::glyphs::{put_glyphs_between, put_run, split_first};
+use crate::glyphs::{put_painted_glyphs, put_run, split_first};
 use crate::labels::{Frame, Label};
-use crate::lines::put_source;
+use crate::lines::{put_number_bar, put_source, put_source_line};
+use crate::paint::{Gutter, Palette, Style, put_closing, put_opening, put_painted};
 use crate::places::line;
 use crate::rows::put_gutter;
 use std::alloc::AllocError;
@@ -97,6 +101,25 @@ fn without_bare(frame: &Frame<'_>, first: usize, count: usize) -> usize
     left
 }
 
+/// Adds a line of the source at the right of a sign of the label.
+fn put_signed_row(
+    out: &mut String,
+    frame: &Frame<'_>,
+    sign: &str,
+    number: usize,
+) -> Result<(), AllocError>
+    requires number { number < 2 ^ 61 }
+    requires cut { frame.now.cut < 2 ^ 62 }
+    ensures { OnOk result (string_bytes out.new ≡ string_bytes out.old
+        ++ signed_row (seen_frame frame.now) sign.now number) }
+{
+    put_number_bar(out, frame, number)?;
+    out.push_str(" ")?;
+    put_painted(out, frame.gutter.palette, Style::Primary, sign)?;
+    put_source_line(out, frame, " ", number)?;
+    Ok(())
+}
+
 /// Adds a line between the first and the last one.
 fn put_bar_row(out: &mut String, frame: &Frame<'_>, number: usize) -> Result<(), AllocError>
     requires number { number < 2 ^ 61 }
@@ -104,7 +127,7 @@ fn put_bar_row(out: &mut String, frame: &Frame<'_>, number: usize) -> Result<(),
     ensures { OnOk result (string_bytes out.new ≡ string_bytes out.old
         ++ bar_row (seen_frame frame.now) number) }
 {
-    put_source(out, frame, " | |", " ", number)?;
+    put_signed_row(out, frame, "|", number)?;
     Ok(())
 }
 
@@ -142,28 +165,40 @@ fn put_bar_gap(
     if last == first + 2 {
         put_bar_row(out, frame, first + 1)?;
     } else if last > first + 2 {
-        out.push_str("...")?;
-        put_run(out, ' ', frame.gutter)?;
-        out.push_str("|\n")?;
+        put_painted(out, frame.gutter.palette, Style::Secondary, "...")?;
+        put_run(out, ' ', frame.gutter.columns)?;
+        put_painted(out, frame.gutter.palette, Style::Primary, "|")?;
+        out.push_str("\n")?;
     }
     Ok(())
 }
 
-/// Adds a row under a line: a text, a line to a column behind it, and a text.
+/// Adds a text, a line to a column behind it, and the sign at its end.
 fn put_lead(
     out: &mut String,
-    gutter: usize,
+    palette: Palette,
     front: &str,
     columns: usize,
-    text: &str,
 ) -> Result<(), AllocError>
-    ensures { OnOk result (string_bytes out.new ≡ string_bytes out.old
-        ++ under gutter (front.now ++ (run columns 95 ++ text.now))) }
+    requires { length front.now ≡ 1 }
+    ensures { OnOk result (string_bytes out.new
+        ≡ string_bytes out.old ++ lead palette front.now columns) }
 {
-    put_gutter(out, gutter)?;
+    put_opening(out, palette, Style::Primary)?;
     out.push_str(front)?;
     put_run(out, '_', columns)?;
-    out.push_str(text)?;
+    out.push_str("^")?;
+    put_closing(out, palette)?;
+    Ok(())
+}
+
+/// Adds the row under the first line of a label.
+fn put_start(out: &mut String, gutter: Gutter, columns: usize) -> Result<(), AllocError>
+    ensures { OnOk result (string_bytes out.new ≡ string_bytes out.old
+        ++ under gutter (lead gutter.palette (codes " ") columns)) }
+{
+    put_gutter(out, gutter)?;
+    put_lead(out, gutter.palette, " ", columns)?;
     out.push_str("\n")?;
     Ok(())
 }
@@ -179,24 +214,26 @@ fn put_first_rows(out: &mut String, frame: &Frame<'_>, label: &Label<'_>) -> Res
 {
     let start = label.extent.start;
     if start.is_indent {
-        put_source(out, frame, " | /", " ", start.line)?;
+        put_signed_row(out, frame, "/", start.line)?;
     } else {
-        put_source(out, frame, " |", "   ", start.line)?;
+        put_source(out, frame, "   ", start.line)?;
         let columns = start.column.saturating_sub(frame.cut) + 1;
-        put_lead(out, frame.gutter, " ", columns, "^")?;
+        put_start(out, frame.gutter, columns)?;
     }
     Ok(())
 }
 
 /// Adds the row under the last line of a label.
-fn put_end(out: &mut String, gutter: usize, columns: usize, text: &str) -> Result<(), AllocError>
+fn put_end(out: &mut String, gutter: Gutter, columns: usize, text: &str) -> Result<(), AllocError>
     ensures { OnOk result (string_bytes out.new ≡ string_bytes out.old
-        ++ under gutter (codes "|" ++ (run columns 95 ++ (codes "^ " ++ glyph_bytes text.now)))) }
+        ++ under gutter (lead gutter.palette (codes "|") columns
+        ++ (codes " " ++ painted gutter.palette PrimaryText (glyph_bytes text.now)))) }
 {
     put_gutter(out, gutter)?;
-    out.push_str("|")?;
-    put_run(out, '_', columns)?;
-    put_glyphs_between(out, "^ ", text, "\n")?;
+    put_lead(out, gutter.palette, "|", columns)?;
+    out.push_str(" ")?;
+    put_painted_glyphs(out, gutter.palette, Style::PrimaryText, text)?;
+    out.push_str("\n")?;
     Ok(())
 }
 

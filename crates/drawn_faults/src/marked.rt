@@ -21,6 +21,7 @@ use crate::long::put_long;
 use crate::mark::Mark;
 use crate::marks::put_mark_rows;
 use crate::order::from_right;
+use crate::paint::Gutter;
 use crate::places::{ORIGIN, Picture};
 use std::alloc::{AllocError, Global};
 
@@ -94,7 +95,7 @@ fn lowest_indent(picture: &Picture<'_>, labels: &[Label<'_>]) -> usize
 
 /// Returns the layout of labels.
 #[tactic(auto, unfolding(crate::specs::Diagnostics::frame_of))]
-pub fn frame_of<'a>(picture: &'a Picture<'a>, gutter: usize, labels: &[Label<'_>]) -> Frame<'a>
+pub fn frame_of<'a>(picture: &'a Picture<'a>, gutter: Gutter, labels: &[Label<'_>]) -> Frame<'a>
     requires { length picture.now.source.now < 2 ^ 59 }
     ensures value { seen_frame result
         ≡ frame_of (seen_picture picture.now) gutter (map seen_label labels.now) }

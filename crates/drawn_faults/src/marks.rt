@@ -6,13 +6,16 @@ ghost use Rattle.drawn_faults.specs.Marks.{bars, hung_row, hung_rows, hung_texts
 ghost use Rattle.drawn_faults.specs.Marks.{put_from, rows_below, rows_of, seen_hung, side_texts};
 ghost use Rattle.drawn_faults.specs.Marks.{sign_row};
 ghost use Rattle.drawn_faults.specs.Marks.{signs_of, with_bar, with_hung_text, with_side_text};
-ghost use Rattle.drawn_faults.specs.Marks.{with_signs, written};
-ghost use Rattle.drawn_faults.specs.Rows.{seen_mark, under};
+ghost use Rattle.drawn_faults.specs.Marks.{with_signs};
+ghost use Rattle.drawn_faults.specs.Rows.{seen_mark, under, written};
 
-use crate::cells::{Cell, put_after, put_at, put_from, put_run_at, put_written, style_of};
+use crate::cells::{
+    Cell, put_after, put_at, put_from, put_run_at, put_written, style_of, text_style,
+};
 use crate::hanging::{Hung, depth, hang, has_text};
 use crate::mark::Mark;
 use crate::order::covered_first;
+use crate::paint::Gutter;
 use crate::rows::put_gutter;
 use std::alloc::{AllocError, Global};
 
@@ -22,7 +25,7 @@ fn put_side_text(row: &mut Vec<Cell>, hung: &Hung<'_>) -> Result<(), AllocError>
 {
     let mark = &hung.mark;
     if has_text(mark) && hung.down == 0 {
-        put_after(row, mark.to, style_of(mark), mark.text)?;
+        put_after(row, mark.to, text_style(mark), mark.text)?;
     }
     Ok(())
 }
@@ -103,7 +106,7 @@ fn put_hung_text(row: &mut Vec<Cell>, n: usize, hung: &Hung<'_>) -> Result<(), A
 {
     let mark = &hung.mark;
     if has_text(mark) && hung.down > 0 && n == hung.down {
-        put_from(row, mark.from, style_of(mark), mark.text)?;
+        put_from(row, mark.from, text_style(mark), mark.text)?;
     }
     Ok(())
 }
@@ -129,12 +132,12 @@ fn hung_row(alloc: Global, n: usize, hung: &[Hung<'_>]) -> Result<Vec<Cell>, All
 }
 
 /// Adds a row under a line.
-fn put_row(out: &mut String, gutter: usize, row: &[Cell]) -> Result<(), AllocError>
+fn put_row(out: &mut String, gutter: Gutter, row: &[Cell]) -> Result<(), AllocError>
     ensures { OnOk result (string_bytes out.new
-        ≡ string_bytes out.old ++ under gutter (written row.now)) }
+        ≡ string_bytes out.old ++ under gutter (written gutter.palette row.now)) }
 {
     put_gutter(out, gutter)?;
-    put_written(out, row)?;
+    put_written(out, gutter.palette, row)?;
     out.push_str("\n")?;
     Ok(())
 }
@@ -142,7 +145,7 @@ fn put_row(out: &mut String, gutter: usize, row: &[Cell]) -> Result<(), AllocErr
 /// Adds so many rows below the signs.
 fn put_hung_rows(
     out: &mut String,
-    gutter: usize,
+    gutter: Gutter,
     count: usize,
     hung: &[Hung<'_>],
 ) -> Result<(), AllocError>
@@ -160,7 +163,7 @@ fn put_hung_rows(
 /// Adds the rows below the signs, of labels that hang as far down as `most`.
 fn put_rows_below(
     out: &mut String,
-    gutter: usize,
+    gutter: Gutter,
     most: usize,
     hung: &[Hung<'_>],
 ) -> Result<(), AllocError>
@@ -180,7 +183,7 @@ fn put_rows_below(
 #[tactic(auto, unfolding(crate::specs::Marks::rows_of))]
 fn put_rows_of(
     out: &mut String,
-    gutter: usize,
+    gutter: Gutter,
     marks: &[Mark<'_>],
     hung: &[Hung<'_>],
 ) -> Result<(), AllocError>
@@ -195,7 +198,7 @@ fn put_rows_of(
 
 /// Adds the rows under a line, of labels in it from right to left.
 #[tactic(auto, unfolding(crate::specs::Marks::mark_rows))]
-pub fn put_mark_rows(out: &mut String, gutter: usize, marks: &[Mark<'_>]) -> Result<(), AllocError>
+pub fn put_mark_rows(out: &mut String, gutter: Gutter, marks: &[Mark<'_>]) -> Result<(), AllocError>
     ensures { OnOk result (string_bytes out.new ≡ string_bytes out.old
         ++ mark_rows gutter (map seen_mark marks.now)) }
 {

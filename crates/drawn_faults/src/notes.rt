@@ -10,10 +10,11 @@ ghost use Rattle.drawn_faults.specs.Labels.{seen_frame, seen_label};
 ghost use Rattle.drawn_faults.specs.Places.{seen_picture};
 ghost use Rattle.drawn_faults.specs.SeenDiagnostics.{seen_note};
 
-use crate::drawing::put_arrow;
-use crate::glyphs::{glyph, glyph_count, put_glyphs_between, put_run, split_first};
+use crate::drawing::{put_arrow, put_note_word};
+use crate::glyphs::{glyph, glyph_count, put_glyphs, put_run, split_first};
 use crate::labels::{Frame, Label};
 use crate::marked::{first_spot, frame_of, last_label_line, put_labels_rows};
+use crate::paint::{Gutter, Palette, Style, palette_of, put_closing, put_opening, put_painted};
 use crate::places::Picture;
 use crate::suggestions::put_parting;
 use std::alloc::{AllocError, Global};
@@ -71,20 +72,26 @@ pub fn last_note_line(
     Ok(line)
 }
 
-/// Adds a title, and labels under it.
+/// Adds a title, in these colours, after a word, and labels under it.
 #[tactic(auto, unfolding(crate::specs::Diagnostics::titled))]
 pub fn put_titled(
     out: &mut String,
     frame: &Frame<'_>,
-    start: &str,
+    palette: Palette,
+    word: &str,
     title: &str,
     labels: &[Label<'_>],
 ) -> Result<(), AllocError>
     requires { frame.now.cut < 2 ^ 62 }
     ensures { OnOk result (string_bytes out.new ≡ string_bytes out.old
-        ++ titled (seen_frame frame.now) start.now title.now (map seen_label labels.now)) }
+        ++ titled (seen_frame frame.now) palette word.now title.now (map seen_label labels.now)) }
 {
-    put_glyphs_between(out, start, title, "\n")?;
+    put_painted(out, frame.gutter.palette, Style::Primary, word)?;
+    put_opening(out, palette, Style::Bold)?;
+    out.push_str(": ")?;
+    put_glyphs(out, title, 0)?;
+    put_closing(out, palette)?;
+    out.push_str("\n")?;
     put_arrow(out, frame, first_spot(labels))?;
     put_parting(out, frame)?;
     put_labels_rows(out, frame, labels)?;
@@ -92,18 +99,18 @@ pub fn put_titled(
 }
 
 /// Adds what is after a character of a note: after a line feed the margin of the next line.
-fn put_margin(out: &mut String, gutter: usize, c: char) -> Result<(), AllocError>
+fn put_margin(out: &mut String, gutter: Gutter, c: char) -> Result<(), AllocError>
     ensures { OnOk result (string_bytes out.new ≡ string_bytes out.old ++ margin gutter c) }
 {
     if c == '\n' {
-        put_run(out, ' ', gutter)?;
+        put_run(out, ' ', gutter.columns)?;
         out.push_str("         ")?;
     }
     Ok(())
 }
 
 /// Adds a text whose lines but the first one begin with a margin.
-fn put_indented(out: &mut String, gutter: usize, text: &str) -> Result<(), AllocError>
+fn put_indented(out: &mut String, gutter: Gutter, text: &str) -> Result<(), AllocError>
     ensures { OnOk result (string_bytes out.new
         ≡ string_bytes out.old ++ indented gutter (chars text.now)) }
 {
@@ -117,12 +124,11 @@ fn put_indented(out: &mut String, gutter: usize, text: &str) -> Result<(), Alloc
 }
 
 /// Adds a note that shows nothing.
-fn put_plain_note(out: &mut String, gutter: usize, text: &str) -> Result<(), AllocError>
+fn put_plain_note(out: &mut String, gutter: Gutter, text: &str) -> Result<(), AllocError>
     ensures { OnOk result (string_bytes out.new
         ≡ string_bytes out.old ++ plain_note gutter text.now) }
 {
-    put_run(out, ' ', gutter)?;
-    out.push_str(" = note: ")?;
+    put_note_word(out, gutter)?;
     put_indented(out, gutter, text)?;
     out.push_str("\n")?;
     Ok(())
@@ -132,7 +138,7 @@ fn put_plain_note(out: &mut String, gutter: usize, text: &str) -> Result<(), All
 fn put_shown_note(
     out: &mut String,
     picture: &Picture<'_>,
-    gutter: usize,
+    gutter: Gutter,
     text: &str,
     labels: &[Label<'_>],
 ) -> Result<(), AllocError>
@@ -143,8 +149,10 @@ fn put_shown_note(
     match labels {
         [] => put_plain_note(out, gutter, text)?,
         _ => {
-            let frame = frame_of(picture, gutter, labels);
-            put_titled(out, &frame, "note: ", text, labels)?;
+            let columns = gutter.columns;
+            let palette = palette_of(picture.colours, Palette::Note);
+            let frame = frame_of(picture, Gutter { columns, palette }, labels);
+            put_titled(out, &frame, Palette::Colourless, "note", text, labels)?;
         }
     }
     Ok(())
@@ -154,7 +162,7 @@ fn put_shown_note(
 pub fn put_notes(
     out: &mut String,
     picture: &Picture<'_>,
-    gutter: usize,
+    gutter: Gutter,
     notes: &[SourceNote<'_>],
 ) -> Result<(), AllocError>
     requires { length picture.now.source.now < 2 ^ 59 }

@@ -1,7 +1,6 @@
 -- A terminal obeys nothing of what is shown, but for colours and the source as it is written.
-use Rattle.std.proofs.Common.{◌≡◌, ◌∙◌, ◌++◌, ◌∷◌, ◌-◌, ℕ, Bool, true, false, List, [], None}
-use Rattle.std.proofs.Common.{Option}
-use Rattle.std.proofs.Common.{Some, ap, append-nil, append_assoc, codes, length, refl, sym, take}
+use Rattle.std.proofs.Common.{◌≡◌, ◌++◌, ◌∷◌, ◌-◌, ℕ, Bool, true, false, List, [], None}
+use Rattle.std.proofs.Common.{Option, Some, ap, append_assoc, codes, length, refl, sym, take}
 use Rattle.std.proofs.Common.{Err, IfOk, Ok, Result, chars, subst}
 use Rattle.std.specs.Char.{is_ascii_digit}
 use Rattle.std.specs.List.{list_all}
@@ -17,7 +16,9 @@ use Rattle.rustc_parse_format.specs.Types.{Mode}
 use Rattle.rustc_parse_format.specs.World.{Place}
 use Rattle.piece_listing.specs.Listing.{quoted}
 use Rattle.drawn_faults.specs.Glyphs.{IsHarmless}
+use Rattle.drawn_faults.specs.Painting.{IsColoured, IsHarmlessWith}
 use Rattle.drawn_faults.specs.Places.{Picture, within}
+use Rattle.drawn_faults.proofs.Coloured.{joined, joined_with, plain_with, sgr}
 use Rattle.drawn_faults.proofs.Harmless.{decimal-harmless, either, glyphs-harmless, is_written}
 use Rattle.drawn_faults.proofs.Harmless.{join}
 use Rattle.drawn_faults.proofs.Harmless.{text}
@@ -32,16 +33,15 @@ use Rattle.format_tokens.specs.declared.kinds.Kind.TheVariants.{Align, Sign, Num
 use Rattle.format_tokens.specs.declared.kinds.Kind.TheVariants.{DollarSign, Dot, Asterisk}
 use Rattle.format_tokens.specs.declared.kinds.Kind.TheVariants.{«Type» as TypeKind, Modifier}
 use Rattle.format_tokens.specs.declared.kinds.Kind.TheVariants.{DiagnosticText, Unexpected, Quote}
-use Rattle.format_lint.specs.Colours.{AreSafe, IsColoured, Part, Plain, Sgr, behind, colour}
-use Rattle.format_lint.specs.Colours.{in_colour, kind_name, part_bytes, shown_tokens}
+use Rattle.format_lint.specs.Colours.{behind, colour, in_colour, kind_name, shown_tokens}
 use Rattle.format_lint.specs.Findings.{Finding, first_error, most_drawn}
 use Rattle.format_lint.specs.Lint.{IsHarmlessFor, IsMended, IsShown, IsSourceIn, Shown, Source}
-use Rattle.format_lint.specs.Lint.{Task, drawn, drawn_finding, findings, more, picture}
+use Rattle.format_lint.specs.Lint.{Task, drawn, drawn_finding, findings, lexed, more, picture}
 use Rattle.format_lint.specs.Lint.{shown_error, start, tokens_in, written}
 use Rattle.format_lint.proofs.OneAnswer.{ShownAs}
 use Rattle.format_lint.specs.declared.task.Show.{Show}
 use Rattle.format_lint.specs.declared.task.Show.TheVariants.{All as ShowAll, Fault as ShowFault}
-use Rattle.format_lint.specs.declared.task.Show.TheVariants.{Colours as ShowColours, Fix as ShowFix}
+use Rattle.format_lint.specs.declared.task.Show.TheVariants.{Fix as ShowFix}
 use Rattle.format_lint.specs.declared.task.Show.TheVariants.{Tokens as ShowTokens}
 
 id-written : {A : Type 0} (f : Fault A) → list_all is_written (fault_id f) ≡ true
@@ -65,16 +65,19 @@ id-written (FieldAccess s) = refl
 id-written (TupleIndex s) = refl
 
 -- drawings
-of_finding : (mode : Mode) (p : Picture) (f : Finding) → IsHarmless (drawn_finding mode p f)
+of_finding : (mode : Mode) (p : Picture) (f : Finding)
+    → IsHarmlessWith p.colours (drawn_finding mode p f)
 of_finding mode p f =
-    join (join (either f.follows (text (codes "follows: ") refl) (text (codes "fault: ") refl))
-    (join (text (fault_id f.fault) (id-written f.fault)) (text (codes "\n") refl)))
+    joined_with p.colours _ _ (plain_with p.colours
+    (join (either f.follows (text (codes "follows: ") refl) (text (codes "fault: ") refl))
+    (join (text (fault_id f.fault) (id-written f.fault)) (text (codes "\n") refl))))
     (drawing-harmless mode p (message f.fault))
 
 of_findings : (mode : Mode) (p : Picture) (fs : List Finding)
-    → IsHarmless (flat_map (drawn_finding mode p) fs)
-of_findings mode p [] = text [] refl
-of_findings mode p (f ∷ fs) = join (of_finding mode p f) (of_findings mode p fs)
+    → IsHarmlessWith p.colours (flat_map (drawn_finding mode p) fs)
+of_findings mode p [] = plain_with p.colours (text [] refl)
+of_findings mode p (f ∷ fs) =
+    joined_with p.colours _ _ (of_finding mode p f) (of_findings mode p fs)
 
 of_more : (n : ℕ) → IsHarmless (more n)
 of_more n =
@@ -82,16 +85,16 @@ of_more n =
     (join (text (codes "and ") refl) (join (decimal-harmless n) (text (codes " more\n") refl)))
 
 of_error : (mode : Mode) (p : Picture) (e : Option (Message Place))
-    → IsHarmless (shown_error mode p e)
-of_error mode p None = text [] refl
+    → IsHarmlessWith p.colours (shown_error mode p e)
+of_error mode p None = plain_with p.colours (text [] refl)
 of_error mode p (Some m) = drawing-harmless mode p m
 
-of_drawn : (all : Bool) (a : Task) (s : Source) → IsHarmless (drawn all a s).0
+of_drawn : (all : Bool) (a : Task) (s : Source) → IsHarmlessWith a.colours (drawn all a s).0
 of_drawn true a s =
     let fs = findings a.mode s in
-    join (of_findings a.mode (picture a.path s) (take most_drawn fs))
-    (of_more (length fs - most_drawn))
-of_drawn false a s = of_error a.mode (picture a.path s) (first_error (start a.mode s))
+    joined_with a.colours _ _ (of_findings a.mode (picture a s) (take most_drawn fs))
+    (plain_with a.colours (of_more (length fs - most_drawn)))
+of_drawn false a s = of_error a.mode (picture a s) (first_error (start a.mode s))
 
 -- tokens, each in a line
 name-written : (k : Kind) → list_all is_written (kind_name k) ≡ true
@@ -158,72 +161,54 @@ colour-digits DiagnosticText = refl
 colour-digits Unexpected = refl
 colour-digits Quote = refl
 
-safe-append : (ps qs : List Part) → AreSafe ps → AreSafe qs → AreSafe (ps ++ qs)
-safe-append [] qs p q = q
-safe-append (Plain bs ∷ ps) qs p q = (p.0, safe-append ps qs p.1 q)
-safe-append (Sgr n ∷ ps) qs p q = (p.0, safe-append ps qs p.1 q)
-
-bytes-append : (ps qs : List Part)
-    → flat_map part_bytes (ps ++ qs) ≡ flat_map part_bytes ps ++ flat_map part_bytes qs
-bytes-append [] qs = refl
-bytes-append (p ∷ ps) qs =
-    ap (λ t. part_bytes p ++ t) (bytes-append ps qs)
-    ∙ sym (append_assoc (part_bytes p) (flat_map part_bytes ps) (flat_map part_bytes qs))
-
-joined : {s t : List ℕ} → IsColoured s → IsColoured t → IsColoured (s ++ t)
-joined {s = s} {t = t} (ps, e, p) (qs, f, q) = (
-  ps ++ qs,
-  ap (λ u. u ++ t) e ∙ ap (λ u. flat_map part_bytes ps ++ u) f ∙ sym (bytes-append ps qs),
-  safe-append ps qs p q,
-)
-
-plain : {t : List ℕ} → IsHarmless t → IsColoured t
-plain {t = t} h = (Plain t ∷ [], sym (append-nil t), (h, tt))
-
-escape : (n : List ℕ) → list_all is_ascii_digit n ≡ true
-    → IsColoured (codes "\u{1b}[" ++ (n ++ codes "m"))
-escape n e = (Sgr n ∷ [], sym (append-nil (codes "\u{1b}[" ++ (n ++ codes "m"))), (e, tt))
-
 in_colour-safe : (o : Option (List ℕ)) (u : List ℕ) → has_digits o ≡ true → IsHarmless u
     → IsColoured (in_colour o u)
 unfolding has_digits
-in_colour-safe None u e h = plain h
+in_colour-safe None u e h = plain_with true h
 in_colour-safe (Some n) u e h =
     let whole : (codes "\u{1b}[" ++ (n ++ codes "m")) ++ (u ++ codes "\u{1b}[0m")
     ≡ in_colour (Some n) u =
     ap (λ t. codes "\u{1b}[" ++ t) (append_assoc n (codes "m") (u ++ codes "\u{1b}[0m")) in
     subst IsColoured whole
-    (joined (escape n e) (joined (plain h) (escape (codes "0") refl)))
+    (joined (sgr n e) (joined (plain_with true h) (sgr (codes "0") refl)))
 
 of_colours : (t : Text) (xs : List Placed) → IsColoured (shown_tokens true t xs)
-of_colours t [] = plain (text [] refl)
+of_colours t [] = plain_with true (text [] refl)
 of_colours t (x ∷ xs) =
     let n = x.1.1 - x.1.0 in
     joined (in_colour-safe (colour x.0) _ (colour-digits x.0) (glyphs-harmless (within n t)))
     (of_colours (behind n t) xs)
 
+of_tokens : (b : Bool) (t : Text) (xs : List Placed) → IsHarmlessWith b (shown_tokens b t xs)
+of_tokens true t xs = of_colours t xs
+of_tokens false t xs = of_lines t xs
+
+of_lexed : (a : Task) (s : Source) → IsHarmlessWith a.colours (lexed a s).0
+of_lexed a s =
+    joined_with a.colours _ _
+    (of_tokens a.colours (chars (unwrap_or s.literal s.text)) (tokens_in a s))
+    (joined_with a.colours _ _
+    (plain_with a.colours (either a.colours (text (codes "\n") refl) (text [] refl)))
+    (of_drawn false a s))
+
 -- A terminal obeys nothing of what is written in this way, as `IsHarmlessFor` says.
 abbrev HarmlessAs : Task → List ℕ → Show → List ℕ → Type 0
 HarmlessAs a input w t = elim w [
-  | ShowFault ↦ IsHarmless t
-  | ShowAll ↦ IsHarmless t
-  | ShowTokens ↦ IsHarmless t
-  | ShowColours ↦ IsColoured t
+  | ShowFault ↦ IsHarmlessWith a.colours t
+  | ShowAll ↦ IsHarmlessWith a.colours t
+  | ShowTokens ↦ IsHarmlessWith a.colours t
   | ShowFix ↦ (s : Source) × (r : Source) × (d : List ℕ) × IsSourceIn a.is_literal input s
-      × IsMended a.mode s r × (t ≡ written r ++ d) × IsHarmless d
+      × IsMended a.mode s r × (t ≡ written r ++ d) × IsHarmlessWith a.colours d
 ]
 
 as-shown : (a : Task) (input : List ℕ) (s : Source) (w : Show) (x : Shown)
     → IsSourceIn a.is_literal input s → ShownAs a s w x → HarmlessAs a input w x.0
-as-shown a input s ShowFault x i e = subst (λ y. IsHarmless y.0) (sym e) (of_drawn false a s)
-as-shown a input s ShowAll x i e = subst (λ y. IsHarmless y.0) (sym e) (of_drawn true a s)
+as-shown a input s ShowFault x i e =
+    subst (λ y. IsHarmlessWith a.colours y.0) (sym e) (of_drawn false a s)
+as-shown a input s ShowAll x i e =
+    subst (λ y. IsHarmlessWith a.colours y.0) (sym e) (of_drawn true a s)
 as-shown a input s ShowTokens x i e =
-    subst (λ y. IsHarmless y.0) (sym e)
-    (join (of_lines (chars (unwrap_or s.literal s.text)) (tokens_in a s)) (of_drawn false a s))
-as-shown a input s ShowColours x i e =
-    subst (λ y. IsColoured y.0) (sym e)
-    (joined (of_colours (chars (unwrap_or s.literal s.text)) (tokens_in a s))
-    (plain (join (text (codes "\n") refl) (of_drawn false a s))))
+    subst (λ y. IsHarmlessWith a.colours y.0) (sym e) (of_lexed a s)
 as-shown a input s ShowFix x i (r, m, e) =
     (s, r, (drawn false a r).0, i, m, ap (λ (y : Shown). y.0) e, of_drawn false a r)
 

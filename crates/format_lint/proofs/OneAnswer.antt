@@ -20,7 +20,6 @@ use Rattle.piece_listing.proofs.OneLiteral.{source-only as listed_source-only}
 use Rattle.format_lint.specs.declared.task.Show.{Show}
 use Rattle.format_lint.specs.declared.task.Show.TheVariants.{Fault as ShowFault, Fix as ShowFix}
 use Rattle.format_lint.specs.declared.task.Show.TheVariants.{All as ShowAll, Tokens as ShowTokens}
-use Rattle.format_lint.specs.declared.task.Show.TheVariants.{Colours as ShowColours}
 use Rattle.format_lint.specs.Lint.{IsLiteralIn, IsMended, IsMendedIn, IsOwed, IsShown, IsSourceIn}
 use Rattle.format_lint.specs.Lint.{Shown, Source, Task, alone, drawn, kept, lexed}
 
@@ -108,8 +107,7 @@ abbrev pub ShownAs : Task → Source → Show → Shown → Type 0
 ShownAs a s w x = elim w [
   | ShowFault ↦ x ≡ drawn false a s
   | ShowAll ↦ x ≡ drawn true a s
-  | ShowTokens ↦ x ≡ lexed false a s
-  | ShowColours ↦ x ≡ lexed true a s
+  | ShowTokens ↦ x ≡ lexed a s
   | ShowFix ↦ (r : Source) × IsMended a.mode s r × (x ≡ kept a r)
 ]
 
@@ -118,7 +116,6 @@ shown-only : (a : Task) (s : Source) (w : Show) (x y : Shown) → ShownAs a s w 
 shown-only a s ShowFault x y h k = h ∙ sym k
 shown-only a s ShowAll x y h k = h ∙ sym k
 shown-only a s ShowTokens x y h k = h ∙ sym k
-shown-only a s ShowColours x y h k = h ∙ sym k
 shown-only a s ShowFix x y (r, h, d) (q, k, e) =
     d ∙ ap (kept a) (mended-only a.mode s s.literal r q h k) ∙ sym e
 

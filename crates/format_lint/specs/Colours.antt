@@ -1,13 +1,10 @@
 -- The tokens of a source as they are shown: in the colours of their kinds, or each in a line.
-use Rattle.std.specs.Prelude.{◌≡◌, ℕ, ◌-◌, ◌++◌, Bool, true, false, List, [], ◌∷◌, Option, None}
-use Rattle.std.specs.Prelude.{Some, codes, drop, flat_map, length}
-use Rattle.std.specs.Char.{is_ascii_digit}
-use Rattle.std.specs.List.{list_all}
+use Rattle.std.specs.Prelude.{ℕ, ◌-◌, ◌++◌, Bool, true, false, List, [], ◌∷◌, Option, None}
+use Rattle.std.specs.Prelude.{Some, codes, drop, length}
 use Rattle.std.specs.Str.{encode_utf8_all}
 use Rattle.rustc_parse_format.specs.Characters.{Text}
 use Rattle.piece_listing.specs.Listing.{quoted, span_text}
-use Rattle.drawn_faults.specs.Glyphs.{IsHarmless, glyph_bytes, glyphs, is_ascii_or_as_is}
-use Rattle.drawn_faults.specs.Glyphs.{is_drawn_as_is}
+use Rattle.drawn_faults.specs.Glyphs.{glyph_bytes, glyphs, is_ascii_or_as_is, is_drawn_as_is}
 use Rattle.drawn_faults.specs.Places.{within}
 use Rattle.format_tokens.specs.Placed.{Placed}
 use Rattle.format_tokens.specs.declared.kinds.Kind.{Kind}
@@ -87,27 +84,6 @@ shown_token false x u = kind_name x.0
 abbrev pub stays : Bool → ℕ → Bool
 stays true b = is_drawn_as_is b
 stays false b = is_ascii_or_as_is b
-
--- A part of a text for a terminal: a text, or an escape of SGR with a number, which sets a colour
--- or resets it.
-pub data Part : Type 0 where
-  Plain : List ℕ → Part
-  Sgr : List ℕ → Part
-
--- The bytes of a part.
-abbrev pub part_bytes : Part → List ℕ
-part_bytes (Plain bs) = bs
-part_bytes (Sgr n) = codes "\u{1b}[" ++ (n ++ codes "m")
-
--- A terminal obeys no character of a text, and of an escape it has digits alone.
-abbrev pub AreSafe : List Part → Type 0
-AreSafe [] = Unit {0}
-AreSafe (Plain bs ∷ ps) = IsHarmless bs × AreSafe ps
-AreSafe (Sgr n ∷ ps) = (list_all is_ascii_digit n ≡ true) × AreSafe ps
-
--- A terminal obeys nothing of a text but colours.
-abbrev pub IsColoured : List ℕ → Type 0
-IsColoured t = (ps : List Part) × (t ≡ flat_map part_bytes ps) × AreSafe ps
 
 -- The rest of a text after its first characters, as many as end within n bytes.
 abbrev pub behind : ℕ → Text → Text

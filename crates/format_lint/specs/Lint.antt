@@ -17,13 +17,12 @@ use Rattle.drawn_faults.specs.Places.{Picture}
 use Rattle.drawn_faults.specs.Drawing.{drawing}
 use Rattle.drawn_faults.specs.Fixing.{Fixed, all_errors}
 use Rattle.drawn_faults.specs.Rounds.{IsFixed}
-use Rattle.drawn_faults.specs.Glyphs.{IsHarmless}
+use Rattle.drawn_faults.specs.Painting.{IsHarmlessWith}
 use Rattle.format_lint.specs.declared.task.Show.{Show}
 use Rattle.format_lint.specs.declared.task.Show.TheVariants.{Fault as ShowFault, Fix as ShowFix}
 use Rattle.format_lint.specs.declared.task.Show.TheVariants.{All as ShowAll, Tokens as ShowTokens}
-use Rattle.format_lint.specs.declared.task.Show.TheVariants.{Colours as ShowColours}
 use Rattle.format_tokens.specs.Placed.{Placed, tokens}
-use Rattle.format_lint.specs.Colours.{IsColoured, shown_tokens}
+use Rattle.format_lint.specs.Colours.{shown_tokens}
 use Rattle.format_lint.specs.Findings.{Finding, findings_from, first_error, mistakes}
 use Rattle.format_lint.specs.Findings.{most_drawn}
 
@@ -35,6 +34,8 @@ pub record Task : Type 0 where
   -- The path that is shown for the input.
   pub path : List ℕ
   pub show : Show
+  -- The output has colours.
+  pub colours : Bool
 
 -- A text, with the style of the literal that it is in and the literal as it is written.
 pub record Source : Type 0 where
@@ -98,12 +99,13 @@ abbrev pub findings : Mode → Source → List Finding
 findings mode s = findings_from false (start mode s)
 
 -- The picture in which faults are drawn.
-abbrev pub picture : List ℕ → Source → Picture
-picture path s = record {
-  path = path;
+abbrev pub picture : Task → Source → Picture
+picture a s = record {
+  path = a.path;
   source = s.lines;
   line_start = s.line_start;
   literal_start = s.start;
+  colours = a.colours;
 }
 
 -- The line that says how many faults are not drawn, if there are any.
@@ -142,8 +144,8 @@ Shown = List ℕ × ℕ
 -- its mistakes.
 abbrev pub drawn : Bool → Task → Source → Shown
 drawn all a s = (
-  if all then drawings a.mode (picture a.path s) (findings a.mode s)
-      else shown_error a.mode (picture a.path s) (first_error (start a.mode s)),
+  if all then drawings a.mode (picture a s) (findings a.mode s)
+      else shown_error a.mode (picture a s) (first_error (start a.mode s)),
   mistakes (findings a.mode s),
 )
 
@@ -163,10 +165,10 @@ tokens_in a s =
 
 -- The tokens of a source are shown, in colours with a line end after them or each in a line, and
 -- then the error that the compiler shows.
-abbrev pub lexed : Bool → Task → Source → Shown
-lexed colours a s = (
-  shown_tokens colours (chars (unwrap_or s.literal s.text)) (tokens_in a s)
-      ++ ((if colours then codes "\n" else []) ++ (drawn false a s).0),
+abbrev pub lexed : Task → Source → Shown
+lexed a s = (
+  shown_tokens a.colours (chars (unwrap_or s.literal s.text)) (tokens_in a s)
+      ++ ((if a.colours then codes "\n" else []) ++ (drawn false a s).0),
   (drawn false a s).1,
 )
 
@@ -190,21 +192,19 @@ abbrev pub IsShown : Task → Source → Shown → Type 0
 IsShown a s x = elim a.show [
   | ShowFault ↦ x ≡ drawn false a s
   | ShowAll ↦ x ≡ drawn true a s
-  | ShowTokens ↦ x ≡ lexed false a s
-  | ShowColours ↦ x ≡ lexed true a s
+  | ShowTokens ↦ x ≡ lexed a s
   | ShowFix ↦ (r : Source) × IsMended a.mode s r × (x ≡ kept a r)
 ]
 
--- A terminal obeys nothing of the output for a task, but for the colours of the task, and the
+-- A terminal obeys nothing of the output for a task, but for colours if the task has them, and the
 -- source with its edits, which is the input's own text and is to be read again as it is.
 abbrev pub IsHarmlessFor : Task → List ℕ → List ℕ → Type 0
 IsHarmlessFor a input t = elim a.show [
-  | ShowFault ↦ IsHarmless t
-  | ShowAll ↦ IsHarmless t
-  | ShowTokens ↦ IsHarmless t
-  | ShowColours ↦ IsColoured t
+  | ShowFault ↦ IsHarmlessWith a.colours t
+  | ShowAll ↦ IsHarmlessWith a.colours t
+  | ShowTokens ↦ IsHarmlessWith a.colours t
   | ShowFix ↦ (s : Source) × (r : Source) × (d : List ℕ) × IsSourceIn a.is_literal input s
-      × IsMended a.mode s r × (t ≡ written r ++ d) × IsHarmless d
+      × IsMended a.mode s r × (t ≡ written r ++ d) × IsHarmlessWith a.colours d
 ]
 
 -- The answer to a task with this input: the output, or the reason why nothing is written.

@@ -16,6 +16,7 @@ seen_task t = record {
   is_literal = t.is_literal;
   path = t.path.now;
   show = t.show;
+  colours = t.colours;
 }
 
 -- A source as a contract sees it.

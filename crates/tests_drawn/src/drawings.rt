@@ -1,6 +1,7 @@
 //! The drawing of each row of the tables.
 
 use crate::asm_rows::asm_rows;
+use crate::coloured_rows::coloured_rows;
 use crate::line_rows::line_rows;
 use crate::row::Row;
 use crate::short_rows::short_rows;
@@ -44,6 +45,7 @@ fn errors_in(
 fn drawn(
     alloc: Global,
     mode: ParseMode,
+    colours: bool,
     row: &Row,
     error: &ParseError,
 ) -> Result<String, AllocError> {
@@ -53,6 +55,7 @@ fn drawn(
         source: source.as_str(),
         line_start: row.line,
         literal_start: row.before.len(),
+        colours,
     };
     let mut drawing = draw(alloc, mode, &picture, error)?;
     put_drawing(&mut drawing, mode, &picture, error)?;
@@ -73,17 +76,23 @@ fn check_drawing(
 }
 
 /// The row's first fault is drawn as it says.
-fn check(rt: &impl Abort, alloc: Global, mode: ParseMode, row: &Row) -> Result<(), AllocError> {
+fn check(
+    rt: &impl Abort,
+    alloc: Global,
+    mode: ParseMode,
+    colours: bool,
+    row: &Row,
+) -> Result<(), AllocError> {
     let errors = errors_in(rt, alloc, mode, row)?;
     assert!(rt; !errors.is_empty(), "{}", row.literal);
-    let drawing = drawn(alloc, mode, row, &errors[0])?;
+    let drawing = drawn(alloc, mode, colours, row, &errors[0])?;
     check_drawing(rt, alloc, row, drawing.as_str())
 }
 
 #[test]
 fn one_line(rt: HostRuntime) -> Result<(), Fail> {
     for row in short_rows() {
-        check(&rt, rt.alloc(), ParseMode::Format, row)?;
+        check(&rt, rt.alloc(), ParseMode::Format, false, row)?;
     }
     Ok(())
 }
@@ -91,7 +100,7 @@ fn one_line(rt: HostRuntime) -> Result<(), Fail> {
 #[test]
 fn several_lines(rt: HostRuntime) -> Result<(), Fail> {
     for row in line_rows() {
-        check(&rt, rt.alloc(), ParseMode::Format, row)?;
+        check(&rt, rt.alloc(), ParseMode::Format, false, row)?;
     }
     Ok(())
 }
@@ -99,7 +108,15 @@ fn several_lines(rt: HostRuntime) -> Result<(), Fail> {
 #[test]
 fn assembly(rt: HostRuntime) -> Result<(), Fail> {
     for row in asm_rows() {
-        check(&rt, rt.alloc(), ParseMode::InlineAsm, row)?;
+        check(&rt, rt.alloc(), ParseMode::InlineAsm, false, row)?;
+    }
+    Ok(())
+}
+
+#[test]
+fn in_colours(rt: HostRuntime) -> Result<(), Fail> {
+    for row in coloured_rows() {
+        check(&rt, rt.alloc(), ParseMode::Format, true, row)?;
     }
     Ok(())
 }

@@ -26,6 +26,7 @@ fn in_a_drawing(rt: HostRuntime) -> Result<(), Fail> {
         source: "\u{9b}\u{61c}\u{200e}\u{200d}ab",
         line_start: 7,
         literal_start: 2,
+        colours: false,
     };
     let drawing = draw(rt.alloc(), ParseMode::Format, &picture, &error)?;
     let wanted = "error: invalid format string: d\u{241b}[31m\n --> a\u{2407}.rs:7:5\n  |\n\

@@ -1,12 +1,17 @@
 //! Tests of `drawn_faults`: the drawings of faults, against those of rustc 1.95.
 //!
-//! `short_rows`, `line_rows` and `asm_rows` are the tables, `drawings` draws each row, and
-//! `misfits` has spans that no parser gives, and `harmless` characters that a terminal obeys. In
-//! `memory` an allocation fails. `several` draws diagnostics with several labels.
+//! `short_rows`, `line_rows` and `asm_rows` are the tables, and `coloured_rows` that of drawings in
+//! colours; `drawings` draws each row. `misfits` has spans that no parser gives, and `harmless`
+//! characters that a terminal obeys. In `memory` an allocation fails. `several` draws diagnostics
+//! with several labels, and `coloured` these in colours.
 #![tactic(auto)]
 
 #[cfg(test)]
 mod asm_rows;
+#[cfg(test)]
+mod coloured;
+#[cfg(test)]
+mod coloured_rows;
 #[cfg(test)]
 mod drawings;
 #[cfg(test)]

@@ -17,6 +17,7 @@ const PICTURE: Picture<'static> = Picture {
     source: "日a",
     line_start: 7,
     literal_start: 0,
+    colours: false,
 };
 
 /// The error that is drawn, made once more where an allocation fails.

@@ -36,6 +36,7 @@ fn check(
         source: "日a",
         line_start: 7,
         literal_start: 0,
+        colours: false,
     };
     let error = error_at(alloc, span, second)?;
     let drawing = draw(alloc, ParseMode::Format, &picture, &error)?;

@@ -13,6 +13,7 @@ fn drawn(alloc: Global, source: &str, diagnostic: &Diagnostic<'_>) -> Result<Str
         source,
         line_start: 1,
         literal_start: 0,
+        colours: false,
     };
     draw_labels(alloc, &picture, diagnostic)
 }

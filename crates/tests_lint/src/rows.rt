@@ -15,6 +15,7 @@ pub struct Row {
     pub mode: ParseMode,
     pub is_literal: bool,
     pub show: Show,
+    pub colours: bool,
     pub input: &'static [u8],
     pub shown: &'static str,
     pub told: usize,
@@ -28,6 +29,7 @@ impl Row {
             is_literal: self.is_literal,
             path: "a",
             show: self.show,
+            colours: self.colours,
         }
     }
 }
@@ -38,6 +40,7 @@ const ALL: Task<'static> = Task {
     is_literal: false,
     path: "a",
     show: Show::All,
+    colours: false,
 };
 
 /// This is shown of a row.
@@ -55,6 +58,7 @@ const LISTED: Row = Row {
     mode: ParseMode::Format,
     is_literal: true,
     show: Show::Tokens,
+    colours: false,
     input: b"\"hi {a :*>+#01$.*x? }{{b\"\n",
     shown: "quote 0..1 \"\\\"\"\n\
         text 1..4 \"hi \"\n\
@@ -84,7 +88,8 @@ const LISTED: Row = Row {
 const COLOURED: Row = Row {
     mode: ParseMode::Format,
     is_literal: true,
-    show: Show::Colours,
+    show: Show::Tokens,
+    colours: true,
     input: b"\"hi {a :*>+#01$.*x? }{{b\"\n",
     shown: "\"hi \u{1b}[35m{\u{1b}[0m\u{1b}[36ma\u{1b}[0m \u{1b}[35m:\u{1b}[0m\u{1b}[33m*\u{1b}[0m\
         \u{1b}[33m>\u{1b}[0m\u{1b}[33m+\u{1b}[0m\u{1b}[33m#\u{1b}[0m\u{1b}[33m0\u{1b}[0m\
@@ -98,6 +103,7 @@ const MODIFIER: Row = Row {
     mode: ParseMode::InlineAsm,
     is_literal: false,
     show: Show::Tokens,
+    colours: false,
     input: b"{0:e}",
     shown: "open 1..2 \"{\"\ninteger 2..3 \"0\"\ncolon 3..4 \":\"\nmodifier 4..5 \"e\"\n\
         close 5..6 \"}\"\n",
@@ -107,7 +113,8 @@ const MODIFIER: Row = Row {
 const DIAGNOSTIC: Row = Row {
     mode: ParseMode::Diagnostic,
     is_literal: false,
-    show: Show::Colours,
+    show: Show::Tokens,
+    colours: true,
     input: b"{T:a }",
     shown: "\u{1b}[35m{\u{1b}[0m\u{1b}[36mT\u{1b}[0m\u{1b}[35m:\u{1b}[0ma \u{1b}[35m}\u{1b}[0m\n",
     told: 0,
@@ -119,13 +126,14 @@ const OBEYED: Row = Row {
     mode: ParseMode::Format,
     is_literal: false,
     show: Show::Tokens,
+    colours: false,
     input: b"a\xc2\x9b\xe2\x80\xae\tb",
     shown: "text 1..9 \"a\u{fffd}\u{fffd}\\tb\"\n",
     told: 0,
 };
 
 const OBEYED_COLOURED: Row = Row {
-    show: Show::Colours,
+    colours: true,
     shown: "a\u{fffd}\u{fffd}    b\n",
     ..OBEYED
 };
@@ -144,6 +152,7 @@ pub const RAW_PREFIX: Row = Row {
     mode: ParseMode::Format,
     is_literal: true,
     show: Show::Tokens,
+    colours: false,
     input: b"\"\\x7br#a}\"",
     shown: "quote 0..1 \"\\\"\"\n\
         open 1..5 \"\\\\x7b\"\n\
@@ -162,12 +171,17 @@ pub const RAW_PREFIX: Row = Row {
 pub const UNEXPECTED: Row = Row {
     mode: ParseMode::Format,
     is_literal: false,
-    show: Show::Colours,
+    show: Show::Tokens,
+    colours: true,
     input: b"\xe6\x97\xa5}",
     shown: "\u{65e5}\u{1b}[31m}\u{1b}[0m\n\
-        error: invalid format string: unmatched `}` found\n --> a:1:2\n  |\n\
-        1 | \u{65e5}}\n  |   ^ unmatched `}` in format string\n  |\n\
-        \x20 = note: if you intended to print `}`, you can escape it using `}}`\n\n",
+        \u{1b}[1m\u{1b}[91merror\u{1b}[0m\u{1b}[1m: invalid format string: unmatched `}` found\
+        \u{1b}[0m\n \u{1b}[1m\u{1b}[94m--> \u{1b}[0ma:1:2\n  \u{1b}[1m\u{1b}[94m|\u{1b}[0m\n\
+        \u{1b}[1m\u{1b}[94m1\u{1b}[0m \u{1b}[1m\u{1b}[94m|\u{1b}[0m \u{65e5}}\n\
+        \x20 \u{1b}[1m\u{1b}[94m|\u{1b}[0m   \u{1b}[1m\u{1b}[91m^\u{1b}[0m \
+        \u{1b}[1m\u{1b}[91munmatched `}` in format string\u{1b}[0m\n\
+        \x20 \u{1b}[1m\u{1b}[94m|\u{1b}[0m\n  \u{1b}[1m\u{1b}[94m= \u{1b}[0m\u{1b}[1mnote\
+        \u{1b}[0m: if you intended to print `}`, you can escape it using `}}`\n\n",
     told: 1,
 };
 
@@ -176,6 +190,7 @@ pub const FIXED: Row = Row {
     mode: ParseMode::Format,
     is_literal: true,
     show: Show::Fix,
+    colours: false,
     input: b"\"\\x7br#a}\"",
     shown: "\"\\x7ba}\"\n",
     told: 0,
@@ -187,6 +202,7 @@ const FIRST: Row = Row {
     mode: ParseMode::Format,
     is_literal: true,
     show: Show::Fault,
+    colours: false,
     input: b"\"} {r#a}\"",
     shown: "error: invalid format string: unmatched `}` found\n --> a:1:2\n  |\n\
         1 | \"} {r#a}\"\n  |  ^ unmatched `}` in format string\n  |\n\
@@ -199,6 +215,7 @@ const ONE_OF_TWO: Row = Row {
     mode: ParseMode::Format,
     is_literal: true,
     show: Show::Fault,
+    colours: false,
     input: b"\"{a<>\"",
     shown: "error: invalid format string: expected alignment specifier after `:` in format \
         string; example: `{:>?}`\n --> a:1:4\n  |\n\
@@ -211,6 +228,7 @@ pub const BOTH: Row = Row {
     mode: ParseMode::Format,
     is_literal: true,
     show: Show::All,
+    colours: false,
     input: b"\"{a<>\"",
     shown: "fault: alignment-before-colon\n\
         error: invalid format string: expected alignment specifier after `:` in format \
@@ -229,6 +247,7 @@ const WAITING: Row = Row {
     mode: ParseMode::Format,
     is_literal: true,
     show: Show::All,
+    colours: false,
     input: b"\"{a!}{} }\"",
     shown: "fault: missing-closing-brace\n\
         error: invalid format string: expected `}`, found `!`\n --> a:1:4\n  |\n\
@@ -252,6 +271,7 @@ const ALL_FIXED: Row = Row {
     mode: ParseMode::Format,
     is_literal: true,
     show: Show::Fix,
+    colours: false,
     input: b"\"{r#a} {b.c}\"",
     shown: "\"{a} {b.c}\"\n\
         error: invalid format string: field access isn't supported\n --> a:1:7\n  |\n\
@@ -266,6 +286,7 @@ const ASSEMBLY: Row = Row {
     mode: ParseMode::InlineAsm,
     is_literal: true,
     show: Show::Fix,
+    colours: false,
     input: b"\"mov {r#a} }\"",
     shown: "\"mov {r#a} }\"\n\
         error: invalid asm template string: raw identifiers are not supported\n --> a:1:7\n  |\n\

@@ -1,6 +1,7 @@
 use Rattle.std.proofs.Common.{◌∙◌, ap, chars, map, rules, sym}
 use Rattle.drawn_faults.specs.Glyphs.{glyphs}
-use Rattle.drawn_faults.specs.Marks.{cell, cells, put_from}
+use Rattle.drawn_faults.specs.Marks.{cells, put_from}
+use Rattle.drawn_faults.specs.Rows.{cell}
 use Rattle.drawn_faults.proofs.MarkLemmas.{cells-first}
 use Rattle.drawn_faults.proofs.cells.put_from.Goals as goal
 

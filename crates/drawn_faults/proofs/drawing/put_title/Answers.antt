@@ -1,18 +1,37 @@
-use Rattle.std.proofs.Common.{◌≡◌, ◌++◌, ◌∙◌, ap, append_assoc, codes, string_bytes}
+use Rattle.std.proofs.Common.{◌++◌, ◌∙◌, ap, append_assoc, codes, string_bytes, sym}
 use Rattle.rustc_parse_format.specs.Seen.{seen_mode}
 use Rattle.drawn_faults.specs.Glyphs.{glyph_bytes}
 use Rattle.drawn_faults.specs.Labels.{text_name}
+use Rattle.drawn_faults.specs.Painting.{closing, opening, painted}
+use Rattle.drawn_faults.specs.declared.paint.Style.TheVariants.{Bold, Primary}
+use Rattle.drawn_faults.proofs.Joining.{join3, join4, some-painted}
 use Rattle.drawn_faults.proofs.drawing.put_title.Goals as goal
 
 pub returns : goal.returns
 returns c =
+    let p = c.args.palette in
     let o = string_bytes c.args.out.now in
-    let a = codes "error: invalid " in
-    let b = text_name (seen_mode c.args.mode) in
-    let d = codes ": " ++ (glyph_bytes c.args.description.now ++ codes "\n") in
-    let first : string_bytes c.push_str.new.self ≡ o ++ a = c.in_ok-push_str.ensures.bytes in
-    let second : string_bytes c.push_str-2.new.self ≡ (o ++ a) ++ b =
-    c.in_ok-push_str-2.ensures.bytes ∙ ap (λ x. x ++ c.text_name.result.now) first
-    ∙ ap (λ x. (o ++ a) ++ x) c.text_name.ensures in
-    c.in_ok-put_glyphs_between.ensures ∙ ap (λ x. x ++ d) second
-    ∙ append_assoc (o ++ a) b d ∙ append_assoc o a (b ++ d)
+    let e = painted p Primary (codes "error") in
+    let a = opening p Bold in
+    let i = codes ": invalid " in
+    let n = text_name (seen_mode c.args.mode) in
+    let s = codes ": " in
+    let g = glyph_bytes c.args.description.now in
+    let z = closing p in
+    let l = codes "\n" in
+    let x = i ++ (n ++ (s ++ g)) in
+    rw (
+      c.in_ok-push_str-3.ensures.bytes,
+      c.in_ok-put_closing.ensures,
+      c.in_ok-put_glyphs.ensures.drawn,
+      c.in_ok-push_str-2.ensures.bytes,
+      c.in_ok-push_str.ensures.bytes,
+      c.text_name.ensures,
+      c.in_ok-put_title_start.ensures,
+    )
+    (ap (λ t. ((((t ++ n) ++ s) ++ g) ++ z) ++ l) (sym (join3 o e a i))
+    ∙ ap (λ t. (t ++ z) ++ l) (join4 ((o ++ e) ++ a) i n s g)
+    ∙ ap (λ t. t ++ l) (append_assoc ((o ++ e) ++ a) x z ∙ append_assoc (o ++ e) a (x ++ z))
+    ∙ append_assoc (o ++ e) (a ++ (x ++ z)) l ∙ append_assoc o e ((a ++ (x ++ z)) ++ l)
+    ∙ ap (λ t. o ++ (e ++ (t ++ l)))
+    (some-painted p Bold 58 (codes " invalid " ++ (n ++ (s ++ g)))))

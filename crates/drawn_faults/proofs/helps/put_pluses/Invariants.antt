@@ -6,5 +6,5 @@ use Rattle.drawn_faults.proofs.helps.put_pluses.Given as goal
 -- What is added, and then what is left, is all.
 abbrev pub invariant-loop-edit : goal.invariant-loop-edit
 invariant-loop-edit l = string_bytes l.out
-    ++ pluses l.column (map seen_edit (drop l.edit-index l.edits))
-    ≡ string_bytes l.fn.out ++ pluses 0 (map seen_edit l.edits)
+    ++ pluses l.palette l.column (map seen_edit (drop l.edit-index l.edits))
+    ≡ string_bytes l.fn.out ++ pluses l.palette 0 (map seen_edit l.edits)

@@ -1,11 +1,10 @@
 use Rattle.std.proofs.Common.{arith}
 use Rattle.std.proofs.lemmas.Grind.{common_steps}
-use Rattle.drawn_faults.specs.Rows.{seen_mark, sign_at, signs}
-use Rattle.drawn_faults.proofs.GlyphLemmas.{columns-more}
+use Rattle.drawn_faults.specs.Rows.{seen_mark, sign_at}
+use Rattle.drawn_faults.proofs.RowLemmas.{columns-more}
 use Rattle.drawn_faults.proofs.rows.put_signs.Goals as goal
 
 pub loop-column-preserved : goal.loop-column-preserved
-unfolding signs
 loop-column-preserved c =
     grind (
       arith,

@@ -1,0 +1,26 @@
+use Rattle.std.proofs.Common.{◌+◌, codes, decimal, string_bytes}
+use Rattle.drawn_faults.specs.Drawing.{arrow}
+use Rattle.drawn_faults.specs.Glyphs.{glyph_bytes, run}
+use Rattle.drawn_faults.specs.Painting.{painted}
+use Rattle.drawn_faults.specs.declared.paint.Style.TheVariants.{Secondary}
+use Rattle.drawn_faults.proofs.Joining.{join8}
+use Rattle.drawn_faults.proofs.drawing.put_arrow.Goals as goal
+
+pub returns : goal.returns
+unfolding arrow
+returns c =
+    let f = c.args.frame.now in
+    rw (
+      c.in_ok-push_str-3.ensures.bytes,
+      c.in_ok-put_decimal-2.ensures,
+      c.in_ok-push_str-2.ensures.bytes,
+      c.in_ok-put_decimal.ensures,
+      c.in_ok-push_str.ensures.bytes,
+      c.in_ok-put_glyphs.ensures.drawn,
+      c.in_ok-put_painted.ensures,
+      c.in_ok-put_run.ensures,
+    )
+    (join8 (string_bytes c.args.out.now) (run f.gutter.columns 32)
+    (painted f.gutter.palette Secondary (codes "--> ")) (glyph_bytes f.picture.now.path.now)
+    (codes ":") (decimal (f.picture.now.line_start + c.args.at.line)) (codes ":")
+    (decimal (c.args.at.chars + 1)) (codes "\n"))
